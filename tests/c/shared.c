@@ -141,13 +141,18 @@ static void await_wait(bs_txn txn) {
   while (bs_table_waiting(&table, txn).status != BS_WAITING) nap();
 }
 
-/* Has a transaction ask in a thread. */
-static void start_asking_for(struct asker *a, bs_txn txn, bs_node node, bs_mode mode) {
+static void ask_in_thread(struct asker *a, bs_txn txn, bs_node node, bs_mode mode, bool by_path) {
   memset(a, 0, sizeof *a);
   a->txn = txn;
   a->node = node;
   a->mode = mode;
+  a->by_path = by_path;
   start(&a->thread, ask, a);
+}
+
+/* Has a transaction ask in a thread. */
+static void start_asking_for(struct asker *a, bs_txn txn, bs_node node, bs_mode mode) {
+  ask_in_thread(a, txn, node, mode, false);
 }
 
 /* The same of a thread that comes to sleep. */
@@ -157,12 +162,7 @@ static void send(struct asker *a, bs_txn txn, bs_node node, bs_mode mode) {
 }
 
 static void send_by_path(struct asker *a, bs_txn txn, bs_node node, bs_mode mode) {
-  memset(a, 0, sizeof *a);
-  a->txn = txn;
-  a->node = node;
-  a->mode = mode;
-  a->by_path = true;
-  start(&a->thread, ask, a);
+  ask_in_thread(a, txn, node, mode, true);
   await_wait(txn);
 }
 
@@ -226,8 +226,8 @@ static void a_commit_wakes_all(void) {
   DONE(bs_table_end(&table));
 }
 
-/* The younger sleeps, and the older closes the cycle. */
-static void a_lock_condemns(void) {
+/* The younger sleeps, and the older closes the cycle in this way. */
+static void closes_a_cycle(void (*asks)(struct asker *a, bs_txn txn, bs_node node, bs_mode mode)) {
   struct asker one, two;
   bs_txn a, b;
   set_up(BS_AT_BLOCK);
@@ -235,7 +235,7 @@ static void a_lock_condemns(void) {
   DONE(bs_table_lock(&table, a, root, BS_S));
   DONE(bs_table_lock(&table, b, root, BS_S));
   send(&one, b, root, BS_X);
-  send(&two, a, root, BS_X);
+  asks(&two, a, root, BS_X);
   back(&one, BS_VICTIM);
   ANSWERS(BS_TXN_CONDEMNED, bs_table_lock(&table, b, root, BS_S));
   DONE(bs_table_abort(&table, b, NULL));
@@ -243,20 +243,12 @@ static void a_lock_condemns(void) {
   DONE(bs_table_end(&table));
 }
 
-/* The same by a path. */
+static void a_lock_condemns(void) {
+  closes_a_cycle(send);
+}
+
 static void a_path_condemns(void) {
-  struct asker one, two;
-  bs_txn a, b;
-  set_up(BS_AT_BLOCK);
-  a = begin(), b = begin();
-  DONE(bs_table_lock(&table, a, root, BS_S));
-  DONE(bs_table_lock(&table, b, root, BS_S));
-  send(&one, b, root, BS_X);
-  send_by_path(&two, a, root, BS_X);
-  back(&one, BS_VICTIM);
-  DONE(bs_table_abort(&table, b, NULL));
-  WANT(back(&two, BS_DONE).mode == BS_X);
-  DONE(bs_table_end(&table));
+  closes_a_cycle(send_by_path);
 }
 
 /* The asker itself falls, and does not sleep. */
