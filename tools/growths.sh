@@ -3,7 +3,7 @@
 # library that tools/refuse_growth.c makes. Says at which growth something is not as it must be, and ends
 # with status 1 there.
 #
-# plays: the program `growths` prints the same as with no growth refused.
+# plays: the program `test_growths` prints the same as with no growth refused.
 # script: `gltool --listings` answers tools/every_form.script. Either it finds no memory, or bad words where its
 #   words were not read, before it has read anything; or one line is answered with want of memory, and all
 #   others as in the script without that line. A growth that reading the words can do without changes nothing.
@@ -44,7 +44,7 @@ same() {
 }
 
 refuse_in_plays() {
-  local program=$top/crates/growths/out/growths status
+  local program=$top/crates/test_growths/out/test_growths status
   with_growth 0 "$program" >"$work/wanted" || { cat "$work/wanted"; exit 1; }
   growths_of "the plays"
   for ((n = 1; n <= growths; n++)); do
