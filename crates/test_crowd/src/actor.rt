@@ -5,7 +5,7 @@ ghost use Rattle.std.specs.Prelude.{◌<◌};
 use crate::forest::{
     FILES, Forest, INDEXES, NODES, RECORDS, Rank, may_be_above, pair, part, rank_of,
 };
-use crate::wanted::{allowed, same};
+use test_wanted::{allowed, same};
 use gl_catalog::{Answer, Command};
 use gl_modes::Mode::{IS, IX, NL, S, SIX, X};
 use gl_modes::{Mode, NodeId};

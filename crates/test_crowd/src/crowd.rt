@@ -4,7 +4,7 @@ use crate::actor::{Act, Entry, acts};
 use crate::forest::{Forest, add_forest};
 use crate::stage::enact;
 use crate::tally::replays;
-use crate::wanted::{allowed, same};
+use test_wanted::{allowed, same};
 use gl_catalog::{Answer, Command, Manager};
 use gl_modes::{Mode, NodeId, Refusal};
 use gl_shared::{Naming, Session, Share, Shared, Watcher};

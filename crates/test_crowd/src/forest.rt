@@ -2,7 +2,7 @@
 
 ghost use Rattle.std.specs.Prelude.{◌<◌};
 
-use crate::wanted::{allowed, same};
+use test_wanted::{allowed, same};
 use gl_catalog::Manager;
 use gl_modes::Mode::IX;
 use gl_modes::{NodeId, Refusal};

@@ -11,5 +11,3 @@ mod forest;
 mod stage;
 #[cfg(test)]
 mod tally;
-#[cfg(test)]
-mod wanted;

@@ -1,7 +1,7 @@
 //! What a crowd did, put to a manager alone.
 
 use crate::actor::Entry;
-use crate::wanted::same;
+use test_wanted::same;
 use gl_catalog::{Answer, Command, Manager};
 use gl_shared::is_accepted;
 use std::process::Abort;

@@ -1,5 +1,5 @@
 //! Stories of a few transactions over one manager, with every answer that is wanted: paths, rows and what
-//! is counted. Tests alone.
+//! is counted; and watchers of a window. Tests alone.
 #![tactic(auto)]
 
 #[cfg(test)]
@@ -13,4 +13,4 @@ mod rows;
 #[cfg(test)]
 mod story;
 #[cfg(test)]
-mod wanted;
+mod windows;

@@ -18,6 +18,4 @@ mod standing;
 #[cfg(test)]
 mod twins;
 #[cfg(test)]
-mod wanted;
-#[cfg(test)]
 mod work;

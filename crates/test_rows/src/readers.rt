@@ -3,7 +3,7 @@
 use crate::act::Act;
 use crate::named::Named;
 use crate::site::{Line, interval};
-use crate::wanted::{allowed, same};
+use test_wanted::{allowed, same};
 use gl_catalog::{Answer, Command, Reached};
 use gl_modes::Mode::{IS, IX, S, X};
 use gl_modes::{Mode, NodeId, Refusal};

@@ -5,7 +5,7 @@ use crate::named::Named;
 use crate::seen::Seen;
 use crate::site::{Line, ROWS, first_keys, with_key};
 use crate::standing::Standing;
-use crate::wanted::same;
+use test_wanted::same;
 use gl_catalog::{Answer, Reached};
 use gl_modes::{Mode, NodeId, Refusal};
 use gl_table::{Detect, Locked, Notice, Told, TxnId};

@@ -6,7 +6,7 @@ use crate::act::Act;
 use crate::seen::ALL;
 use crate::site::{KEYS, Line, Site, interval, with_key};
 use crate::twins::Twins;
-use crate::wanted::same;
+use test_wanted::same;
 use gl_catalog::Answer;
 use gl_modes::Mode::{IS, IX, S, SIX, X};
 use gl_modes::{Mode, NodeId, Refusal};

@@ -3,8 +3,8 @@
 
 use crate::rows::{AT_BLOCK, answer};
 use crate::streams::{Sheet, Source};
-use crate::wanted::same;
-use gl_tool::RunFault;
+use test_wanted::same;
+use gl_interpreter::RunFault;
 use std::test::Fail;
 
 const SCRIPT: &[u8] = b"begin a\nbegin b\n";

@@ -1,9 +1,6 @@
-//! Whole scripts, tried through the tool's public calls: what they print, and what is left of it
-//! where a reader or a writer fails.
+//! Whole scripts: what they print, and what is left of it where a reader or a writer fails. Tests alone.
 #![tactic(auto)]
 
-#[cfg(test)]
-mod crews;
 #[cfg(test)]
 mod deadlocks;
 #[cfg(test)]
@@ -28,7 +25,3 @@ mod records;
 mod rows;
 #[cfg(test)]
 mod streams;
-#[cfg(test)]
-mod wanted;
-#[cfg(test)]
-mod words;

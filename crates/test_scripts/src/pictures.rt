@@ -1,8 +1,8 @@
 //! What a picture of a script's end looks like, and what becomes of bad words and faults.
 
 use crate::streams::{Sheet, Source};
-use crate::wanted::same;
-use gl_tool::draw_script;
+use test_wanted::same;
+use gl_interpreter::draw_script;
 use std::alloc::Global;
 use std::process::Abort;
 use std::test::Fail;

@@ -1,9 +1,9 @@
 //! A script line by line, and all that is tried with it.
 
 use crate::streams::{Sheet, Source};
-use crate::wanted::same;
+use test_wanted::same;
+use gl_interpreter::{Choices, RunFault, run, run_choosing};
 use gl_table::Detect;
-use gl_tool::{Choices, RunFault, run, run_choosing};
 use gl_waits::Victims;
 use std::alloc::{AllocError, Global};
 use std::io::{Read, Write};

@@ -1,6 +1,5 @@
 //! Tests alone: several sessions over a shared table, in threads that race, wait in rings, look on and
-//! wake each other: what no clause can say of a call that takes the latch. Watchers of a window, and the
-//! rounds of a crew, beside them.
+//! wake each other: what no clause can say of a call that takes the latch.
 #![tactic(auto)]
 
 #[cfg(test)]
@@ -10,14 +9,8 @@ mod races;
 #[cfg(test)]
 mod ring;
 #[cfg(test)]
-mod rounds;
-#[cfg(test)]
 mod stage;
 #[cfg(test)]
 mod story;
 #[cfg(test)]
 mod wakings;
-#[cfg(test)]
-mod wanted;
-#[cfg(test)]
-mod windows;

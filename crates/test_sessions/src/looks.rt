@@ -2,7 +2,7 @@
 
 use crate::stage::{add_root, done, enact, new_manager};
 use crate::story::Story;
-use crate::wanted::same;
+use test_wanted::same;
 use gl_catalog::{Answer, Command};
 use gl_modes::Mode::X;
 use gl_modes::NodeId;

@@ -2,7 +2,7 @@
 
 use crate::stage::{add_root, begin_with, done, enact, new_manager, settles, youngest_suspect};
 use crate::story::Story;
-use crate::wanted::same;
+use test_wanted::same;
 use gl_catalog::{Answer, Command, Manager};
 use gl_modes::Mode::{S, X};
 use gl_modes::{NodeId, Refusal};

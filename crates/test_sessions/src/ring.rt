@@ -3,7 +3,7 @@
 
 use crate::stage::{add_root, begin_with, done, enact, new_manager, settles};
 use crate::story::Story;
-use crate::wanted::same;
+use test_wanted::same;
 use gl_catalog::{Command, Manager};
 use gl_modes::Mode::X;
 use gl_modes::NodeId;

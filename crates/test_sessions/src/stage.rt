@@ -5,7 +5,7 @@ ghost use Rattle.gl_table.specs.Table.{board_of};
 ghost use Rattle.gl_catalog.specs.Manager.{state_of};
 
 use crate::story::Story;
-use crate::wanted::{allowed, same};
+use test_wanted::{allowed, same};
 use gl_catalog::{Answer, Command, Manager};
 use gl_modes::{Mode, NodeId};
 use gl_shared::{Closed, Naming, NotAll, Parts, Session, Share, Shared, Watcher, gather};

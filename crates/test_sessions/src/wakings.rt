@@ -3,7 +3,7 @@
 
 use crate::stage::{add_root, begin_with, enact, new_manager};
 use crate::story::Story;
-use crate::wanted::{allowed, same};
+use test_wanted::{allowed, same};
 use gl_catalog::{Answer, Command, Manager};
 use gl_modes::Mode::{S, X};
 use gl_modes::{Mode, NodeId};

@@ -4,7 +4,7 @@ ghost use Rattle.std.specs.Prelude.{◌≡◌};
 ghost use Rattle.gl_table.specs.Table.{board_of};
 ghost use Rattle.gl_catalog.specs.Manager.{state_of};
 
-use crate::wanted::same;
+use test_wanted::same;
 use gl_catalog::{Answer, Command, Manager};
 use gl_shared::{Naming, NotAll, Parts, Session, Share, Shared, gather};
 use gl_table::Detect;

@@ -16,5 +16,3 @@ mod table;
 mod tellings;
 #[cfg(test)]
 mod waits;
-#[cfg(test)]
-mod wanted;

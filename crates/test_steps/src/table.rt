@@ -5,7 +5,7 @@ ghost use Rattle.gl_table.specs.Table.{board_of};
 ghost use Rattle.gl_catalog.specs.Manager.{state_of};
 
 use crate::steps::{Alone, Made, Step, Through, take};
-use crate::wanted::same;
+use test_wanted::same;
 use gl_catalog::{Answer, Manager};
 use gl_shared::{Naming, NotAll, Parts, Session, Share, Shared, gather};
 use gl_table::Detect;

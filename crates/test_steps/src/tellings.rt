@@ -6,7 +6,7 @@ ghost use Rattle.gl_table.specs.Table.{board_of};
 ghost use Rattle.gl_catalog.specs.Manager.{state_of};
 
 use crate::steps::{Made, Step, Through, take};
-use crate::wanted::same;
+use test_wanted::same;
 use gl_catalog::{Answer, Manager};
 use gl_modes::Mode::{S, X};
 use gl_modes::{NodeId, Refusal};

@@ -8,7 +8,7 @@ ghost use Rattle.gl_catalog.specs.Manager.{state_of};
 use crate::rows::PRELUDE;
 use crate::steps::{Alone, Answers, Made, Step, Through, take};
 use crate::table::keep_intervals;
-use crate::wanted::same;
+use test_wanted::same;
 use gl_catalog::{Answer, Command, Manager};
 use gl_modes::Mode::{IS, IX, S, X};
 use gl_modes::{Mode, NodeId, Refusal};

@@ -1,6 +1,6 @@
 //! Each cause of a bad line once.
 
-use crate::wanted::same;
+use test_wanted::same;
 use gl_script::{Language, Lists, Version, parse};
 use std::process::Abort;
 

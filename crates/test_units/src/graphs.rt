@@ -1,6 +1,6 @@
 //! Values from outside, and limits, as tables. Nodes are born in the order of their numbers.
 
-use crate::wanted::same;
+use test_wanted::same;
 use gl_graph::laws::root_path_laws;
 use gl_graph::{Graph, Kind};
 use gl_modes::{NodeId, Refusal};

@@ -4,7 +4,7 @@ ghost use Rattle.std.specs.Prelude.{◌≡◌, ◌≢◌, ◌<◌, false, true};
 ghost use Rattle.gl_modes.specs.declared.mode.Mode.TheVariants.{NL};
 ghost use Rattle.gl_header.specs.Header.{is_among_waiters};
 
-use crate::wanted::same;
+use test_wanted::same;
 use arrayvec::ArrayVec;
 use gl_header::{Asked, GrantList, Header, Try};
 use gl_modes::{Mode, Refusal};

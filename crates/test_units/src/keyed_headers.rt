@@ -5,7 +5,7 @@ ghost use Rattle.gl_modes.specs.declared.mode.Mode.TheVariants.{NL};
 ghost use Rattle.gl_header.specs.Header.{is_among_waiters};
 ghost use Rattle.gl_header.specs.Headers.{HasItsKey, queue_of};
 
-use crate::wanted::same;
+use test_wanted::same;
 use arrayvec::ArrayVec;
 use gl_header::{Asked, GrantList, Headers};
 use gl_modes::{Mode, NodeId, Refusal};

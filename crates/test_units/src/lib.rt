@@ -24,5 +24,3 @@ mod script;
 mod slots;
 #[cfg(test)]
 mod waits;
-#[cfg(test)]
-mod wanted;

@@ -1,6 +1,6 @@
 //! A list under nodes beside an `IndexMap` that is asked the same.
 
-use crate::wanted::same;
+use test_wanted::same;
 use gl_listed::NodeMap;
 use gl_modes::NodeId;
 use indexmap::IndexMap;

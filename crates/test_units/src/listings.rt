@@ -2,7 +2,7 @@
 
 use crate::bad_lines::{Texts, are_bad, are_bad_unlisted};
 use crate::script::{Node, Text, is, names, order_in};
-use crate::wanted::same;
+use test_wanted::same;
 use gl_script::{Form, Language, Line, Listing, Lists, Version, parse};
 use std::process::Abort;
 

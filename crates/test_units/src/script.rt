@@ -1,6 +1,6 @@
 //! Each form of a command read once.
 
-use crate::wanted::same;
+use test_wanted::same;
 use gl_modes::Mode;
 use gl_script::{Form, Language, Line, Lists, Name, Used, Version, one_command, parse};
 use std::process::Abort;

@@ -1,6 +1,6 @@
 //! Each call once, at both ends of a set.
 
-use crate::wanted::same;
+use test_wanted::same;
 use gl_slots::Slots;
 
 #[test]

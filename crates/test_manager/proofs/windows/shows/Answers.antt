@@ -1,7 +1,7 @@
 use Rattle.std.proofs.Common.{rules, ◌≤◌, ◌∙◌}
 use Rattle.gl_boxes.specs.Boards.{last_epoch}
-use Rattle.test_sessions.proofs.Boards.{rises_on}
-use Rattle.test_sessions.proofs.windows.shows.Goals as goal
+use Rattle.test_manager.proofs.Boards.{rises_on}
+use Rattle.test_manager.proofs.windows.shows.Goals as goal
 
 pub invariant_of-result : goal.invariant_of-result
 invariant_of-result g c =

@@ -2,7 +2,7 @@
 
 ghost use Rattle.std.specs.Prelude.{◌≡◌};
 
-use crate::wanted::{allowed, same};
+use test_wanted::{allowed, same};
 use gl_catalog::Manager;
 use gl_crew::{CrewFault, Work, crew_over};
 use gl_shared::{Naming, Session};

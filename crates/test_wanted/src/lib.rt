@@ -1,4 +1,6 @@
-//! What is wanted is compared in one function, since each comparison makes the proof of a test longer.
+//! What the tests of the other crates want. It is compared in one function, since each comparison makes the
+//! proof of a test longer.
+#![tactic(auto)]
 
 use gl_modes::Refusal;
 use std::fmt::Debug;

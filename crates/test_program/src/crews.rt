@@ -2,7 +2,7 @@
 
 ghost use Rattle.std.specs.Prelude.{◌≡◌, ◌+◌, ◌<◌, ◌≤◌, IfOk};
 
-use crate::wanted::same;
+use test_wanted::same;
 use gl_catalog::{Answer, Command, Manager};
 use gl_crew::{Ended, Field, RecordRounds, Work, crew_over};
 use gl_modes::{Mode, NodeId, Refusal};

@@ -1,14 +1,15 @@
 //! The words of the program: what they ask for, the plan of it, and what becomes of those that ask for
 //! nothing.
 
-use crate::rows::{AT_BLOCK, BY_WATCHER, FEWEST, FEWEST_BY_WATCHER, LISTED};
-use crate::wanted::same;
+use test_wanted::same;
 use gl_modes::Refusal;
 use gl_table::Detect;
+use gl_table::Detect::{AtBlock, ByWatcher};
 use gl_tool::{
     Asked, Choices, CrewFault, Plan, RunFault, ToolFault, asked, complain, plan, program,
 };
 use gl_waits::Victims;
+use gl_waits::Victims::{Fewest, Youngest};
 use std::alloc::Global;
 use std::io;
 use std::io::{ErrorKind, Read, Write};
@@ -68,6 +69,60 @@ const LISTS: &[u8] = b"inner db\ntxns\nholders db\n";
 const LISTS_LISTED: &[u8] = b"ok\nok\nok\n";
 
 const LISTS_UNLISTED: &[u8] = b"ok\nno 20 BadLine\nno 20 BadLine\n";
+
+/// Words that ask for a script, and what they choose.
+const CHOSEN: [(&[&str], Detect, Victims, bool); 12] = [
+    (&[], AtBlock, Youngest, false),
+    (&["--detect", "at-block"], AtBlock, Youngest, false),
+    (&["--detect=at-block"], AtBlock, Youngest, false),
+    (&["--detect", "by-watcher"], ByWatcher, Youngest, false),
+    (&["--detect=by-watcher"], ByWatcher, Youngest, false),
+    (&["--victims", "fewest"], AtBlock, Fewest, false),
+    (&["--victims=fewest"], AtBlock, Fewest, false),
+    (&["--victims", "youngest"], AtBlock, Youngest, false),
+    (
+        &["--victims=fewest", "--detect=by-watcher"],
+        ByWatcher,
+        Fewest,
+        false,
+    ),
+    (&["--listings"], AtBlock, Youngest, true),
+    (
+        &["--detect", "at-block", "--listings"],
+        AtBlock,
+        Youngest,
+        true,
+    ),
+    (
+        &["--listings", "--victims=fewest", "--detect=by-watcher"],
+        ByWatcher,
+        Fewest,
+        true,
+    ),
+];
+
+/// Words without a crew, and what the script then prints.
+const RUNS: [(&[&str], &[u8]); 4] = [
+    (&[], FOUND_AT_ONCE),
+    (&["--detect", "at-block"], FOUND_AT_ONCE),
+    (&["--detect", "by-watcher"], LEFT_WAITING),
+    (&["--detect=by-watcher"], LEFT_WAITING),
+];
+
+/// Words that ask for a crew, and the line that it prints.
+const COUNTED: [(&[&str], &[u8]); 5] = [
+    (&["--crew", "1", "--rounds", "1"], b"accepted 7\n"),
+    (&["--crew", "65", "--rounds", "1"], b"accepted 455\n"),
+    (&["--crew", "128", "--rounds", "10"], b"accepted 8960\n"),
+    (
+        &["--detect", "at-block", "--crew", "4", "--rounds", "100"],
+        b"accepted 2800\n",
+    ),
+    (
+        &["--detect", "by-watcher", "--crew", "4", "--rounds", "100"],
+        b"accepted 2800\n",
+    ),
+];
 
 /// The line of each fault.
 const SAID: &[u8] = b"gltool: read fault\n\
@@ -138,36 +193,15 @@ fn ends<H: Threads + Wait + Sync + Abort>(
 }
 
 #[test]
-fn a_way_of_detection_is_a_plan(rt: HostRuntime) {
-    let alloc = rt.alloc();
-    choose(&rt, alloc, &[], AT_BLOCK);
-    choose(&rt, alloc, &["--detect", "at-block"], AT_BLOCK);
-    choose(&rt, alloc, &["--detect=at-block"], AT_BLOCK);
-    choose(&rt, alloc, &["--detect", "by-watcher"], BY_WATCHER);
-    choose(&rt, alloc, &["--detect=by-watcher"], BY_WATCHER);
-}
-
-#[test]
-fn a_choice_of_victims_stands_beside_the_plan(rt: HostRuntime) {
-    let alloc = rt.alloc();
-    choose(&rt, alloc, &["--victims", "fewest"], FEWEST);
-    choose(&rt, alloc, &["--victims=fewest"], FEWEST);
-    choose(&rt, alloc, &["--victims", "youngest"], AT_BLOCK);
-    let words = ["--victims=fewest", "--detect=by-watcher"];
-    choose(&rt, alloc, &words, FEWEST_BY_WATCHER);
-}
-
-#[test]
-fn listings_stand_beside_the_plan(rt: HostRuntime) {
-    let alloc = rt.alloc();
-    choose(&rt, alloc, &["--listings"], LISTED);
-    choose(&rt, alloc, &["--detect", "at-block", "--listings"], LISTED);
-    let all = Choices {
-        listings: true,
-        ..FEWEST_BY_WATCHER
-    };
-    let words = ["--listings", "--victims=fewest", "--detect=by-watcher"];
-    choose(&rt, alloc, &words, all);
+fn a_script_is_chosen_by_words(rt: HostRuntime) {
+    for (words, detect, victims, listings) in CHOSEN {
+        let choices = Choices {
+            detect,
+            victims,
+            listings,
+        };
+        choose(&rt, rt.alloc(), words, choices);
+    }
 }
 
 #[test]
@@ -181,18 +215,9 @@ fn all_else_is_refused(rt: HostRuntime) {
 
 #[test]
 fn the_plan_is_what_runs(rt: HostRuntime) {
-    let alloc = rt.alloc();
-    ends(&rt, alloc, &[], 0, FOUND_AT_ONCE, b"");
-    ends(&rt, alloc, &["--detect", "at-block"], 0, FOUND_AT_ONCE, b"");
-    ends(
-        &rt,
-        alloc,
-        &["--detect", "by-watcher"],
-        0,
-        LEFT_WAITING,
-        b"",
-    );
-    ends(&rt, alloc, &["--detect=by-watcher"], 0, LEFT_WAITING, b"");
+    for (words, report) in RUNS {
+        ends(&rt, rt.alloc(), words, 0, report, b"");
+    }
 }
 
 /// The listings of a script are answered with the word alone.
@@ -238,14 +263,14 @@ fn both_numbers_are_a_crew(rt: HostRuntime) {
     let crew = Plan::Crew {
         sessions: 128,
         rounds: 100_000,
-        detect: Detect::AtBlock,
+        detect: AtBlock,
     };
     let words = ["--crew", "128", "--rounds", "100000"];
     same(&rt, planned(alloc, &words), Some(crew));
     let crew = Plan::Crew {
         sessions: 1,
         rounds: 2,
-        detect: Detect::ByWatcher,
+        detect: ByWatcher,
     };
     let words = ["--rounds=2", "--crew=1", "--detect=by-watcher"];
     same(&rt, planned(alloc, &words), Some(crew));
@@ -267,43 +292,23 @@ fn a_crew_may_choose_its_victims(rt: HostRuntime) {
     let crew = Asked::Crew {
         sessions: 4,
         rounds: 100,
-        detect: Detect::ByWatcher,
-        victims: Victims::Fewest,
+        detect: ByWatcher,
+        victims: Fewest,
     };
     crews(&rt, alloc, &eight, crew);
     let crew = Asked::Crew {
         sessions: 1,
         rounds: 2,
-        detect: Detect::AtBlock,
-        victims: Victims::Youngest,
+        detect: AtBlock,
+        victims: Youngest,
     };
     crews(&rt, alloc, &["--crew=1", "--rounds=2"], crew);
 }
 
 #[test]
 fn a_crew_prints_its_count(rt: HostRuntime) {
-    let alloc = rt.alloc();
-    counts(
-        &rt,
-        alloc,
-        &["--crew", "1", "--rounds", "1"],
-        b"accepted 7\n",
-    );
-    counts(
-        &rt,
-        alloc,
-        &["--crew", "65", "--rounds", "1"],
-        b"accepted 455\n",
-    );
-    counts(
-        &rt,
-        alloc,
-        &["--crew", "128", "--rounds", "10"],
-        b"accepted 8960\n",
-    );
-    for way in ["at-block", "by-watcher"] {
-        let words = ["--detect", way, "--crew", "4", "--rounds", "100"];
-        counts(&rt, alloc, &words, b"accepted 2800\n");
+    for (words, line) in COUNTED {
+        counts(&rt, rt.alloc(), words, line);
     }
 }
 

@@ -5,7 +5,7 @@ ghost use Rattle.std.specs.Prelude.{◌≡◌, ◌≤◌};
 ghost use Rattle.gl_model.specs.declared.answers.Detect.TheVariants.{AtBlock};
 ghost use Rattle.gl_boxes.specs.Boards.{Fine, last_epoch};
 
-use crate::wanted::same;
+use test_wanted::same;
 use gl_table::Detect;
 use gl_waits::{Board, SLOTS};
 use gl_window::{Publisher, WatchFault, Watcher};
