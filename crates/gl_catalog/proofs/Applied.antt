@@ -16,7 +16,7 @@ use Rattle.gl_catalog.specs.declared.command.Answer.{Answer}
 use Rattle.gl_catalog.specs.declared.command.Command.{Command}
 use Rattle.gl_catalog.specs.declared.command.Command.TheVariants as command
 use Rattle.gl_catalog.specs.declared.counters.Counters.{Counters}
-use Rattle.gl_catalog.specs.Completes.{Completes}
+use Rattle.gl_catalog.specs.Completes.{Completes, IsCarriedOut}
 use Rattle.gl_catalog.specs.Counters.{counted}
 use Rattle.gl_catalog.specs.Deadlocks.{KeepsAccepted, KeepsDeadlock}
 use Rattle.gl_catalog.specs.Manager.{ManagerView, state_of}
@@ -172,3 +172,40 @@ module _ {A : Type 0} (says : A → Says) (c : Command) (s : State) where
           (inl (subst (λ o. Goes s c o (says v).0 (says v).1 s) (sym e) (subst (λ q. Answers s c q (says v).0 (says v).1 s) (sym value)
           (record { answer_is = refl; nobody_told = quiet; same = refl }))))
       by None e (Err r) is ok' = memory_step says c s r (ap₂ (λ l o. l && (is_none o || is_cycle o)) lists e) is
+
+-- a call that is a step, and keeps and counts what its command is to, carries it out
+module _ {A : Type 0} (answers : A → Answer) (v v' : ManagerView) (c c' : Command) (result : Result A Refusal) (a : Answer)
+    (same : a ≡ (said (λ x. (answers x, [])) result).0) (is : c' ≡ c) (err : OnErr result (v' ≡ v))
+    (keeps : (x : A) → KeepsAccepted c v v' → KeepsDeadlock c v (answers x) v') where
+  -- where it tells nobody
+  pub carries_quietly : (told : Notices) → told.items ≡ [] → CallSteps (state_of v) c (λ x. (answers x, [])) result (state_of v')
+      → IfOk result (λ x. Completes c v (answers x, []) v') → IsCarriedOut v c' a told.items v'
+  carries_quietly told empty step completes = record {
+    step = quiet answers (state_of v) (state_of v') c c' result a told step same empty is;
+    deadlock = keeps_answered answers v v' c c' [] result completes err a keeps same is;
+    counters = quiet_counts answers v v' c c' [] result completes err a told empty same is;
+    same = uncounted answers v v' c c' [] result completes err;
+  }
+
+  -- where it fills a list
+  pub carries_telling : (told before : Notices) → OnErr result (told ≡ before) → before.items ≡ []
+      → CallSteps (state_of v) c (λ x. (answers x, told.items)) result (state_of v') → IfOk result (λ x. Completes c v (answers x, told.items) v')
+      → IsCarriedOut v c' a told.items v'
+  carries_telling told before kept empty step completes = record {
+    step = fills answers (state_of v) (state_of v') c c' result a told before step same kept empty is;
+    deadlock = keeps_answered answers v v' c c' told.items result completes err a keeps same is;
+    counters = list_counts answers v v' c c' told.items result completes err a before told kept empty refl same is;
+    same = uncounted answers v v' c c' told.items result completes err;
+  }
+
+-- a query that is answered is carried out
+pub carries_query : {A : Type 0} (answers : A → Answer) (v : ManagerView) (c c' : Command) (result : Result A Refusal) (a : Answer) (told : Notices)
+    → ((x : A) → KeepsDeadlock c v (answers x) v) → ((x : A) → counted (state_of v) c (answers x) [] (state_of v) v.counters ≡ v.counters)
+    → CallSteps (state_of v) c (λ x. (answers x, [])) result (state_of v) → a ≡ (said (λ x. (answers x, [])) result).0 → told.items ≡ [] → c' ≡ c
+    → IsCarriedOut v c' a told.items v
+carries_query answers v c c' result a told keeps none step same empty is = record {
+  step = quiet answers (state_of v) (state_of v) c c' result a told step same empty is;
+  deadlock = keeps_asked answers v c c' result a keeps same is;
+  counters = asked_counts answers (state_of v) (state_of v) c c' result a told v.counters none empty same is;
+  same = λ e. refl;
+}

@@ -1,11 +1,14 @@
 -- What a call of the manager does beside its step, where it is not refused.
 use Rattle.std.specs.Prelude.{◌≡◌, ◌+◌}
+use Rattle.gl_catalog.specs.declared.command.Answer.{Answer}
 use Rattle.gl_catalog.specs.declared.command.Command.{Command}
 use Rattle.gl_catalog.specs.Counters.{counted}
-use Rattle.gl_catalog.specs.Deadlocks.{KeepsAccepted}
+use Rattle.gl_catalog.specs.Deadlocks.{KeepsAccepted, KeepsDeadlock}
 use Rattle.gl_catalog.specs.Manager.{ManagerView, state_of}
 use Rattle.gl_catalog.specs.Promises.{KeepsCaller, SettlesIdle, StepLeavesOthers}
 use Rattle.gl_catalog.specs.Replies.{Says}
+use Rattle.gl_catalog.specs.Step.{Step}
+use Rattle.gl_model.specs.Tellings.{Told}
 
 -- a command that was answered so is accepted once and counted, keeps of deadlocks what it is to keep, and leaves its caller, all others and those on no cycle what it is to leave them
 pub record Completes (c : Command) (m : ManagerView) (r : Says) (m' : ManagerView) : Type 0 where
@@ -15,3 +18,10 @@ pub record Completes (c : Command) (m : ManagerView) (r : Says) (m' : ManagerVie
   pub caller : KeepsCaller c (state_of m) (state_of m')
   pub others : StepLeavesOthers (state_of m) c r (state_of m')
   pub settles : SettlesIdle (state_of m) c r.0 r.1 (state_of m')
+
+-- a command was answered so: it is a step, keeps of deadlocks what it is to keep, and is counted; where none more was accepted, nothing changed
+pub record IsCarriedOut (m : ManagerView) (c : Command) (a : Answer) (told : Told) (m' : ManagerView) : Type 0 where
+  pub step : Step (state_of m) c a told (state_of m')
+  pub deadlock : KeepsDeadlock c m a m'
+  pub counters : m'.counters ≡ counted (state_of m) c a told (state_of m') m.counters
+  pub same : m'.accepted ≡ m.accepted → m' ≡ m

@@ -3,6 +3,7 @@
 #![tactic(auto)]
 
 mod bounds;
+mod found;
 mod graph;
 mod kind;
 pub mod laws;
@@ -10,5 +11,6 @@ mod node;
 mod parents;
 mod store;
 
+pub use found::add_missing;
 pub use graph::Graph;
 pub use kind::Kind;

@@ -18,7 +18,7 @@ use gl_header::{Header, Headers};
 use gl_model::Status;
 use gl_modes::{Mode, NodeId};
 use gl_slots::{Bits, SLOTS, Slot, Slots};
-use gl_waits::{Board, WaitsFor};
+use gl_waits::{Ages, Board, WaitsFor};
 
 /// The board of this moment, in which only the slots of those who live and wait are written.
 pub(crate) fn board(headers: &Headers, seats: &Seats, epoch: u64) -> Board
@@ -29,15 +29,6 @@ pub(crate) fn board(headers: &Headers, seats: &Seats, epoch: u64) -> Board
     write_ages(seats, &mut board.ages);
     write_rows(headers, seats, &mut board.rows);
     board
-}
-
-/// The age in each seat, 0 in a free one.
-pub(crate) fn ages(seats: &Seats) -> [u64; SLOTS]
-    ensures { (u : ℕ) → get_or result u 0 ≡ age_in (txns_of seats.now.items u) }
-{
-    let mut ages = [0; SLOTS];
-    write_ages(seats, &mut ages);
-    ages
 }
 
 /// Writes the age in each seat that is taken, where all are 0 before.
@@ -138,7 +129,7 @@ fn wanted_on(seats: &[Option<Seat>], slot: Slot, node: NodeId) -> Option<Mode>
     }
 }
 
-/// Who waits for whom at this moment, read row by row.
+/// Who waits for whom at this moment, and how old each is, read slot by slot.
 #[derive(Clone, Copy)]
 pub(crate) struct Waits<'a> {
     pub(crate) headers: &'a Headers,
@@ -162,6 +153,20 @@ impl WaitsFor for Waits<'_> {
                 ),
             ) => row(self.headers, slot as Slot, *node, *wanted),
             _ => Slots::empty(),
+        }
+    }
+}
+
+impl Ages for Waits<'_> {
+    ghost use Rattle.gl_model.specs.State.{age_in};
+    ghost use Rattle.gl_table.specs.inside.Seats.{txns_of};
+
+    ghost age_of = { λ it slot. age_in (txns_of it.seats.now slot) };
+
+    fn age(&self, slot: usize) -> u64 {
+        match self.seats.get(slot) {
+            Some(Some(seat)) => seat.age,
+            _ => 0,
         }
     }
 }

@@ -1,15 +1,14 @@
 //! Effective modes.
 
-ghost use Rattle.std.specs.Prelude.{◌≡◌, IfOk, OnOk, not, true};
+ghost use Rattle.std.specs.Prelude.{◌≡◌, IfOk, not, true};
 ghost use Rattle.gl_modes.specs.declared.mode.Mode.TheVariants.{X};
 ghost use Rattle.gl_modes.specs.Modes.{same_mode};
 ghost use Rattle.gl_graph.specs.Graph.{is_live, node_count};
-ghost use Rattle.gl_graph.specs.Seen.{with_all};
 ghost use Rattle.gl_graph.specs.View.{graph_of};
 ghost use Rattle.gl_model.specs.Lawful.{eff_s, eff_x, effect_on};
 ghost use Rattle.gl_listed.specs.Lists.{mode_of};
 
-use gl_graph::Graph;
+use gl_graph::{Graph, add_missing};
 use gl_listed::LockList;
 use gl_model::Effect;
 use gl_modes::{Mode, NodeId, covers};
@@ -95,14 +94,4 @@ fn holds_x(list: &LockList, n: NodeId) -> bool
     ensures { result ≡ same_mode (mode_of list.now n) X }
 {
     list.mode(n) == Mode::X
-}
-
-/// Appends those of `more` that are not among the found ones yet.
-fn add_missing(found: &mut IndexSet<NodeId>, more: &[NodeId]) -> Result<(), AllocError>
-    ensures { OnOk result (found.new.keys ≡ with_all found.old.keys more.now) }
-{
-    for n in more {
-        found.insert(*n)?;
-    }
-    Ok(())
 }

@@ -3,6 +3,7 @@
 //! waits for whom, without a board.
 #![tactic(auto)]
 
+mod ages;
 mod board;
 mod cycle;
 mod freeing;
@@ -13,6 +14,7 @@ mod victim;
 mod victims;
 mod waits_for;
 
+pub use ages::Ages;
 pub use board::Board;
 pub use cycle::{on_cycle, on_cycle_in};
 pub use freeing::freeing_victim;

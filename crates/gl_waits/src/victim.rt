@@ -1,13 +1,14 @@
 //! Whose wait is given up.
 
-ghost use Rattle.std.specs.Prelude.{◌≡◌, ℕ, ◌<◌, ◌↔◌, IsNone, IfSome, IsTrue, nat_lt, slice_index, true};
+ghost use Rattle.std.specs.Prelude.{◌≡◌, ℕ, ◌<◌, ◌↔◌, IsNone, IfSome, IsTrue, nat_lt, true};
 ghost use Rattle.std.specs.Option.{ForSome, option_map_or};
 ghost use Rattle.gl_slots.specs.Slots.{HasNoBit, HasNoSlot, has_bit, has_slot};
 ghost use Rattle.gl_waits.specs.Boards.{age_in};
 ghost use Rattle.gl_waits.specs.Waits.{IsLowestYoungest};
 
+use crate::ages::Ages;
 use crate::board::Board;
-use gl_slots::{Bits, SLOTS, Slot, Slots};
+use gl_slots::{Bits, SLOTS, Slots};
 
 /// The youngest of a set of slots: the one with the greatest age, of equal ages the lowest. `None`
 /// for the empty set.
@@ -19,30 +20,30 @@ pub fn youngest(board: &Board, set: Bits) -> Option<usize>
 }
 
 /// The youngest of a set of slots, as `youngest` answers it, by their ages.
-pub fn youngest_of(ages: &[u64; SLOTS], set: Slots) -> Option<usize>
+pub fn youngest_of<A: Ages>(ages: &A, set: Slots) -> Option<usize>
     ensures none { IsNone result ↔ HasNoSlot set }
-    ensures some { IfSome result (IsLowestYoungest (λ u. IsTrue (has_slot set u)) (slice_index ages.now)) }
+    ensures some { IfSome result (IsLowestYoungest (λ u. IsTrue (has_slot set u)) (A.age_of ages.now)) }
     ensures low { IfSome result (λ v. v < SLOTS) }
 {
-    set.law();
     let mut chosen: Option<usize> = None;
-    for slot in 0..SLOTS {
-        if set.contains(slot as Slot) && is_younger(ages, slot, chosen) {
-            chosen = Some(slot);
+    let mut left = set;
+    while let Some(slot) = left.take_lowest() {
+        if is_younger(ages, slot as usize, chosen) {
+            chosen = Some(slot as usize);
         }
     }
     chosen
 }
 
 /// Whether `slot` is younger than the one chosen so far, if there is one.
-fn is_younger(ages: &[u64; SLOTS], slot: usize, chosen: Option<usize>) -> bool
+fn is_younger<A: Ages>(ages: &A, slot: usize, chosen: Option<usize>) -> bool
     requires low { slot < SLOTS }
     requires chosen_low { ForSome chosen (λ other. other < SLOTS) }
     ensures { result ≡
-        option_map_or (λ other. nat_lt (slice_index ages.now other) (slice_index ages.now slot)) chosen true }
+        option_map_or (λ other. nat_lt (A.age_of ages.now other) (A.age_of ages.now slot)) chosen true }
 {
     match chosen {
-        Some(other) => ages[other] < ages[slot],
+        Some(other) => ages.age(other) < ages.age(slot),
         None => true,
     }
 }

@@ -1,9 +1,10 @@
 //! Whom a deadlock takes.
 
-ghost use Rattle.std.specs.Prelude.{ℕ, ◌<◌, ◌↔◌, IsNone, IfSome, slice_index};
+ghost use Rattle.std.specs.Prelude.{ℕ, ◌<◌, ◌↔◌, IsNone, IfSome};
 ghost use Rattle.gl_waits.specs.Waits.{IsLowestYoungest, IsOnNoCycle};
 ghost use Rattle.gl_waits.specs.Victims.{IsCandidate};
 
+use crate::ages::Ages;
 use crate::cycle::on_cycle_in;
 use crate::freeing::freeing_victim;
 use crate::victim::youngest_of;
@@ -21,16 +22,16 @@ pub enum Victims {
 
 /// Whose waits are to be given up next for `slot`, by a choice of victims: the youngest candidate, of
 /// several of that age the lowest; `None` where `slot` is on no cycle.
-pub fn victim_for<T: WaitsFor>(
+pub fn victim_for<T: WaitsFor, A: Ages>(
     waits: &T,
-    ages: &[u64; SLOTS],
+    ages: &A,
     slot: usize,
     victims: Victims,
 ) -> Option<usize>
     requires { slot < SLOTS }
     ensures none { IsNone result ↔ IsOnNoCycle (T.edge waits.now) slot }
     ensures some { IfSome result
-        (IsLowestYoungest (IsCandidate victims (T.edge waits.now) slot) (slice_index ages.now)) }
+        (IsLowestYoungest (IsCandidate victims (T.edge waits.now) slot) (A.age_of ages.now)) }
     ensures low { IfSome result (λ v. v < SLOTS) }
 {
     match victims {

@@ -2,6 +2,7 @@
 
 ghost use Rattle.std.specs.Prelude.{◌≡◌, []};
 ghost use Rattle.gl_catalog.specs.Deadlocks.{KeepsDeadlock};
+ghost use Rattle.gl_catalog.specs.Completes.{IsCarriedOut};
 ghost use Rattle.gl_catalog.specs.Counters.{counted};
 ghost use Rattle.gl_catalog.specs.Manager.{state_of};
 ghost use Rattle.gl_catalog.specs.Promises.{KeepsCaller, SettlesIdle, StepLeavesOthers};
@@ -78,10 +79,7 @@ impl Manager {
     #[inline(always)]
     fn carry_out(&mut self, command: Command<'_>, told: &mut Told) -> Answer
         requires empty { told.old.items ≡ [] }
-        ensures step { Step (state_of self.old) command.entry result told.new.items (state_of self.new) }
-        ensures deadlock { KeepsDeadlock command.entry self.old result self.new }
-        ensures counters { self.new.counters ≡ counted (state_of self.old) command.entry result told.new.items (state_of self.new) self.old.counters }
-        ensures same { self.new.accepted ≡ self.old.accepted → self.new ≡ self.old }
+        ensures { IsCarriedOut self.old command.entry result told.new.items self.new }
     {
         match command {
             Command::Inner { parents } => node_answer(self.add_inner(parents)),

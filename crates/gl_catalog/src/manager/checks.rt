@@ -12,7 +12,7 @@ ghost use Rattle.gl_catalog.specs.Tests.{worn};
 
 use super::Manager;
 use gl_modes::{Mode, NodeId, Refusal, covers};
-use gl_table::{Status, TxnId};
+use gl_table::TxnId;
 
 impl Manager {
     /// Whether one command more can be counted.
@@ -41,12 +41,7 @@ impl Manager {
     pub(super) fn check_active(&self, t: TxnId) -> Result<(), Refusal>
         ensures { result ≡ verdict (first_refusal (commit_tests (state_of self.now) t)) }
     {
-        match self.table.status(t) {
-            Some(Status::Active) => Ok(()),
-            Some(Status::Waiting { .. }) => Err(Refusal::TxnWaiting),
-            Some(Status::Condemned) => Err(Refusal::TxnCondemned),
-            None => Err(Refusal::NoSuchTxn),
-        }
+        self.table.check_active(t)
     }
 
     /// Whether the id names a node.

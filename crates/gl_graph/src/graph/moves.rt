@@ -10,24 +10,14 @@ ghost use Rattle.gl_graph.specs.Lawful.{AreInnerParents};
 ghost use Rattle.gl_graph.specs.Changes.{with_parents};
 ghost use Rattle.gl_graph.specs.Refusals.{first_cycle};
 ghost use Rattle.gl_graph.specs.View.{graph_of};
-ghost use Rattle.gl_graph.specs.Seen.{with_all};
 
 use super::Graph;
+use crate::found::add_missing;
 use crate::parents::Parents;
 use crate::store::write_parents;
 use gl_modes::{NodeId, Refusal};
 use indexmap::IndexSet;
 use std::alloc::AllocError;
-
-/// Appends those of `more` that are not among the found ones yet.
-fn add_missing(found: &mut IndexSet<NodeId>, more: &[NodeId]) -> Result<(), AllocError>
-    ensures ok { OnOk result (found.new.keys ≡ with_all found.old.keys more.now) }
-{
-    for n in more {
-        found.insert(*n)?;
-    }
-    Ok(())
-}
 
 impl Graph {
     /// Gives an inner node, a file or an index other parents: living, different inner nodes, at

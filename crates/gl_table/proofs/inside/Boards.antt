@@ -2,9 +2,9 @@
 use Rattle.gl_slots.specs.Limit.{most_slots}
 use Rattle.gl_table.proofs.Words.{[], ⊎_elim, ◌&&◌, ◌<◌, ◌==◌, ◌||◌, ◌∙◌, ◌∷◌, ◌≡◌, ◌≢◌, ◌≤◌, ◌⊎◌, age_in, age_of, and-false, and-true, ap, are_compatible}
 use Rattle.gl_table.proofs.Words.{AreHeaders, arith, blocks, Board, board_of, Bool, candidate-on_cycle, cases_eq, cases_lt, clash, cond, Entries}
-use Rattle.gl_table.proofs.Words.{false, fill_by_all, front, fun_ext, get_or, get_or-map-range_with_len, get_or-replicate, get_or-set_other, get_or-set_same}
+use Rattle.gl_table.proofs.Words.{false, fill_by_all, front, get_or, get_or-map-range_with_len, get_or-replicate, get_or-set_other, get_or-set_same}
 use Rattle.gl_table.proofs.Words.{get_or_past, HasNoSlot, header_at, header_or_new, HeaderState, inl, inr, is_ahead, is_among_waiters, is_wait}
-use Rattle.gl_table.proofs.Words.{IsCandidate, IsLawfulHeader, IsLowestYoungest, IsOnCycleOf, IsVictim, IsWalk, IsYoungest, length, length-replicate, List, map}
+use Rattle.gl_table.proofs.Words.{IsCandidate, IsLawfulHeader, IsOnCycleOf, IsVictim, IsWalk, length, length-replicate, List, map}
 use Rattle.gl_table.proofs.Words.{members_of, Mode, nat_tests, NL-compatible, NodeId, None, none_some, not, not-true, number_other, number_same, Option}
 use Rattle.gl_table.proofs.Words.{or_elim, range_with_len, Reaches, refl, replicate, Seat, set, shown, slice_get_past}
 use Rattle.gl_table.proofs.Words.{Slots, Some, split, State, status_in, status_of, subst, sym, take, true, txn_in, txns_of, Victims, Waiter}
@@ -178,11 +178,6 @@ first_step edge a b r = by r.0 r.1
 pub cycle_waits : (s : State) (t v : ℕ) → IsOnCycleOf (waits_for s) t v → is_wait (status_of s v) ≡ true
 cycle_waits s t v on = let step = first_step (waits_for s) v t on.back in ap is_wait (step_is s v step.0 step.1).2.waits
 
--- a victim by ages that are those of the state
-pub victim_by_ages : (c : Victims) (s : State) (t v : ℕ) (age : ℕ → ℕ) → ((u : ℕ) → age u ≡ age_of s u) → IsLowestYoungest (IsCandidate c (waits_for s) t) age v
-    → IsVictim c s t v
-victim_by_ages c s t v age ages best = subst (λ (f : ℕ → ℕ). IsYoungest (IsCandidate c (waits_for s) t) f v) (fun_ext ages) best.youngest
-
--- and it waits
+-- a victim waits
 pub victim_waits : (c : Victims) (s : State) (t v : ℕ) → IsVictim c s t v → is_wait (status_of s v) ≡ true
 victim_waits c s t v one = cycle_waits s t v (candidate-on_cycle c (waits_for s) t v one.is_member)

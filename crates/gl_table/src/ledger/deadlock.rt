@@ -12,7 +12,7 @@ ghost use Rattle.gl_table.specs.inside.Ledger.{AreSound, state_on};
 ghost use Rattle.gl_table.specs.inside.Seats.{txns_of};
 ghost use Rattle.gl_waits.specs.Waits.{IsOnCycleOf, IsOnNoCycle};
 
-use crate::boards::{Waits, ages};
+use crate::boards::Waits;
 use crate::ledger::Ledger;
 use crate::seat::Seat;
 use gl_model::{Deadlock, Status, Stuck, TxnId};
@@ -32,7 +32,7 @@ impl Ledger {
             headers: &self.headers,
             seats: self.seats.as_slice(),
         };
-        let victim = victim_for(&waits, &ages(&self.seats), slot as usize, victims)?;
+        let victim = victim_for(&waits, &waits, slot as usize, victims)?;
         Some(victim as Slot)
     }
 

@@ -20,9 +20,10 @@ impl Table {
         }
     }
 
-    /// Whether the name names a transaction that lives and neither waits nor is condemned.
+    /// Whether the name names a transaction that lives and neither waits nor is condemned. Refused with
+    /// `NoSuchTxn`, `TxnWaiting` and `TxnCondemned`.
     #[inline]
-    pub(super) fn check_active(&self, t: TxnId) -> Result<(), Refusal>
+    pub fn check_active(&self, t: TxnId) -> Result<(), Refusal>
         ensures { result ≡ verdict (first_refusal (commit_tests (state_of self.now) t)) }
     {
         self.locks.ledger.check_active(t)

@@ -1,7 +1,11 @@
-use Rattle.std.proofs.Common.{slice_index}
-use Rattle.gl_slots.specs.Slots.{has_slot}
-use Rattle.gl_waits.proofs.Chosen.{IsChosenBelow}
+use Rattle.std.proofs.Common.{◌≡◌, ℕ, true}
+use Rattle.gl_slots.specs.Slots.{has_slot, number_of}
+use Rattle.gl_waits.proofs.Chosen.{IsChosen}
 use Rattle.gl_waits.proofs.victim.youngest_of.Given as goal
 
+-- of those taken the youngest is chosen, and those left are of the set
 abbrev pub invariant-loop-slot : goal.invariant-loop-slot
-invariant-loop-slot l = IsChosenBelow (has_slot l.set) (slice_index l.ages) l.slot l.chosen
+invariant-loop-slot g l = IsChosen l.fn.set l.left (g.A.Ages.age_of l.ages) l.chosen × ((u : ℕ) → has_slot l.left u ≡ true → has_slot l.fn.set u ≡ true)
+
+abbrev pub decreases-loop-slot : goal.decreases-loop-slot
+decreases-loop-slot g l = number_of l.left

@@ -1,6 +1,6 @@
 use Rattle.std.proofs.Common.{◌≡◌, drop}
 use Rattle.gl_graph.specs.Seen.{with_all}
-use Rattle.gl_graph.proofs.graph.moves.add_missing.Given as goal
+use Rattle.gl_graph.proofs.found.add_missing.Given as goal
 
 abbrev pub invariant-loop-n : goal.invariant-loop-n
 invariant-loop-n l = with_all l.found.keys (drop l.n-index l.more) ≡ with_all l.initial.found.keys l.more
