@@ -44,7 +44,15 @@ pub extern "C" fn bs_call_make_choosing(
 ) -> Reply
     ensures { Makes (guarded_in manager.old) detect victims most 65536 256 result (guarded_in manager.new) }
 {
-    make_by_numbers(manager, alloc, detect, victims, most, USUAL_NODES, USUAL_BOUNDS)
+    make_by_numbers(
+        manager,
+        alloc,
+        detect,
+        victims,
+        most,
+        USUAL_NODES,
+        USUAL_BOUNDS,
+    )
 }
 
 /// As `bs_call_make_choosing`, with the numbers of nodes that may live at once and of bounds that an index
@@ -81,7 +89,15 @@ fn make_by_numbers(
     }
     match (detect_at(detect), victims_at(victims)) {
         (Some(detect), Some(victims)) if can_have(most, nodes, bounds) => {
-            make(manager, alloc, detect, victims, most as usize, nodes, bounds)
+            make(
+                manager,
+                alloc,
+                detect,
+                victims,
+                most as usize,
+                nodes,
+                bounds,
+            )
         }
         _ => Reply::with_status(BAD_NUMBER),
     }
