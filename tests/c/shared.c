@@ -2125,7 +2125,7 @@ static void an_end_in_the_middle(void) {
 
 static void a_table_by_options(void) {
   bs_table t = BS_NO_TABLE_HERE;
-  bs_options options = bs_usual(), was;
+  bs_options options = bs_usual(), was = options;
   options.transactions = 5;
   options.nodes = 70000;
   options.bounds = 300;
