@@ -59,7 +59,7 @@ extern "C" {
 /* The version of what is declared here. The first number rises where a program has to be changed for it, or the second
  * while the first is 0. The second rises where something is added, the third where neither. */
 #define BS_VERSION_MAJOR 0
-#define BS_VERSION_MINOR 11
+#define BS_VERSION_MINOR 12
 #define BS_VERSION_PATCH 0
 
 /* How many transactions can live at once, and so how many notices a call can have. */
@@ -255,7 +255,8 @@ typedef struct bs_counts {
  */
 bs_reply bs_call_make(bs_manager *manager, uint32_t detect, uint32_t most);
 bs_reply bs_call_make_choosing(bs_manager *manager, uint32_t detect, uint32_t victims, uint32_t most);
-bs_reply bs_call_make_with(bs_manager *manager, uint32_t detect, uint32_t victims, uint32_t most, uint32_t nodes);
+bs_reply bs_call_make_with(bs_manager *manager, uint32_t detect, uint32_t victims, uint32_t most, uint32_t nodes,
+                           uint32_t bounds);
 bs_reply bs_call_end(bs_manager *manager);
 bs_reply bs_call_add_inner(bs_manager *manager, const bs_node *parents, size_t count);
 bs_reply bs_call_add_file(bs_manager *manager, const bs_node *parents, size_t count);
@@ -313,6 +314,7 @@ bs_reply bs_call_detect(bs_manager *manager);
 bs_reply bs_call_victims(bs_manager *manager);
 bs_reply bs_call_most(bs_manager *manager);
 bs_reply bs_call_most_nodes(bs_manager *manager);
+bs_reply bs_call_most_bounds(bs_manager *manager);
 bs_reply bs_call_living(bs_manager *manager, uint32_t slot);
 bs_reply bs_call_doing(bs_manager *manager, bs_txn txn);
 bs_reply bs_call_lock_count(bs_manager *manager, bs_txn txn);
@@ -383,11 +385,12 @@ typedef struct bs_options {
   uint32_t victims;      /* of enum bs_choices; BS_YOUNGEST as usual */
   uint32_t transactions; /* how many may live at once, 1 to 128; 128 as usual */
   uint32_t nodes;        /* how many may live at once, 1 to 2^31, records and intervals among them; 65,536 as usual */
+  uint32_t bounds;       /* how many an index may have at most, 1 to 2^31; 256 as usual */
 } bs_options;
 
 /* Options as usual. */
 static inline bs_options bs_usual(void) {
-  bs_options options = { sizeof(bs_options), 0, 0, 0, 0 };
+  bs_options options = { sizeof(bs_options), 0, 0, 0, 0, 0 };
   return options;
 }
 
@@ -397,6 +400,7 @@ static inline bs_options bs_known(const bs_options *given) {
   if (given != NULL) memcpy(&options, given, given->size < sizeof options ? given->size : sizeof options);
   if (options.transactions == 0) options.transactions = BS_SLOTS;
   if (options.nodes == 0) options.nodes = 65536;
+  if (options.bounds == 0) options.bounds = 256;
   return options;
 }
 
@@ -404,8 +408,9 @@ static inline bs_options bs_known(const bs_options *given) {
  * BS_IN_USE, BS_BAD_NUMBER, BS_NO_MEMORY. Memory for nodes is taken as they are made. */
 static inline bs_reply bs_make_with(bs_manager *manager, const bs_options *given) {
   bs_options options = bs_known(given);
-  return manager == NULL ? bs_null()
-                         : bs_call_make_with(manager, options.detect, options.victims, options.transactions, options.nodes);
+  if (manager == NULL) return bs_null();
+  return bs_call_make_with(manager, options.detect, options.victims, options.transactions, options.nodes,
+                           options.bounds);
 }
 
 /* Ends a manager, whatever its transactions do, and gives back all memory that it took. Its place has
@@ -443,12 +448,11 @@ static inline bs_reply bs_add_row_file(bs_manager *manager, const bs_node *paren
 }
 
 /* A new index of a file that has no records, and of which no row ever had a node by bs_adopt or bs_lock_row. It lies
- * under 1 to 8 different inner nodes. It has up to 256 bounds in a manager for 65,536 nodes, whether that number was
- * chosen by bs_make_with or is the usual one. In a manager for any other number of nodes, more or fewer, it has up to
- * as many bounds as nodes may live. Bounds rise from above 0: interval 0 has the keys below the first bound, interval i
- * those from bound i - 1 on. Each interval is a node. Refused with
- * BS_NO_SUCH_NODE, BS_BAD_PARENTS (also where the file has 7 indexes), BS_FILE_IN_USE, BS_BAD_KEYS, BS_TOO_MANY_NODES;
- * with BS_BAD_NUMBER, first of all, where there are more than 8 parents. Costs a step for each bound. */
+ * under 1 to 8 different inner nodes. It has up to 256 bounds, or up to the number that was chosen by bs_make_with.
+ * Bounds rise from above 0: interval 0 has the keys below the first bound, interval i those from bound i - 1 on. Each
+ * interval is a node. Refused with BS_NO_SUCH_NODE, BS_BAD_PARENTS (also where the file has 7 indexes), BS_FILE_IN_USE,
+ * BS_BAD_KEYS, BS_TOO_MANY_NODES (its intervals count); with BS_BAD_NUMBER, first of all, where there are more than 8
+ * parents. Costs a step for each bound. */
 static inline bs_reply bs_add_index(bs_manager *manager, const bs_node *parents, size_t count, bs_node file,
                                     const uint64_t *bounds, size_t bound_count) {
   if (manager == NULL || (parents == NULL && count != 0) || (bounds == NULL && bound_count != 0)) return bs_null();
@@ -847,6 +851,11 @@ static inline bs_reply bs_most_nodes(bs_manager *manager) {
   return manager == NULL ? bs_null() : bs_call_most_nodes(manager);
 }
 
+/* How many bounds an index may have, in `count`. */
+static inline bs_reply bs_most_bounds(bs_manager *manager) {
+  return manager == NULL ? bs_null() : bs_call_most_bounds(manager);
+}
+
 /* What a manager was made with, into `options`. */
 static inline bs_reply bs_limits(bs_manager *manager, bs_options *options) {
   bs_reply reply = bs_null();
@@ -858,6 +867,7 @@ static inline bs_reply bs_limits(bs_manager *manager, bs_options *options) {
   options->victims = (uint32_t)bs_call_victims(manager).count;
   options->transactions = (uint32_t)bs_call_most(manager).count;
   options->nodes = (uint32_t)bs_call_most_nodes(manager).count;
+  options->bounds = (uint32_t)bs_call_most_bounds(manager).count;
   return reply;
 }
 

@@ -993,6 +993,10 @@ static inline bs_reply bs_table_most_nodes(bs_table *table) {
   BS_TABLE_ASK(table, bs_most_nodes(&in->manager));
 }
 
+static inline bs_reply bs_table_most_bounds(bs_table *table) {
+  BS_TABLE_ASK(table, bs_most_bounds(&in->manager));
+}
+
 static inline bs_reply bs_table_limits(bs_table *table, bs_options *options) {
   BS_TABLE_ASK(table, bs_limits(&in->manager, options));
 }

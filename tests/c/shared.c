@@ -2123,6 +2123,22 @@ static void an_end_in_the_middle(void) {
   }
 }
 
+static void a_table_by_options(void) {
+  bs_table t = BS_NO_TABLE_HERE;
+  bs_options options = bs_usual(), was = options;
+  options.transactions = 5;
+  options.nodes = 70000;
+  options.bounds = 300;
+  DONE(bs_table_make_with(&t, &options));
+  WANT(bs_table_most(&t).count == 5 && bs_table_most_nodes(&t).count == 70000 && bs_table_most_bounds(&t).count == 300);
+  DONE(bs_table_limits(&t, &was));
+  WANT(was.transactions == 5 && was.nodes == 70000 && was.bounds == 300);
+  DONE(bs_table_end(&t));
+  options.bounds = UINT32_MAX;
+  ANSWERS(BS_BAD_NUMBER, bs_table_make_with(&t, &options));
+  ANSWERS(BS_NO_MANAGER, bs_table_most_bounds(&t));
+}
+
 static void places_without_a_table(void) {
   static bs_board board;
   bs_table never = BS_NO_TABLE_HERE;
@@ -2330,6 +2346,7 @@ int main(int count, char **words) {
   TELL(a_long_dump);
   TELL(an_end_with_sleepers);
   TELL(an_end_in_the_middle);
+  TELL(a_table_by_options);
   TELL(places_without_a_table);
   TELL(refused_tables);
   TELL(refused_growths);

@@ -813,7 +813,7 @@ static void options_are_taken(void) {
   DONE(bs_make_with(&m, &options));
   DONE(bs_limits(&m, &was));
   WANT(was.size == sizeof was && was.detect == BS_AT_BLOCK && was.victims == BS_FEWEST);
-  WANT(was.transactions == 2 && was.nodes == 2 && bs_most_nodes(&m).count == 2);
+  WANT(was.transactions == 2 && was.nodes == 2 && was.bounds == 256 && bs_most_nodes(&m).count == 2);
   root = DONE(bs_add_inner(&m, NULL, 0)).node;
   DONE(bs_add_inner(&m, &root, 1));
   WANT(bs_add_inner(&m, &root, 1).status == BS_TOO_MANY_NODES);
@@ -829,6 +829,61 @@ static void options_are_taken(void) {
   WANT(bs_most_nodes(&usual).count == 65536 && bs_most(&usual).count == 128);
   WANT(bs_make_with(NULL, NULL).status == BS_NULL_POINTER && bs_limits(&usual, NULL).status == BS_NULL_POINTER);
   DONE(bs_end(&usual));
+}
+
+/* A manager that is made by options has indexes of so many bounds, and of no more. */
+static void has_bounds(const bs_options *options, uint32_t most) {
+  bs_manager m = BS_NO_MANAGER_HERE;
+  bs_options was;
+  bs_node root, file;
+  uint64_t bounds[301];
+  size_t at;
+  for (at = 0; at < 301; at++) bounds[at] = at + 1;
+  DONE(bs_make_with(&m, options));
+  DONE(bs_limits(&m, &was));
+  WANT(was.bounds == most && bs_most_bounds(&m).count == most);
+  root = DONE(bs_add_inner(&m, NULL, 0)).node;
+  file = DONE(bs_add_file(&m, &root, 1)).node;
+  WANT(bs_add_index(&m, &root, 1, file, bounds, most + 1).status == BS_BAD_KEYS);
+  DONE(bs_add_index(&m, &root, 1, file, bounds, most));
+  WANT(bs_len(&m).count == most + 4);
+  DONE(bs_end(&m));
+}
+
+static void bounds_are_chosen_for_themselves(void) {
+  bs_manager m = BS_NO_MANAGER_HERE;
+  bs_options options = bs_usual();
+  has_bounds(NULL, 256);
+  options.nodes = 70000;
+  has_bounds(&options, 256);
+  options.bounds = 300;
+  has_bounds(&options, 300);
+  options.nodes = 65536;
+  has_bounds(&options, 300);
+  options.bounds = 1;
+  has_bounds(&options, 1);
+  options.bounds = (uint32_t)1 << 31;
+  DONE(bs_make_with(&m, &options));
+  WANT(bs_most_bounds(&m).count == (uint64_t)1 << 31);
+  DONE(bs_end(&m));
+  options.bounds++;
+  WANT(bs_make_with(&m, &options).status == BS_BAD_NUMBER);
+  options.size = offsetof(bs_options, bounds); /* of a maker who does not know of bounds */
+  has_bounds(&options, 256);
+}
+
+static void intervals_are_nodes(void) {
+  bs_manager m = BS_NO_MANAGER_HERE;
+  bs_options options = bs_usual();
+  const uint64_t bounds[3] = { 1, 2, 3 };
+  bs_node root, file;
+  options.nodes = 6;
+  DONE(bs_make_with(&m, &options));
+  root = DONE(bs_add_inner(&m, NULL, 0)).node;
+  file = DONE(bs_add_file(&m, &root, 1)).node;
+  WANT(bs_add_index(&m, &root, 1, file, bounds, 3).status == BS_TOO_MANY_NODES);
+  DONE(bs_add_index(&m, &root, 1, file, bounds, 2));
+  DONE(bs_end(&m));
 }
 
 static void places_without_a_manager(void) {
@@ -1189,6 +1244,8 @@ int main(void) {
   TELL(stale_names);
   TELL(numbers_out_of_range);
   TELL(options_are_taken);
+  TELL(bounds_are_chosen_for_themselves);
+  TELL(intervals_are_nodes);
   TELL(places_without_a_manager);
   TELL(a_refused_call_tells_nobody);
   TELL(null_pointers);

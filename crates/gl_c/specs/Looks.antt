@@ -95,6 +95,7 @@ looked m query.Detect = count_reply (detect_number m.table.detect)
 looked m query.Victims = count_reply (victims_number m.table.victims)
 looked m query.Most = count_reply (state_of m).most
 looked m query.MostNodes = count_reply (state_of m).graph.most
+looked m query.MostBounds = count_reply (state_of m).graph.most_bounds
 looked m (query.Living slot) = lived (living_in (state_of m) slot)
 looked m (query.Doing t) = doing (if lives (state_of m) t then status_of (state_of m) t.slot else None)
 looked m (query.LockCount t) = counted (refused_reply no.NoSuchTxn) (if lives (state_of m) t then Some (length (rows_of m.table t.slot)) else None)

@@ -6,7 +6,7 @@ use Rattle.gl_modes.specs.declared.node.NodeId.{NodeId}
 use Rattle.gl_modes.specs.declared.refusal.Refusal.TheVariants as no
 use Rattle.gl_model.specs.declared.answers.Detect.{Detect}
 use Rattle.gl_waits.specs.declared.victims.Victims.{Victims}
-use Rattle.gl_model.specs.State.{State, choosing, empty_state, with_room}
+use Rattle.gl_model.specs.State.{choosing, empty_state, with_limits}
 use Rattle.gl_catalog.specs.Manager.{state_of}
 use Rattle.gl_registry.specs.Rows.{has_asked, has_rows, name_of}
 use Rattle.gl_registry.specs.declared.row.Row.{Row}
@@ -16,17 +16,17 @@ use Rattle.gl_c.specs.Guarded.{GuardedView}
 use Rattle.gl_c.specs.Numbers.{bad_number, detect_at, done, in_use, no_manager, victims_at}
 use Rattle.gl_c.specs.Replies.{refused_reply, status_reply}
 
--- so many transactions can be had at once, and so many nodes
-abbrev pub can_have : ℕ → ℕ → Bool
-can_have most nodes = (nat_lt 0 most && nat_lt most 129) && (nat_lt 0 nodes && nat_lt nodes 2147483649)
+-- nodes, or bounds of an index, can be limited by this number
+abbrev pub can_be_limit : ℕ → Bool
+can_be_limit number = nat_lt 0 number && nat_lt number 2147483649
 
--- the state with this limit of nodes: the usual one goes with 256 bounds for an index, any other one limits the bounds too
-abbrev pub made_for : ℕ → State → State
-made_for nodes s = if nodes == 65536 then s else with_room nodes s
+-- so many transactions and nodes can be had at once, and an index can have so many bounds
+abbrev pub can_have : ℕ → ℕ → ℕ → Bool
+can_have most nodes bounds = (nat_lt 0 most && nat_lt most 129) && (can_be_limit nodes && can_be_limit bounds)
 
 -- a manager without nodes and transactions, with empty boxes, that no watcher was shown, and no file of rows, and no row named or asked for
-pub record IsNew (detect : Detect) (victims : Victims) (most nodes : ℕ) (g : GuardedView) : Type 0 where
-  pub manager : state_of g.manager ≡ made_for nodes (choosing victims (empty_state detect most))
+pub record IsNew (detect : Detect) (victims : Victims) (most nodes bounds : ℕ) (g : GuardedView) : Type 0 where
+  pub manager : state_of g.manager ≡ with_limits nodes bounds (choosing victims (empty_state detect most))
   pub boxes : g.boxes ≡ replicate most_slots None
   pub ended : g.ended ≡ no_slots
   pub shown : g.shown ≡ None
@@ -35,20 +35,20 @@ pub record IsNew (detect : Detect) (victims : Victims) (most nodes : ℕ) (g : G
   pub unasked : (slot : ℕ) (row : Row) → has_asked g.rows slot row ≡ false
 
 -- there is a new manager from now on, or memory was wanting, and there is none
-abbrev pub Begins : Detect → Victims → ℕ → ℕ → Reply → Option GuardedView → Type 0
-Begins detect victims most nodes r s' =
-    ((r ≡ status_reply done) × (g : GuardedView) × (s' ≡ Some g) × IsNew detect victims most nodes g)
+abbrev pub Begins : Detect → Victims → ℕ → ℕ → ℕ → Reply → Option GuardedView → Type 0
+Begins detect victims most nodes bounds r s' =
+    ((r ≡ status_reply done) × (g : GuardedView) × (s' ≡ Some g) × IsNew detect victims most nodes bounds g)
     ⊎ ((r ≡ refused_reply no.NoMemory) × (s' ≡ None))
 
--- the way of detection, where its number names one and so many transactions and nodes can be had
-abbrev pub wanted : ℕ → ℕ → ℕ → Option Detect
-wanted detect most nodes = if can_have most nodes then detect_at detect else None
+-- the way of detection, where its number names one and so many transactions, nodes and bounds can be had
+abbrev pub wanted : ℕ → ℕ → ℕ → ℕ → Option Detect
+wanted detect most nodes bounds = if can_have most nodes bounds then detect_at detect else None
 
 -- what comes of asking for a manager
-abbrev pub Makes : Option GuardedView → ℕ → ℕ → ℕ → ℕ → Reply → Option GuardedView → Type 0
-Makes (Some g) detect victims most nodes r s' = Declines (Some g) in_use r s'
-Makes None detect victims most nodes r s' =
-    Where (wanted detect most nodes) (λ way. Where (victims_at victims) (λ choice. Begins way choice most nodes r s') (Declines None bad_number r s'))
+abbrev pub Makes : Option GuardedView → ℕ → ℕ → ℕ → ℕ → ℕ → Reply → Option GuardedView → Type 0
+Makes (Some g) detect victims most nodes bounds r s' = Declines (Some g) in_use r s'
+Makes None detect victims most nodes bounds r s' =
+    Where (wanted detect most nodes bounds) (λ way. Where (victims_at victims) (λ choice. Begins way choice most nodes bounds r s') (Declines None bad_number r s'))
     (Declines None bad_number r s')
 
 -- what the end of a manager is answered

@@ -4,7 +4,6 @@ ghost use Rattle.gl_slots.specs.Limit.{most_slots};
 ghost use Rattle.std.specs.Prelude.{◌≡◌, ◌≤◌, ◌^◌, ◌⊎◌, ◌∷◌, ◌++◌, false, true, [], IfErr, IfNone, IfOk, IfSome, None, Ok, Some, replicate};
 ghost use Rattle.gl_modes.specs.declared.refusal.Refusal.{Refusal as ARefusal};
 ghost use Rattle.gl_table.specs.Table.{board_of};
-ghost use Rattle.gl_model.specs.State.{choosing, empty_state};
 ghost use Rattle.gl_catalog.specs.Manager.{IsLawfulManager, state_of};
 ghost use Rattle.gl_catalog.specs.Promises.{NobodyWaits};
 ghost use Rattle.gl_boxes.specs.Boards.{Ends, Fine, last_epoch};
@@ -12,13 +11,12 @@ ghost use Rattle.gl_waits.specs.Boards.{ShowsNobody};
 ghost use Rattle.gl_registry.specs.Applying.{answer_in};
 ghost use Rattle.gl_registry.specs.Rows.{name_of};
 ghost use Rattle.gl_boxes.specs.Boxes.{verdict_of};
-ghost use Rattle.gl_c.specs.Managing.{IsNew, made_for};
+ghost use Rattle.gl_c.specs.Managing.{IsNew};
 ghost use Rattle.gl_c.specs.Paths.{ServesPath, ends_waiting};
 ghost use Rattle.gl_c.specs.Rows.{ServesRow, comes_to_nothing, is_waited_for};
 ghost use Rattle.gl_c.specs.Serving.{HasShown, ServesNodes, ShowsNobodyLast, ShowsOn};
 ghost use Rattle.gl_c.specs.Watching.{OnlyShows};
 
-use crate::managing::USUAL_NODES;
 use gl_boxes::{
     Boxes, Grant, Stop, Telling, board_now, ended_by, is_accepted, is_due, is_refused,
     leaves_waiting, may_show_waits,
@@ -32,28 +30,6 @@ use gl_waits::{Board, Victims};
 use gl_window::{Publisher, WatchFault, Watcher};
 use std::alloc::{AllocError, Global};
 use std::marker::Model;
-
-/// A manager for at most so many transactions and nodes at once. With the usual number of nodes an index
-/// may have 256 bounds, with another one as many as nodes may live. The only refusal is `NoMemory`.
-fn manager_for(
-    alloc: Global,
-    detect: Detect,
-    victims: Victims,
-    most: usize,
-    nodes: u32,
-) -> Result<Manager, Refusal>
-    requires some { 1 ≤ most }
-    requires few { most ≤ most_slots }
-    requires low { nodes ≤ 2 ^ 31 }
-    ensures made { IfOk result (λ manager. state_of manager ≡ made_for nodes (choosing victims (empty_state detect most))) }
-    ensures refused { IfErr result (λ refusal. refusal ≡ ARefusal.NoMemory) }
-{
-    if nodes == USUAL_NODES {
-        Manager::choosing(alloc, detect, victims, most)
-    } else {
-        Manager::with_room(alloc, detect, victims, most, nodes)
-    }
-}
 
 /// The manager with its files of rows, a notice box for each slot, the slots whose wait the last accepted
 /// command may have ended, once there was a watcher, the side that shows boards.
@@ -80,21 +56,23 @@ impl Model for Guarded {
 }
 
 impl Guarded {
-    /// A new manager, for at most so many transactions and nodes at once. The only refusal is `NoMemory`.
+    /// A new manager, for at most so many transactions and nodes at once, and bounds of an index. The only
+    /// refusal is `NoMemory`.
     pub(crate) fn new(
         alloc: Global,
         detect: Detect,
         victims: Victims,
         most: usize,
         nodes: u32,
+        bounds: u32,
     ) -> Result<Self, Refusal>
         requires some { 1 ≤ most }
         requires few { most ≤ most_slots }
         requires low { nodes ≤ 2 ^ 31 }
-        ensures made { IfOk result (λ guarded. IsNew detect victims most nodes guarded) }
+        ensures made { IfOk result (λ guarded. IsNew detect victims most nodes bounds guarded) }
         ensures refused { IfErr result (λ refusal. refusal ≡ ARefusal.NoMemory) }
     {
-        let manager = manager_for(alloc, detect, victims, most, nodes)?;
+        let manager = Manager::with_limits(alloc, detect, victims, most, nodes, bounds)?;
         let registry = Registry::new(alloc, manager)?;
         Ok(Guarded {
             registry,

@@ -43,6 +43,14 @@ pub extern "C" fn bs_call_most_nodes(manager: &mut Handle) -> Reply
     manager.look(Query::MostNodes)
 }
 
+/// How many bounds an index may have.
+#[unsafe(no_mangle)]
+pub extern "C" fn bs_call_most_bounds(manager: &mut Handle) -> Reply
+    ensures { Looks (guarded_in manager.old) query.MostBounds result (guarded_in manager.new) }
+{
+    manager.look(Query::MostBounds)
+}
+
 /// The transaction in a slot.
 #[unsafe(no_mangle)]
 pub extern "C" fn bs_call_living(manager: &mut Handle, slot: u32) -> Reply

@@ -56,6 +56,8 @@ pub(crate) enum Query {
     Most,
     /// How many nodes may live at once.
     MostNodes,
+    /// How many bounds an index may have.
+    MostBounds,
     /// Who lives in a slot.
     Living { slot: Slot },
     /// What a transaction is doing.
@@ -93,7 +95,8 @@ pub(crate) fn look(manager: &Manager, query: Query) -> Reply
         Query::Place { node } => place_reply(graph.place(node)),
         Query::HasRecords { file } => records_reply(graph, file),
         Query::Most => Reply::with_count(manager.most() as u64),
-        Query::MostNodes => Reply::with_count(u64::from(manager.graph().most())),
+        Query::MostNodes => Reply::with_count(u64::from(graph.most())),
+        Query::MostBounds => Reply::with_count(u64::from(graph.most_bounds())),
         Query::Living { slot } => living_reply(manager.living(slot)),
         Query::Doing { txn } => doing_reply(manager.status(txn)),
         Query::LockCount { txn } => lock_count_reply(manager.lock_count(txn)),

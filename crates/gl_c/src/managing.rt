@@ -3,7 +3,7 @@
 ghost use Rattle.gl_slots.specs.Limit.{most_slots};
 ghost use Rattle.std.specs.Prelude.{◌≡◌, ◌≤◌, ◌^◌, None};
 ghost use Rattle.gl_c.specs.Handle.{guarded_in};
-ghost use Rattle.gl_c.specs.Managing.{Begins, Makes, can_have, ended};
+ghost use Rattle.gl_c.specs.Managing.{Begins, Makes, can_be_limit, can_have, ended};
 
 use crate::handle::Handle;
 use crate::numbers::{BAD_NUMBER, DONE, IN_USE, NO_MANAGER, detect_at, victims_at};
@@ -16,18 +16,21 @@ use gl_waits::Victims;
 use std::alloc::Global;
 
 /// How many nodes may live at once where no number is given.
-pub(crate) const USUAL_NODES: u32 = 65_536;
+const USUAL_NODES: u32 = 65_536;
 
-/// How many nodes a manager may be made for at most.
-const MOST_NODES: u32 = 2_147_483_648;
+/// How many bounds an index may have where no number is given.
+const USUAL_BOUNDS: u32 = 256;
+
+/// What the numbers of nodes and of bounds may be at most.
+const GREATEST_LIMIT: u32 = 2_147_483_648;
 
 /// Makes a manager at a place that has none, for `most` transactions at once, 1 to `SLOTS`, with the way
 /// of detection of this number. Of those in a deadlock the youngest falls. It takes memory.
 #[unsafe(no_mangle)]
 pub extern "C" fn bs_call_make(manager: &mut Handle, alloc: Global, detect: u32, most: u32) -> Reply
-    ensures { Makes (guarded_in manager.old) detect 0 most 65536 result (guarded_in manager.new) }
+    ensures { Makes (guarded_in manager.old) detect 0 most 65536 256 result (guarded_in manager.new) }
 {
-    make_by_numbers(manager, alloc, detect, 0, most, USUAL_NODES)
+    make_by_numbers(manager, alloc, detect, 0, most, USUAL_NODES, USUAL_BOUNDS)
 }
 
 /// As `bs_call_make`, with the choice of victims of this number.
@@ -39,12 +42,21 @@ pub extern "C" fn bs_call_make_choosing(
     victims: u32,
     most: u32,
 ) -> Reply
-    ensures { Makes (guarded_in manager.old) detect victims most 65536 result (guarded_in manager.new) }
+    ensures { Makes (guarded_in manager.old) detect victims most 65536 256 result (guarded_in manager.new) }
 {
-    make_by_numbers(manager, alloc, detect, victims, most, USUAL_NODES)
+    make_by_numbers(
+        manager,
+        alloc,
+        detect,
+        victims,
+        most,
+        USUAL_NODES,
+        USUAL_BOUNDS,
+    )
 }
 
-/// As `bs_call_make_choosing`, with the number of nodes that may live at once, 1 to 2^31.
+/// As `bs_call_make_choosing`, with the numbers of nodes that may live at once and of bounds that an index
+/// may have, each 1 to 2^31.
 #[unsafe(no_mangle)]
 pub extern "C" fn bs_call_make_with(
     manager: &mut Handle,
@@ -53,10 +65,11 @@ pub extern "C" fn bs_call_make_with(
     victims: u32,
     most: u32,
     nodes: u32,
+    bounds: u32,
 ) -> Reply
-    ensures { Makes (guarded_in manager.old) detect victims most nodes result (guarded_in manager.new) }
+    ensures { Makes (guarded_in manager.old) detect victims most nodes bounds result (guarded_in manager.new) }
 {
-    make_by_numbers(manager, alloc, detect, victims, most, nodes)
+    make_by_numbers(manager, alloc, detect, victims, most, nodes, bounds)
 }
 
 /// Makes a manager by what the numbers name.
@@ -67,25 +80,41 @@ fn make_by_numbers(
     victims: u32,
     most: u32,
     nodes: u32,
+    bounds: u32,
 ) -> Reply
-    ensures { Makes (guarded_in manager.old) detect victims most nodes result (guarded_in manager.new) }
+    ensures { Makes (guarded_in manager.old) detect victims most nodes bounds result (guarded_in manager.new) }
 {
     if manager.has_session() {
         return Reply::with_status(IN_USE);
     }
     match (detect_at(detect), victims_at(victims)) {
-        (Some(detect), Some(victims)) if can_have(most, nodes) => {
-            make(manager, alloc, detect, victims, most as usize, nodes)
+        (Some(detect), Some(victims)) if can_have(most, nodes, bounds) => {
+            make(
+                manager,
+                alloc,
+                detect,
+                victims,
+                most as usize,
+                nodes,
+                bounds,
+            )
         }
         _ => Reply::with_status(BAD_NUMBER),
     }
 }
 
-/// Whether so many transactions and so many nodes can be had at once.
-fn can_have(most: u32, nodes: u32) -> bool
-    ensures { result ≡ can_have most nodes }
+/// Whether so many transactions and nodes can be had at once, and an index can have so many bounds.
+fn can_have(most: u32, nodes: u32, bounds: u32) -> bool
+    ensures { result ≡ can_have most nodes bounds }
 {
-    (most >= 1 && most as usize <= SLOTS) && (nodes >= 1 && nodes <= MOST_NODES)
+    (most >= 1 && most as usize <= SLOTS) && (can_be_limit(nodes) && can_be_limit(bounds))
+}
+
+/// Whether nodes, or bounds of an index, can be limited by this number.
+fn can_be_limit(number: u32) -> bool
+    ensures { result ≡ can_be_limit number }
+{
+    number >= 1 && number <= GREATEST_LIMIT
 }
 
 /// Makes a manager at a place that has none.
@@ -96,14 +125,15 @@ fn make(
     victims: Victims,
     most: usize,
     nodes: u32,
+    bounds: u32,
 ) -> Reply
     requires none { guarded_in manager.old ≡ None }
     requires some { 1 ≤ most }
     requires few { most ≤ most_slots }
     requires low { nodes ≤ 2 ^ 31 }
-    ensures { Begins detect victims most nodes result (guarded_in manager.new) }
+    ensures { Begins detect victims most nodes bounds result (guarded_in manager.new) }
 {
-    let Ok(session) = Session::new(alloc, detect, victims, most, nodes) else {
+    let Ok(session) = Session::new(alloc, detect, victims, most, nodes, bounds) else {
         return Reply::refused(Refusal::NoMemory);
     };
     let Ok(session) = Box::new(alloc, session) else {

@@ -57,8 +57,7 @@ pub extern "C" fn bs_call_row_file(manager: &mut Handle, parents: &[Node]) -> Re
 }
 
 /// A new index of a file without records, of which no row was adopted, under 1 to 8 inner nodes, with
-/// rising bounds above 0 that part its intervals: at most 256, in a manager made for another number of
-/// nodes than the usual one as many as that.
+/// rising bounds above 0 that part its intervals: at most 256, or as many as were chosen.
 #[unsafe(no_mangle)]
 pub extern "C" fn bs_call_add_index(
     manager: &mut Handle,

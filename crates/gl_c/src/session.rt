@@ -51,22 +51,23 @@ impl Model for Session {
 }
 
 impl Session {
-    /// A session of a new manager, for at most so many transactions and nodes at once. The only refusal is
-    /// `NoMemory`.
+    /// A session of a new manager, for at most so many transactions and nodes at once, and bounds of an
+    /// index. The only refusal is `NoMemory`.
     pub(crate) fn new(
         alloc: Global,
         detect: Detect,
         victims: Victims,
         most: usize,
         nodes: u32,
+        bounds: u32,
     ) -> Result<Self, Refusal>
         requires some { 1 ≤ most }
         requires few { most ≤ most_slots }
         requires low { nodes ≤ 2 ^ 31 }
-        ensures made { IfOk result (λ session. IsNew detect victims most nodes session) }
+        ensures made { IfOk result (λ session. IsNew detect victims most nodes bounds session) }
         ensures refused { IfErr result (λ refusal. refusal ≡ ARefusal.NoMemory) }
     {
-        let guarded = Guarded::new(alloc, detect, victims, most, nodes)?;
+        let guarded = Guarded::new(alloc, detect, victims, most, nodes, bounds)?;
         Ok(Session {
             guarded,
             told: Told::new(),

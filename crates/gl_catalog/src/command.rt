@@ -63,8 +63,7 @@ pub enum Command<'a> {
         parents: &'a [NodeId],
     },
     /// A new index of a file without records, under 1 to 8 inner nodes, with rising bounds above 0
-    /// that part its intervals: at most 256, in a manager made `with_room` as many as its limit of
-    /// nodes.
+    /// that part its intervals: at most 256, or as many as were chosen by `Manager::with_limits`.
     Index {
         parents: &'a [NodeId],
         file: NodeId,

@@ -7,7 +7,7 @@ ghost use Rattle.gl_header.specs.Header.{holds};
 ghost use Rattle.gl_table.specs.Table.{board_of};
 ghost use Rattle.gl_model.specs.Calls.{held_children, is_idle};
 ghost use Rattle.gl_model.specs.Deadlocks.{no_deadlock};
-ghost use Rattle.gl_model.specs.State.{choosing, empty_state, lives, members, status_of, with_room};
+ghost use Rattle.gl_model.specs.State.{choosing, empty_state, lives, members, status_of, with_limits};
 ghost use Rattle.gl_catalog.specs.Counters.{no_counts};
 ghost use Rattle.gl_catalog.specs.Manager.{IsLawfulManager, state_of};
 ghost use Rattle.gl_catalog.specs.Replies.{wait_of};
@@ -86,24 +86,25 @@ impl Manager {
         Ok(Manager::over(table))
     }
 
-    /// As `choosing`, with a limit of nodes that may live at once, at most 2^31; 65,536 where none is
-    /// chosen. An index may then have as many bounds; 256 where no limit of nodes is chosen.
-    pub fn with_room(
+    /// As `choosing`, with other limits: of the nodes that may live at once, at most 2^31, and of the
+    /// bounds of an index. They are 65,536 and 256 where none are chosen.
+    pub fn with_limits(
         alloc: Global,
         detect: Detect,
         victims: Victims,
         most: usize,
         nodes: u32,
+        bounds: u32,
     ) -> Result<Self, Refusal>
         requires some { 1 ≤ most }
         requires few { most ≤ most_slots }
         requires low { nodes ≤ 2 ^ 31 }
-        ensures made { IfOk result (λ manager. state_of manager ≡ with_room nodes (choosing victims (empty_state detect most))) }
+        ensures made { IfOk result (λ manager. state_of manager ≡ with_limits nodes bounds (choosing victims (empty_state detect most))) }
         ensures deadlock { IfOk result (λ manager. manager.table.deadlock ≡ no_deadlock) }
         ensures uncounted { IfOk result (λ manager. manager.counters ≡ no_counts) }
         ensures refused { IfErr result (λ refusal. refusal ≡ ARefusal.NoMemory) }
     {
-        let table = Table::with_room(alloc, detect, victims, most, nodes)?;
+        let table = Table::with_limits(alloc, detect, victims, most, nodes, bounds)?;
         Ok(Manager::over(table))
     }
 

@@ -40,7 +40,7 @@ use crate::store::find;
 /// How many nodes may live at once, where no other limit is chosen.
 const MOST_NODES: u32 = 65_536;
 
-/// How many bounds an index may have, where no limit of nodes is chosen.
+/// How many bounds an index may have, where no other limit is chosen.
 const MOST_BOUNDS: u32 = 256;
 
 /// A lawful lock graph: inner nodes, files and indexes under inner nodes, intervals under their
@@ -78,20 +78,9 @@ impl Graph {
         Graph::with_limits(alloc, MOST_NODES, MOST_BOUNDS)
     }
 
-    /// As `new`, with a limit of nodes that may live at once, at most 2^31. An index may have as many
-    /// bounds, so that its intervals are limited by the limit of nodes alone.
-    pub fn with_most(alloc: Global, most: u32) -> Self
-        requires { most ≤ 2 ^ 31 }
-        ensures empty { (birth : ℕ) → (graph_of result).at birth ≡ None }
-        ensures births { result.births ≡ 0 }
-        ensures most { result.most ≡ most }
-        ensures most_bounds { result.most_bounds ≡ most }
-    {
-        Graph::with_limits(alloc, most, most)
-    }
-
-    /// A graph without nodes, with these limits.
-    fn with_limits(alloc: Global, most: u32, most_bounds: u32) -> Self
+    /// As `new`, with other limits: of the nodes that may live at once, at most 2^31, and of the bounds
+    /// of an index.
+    pub fn with_limits(alloc: Global, most: u32, most_bounds: u32) -> Self
         requires { most ≤ 2 ^ 31 }
         ensures empty { (birth : ℕ) → (graph_of result).at birth ≡ None }
         ensures births { result.births ≡ 0 }

@@ -102,10 +102,6 @@ choosing c s = record s { victims = c }
 abbrev pub with_limits : ℕ → ℕ → State → State
 with_limits nodes bounds s = record s { graph = record s.graph { most = nodes; most_bounds = bounds } }
 
--- the state with another limit of nodes, which limits the bounds of an index too
-abbrev pub with_room : ℕ → State → State
-with_room nodes s = with_limits nodes nodes s
-
 -- no node, of which 65,536 may live at once, 256 bounds for an index, no transaction, nothing counted; of a deadlock the youngest falls
 abbrev pub empty_state : Detect → ℕ → State
 empty_state detect most =

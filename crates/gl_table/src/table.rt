@@ -7,7 +7,7 @@ ghost use Rattle.gl_graph.specs.View.{graph_of};
 ghost use Rattle.gl_model.specs.Deadlocks.{no_deadlock};
 ghost use Rattle.gl_model.specs.Lawful.{HasNoConflict, IsLawful};
 ghost use Rattle.gl_header.specs.Headers.{AreHeaders};
-ghost use Rattle.gl_model.specs.State.{choosing, empty_state, lives, status_of, with_limits, with_room, HasNoCycle};
+ghost use Rattle.gl_model.specs.State.{choosing, empty_state, lives, status_of, with_limits, HasNoCycle};
 ghost use Rattle.gl_table.specs.Table.{ListsAgree, StandOnce, state_of};
 ghost use Rattle.gl_model.specs.declared.answers.Detect.TheVariants.{AtBlock};
 
@@ -84,23 +84,25 @@ impl Table {
         Table::over(Graph::new(alloc), alloc, detect, victims, most)
     }
 
-    /// As `choosing`, with a limit of nodes that may live at once, at most 2^31; 65,536 where none is
-    /// chosen. An index may then have as many bounds; 256 where no limit of nodes is chosen.
-    pub fn with_room(
+    /// As `choosing`, with other limits: of the nodes that may live at once, at most 2^31, and of the
+    /// bounds of an index. They are 65,536 and 256 where none are chosen.
+    pub fn with_limits(
         alloc: Global,
         detect: Detect,
         victims: Victims,
         most: usize,
         nodes: u32,
+        bounds: u32,
     ) -> Result<Self, Refusal>
         requires some { 1 ≤ most }
         requires few { most ≤ most_slots }
         requires low { nodes ≤ 2 ^ 31 }
-        ensures made { IfOk result (λ table. state_of table ≡ with_room nodes (choosing victims (empty_state detect most))) }
+        ensures made { IfOk result (λ table. state_of table ≡ with_limits nodes bounds (choosing victims (empty_state detect most))) }
         ensures deadlock { IfOk result (λ table. table.deadlock ≡ no_deadlock) }
         ensures refused { IfErr result (λ refusal. refusal ≡ ARefusal.NoMemory) }
     {
-        Table::over(Graph::with_most(alloc, nodes), alloc, detect, victims, most)
+        let graph = Graph::with_limits(alloc, nodes, bounds);
+        Table::over(graph, alloc, detect, victims, most)
     }
 
     /// A table over a graph without nodes.

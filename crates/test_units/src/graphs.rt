@@ -263,17 +263,35 @@ fn an_index_has_at_most_256_bounds(rt: HostRuntime) {
 }
 
 #[test]
-fn an_index_has_no_more_bounds_than_nodes_may_live(rt: HostRuntime) {
+fn an_index_has_no_more_intervals_than_nodes_may_live(rt: HostRuntime) {
     const BOUNDS: &[Step] = &[
         Step::MostBounds(70_000),
         Step::Makes(Make::Wide(DB, FILE, 69_997), Err(Refusal::TooManyNodes)),
     ];
-    let graph = Graph::with_most(rt.alloc(), 70_000);
+    let graph = Graph::with_limits(rt.alloc(), 70_000, 70_000);
     play(&rt, rt.alloc(), graph, &[FILED, BOUNDS]);
 }
 
 #[test]
-fn a_chosen_limit_of_nodes_is_the_limit_of_bounds(rt: HostRuntime) {
+fn a_chosen_limit_of_bounds_goes_with_any_limit_of_nodes(rt: HostRuntime) {
+    const USUAL: &[Step] = &[
+        Step::Makes(Make::Wide(DB, FILE, 257), Err(Refusal::BadKeys)),
+        Step::Many(1, Make::Wide(DB, FILE, 256)),
+        Step::Most(70_000),
+    ];
+    const CHOSEN: &[Step] = &[
+        Step::Makes(Make::Wide(DB, FILE, 301), Err(Refusal::BadKeys)),
+        Step::Many(1, Make::Wide(DB, FILE, 300)),
+        Step::Most(65_536),
+    ];
+    let usual = Graph::with_limits(rt.alloc(), 70_000, 256);
+    play(&rt, rt.alloc(), usual, &[FILED, USUAL]);
+    let chosen = Graph::with_limits(rt.alloc(), 65_536, 300);
+    play(&rt, rt.alloc(), chosen, &[FILED, CHOSEN]);
+}
+
+#[test]
+fn an_index_of_many_bounds(rt: HostRuntime) {
     const SECOND: NodeId = N5;
     const MIDDLE: NodeId = NodeId {
         key: 30_003,
@@ -301,7 +319,7 @@ fn a_chosen_limit_of_nodes_is_the_limit_of_bounds(rt: HostRuntime) {
         Step::Makes(Make::Record(FILE, &[30_000]), Ok(REC)),
         Step::Parents(REC, &[FILE, MIDDLE]),
     ];
-    let graph = Graph::with_most(rt.alloc(), 70_000);
+    let graph = Graph::with_limits(rt.alloc(), 70_000, 60_000);
     play(&rt, rt.alloc(), graph, &[FILED, LIES]);
 }
 
@@ -363,7 +381,7 @@ fn a_chosen_limit_is_met_and_passed_by_none(rt: HostRuntime) {
         Step::Makes(Make::Inner(&[]), Err(Refusal::TooManyNodes)),
         Step::Most(3),
     ];
-    let graph = Graph::with_most(rt.alloc(), 3);
+    let graph = Graph::with_limits(rt.alloc(), 3, 256);
     play(&rt, rt.alloc(), graph, &[FILED, FULL]);
 }
 
@@ -374,7 +392,7 @@ fn a_limit_above_the_usual_one(rt: HostRuntime) {
         Step::Makes(Make::Inner(&[]), Err(Refusal::TooManyNodes)),
         Step::Len(70_000),
     ];
-    let graph = Graph::with_most(rt.alloc(), 70_000);
+    let graph = Graph::with_limits(rt.alloc(), 70_000, 256);
     play(&rt, rt.alloc(), graph, &[FULL]);
 }
 

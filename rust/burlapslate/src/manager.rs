@@ -154,7 +154,7 @@ pub struct Manager {
 /// use burlapslate::{Detect, Manager, Options};
 ///
 /// let manager = Manager::with_options(Options::new(Detect::AtBlock).nodes(1_000_000))?;
-/// assert_eq!(manager.most_nodes(), 1_000_000);
+/// assert_eq!((manager.most_nodes(), manager.most_bounds()), (1_000_000, 256));
 /// # Ok::<(), burlapslate::Refusal>(())
 /// ```
 #[derive(Clone, Copy, PartialEq, Eq, Debug)]
@@ -163,16 +163,19 @@ pub struct Options {
     victims: Victims,
     transactions: usize,
     nodes: usize,
+    bounds: usize,
 }
 
 impl Options {
-    /// For 128 transactions and 65,536 nodes at once; of those in a deadlock the youngest falls.
+    /// For 128 transactions and 65,536 nodes at once, and 256 bounds of an index; of those in a deadlock
+    /// the youngest falls.
     pub fn new(detect: Detect) -> Options {
         Options {
             detect,
             victims: Victims::Youngest,
             transactions: SLOTS,
             nodes: 65_536,
+            bounds: 256,
         }
     }
 
@@ -192,6 +195,11 @@ impl Options {
     /// For so many nodes at once, 1 to 2^31, records and intervals among them.
     pub fn nodes(self, nodes: usize) -> Options {
         Options { nodes, ..self }
+    }
+
+    /// For indexes with so many bounds at most, 1 to 2^31.
+    pub fn bounds(self, bounds: usize) -> Options {
+        Options { bounds, ..self }
     }
 }
 
@@ -215,9 +223,11 @@ impl Manager {
     /// Refused with [`BadNumber`](Refusal::BadNumber), [`NoMemory`](Refusal::NoMemory). Memory for
     /// nodes is taken as they are made.
     pub fn with_options(options: Options) -> Result<Manager, Refusal> {
-        let is_room =
-            (1..=SLOTS).contains(&options.transactions) && (1..=1 << 31).contains(&options.nodes);
-        if !is_room {
+        let can_be = 1..=1 << 31;
+        let can_have = (1..=SLOTS).contains(&options.transactions)
+            && can_be.contains(&options.nodes)
+            && can_be.contains(&options.bounds);
+        if !can_have {
             return Err(Refusal::BadNumber);
         }
         let mut pinned = Pinned::new().ok_or(Refusal::NoMemory)?;
@@ -227,6 +237,7 @@ impl Manager {
             options.victims as u32,
             options.transactions as u32,
             options.nodes as u32,
+            options.bounds as u32,
         ))?;
         Ok(Manager { pinned })
     }
@@ -278,10 +289,9 @@ impl Manager {
 
     /// A new index of a file that has no records, and of which no row ever had a node by
     /// [`adopt`](Manager::adopt) or [`lock_row`](Manager::lock_row). It lies under 1 to 8 different inner
-    /// nodes, and has up to 256 bounds, or, where the manager was made for another number of
-    /// [`nodes`](Options::nodes) than 65,536, up to as many bounds as nodes may live. They rise from
-    /// above 0: interval 0 has the keys below the first bound, interval i those from bound i - 1 on. Each
-    /// interval is a node.
+    /// nodes, and has up to 256 bounds, or as many as were chosen by [`bounds`](Options::bounds). They rise
+    /// from above 0: interval 0 has the keys below the first bound, interval i those from bound i - 1 on.
+    /// Each interval is a node.
     ///
     /// Refused with [`BadNumber`](Refusal::BadNumber), [`WornOut`](Refusal::WornOut),
     /// [`NoSuchNode`](Refusal::NoSuchNode), [`BadParents`](Refusal::BadParents) (also where the
@@ -963,6 +973,11 @@ impl Manager {
     /// How many nodes may live at once.
     pub fn most_nodes(&self) -> usize {
         answered(sys::bs_call_most_nodes(&self.pinned.place)) as usize
+    }
+
+    /// How many bounds an index may have.
+    pub fn most_bounds(&self) -> usize {
+        answered(sys::bs_call_most_bounds(&self.pinned.place)) as usize
     }
 
     /// The transactions that live, by rising slot.

@@ -225,6 +225,7 @@ unsafe extern "C" {
         victims: u32,
         most: u32,
         nodes: u32,
+        bounds: u32,
     ) -> Reply;
     pub(crate) safe fn bs_call_end(manager: &mut Place) -> Reply;
 
@@ -380,6 +381,7 @@ unsafe extern "C" {
 
     pub(crate) safe fn bs_call_most(manager: &Place) -> Reply;
     pub(crate) safe fn bs_call_most_nodes(manager: &Place) -> Reply;
+    pub(crate) safe fn bs_call_most_bounds(manager: &Place) -> Reply;
     pub(crate) safe fn bs_call_living(manager: &Place, slot: u32) -> Reply;
     pub(crate) safe fn bs_call_doing(manager: &Place, txn: Txn) -> Reply;
     pub(crate) safe fn bs_call_lock_count(manager: &Place, txn: Txn) -> Reply;

@@ -3,7 +3,9 @@
 
 mod common;
 
-use burlapslate::{Asked, Detect, Manager, Mode, Node, Refusal, Row, RowAsked, Txn, SLOTS};
+use burlapslate::{
+    Asked, Detect, Manager, Mode, Node, Options, Refusal, Row, RowAsked, Txn, SLOTS,
+};
 use common::{ask, at_block, begin, grant, refused_lock, store, wait, Store};
 
 /// What each command of a transaction on a node is refused with.
@@ -217,6 +219,31 @@ fn keys() {
     assert!(m.add_index(&[root], empty, &rising[..256]).is_ok());
     assert_eq!(m.insert(a, s.file, &[]), Err(Refusal::BadKeys));
     assert_eq!(m.insert(a, s.file, &[1, 2]), Err(Refusal::BadKeys));
+}
+
+/// An index has as many bounds as were chosen, whatever number of nodes was.
+#[test]
+fn chosen_bounds() {
+    let usual = Options::new(Detect::AtBlock);
+    let rising: Vec<u64> = (1..=301).collect();
+    for (options, most) in [
+        (usual.nodes(70_000), 256),
+        (usual.nodes(65_536).bounds(300), 300),
+        (usual.bounds(1), 1),
+    ] {
+        let mut m = Manager::with_options(options).unwrap();
+        assert_eq!(m.most_bounds(), most);
+        let root = m.add_inner(&[]).unwrap();
+        let file = m.add_file(&[root]).unwrap();
+        let past = m.add_index(&[root], file, &rising[..=most]);
+        assert_eq!(past, Err(Refusal::BadKeys));
+        assert!(m.add_index(&[root], file, &rising[..most]).is_ok());
+    }
+    assert!(Manager::with_options(usual.bounds(1 << 31)).is_ok());
+    for bounds in [0, (1 << 31) + 1, (1 << 32) + 1] {
+        let refused = Manager::with_options(usual.bounds(bounds)).err();
+        assert_eq!(refused, Some(Refusal::BadNumber));
+    }
 }
 
 /// On a file of rows nothing is done by nodes, and on no other node anything by numbers.

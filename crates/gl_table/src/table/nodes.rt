@@ -42,10 +42,10 @@ impl Table {
     }
 
     /// Makes an index of a file that has no records and of which none was ever adopted, under 1 to 8
-    /// different inner nodes, with at most 256 strictly rising bounds above 0, in a table made
-    /// `with_room` as many as its limit of nodes, and its intervals: one that begins at key 0, and one
-    /// at each bound. The index is born first and then, in order, the intervals. Nobody holds any of
-    /// them, and all locks stay as they are.
+    /// different inner nodes, with strictly rising bounds above 0, and its intervals: one
+    /// that begins at key 0, and one at each bound. Of bounds there are at most 256, or as many as were
+    /// chosen by `with_limits`. The index is born first and then, in order, the intervals. Nobody holds
+    /// any of them, and all locks stay as they are.
     ///
     /// Refused, in this order, with `WornOut`, `NoSuchNode`, `BadParents` (also where the file is
     /// none or has seven indexes), `FileInUse`, `BadKeys` (the bounds), `TooManyNodes` and
