@@ -3,6 +3,7 @@ mod Adopted
 mod CallsKeep
 mod LettingGo
 mod LockedAtOnce
+mod Lockers
 mod NameChanges
 mod NamesKept
 mod NamesMade

@@ -2,6 +2,7 @@
 use Rattle.std.specs.Prelude.{◌≡◌, ◌<◌, ℕ, Bool, List, [], Some, get_or, length, map, slice_get}
 use Rattle.std.specs.List.{list_any}
 use Rattle.indexmap.specs.IndexSet.{IndexSet, spare}
+use Rattle.gl_slots.specs.Limit.{most_slots}
 use Rattle.gl_modes.specs.declared.node.NodeId.{NodeId}
 use Rattle.gl_registry.specs.Rows.{RowsView, same_row}
 use Rattle.gl_registry.specs.declared.row.Row.{Row}
@@ -32,6 +33,6 @@ viewed files names sets = record { files = files; names = names; asked = rows_of
 abbrev pub view_of : Inside → RowsView
 view_of m = viewed m.files.keys m.names.entries m.asked.items
 
--- there is a set for each number that a slot may have
+-- there is a set for each slot
 abbrev pub IsSound : Inside → Type 0
-IsSound m = length m.asked.items ≡ 256
+IsSound m = length m.asked.items ≡ most_slots

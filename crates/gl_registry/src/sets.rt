@@ -1,5 +1,7 @@
-//! For each slot the rows that its transaction has asked for.
+//! For each slot the rows that its transaction has asked for. From `SLOTS` on no transaction lives, and no
+//! row is asked for.
 
+ghost use Rattle.gl_slots.specs.Limit.{most_slots};
 ghost use Rattle.std.specs.Prelude.{◌≡◌, ◌<◌, ◌&&◌, ◌||◌, ◌==◌, ℕ, [], get_or, not, IfErr, IfOk, OnOk, Some, false, length, slice_get};
 ghost use Rattle.gl_modes.specs.declared.refusal.Refusal.{Refusal as ARefusal};
 ghost use Rattle.gl_registry.specs.declared.row.Row.{Row as ARow};
@@ -8,36 +10,36 @@ ghost use Rattle.gl_registry.specs.Sound.{HasRoom, is_in, rows_of};
 
 use crate::row::Row;
 use gl_modes::Refusal;
-use gl_slots::Slot;
+use gl_slots::{SLOTS, Slot};
 use indexmap::IndexSet;
 use std::alloc::Global;
 
-/// How many sets there are: one for each number that a slot may have.
-const SETS: usize = 256;
-
-/// As many empty sets as there are to be.
+/// A set for each slot, all of them empty.
 pub(crate) fn empty_sets(alloc: Global) -> Result<Vec<IndexSet<Row>>, Refusal>
-    ensures sets { IfOk result (λ sets. length sets.items ≡ 256) }
+    ensures sets { IfOk result (λ sets. length sets.items ≡ most_slots) }
     ensures empty { IfOk result (λ sets. (slot : ℕ) (row : ARow) → is_in sets.items slot row ≡ false) }
     ensures refused { IfErr result (λ refusal. refusal ≡ ARefusal.NoMemory) }
 {
-    let Ok(mut sets) = Vec::with_capacity(alloc, SETS) else {
+    let Ok(mut sets) = Vec::with_capacity(alloc, SLOTS) else {
         return Err(Refusal::NoMemory);
     };
-    for _set in 0..SETS {
+    for _set in 0..SLOTS {
         sets.push_reserved(IndexSet::new(alloc));
     }
     Ok(sets)
 }
 
-/// Makes room for one row more in the set of a slot.
+/// Makes room for one row more in the set of a slot, if it has one.
 pub(crate) fn make_room(sets: &mut Vec<IndexSet<Row>>, slot: Slot) -> Result<(), Refusal>
-    requires sets { length sets.old.items ≡ 256 }
-    ensures sets { length sets.new.items ≡ 256 }
+    requires sets { length sets.old.items ≡ most_slots }
+    ensures sets { length sets.new.items ≡ most_slots }
     ensures same { rows_of sets.new.items ≡ rows_of sets.old.items }
     ensures room { OnOk result (HasRoom sets.new.items slot) }
     ensures refused { IfErr result (λ refusal. refusal ≡ ARefusal.NoMemory) }
 {
+    if slot as usize >= SLOTS {
+        return Ok(());
+    }
     match sets[slot as usize].reserve(1) {
         Ok(()) => Ok(()),
         Err(_) => Err(Refusal::NoMemory),
@@ -46,9 +48,10 @@ pub(crate) fn make_room(sets: &mut Vec<IndexSet<Row>>, slot: Slot) -> Result<(),
 
 /// Puts a row into the set of a slot.
 pub(crate) fn put(sets: &mut Vec<IndexSet<Row>>, slot: Slot, row: Row)
-    requires sets { length sets.old.items ≡ 256 }
+    requires sets { length sets.old.items ≡ most_slots }
+    requires slot { slot < most_slots }
     requires room { HasRoom sets.old.items slot }
-    ensures sets { length sets.new.items ≡ 256 }
+    ensures sets { length sets.new.items ≡ most_slots }
     ensures has { (u : ℕ) (q : ARow) → is_in sets.new.items u q ≡ (is_in sets.old.items u q || ((u == slot) && same_row row q)) }
 {
     sets[slot as usize].insert(row).unwrap();
@@ -56,28 +59,37 @@ pub(crate) fn put(sets: &mut Vec<IndexSet<Row>>, slot: Slot, row: Row)
 
 /// The rows in the set of a slot.
 pub(crate) fn rows_in(sets: &Vec<IndexSet<Row>>, slot: Slot) -> &[Row]
-    requires sets { length sets.now.items ≡ 256 }
+    requires sets { length sets.now.items ≡ most_slots }
     ensures rows { result.now ≡ get_or (rows_of sets.now.items) slot [] }
 {
-    sets[slot as usize].as_slice()
+    match sets.get(slot as usize) {
+        Some(set) => set.as_slice(),
+        None => &[],
+    }
 }
 
 /// Takes a row out of the set of a slot.
 pub(crate) fn take(sets: &mut Vec<IndexSet<Row>>, slot: Slot, row: Row)
-    requires sets { length sets.old.items ≡ 256 }
-    ensures sets { length sets.new.items ≡ 256 }
+    requires sets { length sets.old.items ≡ most_slots }
+    ensures sets { length sets.new.items ≡ most_slots }
     ensures has { (u : ℕ) (q : ARow) → is_in sets.new.items u q ≡ (is_in sets.old.items u q && not ((u == slot) && same_row row q)) }
 {
+    if slot as usize >= SLOTS {
+        return;
+    }
     sets[slot as usize].swap_remove(&row);
 }
 
 /// Takes all rows out of the set of a slot. To clear a set writes all its room; where that is far more
 /// than its rows they are taken out one by one.
 pub(crate) fn clear(sets: &mut Vec<IndexSet<Row>>, slot: Slot)
-    requires sets { length sets.old.items ≡ 256 }
-    ensures sets { length sets.new.items ≡ 256 }
+    requires sets { length sets.old.items ≡ most_slots }
+    ensures sets { length sets.new.items ≡ most_slots }
     ensures has { (u : ℕ) (q : ARow) → is_in sets.new.items u q ≡ (is_in sets.old.items u q && not (u == slot)) }
 {
+    if slot as usize >= SLOTS {
+        return;
+    }
     let set = &mut sets[slot as usize];
     if set.len() < set.capacity() / 16 {
         set.truncate(0);

@@ -1,11 +1,12 @@
 //! Rows are locked.
 
-ghost use Rattle.std.specs.Prelude.{◌≡◌, [], Some, true};
+ghost use Rattle.std.specs.Prelude.{◌≡◌, [], OnOk, Some, true};
 ghost use Rattle.std.specs.Map.{lookup};
 ghost use Rattle.gl_modes.specs.declared.node.NodeId.{NodeId as ANode};
 ghost use Rattle.gl_graph.specs.Graph.{shape_of};
 ghost use Rattle.gl_graph.specs.Shapes.{is_record_shape};
 ghost use Rattle.gl_model.specs.Calls.{is_idle};
+ghost use Rattle.gl_model.specs.State.{lives};
 ghost use Rattle.gl_catalog.specs.Manager.{state_of};
 ghost use Rattle.gl_registry.specs.Locking.{LocksRow, RenewsNode, first_locked};
 ghost use Rattle.gl_registry.specs.Naming.{LocksName};
@@ -44,6 +45,7 @@ impl Rows {
         requires stands { (n : ANode) → name_of self.old row ≡ Some n → is_record_shape (shape_of (state_of manager.old).graph n) ≡ true }
         ensures { LocksRow manager.old self.old (record { txn = t; row = row; keys = keys.entry; mode = mode }) result told.new.items manager.new self.new }
     {
+        manager.law();
         make_room(&mut self.asked, t.slot)?;
         let locked = lock_named(
             &mut self.names,
@@ -74,7 +76,8 @@ fn lock_named(
 ) -> Result<RowLocked, RowRefusal>
     requires empty { told.old.items ≡ [] }
     requires stands { (n : ANode) → lookup (same_row row) names.old.entries ≡ Some n → is_record_shape (shape_of (state_of manager.old).graph n) ≡ true }
-    ensures { LocksName manager.old files.now.keys names.old.entries (record { txn = t; row = row; keys = keys.entry; mode = mode }) result told.new.items manager.new names.new.entries }
+    ensures locks { LocksName manager.old files.now.keys names.old.entries (record { txn = t; row = row; keys = keys.entry; mode = mode }) result told.new.items manager.new names.new.entries }
+    ensures lives { OnOk result (lives (state_of manager.old) t ≡ true) }
 {
     let Ok(entry) = names.entry(row) else {
         return Err(RowRefusal::Refused(Refusal::NoMemory));

@@ -4,8 +4,8 @@ use Rattle.gl_registry.proofs.sets.clear.Goals as goal
 
 pub returns-then-len-capacity-clause-has : goal.returns-then-len-capacity-clause-has
 returns-then-len-capacity-clause-has c =
-    is_in_cleared c.args.sets.now.items c.args.slot c.truncate.new.self (omega (arith, c.requires.sets, c.ranges.slot.fits)) c.truncate.ensures.keys
+    is_in_cleared c.args.sets.now.items c.args.slot c.truncate.new.self (omega arith) c.truncate.ensures.keys
 
 pub returns-else-len-capacity-clause-has : goal.returns-else-len-capacity-clause-has
 returns-else-len-capacity-clause-has c =
-    is_in_cleared c.args.sets.now.items c.args.slot c.clear.new.self (omega (arith, c.requires.sets, c.ranges.slot.fits)) c.clear.ensures.empty
+    is_in_cleared c.args.sets.now.items c.args.slot c.clear.new.self (omega arith) c.clear.ensures.empty

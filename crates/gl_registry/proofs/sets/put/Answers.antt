@@ -10,6 +10,6 @@ use Rattle.gl_registry.proofs.sets.put.Goals as goal
 
 pub returns-clause-has : goal.returns-clause-has
 returns-clause-has c =
-    is_in_put c.args.sets.now.items c.args.slot c.index_mut.result.now c.insert.new.self (omega (arith, c.requires.sets, c.ranges.slot.fits)) c.args.row
+    is_in_put c.args.sets.now.items c.args.slot c.index_mut.result.now c.insert.new.self (omega arith) c.args.row
     (λ q. (IfOk-at_ok _ c.unwrap.ensures c.insert.ensures.updates).0 q
     ∙ ap (λ (x : IndexSet Row _). cond (same_row c.args.row q) true (list_any (same_row q) x.keys)) c.index_mut.ensures.value)

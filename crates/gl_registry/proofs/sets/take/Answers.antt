@@ -9,6 +9,6 @@ use Rattle.gl_registry.proofs.sets.take.Goals as goal
 
 pub returns-clause-has : goal.returns-clause-has
 returns-clause-has c =
-    is_in_taken c.args.sets.now.items c.args.slot c.index_mut.result.now c.swap_remove.new.self (omega (arith, c.requires.sets, c.ranges.slot.fits)) c.args.row
+    is_in_taken c.args.sets.now.items c.args.slot c.index_mut.result.now c.swap_remove.new.self (omega arith) c.args.row
     (λ q. c.swap_remove.ensures.updates.0 q
     ∙ ap (λ (x : IndexSet Row _). cond (same_row c.args.row q) false (list_any (same_row q) x.keys)) c.index_mut.ensures.value)
