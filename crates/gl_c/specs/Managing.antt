@@ -1,7 +1,7 @@
 -- Managers come and go.
 use Rattle.gl_slots.specs.Slots.{no_slots}
 use Rattle.gl_slots.specs.Limit.{most_slots}
-use Rattle.std.specs.Prelude.{◌≡◌, ◌⊎◌, ℕ, Bool, false, ◌&&◌, ◌==◌, Option, Some, None, if◌then◌else◌, nat_lt, replicate}
+use Rattle.std.specs.Prelude.{◌≡◌, ◌⊎◌, ℕ, ◌+◌, Bool, false, ◌&&◌, ◌==◌, Option, Some, None, if◌then◌else◌, nat_lt, replicate}
 use Rattle.gl_modes.specs.declared.node.NodeId.{NodeId}
 use Rattle.gl_modes.specs.declared.refusal.Refusal.TheVariants as no
 use Rattle.gl_model.specs.declared.answers.Detect.{Detect}
@@ -18,7 +18,7 @@ use Rattle.gl_c.specs.Replies.{refused_reply, status_reply}
 
 -- so many transactions can be had at once, and so many nodes
 abbrev pub can_have : ℕ → ℕ → Bool
-can_have most nodes = (nat_lt 0 most && nat_lt most 129) && (nat_lt 0 nodes && nat_lt nodes 2147483649)
+can_have most nodes = (nat_lt 0 most && nat_lt most (most_slots + 1)) && (nat_lt 0 nodes && nat_lt nodes 2147483649)
 
 -- the state with this limit of nodes: the usual one goes with 256 bounds for an index, any other one limits the bounds too
 abbrev pub made_for : ℕ → State → State

@@ -166,7 +166,7 @@ pub struct Options {
 }
 
 impl Options {
-    /// For 128 transactions and 65,536 nodes at once; of those in a deadlock the youngest falls.
+    /// For [`SLOTS`] transactions and 65,536 nodes at once; of those in a deadlock the youngest falls.
     pub fn new(detect: Detect) -> Options {
         Options {
             detect,
