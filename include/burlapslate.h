@@ -30,6 +30,7 @@
  * which of them may stay. All fields that a call does not speak of are zero. Where several refusals hold, the first
  * of these is answered:
  *   - BS_NULL_POINTER;
+ *   - BS_OTHER_SLOTS, of the calls that name it;
  *   - BS_BAD_NUMBER, where the call says that it comes first of all;
  *   - BS_NO_MANAGER;
  *   - BS_ROWS_BY_NUMBER, BS_NOT_ROWS;
@@ -62,7 +63,8 @@ extern "C" {
 #define BS_VERSION_MINOR 12
 #define BS_VERSION_PATCH 0
 
-/* How many transactions can live at once, and so how many notices a call can have. */
+/* How many transactions can live at once, and so how many notices a call can have. A library can be built for another
+ * number, and is then installed with headers that have it here. */
 #define BS_SLOTS 128
 
 /* How many parents a node can have. */
@@ -71,7 +73,7 @@ extern "C" {
 /* How many watchers a manager can have at once. */
 #define BS_MOST_WATCHERS 8
 
-/* What a call comes to. Refusals are 1 to 22, of the manager, and 64 to 72, of this library. */
+/* What a call comes to. Refusals are 1 to 22, of the manager, and 64 to 73, of this library. */
 typedef uint32_t bs_status;
 enum bs_statuses {
   BS_DONE = 0,
@@ -113,7 +115,8 @@ enum bs_statuses {
   BS_NO_WATCHER = 69,     /* no watcher was made at this place, or it was ended */
   BS_TOO_MANY_WATCHERS = 70, /* as many watch already as may */
   BS_ROWS_BY_NUMBER = 71, /* the file is one of rows: its records come, go and change by calls about rows alone */
-  BS_NOT_ROWS = 72        /* the file is none of rows */
+  BS_NOT_ROWS = 72,       /* the file is none of rows */
+  BS_OTHER_SLOTS = 73     /* the library was built for another number of slots than BS_SLOTS */
 };
 
 /* Lock modes, from none to exclusive. Of what different transactions hold on one node, BS_IS goes with all
@@ -152,8 +155,8 @@ typedef struct bs_node {
 
 /* The name of a transaction. It is the same as long as it lives, and never another's in its manager. */
 typedef struct bs_txn {
-  uint8_t slot; /* 0 to 127 */
-  uint64_t age; /* its number in the order of begins: the youngest has the greatest */
+  uint32_t slot; /* below BS_SLOTS; any other names no transaction */
+  uint64_t age;  /* its number in the order of begins: the youngest has the greatest */
 } bs_txn;
 
 /* The place of a manager. Its fields are the library's own. */
@@ -198,10 +201,9 @@ typedef struct bs_notices {
   bs_notice at[BS_SLOTS];
 } bs_notices;
 
-/* A set of slots: bit s of `low` stands for slot s, that of `high` for slot 64 + s. */
+/* A set of slots: bit s % 64 of word s / 64 stands for slot s. */
 typedef struct bs_slots {
-  uint64_t low;
-  uint64_t high;
+  uint64_t words[BS_SLOTS / 64];
 } bs_slots;
 
 /* Who waits for whom at one moment. */
@@ -329,7 +331,8 @@ bs_reply bs_call_counters(bs_manager *manager, bs_counts *counts);
 bs_reply bs_call_board(bs_manager *manager, bs_board *board);
 bs_found bs_call_on_cycle(const bs_board *board, uint32_t slot);
 bs_found bs_call_suspects(const bs_board *board);
-bs_reply bs_call_youngest(const bs_board *board, bs_slots slots);
+bs_reply bs_call_youngest(const bs_board *board, const bs_slots *slots);
+uint32_t bs_call_slots(void);
 
 /* The reply of a call with a null pointer. */
 static inline bs_reply bs_null(void) {
@@ -339,9 +342,19 @@ static inline bs_reply bs_null(void) {
 
 /* The slots of a call with a null pointer. */
 static inline bs_found bs_none_found(void) {
-  bs_found found = { BS_NULL_POINTER, { 0, 0 } };
+  bs_found found = { BS_NULL_POINTER, { { 0 } } };
   return found;
 }
+
+/* A reply that says no more than this. */
+static inline bs_reply bs_only(bs_status status) {
+  bs_reply reply = bs_null();
+  reply.status = status;
+  return reply;
+}
+
+/* Whether the library knows this header's sizes. */
+static inline bool bs_fits(void) { return bs_call_slots() == BS_SLOTS; }
 
 /* Whether one of these is null. The notices are emptied ahead of all else, so that none of an earlier call is left where
  * this one is refused. */
@@ -365,16 +378,19 @@ static inline const uint64_t *bs_numbers(const uint64_t *list) {
  * Managers.
  */
 
-/* Makes a manager at a place that has none, for `most` transactions at once, 1 to 128, with a way of
- * detection of enum bs_detects; of those in a deadlock the youngest falls. Refused with BS_IN_USE,
- * BS_BAD_NUMBER, BS_NO_MEMORY. Takes memory, more for more transactions. */
+/* Makes a manager at a place that has none, for `most` transactions at once, 1 to BS_SLOTS, with a way of
+ * detection of enum bs_detects; of those in a deadlock the youngest falls. Refused with BS_OTHER_SLOTS, which is that
+ * the program was compiled with the headers of another library, BS_IN_USE, BS_BAD_NUMBER, BS_NO_MEMORY. Takes memory,
+ * more for more transactions. */
 static inline bs_reply bs_make(bs_manager *manager, uint32_t detect, uint32_t most) {
-  return manager == NULL ? bs_null() : bs_call_make(manager, detect, most);
+  if (manager == NULL) return bs_null();
+  return bs_fits() ? bs_call_make(manager, detect, most) : bs_only(BS_OTHER_SLOTS);
 }
 
 /* As bs_make, with a choice of victims of enum bs_choices. */
 static inline bs_reply bs_make_choosing(bs_manager *manager, uint32_t detect, uint32_t victims, uint32_t most) {
-  return manager == NULL ? bs_null() : bs_call_make_choosing(manager, detect, victims, most);
+  if (manager == NULL) return bs_null();
+  return bs_fits() ? bs_call_make_choosing(manager, detect, victims, most) : bs_only(BS_OTHER_SLOTS);
 }
 
 /* What a manager is made with. The size is that of the struct that its maker knows; what lies behind it, and a
@@ -383,7 +399,7 @@ typedef struct bs_options {
   size_t size;           /* sizeof(bs_options) */
   uint32_t detect;       /* of enum bs_detects; BS_AT_BLOCK as usual */
   uint32_t victims;      /* of enum bs_choices; BS_YOUNGEST as usual */
-  uint32_t transactions; /* how many may live at once, 1 to 128; 128 as usual */
+  uint32_t transactions; /* how many may live at once, 1 to BS_SLOTS; BS_SLOTS as usual */
   uint32_t nodes;        /* how many may live at once, 1 to 2^31, records and intervals among them; 65,536 as usual */
   uint32_t bounds;       /* how many an index may have at most, 1 to 2^31; 256 as usual */
 } bs_options;
@@ -405,10 +421,11 @@ static inline bs_options bs_known(const bs_options *given) {
 }
 
 /* Makes a manager as bs_make_choosing, by options; where they are null it is one as usual. Refused with
- * BS_IN_USE, BS_BAD_NUMBER, BS_NO_MEMORY. Memory for nodes is taken as they are made. */
+ * BS_OTHER_SLOTS, BS_IN_USE, BS_BAD_NUMBER, BS_NO_MEMORY. Memory for nodes is taken as they are made. */
 static inline bs_reply bs_make_with(bs_manager *manager, const bs_options *given) {
   bs_options options = bs_known(given);
   if (manager == NULL) return bs_null();
+  if (!bs_fits()) return bs_only(BS_OTHER_SLOTS);
   return bs_call_make_with(manager, options.detect, options.victims, options.transactions, options.nodes,
                            options.bounds);
 }
@@ -711,7 +728,8 @@ static inline bs_found bs_ended(bs_manager *manager) {
  * Watchers: who waits for whom, without the mutex of the manager. A manager that has watchers shows them its
  * board behind each accepted command, as long as somebody waits or waited when it was last shown. So a board
  * that shows no wait is older than the last command only where nobody waits. To show a board takes memory, some
- * three kilobytes; where that is refused the command is done all the same, and the next one shows the board.
+ * three kilobytes, with 1,024 slots 136; where that is refused the command is done all the same, and the next one shows
+ * the board.
  */
 
 /* Makes a watcher of a manager at a place that has none, which knows the board of this moment. Refused with
@@ -871,8 +889,8 @@ static inline bs_reply bs_limits(bs_manager *manager, bs_options *options) {
   return reply;
 }
 
-/* The transaction in a slot, in `txn`. Refused with BS_BAD_NUMBER, first of all, where the slot is over 127,
- * and with BS_NO_PLACE where it is free. */
+/* The transaction in a slot, in `txn`. Refused with BS_BAD_NUMBER, first of all, where the slot is
+ * BS_SLOTS or more, and with BS_NO_PLACE where it is free. */
 static inline bs_reply bs_living(bs_manager *manager, uint32_t slot) {
   return manager == NULL ? bs_null() : bs_call_living(manager, slot);
 }
@@ -902,7 +920,7 @@ static inline bs_found bs_holders(bs_manager *manager, bs_node node) {
 }
 
 /* The mode in which the transaction of a slot holds a node, in `mode`; BS_NL for none. Refused with
- * BS_BAD_NUMBER, first of all, where the slot is over 127. */
+ * BS_BAD_NUMBER, first of all, where the slot is BS_SLOTS or more. */
 static inline bs_reply bs_mode_at(bs_manager *manager, uint32_t slot, bs_node node) {
   return manager == NULL ? bs_null() : bs_call_mode_at(manager, slot, node);
 }
@@ -947,31 +965,38 @@ static inline bs_reply bs_read_board(bs_manager *manager, bs_board *board) {
   return manager == NULL || board == NULL ? bs_null() : bs_call_board(manager, board);
 }
 
-/* The slots on a cycle of waits with this slot, which are those that it reaches by waits and that reach it;
- * none where it is on none. Refused with BS_NULL_POINTER, and BS_BAD_NUMBER where the slot is over 127.
- * Costs at most a step for each slot that it reaches, twice. */
-static inline bs_found bs_on_cycle(const bs_board *board, uint32_t slot) {
-  bs_found null = { BS_NULL_POINTER, { 0, 0 } };
-  return board == NULL ? null : bs_call_on_cycle(board, slot);
+/* No slots, since the library does not know this header's sizes. */
+static inline bs_found bs_none_fits(void) {
+  bs_found found = bs_none_found();
+  found.status = BS_OTHER_SLOTS;
+  return found;
 }
 
-/* The slots that are on any cycle of waits. Refused with BS_NULL_POINTER. Costs a pass over the rows
+/* The slots on a cycle of waits with this slot, which are those that it reaches by waits and that reach it;
+ * none where it is on none. Refused with BS_NULL_POINTER, BS_OTHER_SLOTS, and BS_BAD_NUMBER where the slot is BS_SLOTS
+ * or more. Costs at most a step for each slot that it reaches, twice. */
+static inline bs_found bs_on_cycle(const bs_board *board, uint32_t slot) {
+  if (board == NULL) return bs_none_found();
+  return bs_fits() ? bs_call_on_cycle(board, slot) : bs_none_fits();
+}
+
+/* The slots that are on any cycle of waits. Refused with BS_NULL_POINTER, BS_OTHER_SLOTS. Costs a pass over the rows
  * where nobody waits, else a step for each slot and each that waits. */
 static inline bs_found bs_suspects(const bs_board *board) {
-  bs_found null = { BS_NULL_POINTER, { 0, 0 } };
-  return board == NULL ? null : bs_call_suspects(board);
+  if (board == NULL) return bs_none_found();
+  return bs_fits() ? bs_call_suspects(board) : bs_none_fits();
 }
 
-/* The youngest of these slots in `count`, of equal ages the lowest. Refused with BS_NULL_POINTER, and
+/* The youngest of these slots in `count`, of equal ages the lowest. Refused with BS_NULL_POINTER, BS_OTHER_SLOTS, and
  * with BS_NO_PLACE where there is none. */
 static inline bs_reply bs_youngest(const bs_board *board, bs_slots slots) {
-  return board == NULL ? bs_null() : bs_call_youngest(board, slots);
+  if (board == NULL) return bs_null();
+  return bs_fits() ? bs_call_youngest(board, &slots) : bs_only(BS_OTHER_SLOTS);
 }
 
 /* Whether a set has a slot, of any number. */
 static inline bool bs_has(bs_slots slots, uint32_t slot) {
-  if (slot < 64) return (slots.low >> slot & 1) != 0;
-  return slot < BS_SLOTS && (slots.high >> (slot - 64) & 1) != 0;
+  return slot < BS_SLOTS && (slots.words[slot / 64] >> slot % 64 & 1) != 0;
 }
 
 /* ------------------------------------------------------------------------------------------------
@@ -1021,6 +1046,7 @@ static inline const char *bs_text(bs_status status) {
     case BS_TOO_MANY_WATCHERS: return "TooManyWatchers";
     case BS_ROWS_BY_NUMBER: return "RowsByNumber";
     case BS_NOT_ROWS: return "NotRows";
+    case BS_OTHER_SLOTS: return "OtherSlots";
     default: return "?";
   }
 }

@@ -131,23 +131,16 @@ static inline bs_reply bs_table_leave(bs_table *table, bs_reply reply) {
   return reply;
 }
 
-/* A reply that says no more than this. */
-static inline bs_reply bs_only(bs_status status) {
-  bs_reply reply = bs_null();
-  reply.status = status;
-  return reply;
-}
-
 /* The reply where there is no table. */
 static inline bs_reply bs_no_table(const bs_table *table) {
   return bs_only(table == NULL ? BS_NULL_POINTER : BS_NO_MANAGER);
 }
 
 /* Wakes who sleeps for a slot of these, of which the first is `first`. */
-static inline void bs_table_wake_half(bs_table_inside *in, uint64_t half, size_t first) {
+static inline void bs_table_wake_word(bs_table_inside *in, uint64_t word, size_t first) {
   size_t slot;
-  for (slot = first; half != 0; slot++, half >>= 1) {
-    if ((half & 1) != 0) pthread_cond_broadcast(&in->ended[slot]);
+  for (slot = first; word != 0; slot++, word >>= 1) {
+    if ((word & 1) != 0) pthread_cond_broadcast(&in->ended[slot]);
   }
 }
 
@@ -159,8 +152,8 @@ static inline void bs_table_wake(bs_table_inside *in, bs_status status, const bs
                      status == BS_OTHER_KEYS;
   if (is_accepted && (by_name || told->count > 0)) {
     bs_slots ended = bs_ended(&in->manager).slots;
-    bs_table_wake_half(in, ended.low, 0);
-    bs_table_wake_half(in, ended.high, 64);
+    size_t i;
+    for (i = 0; i < BS_SLOTS / 64; i++) bs_table_wake_word(in, ended.words[i], i * 64);
   }
   if (status == BS_WAITING) {
     in->waited = bs_accepted(&in->manager).count;
@@ -358,11 +351,12 @@ static inline void bs_table_free_inside(bs_table_inside *in) {
 }
 
 /* Makes a table at a place that has none: a manager as bs_make_with makes one. Refused with BS_NULL_POINTER,
- * BS_IN_USE, BS_BAD_NUMBER, BS_NO_MEMORY. Takes memory. */
+ * BS_OTHER_SLOTS, BS_IN_USE, BS_BAD_NUMBER, BS_NO_MEMORY. Takes memory. */
 static inline bs_reply bs_table_make_with(bs_table *table, const bs_options *options) {
   bs_table_inside *in;
   bs_reply reply = bs_null();
   if (table == NULL) return reply;
+  if (!bs_fits()) return bs_only(BS_OTHER_SLOTS);
   pthread_mutex_lock(&table->latch);
   reply.status = BS_IN_USE;
   if (table->in != NULL) return bs_table_leave(table, reply);
@@ -375,7 +369,7 @@ static inline bs_reply bs_table_make_with(bs_table *table, const bs_options *opt
   return bs_table_leave(table, reply);
 }
 
-/* The same as bs_make_choosing makes one: for `most` transactions at once, 1 to 128. */
+/* The same as bs_make_choosing makes one: for `most` transactions at once, 1 to BS_SLOTS. */
 static inline bs_reply bs_table_make(bs_table *table, uint32_t detect, uint32_t victims, uint32_t most) {
   bs_options options = bs_usual();
   options.detect = detect;
@@ -387,8 +381,8 @@ static inline bs_reply bs_table_make(bs_table *table, uint32_t detect, uint32_t 
 /* Wakes all who sleep with a table that ends. */
 static inline void bs_table_wake_all(bs_table_inside *in) {
   bs_turn *turn;
-  bs_table_wake_half(in, UINT64_MAX, 0);
-  bs_table_wake_half(in, UINT64_MAX, 64);
+  size_t slot;
+  for (slot = 0; slot < BS_SLOTS; slot++) pthread_cond_broadcast(&in->ended[slot]);
   for (turn = in->first; turn != NULL; turn = turn->behind) pthread_cond_signal(&turn->came);
   pthread_cond_broadcast(&in->began);
   pthread_cond_broadcast(&in->over);
@@ -1092,12 +1086,12 @@ static inline void bs_table_rest(bs_table *table, bs_table_inside *in, uint64_t 
 /* Settles every suspect of a board, the youngest first, with the latch held. Who is settled, and who is told, is taken
  * off the board: so nobody is settled whose cycles are open by then. */
 static inline void bs_table_settle_all(bs_table_inside *in, bs_board *board) {
-  static const bs_slots none = { 0, 0 };
+  static const bs_slots none = { { 0 } };
   bs_reply youngest = bs_youngest(board, bs_suspects(board).slots);
   while (youngest.status == BS_DONE) {
     bs_txn suspect;
     size_t i;
-    suspect.slot = (uint8_t)youngest.count;
+    suspect.slot = (uint32_t)youngest.count;
     suspect.age = board->ages[youngest.count];
     bs_table_wake(in, bs_settle(&in->manager, suspect, &in->told).status, &in->told, false);
     board->rows[suspect.slot] = none;
@@ -1453,7 +1447,7 @@ static inline bs_reply bs_dump_of(bs_manager *held, bs_table *table, FILE *out) 
  * part of 256 locks of a transaction. Between these the latch is given up, and nothing is written with it. So a lock
  * may be missed, or stand twice, where its transaction changes its locks meanwhile. Refused with BS_NULL_POINTER,
  * BS_NO_MANAGER, also where the table is ended meanwhile, BS_NO_MEMORY; what the file says of faults, ferror tells.
- * Takes memory, some fifty kilobytes however much there is. */
+ * Takes memory, some fifty kilobytes however much there is, with 1,024 slots half a megabyte. */
 static inline bs_reply bs_table_dump(bs_table *table, FILE *file) {
   if (table == NULL || file == NULL) return bs_null();
   if (bs_table_len(table).status != BS_DONE) return bs_only(BS_NO_MANAGER);

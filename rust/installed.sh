@@ -32,6 +32,14 @@ builds by_its_prefix PKG_CONFIG=false BURLAPSLATE_DIR="$work/there"
 builds by_its_folder PKG_CONFIG=false BURLAPSLATE_DIR="$work/there/lib"
 builds by_one_archive PKG_CONFIG=false BURLAPSLATE_LIBS="$work/there/lib/libburlapslate.a"
 
+if (cd "$work/away/program" && timeout 300 env -u BURLAPSLATE_LIBS CARGO_TARGET_DIR="$work/other" PKG_CONFIG=false \
+  BURLAPSLATE_DIR="$work/there" BURLAPSLATE_SLOTS=1024 cargo run --offline --quiet) >"$work/log" 2>&1 ||
+  ! grep -q 'the library is for 128 slots, and the crate was built for 1024' "$work/log"; then
+  echo "rust: from an installation: a crate for another number of slots is not stopped" >&2
+  exit 1
+fi
+echo "the_crate_from_an_installation: of another number of slots, stopped"
+
 if (cd "$work/away/program" && env -u BURLAPSLATE_LIBS -u BURLAPSLATE_DIR CARGO_TARGET_DIR="$work/none" PKG_CONFIG=false \
   cargo build --offline --quiet) >"$work/log" 2>&1 || ! grep -q 'the library for C is not found' "$work/log"; then
   echo "rust: from an installation: without one it does not say so" >&2

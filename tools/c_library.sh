@@ -1,20 +1,44 @@
 #!/usr/bin/env bash
-# c_library.sh [--look]: builds the library for C where it is not there or older than its sources, and prints what
-# a program over include/burlapslate.h is linked with: the library, and the toolchain's calls for memory.
+# c_library.sh [--look] [--slots N]: builds the library for C where it is not there or older than its sources, and prints
+# what a program over include/burlapslate.h is linked with: the library, and the toolchain's calls for memory.
 # `rt` is to be found by PATH. With --look it builds nothing, and ends with status 1 where there is something to build.
+# N is how many transactions can live at once: 128, or 1024. The library for 1024 is proved in out/slots-1024, over
+# gl_wide_slots, and stands there with its headers.
 set -uo pipefail
-looks=
-if [ "${1:-}" = --look ]; then
-  looks=yes
-  shift
-fi
 top=$(cd "$(dirname "$0")/.." && pwd) || exit 2
-library=$top/crates/gl_c/out/libgl_c.a
+
+usage() {
+  sed -n '2,7s/^# //p' "$0" >&2
+  exit 2
+}
+
+looks='' slots=128
+while [ $# -gt 0 ]; do
+  case $1 in
+    --look) looks=yes && shift ;;
+    --slots)
+      [ $# -ge 2 ] || usage
+      slots=$2 && shift 2
+      ;;
+    *) usage ;;
+  esac
+done
+case $slots in
+  128) built=$top ;;
+  1024) built=$top/out/slots-1024 ;;
+  *)
+    echo "c_library.sh: a library has 128 slots or 1024, and not $slots" >&2
+    usage
+    ;;
+esac
+library=$built/crates/gl_c/out/libgl_c.a
 rt=$(command -v rt) || { echo "c_library.sh: rt is not found" >&2; exit 2; }
 kit=$(dirname "$(dirname "$(readlink -f "$rt")")")
 
 # What gl_c stands on, in this repository and of the toolchain.
 read -r -a named < <(sed -n 's/^gl_c staticlib: *//p' "$top/crates.txt")
+sources=("${named[@]}")
+[ "$slots" = 128 ] || sources=("${named[@]/#gl_slots/gl_wide_slots}")
 
 # is_newer FILE CRATE..: whether a source of one of these crates of the repository is newer than the file.
 is_newer() {
@@ -45,7 +69,21 @@ build_over_kept() {
 
 # is_old: whether there is no library, or a source is newer than it.
 is_old() {
-  [ ! -e "$library" ] || is_newer "$library" gl_c "${named[@]}"
+  [ ! -e "$library" ] || is_newer "$library" gl_c "${sources[@]}"
+}
+
+# build_wide: the library for more slots, in a copy of the crates.
+build_wide() {
+  "$top/tools/wide_sources.sh" "$built" && cd "$built/crates/gl_c" && rt lib
+}
+
+# say_slots: writes the headers that go with it.
+say_slots() {
+  local header
+  mkdir -p "$built/include" || return
+  for header in "$top"/include/*.h; do
+    sed "s/^#define BS_SLOTS .*/#define BS_SLOTS $slots/" "$header" >"$built/include/${header##*/}" || return
+  done
 }
 
 if [ "$looks" ]; then
@@ -54,8 +92,13 @@ if [ "$looks" ]; then
 fi
 if is_old; then
   sum=$("$top/tools/sources.sh" crates) || exit 1
-  (build_over_kept) >&2 || (cd "$top/crates/gl_c" && rt lib) >&2 || exit 1
+  if [ "$slots" = 128 ]; then
+    (build_over_kept) >&2 || (cd "$top/crates/gl_c" && rt lib) >&2 || exit 1
+  else
+    (build_wide) >&2 || exit 1
+  fi
   # What tools/package.sh says of it.
   echo "crates $sum library $(sha256sum <"$library" | cut -d ' ' -f 1)" >"${library%/*}/built_from" || exit 1
 fi
+[ "$slots" = 128 ] || say_slots || exit 1
 printf '%s\n%s\n' "$library" "$kit/c/liblibc_c.a"

@@ -1,29 +1,51 @@
 #!/usr/bin/env bash
-# install.sh [--shared] PREFIX: puts the library for C below a folder: PREFIX/include has the headers, PREFIX/lib one
-# archive with all that a program is linked with, what `pkg-config --cflags --libs burlapslate` reads, and what
-# `find_package(burlapslate)` of CMake reads; PREFIX/share/burlapslate has the suppressions for race detectors.
-# With --shared the shared library stands beside the archive, and a linker then takes it first. It builds the library
-# first where it is missing or old (tools/c_library.sh). DESTDIR is put before PREFIX for the copies, and left out of
-# what they say; LIBDIR names another folder below PREFIX than lib. AR, LD, OBJCOPY and CC name other tools than ar, ld,
-# objcopy and cc.
+# install.sh [--shared] [--slots N] PREFIX: puts the library for C below a folder: PREFIX/include has the headers,
+# PREFIX/lib one archive with all that a program is linked with, what `pkg-config --cflags --libs burlapslate` reads, and
+# what `find_package(burlapslate)` of CMake reads; PREFIX/share/burlapslate has the suppressions for race detectors.
+# With --shared the shared library stands beside the archive, and a linker then takes it first. N is how many
+# transactions can live at once: 128, or 1024. It builds the library first where it is missing or old
+# (tools/c_library.sh). DESTDIR is put before PREFIX for the copies, and left out of what they say; LIBDIR names another
+# folder below PREFIX than lib. AR, LD, OBJCOPY and CC name other tools than ar, ld, objcopy and cc.
 set -uo pipefail
 top=$(cd "$(dirname "$0")/.." && pwd) || exit 2
-shared=
-if [ "${1:-}" = --shared ]; then
-  shared=yes
-  shift
-fi
-if [ $# -ne 1 ] || [ -z "$1" ] || [ "${1#-}" != "$1" ]; then
+
+usage() {
   sed -n '2,8s/^# //p' "$0" >&2
   exit 2
-fi
+}
+
+shared='' slots=128 prefix=
+while [ $# -gt 0 ]; do
+  case $1 in
+    --shared) shared=yes ;;
+    --slots)
+      [ $# -ge 2 ] || usage
+      slots=$2 && shift
+      ;;
+    '' | -*) usage ;;
+    *)
+      [ -z "$prefix" ] || usage
+      prefix=$1
+      ;;
+  esac
+  shift
+done
+[ -n "$prefix" ] || usage
+case $slots in
+  128) headers=$top/include ;;
+  1024) headers=$top/out/slots-1024/include ;;
+  *)
+    echo "install.sh: a library has 128 slots or 1024, and not $slots" >&2
+    usage
+    ;;
+esac
 work=$(mktemp -d) || exit 2
 trap 'rm -rf "$work"' EXIT
 
-if ! "$top/tools/c_library.sh" --look 2>"$work/log" && [ ! -s "$work/log" ]; then
+if ! "$top/tools/c_library.sh" --look --slots "$slots" 2>"$work/log" && [ ! -s "$work/log" ]; then
   echo "install.sh: the library is proved first: about half an hour on four processors, where nothing is proved yet" >&2
 fi
-mapfile -t libraries < <("$top/tools/c_library.sh" 2>"$work/log")
+mapfile -t libraries < <("$top/tools/c_library.sh" --slots "$slots" 2>"$work/log")
 [ "${#libraries[@]}" -eq 2 ] || { cat "$work/log" >&2; exit 1; }
 
 # number NAME: what the header defines under this name.
@@ -36,12 +58,12 @@ soname=libburlapslate.so.$major
 # While the first number is 0, the second says whether a program fits.
 node=BURLAPSLATE_$major
 [ "$major" -gt 0 ] || node+=.$minor
+[ "$slots" = 128 ] || node+=_SLOTS_$slots
 libdir=${LIBDIR:-lib}
 
-prefix=$1
 if [ -z "${DESTDIR:-}" ]; then
-  mkdir -p "$1" && prefix=$(cd "$1" && pwd) || exit 1
-elif [ "${1#/}" = "$1" ]; then
+  mkdir -p "$prefix" && prefix=$(cd "$prefix" && pwd) || exit 1
+elif [ "${prefix#/}" = "$prefix" ]; then
   echo "install.sh: with DESTDIR, PREFIX is to begin with /" >&2
   exit 2
 fi
@@ -79,7 +101,7 @@ share() {
 }
 
 mkdir -p "$to/include" "$to/$libdir" "$to/share/burlapslate" || exit 1
-cp "$top"/include/*.h "$to/include/" && cp "$top/tests/c/races.supp" "$to/share/burlapslate/" || exit 1
+cp "$headers"/*.h "$to/include/" && cp "$top/tests/c/races.supp" "$to/share/burlapslate/" || exit 1
 join && archive || exit 1
 if [ "$shared" ]; then
   share || exit 1

@@ -10,9 +10,6 @@ scratch=
 if [ "${1:-}" = --in ]; then
   [ "$#" -ge 2 ] || { echo "usage: tools/wide.sh [--in FOLDER] [CRATE..]" >&2; exit 2; }
   mkdir -p "$2" && scratch=$(cd "$2" && pwd) || exit 2
-  # What stands there is overwritten, so it must be new or of an earlier run.
-  [ -e "$scratch/.wide" ] || [ -z "$(ls -A "$scratch")" ] || { echo "wide.sh: $2 has files, and none of this script" >&2; exit 2; }
-  touch "$scratch/.wide" || exit 2
   shift 2
 fi
 for name in "$@"; do
@@ -23,42 +20,9 @@ if [ -z "$scratch" ]; then
   trap 'rm -rf "$scratch"' EXIT
 fi
 
-# below CRATE: the crate and all of the repository that it stands on, lowest first, as crates.txt has them.
-below() {
-  awk -v top="$1" '
-    /^[^#]/ { name = $1; sub(/:$/, "", name); names[++count] = name; line[count] = $0 }
-    END {
-      wanted[top] = 1
-      for (i = count; i >= 1; i--) {
-        if (!(names[i] in wanted)) continue
-        sub(/^[^:]*:/, "", line[i])
-        words = split(line[i], word, " ")
-        for (w = 1; w <= words; w++) wanted[word[w]] = 1
-      }
-      for (i = 1; i <= count; i++) if (names[i] in wanted) print names[i]
-    }' "$top/crates.txt"
-}
+"$top/tools/wide_sources.sh" "$scratch" || exit 2
 
-# The sources, with the wide crate under the name of the other.
-copy_sources() {
-  mkdir -p "$scratch/crates" && rm -rf "$scratch"/crates/*/{src,specs,proofs} || return
-  (cd "$top/crates" && tar -cf - --exclude=out --exclude=./gl_slots .) | tar -xf - -C "$scratch/crates" || return
-  mkdir -p "$scratch/crates/gl_slots" || return
-  cp -a "$scratch/crates/gl_wide_slots/"{src,specs,proofs} "$scratch/crates/gl_slots/" || return
-  rm -rf "$scratch/crates/gl_wide_slots" || return
-  find "$scratch/crates/gl_slots/"{src,specs,proofs} -type f -exec sed -i 's/gl_wide_slots/gl_slots/g' {} + || return
-  grep -v '^gl_wide_slots:' "$top/crates.txt" >"$scratch/crates.txt" || return
-  [ ! -e "$top/HANDLES" ] || cp "$top/HANDLES" "$scratch/HANDLES"
-}
-copy_sources || { echo "wide.sh: the crates could not be copied to $scratch" >&2; exit 2; }
-
-if [ "$#" -gt 0 ]; then crates=("$@"); else mapfile -t crates < <(below gl_c); fi
-# What stands on no slots is the same there: what was proved of it is taken along.
-for name in $(for each in "${crates[@]}"; do below "$each"; done | sort -u); do
-  if ! below "$name" | grep -qx gl_slots && [ -d "$top/crates/$name/out" ] && [ ! -e "$scratch/crates/$name/out" ]; then
-    cp -a "$top/crates/$name/out" "$scratch/crates/$name/out" || exit 2
-  fi
-done
+if [ "$#" -gt 0 ]; then crates=("$@"); else mapfile -t crates < <("$top/tools/below.sh" gl_c); fi
 for name in "${crates[@]}"; do
   log=$scratch/$name.log
   if (cd "$scratch/crates/$name" && rt check) >"$log" 2>&1; then

@@ -1,41 +1,42 @@
 /*
- * Boards of 128 slots, and what is read of them. Every answer is compared with what it should be.
+ * Boards of all slots, and what is read of them. Every answer is compared with what it should be.
  */
 #include "costs.h"
 
 static bs_board board;
 
+/* No slot, and all. */
+static bs_slots none, all;
+
 static bs_slots slot_set(size_t slot) {
-  bs_slots set = { 0, 0 };
-  if (slot < 64) set.low = (uint64_t)1 << slot;
-  else set.high = (uint64_t)1 << (slot - 64);
+  bs_slots set = none;
+  set.words[slot / 64] = (uint64_t)1 << slot % 64;
   return set;
 }
 
-/* The slots below this one, which is 127 at most. */
+/* The slots below this one. */
 static bs_slots below(size_t slot) {
-  bs_slots set = { UINT64_MAX, 0 };
-  if (slot < 64) set.low = slot_set(slot).low - 1;
-  else set.high = slot_set(slot).high - 1;
+  bs_slots set = none;
+  memset(set.words, 0xff, slot / 64 * sizeof set.words[0]);
+  set.words[slot / 64] = slot_set(slot).words[slot / 64] - 1;
   return set;
 }
 
 static bs_slots row_of(enum shapes shape, size_t slot) {
-  static const bs_slots nobody = { 0, 0 };
   bool is_last = slot + 1 == BS_SLOTS;
   switch (shape) {
-    case CHAIN: return is_last ? nobody : slot_set(slot + 1);
+    case CHAIN: return is_last ? none : slot_set(slot + 1);
     case RING: return slot_set(is_last ? 0 : slot + 1);
     case QUEUE: return below(slot);
     case CLOSED_QUEUE: return slot == 0 ? slot_set(BS_SLOTS - 1) : below(slot);
-    default: return nobody;
+    default: return none;
   }
 }
 
 /* The younger the higher the slot. Answers the slots on a cycle: all, or none. */
 static bs_slots lay(enum shapes shape) {
-  static const bs_slots none = { 0, 0 }, all = { UINT64_MAX, UINT64_MAX };
   size_t slot;
+  memset(&all, 0xff, sizeof all);
   for (slot = 0; slot < BS_SLOTS; slot++) {
     board.ages[slot] = slot + 1;
     board.rows[slot] = row_of(shape, slot);
@@ -44,7 +45,7 @@ static bs_slots lay(enum shapes shape) {
 }
 
 static void finds(bs_found found, bs_slots wanted) {
-  WANT(found.status == BS_DONE && found.slots.low == wanted.low && found.slots.high == wanted.high);
+  WANT(found.status == BS_DONE && memcmp(&found.slots, &wanted, sizeof wanted) == 0);
 }
 
 static MEASURED void measured_cycles(bs_slots wanted, long rounds) {

@@ -54,7 +54,7 @@ static long take_notices(struct mix *x, bool fell[BS_SLOTS]) {
   long victims = 0;
   size_t i;
   for (i = 0; i < told.count; i++) {
-    uint8_t slot = told.at[i].txn.slot;
+    uint32_t slot = told.at[i].txn.slot;
     x->lockers[slot].waits = false;
     if (told.at[i].kind != BS_TOLD_VICTIM) continue;
     fell[slot] = true;

@@ -20,8 +20,7 @@ static size_t slot_of(struct gatherer *g, uint64_t number) {
 static void add_wait(struct gatherer *g, uint64_t waiter, uint64_t holder) {
   size_t from = slot_of(g, waiter), to = slot_of(g, holder);
   if (from == BS_SLOTS || to == BS_SLOTS) return;
-  if (to < 64) g->board.rows[from].low |= UINT64_C(1) << to;
-  else g->board.rows[from].high |= UINT64_C(1) << (to - 64);
+  g->board.rows[from].words[to / 64] |= UINT64_C(1) << to % 64;
 }
 
 void gather_begin(struct gatherer *g) {
@@ -41,7 +40,7 @@ void gather_shard(struct gatherer *g, unsigned shard) {
 
 /* Its wait is taken back where it waits; it is told there, and its coordinator aborts it. */
 static void condemn(struct gatherer *g, uint32_t slot) {
-  static const bs_slots none = { 0, 0 };
+  static const bs_slots none = { { 0 } };
   char reply[LINE];
   unsigned shard;
   bool waited = false;

@@ -70,7 +70,7 @@ static uint64_t show_phantom(struct wanting *first, struct wanting *second) {
   give_up(first, &g);
   want(second, RIGHT, &looking);
   gather_shard(&g, shard_of(RIGHT));
-  if (g.count != 2 || bs_suspects(&g.board).slots.low != 3) fail("no phantom is shown");
+  if (g.count != 2 || bs_suspects(&g.board).slots.words[0] != 3) fail("no phantom is shown");
   gather_end_cycles(&g);
   client_end(&g.client);
   client_end(&looking.client);

@@ -71,7 +71,7 @@ static size_t settle_all(bs_manager *m, const bs_board *board) {
   size_t fallen = 0;
   uint32_t slot;
   for (slot = 0; slot < BS_SLOTS; slot++) {
-    bs_txn suspect = { (uint8_t)slot, board->ages[slot] };
+    bs_txn suspect = { slot, board->ages[slot] };
     bs_status status;
     if (!bs_has(suspects, slot)) continue;
     status = bs_settle(m, suspect, &told).status;

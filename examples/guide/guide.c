@@ -56,7 +56,8 @@ bool same_node(bs_node a, bs_node b) {
 }
 
 bool is_empty(bs_slots slots) {
-  return slots.low == 0 && slots.high == 0;
+  static const bs_slots none = { { 0 } };
+  return memcmp(&slots, &none, sizeof slots) == 0;
 }
 
 /* Marsaglia's xorshift. */

@@ -23,7 +23,7 @@ static bs_txn with_fewest_rows(struct policy *p, const bs_board *board, bs_slots
   bs_txn fewest = { 0, 0 };
   uint32_t slot;
   for (slot = 0; slot < BS_SLOTS; slot++) {
-    bs_txn txn = { (uint8_t)slot, board->ages[slot] };
+    bs_txn txn = { slot, board->ages[slot] };
     if (!bs_has(cycle, slot)) continue;
     if (fewest.age == 0 || rows_held(p, txn) < rows_held(p, fewest)) fewest = txn;
   }

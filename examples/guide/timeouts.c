@@ -45,7 +45,7 @@ static void end_old_waits(struct patrol *p) {
   uint32_t slot;
   DONE(bs_read_board(m, &board));
   for (slot = 0; slot < BS_SLOTS; slot++) {
-    bs_txn txn = { (uint8_t)slot, board.ages[slot] };
+    bs_txn txn = { slot, board.ages[slot] };
     if (bs_waiting(m, txn).status != BS_WAITING) continue;
     if (now() - p->asked_at[slot] >= LIMIT) take_back(p, txn);
   }

@@ -22,7 +22,7 @@ static void settle_suspects(struct store *s, const bs_board *board) {
   bs_slots suspects = bs_suspects(board).slots;
   uint32_t slot;
   for (slot = 0; slot < BS_SLOTS; slot++) {
-    bs_txn suspect = { (uint8_t)slot, board->ages[slot] };
+    bs_txn suspect = { slot, board->ages[slot] };
     bs_reply reply;
     if (!bs_has(suspects, slot)) continue;
     store_latch(s);

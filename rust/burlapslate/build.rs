@@ -5,6 +5,8 @@
 //! - the installation that `pkg-config` knows, of this crate's version;
 //! - the repository, where the crate stands in it: `tools/c_library.sh` builds the library where it is
 //!   missing or old.
+//!
+//! How many slots it has says `BURLAPSLATE_SLOTS`, or else the header that stands with it.
 
 use std::env;
 use std::ffi::OsString;
@@ -14,6 +16,10 @@ use std::process::{Command, Stdio};
 
 const ARCHIVES: &str = "BURLAPSLATE_LIBS";
 const FOLDER: &str = "BURLAPSLATE_DIR";
+const SLOTS: &str = "BURLAPSLATE_SLOTS";
+
+/// Where the header of an archive stands, below some folder above it.
+const HEADER: &str = "include/burlapslate.h";
 
 /// What `tools/install.sh` calls the archive.
 const INSTALLED: &str = "libburlapslate.a";
@@ -33,6 +39,35 @@ fn main() {
     for archive in &archives {
         link(archive);
     }
+    println!("cargo:rustc-env={SLOTS}={}", slots(&archives));
+}
+
+/// How many slots the library has: by the word of the environment, or else by its header; 128 where nothing says it.
+fn slots(archives: &[PathBuf]) -> String {
+    let named = word(SLOTS).map(|slots| slots.into_string().expect("a number is not UTF-8"));
+    let header = || archives.iter().find_map(|archive| header_of(archive));
+    named
+        .or_else(|| header().map(|header| said_by(&header)))
+        .unwrap_or_else(|| "128".to_string())
+}
+
+/// The header that goes with an archive: in the folder nearest above it that has one.
+fn header_of(archive: &Path) -> Option<PathBuf> {
+    let place = fs::canonicalize(archive).ok()?;
+    let headers = place.ancestors().map(|folder| folder.join(HEADER));
+    headers.into_iter().find(|header| header.is_file())
+}
+
+/// The number that a header has for `BS_SLOTS`.
+fn said_by(header: &Path) -> String {
+    println!("cargo:rerun-if-changed={}", header.display());
+    let text = fs::read_to_string(header)
+        .unwrap_or_else(|error| panic!("{} cannot be read: {error}", header.display()));
+    let mut lines = text.lines();
+    lines
+        .find_map(|line| line.strip_prefix("#define BS_SLOTS "))
+        .unwrap_or_else(|| panic!("{} says no BS_SLOTS", header.display()))
+        .to_string()
 }
 
 /// A word of the environment, where it is set and not empty.

@@ -620,7 +620,7 @@ static void audit_one(bs_manager *m, bs_txn txn, const bs_board *board) {
     WANT(times_in_queue(m, txn, row.node) == (waits ? 1 : 0));
   }
   WANT(bs_lock_count(m, txn).count == place);
-  WANT(behind.low == board->rows[txn.slot].low && behind.high == board->rows[txn.slot].high);
+  WANT(same_slots(behind, board->rows[txn.slot]));
 }
 
 /* All listings, of one moment. */
@@ -732,12 +732,13 @@ static void *look_on(void *arg) {
   memset(&board, 0, sizeof board);
   DONE(bs_table_watch(&table, &watcher));
   while (goes_on()) {
+    static const bs_slots none = { { 0 } };
     bs_slots suspects;
     DONE(bs_table_look(&watcher, &board));
     WANT(board.epoch >= epoch && is_sound(&board));
     epoch = board.epoch;
     suspects = bs_suspects(&board).slots;
-    WANT(!l->is_at_block || (suspects.low == 0 && suspects.high == 0));
+    WANT(!l->is_at_block || same_slots(suspects, none));
     l->looks++;
   }
   DONE(bs_table_watch_end(&watcher));

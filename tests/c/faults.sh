@@ -33,8 +33,8 @@ late-forgets-to-wake	s/  bs_table_wake(in, reply.status, &in->told, true);//
 path-ends-above	s/ && (reply.status != BS_DONE || path.is_last)) return reply;/) return reply;/
 nobody-is-named	s/by_name || told->count/told->count/
 nobody-is-told	s/by_name || told->count > 0/by_name/
-first-half-sleeps-on	s/  bs_table_wake_half(in, ended.low, 0);//
-second-half-sleeps-on	s/  bs_table_wake_half(in, ended.high, 64);//
+first-word-sleeps-on	s/    for (i = 0; i < BS_SLOTS \/ 64; i++) bs_table_wake_word/    for (i = 1; i < BS_SLOTS \/ 64; i++) bs_table_wake_word/
+words-but-the-first-sleep-on	s/    for (i = 0; i < BS_SLOTS \/ 64; i++) bs_table_wake_word/    for (i = 0; i < 1; i++) bs_table_wake_word/
 watch-is-not-woken	s/    pthread_cond_signal(&in->began);//
 watch-forgets-to-wake	s/  bs_table_wake(in, \(bs_settle(.*)\).status, &in->told, false);/  \1;/
 path-forgets-a-cancel	s/  path->is_cancelled = true;//
@@ -47,7 +47,7 @@ watch-takes-signals	s/  pthread_sigmask(SIG_SETMASK, &blocked, &before);/  pthre
 watch-forgets-what-it-saw	s/    seen = board.epoch;/    seen = 0;/
 watch-sees-one-deadlock	s/  while (youngest.status == BS_DONE) {/  if (youngest.status == BS_DONE) {/
 watch-does-not-rest	s/    bs_table_rest(table, in, in->pace);//
-end-leaves-sleepers	s/  bs_table_wake_half(in, UINT64_MAX, 0);//
+end-leaves-sleepers	s/  for (slot = 0; slot < BS_SLOTS; slot++) pthread_cond_broadcast(.*//
 end-leaves-the-watch	s/  pthread_cond_broadcast(&in->began);//
 end-leaves-the-rest	s/  pthread_cond_broadcast(&in->over);//
 end-does-not-wait	s/  while (in->sleepers > 0) .*//

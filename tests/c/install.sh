@@ -1,13 +1,19 @@
 #!/usr/bin/env bash
 # install.sh: installs the library into a temporary folder, compiles the first program of README.md with what
 # pkg-config says, and runs it; also where the compiler keeps to ISO C, which without these words is refused by the
-# header. Ends with status 1 where something is not as wanted. Where there is no pkg-config it says so, compiles with
-# the same words of its own, and ends with status 77: not tried to its end. CC names another compiler than cc.
+# header. A number of slots that no library has is refused. Ends with status 1 where something is not as wanted. Where
+# there is no pkg-config it says so, compiles with the same words of its own, and ends with status 77: not tried to its
+# end. CC names another compiler than cc.
 set -uo pipefail
 top=$(cd "$(dirname "$0")/../.." && pwd) || exit 2
 work=$(mktemp -d) || exit 2
 trap 'rm -rf "$work"' EXIT
-"$top/tools/install.sh" "$work/there" || exit 1
+"$top/tools/install.sh" "$work/there" --slots 128 || exit 1
+if "$top/tools/install.sh" --slots 256 "$work/other" 2>"$work/log" || [ -e "$work/other" ] ||
+  ! grep -q '128 slots or 1024, and not 256' "$work/log"; then
+  echo "tests/c: a library of 256 slots is not refused" >&2
+  exit 1
+fi
 awk '$0 == "```c" { inside = 1; next } inside && $0 == "```" { exit } inside' "$top/README.md" >"$work/first.c"
 [ -s "$work/first.c" ] || { echo "tests/c: no program in README.md" >&2; exit 1; }
 words="-I$work/there/include -D_DEFAULT_SOURCE -pthread -L$work/there/lib -lburlapslate"

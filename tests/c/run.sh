@@ -1,10 +1,19 @@
 #!/usr/bin/env bash
-# run.sh: compiles the stories over the C library, and runs them. Prints a line for each story, of one thread and of a
-# shared table, and for each setting of a crowd. Then it plants four faults in the header of the shared table, which the
-# stories must find. Ends with status 1 where something is not as wanted; where there is no C compiler it says so, and
-# ends with status 77: not tried. CC names another compiler than cc.
+# run.sh [--slots N]: compiles the stories over the C library, and runs them. Prints a line for each story, of one thread
+# and of a shared table, and for each setting of a crowd. A program with the headers of another library is refused. Then it
+# plants four faults in the header of the shared table, which the stories must find. Ends with status 1 where something is
+# not as wanted; where there is no C compiler it says so, and ends with status 77: not tried. CC names another compiler
+# than cc. N is the number of slots of the library, 128 or 1024 (tools/c_library.sh); faults are planted for 128 alone.
 set -uo pipefail
 top=$(cd "$(dirname "$0")/../.." && pwd) || exit 2
+slots=128 headers=$top/include
+if [ "${1:-}" = --slots ] && [ $# -eq 2 ]; then
+  slots=$2
+  [ "$slots" = 128 ] || headers=$top/out/slots-$slots/include
+elif [ $# -ne 0 ]; then
+  sed -n '2,6s/^# //p' "$0" >&2
+  exit 2
+fi
 compiler=${CC:-cc}
 if ! command -v "${compiler%% *}" >/dev/null; then
   echo "tests/c: not tried: there is no C compiler $compiler"
@@ -13,13 +22,13 @@ fi
 work=$(mktemp -d) || exit 2
 trap 'rm -rf "$work"' EXIT
 
-mapfile -t libraries < <("$top/tools/c_library.sh" 2>"$work/log")
+mapfile -t libraries < <("$top/tools/c_library.sh" --slots "$slots" 2>"$work/log")
 [ "${#libraries[@]}" -eq 2 ] || { cat "$work/log" >&2; exit 1; }
 
 # compile PROGRAM WORD..: from the source of its name in this folder.
 compile() {
   # shellcheck disable=SC2086 # CC may have words behind the name.
-  $compiler -std=c99 -D_POSIX_C_SOURCE=200809L -pthread -Wall -Wextra -Werror -O1 -I"$top/include" -o "$work/$1" \
+  $compiler -std=c99 -D_POSIX_C_SOURCE=200809L -pthread -Wall -Wextra -Werror -O1 -I"$headers" -o "$work/$1" \
     "$top/tests/c/$1.c" "${libraries[@]}" "${@:2}"
 }
 
@@ -41,5 +50,14 @@ compile shared -Wl,--wrap=malloc,--wrap=realloc,--wrap=free || exit 1
 timeout 60 "$work/shared" || exit 1
 compile crowd || exit 1
 timeout 100 "$work/crowd" 2>"$work/log" || { cat "$work/log" >&2; exit 1; }
+headers=$work/other other=1024
+[ "$slots" = 128 ] || other=128
+mkdir "$headers" || exit 1
+for name in burlapslate{,_shared}.h; do
+  sed "s/^#define BS_SLOTS .*/#define BS_SLOTS $other/" "$top/include/$name" >"$headers/$name" || exit 1
+done
+compile other_slots || exit 1
+timeout 60 "$work/other_slots" || exit 1
+[ "$slots" = 128 ] || exit 0
 "$top/tests/c/faults.sh" commit-forgets-to-wake early-return row-is-not-asked-again begin-passes-the-line \
   "${libraries[@]}" || exit 1

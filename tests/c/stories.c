@@ -30,6 +30,15 @@ static bool same_txn(bs_txn a, bs_txn b) {
   return a.slot == b.slot && a.age == b.age;
 }
 
+static bool same_slots(bs_slots a, bs_slots b) {
+  return memcmp(&a, &b, sizeof a) == 0;
+}
+
+static bool is_empty(bs_slots slots) {
+  static const bs_slots none = { { 0 } };
+  return same_slots(slots, none);
+}
+
 /* A call must be done. */
 static bs_reply done(bs_reply reply, int line) {
   if (reply.status != BS_DONE) fprintf(stderr, "answered: %s\n", bs_text(reply.status));
@@ -767,7 +776,7 @@ static void questions(void) {
 
 static void stale_names(void) {
   bs_node nothing = { 0, 0 }, made_up = { (size_t)-1, UINT64_MAX };
-  bs_txn nobody = { 0, 0 }, beyond = { 255, 1 };
+  bs_txn nobody = { 0, 0 }, beyond = { BS_SLOTS, 1 };
   bs_manager m = BS_NO_MANAGER_HERE;
   bs_node root = begin_manager(&m, BS_AT_BLOCK);
   bs_txn a = begin(&m), b;
@@ -786,6 +795,63 @@ static void stale_names(void) {
   DONE(bs_end(&m));
 }
 
+/* A name with a slot that is none, beside a transaction that has its age: each call with it is refused as one with the
+ * name of a transaction that has ended, in the same order among the refusals, and nothing changes. */
+static void no_transaction_by(bs_manager *m, bs_txn none, const struct file *f) {
+  const uint64_t key = 1;
+  bs_node nothing = { 0, 0 };
+  WANT(bs_lock(m, none, f->low, 6, &told).status == BS_BAD_NUMBER);
+  WANT(bs_lock(m, none, nothing, BS_X, &told).status == BS_NO_SUCH_TXN);
+  WANT(bs_lock_path(m, none, nothing, BS_X, &told).status == BS_NO_SUCH_TXN);
+  WANT(bs_try(m, none, nothing, BS_X).status == BS_NO_SUCH_TXN);
+  WANT(bs_unlock(m, none, nothing, &told).status == BS_NO_SUCH_TXN);
+  WANT(bs_escalate(m, none, nothing, &told).status == BS_NO_SUCH_TXN);
+  WANT(bs_cancel(m, none, &told).status == BS_NO_SUCH_TXN && bs_settle(m, none, &told).status == BS_NO_SUCH_TXN);
+  WANT(bs_commit(m, none, &told).status == BS_NO_SUCH_TXN && bs_abort(m, none, &told).status == BS_NO_SUCH_TXN);
+  WANT(bs_insert(m, none, f->file, &key, 1).status == BS_NO_SUCH_TXN);
+  WANT(bs_delete(m, none, f->low, &told).status == BS_NO_SUCH_TXN);
+  WANT(bs_rekey(m, none, f->low, f->index, 7, &told).status == BS_NO_SUCH_TXN);
+  WANT(bs_move(m, none, f->index, &f->root, 1, &told).status == BS_NO_SUCH_TXN);
+  WANT(bs_commit_rows(m, none, &told).status == BS_NO_SUCH_TXN);
+  WANT(bs_abort_rows(m, none, &told).status == BS_NO_SUCH_TXN);
+  WANT(bs_cancel_rows(m, none, &told).status == BS_NO_SUCH_TXN);
+  WANT(bs_escalate_rows(m, none, f->file, &told).status == BS_NO_SUCH_TXN);
+  WANT(bs_verdict(m, none, f->low, BS_X).status == BS_NO_SUCH_TXN);
+  WANT(bs_held(m, none, f->low).status == BS_NO_SUCH_TXN && bs_effective(m, none, f->low).status == BS_NO_SUCH_TXN);
+  WANT(bs_waiting(m, none).status == BS_NOT_WAITING && bs_children(m, none, f->file).status == BS_NOT_HELD);
+  WANT(bs_doing(m, none).status == BS_NO_SUCH_TXN && bs_lock_count(m, none).status == BS_NO_SUCH_TXN);
+  WANT(bs_lock_at(m, none, 0).status == BS_NO_PLACE && bs_waits_for(m, none).status == BS_NO_SUCH_TXN);
+}
+
+/* The same of calls about rows. */
+static void no_row_by(bs_manager *m, bs_txn none, const struct file *f) {
+  const uint64_t key = 50;
+  WANT(bs_lock_row(m, none, f->file, 7, &key, 1, BS_X, &told).status == BS_NO_SUCH_TXN);
+  WANT(bs_unlock_row(m, none, f->file, 7, &told).status == BS_NO_SUCH_TXN);
+  WANT(bs_rekey_row(m, none, f->file, 7, f->index, 60, &told).status == BS_NO_SUCH_TXN);
+}
+
+static void slots_that_are_none(void) {
+  static const uint32_t beyond[] = { BS_SLOTS, 2 * BS_SLOTS, 256 * BS_SLOTS, 65536 * BS_SLOTS, (uint32_t)1 << 31 };
+  bs_manager m = BS_NO_MANAGER_HERE;
+  bs_node root = begin_manager(&m, BS_AT_BLOCK);
+  struct file f = make_file(&m, root), rows = make_row_file(&m, root);
+  bs_txn a = begin(&m), none = a;
+  uint64_t before;
+  size_t i;
+  DONE(bs_lock_path(&m, a, f.low, BS_X, &told));
+  before = bs_accepted(&m).count;
+  for (i = 0; i < sizeof beyond / sizeof beyond[0]; i++) {
+    none.slot = beyond[i] + a.slot;
+    no_transaction_by(&m, none, &f);
+    no_row_by(&m, none, &rows);
+    WANT(bs_living(&m, none.slot).status == BS_BAD_NUMBER);
+    WANT(bs_mode_at(&m, none.slot, f.low).status == BS_BAD_NUMBER);
+  }
+  WANT(bs_accepted(&m).count == before && bs_held(&m, a, f.low).mode == BS_X);
+  DONE(bs_end(&m));
+}
+
 static void numbers_out_of_range(void) {
   bs_node many[9] = { { 0, 0 }, { 0, 0 }, { 0, 0 }, { 0, 0 }, { 0, 0 }, { 0, 0 }, { 0, 0 }, { 0, 0 }, { 0, 0 } };
   bs_manager none = BS_NO_MANAGER_HERE;
@@ -794,7 +860,7 @@ static void numbers_out_of_range(void) {
   bs_txn a = begin(&m);
   WANT(bs_make(&none, 2, 1).status == BS_BAD_NUMBER);
   WANT(bs_make(&none, BS_AT_BLOCK, 0).status == BS_BAD_NUMBER);
-  WANT(bs_make(&none, BS_AT_BLOCK, 129).status == BS_BAD_NUMBER);
+  WANT(bs_make(&none, BS_AT_BLOCK, BS_SLOTS + 1).status == BS_BAD_NUMBER);
   WANT(bs_lock(&m, a, root, 6, &told).status == BS_BAD_NUMBER);
   WANT(bs_try(&m, a, root, UINT32_MAX).status == BS_BAD_NUMBER);
   WANT(bs_lock(&m, a, root, BS_NL, &told).status == BS_BAD_MODE);
@@ -826,7 +892,7 @@ static void options_are_taken(void) {
   WANT(bs_most_nodes(&m).count == 65536 && bs_most(&m).count == 2);
   DONE(bs_end(&m));
   DONE(bs_make_with(&usual, NULL));
-  WANT(bs_most_nodes(&usual).count == 65536 && bs_most(&usual).count == 128);
+  WANT(bs_most_nodes(&usual).count == 65536 && bs_most(&usual).count == BS_SLOTS);
   WANT(bs_make_with(NULL, NULL).status == BS_NULL_POINTER && bs_limits(&usual, NULL).status == BS_NULL_POINTER);
   DONE(bs_end(&usual));
 }
@@ -1145,9 +1211,9 @@ static void a_board_shows_a_cycle(void) {
   bs_reply youngest;
   uint32_t slot;
   DONE(bs_read_board(&m, &board));
-  WANT(board.epoch == 4 && board.ages[a.slot] == a.age && board.ages[127] == 0);
+  WANT(board.epoch == 4 && board.ages[a.slot] == a.age && board.ages[BS_SLOTS - 1] == 0);
   found = bs_suspects(&board);
-  WANT(found.status == BS_DONE && found.slots.low == 0 && found.slots.high == 0);
+  WANT(found.status == BS_DONE && is_empty(found.slots));
   WANT(bs_youngest(&board, found.slots).status == BS_NO_PLACE);
   DONE(bs_lock(&m, a, root, BS_S, &told));
   DONE(bs_lock(&m, b, root, BS_S, &told));
@@ -1158,16 +1224,17 @@ static void a_board_shows_a_cycle(void) {
   DONE(bs_read_board(&m, &board));
   WANT(bs_has(board.rows[a.slot], b.slot) && bs_has(board.rows[c.slot], a.slot));
   found = bs_on_cycle(&board, a.slot);
-  for (slot = 0; slot < 200; slot++) WANT(bs_has(found.slots, slot) == (slot == a.slot || slot == b.slot));
-  WANT(bs_on_cycle(&board, c.slot).slots.low == 0);
-  WANT(bs_suspects(&board).slots.low == found.slots.low && bs_suspects(&board).slots.high == 0);
+  for (slot = 0; slot < BS_SLOTS + 72; slot++) WANT(bs_has(found.slots, slot) == (slot == a.slot || slot == b.slot));
+  WANT(is_empty(bs_on_cycle(&board, c.slot).slots));
+  WANT(same_slots(bs_suspects(&board).slots, found.slots));
   youngest = DONE(bs_youngest(&board, found.slots));
   WANT(youngest.count == b.slot);
-  victim.slot = (uint8_t)youngest.count;
+  victim.slot = (uint32_t)youngest.count;
   victim.age = board.ages[youngest.count];
   DONE(bs_settle(&m, victim, &told));
   WANT(told.count == 1 && is_told(0, b, BS_TOLD_VICTIM));
-  WANT(bs_on_cycle(&board, 128).status == BS_BAD_NUMBER);
+  WANT(bs_on_cycle(&board, BS_SLOTS).status == BS_BAD_NUMBER);
+  WANT(bs_on_cycle(&board, 256 * BS_SLOTS + a.slot).status == BS_BAD_NUMBER);
   WANT(bs_on_cycle(NULL, 0).status == BS_NULL_POINTER && bs_suspects(NULL).status == BS_NULL_POINTER);
   WANT(bs_youngest(NULL, found.slots).status == BS_NULL_POINTER);
   WANT(bs_read_board(&m, NULL).status == BS_NULL_POINTER);
@@ -1175,7 +1242,14 @@ static void a_board_shows_a_cycle(void) {
   WANT(bs_read_board(&m, &board).status == BS_NO_MANAGER);
 }
 
-/* A board is read whole: in a ring of 128 each waits for the next, beyond the first 64 too. */
+/* The set has this slot alone, and each slot its own bit. */
+static void has_one(bs_slots set, size_t slot) {
+  size_t i;
+  for (i = 0; i < BS_SLOTS; i++) WANT(bs_has(set, (uint32_t)i) == (i == slot));
+  for (i = 0; i < BS_SLOTS / 64; i++) WANT(set.words[i] == (i == slot / 64 ? (uint64_t)1 << slot % 64 : 0));
+}
+
+/* A board is read whole: in a ring of all slots each waits for the next, beyond the first 64 too. */
 static void a_ring_of_all(void) {
   static bs_board board;
   bs_node nodes[BS_SLOTS];
@@ -1192,9 +1266,10 @@ static void a_ring_of_all(void) {
   for (i = 0; i < BS_SLOTS; i++) WANT(bs_lock(&m, all[i], nodes[(i + 1) % BS_SLOTS], BS_X, &told).status == BS_WAITING);
   DONE(bs_read_board(&m, &board));
   found = bs_suspects(&board);
-  WANT(found.slots.low == UINT64_MAX && found.slots.high == UINT64_MAX);
-  WANT(bs_has(board.rows[100], 101) && !bs_has(board.rows[100], 37) && bs_has(board.rows[127], 0));
-  WANT(bs_youngest(&board, found.slots).count == all[127].slot);
+  for (i = 0; i < BS_SLOTS / 64; i++) WANT(found.slots.words[i] == UINT64_MAX);
+  for (i = 0; i < BS_SLOTS; i++) has_one(board.rows[i], (i + 1) % BS_SLOTS);
+  WANT(bs_youngest(&board, found.slots).count == all[BS_SLOTS - 1].slot);
+  for (i = 0; i < BS_SLOTS; i++) WANT(bs_youngest(&board, board.rows[i]).count == (i + 1) % BS_SLOTS);
   DONE(bs_end(&m));
 }
 
@@ -1242,6 +1317,7 @@ int main(void) {
   TELL(a_file_moves);
   TELL(questions);
   TELL(stale_names);
+  TELL(slots_that_are_none);
   TELL(numbers_out_of_range);
   TELL(options_are_taken);
   TELL(bounds_are_chosen_for_themselves);

@@ -87,4 +87,8 @@ static bool same_txn(bs_txn a, bs_txn b) {
   return a.slot == b.slot && a.age == b.age;
 }
 
+static bool same_slots(bs_slots a, bs_slots b) {
+  return memcmp(&a, &b, sizeof a) == 0;
+}
+
 #endif

@@ -1,4 +1,4 @@
-pub mod Halves
+pub mod BoardRows
 mod ListedRows
 mod Opening
 mod Paths

@@ -1,9 +1,10 @@
 -- Boards in C's memory, and what is found on them.
 use Rattle.gl_slots.specs.Limit.{most_slots}
-use Rattle.std.specs.Prelude.{◌≡◌, ℕ, ◌+◌, ◌*◌, ◌/◌, ◌%◌, ◌^◌, ◌<◌, ◌≤◌, ◌↔◌, IsTrue, Option, Some, None, map}
+use Rattle.std.specs.Prelude.{◌≡◌, ℕ, ◌<◌, ◌≤◌, ◌↔◌, IsTrue, Option, Some, None, map}
 use Rattle.gl_waits.specs.declared.board.Board.{Board as TheBoard}
 use Rattle.gl_waits.specs.Boards.{age_in, board_edge}
-use Rattle.gl_slots.specs.Slots.{Bits, HasNoBit, has_bit}
+use Rattle.gl_slots.specs.Slots.{Bits, HasNoBit, bits_of, has_bit, no_bits, words_of}
+use Rattle.gl_slots.specs.Words.{in_words}
 use Rattle.gl_waits.specs.Waits.{IsLowestYoungest, IsOnCycle, IsOnCycleOf}
 use Rattle.gl_table.specs.Table.{board_of}
 use Rattle.gl_catalog.specs.Manager.{state_of}
@@ -16,12 +17,13 @@ use Rattle.gl_c.specs.Guarded.{GuardedView}
 use Rattle.gl_c.specs.Numbers.{bad_number, done, no_manager, no_place}
 use Rattle.gl_c.specs.Replies.{count_reply, status_reply}
 
--- a set of slots as one number, and back
+-- a set of slots, as boards show it: bit s mod 64 of word s div 64 stands for slot s
 abbrev pub set_of : Slots → Bits
-set_of s = 2 ^ 64 * s.high + s.low
+set_of s = bits_of (in_words s.words)
 
+-- and back
 abbrev pub slots_of : Bits → Slots
-slots_of n = record { low = n % 2 ^ 64; high = n / 2 ^ 64 }
+slots_of set = record { words = words_of (has_bit set) }
 
 -- what a board in C's memory says
 abbrev pub board_in : Board → TheBoard
@@ -35,7 +37,7 @@ Shows (Some g) r board board' s' = (r ≡ status_reply done) × (board_in board'
 -- the slots on a cycle with a slot of the board; a greater number is refused
 pub record FindsCycle (b : Board) (slot : ℕ) (f : Found) : Type 0 where
   pub known : slot < most_slots → (f.status ≡ done) × ((u : ℕ) → IsTrue (has_bit (set_of f.slots) u) ↔ IsOnCycleOf (board_edge (board_in b)) slot u)
-  pub other : most_slots ≤ slot → (f.status ≡ bad_number) × (set_of f.slots ≡ 0)
+  pub other : most_slots ≤ slot → (f.status ≡ bad_number) × (f.slots ≡ slots_of no_bits)
 
 -- the slots that are on some cycle
 pub record FindsSuspects (b : Board) (f : Found) : Type 0 where

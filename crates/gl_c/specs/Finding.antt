@@ -2,7 +2,7 @@
 use Rattle.std.specs.Prelude.{◌≡◌, ℕ, Bool, Option, Some, None}
 use Rattle.gl_modes.specs.declared.refusal.Refusal.{Refusal}
 use Rattle.gl_modes.specs.Refusals.{refusal_number}
-use Rattle.gl_slots.specs.Slots.{has_bit, has_slot}
+use Rattle.gl_slots.specs.Slots.{has_bit, has_slot, no_bits}
 use Rattle.gl_model.specs.State.{State}
 use Rattle.gl_catalog.specs.Manager.{state_of}
 use Rattle.gl_c.specs.declared.found.Found.{Found}
@@ -12,7 +12,7 @@ use Rattle.gl_c.specs.Numbers.{done, no_manager}
 
 -- a status with no slots
 abbrev pub none_found : ℕ → Found
-none_found status = record { status = status; slots = slots_of 0 }
+none_found status = record { status = status; slots = slots_of no_bits }
 
 -- a call that asks whose wait the last accepted command may have ended: nothing changes
 abbrev pub FindsEnded : Option GuardedView → Found → Option GuardedView → Type 0

@@ -1,7 +1,7 @@
 -- Managers come and go.
 use Rattle.gl_slots.specs.Slots.{no_slots}
 use Rattle.gl_slots.specs.Limit.{most_slots}
-use Rattle.std.specs.Prelude.{◌≡◌, ◌⊎◌, ℕ, Bool, false, ◌&&◌, ◌==◌, Option, Some, None, if◌then◌else◌, nat_lt, replicate}
+use Rattle.std.specs.Prelude.{◌≡◌, ◌⊎◌, ℕ, ◌+◌, Bool, false, ◌&&◌, ◌==◌, Option, Some, None, if◌then◌else◌, nat_lt, replicate}
 use Rattle.gl_modes.specs.declared.node.NodeId.{NodeId}
 use Rattle.gl_modes.specs.declared.refusal.Refusal.TheVariants as no
 use Rattle.gl_model.specs.declared.answers.Detect.{Detect}
@@ -22,7 +22,7 @@ can_be_limit number = nat_lt 0 number && nat_lt number 2147483649
 
 -- so many transactions and nodes can be had at once, and an index can have so many bounds
 abbrev pub can_have : ℕ → ℕ → ℕ → Bool
-can_have most nodes bounds = (nat_lt 0 most && nat_lt most 129) && (can_be_limit nodes && can_be_limit bounds)
+can_have most nodes bounds = (nat_lt 0 most && nat_lt most (most_slots + 1)) && (can_be_limit nodes && can_be_limit bounds)
 
 -- a manager without nodes and transactions, with empty boxes, that no watcher was shown, and no file of rows, and no row named or asked for
 pub record IsNew (detect : Detect) (victims : Victims) (most nodes bounds : ℕ) (g : GuardedView) : Type 0 where

@@ -1,35 +1,31 @@
 //! Boards in C's memory.
 
-ghost use Rattle.std.specs.Prelude.{◌≡◌, ◌^◌, ◌<◌, ℕ, get_or};
+ghost use Rattle.std.specs.Prelude.{◌≡◌};
 ghost use Rattle.gl_c.specs.Boards.{board_in, set_of, slots_of};
 
-use gl_slots::{Bits, NO_BITS, SLOTS};
+use gl_slots::{Bits, NO_BITS, SLOTS, WORDS, from_words, to_words};
 
-/// The first number that is not below 64 bits.
-const HALF: Bits = 1 << 64;
-
-/// A set of slots: bit `s` of `low` stands for slot `s`, that of `high` for slot 64 + `s`.
+/// A set of slots: bit `s % 64` of word `s / 64` stands for slot `s`.
 #[repr(C)]
 #[derive(Clone, Copy)]
 pub struct Slots {
-    pub low: u64,
-    pub high: u64,
+    pub words: [u64; WORDS],
 }
 
 impl Slots {
     pub(crate) fn of(set: Bits) -> Slots
-        ensures { result ≡ slots_of set }
+        ensures is { result ≡ slots_of set }
+        ensures back { set_of result ≡ set }
     {
         Slots {
-            low: (set % HALF) as u64,
-            high: (set / HALF) as u64,
+            words: to_words(set),
         }
     }
 
     pub(crate) fn set(self) -> Bits
         ensures { result ≡ set_of self }
     {
-        HALF * Bits::from(self.high) + Bits::from(self.low)
+        from_words(self.words)
     }
 }
 
@@ -47,7 +43,7 @@ pub struct Board {
 
 impl Board {
     /// Says what this board says.
-    #[tactic(auto, using(crate::proofs::Halves::put_more, crate::proofs::Halves::put_all))]
+    #[tactic(auto, using(crate::proofs::BoardRows::put_more, crate::proofs::BoardRows::put_all))]
     pub(crate) fn put(&mut self, board: &gl_waits::Board)
         ensures { board_in self.new ≡ board.now }
     {
@@ -59,7 +55,7 @@ impl Board {
     }
 
     /// What it says.
-    #[tactic(auto, using(crate::proofs::Halves::read_more, crate::proofs::Halves::put_all))]
+    #[tactic(auto, using(crate::proofs::BoardRows::read_more, crate::proofs::BoardRows::put_all))]
     pub(crate) fn read(&self) -> gl_waits::Board
         ensures { result ≡ board_in self.now }
     {

@@ -29,7 +29,6 @@ pub struct Found {
 
 impl Found {
     /// These slots.
-    #[tactic(auto, using(crate::proofs::Halves::set_of_slots))]
     pub(crate) fn of(set: Bits) -> Found
         ensures status { result.status ≡ done }
         ensures slots { set_of result.slots ≡ set }

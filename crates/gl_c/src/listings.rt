@@ -82,7 +82,7 @@ pub extern "C" fn bs_call_lock_count(manager: &mut Handle, txn: Txn) -> Reply
 #[unsafe(no_mangle)]
 pub extern "C" fn bs_call_lock_at(manager: &mut Handle, txn: Txn, place: usize) -> Reply
     ensures row { Looks (guarded_in manager.old) (query.LockAt (txn_id txn) place) result (guarded_in manager.new) }
-    ensures rows { IfSome (guarded_in manager.old) (λ g. AreRowsOf (state_of g.manager) txn.slot (rows_of g.manager.table txn.slot)) }
+    ensures rows { IfSome (guarded_in manager.old) (λ g. AreRowsOf (state_of g.manager) (txn_id txn).slot (rows_of g.manager.table (txn_id txn).slot)) }
 {
     manager.look(Query::LockAt {
         txn: txn.id(),
@@ -134,7 +134,7 @@ pub extern "C" fn bs_call_queue_at(manager: &mut Handle, node: Node, place: usiz
 /// The slots of those for whom a transaction waits.
 #[unsafe(no_mangle)]
 pub extern "C" fn bs_call_waits_for(manager: &mut Handle, txn: Txn) -> Found
-    ensures { FindsIn (guarded_in manager.old) (λ s. first_refusal (living_tests s (txn_id txn))) (λ s u. waits_for s txn.slot u) result (guarded_in manager.new) }
+    ensures { FindsIn (guarded_in manager.old) (λ s. first_refusal (living_tests s (txn_id txn))) (λ s u. waits_for s (txn_id txn).slot u) result (guarded_in manager.new) }
 {
     manager.waits_for(txn.id())
 }

@@ -24,6 +24,14 @@ const USUAL_BOUNDS: u32 = 256;
 /// What the numbers of nodes and of bounds may be at most.
 const GREATEST_LIMIT: u32 = 2_147_483_648;
 
+/// How many slots there are. C's structs have places for so many.
+#[unsafe(no_mangle)]
+pub extern "C" fn bs_call_slots() -> u32
+    ensures { result ≡ most_slots }
+{
+    SLOTS as u32
+}
+
 /// Makes a manager at a place that has none, for `most` transactions at once, 1 to `SLOTS`, with the way
 /// of detection of this number. Of those in a deadlock the youngest falls. It takes memory.
 #[unsafe(no_mangle)]

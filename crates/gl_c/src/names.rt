@@ -1,11 +1,12 @@
 //! The names of nodes and transactions.
 
-ghost use Rattle.std.specs.Prelude.{◌≡◌};
-ghost use Rattle.gl_c.specs.Names.{node_id, node_of, row_at, txn_id, txn_of};
+ghost use Rattle.std.specs.Prelude.{◌≡◌, ◌≤◌};
+ghost use Rattle.gl_slots.specs.Limit.{most_slots};
+ghost use Rattle.gl_c.specs.Names.{NamesNobody, node_id, node_of, row_at, txn_id, txn_of};
 
+use crate::numbers::slot_at;
 use gl_modes::NodeId;
 use gl_registry::Row;
-use gl_slots::Slot;
 use gl_table::TxnId;
 
 /// A node's name. The name of a node that is gone names nothing, whatever was made since; zero in
@@ -47,21 +48,26 @@ impl Node {
     }
 }
 
-/// A transaction's name. The name of one that has ended names nothing; age zero names none.
+/// A transaction's name, as wide for any number of slots. The name of one that has ended names nothing; nor does a
+/// number that is no slot's, and age zero.
 #[repr(C)]
 #[derive(Clone, Copy)]
 pub struct Txn {
-    pub slot: Slot,
+    pub slot: u32,
     pub age: u64,
 }
 
 impl Txn {
     pub(crate) fn id(self) -> TxnId
-        ensures { result ≡ txn_id self }
+        ensures is { result ≡ txn_id self }
+        ensures stale { most_slots ≤ self.slot → NamesNobody result }
     {
-        TxnId {
-            slot: self.slot,
-            age: self.age,
+        match slot_at(self.slot) {
+            Some(slot) => TxnId {
+                slot,
+                age: self.age,
+            },
+            None => TxnId::NONE,
         }
     }
 
@@ -69,7 +75,7 @@ impl Txn {
         ensures { result ≡ txn_of id }
     {
         Txn {
-            slot: id.slot,
+            slot: u32::from(id.slot),
             age: id.age,
         }
     }

@@ -44,8 +44,8 @@ pub extern "C" fn bs_call_suspects(board: &Board) -> Found
 
 /// The youngest of these slots, of equal ages the lowest.
 #[unsafe(no_mangle)]
-pub extern "C" fn bs_call_youngest(board: &Board, slots: Slots) -> Reply
-    ensures { PicksFor board.now slots result }
+pub extern "C" fn bs_call_youngest(board: &Board, slots: &Slots) -> Reply
+    ensures { PicksFor board.now slots.now result }
 {
     match youngest(&board.read(), slots.set()) {
         Some(slot) => Reply::with_count(slot as u64),

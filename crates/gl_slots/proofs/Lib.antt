@@ -1,3 +1,4 @@
 pub mod BitLemmas
 pub mod SlotLemmas
+pub mod WordLemmas
 mod Steps

@@ -6,7 +6,7 @@ use Rattle.std.proofs.lemmas.Bool.Decides.{nat_tests}
 use Rattle.gl_slots.specs.declared.slots.Slots.{Slots}
 use Rattle.gl_slots.specs.Limit.{most_slots}
 use Rattle.gl_slots.specs.Bits.{in_bits, bits_below}
-use Rattle.gl_slots.specs.Slots.{Bits, HasNoSlot, IsLowest, bits_of, has_bit, has_none, has_slot, no_bits, no_slots, slot_limit, slots_of}
+use Rattle.gl_slots.specs.Slots.{HasNoSlot, IsLowest, bits_of, has_bit, has_none, has_slot, no_bits, no_slots, slot_limit, slots_of}
 use Rattle.gl_slots.proofs.BitLemmas.{in_bits-zero, in_bits-above, in_bits-bits_below, bits_below-lt, same_slots as same_numbers}
 
 -- sets with the same slots are one

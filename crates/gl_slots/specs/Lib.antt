@@ -1,3 +1,4 @@
 pub mod Limit
 pub mod Bits
+pub mod Words
 pub mod Slots

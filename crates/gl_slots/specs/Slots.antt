@@ -1,8 +1,9 @@
 -- Sets of slots: which slots are in one.
 use Rattle.std.specs.Prelude.{◌≡◌, ℕ, ◌<◌, ◌==◌, Bool, true, false, List}
 use Rattle.std.specs.List.{filter, range_with_len}
-use Rattle.gl_slots.specs.Limit.{most_slots}
+use Rattle.gl_slots.specs.Limit.{most_slots, most_words}
 use Rattle.gl_slots.specs.Bits.{in_bits, bits_below}
+use Rattle.gl_slots.specs.Words.{words_below}
 use Rattle.gl_slots.specs.declared.slots.Slots.{Slots}
 
 -- the same as most_slots, kept from unfolding so that no proof walks over every slot
@@ -58,3 +59,7 @@ no_bits = 0
 -- how boards show the set of the slots that pass
 unfoldable pub bits_of : (ℕ → Bool) → Bits
 bits_of member = bits_below most_slots member
+
+-- the slots that pass, as words
+unfoldable pub words_of : (ℕ → Bool) → List ℕ
+words_of member = words_below most_words member

@@ -5,4 +5,4 @@
 mod bits;
 mod slots;
 
-pub use slots::{Bits, Iter, NO_BITS, SLOTS, Slot, Slots};
+pub use slots::{Bits, Iter, NO_BITS, SLOTS, Slot, Slots, WORDS, from_words, to_words};

@@ -28,12 +28,17 @@ ghost use Rattle.gl_slots.specs.Slots.{
   no_slots,
   number_of,
   slots_of,
+  words_of,
 };
+ghost use Rattle.gl_slots.specs.Words.{in_words};
 
 use crate::bits::{above, complement, has, lowest, shown, without};
 
 /// How many slots there are, so how many transactions live at once. A slot is a number below this.
 pub const SLOTS: usize = 128;
+
+/// How many words of 64 bits a set has.
+pub const WORDS: usize = SLOTS / 64;
 
 /// A slot.
 pub type Slot = u8;
@@ -43,6 +48,27 @@ pub type Bits = u128;
 
 /// How boards show the set without slots.
 pub const NO_BITS: Bits = 0;
+
+/// The first number that a word does not hold.
+const HALF: Bits = 1 << 64;
+
+/// What a board shows, in words: bit `u % 64` of word `u / 64` stands for slot `u`.
+pub fn to_words(bits: Bits) -> [u64; WORDS]
+    ensures is { result ≡ words_of (has_bit bits) }
+    ensures shows { (u : ℕ) → in_words result u ≡ has_bit bits u }
+    ensures back { bits_of (in_words result) ≡ bits }
+{
+    [(bits % HALF) as u64, (bits / HALF) as u64]
+}
+
+/// What a board shows of the set of these words.
+pub fn from_words(words: [u64; WORDS]) -> Bits
+    ensures is { result ≡ bits_of (in_words words) }
+    ensures shows { (u : ℕ) → has_bit result u ≡ in_words words u }
+{
+    let [low, high] = words;
+    HALF * Bits::from(high) + Bits::from(low)
+}
 
 /// A set of slots.
 #[derive(Clone, Copy, PartialEq, Eq, Debug, Default)]

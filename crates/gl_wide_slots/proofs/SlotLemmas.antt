@@ -1,37 +1,11 @@
 -- The list of a set's slots.
-use Rattle.std.proofs.Common.{
-  ◌≡◌,
-  ◌≢◌,
-  ℕ,
-  zero,
-  suc,
-  ◌+◌,
-  ◌^◌,
-  ◌<◌,
-  ◌≤◌,
-  Bool,
-  true,
-  false,
-  not,
-  ◌&&◌,
-  ◌==◌,
-  [],
-  ◌∷◌,
-  refl,
-  ap,
-  ◌∙◌,
-  ⊎_elim,
-  List,
-  length,
-  get_or,
-  arith,
-}
+use Rattle.std.proofs.Common.{◌≡◌, ◌≢◌, ℕ, zero, suc, ◌+◌, ◌^◌, ◌<◌, ◌≤◌, Bool, true, false, not, ◌&&◌, ◌==◌, [], ◌∷◌, refl, ap, ◌∙◌, ⊎_elim, List, length, get_or, arith}
 use Rattle.std.specs.List.{filter, range_with_len}
 use Rattle.std.proofs.lemmas.Bool.{cases_eq}
 use Rattle.std.proofs.lemmas.Bool.Decides.{nat_tests}
 use Rattle.gl_wide_slots.specs.declared.slots.Slots.{Slots}
 use Rattle.gl_wide_slots.specs.Words.{words_below}
-use Rattle.gl_wide_slots.specs.Slots.{HasNoSlot, IsLowest, bits_of, has_bit, has_none, has_slot, no_bits, no_slots, number_of, slot_limit, slots_of}
+use Rattle.gl_wide_slots.specs.Slots.{HasNoSlot, IsLowest, bits_of, has_bit, has_none, has_slot, no_bits, no_slots, number_of, slot_limit, slots_of, words_of}
 use Rattle.gl_wide_slots.specs.Limit.{most_slots, most_words}
 use Rattle.gl_wide_slots.proofs.WordLemmas.{
   idle-none,
@@ -195,3 +169,8 @@ pub bits_of-is : (s : Slots) → length s.words ≡ most_words → ((w : ℕ) �
 unfolding bits_of
 bits_of-is s all fits =
     ap set_of (words_below-is s.words (has_slot s) (λ w low. fits w (omega arith)) (λ u low. refl) ∙ ap (λ n. words_below n (has_slot s)) all)
+
+-- and so are its words
+pub words_of-is : (s : Slots) → length s.words ≡ most_words → ((w : ℕ) → w < most_words → get_or s.words w 0 < 2 ^ 64) → s.words ≡ words_of (has_slot s)
+unfolding words_of
+words_of-is s all fits = words_below-is s.words (has_slot s) (λ w low. fits w (omega arith)) (λ u low. refl) ∙ ap (λ n. words_below n (has_slot s)) all

@@ -58,3 +58,7 @@ no_bits = no_slots
 -- how boards show the set of the slots that pass
 unfoldable pub bits_of : (ℕ → Bool) → Bits
 bits_of member = record { words = words_below most_words member }
+
+-- the slots that pass, as words
+unfoldable pub words_of : (ℕ → Bool) → List ℕ
+words_of member = words_below most_words member

@@ -28,15 +28,17 @@ ghost use Rattle.gl_wide_slots.specs.Slots.{
   no_slots,
   number_of,
   slots_of,
+  words_of,
 };
+ghost use Rattle.gl_wide_slots.specs.Words.{in_words};
 
 use crate::words::{above, add, clear, first, has, keep, put, turn, words_law};
 
 /// How many slots there are, so how many transactions live at once. A slot is a number below this.
 pub const SLOTS: usize = 1024;
 
-/// How many words a set has.
-pub(crate) const WORDS: usize = SLOTS / 64;
+/// How many words of 64 bits a set has.
+pub const WORDS: usize = SLOTS / 64;
 
 /// A slot.
 pub type Slot = u16;
@@ -46,6 +48,25 @@ pub type Bits = Slots;
 
 /// How boards show the set without slots.
 pub const NO_BITS: Bits = Slots { words: [0; WORDS] };
+
+/// What a board shows, in words: bit `u % 64` of word `u / 64` stands for slot `u`.
+pub fn to_words(bits: Bits) -> [u64; WORDS]
+    ensures is { result ≡ words_of (has_bit bits) }
+    ensures shows { (u : ℕ) → in_words result u ≡ has_bit bits u }
+    ensures back { bits_of (in_words result) ≡ bits }
+{
+    words_law(&bits.words);
+    bits.words
+}
+
+/// What a board shows of the set of these words.
+pub fn from_words(words: [u64; WORDS]) -> Bits
+    ensures is { result ≡ bits_of (in_words words) }
+    ensures shows { (u : ℕ) → has_bit result u ≡ in_words words u }
+{
+    words_law(&words);
+    Slots { words }
+}
 
 /// A set of slots.
 #[derive(Clone, Copy, PartialEq, Eq, Debug, Default)]

@@ -4,7 +4,6 @@ use crate::actor::{Act, Entry, acts};
 use crate::forest::{Forest, add_forest};
 use crate::stage::enact;
 use crate::tally::replays;
-use test_wanted::{allowed, same};
 use gl_catalog::{Answer, Command, Manager};
 use gl_modes::{Mode, NodeId, Refusal};
 use gl_shared::{Naming, Session, Share, Shared, Watcher};
@@ -19,6 +18,7 @@ use std::sync::Wait;
 use std::sync::atomic::{AtomicBool, Ordering};
 use std::test::Fail;
 use std::thread::{Threads, join, map_vec, yield_now};
+use test_wanted::{allowed, same};
 
 /// How many commands each session asks at least, where the environment has no other number.
 const COMMANDS: u32 = 200;

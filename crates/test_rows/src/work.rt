@@ -6,7 +6,6 @@ use crate::act::Act;
 use crate::seen::ALL;
 use crate::site::{KEYS, Line, Site, interval, with_key};
 use crate::twins::Twins;
-use test_wanted::same;
 use gl_catalog::Answer;
 use gl_modes::Mode::{IS, IX, S, SIX, X};
 use gl_modes::{Mode, NodeId, Refusal};
@@ -16,6 +15,7 @@ use rand_pcg::Pcg32;
 use std::alloc::Global;
 use std::process::Abort;
 use std::test::Fail;
+use test_wanted::same;
 
 /// How many rows are worked on.
 const SOUGHT: usize = 6;

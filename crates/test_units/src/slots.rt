@@ -1,7 +1,7 @@
 //! Each call once, at both ends of a set.
 
+use gl_slots::{Slots, from_words, to_words};
 use test_wanted::same;
-use gl_slots::Slots;
 
 #[test]
 fn a_set_has_what_was_put_in(rt: HostRuntime) {
@@ -36,6 +36,8 @@ fn slots_come_from_the_lowest_on(rt: HostRuntime) {
         set.insert(slot);
     }
     same(&rt, Slots::from_bits(1 << 127 | 1 << 64 | 0b10_0001), set);
+    same(&rt, to_words(set.bits()), [0b10_0001, 1 << 63 | 1]);
+    same(&rt, from_words([0b10_0001, 1 << 63 | 1]), set.bits());
     let mut seen = [0; 4];
     let mut count = 0;
     for slot in set.iter() {

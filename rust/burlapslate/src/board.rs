@@ -3,55 +3,70 @@
 use crate::names::Txn;
 use crate::refusal::Refusal;
 use crate::sys;
-use crate::SLOTS;
+use crate::{SLOTS, WORDS};
 use std::fmt;
 use std::iter::FusedIterator;
 
-/// A set of slots, 0 to 127.
+/// A set of slots, each below [`SLOTS`].
 #[repr(C)]
 #[derive(Clone, Copy, PartialEq, Eq, Hash)]
 pub struct Slots {
-    /// Bit s stands for slot s.
-    pub(crate) low: u64,
-    /// Bit s stands for slot 64 + s.
-    pub(crate) high: u64,
+    words: [u64; WORDS],
 }
 
 impl Slots {
     /// The empty set.
-    pub const NONE: Slots = Slots { low: 0, high: 0 };
+    pub const NONE: Slots = Slots { words: [0; WORDS] };
 
-    /// The set of these bits: bit s stands for slot s.
-    pub fn from_bits(bits: u128) -> Slots {
-        Slots {
-            low: bits as u64,
-            high: (bits >> 64) as u64,
-        }
+    /// The set of these words: bit `s % 64` of word `s / 64` stands for slot s.
+    pub const fn from_words(words: [u64; WORDS]) -> Slots {
+        Slots { words }
     }
 
-    /// Its bits: bit s stands for slot s.
-    pub fn bits(self) -> u128 {
-        u128::from(self.high) << 64 | u128::from(self.low)
+    /// Its words: bit `s % 64` of word `s / 64` stands for slot s.
+    pub const fn words(self) -> [u64; WORDS] {
+        self.words
     }
 
     /// Whether it has this slot; any number may be asked after.
     pub fn contains(self, slot: usize) -> bool {
-        slot < SLOTS && self.bits() >> slot & 1 != 0
+        slot < SLOTS && self.words[slot / 64] >> (slot % 64) & 1 != 0
     }
 
     /// How many slots it has.
     pub fn len(self) -> usize {
-        self.bits().count_ones() as usize
+        self.words
+            .iter()
+            .map(|word| word.count_ones() as usize)
+            .sum()
     }
 
     /// Whether it has none.
     pub fn is_empty(self) -> bool {
-        self.bits() == 0
+        self == Slots::NONE
     }
 
     /// Its slots, from the lowest on.
     pub fn iter(self) -> SlotIter {
-        SlotIter { left: self.bits() }
+        SlotIter {
+            left: self,
+            place: 0,
+        }
+    }
+}
+
+/// The set of these slots.
+///
+/// # Panics
+///
+/// Where one is not below [`SLOTS`].
+impl FromIterator<usize> for Slots {
+    fn from_iter<I: IntoIterator<Item = usize>>(slots: I) -> Slots {
+        let mut words = [0; WORDS];
+        for slot in slots {
+            words[slot / 64] |= 1 << (slot % 64);
+        }
+        Slots { words }
     }
 }
 
@@ -73,24 +88,29 @@ impl fmt::Debug for Slots {
 /// The slots of a set, from the lowest on.
 #[derive(Clone, Debug)]
 pub struct SlotIter {
-    /// Their bits.
-    left: u128,
+    left: Slots,
+    /// No word before this one has any.
+    place: usize,
 }
 
 impl Iterator for SlotIter {
     type Item = usize;
 
     fn next(&mut self) -> Option<usize> {
-        if self.left == 0 {
-            return None;
+        while self.place < WORDS {
+            let word = &mut self.left.words[self.place];
+            if *word != 0 {
+                let slot = 64 * self.place + word.trailing_zeros() as usize;
+                *word &= *word - 1;
+                return Some(slot);
+            }
+            self.place += 1;
         }
-        let slot = self.left.trailing_zeros() as usize;
-        self.left &= self.left - 1;
-        Some(slot)
+        None
     }
 
     fn size_hint(&self) -> (usize, Option<usize>) {
-        let left = self.left.count_ones() as usize;
+        let left = self.left.len();
         (left, Some(left))
     }
 }
@@ -102,8 +122,8 @@ impl FusedIterator for SlotIter {}
 /// Who waits for whom at one moment: one transaction waits for another where that one holds what is
 /// in its way, or stands ahead of it in the queue.
 ///
-/// A board is a value of its own, of some three kilobytes, which any thread may read without the
-/// manager and its mutex. It may be older than what is; to settle a suspect of an old board does no
+/// A board is a value of its own, which any thread may read without the manager and its mutex. It is large: some three
+/// kilobytes for 128 slots, 136 for 1,024. It may be older than what is; to settle a suspect of an old board does no
 /// harm.
 ///
 /// ```
@@ -133,6 +153,7 @@ impl Board {
     ///
     /// [`Manager::read_board`]: crate::Manager::read_board
     pub fn new() -> Board {
+        sys::assert_slots();
         Board(sys::Board {
             epoch: 0,
             ages: [0; SLOTS],
@@ -195,7 +216,7 @@ impl Board {
     /// The youngest of these slots, which has the greatest age, of equal ages the lowest; `None`
     /// where there is no slot. It is whom a settle condemns first, of those on a cycle.
     pub fn youngest(&self, slots: Slots) -> Option<usize> {
-        let reply = sys::bs_call_youngest(&self.0, slots);
+        let reply = sys::bs_call_youngest(&self.0, &slots);
         match reply.status {
             sys::DONE => Some(reply.count as usize),
             sys::NO_PLACE => None,
@@ -220,7 +241,7 @@ impl fmt::Debug for Board {
     }
 }
 
-/// The slots that were found: a slot below 128 is never refused.
+/// The slots that were found: a slot below `SLOTS` is never refused.
 fn found(found: sys::Found) -> Slots {
     assert_eq!(found.status, sys::DONE, "a question to a board was refused");
     found.slots

@@ -77,14 +77,16 @@
 //! [`abort`](Manager::abort), [`settle`](Manager::settle), [`delete`](Manager::delete),
 //! [`rekey`](Manager::rekey), [`escalate`](Manager::escalate), of nodes and of rows. The others are
 //! refused with [`Refusal::NoMemory`] where the allocator refuses, and can be asked again. Beside the library's
-//! memory a manager takes five kilobytes when it is made, for the notices, and none afterwards.
+//! memory a manager takes 40 bytes for each slot when it is made, for the notices, and none afterwards.
 
 //!
 //! # The library
 //!
 //! The crate is linked with the library for C, of its own version. The build takes the archives that
 //! `BURLAPSLATE_LIBS` names; or else the folder of an installation that `BURLAPSLATE_DIR` names; or else the
-//! installation that `pkg-config` knows; or else, within the repository, what `tools/c_library.sh` builds.
+//! installation that `pkg-config` knows; or else, within the repository, what `tools/c_library.sh` builds. How many
+//! [`SLOTS`] there are says `BURLAPSLATE_SLOTS`; or else `include/burlapslate.h`, in the folder nearest above the archive
+//! that has it. A program that was built for another number than its library stops when it makes a manager or a board.
 
 #![deny(missing_docs)]
 #![deny(unsafe_code)] // But for `sys`.
@@ -115,8 +117,30 @@ pub use session::{RowLocked, Session, Stop};
 pub use table::Table;
 pub use watcher::Watcher;
 
-/// How many transactions can live at once in a manager, and so how many notices a command can have.
-pub const SLOTS: usize = 128;
+/// How many transactions can live at once in a manager, and so how many notices a command can have: 128, or what the
+/// header of the library says with which the crate was built.
+pub const SLOTS: usize = number(env!("BURLAPSLATE_SLOTS"));
+
+/// How many words of 64 bits a set of slots has.
+pub const WORDS: usize = SLOTS / 64;
+
+/// The number that these digits say.
+const fn number(digits: &str) -> usize {
+    let (digits, mut number, mut place) = (digits.as_bytes(), 0, 0);
+    while place < digits.len() {
+        assert!(
+            digits[place].is_ascii_digit(),
+            "BURLAPSLATE_SLOTS is no number"
+        );
+        number = 10 * number + (digits[place] - b'0') as usize;
+        place += 1;
+    }
+    assert!(
+        number > 0 && number % 64 == 0,
+        "BURLAPSLATE_SLOTS is no number of slots"
+    );
+    number
+}
 
 /// The version of this crate, which is that of `include/burlapslate.h`.
 pub const VERSION: &str = env!("CARGO_PKG_VERSION");

@@ -167,7 +167,7 @@ pub struct Options {
 }
 
 impl Options {
-    /// For 128 transactions and 65,536 nodes at once, and 256 bounds of an index; of those in a deadlock
+    /// For [`SLOTS`] transactions and 65,536 nodes at once, and 256 bounds of an index; of those in a deadlock
     /// the youngest falls.
     pub fn new(detect: Detect) -> Options {
         Options {

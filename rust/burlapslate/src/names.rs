@@ -50,7 +50,7 @@ impl fmt::Display for Node {
 #[repr(C)]
 #[derive(Clone, Copy, PartialEq, Eq, Hash, Debug)]
 pub struct Txn {
-    pub(crate) slot: u8,
+    pub(crate) slot: u32,
     pub(crate) age: u64,
 }
 
@@ -60,14 +60,14 @@ impl Txn {
 
     /// The transaction that a board shows in a slot.
     pub(crate) fn at(slot: usize, age: u64) -> Txn {
-        let slot = u8::try_from(slot).expect("a slot is below 128");
+        let slot = u32::try_from(slot).expect("a slot is below `SLOTS`");
         Txn { slot, age }
     }
 
-    /// Its slot, 0 to 127. No other living transaction has it, so it is good as an index of what you
-    /// keep for each.
+    /// Its slot, below [`SLOTS`](crate::SLOTS). No other living transaction has it, so it is good as an index of
+    /// what you keep for each.
     pub fn slot(self) -> usize {
-        usize::from(self.slot)
+        self.slot as usize
     }
 
     /// Its number in the order of begins, from 1 on: of several transactions the youngest has the

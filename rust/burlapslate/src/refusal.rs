@@ -59,7 +59,7 @@ pub enum Refusal {
     NotRows,
     /// As many watch already as may: [`MOST_WATCHERS`](crate::MOST_WATCHERS).
     TooManyWatchers,
-    /// More than 8 parents, or a manager for none or more than 128 transactions. It comes first of
+    /// More than 8 parents, or a manager for none or more than [`SLOTS`](crate::SLOTS) transactions. It comes first of
     /// all.
     BadNumber,
 }

@@ -196,6 +196,7 @@ pub(crate) struct Pinned {
 impl Pinned {
     /// A place without a manager, and no notices; `None` where memory is refused.
     pub(crate) fn new() -> Option<Box<Pinned>> {
+        assert_slots();
         // SAFETY: zero in all bytes is a value of it: numbers, `false`, and a null pointer.
         unsafe { zeroed() }
     }
@@ -397,7 +398,19 @@ unsafe extern "C" {
     pub(crate) safe fn bs_call_board(manager: &Place, board: &mut Board) -> Reply;
     pub(crate) safe fn bs_call_on_cycle(board: &Board, slot: u32) -> Found;
     pub(crate) safe fn bs_call_suspects(board: &Board) -> Found;
-    pub(crate) safe fn bs_call_youngest(board: &Board, slots: Slots) -> Reply;
+    pub(crate) safe fn bs_call_youngest(board: &Board, slots: &Slots) -> Reply;
+
+    safe fn bs_call_slots() -> u32;
+}
+
+/// Stops a program whose library was built for another number of slots, and so knows other sizes: a build that names
+/// one library and reads another's header.
+pub(crate) fn assert_slots() {
+    let slots = bs_call_slots() as usize;
+    assert_eq!(
+        slots, SLOTS,
+        "the library is for {slots} slots, and the crate was built for {SLOTS}"
+    );
 }
 
 /// Where a list begins; of an empty one, some value of its type, since a pointer is to what it
@@ -549,32 +562,32 @@ mod layouts {
         assert_eq!(offset_of!(Notice, node), 16);
         assert_eq!(offset_of!(Notice, kind), 32);
         assert_eq!(offset_of!(Notice, mode), 36);
-        assert_eq!(room::<Notices>(), (5128, 8));
+        assert_eq!(room::<Notices>(), (8 + 40 * SLOTS, 8));
         assert_eq!(offset_of!(Notices, count), 0);
         assert_eq!(offset_of!(Notices, at), 8);
     }
 
     #[test]
     fn boards() {
-        assert_eq!(room::<Slots>(), (16, 8));
-        assert_eq!((offset_of!(Slots, low), offset_of!(Slots, high)), (0, 8));
-        assert_eq!(room::<Board>(), (3080, 8));
+        let set = SLOTS / 8;
+        assert_eq!(room::<Slots>(), (set, 8));
+        assert_eq!(room::<Board>(), (8 + (8 + set) * SLOTS, 8));
         assert_eq!(offset_of!(Board, epoch), 0);
         assert_eq!(offset_of!(Board, ages), 8);
-        assert_eq!(offset_of!(Board, rows), 1032);
+        assert_eq!(offset_of!(Board, rows), 8 + 8 * SLOTS);
         assert_eq!(room::<WatcherPlace>(), (16, 8));
         assert_eq!(offset_of!(WatcherPlace, _at), 8);
-        assert_eq!(room::<Stuck>(), (56, 8));
+        assert_eq!(room::<Stuck>(), (40 + set, 8));
         assert_eq!((offset_of!(Stuck, node), offset_of!(Stuck, mode)), (16, 32));
         assert_eq!(offset_of!(Stuck, waits_for), 40);
-        assert_eq!(room::<Deadlock>(), (7192, 8));
+        assert_eq!(room::<Deadlock>(), (24 + (40 + set) * SLOTS, 8));
         assert_eq!(
             (offset_of!(Deadlock, count), offset_of!(Deadlock, at)),
             (16, 24)
         );
         assert_eq!(room::<Counters>(), (96, 8));
         assert_eq!(offset_of!(Counters, longest_queue), 88);
-        assert_eq!(room::<Found>(), (24, 8));
+        assert_eq!(room::<Found>(), (8 + set, 8));
         assert_eq!(
             (offset_of!(Found, status), offset_of!(Found, slots)),
             (0, 8)

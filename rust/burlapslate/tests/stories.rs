@@ -4,7 +4,7 @@ mod common;
 
 use burlapslate::{
     Asked, Board, Detect, Kind, Manager, Mode, Node, Notice, Refusal, Slots, Txn, Victims, Wait,
-    SLOTS,
+    SLOTS, WORDS,
 };
 use common::{ask, at_block, begin, grant, manager, nobody, refused_lock, store, tells, wait};
 
@@ -211,7 +211,7 @@ fn a_settled_transaction_may_be_told_itself() {
     tells(m.settle(b).unwrap(), &[Notice::Victim { txn: b }]);
 }
 
-/// A ring of 128 waits, beyond the first 64 slots too.
+/// A ring of all slots waits, beyond the first 64 too.
 #[test]
 fn a_ring_of_all() {
     let mut m = Manager::new(Detect::ByWatcher, SLOTS).unwrap();
@@ -224,10 +224,15 @@ fn a_ring_of_all() {
         wait(&mut m, txn, nodes[(place + 1) % SLOTS], Mode::X);
     }
     let board = m.board();
-    assert_eq!(board.suspects(), Slots::from_bits(u128::MAX));
+    assert_eq!(board.suspects(), Slots::from_words([u64::MAX; WORDS]));
     assert_eq!(board.suspects().len(), SLOTS);
-    assert!(board.rows()[100].iter().eq([101]) && board.rows()[127].iter().eq([0]));
-    assert_eq!(board.youngest(board.suspects()), Some(all[127].slot()));
+    for (slot, &row) in board.rows().iter().enumerate() {
+        let next = (slot + 1) % SLOTS;
+        assert!(row.iter().eq([next]) && row == Slots::from_iter([next]));
+        assert_eq!(board.youngest(row), Some(next));
+    }
+    let last = all[SLOTS - 1];
+    assert_eq!(board.youngest(board.suspects()), Some(last.slot()));
 }
 
 #[test]
@@ -259,9 +264,9 @@ fn a_board_is_a_value() {
 }
 
 #[test]
-fn a_board_has_128_slots() {
+fn a_board_has_no_more_slots() {
     let board = Board::default();
-    for slot in [128, 1 << 32, usize::MAX] {
+    for slot in [SLOTS, 1 << 32, usize::MAX] {
         assert_eq!((board.txn(slot), board.on_cycle(slot)), (None, Slots::NONE));
     }
     assert_eq!(format!("{board:?}"), "Board 0 {}");
@@ -269,10 +274,12 @@ fn a_board_has_128_slots() {
 
 #[test]
 fn sets_of_slots() {
-    let set = Slots::from_bits(1 << 127 | 1 << 65 | 1 << 63 | 1);
+    let set = Slots::from_iter([127, 65, 63, 0]);
     assert!(set.into_iter().eq([0, 63, 65, 127]));
+    assert_eq!(set.words()[..2], [1 << 63 | 1, 1 << 63 | 1 << 1]);
+    assert_eq!(Slots::from_words(set.words()), set);
     assert_eq!((set.len(), set.iter().len(), set.is_empty()), (4, 4, false));
-    assert!((0..200).filter(|&slot| set.contains(slot)).eq(set));
+    assert!((0..SLOTS + 72).filter(|&slot| set.contains(slot)).eq(set));
     assert!(!set.contains(usize::MAX) && Slots::NONE.is_empty());
     assert_eq!(format!("{set:?}"), "{0, 63, 65, 127}");
 }

@@ -1,0 +1,12 @@
+-- The bits of words.
+use Rattle.std.specs.Prelude.{ℕ, zero, suc, ◌+◌, ◌/◌, ◌%◌, Bool, List, [], ◌∷◌, get_or}
+use Rattle.gl_slots.specs.Bits.{in_bits, bits_below}
+
+-- bit u is set: bit u mod 64 of word u div 64
+abbrev pub in_words : List ℕ → ℕ → Bool
+in_words words u = in_bits (get_or words (u / 64) 0) (u % 64)
+
+-- the n words of which bit u is set where u is below 64 n and passes
+abbrev pub words_below : ℕ → (ℕ → Bool) → List ℕ
+words_below zero member = []
+words_below (suc n) member = bits_below 64 member ∷ words_below n (λ u. member (64 + u))
