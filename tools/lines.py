@@ -1,20 +1,25 @@
 #!/usr/bin/env python3
-"""lines.py: says which lines of the crates' code, contracts and proofs have more columns than 160, and fails where
-there is one."""
+"""lines.py: looks at each line of the crates' code, contracts and proofs. Prints where one has more than 160 columns,
+and then ends with status 1; else it prints how many there are."""
 
-import os
 import sys
+from pathlib import Path
 
-TOP = os.path.dirname(os.path.dirname(os.path.abspath(__file__)))
+TOP = Path(__file__).resolve().parent.parent
 MOST = 160
 
-long = 0
-for at, folders, names in os.walk(f"{TOP}/crates"):
-    folders[:] = [it for it in folders if it != "out"]
-    for path in (f"{at}/{name}" for name in names if name.endswith((".rt", ".antt"))):
-        for number, line in enumerate(open(path, encoding="utf-8"), 1):
-            columns = len(line.rstrip("\n"))
-            if columns > MOST:
-                long += 1
-                print(f"{os.path.relpath(path, TOP)}:{number}: {columns} columns")
-sys.exit(1 if long else 0)
+
+def sources():
+    return [it for it in sorted((TOP / "crates").rglob("*")) if it.suffix in (".rt", ".antt") and "out" not in it.relative_to(TOP).parts]
+
+
+lines, long = 0, 0
+for path in sources():
+    for number, line in enumerate(path.read_text(encoding="utf-8").split("\n"), 1):
+        lines += 1
+        if len(line) > MOST:
+            long += 1
+            print(f"{path.relative_to(TOP)}:{number}: {len(line)} columns")
+if long:
+    sys.exit(1)
+print(f"{lines} lines, none of more than {MOST} columns")
