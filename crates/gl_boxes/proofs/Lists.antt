@@ -1,5 +1,6 @@
 -- Lists of boards and one more.
-use Rattle.std.proofs.Common.{◌≡◌, ℕ, ◌+◌, ◌≤◌, Bool, true, false, MatchBool, List, [], ◌∷◌, ◌++◌, length, refl, sym, ap, ◌∙◌, subst, arith, zero-le, le_refl, le_trans, length-append, ◌⊎◌, ⊎_elim}
+use Rattle.std.proofs.Common.{◌≡◌, ℕ, ◌+◌, ◌≤◌, Bool, true, false, MatchBool, List, [], ◌∷◌, ◌++◌, length, refl, sym, ap, ◌∙◌, subst, arith, zero-le}
+use Rattle.std.proofs.Common.{le_refl, le_trans, length-append, ◌⊎◌, ⊎_elim}
 use mathlib.Core.List.{IsPrefix}
 use Rattle.gl_waits.specs.declared.board.Board.{Board}
 use Rattle.gl_model.specs.declared.answers.Detect.{Detect}

@@ -1,5 +1,6 @@
 -- Notices by rising slot, and their boxes.
-use Rattle.std.proofs.Common.{◌≡◌, ◌≢◌, ℕ, zero, suc, ◌+◌, ◌≤◌, ◌<◌, List, [], ◌∷◌, length, All, fold, slice_index_or, slice_set, Some, refl, sym, ap, ◌∙◌, arith, le_trans, subst}
+use Rattle.std.proofs.Common.{◌≡◌, ◌≢◌, ℕ, zero, suc, ◌+◌, ◌≤◌, ◌<◌, List, [], ◌∷◌, length, All, fold, slice_index_or, slice_set, Some, refl, sym, ap}
+use Rattle.std.proofs.Common.{◌∙◌, arith, le_trans, subst}
 use Rattle.gl_model.specs.declared.txn.TxnId.{TxnId}
 use Rattle.gl_model.specs.declared.answers.Notice.{Notice}
 use Rattle.gl_boxes.specs.Served.{RisingTo}

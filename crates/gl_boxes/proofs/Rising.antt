@@ -59,7 +59,8 @@ told_rises s s' few =
     (omega (arith, few))
 
 -- whatever the command is, who is told stands by rising slot
-pub step_rises : (s : State) (c : Command) (a : Answer) (list : List (TxnId × Notice)) (s' : State) → s.most ≤ most_slots → Step s c a list s' → RisingTo 0 list most_slots
+pub step_rises : (s : State) (c : Command) (a : Answer) (list : List (TxnId × Notice)) (s' : State) → s.most ≤ most_slots → Step s c a list s'
+    → RisingTo 0 list most_slots
 step_rises s c a list s' few step =
     each_told (λ xs. RisingTo 0 xs most_slots) s c a list s' (omega arith) (λ now. told_rises s now few)
     (λ t now. kept (λ x. not (x.0.slot == t)) 0 most_slots (told s now) (told_rises s now few)) step

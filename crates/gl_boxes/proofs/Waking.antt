@@ -53,7 +53,8 @@ names_its_slot (command.Adopt f keys) t h = h
 names_its_slot (command.Forget r) t h = h
 
 -- a set of the slots that are told, and of the one that is named, has everybody whose wait was ended
-pub wakes_ended : (c : Command) (told : Told) (slots : Slots) → ((u : ℕ) → u < most_slots → has_slot slots u ≡ (names_slot c u || list_any (λ x. x.0.slot == u) told))
+pub wakes_ended : (c : Command) (told : Told) (slots : Slots)
+    → ((u : ℕ) → u < most_slots → has_slot slots u ≡ (names_slot c u || list_any (λ x. x.0.slot == u) told))
     → WakesEnded c told slots
 wakes_ended c told slots is s s' a step law t n below was gone =
     is t.slot below
@@ -71,7 +72,8 @@ pub ended_none : (s : State) (slots : Slots) → HasEnded s s slots
 ended_none s slots law t n below was gone = absurd (cc (was, gone))
 
 -- with one step more, whose wait either ended
-pub ended_more : (s mid s' : State) (c : Command) (a : Answer) (told : Told) (before more both : Slots) → ((u : ℕ) → has_slot both u ≡ (has_slot before u || has_slot more u)) → (IsLawful s → IsLawful mid) → HasEnded s mid before
+pub ended_more : (s mid s' : State) (c : Command) (a : Answer) (told : Told) (before more both : Slots)
+    → ((u : ℕ) → has_slot both u ≡ (has_slot before u || has_slot more u)) → (IsLawful s → IsLawful mid) → HasEnded s mid before
     → WakesEnded c told more → Step mid c a told s' → HasEnded s s' both
 ended_more s mid s' c a told before more both joined keeps so_far wakes step law t n below was gone = joined t.slot ∙ by (waits_on mid t n) refl
   where

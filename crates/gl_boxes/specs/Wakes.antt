@@ -15,7 +15,8 @@ use Rattle.gl_catalog.specs.Step.{Step}
 
 -- whoever waits in the one state and no more in the other has its slot in the set
 abbrev pub HasEnded : State → State → Slots → Type 0
-HasEnded s s' slots = IsLawful s → (t : TxnId) (n : NodeId) → t.slot < most_slots → waits_on s t n ≡ true → waits_on s' t n ≡ false → has_slot slots t.slot ≡ true
+HasEnded s s' slots = IsLawful s → (t : TxnId) (n : NodeId) → t.slot < most_slots → waits_on s t n ≡ true → waits_on s' t n ≡ false
+    → has_slot slots t.slot ≡ true
 
 -- each step of the command that tells these has in the set whoever waits no more behind it (own): so no sleeper is left whose wait is over
 abbrev pub WakesEnded : Command → Told → Slots → Type 0

@@ -70,7 +70,8 @@ impl Boxes {
     ) -> Option<Result<Grant, Stop>>
         ensures verdict { result ≡ verdict_of (state_of manager.now) self.now txn node mode }
         ensures waits { lives (state_of manager.now) txn ≡ true → is_waiting_at (state_of manager.now) txn.slot node ≡ true → result ≡ None }
-        ensures grant { (x : Grant) → result ≡ Some (Ok x) → (x.txn ≡ txn) × (x.node ≡ node) × (x.mode ≡ (state_of manager.now).held txn.slot node) × (is_at_least x.mode mode ≡ true) × (is_waiting_at (state_of manager.now) txn.slot node ≡ false) }
+        ensures grant { (x : Grant) → result ≡ Some (Ok x) → (x.txn ≡ txn) × (x.node ≡ node) × (x.mode ≡ (state_of manager.now).held txn.slot node)
+            × (is_at_least x.mode mode ≡ true) × (is_waiting_at (state_of manager.now) txn.slot node ≡ false) }
     {
         let Some(held) = manager.mode_on(txn, node) else {
             return Some(Err(Stop::Refused(Refusal::NoSuchTxn)));

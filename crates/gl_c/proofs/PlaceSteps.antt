@@ -8,7 +8,8 @@ use mir.Syntax.{Fn}
 use mir.Val.{Val}
 use prog.Wp.{Calls, Loops, WpFn}
 use types.Logic.{Logic}
-use types.Kit.{Item, Goal, prop, runs, allocs, params', at_ret, Seq, Soaks, Step, step, mean, ‵, raw, ◌⊛◌, some, later, ◌$◌, move, drop, split, join, pick, fjoin, feq_i, use0, use1, await}
+use types.Kit.{Item, Goal, prop, runs, allocs, params', at_ret, Seq, Soaks, Step, step, mean, ‵, raw, ◌⊛◌, some, later, ◌$◌, move, drop, split, join}
+use types.Kit.{pick, fjoin, feq_i, use0, use1, await}
 use types.Run.{enter}
 use types.Tokens.{lft_new}
 use contract.BorrowLft.{◌⊑◌, ⊑_static}

@@ -55,7 +55,8 @@ made v v' c a told = by (touches_rows v c) refl
     }
 
 -- so it is for C
-pub serves_some : (b : Bool) (g g' : GuardedView) (c : Command) (a : Answer) (told : Told) → b ≡ false → Serves g c a told g' → ServesUnless b g c (Some a) told g'
+pub serves_some : (b : Bool) (g g' : GuardedView) (c : Command) (a : Answer) (told : Told) → b ≡ false → Serves g c a told g'
+    → ServesUnless b g c (Some a) told g'
 serves_some b g g' c a told is h = subst (λ (x : Bool). ServesUnless x g c (Some a) told g') (sym is) (a, refl, h)
 
 -- where manager and rows are the same the registry is, and so is all

@@ -48,7 +48,8 @@ wanted detect most nodes bounds = if can_have most nodes bounds then detect_at d
 abbrev pub Makes : Option GuardedView → ℕ → ℕ → ℕ → ℕ → ℕ → Reply → Option GuardedView → Type 0
 Makes (Some g) detect victims most nodes bounds r s' = Declines (Some g) in_use r s'
 Makes None detect victims most nodes bounds r s' =
-    Where (wanted detect most nodes bounds) (λ way. Where (victims_at victims) (λ choice. Begins way choice most nodes bounds r s') (Declines None bad_number r s'))
+    Where (wanted detect most nodes bounds)
+    (λ way. Where (victims_at victims) (λ choice. Begins way choice most nodes bounds r s') (Declines None bad_number r s'))
     (Declines None bad_number r s')
 
 -- what the end of a manager is answered

@@ -51,7 +51,8 @@ impl Found {
 
     /// These slots, or why they are not found.
     pub(crate) fn of_result(slots: Result<gl_slots::Slots, Refusal>) -> Found
-        ensures { MatchResult slots (λ s. (result.status ≡ done) × ((u : ℕ) → has_bit (set_of result.slots) u ≡ has_slot s u)) (λ refusal. result ≡ none_found (refusal_number refusal)) }
+        ensures { MatchResult slots (λ s. (result.status ≡ done) × ((u : ℕ) → has_bit (set_of result.slots) u ≡ has_slot s u))
+            (λ refusal. result ≡ none_found (refusal_number refusal)) }
     {
         match slots {
             Ok(slots) => Found::of(slots.bits()),

@@ -201,7 +201,8 @@ impl Guarded {
     /// Shows watchers the board of now where it is due, and says whether there was memory for that.
     fn show_if(&mut self, due: bool) -> bool
         requires { due ≡ true → self.old.waited ≡ true }
-        ensures kept { (self.new.manager ≡ self.old.manager) × (self.new.boxes ≡ self.old.boxes) × (self.new.ended ≡ self.old.ended) × (self.new.rows ≡ self.old.rows) }
+        ensures kept { (self.new.manager ≡ self.old.manager) × (self.new.boxes ≡ self.old.boxes) × (self.new.ended ≡ self.old.ended)
+            × (self.new.rows ≡ self.old.rows) }
         ensures shown { ShowsOn self.old.waited (board_of (state_of self.old.manager)) self.old.shown self.new.shown }
         ensures due { due ≡ true → result ≡ true → HasShown (board_of (state_of self.old.manager)) self.old.shown self.new.shown }
         ensures quiet { self.new.waited ≡ false → NobodyWaits (state_of self.new.manager) × ShowsNobodyLast self.new.shown }
@@ -279,7 +280,8 @@ fn show(manager: &Manager, publisher: &mut Publisher) -> Option<bool>
     requires rises { last_epoch 0 publisher.old.list ≤ manager.now.accepted }
     requires detect { publisher.old.detect ≡ manager.now.table.detect }
     ensures law { IsLawfulManager manager.now }
-    ensures shown { IfSome result (λ waits. (publisher.new.list ≡ publisher.old.list ++ board_of (state_of manager.now) ∷ []) × (waits ≡ false → ShowsNobody (board_of (state_of manager.now)))) }
+    ensures shown { IfSome result (λ waits. (publisher.new.list ≡ publisher.old.list ++ board_of (state_of manager.now) ∷ [])
+        × (waits ≡ false → ShowsNobody (board_of (state_of manager.now)))) }
     ensures list { (publisher.new.list ≡ publisher.old.list) ⊎ (publisher.new.list ≡ publisher.old.list ++ board_of (state_of manager.now) ∷ []) }
     ensures of { (publisher.new.book ≡ publisher.old.book) × (publisher.new.detect ≡ publisher.old.detect) }
 {

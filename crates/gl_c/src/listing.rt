@@ -97,7 +97,8 @@ pub(crate) fn queue_at_reply(
     queue: Result<&[(Slot, Mode)], Refusal>,
     place: usize,
 ) -> Reply
-    ensures { MatchResult queue.entry (λ waiters. result ≡ waiter_reply (state_of manager.now) (slice_get waiters.now place)) (λ refusal. result ≡ refused_reply refusal) }
+    ensures { MatchResult queue.entry (λ waiters. result ≡ waiter_reply (state_of manager.now) (slice_get waiters.now place))
+        (λ refusal. result ≡ refused_reply refusal) }
 {
     match queue {
         Ok(waiters) => waiter_reply(manager, waiters.get(place).copied()),

@@ -54,7 +54,8 @@ pub extern "C" fn bs_call_most_bounds(manager: &mut Handle) -> Reply
 /// The transaction in a slot.
 #[unsafe(no_mangle)]
 pub extern "C" fn bs_call_living(manager: &mut Handle, slot: u32) -> Reply
-    ensures { Where (slot_at slot) (λ s. Looks (guarded_in manager.old) (query.Living s) result (guarded_in manager.new)) (Declines (guarded_in manager.old) bad_number result (guarded_in manager.new)) }
+    ensures { Where (slot_at slot) (λ s. Looks (guarded_in manager.old) (query.Living s) result (guarded_in manager.new))
+        (Declines (guarded_in manager.old) bad_number result (guarded_in manager.new)) }
 {
     match slot_at(slot) {
         Some(slot) => manager.look(Query::Living { slot }),
@@ -93,7 +94,8 @@ pub extern "C" fn bs_call_lock_at(manager: &mut Handle, txn: Txn, place: usize) 
 /// The slots of those who hold a node.
 #[unsafe(no_mangle)]
 pub extern "C" fn bs_call_holders(manager: &mut Handle, node: Node) -> Found
-    ensures { FindsIn (guarded_in manager.old) (λ s. first_refusal (group_tests s (node_id node))) (λ s u. holds (members s (node_id node)) u) result (guarded_in manager.new) }
+    ensures { FindsIn (guarded_in manager.old) (λ s. first_refusal (group_tests s (node_id node))) (λ s u. holds (members s (node_id node)) u) result
+        (guarded_in manager.new) }
 {
     manager.holders(node.id())
 }
@@ -101,7 +103,8 @@ pub extern "C" fn bs_call_holders(manager: &mut Handle, node: Node) -> Found
 /// The mode in which the transaction of a slot holds a node.
 #[unsafe(no_mangle)]
 pub extern "C" fn bs_call_mode_at(manager: &mut Handle, slot: u32, node: Node) -> Reply
-    ensures { Where (slot_at slot) (λ s. Looks (guarded_in manager.old) (query.ModeAt s (node_id node)) result (guarded_in manager.new)) (Declines (guarded_in manager.old) bad_number result (guarded_in manager.new)) }
+    ensures { Where (slot_at slot) (λ s. Looks (guarded_in manager.old) (query.ModeAt s (node_id node)) result (guarded_in manager.new))
+        (Declines (guarded_in manager.old) bad_number result (guarded_in manager.new)) }
 {
     match slot_at(slot) {
         Some(slot) => manager.look(Query::ModeAt {
@@ -134,7 +137,8 @@ pub extern "C" fn bs_call_queue_at(manager: &mut Handle, node: Node, place: usiz
 /// The slots of those for whom a transaction waits.
 #[unsafe(no_mangle)]
 pub extern "C" fn bs_call_waits_for(manager: &mut Handle, txn: Txn) -> Found
-    ensures { FindsIn (guarded_in manager.old) (λ s. first_refusal (living_tests s (txn_id txn))) (λ s u. waits_for s (txn_id txn).slot u) result (guarded_in manager.new) }
+    ensures { FindsIn (guarded_in manager.old) (λ s. first_refusal (living_tests s (txn_id txn))) (λ s u. waits_for s (txn_id txn).slot u) result
+        (guarded_in manager.new) }
 {
     manager.waits_for(txn.id())
 }

@@ -19,7 +19,8 @@ use gl_registry::RowCall;
 /// A new inner node, under 0 to 8 inner nodes; without parents it is a root.
 #[unsafe(no_mangle)]
 pub extern "C" fn bs_call_add_inner(manager: &mut Handle, parents: &[Node]) -> Reply
-    ensures { Under parents.now (λ ids. Asks (guarded_in manager.old) (command.Inner ids) result (guarded_in manager.new)) (Declines (guarded_in manager.old) bad_number result (guarded_in manager.new)) }
+    ensures { Under parents.now (λ ids. Asks (guarded_in manager.old) (command.Inner ids) result (guarded_in manager.new))
+        (Declines (guarded_in manager.old) bad_number result (guarded_in manager.new)) }
 {
     match parent_ids(parents) {
         Some(ids) => manager.ask(Command::Inner {
@@ -32,7 +33,8 @@ pub extern "C" fn bs_call_add_inner(manager: &mut Handle, parents: &[Node]) -> R
 /// A new file, under 1 to 8 inner nodes.
 #[unsafe(no_mangle)]
 pub extern "C" fn bs_call_add_file(manager: &mut Handle, parents: &[Node]) -> Reply
-    ensures { Under parents.now (λ ids. Asks (guarded_in manager.old) (command.File ids) result (guarded_in manager.new)) (Declines (guarded_in manager.old) bad_number result (guarded_in manager.new)) }
+    ensures { Under parents.now (λ ids. Asks (guarded_in manager.old) (command.File ids) result (guarded_in manager.new))
+        (Declines (guarded_in manager.old) bad_number result (guarded_in manager.new)) }
 {
     match parent_ids(parents) {
         Some(ids) => manager.ask(Command::File {
@@ -46,7 +48,8 @@ pub extern "C" fn bs_call_add_file(manager: &mut Handle, parents: &[Node]) -> Re
 /// alone.
 #[unsafe(no_mangle)]
 pub extern "C" fn bs_call_row_file(manager: &mut Handle, parents: &[Node]) -> Reply
-    ensures { Under parents.now (λ ids. AsksRow (guarded_in manager.old) (call.File ids) result (guarded_in manager.new)) (Declines (guarded_in manager.old) bad_number result (guarded_in manager.new)) }
+    ensures { Under parents.now (λ ids. AsksRow (guarded_in manager.old) (call.File ids) result (guarded_in manager.new))
+        (Declines (guarded_in manager.old) bad_number result (guarded_in manager.new)) }
 {
     match parent_ids(parents) {
         Some(ids) => manager.ask_row(RowCall::File {
@@ -65,7 +68,8 @@ pub extern "C" fn bs_call_add_index(
     file: Node,
     bounds: &[u64],
 ) -> Reply
-    ensures { Under parents.now (λ ids. Asks (guarded_in manager.old) (command.Index ids (node_id file) bounds.entry) result (guarded_in manager.new)) (Declines (guarded_in manager.old) bad_number result (guarded_in manager.new)) }
+    ensures { Under parents.now (λ ids. Asks (guarded_in manager.old) (command.Index ids (node_id file) bounds.entry) result
+        (guarded_in manager.new)) (Declines (guarded_in manager.old) bad_number result (guarded_in manager.new)) }
 {
     match parent_ids(parents) {
         Some(ids) => manager.ask(Command::Index {

@@ -95,7 +95,8 @@ pub extern "C" fn bs_call_move(
     parents: &[Node],
     told: &mut Notices,
 ) -> Reply
-    ensures { Under parents.now (λ ids. Carries (guarded_in manager.old) (command.Move (txn_id txn) (node_id node) ids) result told.new (guarded_in manager.new)) (Declines (guarded_in manager.old) bad_number result (guarded_in manager.new) × Tells told.new []) }
+    ensures { Under parents.now (λ ids. Carries (guarded_in manager.old) (command.Move (txn_id txn) (node_id node) ids) result told.new
+        (guarded_in manager.new)) (Declines (guarded_in manager.old) bad_number result (guarded_in manager.new) × Tells told.new []) }
 {
     let Some(ids) = parent_ids(parents) else {
         told.clear();

@@ -30,7 +30,9 @@ pub extern "C" fn bs_call_lock_row(
     mode: u32,
     told: &mut Notices,
 ) -> Reply
-    ensures { Where (mode_at mode) (λ wanted. CarriesRow (guarded_in manager.old) (call.Lock (txn_id txn) (row_at file number) keys.entry wanted) result told.new (guarded_in manager.new)) (Declines (guarded_in manager.old) bad_number result (guarded_in manager.new) × Tells told.new []) }
+    ensures { Where (mode_at mode) (λ wanted. CarriesRow (guarded_in manager.old)
+        (call.Lock (txn_id txn) (row_at file number) keys.entry wanted) result told.new (guarded_in manager.new))
+        (Declines (guarded_in manager.old) bad_number result (guarded_in manager.new) × Tells told.new []) }
 {
     let Some(mode) = mode_at(mode) else {
         told.clear();

@@ -33,7 +33,8 @@ pub extern "C" fn bs_call_lock(
     mode: u32,
     told: &mut Notices,
 ) -> Reply
-    ensures { Where (mode_at mode) (λ wanted. Carries (guarded_in manager.old) (command.Lock (txn_id txn) (node_id node) wanted) result told.new (guarded_in manager.new)) (Declines (guarded_in manager.old) bad_number result (guarded_in manager.new) × Tells told.new []) }
+    ensures { Where (mode_at mode) (λ wanted. Carries (guarded_in manager.old) (command.Lock (txn_id txn) (node_id node) wanted) result told.new
+        (guarded_in manager.new)) (Declines (guarded_in manager.old) bad_number result (guarded_in manager.new) × Tells told.new []) }
 {
     let Some(mode) = mode_at(mode) else {
         told.clear();
@@ -56,7 +57,8 @@ pub extern "C" fn bs_call_lock_path(
     mode: u32,
     told: &mut Notices,
 ) -> Reply
-    ensures { Where (mode_at mode) (λ wanted. CarriesPath (guarded_in manager.old) (txn_id txn) (node_id node, wanted) result told.new (guarded_in manager.new)) (Declines (guarded_in manager.old) bad_number result (guarded_in manager.new) × Tells told.new []) }
+    ensures { Where (mode_at mode) (λ wanted. CarriesPath (guarded_in manager.old) (txn_id txn) (node_id node, wanted) result told.new
+        (guarded_in manager.new)) (Declines (guarded_in manager.old) bad_number result (guarded_in manager.new) × Tells told.new []) }
 {
     let Some(mode) = mode_at(mode) else {
         told.clear();
@@ -68,7 +70,8 @@ pub extern "C" fn bs_call_lock_path(
 /// Asks for a lock, and is refused where it cannot be granted at once.
 #[unsafe(no_mangle)]
 pub extern "C" fn bs_call_try(manager: &mut Handle, txn: Txn, node: Node, mode: u32) -> Reply
-    ensures { Where (mode_at mode) (λ wanted. Asks (guarded_in manager.old) (command.Try (txn_id txn) (node_id node) wanted) result (guarded_in manager.new)) (Declines (guarded_in manager.old) bad_number result (guarded_in manager.new)) }
+    ensures { Where (mode_at mode) (λ wanted. Asks (guarded_in manager.old) (command.Try (txn_id txn) (node_id node) wanted) result
+        (guarded_in manager.new)) (Declines (guarded_in manager.old) bad_number result (guarded_in manager.new)) }
 {
     let Some(mode) = mode_at(mode) else {
         return Reply::with_status(BAD_NUMBER);

@@ -16,7 +16,8 @@ use crate::reply::Reply;
 /// What became of a lock that was left waiting: that the wait goes on, its grant, or why there is none.
 #[unsafe(no_mangle)]
 pub extern "C" fn bs_call_verdict(manager: &mut Handle, txn: Txn, node: Node, mode: u32) -> Reply
-    ensures { Where (mode_at mode) (λ wanted. Judges (guarded_in manager.old) (txn_id txn) (node_id node) wanted result (guarded_in manager.new)) (Declines (guarded_in manager.old) bad_number result (guarded_in manager.new)) }
+    ensures { Where (mode_at mode) (λ wanted. Judges (guarded_in manager.old) (txn_id txn) (node_id node) wanted result (guarded_in manager.new))
+        (Declines (guarded_in manager.old) bad_number result (guarded_in manager.new)) }
 {
     match mode_at(mode) {
         Some(mode) => manager.verdict(txn.id(), node.id(), mode),

@@ -32,7 +32,8 @@ accepting_keeps_count s (command.Rekey t r i key) a told s' acc = ap (λ z. z.ac
 accepting_keeps_count s (command.Move t n ps) a told s' acc = ap (λ z. z.accepted) acc.2
 accepting_keeps_count s command.Begin a told s' acc = ap (λ z. z.accepted) acc.4
 accepting_keeps_count s (command.Lock t n m) a told s' acc =
-    split (enters_at s t.slot n m) (λ e. ap (λ z. z.accepted) (acc.0.at_once e)) (λ e. wait_count s.detect s.victims (enqueued s t.slot n (wanted s t.slot n m)) s' t.slot (acc.0.waits e))
+    split (enters_at s t.slot n m) (λ e. ap (λ z. z.accepted) (acc.0.at_once e))
+    (λ e. wait_count s.detect s.victims (enqueued s t.slot n (wanted s t.slot n m)) s' t.slot (acc.0.waits e))
 accepting_keeps_count s (command.Try t n m) a told s' acc = ap (λ z. z.accepted) acc.2
 accepting_keeps_count s (command.Unlock t n) a told s' acc = ap (λ z. z.accepted) acc.2
 accepting_keeps_count s (command.Escalate t n) a told s' acc = ap (λ z. z.accepted) acc.2

@@ -31,7 +31,8 @@ module _ {A : Type 0} (says : A → Says) (c : Command) where
   memory_step s r may e = inr (may, record { answer_is = ap answer.Refused e; nobody_told = refl; same = refl })
 
   -- a command that goes, and is counted
-  pub accepted_step : (s : State) (x : A) (next s' : State) → refusal_of s c ≡ None → query_answer s c ≡ None → Accepts s c (says x).0 (says x).1 next → s' ≡ accepted_once next → CallSteps s c says (Ok x) s'
+  pub accepted_step : (s : State) (x : A) (next s' : State) → refusal_of s c ≡ None → query_answer s c ≡ None
+      → Accepts s c (says x).0 (says x).1 next → s' ≡ accepted_once next → CallSteps s c says (Ok x) s'
   accepted_step s x next s' free none acc is =
       inl (subst (λ o. Goes s c o (says x).0 (says x).1 s') (sym free) (subst (λ q. Answers s c q (says x).0 (says x).1 s') (sym none) (next, acc, is)))
 
@@ -40,7 +41,8 @@ module _ {A : Type 0} (says : A → Says) (c : Command) where
     pub worn_step : (r : Refusal) → Err r ≡ verdict (worn (counting k s)) → CallSteps (counting k s) c says (Err r) (counting k s)
     worn_step r full = by (worn (counting k s)) full (ap first_refusal are)
       where
-        by : (o : Option Refusal) → Err r ≡ verdict o → refusal_of (counting k s) c ≡ first_refusal (o ∷ tests) → CallSteps (counting k s) c says (Err r) (counting k s)
+        by : (o : Option Refusal) → Err r ≡ verdict o → refusal_of (counting k s) c ≡ first_refusal (o ∷ tests)
+            → CallSteps (counting k s) c says (Err r) (counting k s)
         by None full' e = absurd (err_ok full')
         by (Some x) full' e = refused_step (counting k s) r (e ∙ cc)
 
@@ -49,7 +51,8 @@ module _ {A : Type 0} (says : A → Says) (c : Command) where
     rest_decides room = ap first_refusal are ∙ ap (λ o. first_refusal (o ∷ tests)) (verdict_ok _ tt room)
 
     -- the table refuses, and never for want of memory
-    pub err_step : (r : Refusal) → Ok tt ≡ verdict (worn (counting k s)) → RefusesOnly {A = A} (first_refusal tests) (Err r) → CallSteps (counting k s) c says (Err r) (counting k s)
+    pub err_step : (r : Refusal) → Ok tt ≡ verdict (worn (counting k s)) → RefusesOnly {A = A} (first_refusal tests) (Err r)
+        → CallSteps (counting k s) c says (Err r) (counting k s)
     err_step r room refuses = by (first_refusal tests) refl refuses
       where
         by : (o : Option Refusal) → first_refusal tests ≡ o → RefusesOnly {A = A} o (Err r) → CallSteps (counting k s) c says (Err r) (counting k s)
@@ -57,7 +60,9 @@ module _ {A : Type 0} (says : A → Says) (c : Command) where
         by (Some x) e is = refused_step (counting k s) r (rest_decides room ∙ e ∙ cc)
 
     -- the table refuses, maybe for want of memory
-    pub err_or_memory_step : (r : Refusal) → Ok tt ≡ verdict (worn (counting k s)) → (first_refusal tests ≡ None → lists_memory (counting k s) c ≡ true) → Refuses {T = A} (first_refusal tests) (Err r) → CallSteps (counting k s) c says (Err r) (counting k s)
+    pub err_or_memory_step : (r : Refusal) → Ok tt ≡ verdict (worn (counting k s))
+        → (first_refusal tests ≡ None → lists_memory (counting k s) c ≡ true) → Refuses {T = A} (first_refusal tests) (Err r)
+        → CallSteps (counting k s) c says (Err r) (counting k s)
     err_or_memory_step r room lists refuses = by (first_refusal tests) refl refuses
       where
         by : (o : Option Refusal) → first_refusal tests ≡ o → Refuses {T = A} o (Err r) → CallSteps (counting k s) c says (Err r) (counting k s)
@@ -65,7 +70,8 @@ module _ {A : Type 0} (says : A → Says) (c : Command) where
         by (Some x) e is = refused_step (counting k s) r (rest_decides room ∙ e ∙ cc)
 
     -- the table goes
-    pub ok_step : (x : A) (s' : State) → Ok tt ≡ verdict (worn (counting k s)) → Refuses {T = A} (first_refusal tests) (Ok x) → query_answer (counting k s) c ≡ None
+    pub ok_step : (x : A) (s' : State) → Ok tt ≡ verdict (worn (counting k s)) → Refuses {T = A} (first_refusal tests) (Ok x)
+        → query_answer (counting k s) c ≡ None
         → Accepts (counting k s) c (says x).0 (says x).1 (counting k s') → CallSteps (counting k s) c says (Ok x) (counting (k + 1) s')
     ok_step x s' room refuses none acc = by (first_refusal tests) refl refuses
       where
@@ -74,7 +80,8 @@ module _ {A : Type 0} (says : A → Says) (c : Command) where
         by (Some y) e is = absurd (ok_err is)
 
     -- the table goes, and never wants memory
-    pub ok_step_only : (x : A) (s' : State) → Ok tt ≡ verdict (worn (counting k s)) → RefusesOnly {A = A} (first_refusal tests) (Ok x) → query_answer (counting k s) c ≡ None
+    pub ok_step_only : (x : A) (s' : State) → Ok tt ≡ verdict (worn (counting k s)) → RefusesOnly {A = A} (first_refusal tests) (Ok x)
+        → query_answer (counting k s) c ≡ None
         → Accepts (counting k s) c (says x).0 (says x).1 (counting k s') → CallSteps (counting k s) c says (Ok x) (counting (k + 1) s')
     ok_step_only x s' room refuses = ok_step x s' room (by (first_refusal tests) refuses)
       where

@@ -54,7 +54,8 @@ module _ (k : ℕ) where
   victim_counting : (c : Victims) (s : State) (t v : ℕ) → IsVictim c s t v → IsVictim c (counting k s) t v
   victim_counting c s t v h = h
 
-  within_counting : (c : Victims) (turns : ℕ) (s : State) (t : ℕ) (s' : State) → SettledWithin c turns s t s' → SettledWithin c turns (counting k s) t (counting k s')
+  within_counting : (c : Victims) (turns : ℕ) (s : State) (t : ℕ) (s' : State) → SettledWithin c turns s t s'
+      → SettledWithin c turns (counting k s) t (counting k s')
   within_counting c zero s t s' h = (h.0, ap (counting k) h.1)
   within_counting c (suc turns) s t s' h = (h.0, victim_counting c s t h.0 h.1, within_counting c turns (condemned s h.0) t s' h.2)
 
@@ -77,27 +78,39 @@ module _ (k : ℕ) where
   stuck_counting s t r h = record { on_cycle = h.on_cycle; name = h.name; waits = h.waits; waits_for = h.waits_for }
 
   deadlock_counting : (s : State) (t v : ℕ) (e : Deadlock) → IsDeadlock s t v e → IsDeadlock (counting k s) t v e
-  deadlock_counting s t v e h = record { victim = h.victim; rows = λ i r low. stuck_counting s t (get_or e.cycle.items i r) (h.rows i r low); whole = h.whole; rising = h.rising }
+  deadlock_counting s t v e h = record {
+    victim = h.victim;
+    rows = λ i r low. stuck_counting s t (get_or e.cycle.items i r) (h.rows i r low);
+    whole =
+        h.whole;
+    rising = h.rising;
+  }
 
-  keeping_within_counting : (c : Victims) (turns : ℕ) (s : State) (t : ℕ) (d : Deadlock) (s' : State) (d' : Deadlock) → SettlesKeepingWithin c turns s t d s' d' → SettlesKeepingWithin c turns (counting k s) t d (counting k s') d'
+  keeping_within_counting : (c : Victims) (turns : ℕ) (s : State) (t : ℕ) (d : Deadlock) (s' : State) (d' : Deadlock)
+      → SettlesKeepingWithin c turns s t d s' d' → SettlesKeepingWithin c turns (counting k s) t d (counting k s') d'
   keeping_within_counting c zero s t d s' d' h = (h.0, ap (counting k) h.1, h.2)
-  keeping_within_counting c (suc turns) s t d s' d' h = (h.0, h.1, victim_counting c s t h.0 h.2, deadlock_counting s t h.0 h.1 h.3, keeping_within_counting c turns (condemned s h.0) t h.1 s' d' h.4)
+  keeping_within_counting c (suc turns) s t d s' d' h =
+      (h.0, h.1, victim_counting c s t h.0 h.2, deadlock_counting s t h.0 h.1 h.3, keeping_within_counting c turns (condemned s h.0) t h.1 s' d' h.4)
 
-  pub keeping_counting : (c : Victims) (s : State) (t : ℕ) (d : Deadlock) (s' : State) (d' : Deadlock) → SettlesKeeping c s t d s' d' → SettlesKeeping c (counting k s) t d (counting k s') d'
+  pub keeping_counting : (c : Victims) (s : State) (t : ℕ) (d : Deadlock) (s' : State) (d' : Deadlock) → SettlesKeeping c s t d s' d'
+      → SettlesKeeping c (counting k s) t d (counting k s') d'
   keeping_counting c s t d s' d' h = (h.0, keeping_within_counting c h.0 s t d s' d' h.1)
 
-  wait_keeping_counting : (by : Detect) (c : Victims) (s : State) (t : ℕ) (d : Deadlock) (s' : State) (d' : Deadlock) → WaitSettlesKeeping by c s t d s' d' → WaitSettlesKeeping by c (counting k s) t d (counting k s') d'
+  wait_keeping_counting : (by : Detect) (c : Victims) (s : State) (t : ℕ) (d : Deadlock) (s' : State) (d' : Deadlock)
+      → WaitSettlesKeeping by c s t d s' d' → WaitSettlesKeeping by c (counting k s) t d (counting k s') d'
   wait_keeping_counting AtBlock c s t d s' d' h = keeping_counting c s t d s' d' h
   wait_keeping_counting ByWatcher c s t d s' d' h = h
 
-  pub locks_keeping_counting : (s : State) (t : ℕ) (n : NodeId) (m : Mode) (d : Deadlock) (s' : State) (d' : Deadlock) → LocksKeeping s t n m d s' d' → LocksKeeping (counting k s) t n m d (counting k s') d'
+  pub locks_keeping_counting : (s : State) (t : ℕ) (n : NodeId) (m : Mode) (d : Deadlock) (s' : State) (d' : Deadlock) → LocksKeeping s t n m d s' d'
+      → LocksKeeping (counting k s) t n m d (counting k s') d'
   locks_keeping_counting s t n m d s' d' h = record {
     at_once = h.at_once;
     waits = λ e. wait_keeping_counting s.detect s.victims (enqueued s t n (wanted s t n m)) t d s' d' (h.waits e);
   }
 
   -- a lawful table with this count is a lawful manager
-  pub lawful_manager : (v : TableView) (counts : Counters) → IsLawful (table_state v) → AreHeaders v.headers → ListsAgree v → StandOnce v → HasNoConflict (table_state v) → (v.detect ≡ AtBlock → HasNoCycle (table_state v)) → (table_state v).most ≤ most_slots
+  pub lawful_manager : (v : TableView) (counts : Counters) → IsLawful (table_state v) → AreHeaders v.headers → ListsAgree v → StandOnce v
+      → HasNoConflict (table_state v) → (v.detect ≡ AtBlock → HasNoCycle (table_state v)) → (table_state v).most ≤ most_slots
       → IsLawfulManager (record { table = v; accepted = k; counters = counts })
   lawful_manager v counts law headers lists unique conflict cycle few = record {
     lawful = lawful_counting (table_state v) law;

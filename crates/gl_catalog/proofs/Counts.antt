@@ -1,6 +1,7 @@
 -- What counting a command comes to.
 use Rattle.gl_slots.specs.Limit.{most_slots}
-use Rattle.std.specs.Prelude.{◌≡◌, ℕ, zero, suc, ◌+◌, ◌-◌, ◌<◌, ◌≤◌, Bool, true, false, not, List, [], ◌∷◌, ◌++◌, cond, get_or, is_some, length, max, take, Err, Option, Some, None}
+use Rattle.std.specs.Prelude.{◌≡◌, ℕ, zero, suc, ◌+◌, ◌-◌, ◌<◌, ◌≤◌, Bool, true, false, not, List, [], ◌∷◌, ◌++◌, cond, get_or, is_some, length, max}
+use Rattle.std.specs.Prelude.{take, Err, Option, Some, None}
 use Rattle.std.specs.List.{count_by, range_with_len}
 use Rattle.std.proofs.Common.{refl, ap, sym, ◌∙◌, arith}
 use Rattle.std.proofs.lemmas.Bool.Decides.{nat_tests}
@@ -41,7 +42,8 @@ pub max_none : (k : ℕ) → max k 0 ≡ k
 max_none k = omega arith
 
 -- a notice more, where it counts and where it does not
-counts_yes : (p : TxnId × Notice → Bool) (k : ℕ) (xs : Told) (x : TxnId × Notice) → p x ≡ true → rises k (count_by p (xs ++ x ∷ [])) ≡ rises (rises k (count_by p xs)) 1
+counts_yes : (p : TxnId × Notice → Bool) (k : ℕ) (xs : Told) (x : TxnId × Notice) → p x ≡ true
+    → rises k (count_by p (xs ++ x ∷ [])) ≡ rises (rises k (count_by p xs)) 1
 counts_yes p k xs x is = ap (rises k) (sum_by_push (λ y. cond (p y) 1 0) xs x ∙ ap (λ b. count_by p xs + cond b 1 0) is) ∙ sym (rises_twice k (count_by p xs) 1)
 
 counts_no : (p : TxnId × Notice → Bool) (k : ℕ) (xs : Told) (x : TxnId × Notice) → p x ≡ false → rises k (count_by p (xs ++ x ∷ [])) ≡ rises k (count_by p xs)
@@ -74,7 +76,8 @@ notices_snoc xs t notice.Gone k = λ i. record k {
 }
 
 -- the notices are counted one after the other
-pub notices_more : (xs : Told) (i : ℕ) (d : TxnId × Notice) (k : Counters) → i < length xs → with_notices (take (i + 1) xs) k ≡ with_notice (get_or xs i d).1 (with_notices (take i xs) k)
+pub notices_more : (xs : Told) (i : ℕ) (d : TxnId × Notice) (k : Counters) → i < length xs
+    → with_notices (take (i + 1) xs) k ≡ with_notice (get_or xs i d).1 (with_notices (take i xs) k)
 notices_more xs i d k less = ap (λ ys. with_notices ys k) (take_more xs i d less) ∙ notices_snoc (take i xs) (get_or xs i d).0 (get_or xs i d).1 k
 
 -- how many wait in the slots below k
@@ -85,7 +88,8 @@ waiting_below s k = count_by (λ t. is_wait (status_of s t)) (range_with_len 0 k
 pub waiting_more : (s : State) (k : ℕ) → waiting_below s (k + 1) ≡ waiting_below s k + cond (is_wait (status_of s k)) 1 0
 waiting_more s k =
     let one : ℕ → ℕ = λ t. cond (is_wait (status_of s t)) 1 0 in
-    sym (sum-map one (range_with_len 0 (k + 1))) ∙ sum_by-map-range_with_len_more (λ n. n) one 0 k k (omega arith) ∙ ap (λ n. n + one k) (sum-map one (range_with_len 0 k))
+    sym (sum-map one (range_with_len 0 (k + 1))) ∙ sum_by-map-range_with_len_more (λ n. n) one 0 k k (omega arith)
+    ∙ ap (λ n. n + one k) (sum-map one (range_with_len 0 k))
 
 -- behind slots in which nobody waits the count stays
 none_above : (s : State) (k j : ℕ) → ((t : ℕ) → k ≤ t → is_wait (status_of s t) ≡ false) → waiting_below s (k + j) ≡ waiting_below s k
@@ -109,7 +113,8 @@ past_most s law t past = by (s.txns t) refl
     by (Some x) e = let below = law.slots_below t (ap is_some e) in absurd (omega (arith, below, past))
 
 -- a set of the slots of those who wait has as many as wait
-pub waiting_slots : (s : State) (w : Slots) → IsLawful s → s.most ≤ most_slots → ((u : ℕ) → has_slot w u ≡ is_wait (status_of s u)) → length (slots_of w) ≡ waiting_below s s.most
+pub waiting_slots : (s : State) (w : Slots) → IsLawful s → s.most ≤ most_slots → ((u : ℕ) → has_slot w u ≡ is_wait (status_of s u))
+    → length (slots_of w) ≡ waiting_below s s.most
 waiting_slots s w law few is =
     let limit : most_slots ≡ s.most + (most_slots - s.most) = omega (arith, few) in
     length-filter (has_slot w) (range_with_len 0 slot_limit)
@@ -125,13 +130,15 @@ few_wait s few =
     omega (arith, some, all, few)
 
 -- nobody waits for a node of which the queue is refused, since it does not live
-pub no_waiters : (A : Type 0) (s : State) (n : NodeId) (r : Refusal) → IsLawful s → RefusesOnly {A = A} (first_refusal (group_tests s n)) (Err r) → length (s.queue n) ≡ 0
+pub no_waiters : (A : Type 0) (s : State) (n : NodeId) (r : Refusal) → IsLawful s → RefusesOnly {A = A} (first_refusal (group_tests s n)) (Err r)
+    → length (s.queue n) ≡ 0
 no_waiters A s n r law refuses = dead (is_live s.graph n) refl (s.queue n) refl refuses
   where
     first : (w : Waiter) (ws : List Waiter) → is_among_waiters w.0 (w ∷ ws) ≡ true
     first w ws = grind (arith, nat_tests)
 
-    dead : (live : Bool) → is_live s.graph n ≡ live → (ws : List Waiter) → s.queue n ≡ ws → RefusesOnly {A = A} (first_refusal (where_true (not live) NoSuchNode ∷ [])) (Err r) → length ws ≡ 0
+    dead : (live : Bool) → is_live s.graph n ≡ live → (ws : List Waiter) → s.queue n ≡ ws
+        → RefusesOnly {A = A} (first_refusal (where_true (not live) NoSuchNode ∷ [])) (Err r) → length ws ≡ 0
     dead live is [] e refused = refl
     dead true is (w ∷ ws) e refused = absurd (no refused)
     dead false is (w ∷ ws) e refused = absurd (true≢false (sym (law.waits_live w.0 n (ap (is_among_waiters w.0) e ∙ first w ws)) ∙ is))

@@ -18,15 +18,19 @@ use Rattle.gl_catalog.specs.Tests.{refusal_of}
 use Rattle.gl_catalog.proofs.Carried.{accepted_step}
 
 -- no test refused, and the table took the record away
-pub deleted_step : {counts : Counters} (table new : TableView) (k : ℕ) (v : ManagerView) → record { table = table; accepted = k; counters = counts } ≡ v → (t : TxnId) (r : NodeId) (told' : Notices) → refusal_of (state_of v) (command.Delete t r) ≡ None
-    → table_state new ≡ deleted (table_state table) r → told'.items ≡ told (table_state table) (table_state new) → CallSteps (state_of v) (command.Delete t r) done (Ok told') (counting (k + 1) (table_state new))
+pub deleted_step : {counts : Counters} (table new : TableView) (k : ℕ) (v : ManagerView)
+    → record { table = table; accepted = k; counters = counts } ≡ v → (t : TxnId) (r : NodeId) (told' : Notices)
+    → refusal_of (state_of v) (command.Delete t r) ≡ None
+    → table_state new ≡ deleted (table_state table) r → told'.items ≡ told (table_state table) (table_state new)
+    → CallSteps (state_of v) (command.Delete t r) done (Ok told') (counting (k + 1) (table_state new))
 deleted_step table new k v is t r told' free state tells =
     subst (λ (x : ManagerView). CallSteps (state_of x) (command.Delete t r) done (Ok told') (counting (k + 1) (table_state new))) is
     (accepted_step done (command.Delete t r) (counting k (table_state table)) told' (counting k (table_state new)) (counting (k + 1) (table_state new))
     (subst (λ (x : ManagerView). refusal_of (state_of x) (command.Delete t r) ≡ None) (sym is) free) refl (refl, tells, ap (counting k) state) refl)
 
 -- the same of a record that was forgotten
-pub forgotten_step : {counts : Counters} (table new : TableView) (k : ℕ) (v : ManagerView) → record { table = table; accepted = k; counters = counts } ≡ v → (r : NodeId)
+pub forgotten_step : {counts : Counters} (table new : TableView) (k : ℕ) (v : ManagerView)
+    → record { table = table; accepted = k; counters = counts } ≡ v → (r : NodeId)
     → refusal_of (state_of v) (command.Forget r) ≡ None
     → table_state new ≡ with_graph (table_state table) (without_node (table_state table).graph r)
     → CallSteps (state_of v) (command.Forget r) (doing []) (Ok tt) (counting (k + 1) (table_state new))

@@ -33,7 +33,8 @@ accepts_detect s (command.Rekey t r i key) a told' s' acc = ap (λ z. z.detect) 
 accepts_detect s (command.Move t n ps) a told' s' acc = ap (λ z. z.detect) acc.2
 accepts_detect s command.Begin a told' s' acc = ap (λ z. z.detect) acc.4
 accepts_detect s (command.Lock t n m) a told' s' acc =
-    split (enters_at s t.slot n m) (λ e. ap (λ z. z.detect) (acc.0.at_once e)) (λ e. wait_detect s.detect s.victims (enqueued s t.slot n (wanted s t.slot n m)) s' t.slot (acc.0.waits e))
+    split (enters_at s t.slot n m) (λ e. ap (λ z. z.detect) (acc.0.at_once e))
+    (λ e. wait_detect s.detect s.victims (enqueued s t.slot n (wanted s t.slot n m)) s' t.slot (acc.0.waits e))
 accepts_detect s (command.Try t n m) a told' s' acc = ap (λ z. z.detect) acc.2
 accepts_detect s (command.Unlock t n) a told' s' acc = ap (λ z. z.detect) acc.2
 accepts_detect s (command.Escalate t n) a told' s' acc = ap (λ z. z.detect) acc.2
@@ -48,4 +49,5 @@ accepts_detect s (command.Adopt f keys) a told' s' acc = ap (λ z. z.detect) acc
 accepts_detect s (command.Forget r) a told' s' acc = ap (λ z. z.detect) acc.2
 
 pub steps_keep_detect : (s s' : State) (c : Command) (a : Answer) (told' : Told) → Step s c a told' s' → s'.detect ≡ s.detect
-steps_keep_detect s s' c a told' step = each_step (λ x. x.detect ≡ s.detect) s c a told' s' refl (λ next same. same) (λ free next acc. accepts_detect s c a told' next acc) step
+steps_keep_detect s s' c a told' step =
+    each_step (λ x. x.detect ≡ s.detect) s c a told' s' refl (λ next same. same) (λ free next acc. accepts_detect s c a told' next acc) step

@@ -13,10 +13,12 @@ use Rattle.gl_catalog.specs.Tests.{refusal_of, may_want_memory}
 use Rattle.gl_catalog.specs.Step.{Accepts, Answers, Goes, Step, Unchanged, query_answer}
 
 -- a relation of the state before and after that holds where nothing changes, and that does not ask for the count of accepted commands
-pub each_step : (After : State → Type 0) (s : State) (c : Command) (a : Answer) (told : Told) (s' : State) → After s → ((next : State) → After next → After (accepted_once next))
+pub each_step : (After : State → Type 0) (s : State) (c : Command) (a : Answer) (told : Told) (s' : State) → After s
+    → ((next : State) → After next → After (accepted_once next))
     → (refusal_of s c ≡ None → (next : State) → Accepts s c a told next → After next) → Step s c a told s' → After s'
 each_step After s c a told s' stays counted accepted step =
-    ⊎_elim (λ goes. by (refusal_of s c) refl goes) (λ (want : (may_want_memory s c ≡ true) × Unchanged s a told s' (answer.Refused no.NoMemory)). subst After (sym want.1.same) stays) step
+    ⊎_elim (λ goes. by (refusal_of s c) refl goes)
+    (λ (want : (may_want_memory s c ≡ true) × Unchanged s a told s' (answer.Refused no.NoMemory)). subst After (sym want.1.same) stays) step
   where
     answered : refusal_of s c ≡ None → (q : Option Answer) → Answers s c q a told s' → After s'
     answered free (Some x) same = subst After (sym same.same) stays

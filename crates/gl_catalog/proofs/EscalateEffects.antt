@@ -45,7 +45,8 @@ front_among most g t [] h = refl
 front_among most g t (w ∷ q) h =
     let both = or_no (is_waiter t w) (is_among_waiters t q) h in
     split (fits most g w.0 w.1)
-    (λ e. ap (λ b. is_among_waiters t (if b then w ∷ front most (with_mode g w.0 w.1) q else [])) e ∙ ap₂ (λ a b. a || b) both.0 (front_among most (with_mode g w.0 w.1) t q both.1))
+    (λ e. ap (λ b. is_among_waiters t (if b then w ∷ front most (with_mode g w.0 w.1) q else [])) e
+    ∙ ap₂ (λ a b. a || b) both.0 (front_among most (with_mode g w.0 w.1) t q both.1))
     (λ e. ap (λ b. is_among_waiters t (if b then w ∷ front most (with_mode g w.0 w.1) q else [])) e)
 
 dead_x : (g : Graph) (held : NodeId → Mode) (k : ℕ) (q : NodeId) → node_at g q ≡ None → held q ≡ NL → eff_x k g held q ≡ false
@@ -56,7 +57,9 @@ pub dead_s : (g : Graph) (held : NodeId → Mode) (k : ℕ) (q : NodeId) → nod
 dead_s g held zero q e h = ap is_read h
 dead_s g held (suc k) q e h = ap₂ (λ m o. is_read m || list_any (eff_s k g held) (parents_in o)) h e
 
-effects : (x y x' y' : Bool) → (x ≡ true → x' ≡ true) → (y ≡ true → y' ≡ true) → is_at_least_effect (if x' then effect.X else (if y' then effect.S else effect.None)) (if x then effect.X else (if y then effect.S else effect.None)) ≡ true
+effects : (x y x' y' : Bool) → (x ≡ true → x' ≡ true) → (y ≡ true → y' ≡ true)
+    → is_at_least_effect (if x' then effect.X else (if y' then effect.S else effect.None))
+    (if x then effect.X else (if y then effect.S else effect.None)) ≡ true
 effects x y true y' f g = refl
 effects true y false y' f g = absurd (no (f refl))
 effects false true false true f g = refl
@@ -92,7 +95,9 @@ module _ (s : State) (law : IsLawful s) (t : ℕ) (n : NodeId) (active : status_
   grew p =
       ap (λ b. is_at_least (if b && same_node p n then wanted s t n (asked_by_escalation s t n) else s.held t p) (s.held t p)) (number_same t t refl)
       ∙ split (same_node p n)
-      (λ e. ap (λ b. is_at_least (if b then wanted s t n (asked_by_escalation s t n) else s.held t p) (s.held t p)) e ∙ ap (λ x. is_at_least (wanted s t n (asked_by_escalation s t n)) (s.held t x)) (same_node-equal p n e) ∙ supremum-above (s.held t n) (asked_by_escalation s t n))
+      (λ e. ap (λ b. is_at_least (if b then wanted s t n (asked_by_escalation s t n) else s.held t p) (s.held t p)) e
+      ∙ ap (λ x. is_at_least (wanted s t n (asked_by_escalation s t n)) (s.held t x)) (same_node-equal p n e)
+      ∙ supremum-above (s.held t n) (asked_by_escalation s t n))
       (λ e. ap (λ b. is_at_least (if b then wanted s t n (asked_by_escalation s t n) else s.held t p) (s.held t p)) e ∙ at_least-refl (s.held t p))
 
   asked_reads : is_read (asked_by_escalation s t n) ≡ true
@@ -111,7 +116,8 @@ module _ (s : State) (law : IsLawful s) (t : ℕ) (n : NodeId) (active : status_
   covers : (c : NodeId) → gone c ≡ true → (is_child s.graph n c ≡ true) × (holds (members up c) t ≡ true) × (holds_child up t c ≡ false)
       × ((not (same_mode (up.held t c) X) || list_all (λ p. same_mode (up.held t p) X) (parents_of s.graph c)) ≡ true)
   covers c h =
-      let a = and_both (is_child s.graph n c && holds (members up c) t && not (holds_child up t c)) (not (same_mode (up.held t c) X) || list_all (λ p. same_mode (up.held t p) X) (parents_of s.graph c)) h in
+      let a = and_both (is_child s.graph n c && holds (members up c) t && not (holds_child up t c))
+      (not (same_mode (up.held t c) X) || list_all (λ p. same_mode (up.held t p) X) (parents_of s.graph c)) h in
       let b = and_both (is_child s.graph n c && holds (members up c) t) (not (holds_child up t c)) a.0 in
       let d = and_both (is_child s.graph n c) (holds (members up c) t) b.0 in
       (d.0, d.1, not-true (holds_child up t c) b.1, a.1)
@@ -125,7 +131,8 @@ module _ (s : State) (law : IsLawful s) (t : ℕ) (n : NodeId) (active : status_
       split (gone p)
       (λ e.
       let c_held = (covers c h).1 in
-      let there = some_at (λ x. is_child s.graph p x && holds (members up x) t) (nodes s.graph) c (listed s.graph law.graph c (child_live s.graph c p child)) (both _ _ child c_held) in
+      let there = some_at (λ x. is_child s.graph p x && holds (members up x) t) (nodes s.graph) c
+      (listed s.graph law.graph c (child_live s.graph c p child)) (both _ _ child c_held) in
       absurd (true≢false (sym there ∙ (covers p e).2)))
       (λ e. e)
 
@@ -133,25 +140,31 @@ module _ (s : State) (law : IsLawful s) (t : ℕ) (n : NodeId) (active : status_
   x_kept p e h = ap (λ m. same_mode m X) (held_kept p e) ∙ x_more (s.held t p) (up.held t p) (grew p) h
 
   -- a cut stays one
-  path_x : (q r : NodeId) (way : List NodeId) → IsRoute s.graph q way r → parents_of s.graph r ≡ [] → list_any (λ p. same_mode (s.held t p) X) (q ∷ way) ≡ true → list_any (λ p. same_mode (after.held t p) X) (q ∷ way) ≡ true
+  path_x : (q r : NodeId) (way : List NodeId) → IsRoute s.graph q way r → parents_of s.graph r ≡ []
+      → list_any (λ p. same_mode (s.held t p) X) (q ∷ way) ≡ true → list_any (λ p. same_mode (after.held t p) X) (q ∷ way) ≡ true
   path_x q r [] route root h =
       or_elim (same_mode (s.held t q) X) false h
-      (λ here. or_left (same_mode (after.held t q) X) false (x_kept q (split (gone q) (λ e. absurd (no (sym (ap (list_any (same_node n)) (ap (parents_of s.graph) route ∙ root)) ∙ (covers q e).0))) (λ e. e)) here)) (λ none. absurd (no none))
+      (λ here. or_left (same_mode (after.held t q) X) false
+      (x_kept q (split (gone q) (λ e. absurd (no (sym (ap (list_any (same_node n)) (ap (parents_of s.graph) route ∙ root)) ∙ (covers q e).0)))
+      (λ e. e)) here)) (λ none. absurd (no none))
   path_x q r (p ∷ way) route root h =
       or_elim (same_mode (s.held t q) X) (list_any (λ y. same_mode (s.held t y) X) (p ∷ way)) h
       (λ here. split (gone q)
       (λ e.
       let at_q = x_more (s.held t q) (up.held t q) (grew q) here in
-      let above = or_elim (not (same_mode (up.held t q) X)) (list_all (λ y. same_mode (up.held t y) X) (parents_of s.graph q)) (covers q e).3 (λ f. absurd (no (sym (ap not at_q) ∙ f))) (λ a. a) in
+      let above = or_elim (not (same_mode (up.held t q) X)) (list_all (λ y. same_mode (up.held t y) X) (parents_of s.graph q)) (covers q e).3
+      (λ f. absurd (no (sym (ap not at_q) ∙ f))) (λ a. a) in
       let at_p : same_mode (up.held t p) X ≡ true = all_at (λ y. same_mode (up.held t y) X) (parents_of s.graph q) p route.0 above in
-      or_right (same_mode (after.held t q) X) _ (or_left (same_mode (after.held t p) X) _ (ap (λ m. same_mode m X) (held_kept p (above_stays q p e route.0)) ∙ at_p)))
+      or_right (same_mode (after.held t q) X) _
+      (or_left (same_mode (after.held t p) X) _ (ap (λ m. same_mode m X) (held_kept p (above_stays q p e route.0)) ∙ at_p)))
       (λ e. or_left (same_mode (after.held t q) X) _ (x_kept q e here)))
       (λ there. or_right (same_mode (after.held t q) X) _ (path_x p r way route.1 root there))
 
   x_later : (q : NodeId) → is_live s.graph q ≡ true → EffX s t q → EffX after t q
   x_later q live h = (cut_set_on after law.graph t q live).1 (λ way path. path_x q path.0 way path.1 path.2.1 ((cut_set_on s law.graph t q live).0 h way path))
 
-  s_later : (q : NodeId) → is_live s.graph q ≡ true → eff_s (node_count s.graph) s.graph (s.held t) q ≡ true → eff_s (node_count s.graph) s.graph (after.held t) q ≡ true
+  s_later : (q : NodeId) → is_live s.graph q ≡ true → eff_s (node_count s.graph) s.graph (s.held t) q ≡ true
+      → eff_s (node_count s.graph) s.graph (after.held t) q ≡ true
   s_later q live h =
       let old = eff_s_route s.graph (s.held t) (node_count s.graph) q h in
       split (gone old.0)
@@ -160,7 +173,8 @@ module _ (s : State) (law : IsLawful s) (t : ℕ) (n : NodeId) (active : status_
       found n (old.1 ++ n ∷ []) way (ap is_read (held_kept n node_stays) ∙ node_reads))
       (λ e. found old.0 old.1 old.2 (ap is_read (held_kept old.0 e) ∙ read_more (s.held t old.0) (up.held t old.0) (grew old.0) old.3))
     where
-      found : (r : NodeId) (way : List NodeId) → IsRoute s.graph q way r → is_read (after.held t r) ≡ true → eff_s (node_count s.graph) s.graph (after.held t) q ≡ true
+      found : (r : NodeId) (way : List NodeId) → IsRoute s.graph q way r → is_read (after.held t r) ≡ true
+          → eff_s (node_count s.graph) s.graph (after.held t) q ≡ true
       found r way route reads = read_on_eff s.graph law.graph (after.held t) q live (r, way, route, reads)
 
   pub lowers_none : (q : NodeId) → is_at_least_effect (effective after t q) (effective s t q) ≡ true
@@ -168,16 +182,19 @@ module _ (s : State) (law : IsLawful s) (t : ℕ) (n : NodeId) (active : status_
       cases_of (node_at s.graph q)
       (λ gone'.
       let nothing = nobody_holds s law t q (λ live. no (sym (ap is_some gone') ∙ live)) in
-      effects (eff_x (node_count s.graph) s.graph (s.held t) q) (eff_s (node_count s.graph) s.graph (s.held t) q) (eff_x (node_count s.graph) s.graph (after.held t) q) (eff_s (node_count s.graph) s.graph (after.held t) q)
+      effects (eff_x (node_count s.graph) s.graph (s.held t) q) (eff_s (node_count s.graph) s.graph (s.held t) q)
+      (eff_x (node_count s.graph) s.graph (after.held t) q) (eff_s (node_count s.graph) s.graph (after.held t) q)
       (λ h. absurd (true≢false (sym h ∙ dead_x s.graph (s.held t) (node_count s.graph) q gone' nothing)))
       (λ h. absurd (true≢false (sym h ∙ dead_s s.graph (s.held t) (node_count s.graph) q gone' nothing))))
       (λ x there.
-      effects (eff_x (node_count s.graph) s.graph (s.held t) q) (eff_s (node_count s.graph) s.graph (s.held t) q) (eff_x (node_count s.graph) s.graph (after.held t) q) (eff_s (node_count s.graph) s.graph (after.held t) q)
+      effects (eff_x (node_count s.graph) s.graph (s.held t) q) (eff_s (node_count s.graph) s.graph (s.held t) q)
+      (eff_x (node_count s.graph) s.graph (after.held t) q) (eff_s (node_count s.graph) s.graph (after.held t) q)
       (x_later q (ap is_some there)) (s_later q (ap is_some there)))
 
 pub escalate_lowers_none : EscalateLowersNone
 escalate_lowers_none t n s s' a told law step q =
-    each_step (λ x. is_at_least_effect (effective x t.slot q) (effective s t.slot q) ≡ true) s (command.Escalate t n) a told s' (effect_refl (effective s t.slot q)) (λ next same. same)
+    each_step (λ x. is_at_least_effect (effective x t.slot q) (effective s t.slot q) ≡ true) s (command.Escalate t n) a told s'
+    (effect_refl (effective s t.slot q)) (λ next same. same)
     (λ free next acc.
     let t1 = not_refused (worn s) _ free in
     let t2 = not_refused (no_txn s t) _ t1.1 in

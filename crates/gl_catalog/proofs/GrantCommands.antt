@@ -17,7 +17,8 @@ use Rattle.gl_model.specs.Tellings.{told, told_but, Told}
 use Rattle.gl_catalog.specs.Step.{Accepts}
 use Rattle.gl_model.specs.Calls.{accepted_once, enters_at, free_slot, wanted, enqueued, released}
 use Rattle.gl_model.proofs.telling.Follows.{Follows, GrantedTo, WaitsWell, lawful_waits, follows_refl, follows_same, follows_trans}
-use Rattle.gl_catalog.proofs.OtherChanges.{other, with_grant_follows, begun_follows, enqueued_follows, settled_follows, wait_settles_follows, released_follows, escalated_follows, unlocked_follows, cancelled_follows}
+use Rattle.gl_catalog.proofs.OtherChanges.{other, with_grant_follows, begun_follows, enqueued_follows, settled_follows, wait_settles_follows}
+use Rattle.gl_catalog.proofs.OtherChanges.{released_follows, escalated_follows, unlocked_follows, cancelled_follows}
 use Rattle.gl_catalog.proofs.ToldGrants.{tells, told_of_grant, told_but_of_grant}
 use Rattle.gl_catalog.proofs.Keeps.{Keeps, keeps_follows}
 
@@ -47,7 +48,8 @@ none_dead age (Some x) h k = true≢false (sym h)
 
 -- a slot that is free is not that of a transaction that lives
 pub free_differs : (s : State) (t : TxnId) → lives s t ≡ true → (u : ℕ) → free_slot s ≡ Some u → u ≢ t.slot
-free_differs s t alive u free e = none_dead t.age (s.txns t.slot) (ap (λ x. is_none (s.txns x)) (sym e) ∙ found_passes (λ v. is_none (s.txns v)) (slots s) u free) alive
+free_differs s t alive u free e = none_dead t.age (s.txns t.slot)
+    (ap (λ x. is_none (s.txns x)) (sym e) ∙ found_passes (λ v. is_none (s.txns v)) (slots s) u free) alive
 
 module _ (s : State) (law : IsLawful s) (t : TxnId) (alive : lives s t ≡ true) (next : State) where
   abbrev Kept : Told → Type 0
@@ -68,7 +70,8 @@ module _ (s : State) (law : IsLawful s) (t : TxnId) (alive : lives s t ≡ true)
 
   kept_quiet : (told' : Told) → next.txns t.slot ≡ s.txns t.slot → Follows s next t.slot → Kept told'
   kept_quiet told' same f =
-      keeps_follows s (accepted_once next) t told' alive (accepted_follows s next t.slot f) (λ g. absurd (not_granted s next t.slot same (accepted_grant s next t.slot g)))
+      keeps_follows s (accepted_once next) t told' alive (accepted_follows s next t.slot f)
+      (λ g. absurd (not_granted s next t.slot same (accepted_grant s next t.slot g)))
 
   well : WaitsWell s t.slot
   well = lawful_waits s law t.slot
@@ -81,7 +84,8 @@ module _ (s : State) (law : IsLawful s) (t : TxnId) (alive : lives s t ≡ true)
       kept_told_but u.slot ne told' acc.2
       (split (enters_at s u.slot n m) (λ e. follows_is _ (acc.0.at_once e) (with_grant_follows s u.slot t.slot n _ ne well))
       (λ e. let f = enqueued_follows s u.slot t.slot n (wanted s u.slot n m) ne well in
-      follows_trans s (enqueued s u.slot n (wanted s u.slot n m)) next t.slot f (wait_settles_follows s.detect s.victims (enqueued s u.slot n (wanted s u.slot n m)) u.slot next t.slot (acc.0.waits e) f.well)))
+      follows_trans s (enqueued s u.slot n (wanted s u.slot n m)) next t.slot f
+      (wait_settles_follows s.detect s.victims (enqueued s u.slot n (wanted s u.slot n m)) u.slot next t.slot (acc.0.waits e) f.well)))
 
   pub try_keeps : (u : TxnId) (n : NodeId) (m : Mode) (a : Answer) (told' : Told) → u.slot ≢ t.slot → Accepts s (command.Try u n m) a told' next → Kept told'
   try_keeps u n m a told' ne acc = kept_quiet told' (ap (λ x. x.txns t.slot) acc.2) (follows_is _ acc.2 (with_grant_follows s u.slot t.slot n _ ne well))
@@ -104,7 +108,8 @@ module _ (s : State) (law : IsLawful s) (t : TxnId) (alive : lives s t ≡ true)
   pub begin_keeps : (a : Answer) (told' : Told) → Accepts s command.Begin a told' next → Kept told'
   begin_keeps a told' acc =
       let ne = free_differs s t alive acc.0 acc.1 in
-      kept_quiet told' (ap (λ x. x.txns t.slot) acc.4 ∙ ap (λ b. if b then Some (record { age = s.begins + 1; status = Active }) else s.txns t.slot) (other acc.0 t.slot ne))
+      kept_quiet told' (ap (λ x. x.txns t.slot) acc.4
+      ∙ ap (λ b. if b then Some (record { age = s.begins + 1; status = Active }) else s.txns t.slot) (other acc.0 t.slot ne))
       (follows_is _ acc.4 (begun_follows s acc.0 t.slot ne well))
 
   pub same_keeps : (told' : Told) → (s' : State) → s' ≡ s → {rows : Bool} → Keeps s s' t told' rows

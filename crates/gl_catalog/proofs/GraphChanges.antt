@@ -1,5 +1,6 @@
 -- New nodes, a node taken out, and a node with other parents: what they leave to a holder t.
-use Rattle.std.specs.Prelude.{◌≡◌, ◌≢◌, ℕ, zero, suc, ◌+◌, ◌≤◌, ◌<◌, Bool, true, false, not, ◌&&◌, ◌||◌, ◌==◌, nat_lt, List, [], ◌∷◌, Option, Some, None, is_some, if◌then◌else◌}
+use Rattle.std.specs.Prelude.{◌≡◌, ◌≢◌, ℕ, zero, suc, ◌+◌, ◌≤◌, ◌<◌, Bool, true, false, not, ◌&&◌, ◌||◌, ◌==◌, nat_lt, List, [], ◌∷◌, Option, Some}
+use Rattle.std.specs.Prelude.{None, is_some, if◌then◌else◌}
 use Rattle.std.specs.List.{list_all}
 use Rattle.std.proofs.Common.{refl, sym, ap, ap₂, subst, ◌∙◌, arith, rules}
 use Rattle.std.proofs.lemmas.Bool.Decides.{nat_tests}
@@ -29,7 +30,12 @@ use Rattle.std.proofs.Math.Bool.{or-true}
 -- under an effective X of u, t has no effective S
 pub quiet_under : (s : State) → IsLawful s → (u t : ℕ) → u ≢ t → (n : NodeId) → EffX s u n → ReadOn s.graph (s.held t) n → ⊥
 quiet_under s law u t ne n x r =
-    no_conflict_law s law u t n (record { differ = ne; writes = x; reads = read_on_eff s.graph law.graph (s.held t) n (read_lives s law t n r.0 r.1 r.2 r.3) r })
+    no_conflict_law s law u t n (record {
+      differ = ne;
+      writes = x;
+      reads =
+          read_on_eff s.graph law.graph (s.held t) n (read_lives s law t n r.0 r.1 r.2 r.3) r;
+    })
 
 pub held_x : (k : ℕ) (g : Graph) (h : NodeId → Mode) (n : NodeId) → same_mode (h n) X ≡ true → eff_x k g h n ≡ true
 held_x zero g h n x = x
@@ -38,7 +44,8 @@ held_x (suc k) g h n x = ap (λ b. b || (not (no_parents (parents_of g n)) && li
 pub x_here : (s : State) (u : ℕ) (n : NodeId) → same_mode (s.held u n) X ≡ true → EffX s u n
 x_here s u n x = held_x (node_count s.graph) s.graph (s.held u) n x
 
-pub x_on_parents : (s : State) → IsLawful s → (u : ℕ) (n : NodeId) → is_live s.graph n ≡ true → not (no_parents (parents_of s.graph n)) ≡ true → list_all (λ p. same_mode (s.held u p) X) (parents_of s.graph n) ≡ true → EffX s u n
+pub x_on_parents : (s : State) → IsLawful s → (u : ℕ) (n : NodeId) → is_live s.graph n ≡ true → not (no_parents (parents_of s.graph n)) ≡ true
+    → list_all (λ p. same_mode (s.held u p) X) (parents_of s.graph n) ≡ true → EffX s u n
 x_on_parents s law u n live some all =
     eff_x_any s law u 1 n live (ap (λ b. same_mode (s.held u n) X || b) (ap₂ (λ a b. a && b) some all) ∙ or-true _)
 
@@ -95,7 +102,8 @@ born_no_records b g (n ∷ ns) plain above =
     let both = and_both _ _ plain in
     born_no_records b (born_node g n) ns both.1 (λ c new. by c (c.birth == g.births + 1) (not-true _ both.0) (above c new))
   where
-    by : (c : NodeId) (e : Bool) → is_record_shape (Some n.shape) ≡ false → is_record_shape (shape_of g c) ≡ false → is_record_shape (shape_in (with_key c.key (if e then Some n else g.at c.birth))) ≡ false
+    by : (c : NodeId) (e : Bool) → is_record_shape (Some n.shape) ≡ false → is_record_shape (shape_of g c) ≡ false
+        → is_record_shape (shape_in (with_key c.key (if e then Some n else g.at c.birth))) ≡ false
     by c true p a = shape_found c.key n p
     by c false p a = a
 
@@ -120,7 +128,8 @@ module _ (s s' : State) (law : IsLawful s) (ns : List Node) (made : s'.graph ≡
   born_kinds n live _ = kind_same (node_at s.graph n) (node_at s'.graph n) (born_same n (old_below s.graph law.graph ns n live))
 
   -- new nodes, where the records among them are out of t's reach
-  pub born_step_records : (t : ℕ) → ((c : NodeId) → s.graph.births < c.birth → is_record_shape (shape_of s'.graph c) ≡ true → ReadOn s'.graph (s.held t) c → ⊥) → GraphStep s.graph s'.graph (s.held t) (is_new s.graph)
+  pub born_step_records : (t : ℕ) → ((c : NodeId) → s.graph.births < c.birth → is_record_shape (shape_of s'.graph c) ≡ true
+      → ReadOn s'.graph (s.held t) c → ⊥) → GraphStep s.graph s'.graph (s.held t) (is_new s.graph)
   born_step_records t records = record {
     same = λ c h. born_same c (old_births s.graph c h);
     before = λ c h r. not_born s.graph law.graph c (new_births s.graph c h) (read_lives s law t c r.0 r.1 r.2 r.3);
@@ -131,7 +140,8 @@ module _ (s s' : State) (law : IsLawful s) (ns : List Node) (made : s'.graph ≡
   -- new nodes, none a record
   pub born_step : (t : ℕ) → no_records ns ≡ true → GraphStep s.graph s'.graph (s.held t) (is_new s.graph)
   born_step t plain =
-      born_step_records t (λ c new rec _. true≢false (sym rec ∙ ap (λ g. is_record_shape (shape_of g c)) made ∙ born_no_records s.graph.births s.graph ns plain (unborn_shape s.graph law.graph) c new))
+      born_step_records t (λ c new rec _. true≢false
+      (sym rec ∙ ap (λ g. is_record_shape (shape_of g c)) made ∙ born_no_records s.graph.births s.graph ns plain (unborn_shape s.graph law.graph) c new))
 
 -- the node of one birth is changed, and keeps its key or goes
 abbrev pub KeepsKey : (Option Node → Option Node) → Type 0
@@ -147,7 +157,8 @@ other_key a b (Some n) live ne =
     (λ e. let no_b : (n.key == b) ≡ false = grind (arith, nat_tests) in ap (λ x. if x then Some n else None) no_b)
     (λ e. absurd (no (sym (ap (λ x. is_some (if x then Some n else None)) e) ∙ live)))
 
-pub changed_elsewhere : (g : Graph) (x : NodeId) (f : Option Node → Option Node) → KeepsKey f → is_live g x ≡ true → (c : NodeId) → same_node c x ≡ false → node_at (changed_at g x f) c ≡ node_at g c
+pub changed_elsewhere : (g : Graph) (x : NodeId) (f : Option Node → Option Node) → KeepsKey f → is_live g x ≡ true → (c : NodeId)
+    → same_node c x ≡ false → node_at (changed_at g x f) c ≡ node_at g c
 changed_elsewhere g x f keeps live c ne =
     split (c.birth == x.birth)
     (λ e.
@@ -160,7 +171,8 @@ changed_elsewhere g x f keeps live c ne =
 pub changed_here : (g : Graph) (x : NodeId) (f : Option Node → Option Node) → node_at (changed_at g x f) x ≡ with_key x.key (f (g.at x.birth))
 changed_here g x f = let e : (x.birth == x.birth) ≡ true = grind (arith, nat_tests) in ap (λ b. with_key x.key (if b then f (g.at x.birth) else g.at x.birth)) e
 
-module _ (s s' : State) (law : IsLawful s) (x : NodeId) (f : Option Node → Option Node) (keeps : KeepsKey f) (live : is_live s.graph x ≡ true) (moved : s'.graph ≡ changed_at s.graph x f) where
+module _ (s s' : State) (law : IsLawful s) (x : NodeId) (f : Option Node → Option Node) (keeps : KeepsKey f) (live : is_live s.graph x ≡ true)
+    (moved : s'.graph ≡ changed_at s.graph x f) where
   at_same : (c : NodeId) → same_node c x ≡ false → node_at s'.graph c ≡ node_at s.graph c
   at_same c ne = ap (λ g. node_at g c) moved ∙ changed_elsewhere s.graph x f keeps live c ne
 
@@ -180,7 +192,8 @@ module _ (s s' : State) (law : IsLawful s) (x : NodeId) (f : Option Node → Opt
       (λ e. kind_same (node_at s.graph c) (node_at s'.graph c) (at_same c e))
 
   -- t has no effective S there, before and after
-  pub changed_step : (t : ℕ) → (ReadOn s.graph (s.held t) x → ⊥) → (ReadOn s'.graph (s.held t) x → ⊥) → GraphStep s.graph s'.graph (s.held t) (λ c. same_node c x)
+  pub changed_step : (t : ℕ) → (ReadOn s.graph (s.held t) x → ⊥) → (ReadOn s'.graph (s.held t) x → ⊥)
+      → GraphStep s.graph s'.graph (s.held t) (λ c. same_node c x)
   changed_step t before after = record {
     same = at_same;
     before = λ c e r. before (subst (ReadOn s.graph (s.held t)) (same_node-equal c x e) r);
@@ -207,7 +220,8 @@ reparented_keeps ps key (Some n) e =
     split (n.key == key) (λ h. absurd (some_none (sym (ap (λ b. if b then Some n else None) h) ∙ e)))
     (λ h. ap (λ b. if b then Some (record n { parents = ps }) else None) h)
 
-pub rekeyed_parents_in : (keys : List ℕ) (ps : List NodeId) (key : ℕ) (o : Option Node) → is_some (with_key key o) ≡ true → parents_in (with_key key (rekeyed_node keys ps o)) ≡ ps
+pub rekeyed_parents_in : (keys : List ℕ) (ps : List NodeId) (key : ℕ) (o : Option Node) → is_some (with_key key o) ≡ true
+    → parents_in (with_key key (rekeyed_node keys ps o)) ≡ ps
 rekeyed_parents_in keys ps key None live = absurd (no live)
 rekeyed_parents_in keys ps key (Some n) live =
     split (n.key == key) (λ h. ap (λ b. parents_in (if b then Some (record { key = n.key; shape = Rec keys; parents = ps }) else None)) h)

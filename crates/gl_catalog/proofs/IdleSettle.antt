@@ -28,12 +28,16 @@ module _ (s s' : State) (t : TxnId) (a : Answer) (told : Told) (law : IsLawful s
   goes : (r : Option Refusal) → Goes s (command.Settle t) r a told s' → Quiet
   goes (Some r) same = unchanged r same
   goes None ends =
-      let settled = ends.1.2 in
-      (ends.1.1 ∙ told_settled_same s.victims s ends.0 t.slot law none settled, λ _. ends.2 ∙ ap accepted_once (settled_same s.victims s ends.0 t.slot none settled))
+      let settled = ends.1.2 in (
+        ends.1.1 ∙ told_settled_same s.victims s ends.0 t.slot law none settled,
+        λ _. ends.2
+            ∙ ap accepted_once (settled_same s.victims s ends.0 t.slot none settled),
+      )
 
   pub quiet_step : Step s (command.Settle t) a told s' → Quiet
   quiet_step step =
-      ⊎_elim (λ h. goes (refusal_of s (command.Settle t)) h) (λ (want : (may_want_memory s (command.Settle t) ≡ true) × Unchanged s a told s' (answer.Refused no.NoMemory)). unchanged no.NoMemory want.1) step
+      ⊎_elim (λ h. goes (refusal_of s (command.Settle t)) h)
+      (λ (want : (may_want_memory s (command.Settle t) ≡ true) × Unchanged s a told s' (answer.Refused no.NoMemory)). unchanged no.NoMemory want.1) step
 
 pub settles_nobody : SettlesNobody
 settles_nobody s s' t a told law step none = quiet_step s s' t a told law none step

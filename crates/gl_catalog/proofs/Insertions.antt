@@ -21,16 +21,21 @@ use Rattle.gl_catalog.proofs.NotRefused.{active_is, txn_lives}
 module _ (s : State) (t : TxnId) (f : NodeId) (keys : List ℕ) where
   -- what is tested of the record behind the births and the one who asks
   abbrev kinds : List (Option Refusal)
-  kinds = some_no_node s.graph (f ∷ []) ∷ where_true (not (is_file_shape (shape_of s.graph f))) no.BadParents ∷ where_true (not (length keys == length (indexes_of s.graph f))) no.BadKeys ∷ []
+  kinds = some_no_node s.graph (f ∷ []) ∷ where_true (not (is_file_shape (shape_of s.graph f))) no.BadParents
+      ∷ where_true (not (length keys == length (indexes_of s.graph f))) no.BadKeys ∷ []
 
   -- births are left, and the transaction is not active
-  pub inactive_refused : births_worn s.graph ≡ false → (r : Refusal) → Err r ≡ verdict (first_refusal (commit_tests s t)) → Err r ≡ verdict (first_refusal (record_asks s t f keys))
+  pub inactive_refused : births_worn s.graph ≡ false → (r : Refusal) → Err r ≡ verdict (first_refusal (commit_tests s t))
+      → Err r ≡ verdict (first_refusal (record_asks s t f keys))
   inactive_refused births r h =
-      h ∙ ap verdict (test_refused _ r h ∙ sym (ap (λ b. first_refusal (where_true b no.WornOut ∷ commit_tests s t ++ kinds)) births ∙ refused_first (commit_tests s t) kinds r (test_refused _ r h)))
+      h ∙ ap verdict (test_refused _ r h
+      ∙ sym (ap (λ b. first_refusal (where_true b no.WornOut ∷ commit_tests s t ++ kinds)) births
+      ∙ refused_first (commit_tests s t) kinds r (test_refused _ r h)))
 
   -- what refuses the record, refuses the insert
   pub record_refused : (r : Refusal) → Err r ≡ verdict (first_refusal (record_asks s t f keys)) → first_refusal (insert_tests s t f keys) ≡ Some r
-  record_refused r h = refused_first (record_asks s t f keys) (first_not_ix (s.held t.slot) (record_parents s.graph f keys) ∷ too_many_nodes s.graph 1 ∷ []) r (test_refused _ r h)
+  record_refused r h = refused_first (record_asks s t f keys)
+      (first_not_ix (s.held t.slot) (record_parents s.graph f keys) ∷ too_many_nodes s.graph 1 ∷ []) r (test_refused _ r h)
 
 -- who may insert the record, where there is memory
 pub record MayInsert (s : State) (t : TxnId) (f : NodeId) (keys : List ℕ) : Type 0 where

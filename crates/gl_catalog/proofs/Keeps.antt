@@ -42,7 +42,8 @@ pub record Keeps (s s' : State) (t : TxnId) (told' : Told) (rows : Bool) : Type 
   pub births : s.graph.births ≤ s'.graph.births
   pub old : (n : NodeId) → n.birth ≤ s.graph.births → is_live s'.graph n ≡ true → is_live s.graph n ≡ true
   pub kinds : KeepsKinds s.graph s'.graph
-  pub same : list_any (is_grant_to t) told' ≡ false → (n : NodeId) → is_live s.graph n ≡ true → is_live s'.graph n ≡ true → effective s' t.slot n ≡ effective s t.slot n
+  pub same : list_any (is_grant_to t) told' ≡ false → (n : NodeId) → is_live s.graph n ≡ true → is_live s'.graph n ≡ true
+      → effective s' t.slot n ≡ effective s t.slot n
   pub greater : (n : NodeId) → is_live s.graph n ≡ true → is_live s'.graph n ≡ true → is_at_least_effect (effective s' t.slot n) (effective s t.slot n) ≡ true
   pub below : rows ≡ false → (n : NodeId) → EffS s t.slot n → SameBelow s.graph s'.graph n
 
@@ -82,7 +83,9 @@ module _ (g : Graph) (h h' : NodeId → Mode) (more : (q : NodeId) → is_at_lea
   more_x (suc k) n x =
       or_elim _ _ x (λ here. ap (λ b. b || (not (no_parents (parents_of g n)) && list_all (eff_x k g h') (parents_of g n))) (x_more _ _ (more n) here))
       (λ up. let both = and_both _ _ up in
-      ap (λ b. same_mode (h' n) X || b) (ap₂ (λ a b. a && b) both.0 (all_from (eff_x k g h') (parents_of g n) (λ p on. more_x k p (all_at (eff_x k g h) (parents_of g n) p on both.1)))) ∙ or-true _)
+      ap (λ b. same_mode (h' n) X || b)
+      (ap₂ (λ a b. a && b) both.0 (all_from (eff_x k g h') (parents_of g n)
+      (λ p on. more_x k p (all_at (eff_x k g h) (parents_of g n) p on both.1)))) ∙ or-true _)
 
 abbrev pub effect_of : Bool → Bool → Effect
 effect_of x r = if x then effect.X else (if r then effect.S else effect.None)
@@ -109,7 +112,8 @@ pub below_itself : (g : Graph) (n : NodeId) → SameBelow g g n
 below_itself g n = record { kept = λ r b. (b, refl); no_more = λ r b. b }
 
 -- the graph stays, and the grants follow
-pub keeps_follows : (s s' : State) (t : TxnId) (told' : Told) → lives s t ≡ true → Follows s s' t.slot → ((g : GrantedTo s s' t.slot) → list_any (tells t g.node g.mode) told' ≡ true) → {rows : Bool} → Keeps s s' t told' rows
+pub keeps_follows : (s s' : State) (t : TxnId) (told' : Told) → lives s t ≡ true → Follows s s' t.slot
+    → ((g : GrantedTo s s' t.slot) → list_any (tells t g.node g.mode) told' ≡ true) → {rows : Bool} → Keeps s s' t told' rows
 keeps_follows s s' t told' alive f told = record {
   alive = f.lives t.age alive;
   grants = told_of f.grants;
@@ -136,12 +140,14 @@ parent_lives p None h = h
 parent_lives p (Some n) h = refl
 
 -- what is read over a route lives
-pub read_lives : (s : State) → IsLawful s → (t : ℕ) (n m : NodeId) (way : List NodeId) → IsRoute s.graph n way m → is_read (s.held t m) ≡ true → is_live s.graph n ≡ true
+pub read_lives : (s : State) → IsLawful s → (t : ℕ) (n m : NodeId) (way : List NodeId) → IsRoute s.graph n way m → is_read (s.held t m) ≡ true
+    → is_live s.graph n ≡ true
 read_lives s law t n m [] route read = ap (is_live s.graph) route ∙ (law.grants_live t m (read_holds _ read)).1
 read_lives s law t n m (p ∷ way) route read = parent_lives p (node_at s.graph n) route.0
 
 -- the slot's grants stay, and the graph makes a step
-pub keeps_graph : (s s' : State) (t : TxnId) (told' : Told) (changed : NodeId → Bool) → IsLawful s → IsLawful s' → lives s' t ≡ true → s.graph.births ≤ s'.graph.births
+pub keeps_graph : (s s' : State) (t : TxnId) (told' : Told) (changed : NodeId → Bool) → IsLawful s → IsLawful s' → lives s' t ≡ true
+    → s.graph.births ≤ s'.graph.births
     → ((n : NodeId) → n.birth ≤ s.graph.births → is_live s'.graph n ≡ true → is_live s.graph n ≡ true)
     → KeepsKinds s.graph s'.graph → SameGrants s s' t.slot → GraphStep s.graph s'.graph (s.held t.slot) changed → {rows : Bool} → Keeps s s' t told' rows
 keeps_graph s s' t told' changed law law' alive births old kinds same step = record {
@@ -151,6 +157,8 @@ keeps_graph s s' t told' changed law law' alive births old kinds same step = rec
   old = old;
   kinds = kinds;
   same = λ _ n a b. effective_same s s' t.slot changed law law' step (fun_ext same) n a b;
-  greater = λ n a b. ap (λ e. is_at_least_effect e (effective s t.slot n)) (effective_same s s' t.slot changed law law' step (fun_ext same) n a b) ∙ effect_refl (effective s t.slot n);
-  below = λ _ n r. below_same s.graph s'.graph (s.held t.slot) changed step law.graph.parents_live n (eff_s_route s.graph (s.held t.slot) (node_count s.graph) n r);
+  greater = λ n a b. ap (λ e. is_at_least_effect e (effective s t.slot n)) (effective_same s s' t.slot changed law law' step (fun_ext same) n a b)
+      ∙ effect_refl (effective s t.slot n);
+  below = λ _ n r. below_same s.graph s'.graph (s.held t.slot) changed step law.graph.parents_live n
+      (eff_s_route s.graph (s.held t.slot) (node_count s.graph) n r);
 }

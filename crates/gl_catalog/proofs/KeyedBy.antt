@@ -23,7 +23,10 @@ module _ (g : Graph) (law : IsLawfulGraph g) where
   pub among_indexes : (f i : NodeId) → list_any (same_node i) (indexes_of g f) ≡ is_index_of_shape f (shape_of g i)
   among_indexes f i =
       split (is_index_of_shape f (shape_of g i)) (λ is. index_listed g law f i (plain_live g i (ap is_plain (index_of f (shape_of g i) is).2)) is ∙ sym is)
-      (λ isnt. split (list_any (same_node i) (indexes_of g f)) (λ listed. absurd (no (sym isnt ∙ all_at (λ n. is_index_of_shape f (shape_of g n)) (indexes_of g f) i listed (all_filter (λ n. is_index_of_shape f (shape_of g n)) (nodes g))))) (λ unlisted. unlisted ∙ sym isnt))
+      (λ isnt. split (list_any (same_node i) (indexes_of g f))
+      (λ listed. absurd (no (sym isnt
+      ∙ all_at (λ n. is_index_of_shape f (shape_of g n)) (indexes_of g f) i listed
+      (all_filter (λ n. is_index_of_shape f (shape_of g n)) (nodes g))))) (λ unlisted. unlisted ∙ sym isnt))
 
   module _ (r : NodeId) (rec : is_record_shape (shape_of g r) ≡ true) where
     pub has_parents : 0 < length (parents_of g r)
@@ -33,5 +36,6 @@ module _ (g : Graph) (law : IsLawfulGraph g) where
     first_is_file d = first_is (parents_of g r) d has_parents
 
     -- what is an index of the record's file
-    pub keyed_by : (i : NodeId) → list_any (same_node i) (indexes_of g (first_parent g r)) ≡ (is_record_shape (shape_of g r) && is_index_of_shape (first_parent g r) (shape_of g i))
+    pub keyed_by : (i : NodeId) → list_any (same_node i)
+        (indexes_of g (first_parent g r)) ≡ (is_record_shape (shape_of g r) && is_index_of_shape (first_parent g r) (shape_of g i))
     keyed_by i = among_indexes (first_parent g r) i ∙ ap (λ b. b && is_index_of_shape (first_parent g r) (shape_of g i)) (sym rec)

@@ -43,7 +43,9 @@ one_more k e =
     let F : Bool → Outcome = λ b. tested (worn_at k) (command.Settle t) (first_refusal (where_true b no.WornOut ∷ no_txn (worn_at k) t ∷ [])) in
     ap F e
 
-worn_replies : (n k : ℕ) → k + n ≡ max_count → replies (worn_at k) (commands (replicate n settles ++ refuses command.Begin no.WornOut ∷ [])) ≡ answers (replicate n settles ++ refuses command.Begin no.WornOut ∷ [])
+worn_replies : (n k : ℕ) → k + n ≡ max_count
+    → replies (worn_at k) (commands (replicate n settles ++ refuses command.Begin no.WornOut ∷ [])) ≡ answers
+    (replicate n settles ++ refuses command.Begin no.WornOut ∷ [])
 worn_replies zero k e =
     let full : k ≡ max_count = omega arith in
     let F : ℕ → List (Answer × Told) = λ x. replies (worn_at x) (command.Begin ∷ []) in
@@ -73,7 +75,9 @@ root_tested : (s : State) (k : ℕ) → k < 65537 → HasFilled s k → refusal_
 root_tested s k low at =
     let unworn : (s.accepted == max_count) ≡ false = let e = at.accepted in grind (arith, nat_tests) in
     let young : nat_lt (max_count - s.graph.most) s.graph.births ≡ false = let e = at.births in let m = at.most in grind (arith, nat_tests) in
-    ap₂ (λ a b. first_refusal (where_true a no.WornOut ∷ first_refusal (where_true b no.WornOut ∷ None ∷ None ∷ where_true (nat_lt s.graph.most (node_count s.graph + 1)) no.TooManyNodes ∷ []) ∷ [])) unworn young
+    ap₂ (λ a b. first_refusal (where_true a no.WornOut
+    ∷ first_refusal (where_true b no.WornOut ∷ None ∷ None ∷ where_true (nat_lt s.graph.most (node_count s.graph + 1)) no.TooManyNodes ∷ [])
+    ∷ [])) unworn young
     ∙ ap₂ (λ m n. first_refusal (first_refusal (where_true (nat_lt m (n + 1)) no.TooManyNodes ∷ []) ∷ [])) at.most at.count
     ∙ same (nat_lt 65536 (k + 1))
   where
@@ -111,7 +115,8 @@ record HasFullGraph : Type 0 where
 row_too_many_nodes : (n : ℕ) → n ≡ 65536 → HasFullGraph
 row_too_many_nodes n e =
     let start : State = empty_state AtBlock 1 in
-    let full = many_roots n 0 start (omega arith) (record { law = empty-lawful AtBlock Youngest 1; accepted = refl; births = refl; count = refl; most = refl }) in
+    let full = many_roots n 0 start (omega arith)
+    (record { law = empty-lawful AtBlock Youngest 1; accepted = refl; births = refl; count = refl; most = refl }) in
     record {
       state = after start (replicate n root);
       before = replicate n root;

@@ -86,12 +86,14 @@ without_wait_goes_on s v st quiet u = by (u == v) refl
 -- and its node grants
 pub over_goes_on : (s : State) (v : ℕ) (st : Status) → IsQuiet st → (u : ℕ) → GoesOn s (pumped (without_wait s v st) (is_waiting_at s v)) u
 over_goes_on s v st quiet u =
-    lives_on_trans (s.txns u) ((without_wait s v st).txns u) ((pumped (without_wait s v st) (is_waiting_at s v)).txns u) (without_wait_goes_on s v st quiet u) (pumped_goes_on (without_wait s v st) (is_waiting_at s v) u)
+    lives_on_trans (s.txns u) ((without_wait s v st).txns u) ((pumped (without_wait s v st) (is_waiting_at s v)).txns u)
+    (without_wait_goes_on s v st quiet u) (pumped_goes_on (without_wait s v st) (is_waiting_at s v) u)
 
 settled_within_goes_on : (c : Victims) (k : ℕ) (s s' : State) (t u : ℕ) → SettledWithin c k s t s' → GoesOn s s' u
 settled_within_goes_on c zero s s' t u h = lives_on_same (s.txns u) (s'.txns u) (ap (λ (x : State). x.txns u) h.1)
 settled_within_goes_on c (suc k) s s' t u h =
-    lives_on_trans (s.txns u) ((condemned s h.0).txns u) (s'.txns u) (over_goes_on s h.0 Condemned (λ n m e. cc) u) (settled_within_goes_on c k (condemned s h.0) s' t u h.2)
+    lives_on_trans (s.txns u) ((condemned s h.0).txns u) (s'.txns u) (over_goes_on s h.0 Condemned (λ n m e. cc) u)
+    (settled_within_goes_on c k (condemned s h.0) s' t u h.2)
 
 -- each victim
 pub settled_goes_on : (c : Victims) (s s' : State) (t u : ℕ) → Settled c s t s' → GoesOn s s' u

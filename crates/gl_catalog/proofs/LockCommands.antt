@@ -23,7 +23,8 @@ use Rattle.gl_model.proofs.law.Tests.{active_after}
 use Rattle.gl_graph.proofs.Unrefused.{not_refused, test_fails, not_false}
 
 -- raised, and then shed
-pub escalated-lawful : (s : State) → IsLawful s → (t : TxnId) (n : NodeId) → refusal_of s (command.Escalate t n) ≡ None → IsLawful (shed (raised s t.slot n) t.slot n)
+pub escalated-lawful : (s : State) → IsLawful s → (t : TxnId) (n : NodeId) → refusal_of s (command.Escalate t n) ≡ None
+    → IsLawful (shed (raised s t.slot n) t.slot n)
 escalated-lawful s law t n h =
     let a = active_after s t n (worn s) _ h in
     let b = not_refused (where_true (is_record_shape (shape_of s.graph n)) no.BadParents) _ a.2 in

@@ -26,16 +26,19 @@ behind_worn s o h = (not_refused o [] (not_refused (worn s) (o ∷ []) h).1).0
 
 pub inner_keeps : (ps : Bor (List NodeId)) → KeepsLaw (command.Inner ps)
 inner_keeps ps s s' a told law free acc =
-    subst IsLawful (sym acc.4) (grown-lawful s law s'.graph (inner-grows s.graph s'.graph law.graph ps.now acc.0 (behind_worn s (inner_refusal s.graph ps.now) free) acc.1))
+    subst IsLawful (sym acc.4) (grown-lawful s law s'.graph
+    (inner-grows s.graph s'.graph law.graph ps.now acc.0 (behind_worn s (inner_refusal s.graph ps.now) free) acc.1))
 
 pub file_keeps : (ps : Bor (List NodeId)) → KeepsLaw (command.File ps)
 file_keeps ps s s' a told law free acc =
-    subst IsLawful (sym acc.4) (grown-lawful s law s'.graph (file-grows s.graph s'.graph law.graph ps.now acc.0 (behind_worn s (file_refusal s.graph ps.now) free) acc.1))
+    subst IsLawful (sym acc.4) (grown-lawful s law s'.graph
+    (file-grows s.graph s'.graph law.graph ps.now acc.0 (behind_worn s (file_refusal s.graph ps.now) free) acc.1))
 
 pub index_keeps : (ps : Bor (List NodeId)) (f : NodeId) (bs : Bor (List ℕ)) → KeepsLaw (command.Index ps f bs)
 index_keeps ps f bs s s' a told law free acc =
     subst IsLawful (sym acc.4)
-    (grown-lawful s law s'.graph (index-grows s.graph s'.graph law.graph ps.now acc.0 f bs.now (behind_worn s (index_refusal s.graph ps.now f bs.now) free) acc.1))
+    (grown-lawful s law s'.graph (index-grows s.graph s'.graph law.graph ps.now acc.0 f bs.now
+    (behind_worn s (index_refusal s.graph ps.now f bs.now) free) acc.1))
 
 pub insert_keeps : (t : TxnId) (f : NodeId) (keys : Bor (List ℕ)) → KeepsLaw (command.Insert t f keys)
 insert_keeps t f keys s s' a told law free acc =
@@ -50,5 +53,6 @@ insert_keeps t f keys s s' a told law free acc =
     let t8 = not_refused (first_not_ix (s.held t.slot) (record_parents s.graph f keys.now)) _ t7.1 in
     let t9 = not_refused (too_many_nodes s.graph 1) [] t8.1 in
     subst IsLawful (sym acc.4)
-    (placed-lawful s law f keys.now (not_false _ (test_fails _ _ t6.0)) (same_number _ _ (not_false _ (test_fails _ _ t7.0))) (enough_room s.graph 1 t9.0) s'.graph acc.0 acc.1
+    (placed-lawful s law f keys.now (not_false _ (test_fails _ _ t6.0)) (same_number _ _ (not_false _ (test_fails _ _ t7.0)))
+    (enough_room s.graph 1 t9.0) s'.graph acc.0 acc.1
     t.slot (active_is s t t2.0 t3.0 t4.0) t8.0)

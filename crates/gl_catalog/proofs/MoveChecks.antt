@@ -19,8 +19,10 @@ use Rattle.gl_catalog.specs.Tests.{move_asks, rekey_tests, worn}
 use Rattle.gl_graph.proofs.FirstOf.{passed_then}
 
 -- where the count and the one who asks pass, and these nodes live, the kinds decide, and then what follows
-then_kinds : (s : State) (t : TxnId) (ns : List NodeId) (bad : Bool) (rest : List (Option Refusal)) → Ok tt ≡ verdict (worn s) → Ok tt ≡ verdict (first_refusal (commit_tests s t)) → list_all (is_live s.graph) ns ≡ true
-    → first_refusal (worn s ∷ commit_tests s t ++ some_no_node s.graph ns ∷ where_true bad no.BadParents ∷ rest) ≡ (if bad then Some no.BadParents else first_refusal rest)
+then_kinds : (s : State) (t : TxnId) (ns : List NodeId) (bad : Bool) (rest : List (Option Refusal)) → Ok tt ≡ verdict (worn s)
+    → Ok tt ≡ verdict (first_refusal (commit_tests s t)) → list_all (is_live s.graph) ns ≡ true
+    → first_refusal (worn s ∷ commit_tests s t ++ some_no_node s.graph ns ∷ where_true bad no.BadParents ∷ rest) ≡ (if bad then Some no.BadParents
+    else first_refusal rest)
 then_kinds s t ns bad rest counts active live =
     let tests : List (Option Refusal) = some_no_node s.graph ns ∷ where_true bad no.BadParents ∷ rest in
     ap (λ o. first_refusal (o ∷ commit_tests s t ++ tests)) (verdict_ok (worn s) tt counts) ∙ passed_then (commit_tests s t) tests (verdict_ok _ tt active)
@@ -46,26 +48,32 @@ turned true x y = refl
 turned false x y = refl
 
 -- what is left of the tests of a move, where the count and the one who asks pass, and the nodes live
-pub move_kinds : (s : State) (t : TxnId) (n : NodeId) (ps : List NodeId) → Ok tt ≡ verdict (worn s) → Ok tt ≡ verdict (first_refusal (commit_tests s t)) → is_live s.graph n ≡ true → list_all (is_live s.graph) ps ≡ true
+pub move_kinds : (s : State) (t : TxnId) (n : NodeId) (ps : List NodeId) → Ok tt ≡ verdict (worn s)
+    → Ok tt ≡ verdict (first_refusal (commit_tests s t)) → is_live s.graph n ≡ true → list_all (is_live s.graph) ps ≡ true
     → first_refusal (worn s ∷ move_asks s t n ps)
     ≡ (if is_movable_shape (shape_of s.graph n) && not (bad_parents s.graph (least_parents (shape_of s.graph n)) ps)
     then first_refusal (need_exclusive s t.slot n (some_given (parents_of s.graph n) && some_given ps) ps ∷ need_new_parents s t.slot n ps ∷ [])
     else Some no.BadParents)
 move_kinds s t n ps counts active live all =
-    let rest : List (Option Refusal) = need_exclusive s t.slot n (some_given (parents_of s.graph n) && some_given ps) ps ∷ need_new_parents s t.slot n ps ∷ [] in
+    let rest : List (Option Refusal) = need_exclusive s t.slot n (some_given (parents_of s.graph n) && some_given ps) ps
+    ∷ need_new_parents s t.slot n ps ∷ [] in
     let movable : Bool = is_movable_shape (shape_of s.graph n) in
     let bad : Bool = bad_parents s.graph (least_parents (shape_of s.graph n)) ps in
-    then_kinds s t (n ∷ ps) (not movable || bad) rest counts active (both (is_live s.graph n) (list_all (is_live s.graph) ps) live all) ∙ ap (λ b. if b then Some no.BadParents else first_refusal rest) (not_both movable bad)
+    then_kinds s t (n ∷ ps) (not movable || bad) rest counts active (both (is_live s.graph n) (list_all (is_live s.graph) ps) live all)
+    ∙ ap (λ b. if b then Some no.BadParents else first_refusal rest) (not_both movable bad)
     ∙ turned (movable && not bad) (Some no.BadParents) (first_refusal rest)
 
 -- the same of a rekey
-pub rekey_kinds : (s : State) (t : TxnId) (r i : NodeId) (key : ℕ) → Ok tt ≡ verdict (worn s) → Ok tt ≡ verdict (first_refusal (commit_tests s t)) → is_live s.graph r ≡ true → is_live s.graph i ≡ true
+pub rekey_kinds : (s : State) (t : TxnId) (r i : NodeId) (key : ℕ) → Ok tt ≡ verdict (worn s) → Ok tt ≡ verdict (first_refusal (commit_tests s t))
+    → is_live s.graph r ≡ true → is_live s.graph i ≡ true
     → first_refusal (worn s ∷ rekey_tests s t r i key)
     ≡ (if is_record_shape (shape_of s.graph r) && is_index_of_shape (first_parent s.graph r) (shape_of s.graph i)
     then first_refusal (need_exclusive s t.slot r true (rekeyed_parents s.graph r i key) ∷ need_new_parents s t.slot r (rekeyed_parents s.graph r i key) ∷ [])
     else Some no.BadParents)
 rekey_kinds s t r i key counts active live also =
-    let rest : List (Option Refusal) = need_exclusive s t.slot r true (rekeyed_parents s.graph r i key) ∷ need_new_parents s t.slot r (rekeyed_parents s.graph r i key) ∷ [] in
+    let rest : List (Option Refusal) = need_exclusive s t.slot r true (rekeyed_parents s.graph r i key)
+    ∷ need_new_parents s t.slot r (rekeyed_parents s.graph r i key) ∷ [] in
     let keyed : Bool = is_record_shape (shape_of s.graph r) && is_index_of_shape (first_parent s.graph r) (shape_of s.graph i) in
-    then_kinds s t (r ∷ i ∷ []) (not keyed) rest counts active (both (is_live s.graph r) (is_live s.graph i && true) live (both (is_live s.graph i) true also refl))
+    then_kinds s t (r ∷ i ∷ []) (not keyed) rest counts active
+    (both (is_live s.graph r) (is_live s.graph i && true) live (both (is_live s.graph i) true also refl))
     ∙ turned keyed (Some no.BadParents) (first_refusal rest)

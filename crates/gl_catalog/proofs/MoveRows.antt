@@ -10,7 +10,8 @@ use Rattle.gl_model.specs.declared.answers.Effect.TheVariants as effect
 use Rattle.gl_model.specs.declared.answers.Notice.TheVariants as notice
 use Rattle.gl_catalog.specs.declared.command.Answer.TheVariants as answer
 use Rattle.gl_catalog.specs.declared.command.Command.TheVariants as command
-use Rattle.gl_catalog.proofs.RowWords.{Line, Rows, begins, computed, done, file, holds, id, inner, locks, locks_all, prelude, ref, refuses, roots, says, tells, txn, waits}
+use Rattle.gl_catalog.proofs.RowWords.{Line, Rows, begins, computed, done, file, holds, id, inner, locks, locks_all, prelude, ref, refuses, roots}
+use Rattle.gl_catalog.proofs.RowWords.{says, tells, txn, waits}
 use Rattle.gl_catalog.proofs.RowWords as words
 
 abbrev db : NodeId

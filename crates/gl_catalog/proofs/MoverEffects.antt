@@ -34,15 +34,19 @@ x_over : (k : ℕ) (g : Graph) (held : NodeId → Mode) (ps : List NodeId) → l
 x_over k g held [] h = refl
 x_over k g held (p ∷ ps) h = let t = and_both _ _ h in both (eff_x k g held p) (list_all (eff_x k g held) ps) (held_x k g held p t.0) (x_over k g held ps t.1)
 
-s_over : (k : ℕ) (g : Graph) (held : NodeId → Mode) (ps : List NodeId) → no_parents ps ≡ false → list_all (λ p. same_mode (held p) X) ps ≡ true → list_any (eff_s k g held) ps ≡ true
+s_over : (k : ℕ) (g : Graph) (held : NodeId → Mode) (ps : List NodeId) → no_parents ps ≡ false → list_all (λ p. same_mode (held p) X) ps ≡ true
+    → list_any (eff_s k g held) ps ≡ true
 s_over k g held [] some h = absurd (true≢false some)
 s_over k g held (p ∷ ps) some h = or_left (eff_s k g held p) (list_any (eff_s k g held) ps) (s_held k g held p (x_reads (held p) (and_both _ _ h).0))
 
 -- with X on all of some parents both modes are there, by one step or more
-pub x_by_parents : (k : ℕ) (g : Graph) (held : NodeId → Mode) (n : NodeId) (ps : List NodeId) → parents_of g n ≡ ps → no_parents ps ≡ false → list_all (λ p. same_mode (held p) X) ps ≡ true → eff_x (suc k) g held n ≡ true
-x_by_parents k g held n ps e some h = ap (λ qs. same_mode (held n) X || (not (no_parents qs) && list_all (eff_x k g held) qs)) e ∙ or_right (same_mode (held n) X) _ (both _ _ (ap not some) (x_over k g held ps h))
+pub x_by_parents : (k : ℕ) (g : Graph) (held : NodeId → Mode) (n : NodeId) (ps : List NodeId) → parents_of g n ≡ ps → no_parents ps ≡ false
+    → list_all (λ p. same_mode (held p) X) ps ≡ true → eff_x (suc k) g held n ≡ true
+x_by_parents k g held n ps e some h = ap (λ qs. same_mode (held n) X || (not (no_parents qs) && list_all (eff_x k g held) qs)) e
+    ∙ or_right (same_mode (held n) X) _ (both _ _ (ap not some) (x_over k g held ps h))
 
-s_by_parents : (k : ℕ) (g : Graph) (held : NodeId → Mode) (n : NodeId) (ps : List NodeId) → parents_of g n ≡ ps → no_parents ps ≡ false → list_all (λ p. same_mode (held p) X) ps ≡ true → eff_s (suc k) g held n ≡ true
+s_by_parents : (k : ℕ) (g : Graph) (held : NodeId → Mode) (n : NodeId) (ps : List NodeId) → parents_of g n ≡ ps → no_parents ps ≡ false
+    → list_all (λ p. same_mode (held p) X) ps ≡ true → eff_s (suc k) g held n ≡ true
 s_by_parents k g held n ps e some h = ap (λ qs. is_read (held n) || list_any (eff_s k g held) qs) e ∙ or_right (is_read (held n)) _ (s_over k g held ps some h)
 
 -- where the mode on one node is the same and others have the same parents, all modes are the same
@@ -53,7 +57,8 @@ module _ (g g' : Graph) (held : NodeId → Mode) (n : NodeId) (others : (q : Nod
   x_same zero q = refl
   x_same (suc k) q =
       split (same_node q n) (λ e. ap (eff_x (suc k) g' held) (same_node-equal q n e) ∙ x_here (suc k) ∙ sym (ap (eff_x (suc k) g held) (same_node-equal q n e)))
-      (λ e. ap₂ (λ (ps : List NodeId) (f : NodeId → Bool). same_mode (held q) X || (not (no_parents ps) && list_all f ps)) (others q (same_node-other q n e)) (fun_ext (x_same k)))
+      (λ e. ap₂ (λ (ps : List NodeId) (f : NodeId → Bool). same_mode (held q) X || (not (no_parents ps) && list_all f ps))
+      (others q (same_node-other q n e)) (fun_ext (x_same k)))
 
   -- effective S, by the steps up
   pub s_same : (k : ℕ) (q : NodeId) → eff_s k g' held q ≡ eff_s k g held q
@@ -67,13 +72,16 @@ module _ (s : State) (t : ℕ) (n : NodeId) (was is : Node) (g' : Graph) (m : Mo
   x_kept zero = refl
   x_kept (suc k) =
       ⊎_elim (λ (a : HoldsNode s t n is.parents). held_x (suc k) g' (s.held t) n a.x ∙ sym (held_x (suc k) s.graph (s.held t) n a.x))
-      (λ (b : HoldsParents s t n is.parents). x_by_parents k g' (s.held t) n is.parents (new_parents s t n was is g' m) b.some_new b.new ∙ sym (x_by_parents k s.graph (s.held t) n (parents_of s.graph n) refl b.some_old b.old)) m.right
+      (λ (b : HoldsParents s t n is.parents). x_by_parents k g' (s.held t) n is.parents (new_parents s t n was is g' m) b.some_new b.new
+      ∙ sym (x_by_parents k s.graph (s.held t) n (parents_of s.graph n) refl b.some_old b.old)) m.right
 
   s_kept : (k : ℕ) → eff_s k g' (s.held t) n ≡ eff_s k s.graph (s.held t) n
   s_kept zero = refl
   s_kept (suc k) =
-      ⊎_elim (λ (a : HoldsNode s t n is.parents). s_held (suc k) g' (s.held t) n (x_reads (s.held t n) a.x) ∙ sym (s_held (suc k) s.graph (s.held t) n (x_reads (s.held t n) a.x)))
-      (λ (b : HoldsParents s t n is.parents). s_by_parents k g' (s.held t) n is.parents (new_parents s t n was is g' m) b.some_new b.new ∙ sym (s_by_parents k s.graph (s.held t) n (parents_of s.graph n) refl b.some_old b.old)) m.right
+      ⊎_elim (λ (a : HoldsNode s t n is.parents). s_held (suc k) g' (s.held t) n (x_reads (s.held t n) a.x)
+      ∙ sym (s_held (suc k) s.graph (s.held t) n (x_reads (s.held t n) a.x)))
+      (λ (b : HoldsParents s t n is.parents). s_by_parents k g' (s.held t) n is.parents (new_parents s t n was is g' m) b.some_new b.new
+      ∙ sym (s_by_parents k s.graph (s.held t) n (parents_of s.graph n) refl b.some_old b.old)) m.right
 
   -- and so the effective mode on every node
   pub mover_same : (q : NodeId) → effective (moved_to s n is.parents g') t q ≡ effective s t q

@@ -20,7 +20,8 @@ use Rattle.gl_catalog.specs.Promises.{same_txn}
 use Rattle.gl_modes.specs.declared.refusal.Refusal.TheVariants as no
 
 -- the three tests of a transaction were passed
-pub active_is : (s : State) (t : TxnId) → no_txn s t ≡ None → waiting_test (status_of s t.slot) ≡ None → condemned_test (status_of s t.slot) ≡ None → status_of s t.slot ≡ Some Active
+pub active_is : (s : State) (t : TxnId) → no_txn s t ≡ None → waiting_test (status_of s t.slot) ≡ None → condemned_test (status_of s t.slot) ≡ None
+    → status_of s t.slot ≡ Some Active
 active_is s t h w c = by (s.txns t.slot) (not_false _ (test_fails (not (lives s t)) _ h)) w c
   where
     by : (o : Option Txn) → live_by t.age o ≡ true → waiting_test (status_in o) ≡ None → condemned_test (status_in o) ≡ None → status_in o ≡ Some Active
@@ -64,10 +65,12 @@ or_cases true b h = inl refl
 or_cases false b h = inr (not_false b h)
 
 -- X on the node, or on all parents
-pub exclusive : (s : State) (u : ℕ) (n : NodeId) (given : Bool) (new : List NodeId) → need_exclusive s u n given new ≡ None → (holds_x s u n ≡ true) ⊎ OnParents s u n given new
+pub exclusive : (s : State) (u : ℕ) (n : NodeId) (given : Bool) (new : List NodeId) → need_exclusive s u n given new ≡ None → (holds_x s u n ≡ true)
+    ⊎ OnParents s u n given new
 exclusive s u n given new h = by (or_cases _ _ (test_fails _ no.NeedExclusive h))
   where
-    by : (holds_x s u n ≡ true) ⊎ ((given && holds_x_on_all s u (parents_of s.graph n) && holds_x_on_all s u new) ≡ true) → (holds_x s u n ≡ true) ⊎ OnParents s u n given new
+    by : (holds_x s u n ≡ true) ⊎ ((given && holds_x_on_all s u (parents_of s.graph n) && holds_x_on_all s u new) ≡ true) → (holds_x s u n ≡ true)
+        ⊎ OnParents s u n given new
     by (inl x) = inl x
     by (inr all) = let last = and_both _ _ all in let first = and_both _ _ last.0 in inr (record { both = first.0; old = first.1; next = last.1 })
 

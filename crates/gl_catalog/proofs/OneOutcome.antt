@@ -43,15 +43,18 @@ same_accepted s law (command.Lock t n m) s₁ s₂ a₁ a₂ told₁ told₂ non
     let may : MayLock s t n m = (may_lock s t n m (worn s) [] free).0 in
     let e : s₁ ≡ s₂ =
     split (enters_at s t.slot n m) (λ e. x.0.at_once e ∙ sym (y.0.at_once e))
-    (λ e. wait_one s.detect s.victims (enqueued s t.slot n (wanted s t.slot n m)) s₁ s₂ t.slot (waiting-lawful s law t n m may e) (x.0.waits e) (y.0.waits e)) in
+    (λ e. wait_one s.detect s.victims (enqueued s t.slot n (wanted s t.slot n m)) s₁ s₂ t.slot (waiting-lawful s law t n m may e) (x.0.waits e)
+    (y.0.waits e)) in
     (x.1 ∙ ap (λ z. lock_answer (z.held t.slot n) (status_of z t.slot)) e ∙ sym y.1, x.2 ∙ ap (told_but t.slot s) e ∙ sym y.2, e)
 same_accepted s law (command.Try t n m) s₁ s₂ a₁ a₂ told₁ told₂ none free x y = (x.0 ∙ sym y.0, x.1 ∙ sym y.1, x.2 ∙ sym y.2)
 same_accepted s law (command.Unlock t n) s₁ s₂ a₁ a₂ told₁ told₂ none free x y = by_told s s₁ s₂ a₁ a₂ told₁ told₂ (told s) x.0 y.0 x.1 y.1 (x.2 ∙ sym y.2)
 same_accepted s law (command.Escalate t n) s₁ s₂ a₁ a₂ told₁ told₂ none free x y = by_told s s₁ s₂ a₁ a₂ told₁ told₂ (told s) x.0 y.0 x.1 y.1 (x.2 ∙ sym y.2)
-same_accepted s law (command.Cancel t) s₁ s₂ a₁ a₂ told₁ told₂ none free x y = by_told s s₁ s₂ a₁ a₂ told₁ told₂ (told_but t.slot s) x.0 y.0 x.1 y.1 (x.2 ∙ sym y.2)
+same_accepted s law (command.Cancel t) s₁ s₂ a₁ a₂ told₁ told₂ none free x y =
+    by_told s s₁ s₂ a₁ a₂ told₁ told₂ (told_but t.slot s) x.0 y.0 x.1 y.1 (x.2 ∙ sym y.2)
 same_accepted s law (command.Commit t) s₁ s₂ a₁ a₂ told₁ told₂ none free x y = by_told s s₁ s₂ a₁ a₂ told₁ told₂ (told s) x.0 y.0 x.1 y.1 (x.2 ∙ sym y.2)
 same_accepted s law (command.Abort t) s₁ s₂ a₁ a₂ told₁ told₂ none free x y = by_told s s₁ s₂ a₁ a₂ told₁ told₂ (told s) x.0 y.0 x.1 y.1 (x.2 ∙ sym y.2)
-same_accepted s law (command.Settle t) s₁ s₂ a₁ a₂ told₁ told₂ none free x y = by_told s s₁ s₂ a₁ a₂ told₁ told₂ (told s) x.0 y.0 x.1 y.1 (settled_one s.victims s s₁ s₂ t.slot law x.2 y.2)
+same_accepted s law (command.Settle t) s₁ s₂ a₁ a₂ told₁ told₂ none free x y =
+    by_told s s₁ s₂ a₁ a₂ told₁ told₂ (told s) x.0 y.0 x.1 y.1 (settled_one s.victims s s₁ s₂ t.slot law x.2 y.2)
 same_accepted s law (command.Delete t r) s₁ s₂ a₁ a₂ told₁ told₂ none free x y = by_told s s₁ s₂ a₁ a₂ told₁ told₂ (told s) x.0 y.0 x.1 y.1 (x.2 ∙ sym y.2)
 same_accepted s law (command.Rekey t r i key) s₁ s₂ a₁ a₂ told₁ told₂ none free x y = by_told s s₁ s₂ a₁ a₂ told₁ told₂ (told s) x.0 y.0 x.1 y.1 (x.2 ∙ sym y.2)
 same_accepted s law (command.Move t n ps) s₁ s₂ a₁ a₂ told₁ told₂ none free x y = by_told s s₁ s₂ a₁ a₂ told₁ told₂ (told s) x.0 y.0 x.1 y.1 (x.2 ∙ sym y.2)

@@ -19,7 +19,8 @@ use Rattle.gl_catalog.specs.Promises.{is_of_rows, names, same_txn}
 use Rattle.gl_catalog.proofs.Keeps.{Keeps}
 use Rattle.gl_catalog.proofs.Made.{adopted_is, made_is, indexed_is, inserted_is}
 use Rattle.gl_catalog.proofs.NotRefused.{txn_lives, nodes_live, differ, exclusive}
-use Rattle.gl_catalog.proofs.GrantCommands.{lock_keeps, try_keeps, unlock_keeps, escalate_keeps, cancel_keeps, release_keeps, settle_keeps, begin_keeps, same_keeps}
+use Rattle.gl_catalog.proofs.GrantCommands.{lock_keeps, try_keeps, unlock_keeps, escalate_keeps, cancel_keeps, release_keeps, settle_keeps}
+use Rattle.gl_catalog.proofs.GrantCommands.{begin_keeps, same_keeps}
 use Rattle.gl_catalog.proofs.GraphCommands.{inner_keeps, file_keeps, index_keeps, insert_keeps, delete_keeps, rekey_keeps, move_keeps}
 use Rattle.gl_catalog.proofs.RowSteps.{adopt_keeps, forget_keeps}
 use Rattle.gl_graph.proofs.Unrefused.{test_fails, not_false, or_no}
@@ -49,28 +50,38 @@ module _ (s : State) (law : IsLawful s) (t : TxnId) (alive : lives s t ≡ true)
   other_slot u apart h = differ s t u alive (txn_lives s u h) apart
 
   accepted : (c : Command) → names t c ≡ false → AllNone (tests_of s c) → Answers s c (query_answer s c) a told' s' → Kept (is_of_rows c) s'
-  accepted (command.Inner ps) apart passed ans = finish ans.0 ans.2 (λ l. inner_keeps s law t alive ans.0 l _ ans.1.0.key ps.now (made_is s ans.0 ans.1.1 ans.1.4))
-  accepted (command.File ps) apart passed ans = finish ans.0 ans.2 (λ l. file_keeps s law t alive ans.0 l _ ans.1.0.key ps.now (made_is s ans.0 ans.1.1 ans.1.4))
-  accepted (command.Index ps f bs) apart passed ans = finish ans.0 ans.2 (λ l. index_keeps s law t alive ans.0 l _ ans.1.0.key ps.now f bs.now ans.1.1.interval_keys (indexed_is s ans.0 ans.1.1 ans.1.4))
+  accepted (command.Inner ps) apart passed ans =
+      finish ans.0 ans.2 (λ l. inner_keeps s law t alive ans.0 l _ ans.1.0.key ps.now (made_is s ans.0 ans.1.1 ans.1.4))
+  accepted (command.File ps) apart passed ans =
+      finish ans.0 ans.2 (λ l. file_keeps s law t alive ans.0 l _ ans.1.0.key ps.now (made_is s ans.0 ans.1.1 ans.1.4))
+  accepted (command.Index ps f bs) apart passed ans =
+      finish ans.0 ans.2 (λ l. index_keeps s law t alive ans.0 l _ ans.1.0.key ps.now f bs.now ans.1.1.interval_keys (indexed_is s ans.0 ans.1.1 ans.1.4))
   accepted command.Begin apart passed ans = finish ans.0 ans.2 (λ l. begin_keeps s law t alive ans.0 a told' ans.1)
   accepted (command.Lock u n m) apart passed ans = finish ans.0 ans.2 (λ l. lock_keeps s law t alive ans.0 u n m a told' (other_slot u apart passed.1.0) ans.1)
   accepted (command.Try u n m) apart passed ans = finish ans.0 ans.2 (λ l. try_keeps s law t alive ans.0 u n m a told' (other_slot u apart passed.1.0) ans.1)
   accepted (command.Unlock u n) apart passed ans = finish ans.0 ans.2 (λ l. unlock_keeps s law t alive ans.0 u n a told' (other_slot u apart passed.1.0) ans.1)
-  accepted (command.Escalate u n) apart passed ans = finish ans.0 ans.2 (λ l. escalate_keeps s law t alive ans.0 u n a told' (other_slot u apart passed.1.0) ans.1)
+  accepted (command.Escalate u n) apart passed ans =
+      finish ans.0 ans.2 (λ l. escalate_keeps s law t alive ans.0 u n a told' (other_slot u apart passed.1.0) ans.1)
   accepted (command.Cancel u) apart passed ans = finish ans.0 ans.2 (λ l. cancel_keeps s law t alive ans.0 u a told' (other_slot u apart passed.1.0) ans.1)
-  accepted (command.Commit u) apart passed ans = finish ans.0 ans.2 (λ l. release_keeps s law t alive ans.0 u told' (other_slot u apart passed.1.0) ans.1.1 ans.1.2)
-  accepted (command.Abort u) apart passed ans = finish ans.0 ans.2 (λ l. release_keeps s law t alive ans.0 u told' (other_slot u apart passed.1.0) ans.1.1 ans.1.2)
+  accepted (command.Commit u) apart passed ans =
+      finish ans.0 ans.2 (λ l. release_keeps s law t alive ans.0 u told' (other_slot u apart passed.1.0) ans.1.1 ans.1.2)
+  accepted (command.Abort u) apart passed ans =
+      finish ans.0 ans.2 (λ l. release_keeps s law t alive ans.0 u told' (other_slot u apart passed.1.0) ans.1.1 ans.1.2)
   accepted (command.Settle u) apart passed ans = finish ans.0 ans.2 (λ l. settle_keeps s law t alive ans.0 u a told' ans.1)
   accepted (command.Insert u f keys) apart passed ans =
-      finish ans.0 ans.2 (λ l. insert_keeps s law t alive ans.0 l _ u.slot ans.1.0.key keys.now _ (other_slot u apart passed.1.1.0) (inserted_is s ans.0 u.slot ans.1.1 ans.1.4))
+      finish ans.0 ans.2 (λ l. insert_keeps s law t alive ans.0 l _ u.slot ans.1.0.key keys.now _ (other_slot u apart passed.1.1.0)
+      (inserted_is s ans.0 u.slot ans.1.1 ans.1.4))
   accepted (command.Delete u r) apart passed ans =
-      finish ans.0 ans.2 (λ l. delete_keeps s law t alive ans.0 l _ u.slot r (other_slot u apart passed.1.0) (and_both _ _ (nodes_live s (r ∷ []) passed.1.1.1.1.0)).0
+      finish ans.0 ans.2 (λ l. delete_keeps s law t alive ans.0 l _ u.slot r (other_slot u apart passed.1.0)
+      (and_both _ _ (nodes_live s (r ∷ []) passed.1.1.1.1.0)).0
       (not_false _ (test_fails _ no.NeedExclusive passed.1.1.1.1.1.1.0)) ans.1.2)
   accepted (command.Rekey u r i key) apart passed ans =
-      finish ans.0 ans.2 (λ l. rekey_keeps s law t alive ans.0 l _ u.slot r i key (other_slot u apart passed.1.0) (and_both _ _ (nodes_live s (r ∷ i ∷ []) passed.1.1.1.1.0)).0
+      finish ans.0 ans.2 (λ l. rekey_keeps s law t alive ans.0 l _ u.slot r i key (other_slot u apart passed.1.0)
+      (and_both _ _ (nodes_live s (r ∷ i ∷ []) passed.1.1.1.1.0)).0
       (and_both _ _ (not_false _ (test_fails _ no.BadParents passed.1.1.1.1.1.0))).0 (exclusive s u.slot r true _ passed.1.1.1.1.1.1.0) ans.1.2)
   accepted (command.Move u n ps) apart passed ans =
-      finish ans.0 ans.2 (λ l. move_keeps s law t alive ans.0 l _ u.slot n ps.now (other_slot u apart passed.1.0) (and_both _ _ (nodes_live s (n ∷ ps.now) passed.1.1.1.1.0)).0
+      finish ans.0 ans.2 (λ l. move_keeps s law t alive ans.0 l _ u.slot n ps.now (other_slot u apart passed.1.0)
+      (and_both _ _ (nodes_live s (n ∷ ps.now) passed.1.1.1.1.0)).0
       (not_false _ (or_no _ _ (test_fails _ no.BadParents passed.1.1.1.1.1.0)).0) (exclusive s u.slot n _ ps.now passed.1.1.1.1.1.1.0) ans.1.2)
   accepted (command.Group n) apart passed ans = same_keeps s law t alive s' told' s' ans.same
   accepted (command.Held u n) apart passed ans = same_keeps s law t alive s' told' s' ans.same

@@ -37,7 +37,8 @@ with_grant_follows s u t n m ne well = follows_same s (with_grant s u n m) t wel
 -- another begins
 pub begun_follows : (s : State) (u t : ℕ) → u ≢ t → WaitsWell s t → Follows s (begun s u) t
 begun_follows s u t ne well =
-    follows_same s (begun s u) t well refl (ap (λ b. if b then Some (record { age = s.begins + 1; status = Active }) else s.txns t) (other u t ne)) (λ q. refl) (λ q. refl)
+    follows_same s (begun s u) t well refl (ap (λ b. if b then Some (record { age = s.begins + 1; status = Active }) else s.txns t) (other u t ne))
+    (λ q. refl) (λ q. refl)
 
 -- another waits
 pub enqueued_follows : (s : State) (u t : ℕ) (n : NodeId) (m : Mode) → u ≢ t → WaitsWell s t → Follows s (enqueued s u n m) t
@@ -52,7 +53,8 @@ enqueued_follows s u t n m ne well =
 -- another's wait is taken out
 pub without_wait_follows : (s : State) (u t : ℕ) (st : Status) → u ≢ t → WaitsWell s t → Follows s (without_wait s u st) t
 without_wait_follows s u t st ne well =
-    follows_same s (without_wait s u st) t well refl (ap (λ b. if b then restatus st (s.txns u) else s.txns t) (other u t ne)) (λ q. refl) (λ q. without_other u t (s.queue q) ne)
+    follows_same s (without_wait s u st) t well refl (ap (λ b. if b then restatus st (s.txns u) else s.txns t) (other u t ne)) (λ q. refl)
+    (λ q. without_other u t (s.queue q) ne)
 
 apart_condemned : {q : NodeId} {w : Mode} → Some Condemned ≡ Some (Waiting q w) → ⊥
 apart_condemned e = cc
@@ -96,7 +98,8 @@ pub condemned_follows : (s : State) (v t : ℕ) → Waits s v → WaitsWell s t 
 condemned_follows s v t waits well =
     split (v == t)
     (λ e. let same = same_number v t e in
-    let f : Follows s (without_wait s v Condemned) t = subst (λ x. Follows s (without_wait s x Condemned) t) (sym same) (condemned_self s t waits.0 waits.1 (ap (status_of s) (sym same) ∙ waits.2)) in
+    let f : Follows s (without_wait s v Condemned) t =
+    subst (λ x. Follows s (without_wait s x Condemned) t) (sym same) (condemned_self s t waits.0 waits.1 (ap (status_of s) (sym same) ∙ waits.2)) in
     follows_trans s (without_wait s v Condemned) (condemned s v) t f (pumped_follows (without_wait s v Condemned) (is_waiting_at s v) t f.well))
     (λ e. let f = without_wait_follows s v t Condemned (differ e) well in
     follows_trans s (without_wait s v Condemned) (condemned s v) t f (pumped_follows (without_wait s v Condemned) (is_waiting_at s v) t f.well))
@@ -146,14 +149,16 @@ cleared s u =
 pub released_follows : (s : State) (u t : ℕ) → u ≢ t → WaitsWell s t → Follows s (released s u) t
 released_follows s u t ne well =
     let f : Follows s (cleared s u) t =
-    follows_same s (cleared s u) t well refl (ap (λ b. if b then None else s.txns t) (other u t ne)) (λ q. ap (λ b. if b then NL else s.held t q) (other u t ne)) (λ q. without_other u t (s.queue q) ne) in
+    follows_same s (cleared s u) t well refl (ap (λ b. if b then None else s.txns t) (other u t ne))
+    (λ q. ap (λ b. if b then NL else s.held t q) (other u t ne)) (λ q. without_other u t (s.queue q) ne) in
     follows_trans s (cleared s u) (released s u) t f (pumped_follows (cleared s u) (λ n. holds (members s n) u || is_waiting_at s u n) t f.well)
 
 -- another's children are released
 pub shed_follows : (s : State) (u t : ℕ) (n : NodeId) → u ≢ t → WaitsWell s t → Follows s (shed s u n) t
 shed_follows s u t n ne well =
     let less : State = record s { held = λ v c. if (v == u) && is_covered s u n c then NL else s.held v c } in
-    let f : Follows s less t = follows_same s less t well refl refl (λ q. ap (λ b. if b && is_covered s u n q then NL else s.held t q) (other u t ne)) (λ q. refl) in
+    let f : Follows s less t = follows_same s less t well refl refl
+    (λ q. ap (λ b. if b && is_covered s u n q then NL else s.held t q) (other u t ne)) (λ q. refl) in
     follows_trans s less (shed s u n) t f (pumped_follows less (is_covered s u n) t f.well)
 
 -- another escalates
@@ -172,4 +177,5 @@ unlocked_follows s u t n ne well =
 pub cancelled_follows : (s : State) (u t : ℕ) → u ≢ t → WaitsWell s t → Follows s (pumped (without_wait s u Active) (is_waiting_at s u)) t
 cancelled_follows s u t ne well =
     let f = without_wait_follows s u t Active ne well in
-    follows_trans s (without_wait s u Active) (pumped (without_wait s u Active) (is_waiting_at s u)) t f (pumped_follows (without_wait s u Active) (is_waiting_at s u) t f.well)
+    follows_trans s (without_wait s u Active) (pumped (without_wait s u Active) (is_waiting_at s u)) t f
+    (pumped_follows (without_wait s u Active) (is_waiting_at s u) t f.well)

@@ -77,7 +77,8 @@ over_of_step s s' t told' rows a = record {
 
     unmoved : SameGrants s s' t.slot ⊎ ToldGrant s s' t told' → list_any (is_grant_to t) told' ≡ false → SameGrants s s' t.slot
     unmoved (inl x) quiet = x
-    unmoved (inr x) quiet = absurd (true≢false (sym (any_weaker (tells t x.0.node x.0.mode) (is_grant_to t) told' (tells_grant t x.0.node x.0.mode) x.1) ∙ quiet))
+    unmoved (inr x) quiet = absurd (true≢false
+        (sym (any_weaker (tells t x.0.node x.0.mode) (is_grant_to t) told' (tells_grant t x.0.node x.0.mode) x.1) ∙ quiet))
 
 -- one run and then another
 pub over_trans : (s mid s' : State) (t : TxnId) (g h : Bool) → IsLawful s → KeepsOver s mid t g → KeepsOver mid s' t h → KeepsOver s s' t (g || h)
@@ -91,7 +92,8 @@ over_trans s mid s' t g h law a b = record {
       let mids = between n live live' in
       kind_trans (node_at s.graph n) (node_at mid.graph n) (node_at s'.graph n) (a.kinds n live mids) (b.kinds n mids live');
   same = λ quiet n live live'. let q' = or_no g h quiet in b.same q'.1 n (between n live live') live' ∙ a.same q'.0 n live (between n live live');
-  greater = λ n live live'. effect_trans (effective s' t.slot n) (effective mid t.slot n) (effective s t.slot n) (b.greater n (between n live live') live') (a.greater n live (between n live live'));
+  greater = λ n live live'. effect_trans (effective s' t.slot n) (effective mid t.slot n) (effective s t.slot n)
+      (b.greater n (between n live live') live') (a.greater n live (between n live live'));
 }
   where
     between : (n : NodeId) → is_live s.graph n ≡ true → is_live s'.graph n ≡ true → is_live mid.graph n ≡ true

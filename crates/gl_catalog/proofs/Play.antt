@@ -1,4 +1,5 @@
--- The model as a program: what a state answers to a command, and what is left. A new node gets the least key above all others, and settling takes as many turns as there are that wait.
+-- The model as a program: what a state answers to a command, and what is left. A new node gets the least key above all others, and settling takes as
+-- many turns as there are that wait.
 use Rattle.std.specs.Prelude.{ℕ, false, zero, suc, ◌+◌, ◌-◌, nat_le, List, [], ◌∷◌, length, Option, Some, None, if◌then◌else◌}
 use Rattle.std.specs.List.{range_with_len}
 use Rattle.gl_modes.specs.declared.mode.Mode.TheVariants.{X}
@@ -67,7 +68,12 @@ done s s' = (answer.Done, told s s', s')
 abbrev pub go : State → Command → Outcome
 go s (command.Inner ps) = one_made s Inner ps.now
 go s (command.File ps) = one_made s (File false) ps.now
-go s (command.Index ps f bs) = (answer.Node (next_id s (free_key s)), [], with_graph s (born_index s.graph (free_key s) ps.now f bs.now (interval_keys s bs.now)))
+go s (command.Index ps f bs) = (
+  answer.Node (next_id s (free_key s)),
+  [],
+  with_graph s
+      (born_index s.graph (free_key s) ps.now f bs.now (interval_keys s bs.now)),
+)
 go s command.Begin = (answer.Begun (record { slot = slot_or_zero (free_slot s); age = s.begins + 1 }), [], begun s (slot_or_zero (free_slot s)))
 go s (command.Lock t n m) =
     let s' : State = locked s t.slot n m in
@@ -83,8 +89,12 @@ go s (command.Cancel t) = let s' = cancelled s t.slot in (answer.Done, told_but 
 go s (command.Commit t) = done s (released s t.slot)
 go s (command.Abort t) = done s (released s t.slot)
 go s (command.Settle t) = done s (settled s.victims s t.slot)
-go s (command.Insert t f keys) =
-    (answer.Node (next_id s (free_key s)), [], with_grant (made s (new_node s (Rec keys.now) (record_parents s.graph f keys.now))) t.slot (next_id s (free_key s)) X)
+go s (command.Insert t f keys) = (
+  answer.Node (next_id s (free_key s)),
+  [],
+  with_grant (made s (new_node s (Rec keys.now) (record_parents s.graph f keys.now))) t.slot
+      (next_id s (free_key s)) X,
+)
 go s (command.Delete t r) = done s (deleted s r)
 go s (command.Rekey t r i key) = done s (moved_to s r (rekeyed_parents s.graph r i key) (rekeyed s.graph r i key))
 go s (command.Move t n ps) = done s (moved_to s n ps.now (with_parents s.graph n ps.now))

@@ -1,5 +1,6 @@
 -- In a lawful state what the program does is a step of the model, so there is a step for every command, and what it does to a list is a run.
-use Rattle.std.specs.Prelude.{◌≡◌, ℕ, zero, suc, ◌+◌, ◌<◌, ◌≤◌, Bool, true, false, not, ◌&&◌, ◌==◌, nat_le, List, [], ◌∷◌, length, Option, Some, None, if◌then◌else◌, is_none, is_some}
+use Rattle.std.specs.Prelude.{◌≡◌, ℕ, zero, suc, ◌+◌, ◌<◌, ◌≤◌, Bool, true, false, not, ◌&&◌, ◌==◌, nat_le, List, [], ◌∷◌, length, Option, Some, None}
+use Rattle.std.specs.Prelude.{if◌then◌else◌, is_none, is_some}
 use Rattle.std.specs.List.{find, list_all, list_any, range_with_len}
 use Rattle.std.proofs.lemmas.List.FromFn.{length-range_with_len}
 use Rattle.std.proofs.lemmas.Bool.{cases_eq}
@@ -63,14 +64,17 @@ in_range k a (suc n) h = or_elim (a == k) _ h (λ e. let same = same_number a k 
 
 range_apart : (a n : ℕ) → are_apart (range_with_len a n) ≡ true
 range_apart a zero = refl
-range_apart a (suc n) = both _ _ (split (list_any (λ x. x == a) (range_with_len (a + 1) n)) (λ e. let low = in_range a (a + 1) n e in absurd (omega arith)) (λ e. ap not e)) (range_apart (a + 1) n)
+range_apart a (suc n) = both _ _ (split (list_any (λ x. x == a) (range_with_len (a + 1) n))
+    (λ e. let low = in_range a (a + 1) n e in absurd (omega arith)) (λ e. ap not e)) (range_apart (a + 1) n)
 
 -- where not all slots are taken one is found
-slot_found : (txns : ℕ → Option Txn) (us : List ℕ) → list_all (λ t. is_some (txns t)) us ≡ false → find (λ u. is_none (txns u)) us ≡ Some (slot_or_zero (find (λ u. is_none (txns u)) us))
+slot_found : (txns : ℕ → Option Txn) (us : List ℕ) → list_all (λ t. is_some (txns t)) us ≡ false
+    → find (λ u. is_none (txns u)) us ≡ Some (slot_or_zero (find (λ u. is_none (txns u)) us))
 slot_found txns [] h = absurd (no (sym h))
 slot_found txns (u ∷ us) h = by (txns u) h (slot_found txns us)
   where
-    by : (x : Option Txn) → (is_some x && list_all (λ t. is_some (txns t)) us) ≡ false → (list_all (λ t. is_some (txns t)) us ≡ false → find (λ v. is_none (txns v)) us ≡ Some (slot_or_zero (find (λ v. is_none (txns v)) us)))
+    by : (x : Option Txn) → (is_some x && list_all (λ t. is_some (txns t)) us) ≡ false
+        → (list_all (λ t. is_some (txns t)) us ≡ false → find (λ v. is_none (txns v)) us ≡ Some (slot_or_zero (find (λ v. is_none (txns v)) us)))
         → (if is_none x then Some u else find (λ v. is_none (txns v)) us) ≡ Some (slot_or_zero (if is_none x then Some u else find (λ v. is_none (txns v)) us))
     by None k rest = refl
     by (Some x) k rest = rest k
@@ -86,12 +90,15 @@ module _ (s : State) (law : IsLawful s) where
       slot_found s.txns (slots s) (test_fails _ no.TooManyTxns (not_refused (too_many_txns s) [] b.1).0)
 
   keys_apart : (bs : List ℕ) → are_apart (free_key s ∷ interval_keys s bs) ≡ true
-  keys_apart bs = both _ _ (split (list_any (λ x. x == free_key s) (interval_keys s bs)) (λ e. let low = in_range (free_key s) (free_key s + 1) (length bs + 1) e in absurd (omega arith)) (λ e. ap not e)) (range_apart (free_key s + 1) (length bs + 1))
+  keys_apart bs = both _ _ (split (list_any (λ x. x == free_key s) (interval_keys s bs))
+      (λ e. let low = in_range (free_key s) (free_key s + 1) (length bs + 1) e in absurd (omega arith)) (λ e. ap not e))
+      (range_apart (free_key s + 1) (length bs + 1))
 
   keys_free : (bs : List ℕ) (k : ℕ) → list_any (λ x. x == k) (free_key s ∷ interval_keys s bs) ≡ true → IsFreeKey s.graph k
   keys_free bs k e =
       free_above s.graph law.graph k
-      (or_elim (free_key s == k) _ e (λ y. let same = same_number (free_key s) k y in omega arith) (λ y. let low = in_range k (free_key s + 1) (length bs + 1) y in omega arith))
+      (or_elim (free_key s == k) _ e (λ y. let same = same_number (free_key s) k y in omega arith)
+      (λ y. let low = in_range k (free_key s + 1) (length bs + 1) y in omega arith))
 
   goes : (c : Command) (r : Option Refusal) → refusal_of s c ≡ r → Goes s c r (tested s c r).0 (tested s c r).1 (tested s c r).2
   goes c (Some r) e = record { answer_is = refl; nobody_told = refl; same = refl }
@@ -101,7 +108,15 @@ module _ (s : State) (law : IsLawful s) where
     _,
     (
       _,
-      record { interval_keys = interval_keys s bs.now; intervals = length-range_with_len (free_key s + 1) (length bs.now + 1); keys_apart = keys_apart bs.now; keys_free = keys_free bs.now; birth = refl; after = refl },
+      record {
+        interval_keys = interval_keys s bs.now;
+        intervals = length-range_with_len (free_key s + 1) (length bs.now + 1);
+        keys_apart =
+            keys_apart bs.now;
+        keys_free = keys_free bs.now;
+        birth = refl;
+        after = refl;
+      },
       refl,
       refl,
       refl,
@@ -138,4 +153,9 @@ always_answers s c law = ((play s c).0, (play s c).1, (play s c).2, play_steps s
 -- a list of commands is a run
 pub play_runs : (cs : List Command) (s : State) → IsLawful s → Run s cs (replies s cs) (after s cs)
 play_runs [] s law = refl
-play_runs (c ∷ cs) s law = ((play s c).2, play_steps s law c, play_runs cs (play s c).2 (steps_keep_law s (play s c).2 c (play s c).0 (play s c).1 law (play_steps s law c)))
+play_runs (c ∷ cs) s law = (
+  (play s c).2,
+  play_steps s law c,
+  play_runs cs (play s c).2
+      (steps_keep_law s (play s c).2 c (play s c).0 (play s c).1 law (play_steps s law c)),
+)

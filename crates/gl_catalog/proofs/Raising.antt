@@ -46,7 +46,8 @@ raised_reads a true = every-true (λ x. is_at_least (supremum x X) S) refl a
 raised_reads a false = every-true (λ x. is_at_least (supremum x S) S) refl a
 
 -- the asked mode suits each node but a record
-suits : (b rec : Bool) → rec ≡ false → where_true (same_mode (asked_if b) NL || (rec && not (same_mode (asked_if b) S || same_mode (asked_if b) X))) no.BadMode ≡ None
+suits : (b rec : Bool) → rec ≡ false → where_true
+    (same_mode (asked_if b) NL || (rec && not (same_mode (asked_if b) S || same_mode (asked_if b) X))) no.BadMode ≡ None
 suits b rec h = ap (λ r. where_true (same_mode (asked_if b) NL || (r && not (same_mode (asked_if b) S || same_mode (asked_if b) X))) no.BadMode) h ∙ by b
   where
     by : (b : Bool) → where_true (same_mode (asked_if b) NL || false) no.BadMode ≡ None
@@ -59,8 +60,10 @@ member_enters true b c h = or_left b c h
 member_enters false b c h = refl
 
 -- what refuses the ask refuses the escalation
-pub asks_err : (s : State) (t : TxnId) (n : NodeId) (r : Refusal) → Err r ≡ verdict (first_refusal (worn s ∷ escalate_asks s t n)) → CallSteps s (command.Escalate t n) rose (Err r) s
-asks_err s t n r h = refused_step rose (command.Escalate t n) s r (refused_first (worn s ∷ escalate_asks s t n) (escalation_blocks s t.slot n ∷ []) r (test_refused _ r h))
+pub asks_err : (s : State) (t : TxnId) (n : NodeId) (r : Refusal) → Err r ≡ verdict (first_refusal (worn s ∷ escalate_asks s t n))
+    → CallSteps s (command.Escalate t n) rose (Err r) s
+asks_err s t n r h = refused_step rose (command.Escalate t n) s r
+    (refused_first (worn s ∷ escalate_asks s t n) (escalation_blocks s t.slot n ∷ []) r (test_refused _ r h))
 
 module _ (s : State) (t : TxnId) (n : NodeId) (passed : first_refusal (worn s ∷ escalate_asks s t n) ≡ None) where
   abbrev writes : Bool
@@ -88,20 +91,26 @@ module _ (s : State) (t : TxnId) (n : NodeId) (passed : first_refusal (worn s �
   module _ (law : IsLawful s) where
     -- the raised mode meets the rule of the graph as the old one did
     no_parents_needed : need_parents s t.slot n (wanted s t.slot n m) ≡ None
-    no_parents_needed = ap (λ b. if b then None else (if is_write (wanted s t.slot n m) then first_not_ix (s.held t.slot) (parents_of s.graph n) else first_of_all (parents_of s.graph n))) (raised_intends s law t.slot n node_tests.1)
+    no_parents_needed = ap (λ b. if b then None
+        else (if is_write (wanted s t.slot n m) then first_not_ix (s.held t.slot) (parents_of s.graph n) else first_of_all (parents_of s.graph n)))
+        (raised_intends s law t.slot n node_tests.1)
 
     -- a try of the asked mode is refused exactly as the escalation is
     tried_alike : first_refusal (try_tests s t n m) ≡ refusal_of s (command.Escalate t n)
     tried_alike =
-        passed_then (active_on s t (n ∷ [])) (bad_mode s n m ∷ need_parents s t.slot n (wanted s t.slot n m) ∷ would_block s t.slot n m ∷ []) (passes_first (active_on s t (n ∷ [])) _ (not_refused (worn s) _ passed).1)
-        ∙ ap (λ o. first_refusal (o ∷ need_parents s t.slot n (wanted s t.slot n m) ∷ would_block s t.slot n m ∷ [])) (suits writes (is_record_shape (shape_of s.graph n)) node_tests.0)
+        passed_then (active_on s t (n ∷ [])) (bad_mode s n m ∷ need_parents s t.slot n (wanted s t.slot n m) ∷ would_block s t.slot n m ∷ [])
+        (passes_first (active_on s t (n ∷ [])) _ (not_refused (worn s) _ passed).1)
+        ∙ ap (λ o. first_refusal (o ∷ need_parents s t.slot n (wanted s t.slot n m) ∷ would_block s t.slot n m ∷ []))
+        (suits writes (is_record_shape (shape_of s.graph n)) node_tests.0)
         ∙ ap (λ o. first_refusal (o ∷ would_block s t.slot n m ∷ [])) no_parents_needed
-        ∙ ap (λ b. first_refusal (where_true (not b) no.WouldBlock ∷ [])) (member_enters (fits s.most (members s n) t.slot (wanted s t.slot n m)) (holds (members s n) t.slot) (is_empty (s.queue n)) node_tests.1)
+        ∙ ap (λ b. first_refusal (where_true (not b) no.WouldBlock ∷ []))
+        (member_enters (fits s.most (members s n) t.slot (wanted s t.slot n m)) (holds (members s n) t.slot) (is_empty (s.queue n)) node_tests.1)
         ∙ sym (passed_then (worn s ∷ escalate_asks s t n) (escalation_blocks s t.slot n ∷ []) passed)
 
     -- and never for want of memory
     pub tried_err : (asked : Mode) → asked ≡ m → (r : Refusal) → Refuses {T = Mode} (first_refusal (try_tests s t n asked)) (Err r)
-        → (first_refusal (try_tests s t n asked) ≡ None → holds (members s n) t.slot ≡ true → IsOk {T = Mode} (Err r)) → CallSteps s (command.Escalate t n) rose (Err r) s
+        → (first_refusal (try_tests s t n asked) ≡ None → holds (members s n) t.slot ≡ true → IsOk {T = Mode} (Err r))
+        → CallSteps s (command.Escalate t n) rose (Err r) s
     tried_err asked is r refuses held = by (first_refusal (try_tests s t n asked)) refl refuses
       where
         alike : first_refusal (try_tests s t n asked) ≡ refusal_of s (command.Escalate t n)
@@ -112,13 +121,15 @@ module _ (s : State) (t : TxnId) (n : NodeId) (passed : first_refusal (worn s �
         by (Some x) e h = refused_step rose (command.Escalate t n) s r (sym alike ∙ e ∙ cc)
 
 -- the try was granted
-module _ (k : ℕ) (s : State) (t : TxnId) (n : NodeId) (passed : first_refusal (worn (counting k s) ∷ escalate_asks (counting k s) t n) ≡ None) (asked : Mode) (is : asked ≡ asked_by_escalation s t.slot n) (s' : State)
+module _ (k : ℕ) (s : State) (t : TxnId) (n : NodeId) (passed : first_refusal (worn (counting k s) ∷ escalate_asks (counting k s) t n) ≡ None)
+    (asked : Mode) (is : asked ≡ asked_by_escalation s t.slot n) (s' : State)
     (grants : s' ≡ granted s t.slot n asked) where
   up : s' ≡ raised s t.slot n
   up = grants ∙ ap (granted s t.slot n) is
 
   held_raised : (raised s t.slot n).held t.slot n ≡ wanted s t.slot n (asked_by_escalation s t.slot n)
-  held_raised = ap (λ b. if b then wanted s t.slot n (asked_by_escalation s t.slot n) else s.held t.slot n) (both _ _ (number_same t.slot t.slot refl) (same_node-refl n))
+  held_raised = ap (λ b. if b then wanted s t.slot n (asked_by_escalation s t.slot n) else s.held t.slot n)
+      (both _ _ (number_same t.slot t.slot refl) (same_node-refl n))
 
   -- so the children may be shed
   pub raised_lives : lives s' t ≡ true
@@ -128,15 +139,19 @@ module _ (k : ℕ) (s : State) (t : TxnId) (n : NodeId) (passed : first_refusal 
   raised_active = ap (λ x. status_of x t.slot) up ∙ is_active (counting k s) t n passed
 
   pub reads : is_at_least (s'.held t.slot n) S ≡ true
-  reads = ap (λ x. is_at_least (x.held t.slot n) S) up ∙ ap (λ a. is_at_least a S) held_raised ∙ raised_reads (s.held t.slot n) (writes (counting k s) t n passed)
+  reads = ap (λ x. is_at_least (x.held t.slot n) S) up ∙ ap (λ a. is_at_least a S) held_raised
+      ∙ raised_reads (s.held t.slot n) (writes (counting k s) t n passed)
 
   -- and then the command was accepted; others are told of the shedding alone, since a lock that is raised wakes nobody
   pub shed_step : IsLawful (counting k s) → (mode : Mode) → mode ≡ wanted s t.slot n asked → Refuses (first_refusal (try_tests s t n asked)) (Ok mode)
-      → (released kept : ℕ) (notices : Notices) (s'' : State) → s'' ≡ shed s' t.slot n → released ≡ covered_children s' t.slot n → kept ≡ held_children s' t.slot n - covered_children s' t.slot n → notices.items ≡ told s' s''
+      → (released kept : ℕ) (notices : Notices) (s'' : State) → s'' ≡ shed s' t.slot n → released ≡ covered_children s' t.slot n
+      → kept ≡ held_children s' t.slot n - covered_children s' t.slot n → notices.items ≡ told s' s''
       → CallSteps (counting k s) (command.Escalate t n) rose (Ok (record { mode = mode; released = released; kept = kept }, notices)) (counting (k + 1) s'')
   shed_step law mode mode_is goes released kept notices s'' sheds released_is kept_is told_is =
-      accepted_step rose (command.Escalate t n) (counting k s) (record { mode = mode; released = released; kept = kept }, notices) (counting k s'') (counting (k + 1) s'')
-      (sym (ap (λ x. first_refusal (try_tests s t n x)) is ∙ tried_alike (counting k s) t n passed law) ∙ goes_on (first_refusal (try_tests s t n asked)) goes) refl
+      accepted_step rose (command.Escalate t n) (counting k s) (record { mode = mode; released = released; kept = kept }, notices) (counting k s'')
+      (counting (k + 1) s'')
+      (sym (ap (λ x. first_refusal (try_tests s t n x)) is ∙ tried_alike (counting k s) t n passed law)
+      ∙ goes_on (first_refusal (try_tests s t n asked)) goes) refl
       (ap answer.Escalated says, told_is ∙ ap (λ x. told x s'') up, ap (counting k) (sheds ∙ ap (λ x. shed x t.slot n) up)) refl
     where
       goes_on : (o : Option Refusal) → Refuses o (Ok mode) → o ≡ None
@@ -144,7 +159,12 @@ module _ (k : ℕ) (s : State) (t : TxnId) (n : NodeId) (passed : first_refusal 
       goes_on (Some r) h = absurd (cc)
 
       says : ◌≡◌ {A = Escalated} (record { mode = mode; released = released; kept = kept })
-          (record { mode = (raised s t.slot n).held t.slot n; released = covered_children (raised s t.slot n) t.slot n; kept = held_children (raised s t.slot n) t.slot n - covered_children (raised s t.slot n) t.slot n })
+          (record {
+            mode = (raised s t.slot n).held t.slot n;
+            released = covered_children (raised s t.slot n) t.slot n;
+            kept =
+                held_children (raised s t.slot n) t.slot n - covered_children (raised s t.slot n) t.slot n;
+          })
       says = λ i. record {
         mode = (mode_is ∙ ap (wanted s t.slot n) is ∙ sym held_raised) i;
         released = (released_is ∙ ap (λ x. covered_children x t.slot n) up) i;

@@ -8,7 +8,8 @@ use Rattle.gl_model.specs.declared.answers.Effect.TheVariants as effect
 use Rattle.gl_model.specs.declared.answers.Notice.TheVariants as notice
 use Rattle.gl_catalog.specs.declared.command.Answer.TheVariants as answer
 use Rattle.gl_catalog.specs.declared.command.Command.TheVariants as command
-use Rattle.gl_catalog.proofs.RowWords.{Rows, a, b, begins, c, computed, db, done, f1, holds, i1, i1_0, i1_1, locks, locks_all, prelude, r1, r2, ref, refuses, says, tells, waits}
+use Rattle.gl_catalog.proofs.RowWords.{Rows, a, b, begins, c, computed, db, done, f1, holds, i1, i1_0, i1_1, locks, locks_all, prelude, r1, r2, ref}
+use Rattle.gl_catalog.proofs.RowWords.{refuses, says, tells, waits}
 
 -- X asks IX on every parent, S on one; a node is left after its children
 row_graph_rule : Rows AtBlock 1 (prelude ++

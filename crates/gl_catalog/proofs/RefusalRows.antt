@@ -1,4 +1,5 @@
--- For each refusal runs from the empty state in which it is the answer, by the commands that can answer it. The two that only a full graph and a worn out count can meet are in Limits.
+-- For each refusal runs from the empty state in which it is the answer, by the commands that can answer it. The two that only a full graph and a worn
+-- out count can meet are in Limits.
 use Rattle.std.specs.Prelude.{[], ◌∷◌, ◌++◌}
 use Rattle.std.proofs.Common.{refl}
 use Rattle.gl_modes.specs.declared.mode.Mode.TheVariants.{NL, IS, IX, S, X}
@@ -8,7 +9,8 @@ use Rattle.gl_model.specs.declared.answers.Detect.TheVariants.{AtBlock, ByWatche
 use Rattle.gl_model.specs.declared.txn.TxnId.{TxnId}
 use Rattle.gl_catalog.specs.declared.command.Answer.TheVariants as answer
 use Rattle.gl_catalog.specs.declared.command.Command.TheVariants as command
-use Rattle.gl_catalog.proofs.RowWords.{Rows, a, b, begins, computed, db, f1, holds, i1, id, indexed, locks, locks_all, prelude, r1, ref, refuses, says, waits, z}
+use Rattle.gl_catalog.proofs.RowWords.{Rows, a, b, begins, computed, db, f1, holds, i1, id, indexed, locks, locks_all, prelude, r1, ref, refuses}
+use Rattle.gl_catalog.proofs.RowWords.{says, waits, z}
 
 -- names a node that never was, and a transaction that has ended
 abbrev nowhere : NodeId

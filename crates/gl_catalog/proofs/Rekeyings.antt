@@ -1,5 +1,6 @@
 -- A record is given another key for one index: the parents that it then has, place by place, what its tests say, and what comes of it.
-use Rattle.std.specs.Prelude.{◌≡◌, ℕ, zero, suc, ◌+◌, ◌<◌, Bool, true, false, not, ◌&&◌, List, [], ◌∷◌, ◌++◌, length, Some, None, Ok, if◌then◌else◌, get_or, take}
+use Rattle.std.specs.Prelude.{◌≡◌, ℕ, zero, suc, ◌+◌, ◌<◌, Bool, true, false, not, ◌&&◌, List, [], ◌∷◌, ◌++◌, length, Some, None, Ok, if◌then◌else◌}
+use Rattle.std.specs.Prelude.{get_or, take}
 use Rattle.std.proofs.Common.{refl, sym, ap, ap₂, ◌∙◌, arith}
 use Rattle.std.proofs.lemmas.List.{take_more}
 use Rattle.gl_modes.proofs.NodeLemmas.{same_node-equal}
@@ -40,7 +41,8 @@ keys_at (i ∷ is) (k ∷ ks) index key zero d each low = refl
 keys_at (i ∷ is) (k ∷ ks) index key (suc place) d each low = keys_at is ks index key place d (omega arith) (omega arith)
 
 module _ (g : Graph) where
-  intervals_at : (is : List NodeId) (ks : List ℕ) (place : ℕ) (d : NodeId) → length ks ≡ length is → place < length is → get_or (intervals_of g is ks) place d ≡ interval_of g (get_or is place d) (get_or ks place 0)
+  intervals_at : (is : List NodeId) (ks : List ℕ) (place : ℕ) (d : NodeId) → length ks ≡ length is → place < length is
+      → get_or (intervals_of g is ks) place d ≡ interval_of g (get_or is place d) (get_or ks place 0)
   intervals_at [] ks place d each low = absurd (omega arith)
   intervals_at (i ∷ is) [] place d each low = absurd (omega arith)
   intervals_at (i ∷ is) (k ∷ ks) zero d each low = refl
@@ -76,19 +78,23 @@ module _ (g : Graph) where
       rekeyed_at place d b low test =
           let more : place + 1 ≡ suc place = omega arith in
           ap (λ k. get_or (rekeyed_parents g r index key) k d) more ∙ intervals_at is (rekeyed_keys g r index key) place d each low
-          ∙ ap (interval_of g (get_or is place d)) (keys_at is keys index key place d (its_keys g law r rec) low ∙ ap (λ x. if x then key else get_or keys place 0) test) ∙ by b test
+          ∙ ap (interval_of g (get_or is place d))
+          (keys_at is keys index key place d (its_keys g law r rec) low ∙ ap (λ x. if x then key else get_or keys place 0) test) ∙ by b test
         where
           by : (x : Bool) → same_node (get_or is place d) index ≡ x
-              → interval_of g (get_or is place d) (if x then key else get_or keys place 0) ≡ (if x then interval_of g index key else get_or (parents_of g r) (place + 1) d)
+              → interval_of g (get_or is place d)
+              (if x then key else get_or keys place 0) ≡ (if x then interval_of g index key else get_or (parents_of g r) (place + 1) d)
           by true here = ap (λ i. interval_of g i key) (same_node-equal (get_or is place d) index here)
           by false other = sym (parents_at place d low)
 
       -- and so one place after the other
       pub rekeyed_more : (place : ℕ) (d : NodeId) (b : Bool) → place < length is → same_node (get_or is place d) index ≡ b
-          → take (place + 1 + 1) (rekeyed_parents g r index key) ≡ take (place + 1) (rekeyed_parents g r index key) ++ (if b then interval_of g index key else get_or (parents_of g r) (place + 1) d) ∷ []
+          → take (place + 1 + 1) (rekeyed_parents g r index key) ≡ take (place + 1) (rekeyed_parents g r index key)
+          ++ (if b then interval_of g index key else get_or (parents_of g r) (place + 1) d) ∷ []
       rekeyed_more place d b low test =
           let count = rekeyed_counted in
-          take_more (rekeyed_parents g r index key) (place + 1) d (omega arith) ∙ ap (λ n. take (place + 1) (rekeyed_parents g r index key) ++ n ∷ []) (rekeyed_at place d b low test)
+          take_more (rekeyed_parents g r index key) (place + 1) d (omega arith)
+          ∙ ap (λ n. take (place + 1) (rekeyed_parents g r index key) ++ n ∷ []) (rekeyed_at place d b low test)
 
 -- who may give the record this key
 pub record MayReparent (s : State) (t : TxnId) (r index : NodeId) (key : ℕ) : Type 0 where
@@ -99,17 +105,20 @@ pub record MayReparent (s : State) (t : TxnId) (r index : NodeId) (key : ℕ) : 
   pub exclusive : need_exclusive s t.slot r true (rekeyed_parents s.graph r index key) ≡ None
   pub rule : need_new_parents s t.slot r (rekeyed_parents s.graph r index key) ≡ None
 
-pub may_reparent : (s : State) (t : TxnId) (r index : NodeId) (key : ℕ) → Ok tt ≡ verdict (refusal_of s (command.Rekey t r index key)) → MayReparent s t r index key
+pub may_reparent : (s : State) (t : TxnId) (r index : NodeId) (key : ℕ) → Ok tt ≡ verdict (refusal_of s (command.Rekey t r index key))
+    → MayReparent s t r index key
 may_reparent s t r index key asks =
     let t1 = not_refused (worn s) _ (verdict_ok _ tt asks) in
     let t2 = not_refused (no_txn s t) _ t1.1 in
     let t3 = not_refused (waiting_test (status_of s t.slot)) _ t2.1 in
     let t4 = not_refused (condemned_test (status_of s t.slot)) _ t3.1 in
     let t5 = not_refused (some_no_node s.graph (r ∷ index ∷ [])) _ t4.1 in
-    let t6 = not_refused (where_true (not (is_record_shape (shape_of s.graph r) && is_index_of_shape (first_parent s.graph r) (shape_of s.graph index))) _) _ t5.1 in
+    let t6 = not_refused (where_true (not
+    (is_record_shape (shape_of s.graph r) && is_index_of_shape (first_parent s.graph r) (shape_of s.graph index))) _) _ t5.1 in
     let t7 = not_refused (need_exclusive s t.slot r true (rekeyed_parents s.graph r index key)) _ t6.1 in
     let t8 = not_refused (need_new_parents s t.slot r (rekeyed_parents s.graph r index key)) [] t7.1 in
-    let kinds = and_both (is_record_shape (shape_of s.graph r)) (is_index_of_shape (first_parent s.graph r) (shape_of s.graph index)) (not_false _ (test_fails _ _ t6.0)) in
+    let kinds = and_both (is_record_shape (shape_of s.graph r)) (is_index_of_shape (first_parent s.graph r) (shape_of s.graph index))
+    (not_false _ (test_fails _ _ t6.0)) in
     record {
       txn = txn_lives s t t2.0;
       active = active_is s t t2.0 t3.0 t4.0;
@@ -120,7 +129,10 @@ may_reparent s t r index key asks =
     }
 
 -- the record has its new key
-pub rekey_done : (k : ℕ) (s s' : State) (t : TxnId) (r index : NodeId) (key : ℕ) (list : Notices) → Ok tt ≡ verdict (refusal_of (counting k s) (command.Rekey t r index key))
-    → list.items ≡ told s s' → s' ≡ moved_to s r (rekeyed_parents s.graph r index key) (rekeyed s.graph r index key) → CallSteps (counting k s) (command.Rekey t r index key) done (Ok list) (counting (k + 1) s')
+pub rekey_done : (k : ℕ) (s s' : State) (t : TxnId) (r index : NodeId) (key : ℕ) (list : Notices)
+    → Ok tt ≡ verdict (refusal_of (counting k s) (command.Rekey t r index key))
+    → list.items ≡ told s s' → s' ≡ moved_to s r (rekeyed_parents s.graph r index key) (rekeyed s.graph r index key)
+    → CallSteps (counting k s) (command.Rekey t r index key) done (Ok list) (counting (k + 1) s')
 rekey_done k s s' t r index key list asks tells is =
-    accepted_step done (command.Rekey t r index key) (counting k s) list (counting k s') (counting (k + 1) s') (verdict_ok _ tt asks) refl (refl, tells, ap (counting k) is) refl
+    accepted_step done (command.Rekey t r index key) (counting k s) list (counting k s') (counting (k + 1) s') (verdict_ok _ tt asks) refl
+    (refl, tells, ap (counting k) is) refl

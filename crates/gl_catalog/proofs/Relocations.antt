@@ -40,14 +40,16 @@ cycle_at_most : (g : Graph) (n : NodeId) (ps : List NodeId) → (is_none (first_
 cycle_at_most g n [] = refl
 cycle_at_most g n (p ∷ ps) = by (is_at_or_below (node_count g) g n p) (cycle_at_most g n ps)
   where
-    by : (b : Bool) → (is_none (first_cycle g n ps) || is_cycle (first_cycle g n ps)) ≡ true → (is_none (if b then Some (no.Cycle p) else first_cycle g n ps) || is_cycle (if b then Some (no.Cycle p) else first_cycle g n ps)) ≡ true
+    by : (b : Bool) → (is_none (first_cycle g n ps) || is_cycle (first_cycle g n ps)) ≡ true
+        → (is_none (if b then Some (no.Cycle p) else first_cycle g n ps) || is_cycle (if b then Some (no.Cycle p) else first_cycle g n ps)) ≡ true
     by true h = refl
     by false h = h
 
 module _ (s : State) (t : TxnId) (n : NodeId) (ps : Bor (List NodeId)) where
   -- a test refuses
   pub relocate_refused : (r : Refusal) → Err r ≡ verdict (first_refusal (worn s ∷ move_asks s t n ps.now)) → CallSteps s (command.Move t n ps) done (Err r) s
-  relocate_refused r asks = refused_step done (command.Move t n ps) s r (refused_first (worn s ∷ move_asks s t n ps.now) (first_cycle s.graph n ps.now ∷ []) r (test_refused _ r asks))
+  relocate_refused r asks = refused_step done (command.Move t n ps) s r
+      (refused_first (worn s ∷ move_asks s t n ps.now) (first_cycle s.graph n ps.now ∷ []) r (test_refused _ r asks))
 
   module _ (asks : Ok tt ≡ verdict (first_refusal (worn s ∷ move_asks s t n ps.now))) where
     pub may_regraft : MayRegraft s t n ps.now
@@ -57,10 +59,12 @@ module _ (s : State) (t : TxnId) (n : NodeId) (ps : Bor (List NodeId)) where
         let t3 = not_refused (waiting_test (status_of s t.slot)) _ t2.1 in
         let t4 = not_refused (condemned_test (status_of s t.slot)) _ t3.1 in
         let t5 = not_refused (some_no_node s.graph (n ∷ ps.now)) _ t4.1 in
-        let t6 = not_refused (where_true (not (is_movable_shape (shape_of s.graph n)) || bad_parents s.graph (least_parents (shape_of s.graph n)) ps.now) _) _ t5.1 in
+        let t6 = not_refused (where_true
+        (not (is_movable_shape (shape_of s.graph n)) || bad_parents s.graph (least_parents (shape_of s.graph n)) ps.now) _) _ t5.1 in
         let t7 = not_refused (need_exclusive s t.slot n (some_given (parents_of s.graph n) && some_given ps.now) ps.now) _ t6.1 in
         let t8 = not_refused (need_new_parents s t.slot n ps.now) [] t7.1 in
-        let kinds = or_no (not (is_movable_shape (shape_of s.graph n))) (bad_parents s.graph (least_parents (shape_of s.graph n)) ps.now) (test_fails _ _ t6.0) in
+        let kinds = or_no (not (is_movable_shape (shape_of s.graph n))) (bad_parents s.graph (least_parents (shape_of s.graph n)) ps.now)
+        (test_fails _ _ t6.0) in
         record {
           txn = txn_lives s t t2.0;
           active = active_is s t t2.0 t3.0 t4.0;
@@ -76,11 +80,15 @@ module _ (s : State) (t : TxnId) (n : NodeId) (ps : Bor (List NodeId)) where
 
     -- memory is wanting, or a path would close
     pub relocate_fails : (r : Refusal) → (r ≡ no.NoMemory) ⊎ (first_cycle s.graph n ps.now ≡ Some r) → CallSteps s (command.Move t n ps) done (Err r) s
-    relocate_fails r (inl memory) = memory_step done (command.Move t n ps) s r (ap (λ o. is_none o || is_cycle o) cycle_left ∙ cycle_at_most s.graph n ps.now) memory
+    relocate_fails r (inl memory) = memory_step done (command.Move t n ps) s r
+        (ap (λ o. is_none o || is_cycle o) cycle_left ∙ cycle_at_most s.graph n ps.now) memory
     relocate_fails r (inr cycle) = refused_step done (command.Move t n ps) s r (cycle_left ∙ cycle)
 
 -- the node has its new parents
-pub relocated : (k : ℕ) (s s' : State) (t : TxnId) (n : NodeId) (ps : Bor (List NodeId)) (list : Notices) → Ok tt ≡ verdict (first_refusal (worn (counting k s) ∷ move_asks (counting k s) t n ps.now)) → first_cycle s.graph n ps.now ≡ None
-    → list.items ≡ told s s' → s' ≡ moved_to s n ps.now (with_parents s.graph n ps.now) → CallSteps (counting k s) (command.Move t n ps) done (Ok list) (counting (k + 1) s')
+pub relocated : (k : ℕ) (s s' : State) (t : TxnId) (n : NodeId) (ps : Bor (List NodeId)) (list : Notices)
+    → Ok tt ≡ verdict (first_refusal (worn (counting k s) ∷ move_asks (counting k s) t n ps.now)) → first_cycle s.graph n ps.now ≡ None
+    → list.items ≡ told s s' → s' ≡ moved_to s n ps.now (with_parents s.graph n ps.now)
+    → CallSteps (counting k s) (command.Move t n ps) done (Ok list) (counting (k + 1) s')
 relocated k s s' t n ps list asks clear tells is =
-    accepted_step done (command.Move t n ps) (counting k s) list (counting k s') (counting (k + 1) s') (cycle_left (counting k s) t n ps asks ∙ clear) refl (refl, tells, ap (counting k) is) refl
+    accepted_step done (command.Move t n ps) (counting k s) list (counting k s') (counting (k + 1) s')
+    (cycle_left (counting k s) t n ps asks ∙ clear) refl (refl, tells, ap (counting k) is) refl

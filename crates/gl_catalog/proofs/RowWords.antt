@@ -44,7 +44,8 @@ computed {detect = detect} {most = most} {lines = lines} same =
     let start : State = empty_state detect most in
     record {
       state = after start (commands lines);
-      run = subst (λ rs. Run start (commands lines) rs (after start (commands lines))) same (play_runs (commands lines) start (empty-lawful detect Youngest most));
+      run = subst (λ rs. Run start (commands lines) rs (after start (commands lines))) same
+          (play_runs (commands lines) start (empty-lawful detect Youngest most));
     }
 
 -- a borrowed list, as a command has it

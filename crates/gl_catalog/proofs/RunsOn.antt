@@ -15,19 +15,22 @@ use Rattle.gl_catalog.proofs.OthersBelow.{others_leave_below}
 use Rattle.gl_catalog.proofs.OthersKeep.{others_keep_effects}
 
 -- one command more at the end
-pub run_snoc : (s mid s' : State) (cs : List Command) (rs : List (Answer × Told)) (c : Command) (a : Answer) (told : Told) → Run s cs rs mid → Step mid c a told s' → Run s (cs ++ c ∷ []) (rs ++ (a, told) ∷ []) s'
+pub run_snoc : (s mid s' : State) (cs : List Command) (rs : List (Answer × Told)) (c : Command) (a : Answer) (told : Told) → Run s cs rs mid
+    → Step mid c a told s' → Run s (cs ++ c ∷ []) (rs ++ (a, told) ∷ []) s'
 run_snoc s mid s' [] [] c a told run step = (s', subst (λ x. Step x c a told s') run step, refl)
 run_snoc s mid s' [] (r ∷ rs) c a told run step = absurd run
 run_snoc s mid s' (d ∷ cs) [] c a told run step = absurd run
 run_snoc s mid s' (d ∷ cs) (r ∷ rs) c a told run step = (run.0, run.1, run_snoc run.0 mid s' cs rs c a told run.2 step)
 
 -- the next command of a list, its reply behind the replies before
-pub run_next : (s mid s' : State) (cs : List Command) (i : ℕ) (d : Command) (replies now : List Reply) (reply : Reply) → i < length cs → Run s (take i cs) (said_in replies) mid
+pub run_next : (s mid s' : State) (cs : List Command) (i : ℕ) (d : Command) (replies now : List Reply) (reply : Reply) → i < length cs
+    → Run s (take i cs) (said_in replies) mid
     → Step mid (slice_index_or cs i d) reply.answer reply.told.items s' → now ≡ replies ++ reply ∷ [] → Run s (take (i + 1) cs) (said_in now) s'
 run_next s mid s' cs i d replies now reply below run step is =
     let commands = take_more cs i d below in
     let says = ap said_in is ∙ map-append (λ (r : Reply). (r.answer, r.told.items)) replies (reply ∷ []) in
-    coe 0 1 (k. Run s (sym commands k) (sym says k) s') (run_snoc s mid s' (take i cs) (said_in replies) (slice_index_or cs i d) reply.answer reply.told.items run step)
+    coe 0 1 (k. Run s (sym commands k) (sym says k) s')
+    (run_snoc s mid s' (take i cs) (said_in replies) (slice_index_or cs i d) reply.answer reply.told.items run step)
 
 -- where no command is left, all ran
 pub run_whole : (s s' : State) (cs : List Command) (i : ℕ) (rs : List (Answer × Told)) → length cs ≤ i → Run s (take i cs) rs s' → Run s cs rs s'

@@ -8,7 +8,8 @@ use Rattle.gl_catalog.specs.Promises.{StepsKeepLaw, RunsKeepLaw}
 use Rattle.gl_catalog.proofs.Counting.{lawful_counting}
 use Rattle.gl_catalog.proofs.EachStep.{each_step}
 use Rattle.gl_catalog.proofs.KeepsLaw.{KeepsLaw}
-use Rattle.gl_catalog.proofs.LockCommands.{begin_keeps, lock_keeps, try_keeps, unlock_keeps, escalate_keeps, cancel_keeps, commit_keeps, abort_keeps, settle_keeps}
+use Rattle.gl_catalog.proofs.LockCommands.{begin_keeps, lock_keeps, try_keeps, unlock_keeps, escalate_keeps, cancel_keeps, commit_keeps, abort_keeps}
+use Rattle.gl_catalog.proofs.LockCommands.{settle_keeps}
 use Rattle.gl_catalog.proofs.MakeKeeps.{inner_keeps, file_keeps, index_keeps, insert_keeps}
 use Rattle.gl_catalog.proofs.DeleteKeeps.{delete_keeps}
 use Rattle.gl_catalog.proofs.MoveCommands.{move_keeps, rekey_keeps}
@@ -39,7 +40,8 @@ accepted_keeps (command.Adopt f keys) = adopt_keeps f keys
 accepted_keeps (command.Forget r) = forget_keeps r
 
 pub steps_keep_law : StepsKeepLaw
-steps_keep_law s s' c a told law step = each_step IsLawful s c a told s' law (λ next. lawful_counting (next.accepted + 1) next) (λ free next acc. accepted_keeps c s next a told law free acc) step
+steps_keep_law s s' c a told law step =
+    each_step IsLawful s c a told s' law (λ next. lawful_counting (next.accepted + 1) next) (λ free next acc. accepted_keeps c s next a told law free acc) step
 
 pub runs_keep_law : RunsKeepLaw
 runs_keep_law s s' [] [] law run = subst IsLawful (sym run) law

@@ -1,5 +1,6 @@
 -- Who was granted a mode for which it waited is told so.
-use Rattle.std.specs.Prelude.{◌≡◌, ◌≢◌, ℕ, zero, suc, ◌+◌, ◌<◌, ◌≤◌, Bool, true, false, not, ◌&&◌, ◌||◌, ◌==◌, List, [], ◌∷◌, Option, Some, None, if◌then◌else◌, is_some}
+use Rattle.std.specs.Prelude.{◌≡◌, ◌≢◌, ℕ, zero, suc, ◌+◌, ◌<◌, ◌≤◌, Bool, true, false, not, ◌&&◌, ◌||◌, ◌==◌, List, [], ◌∷◌, Option, Some, None}
+use Rattle.std.specs.Prelude.{if◌then◌else◌, is_some}
 use Rattle.std.specs.List.{cons_option, filter, filter_map, list_any, range_with_len}
 use Rattle.std.proofs.Common.{refl, sym, ap, ap₂, ◌∙◌, arith, ⊎_elim}
 use Rattle.std.proofs.lemmas.Bool.{cases_eq}
@@ -39,25 +40,30 @@ tells_grant t n m (u, notice.Gone) h = h
 -- a weaker test passes too
 pub any_weaker : {Y : Type 0} (p q : Y → Bool) (xs : List Y) → ((y : Y) → p y ≡ true → q y ≡ true) → list_any p xs ≡ true → list_any q xs ≡ true
 any_weaker p q [] more h = h
-any_weaker p q (y ∷ ys) more h = or_elim (p y) (list_any p ys) h (λ here. ap (λ b. b || list_any q ys) (more y here)) (λ there. ap (λ b. q y || b) (any_weaker p q ys more there) ∙ or-true (q y))
+any_weaker p q (y ∷ ys) more h = or_elim (p y) (list_any p ys) h (λ here. ap (λ b. b || list_any q ys) (more y here))
+    (λ there. ap (λ b. q y || b) (any_weaker p q ys more there) ∙ or-true (q y))
 
 any_cons : {Y : Type 0} (p : Y → Bool) (o : Option Y) (xs : List Y) → list_any p xs ≡ true → list_any p (cons_option o xs) ≡ true
 any_cons p None xs h = h
 any_cons p (Some y) xs h = ap (λ b. p y || b) h ∙ or-true (p y)
 
-pub any_mapped : {Y : Type 0} (p : Y → Bool) (f : ℕ → Option Y) (x : ℕ) (y : Y) → f x ≡ Some y → p y ≡ true → (k n : ℕ) → k ≤ x → x < k + n → list_any p (filter_map f (range_with_len k n)) ≡ true
+pub any_mapped : {Y : Type 0} (p : Y → Bool) (f : ℕ → Option Y) (x : ℕ) (y : Y) → f x ≡ Some y → p y ≡ true → (k n : ℕ) → k ≤ x → x < k + n
+    → list_any p (filter_map f (range_with_len k n)) ≡ true
 any_mapped p f x y is passes k zero low high = absurd (omega arith)
 any_mapped p f x y is passes k (suc n) low high =
     ⊎_elim
-    (λ e. ap (λ o. list_any p (cons_option o (filter_map f (range_with_len (k + 1) n)))) (ap f (sym e) ∙ is) ∙ ap (λ b. b || list_any p (filter_map f (range_with_len (k + 1) n))) passes)
+    (λ e. ap (λ o. list_any p (cons_option o (filter_map f (range_with_len (k + 1) n)))) (ap f (sym e) ∙ is)
+    ∙ ap (λ b. b || list_any p (filter_map f (range_with_len (k + 1) n))) passes)
     (λ ne. any_cons p (f k) _ (any_mapped p f x y is passes (k + 1) n (omega arith) (omega arith))) (cases_eq x k)
 
 pub any_filtered : {Y : Type 0} (p q : Y → Bool) (xs : List Y) → ((y : Y) → p y ≡ true → q y ≡ true) → list_any p xs ≡ true → list_any p (filter q xs) ≡ true
 any_filtered p q [] more h = h
 any_filtered p q (y ∷ ys) more h = by (q y) (more y) (any_filtered p q ys more)
   where
-    by : (b : Bool) → (p y ≡ true → b ≡ true) → (list_any p ys ≡ true → list_any p (filter q ys) ≡ true) → list_any p (if b then y ∷ filter q ys else filter q ys) ≡ true
-    by true f rest = or_elim (p y) (list_any p ys) h (λ here. ap (λ b. b || list_any p (filter q ys)) here) (λ there. ap (λ b. p y || b) (rest there) ∙ or-true (p y))
+    by : (b : Bool) → (p y ≡ true → b ≡ true) → (list_any p ys ≡ true → list_any p (filter q ys) ≡ true)
+        → list_any p (if b then y ∷ filter q ys else filter q ys) ≡ true
+    by true f rest = or_elim (p y) (list_any p ys) h (λ here. ap (λ b. b || list_any p (filter q ys)) here)
+        (λ there. ap (λ b. p y || b) (rest there) ∙ or-true (p y))
     by false f rest = or_elim (p y) (list_any p ys) h (λ here. absurd (true≢false (sym (f here)))) (λ there. rest there)
 
 pub age_is : (age : ℕ) (x : Option Txn) → live_by age x ≡ true → (age == age_in x) ≡ true
@@ -68,7 +74,8 @@ pub txn_there : (age : ℕ) (x : Option Txn) → live_by age x ≡ true → is_s
 txn_there age None h = h
 txn_there age (Some x) h = refl
 
-module _ (s s' : State) (law : IsLawful s) (t : TxnId) (alive : lives s t ≡ true) (live_same : (n : NodeId) → is_live s.graph n ≡ true → is_live s'.graph n ≡ true) (g : GrantedTo s s' t.slot) where
+module _ (s s' : State) (law : IsLawful s) (t : TxnId) (alive : lives s t ≡ true)
+    (live_same : (n : NodeId) → is_live s.graph n ≡ true → is_live s'.graph n ≡ true) (g : GrantedTo s s' t.slot) where
   notice_is : told_from s' t.slot (status_of s t.slot) ≡ Some (notice.Granted g.node g.mode)
   notice_is =
       ap (told_from s' t.slot) g.was ∙ ap (notice_of s' t.slot g.node g.mode) g.is
@@ -84,7 +91,9 @@ module _ (s s' : State) (law : IsLawful s) (t : TxnId) (alive : lives s t ≡ tr
   told_of_grant =
       any_mapped (tells t g.node g.mode) (λ u. addressed (record { slot = u; age = age_of s u }) (told_from s' u (status_of s u))) t.slot
       (record { slot = t.slot; age = age_of s t.slot }, notice.Granted g.node g.mode)
-      (ap (addressed (record { slot = t.slot; age = age_of s t.slot })) notice_is) (ap₂ (λ a b. a && b) itself (ap₂ (λ a b. a && b) (same_node-refl g.node) (same_mode-refl g.mode))) 0 s.most (omega arith) (let below = law.slots_below t.slot (txn_there t.age (s.txns t.slot) alive) in omega arith)
+      (ap (addressed (record { slot = t.slot; age = age_of s t.slot })) notice_is)
+      (ap₂ (λ a b. a && b) itself (ap₂ (λ a b. a && b) (same_node-refl g.node) (same_mode-refl g.mode))) 0 s.most (omega arith)
+      (let below = law.slots_below t.slot (txn_there t.age (s.txns t.slot) alive) in omega arith)
 
   other_told : (u : ℕ) → u ≢ t.slot → (x : TxnId × Notice) → is_grant_to t x ≡ true → not (x.0.slot == u) ≡ true
   other_told u ne (v, notice.Granted n m) h =
@@ -97,4 +106,5 @@ module _ (s s' : State) (law : IsLawful s) (t : TxnId) (alive : lives s t ≡ tr
 
   -- and so has the list without the caller's
   pub told_but_of_grant : (u : ℕ) → u ≢ t.slot → list_any (tells t g.node g.mode) (told_but u s s') ≡ true
-  told_but_of_grant u ne = any_filtered (tells t g.node g.mode) (λ x. not (x.0.slot == u)) (told s s') (λ x h. other_told u ne x (tells_grant t g.node g.mode x h)) told_of_grant
+  told_but_of_grant u ne = any_filtered (tells t g.node g.mode) (λ x. not (x.0.slot == u)) (told s s')
+      (λ x h. other_told u ne x (tells_grant t g.node g.mode x h)) told_of_grant

@@ -42,7 +42,8 @@ module _ (s : State) (t : ℕ) (n : NodeId) (m : Mode) (a : Answer) where
     other_status o other is w = absurd (other (sym is ∙ w))
 
     -- who is released is gone, and others are woken
-    released_case : (u : ℕ) → (got : status_of next t ≡ status_in (woken (granted_at (stripped s u) (λ q. holds (members s q) u || is_waiting_at s u q)) t (if t == u then None else s.txns t))) → Began next
+    released_case : (u : ℕ) → (got : status_of next t ≡ status_in (woken
+        (granted_at (stripped s u) (λ q. holds (members s q) u || is_waiting_at s u q)) t (if t == u then None else s.txns t))) → Began next
     released_case u got w =
         let front = granted_at (stripped s u) (λ q. holds (members s q) u || is_waiting_at s u q) in
         split (t == u)
@@ -69,14 +70,16 @@ module _ (s : State) (t : ℕ) (n : NodeId) (m : Mode) (a : Answer) where
     accepted command.Begin acc =
         let begins = ap (λ (x : State). status_of x t) acc.4 in
         split (t == acc.0)
-        (λ e. other_status (Some Active) (λ h. cc h) (begins ∙ ap (λ b. status_in (if b then Some (record { age = s.begins + 1; status = Active }) else s.txns t)) e))
+        (λ e. other_status (Some Active) (λ h. cc h)
+        (begins ∙ ap (λ b. status_in (if b then Some (record { age = s.begins + 1; status = Active }) else s.txns t)) e))
         (λ e. same _ acc.4 (ap (λ b. if b then Some (record { age = s.begins + 1; status = Active }) else s.txns t) e))
     accepted (command.Lock u q w) acc = locked_case u q w acc.0 acc.1
     accepted (command.Try u q w) acc = same _ acc.2 refl
     accepted (command.Unlock u q) acc = on _ acc.2 (pumped_goes_on (with_grant s u.slot q NL) (same_node q) t)
     accepted (command.Escalate u q) acc =
         let up : State = raised s u.slot q in
-        on _ acc.2 (pumped_goes_on (record up { held = λ v c. if (v == u.slot) && is_covered up u.slot q c then NL else up.held v c }) (is_covered up u.slot q) t)
+        on _ acc.2 (pumped_goes_on (record up { held = λ v c. if (v == u.slot) && is_covered up u.slot q c then NL else up.held v c })
+        (is_covered up u.slot q) t)
     accepted (command.Cancel u) acc = on _ acc.2 (over_goes_on s u.slot Active (λ q w h. cc) t)
     accepted (command.Commit u) acc = released_case u.slot (ap (λ (x : State). status_of x t) acc.2)
     accepted (command.Abort u) acc = released_case u.slot (ap (λ (x : State). status_of x t) acc.2)
@@ -103,4 +106,5 @@ nobody_waits_on s s' c a list idle goes_on step t = by (status_of s' t) refl
     by None e = refl
     by (Some Active) e = refl
     by (Some Condemned) e = refl
-    by (Some (Waiting n m)) e = ⊎_elim (λ before. absurd (true≢false (sym (ap is_wait before) ∙ idle t))) (λ is. absurd (goes_on is)) (begins_waits s s' c a list t n m step e)
+    by (Some (Waiting n m)) e = ⊎_elim (λ before. absurd (true≢false (sym (ap is_wait before) ∙ idle t))) (λ is. absurd (goes_on is))
+        (begins_waits s s' c a list t n m step e)

@@ -33,7 +33,8 @@ use Rattle.gl_catalog.specs.Step.{Accepts}
 use Rattle.gl_catalog.specs.Tests.{tests_of}
 use Rattle.gl_catalog.proofs.EachStep.{each_step}
 use Rattle.gl_catalog.proofs.GrantCommands.{free_differs}
-use Rattle.gl_catalog.proofs.LivesOn.{GoesOn, LivesOn, freed_on, lives_on_same, lives_on_trans, over_goes_on, pumped_goes_on, settled_goes_on, unless_on, wait_settles_goes_on, woken_on}
+use Rattle.gl_catalog.proofs.LivesOn.{GoesOn, LivesOn, freed_on, lives_on_same, lives_on_trans, over_goes_on, pumped_goes_on, settled_goes_on}
+use Rattle.gl_catalog.proofs.LivesOn.{unless_on, wait_settles_goes_on, woken_on}
 use Rattle.gl_catalog.proofs.NotRefused.{differ, txn_lives}
 use Rattle.gl_catalog.proofs.OneStep.{AllNone, all_none}
 use Rattle.gl_catalog.proofs.OtherChanges.{other}
@@ -42,7 +43,8 @@ use Rattle.gl_catalog.proofs.ToldGrants.{age_is, any_filtered, any_mapped, txn_t
 -- t lives in s, and waits on n for m
 module _ (s : State) (law : IsLawful s) (t : TxnId) (alive : lives s t ≡ true) (n : NodeId) (m : Mode) (waits : status_of s t.slot ≡ Some (Waiting n m)) where
   -- whoever lives on and waits no more is told something
-  some_notice : (now : State) (o : Option Status) → (o ≡ None → ⊥) → ((q : NodeId) (w : Mode) → o ≡ Some (Waiting q w) → ⊥) → (x : Notice) × (notice_of now t.slot n m o ≡ Some x)
+  some_notice : (now : State) (o : Option Status) → (o ≡ None → ⊥) → ((q : NodeId) (w : Mode) → o ≡ Some (Waiting q w) → ⊥) → (x : Notice)
+      × (notice_of now t.slot n m o ≡ Some x)
   some_notice now None there quiet = absurd (there refl)
   some_notice now (Some (Waiting q w)) there quiet = absurd (quiet q w refl)
   some_notice now (Some Condemned) there quiet = (notice.Victim, refl)
@@ -78,13 +80,15 @@ module _ (s : State) (law : IsLawful s) (t : TxnId) (alive : lives s t ≡ true)
         let x = some_notice now (status_of now t.slot) there quiet in
         any_mapped (λ y. same_txn t y.0) (λ u. addressed (record { slot = u; age = age_of s u }) (told_from now u (status_of s u))) t.slot
         (record { slot = t.slot; age = age_of s t.slot }, x.0)
-        (ap (λ o. addressed (record { slot = t.slot; age = age_of s t.slot }) (told_from now t.slot o)) waits ∙ ap (addressed (record { slot = t.slot; age = age_of s t.slot })) x.1)
+        (ap (λ o. addressed (record { slot = t.slot; age = age_of s t.slot }) (told_from now t.slot o)) waits
+        ∙ ap (addressed (record { slot = t.slot; age = age_of s t.slot })) x.1)
         itself 0 s.most (omega arith) (let below = law.slots_below t.slot (txn_there t.age (s.txns t.slot) alive) in omega arith)
 
     other_told : (u : ℕ) → u ≢ t.slot → (x : TxnId × Notice) → same_txn t x.0 ≡ true → not (x.0.slot == u) ≡ true
     other_told u ne x h =
         let e : (t.slot == x.0.slot) ≡ true = (and_both _ _ h).0 in
-        split (x.0.slot == u) (λ k. absurd (let a : t.slot ≡ x.0.slot = grind (arith, nat_tests) in let b : x.0.slot ≡ u = grind (arith, nat_tests) in ne (sym (a ∙ b)))) (λ k. ap not k)
+        split (x.0.slot == u) (λ k. absurd
+        (let a : t.slot ≡ x.0.slot = grind (arith, nat_tests) in let b : x.0.slot ≡ u = grind (arith, nat_tests) in ne (sym (a ∙ b)))) (λ k. ap not k)
 
     pub told_but_over : (u : ℕ) → u ≢ t.slot → is_told t (told_but u s now) ≡ true
     told_but_over u ne = any_filtered (λ x. same_txn t x.0) (λ x. not (x.0.slot == u)) (told s now) (other_told u ne) told_over
@@ -124,7 +128,8 @@ module _ (s : State) (law : IsLawful s) (t : TxnId) (alive : lives s t ≡ true)
     released_on : (u : ℕ) → u ≢ t.slot → GoesOn s (released s u) t.slot
     released_on u ne =
         let got = granted_at (stripped s u) (λ q. holds (members s q) u || is_waiting_at s u q) in
-        subst (λ b. LivesOn (s.txns t.slot) (woken got t.slot (if b then None else s.txns t.slot))) (sym (other u t.slot ne)) (woken_on got t.slot (s.txns t.slot))
+        subst (λ b. LivesOn (s.txns t.slot) (woken got t.slot (if b then None else s.txns t.slot))) (sym (other u t.slot ne))
+        (woken_on got t.slot (s.txns t.slot))
 
     locked_on : (u : TxnId) (q : NodeId) (w : Mode) → u.slot ≢ t.slot → Locks s u.slot q w next → GoesOn s next t.slot
     locked_on u q w ne locks =
@@ -132,7 +137,8 @@ module _ (s : State) (law : IsLawful s) (t : TxnId) (alive : lives s t ≡ true)
         (λ e. on_is (granted s u.slot q w) (locks.at_once e) (lives_on_same (s.txns t.slot) (s.txns t.slot) refl))
         (λ e. let x : State = enqueued s u.slot q (wanted s u.slot q w) in
         lives_on_trans (s.txns t.slot) (x.txns t.slot) (next.txns t.slot)
-        (lives_on_same (s.txns t.slot) (x.txns t.slot) (ap (λ b. if b then restatus (Waiting q (wanted s u.slot q w)) (s.txns u.slot) else s.txns t.slot) (other u.slot t.slot ne)))
+        (lives_on_same (s.txns t.slot) (x.txns t.slot)
+        (ap (λ b. if b then restatus (Waiting q (wanted s u.slot q w)) (s.txns u.slot) else s.txns t.slot) (other u.slot t.slot ne)))
         (wait_settles_goes_on s.detect s.victims x next u.slot t.slot (locks.waits e)))
 
     accepted : (c : Command) → AllNone (tests_of s c) → Accepts s c a list next → Ended c
@@ -143,26 +149,31 @@ module _ (s : State) (law : IsLawful s) (t : TxnId) (alive : lives s t ≡ true)
     accepted command.Begin passed acc =
         let ne = free_differs s t alive acc.0 acc.1 in
         unmoved _ acc.4 (ap (λ b. if b then Some (record { age = s.begins + 1; status = Active }) else s.txns t.slot) (other acc.0 t.slot ne)) command.Begin
-    accepted (command.Lock u q w) passed acc = let ne = other_active u passed.1.1.0 in others_told (command.Lock u q w) u.slot ne acc.2 (locked_on u q w ne acc.0)
+    accepted (command.Lock u q w) passed acc =
+        let ne = other_active u passed.1.1.0 in others_told (command.Lock u q w) u.slot ne acc.2 (locked_on u q w ne acc.0)
     accepted (command.Try u q w) passed acc = unmoved _ acc.2 refl (command.Try u q w)
-    accepted (command.Unlock u q) passed acc = all_told (command.Unlock u q) acc.1 (on_is _ acc.2 (pumped_goes_on (with_grant s u.slot q NL) (same_node q) t.slot))
+    accepted (command.Unlock u q) passed acc =
+        all_told (command.Unlock u q) acc.1 (on_is _ acc.2 (pumped_goes_on (with_grant s u.slot q NL) (same_node q) t.slot))
     accepted (command.Escalate u q) passed acc =
         let up : State = raised s u.slot q in
         all_told (command.Escalate u q) acc.1
-        (on_is _ acc.2 (pumped_goes_on (record up { held = λ v c. if (v == u.slot) && is_covered up u.slot q c then NL else up.held v c }) (is_covered up u.slot q) t.slot))
+        (on_is _ acc.2 (pumped_goes_on (record up { held = λ v c. if (v == u.slot) && is_covered up u.slot q c then NL else up.held v c })
+        (is_covered up u.slot q) t.slot))
     accepted (command.Cancel u) passed acc =
         split (same_txn t u) (λ e. named (command.Cancel u) e)
         (λ e. others_told (command.Cancel u) u.slot (other_slot u e passed.1.0) acc.1 (on_is _ acc.2 (over_goes_on s u.slot Active (λ q w h. cc) t.slot)))
     accepted (command.Commit u) passed acc = all_told (command.Commit u) acc.1 (on_is _ acc.2 (released_on u.slot (other_active u passed.1.1.0)))
     accepted (command.Abort u) passed acc =
-        split (same_txn t u) (λ e. named (command.Abort u) e) (λ e. all_told (command.Abort u) acc.1 (on_is _ acc.2 (released_on u.slot (other_slot u e passed.1.0))))
+        split (same_txn t u) (λ e. named (command.Abort u) e)
+        (λ e. all_told (command.Abort u) acc.1 (on_is _ acc.2 (released_on u.slot (other_slot u e passed.1.0))))
     accepted (command.Settle u) passed acc = all_told (command.Settle u) acc.1 (settled_goes_on s.victims s next u.slot t.slot acc.2)
     accepted (command.Delete u r) passed acc = all_told (command.Delete u r) acc.1 (on_is _ acc.2 (freed_on r (s.txns t.slot)))
     accepted (command.Rekey u r i k) passed acc =
         let ps = rekeyed_parents s.graph r i k in
         all_told (command.Rekey u r i k) acc.1 (on_is _ acc.2 (unless_on (λ v. is_among_waiters v (filter (stays s ps) (s.queue r))) r t.slot (s.txns t.slot)))
     accepted (command.Move u x ps) passed acc =
-        all_told (command.Move u x ps) acc.1 (on_is _ acc.2 (unless_on (λ v. is_among_waiters v (filter (stays s ps.now) (s.queue x))) x t.slot (s.txns t.slot)))
+        all_told (command.Move u x ps) acc.1
+        (on_is _ acc.2 (unless_on (λ v. is_among_waiters v (filter (stays s ps.now) (s.queue x))) x t.slot (s.txns t.slot)))
     accepted (command.Group q) passed acc = absurd acc
     accepted (command.Held u q) passed acc = absurd acc
     accepted (command.Effective u q) passed acc = absurd acc

@@ -10,7 +10,8 @@ use Rattle.gl_catalog.specs.Replies.{Says}
 use Rattle.gl_catalog.specs.Step.{Step}
 use Rattle.gl_model.specs.Tellings.{Told}
 
--- a command that was answered so is accepted once and counted, keeps of deadlocks what it is to keep, and leaves its caller, all others and those on no cycle what it is to leave them
+-- a command that was answered so is accepted once and counted, keeps of deadlocks what it is to keep, and leaves its caller, all others and those on
+-- no cycle what it is to leave them
 pub record Completes (c : Command) (m : ManagerView) (r : Says) (m' : ManagerView) : Type 0 where
   pub accepted : m'.accepted ≡ m.accepted + 1
   pub counters : m'.counters ≡ counted (state_of m) c r.0 r.1 (state_of m') m.counters

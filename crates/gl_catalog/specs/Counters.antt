@@ -110,7 +110,9 @@ abbrev pub queue_asked : Command → State → ℕ
 queue_asked (command.Lock t n m) s = length (s.queue n)
 queue_asked c s = 0
 
--- the law of a step: the counters after a command in state s that was answered a, told these and left s', where they were k before. A refusal adds nothing. Notices of grants are of asks that waited, so granted does not count them; a victim is one who was told so or one whose own lock was answered so.
+-- the law of a step: the counters after a command in state s that was answered a, told these and left s', where they were k before. A refusal adds
+-- nothing. Notices of grants are of asks that waited, so granted does not count them; a victim is one who was told so or one whose own lock was
+-- answered so.
 abbrev pub counted : State → Command → Answer → Told → State → Counters → Counters
 counted s c a told' s' k =
     record {

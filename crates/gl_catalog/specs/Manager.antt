@@ -22,7 +22,9 @@ counting k s = record s { accepted = k }
 abbrev pub state_of : ManagerView → State
 state_of m = counting m.accepted (table_state m.table)
 
--- what holds of every manager: the state is lawful; a header stands exactly where somebody holds or waits, its group the supremum of the grants; the lists agree; no node has two headers, or stands twice in a list; nobody conflicts; with detection at block nobody is on a cycle of waits; and no slot is past those of a board
+-- what holds of every manager: the state is lawful; a header stands exactly where somebody holds or waits, its group the supremum of the grants; the
+-- lists agree; no node has two headers, or stands twice in a list; nobody conflicts; with detection at block nobody is on a cycle of waits; and no
+-- slot is past those of a board
 pub record IsLawfulManager (m : ManagerView) : Type 0 where
   pub lawful : IsLawful (state_of m)
   pub headers : AreHeaders m.table.headers

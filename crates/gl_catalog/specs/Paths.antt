@@ -1,5 +1,6 @@
 -- Paths: locks on a node with what the rule of the graph wants above it.
-use Rattle.std.specs.Prelude.{◌≡◌, ℕ, zero, suc, Bool, true, false, not, ◌&&◌, List, [], ◌∷◌, Option, Some, None, Result, IfOk, if◌then◌else◌, length, ◌==◌, ◌++◌}
+use Rattle.std.specs.Prelude.{◌≡◌, ℕ, zero, suc, Bool, true, false, not, ◌&&◌, List, [], ◌∷◌, Option, Some, None, Result, IfOk, if◌then◌else◌, length}
+use Rattle.std.specs.Prelude.{◌==◌, ◌++◌}
 use Rattle.gl_modes.specs.declared.mode.Mode.{Mode}
 use Rattle.gl_modes.specs.declared.mode.Mode.TheVariants.{IS, IX}
 use Rattle.gl_modes.specs.declared.node.NodeId.{NodeId}
@@ -73,7 +74,8 @@ goes_on node asked r = grants r.0 && (length r.1 == 0) && not (same_node asked n
 abbrev pub IsPath : ℕ → TxnId → Ask → ManagerView → Ask → Says → ManagerView → Type 0
 IsPath zero t ask m last r m' = AsksFirst t ask m last r m' × (goes_on ask.0 last.0 r ≡ false)
 IsPath (suc k) t ask m last r m' =
-    (first : Ask) × (granted : Says) × (mid : ManagerView) × AsksFirst t ask m first granted mid × (goes_on ask.0 first.0 granted ≡ true) × IsPath k t ask mid last r m'
+    (first : Ask) × (granted : Says) × (mid : ManagerView) × AsksFirst t ask m first granted mid × (goes_on ask.0 first.0 granted ≡ true)
+    × IsPath k t ask mid last r m'
 
 -- what the last ask of a path came to, and who is told
 abbrev pub reaching : Told → Reached → Says

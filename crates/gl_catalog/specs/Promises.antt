@@ -66,7 +66,8 @@ pub record KeepsEffects (s s' : State) (t : TxnId) (granted : Bool) : Type 0 whe
 -- over a run that does not name t, its effective modes on the records that stand stay, or grow where it was told of a grant (own)
 abbrev pub OthersKeepEffects : Type 0
 OthersKeepEffects =
-    (s s' : State) (cs : List Command) (rs : List (Answer × Told)) (t : TxnId) → IsLawful s → Run s cs rs s' → lives s t ≡ true → list_any (names t) cs ≡ false → KeepsEffects s s' t (told_granted t rs)
+    (s s' : State) (cs : List Command) (rs : List (Answer × Told)) (t : TxnId) → IsLawful s → Run s cs rs s' → lives s t ≡ true
+    → list_any (names t) cs ≡ false → KeepsEffects s s' t (told_granted t rs)
 
 -- the command makes or takes a record of which there are no locks
 abbrev pub is_of_rows : Command → Bool
@@ -77,7 +78,8 @@ is_of_rows c = false
 -- over a run that does not name t, and in which no row is adopted or forgotten, no record comes, goes or changes a key below a node that t reads (own)
 abbrev pub OthersKeepBelow : Type 0
 OthersKeepBelow =
-    (s s' : State) (cs : List Command) (rs : List (Answer × Told)) (t : TxnId) (n : NodeId) → IsLawful s → Run s cs rs s' → lives s t ≡ true → list_any (names t) cs ≡ false → list_any is_of_rows cs ≡ false → EffS s t.slot n → SameBelow s.graph s'.graph n
+    (s s' : State) (cs : List Command) (rs : List (Answer × Told)) (t : TxnId) (n : NodeId) → IsLawful s → Run s cs rs s' → lives s t ≡ true
+    → list_any (names t) cs ≡ false → list_any is_of_rows cs ≡ false → EffS s t.slot n → SameBelow s.graph s'.graph n
 
 -- the command adopts a record of the file f, or forgets one of the records of f in g
 abbrev pub is_of_rows_of : Graph → NodeId → Command → Bool
@@ -152,7 +154,8 @@ RunsKeepLaw = (s s' : State) (cs : List Command) (rs : List (Answer × Told)) �
 
 -- with detection at block no run makes a cycle of waits
 abbrev pub RunsKeepNoCycle : Type 0
-RunsKeepNoCycle = (s s' : State) (cs : List Command) (rs : List (Answer × Told)) → s.detect ≡ AtBlock → IsLawful s → HasNoCycle s → Run s cs rs s' → HasNoCycle s'
+RunsKeepNoCycle = (s s' : State) (cs : List Command) (rs : List (Answer × Told)) → s.detect ≡ AtBlock → IsLawful s → HasNoCycle s → Run s cs rs s'
+    → HasNoCycle s'
 
 -- a command leaves the effective mode of one slot on every node as it was
 abbrev pub KeepsModes : ℕ → Command → Type 0
@@ -160,7 +163,8 @@ KeepsModes t c = (s s' : State) (a : Answer) (told : Told) → IsLawful s → St
 
 -- a command lowers the effective mode of one slot on no node
 abbrev pub LowersNone : ℕ → Command → Type 0
-LowersNone t c = (s s' : State) (a : Answer) (told : Told) → IsLawful s → Step s c a told s' → (n : NodeId) → is_at_least_effect (effective s' t n) (effective s t n) ≡ true
+LowersNone t c = (s s' : State) (a : Answer) (told : Told) → IsLawful s → Step s c a told s' → (n : NodeId)
+    → is_at_least_effect (effective s' t n) (effective s t n) ≡ true
 
 -- a rekey leaves the mover's effective modes (own)
 abbrev pub RekeyKeepsMover : Type 0
@@ -197,7 +201,8 @@ makes_node c = false
 -- in a lawful state a command that makes no node has one answer, one list of notices and one state, want of memory aside
 abbrev pub OneOutcome : Type 0
 OneOutcome =
-    (s s₁ s₂ : State) (c : Command) (a₁ a₂ : Answer) (told₁ told₂ : Told) → IsLawful s → makes_node c ≡ false → Goes s c (refusal_of s c) a₁ told₁ s₁ → Goes s c (refusal_of s c) a₂ told₂ s₂
+    (s s₁ s₂ : State) (c : Command) (a₁ a₂ : Answer) (told₁ told₂ : Told) → IsLawful s → makes_node c ≡ false → Goes s c (refusal_of s c) a₁ told₁ s₁
+    → Goes s c (refusal_of s c) a₂ told₂ s₂
     → (a₁ ≡ a₂) × (told₁ ≡ told₂) × (s₁ ≡ s₂)
 
 -- what a settle of one who is on no cycle leaves (own): nobody is told and, where it is not refused, the count of accepted commands alone changes
@@ -207,7 +212,8 @@ SettlesIdle s c a told s' = Unit {0}
 
 -- a settle of one who is on no cycle settles nobody
 abbrev pub SettlesNobody : Type 0
-SettlesNobody = (s s' : State) (t : TxnId) (a : Answer) (told : Told) → IsLawful s → Step s (command.Settle t) a told s' → SettlesIdle s (command.Settle t) a told s'
+SettlesNobody = (s s' : State) (t : TxnId) (a : Answer) (told : Told) → IsLawful s → Step s (command.Settle t) a told s'
+    → SettlesIdle s (command.Settle t) a told s'
 
 -- t lives, and waits on n
 abbrev pub waits_on : State → TxnId → NodeId → Bool
@@ -252,5 +258,6 @@ BeginsWaits =
 -- a wait that a step ends is told or named (own): who waits no more was told so, or the command cancelled or aborted it by name
 abbrev pub EndsWaits : Type 0
 EndsWaits =
-    (s s' : State) (c : Command) (a : Answer) (told : Told) (t : TxnId) (n : NodeId) → IsLawful s → Step s c a told s' → waits_on s t n ≡ true → waits_on s' t n ≡ false
+    (s s' : State) (c : Command) (a : Answer) (told : Told) (t : TxnId) (n : NodeId) → IsLawful s → Step s c a told s' → waits_on s t n ≡ true
+    → waits_on s' t n ≡ false
     → (is_told t told || ends_wait_of t c) ≡ true

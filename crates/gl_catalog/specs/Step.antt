@@ -36,9 +36,12 @@ lock_answer held o = answer_of_lock (locked_as held o)
 
 -- a command that is not refused: what it answers, tells, and leaves, the count of accepted commands aside
 abbrev pub Accepts : State → Command → Answer → Told → State → Type 0
-Accepts s (command.Inner ps) a told' s' = (n : NodeId) × IsBorn s.graph s'.graph n Inner ps.now × (a ≡ answer.Node n) × (told' ≡ []) × (s' ≡ with_graph s s'.graph)
-Accepts s (command.File ps) a told' s' = (n : NodeId) × IsBorn s.graph s'.graph n (File false) ps.now × (a ≡ answer.Node n) × (told' ≡ []) × (s' ≡ with_graph s s'.graph)
-Accepts s (command.Index ps f bs) a told' s' = (n : NodeId) × IsIndexBorn s.graph s'.graph n ps.now f bs.now × (a ≡ answer.Node n) × (told' ≡ []) × (s' ≡ with_graph s s'.graph)
+Accepts s (command.Inner ps) a told' s' =
+    (n : NodeId) × IsBorn s.graph s'.graph n Inner ps.now × (a ≡ answer.Node n) × (told' ≡ []) × (s' ≡ with_graph s s'.graph)
+Accepts s (command.File ps) a told' s' =
+    (n : NodeId) × IsBorn s.graph s'.graph n (File false) ps.now × (a ≡ answer.Node n) × (told' ≡ []) × (s' ≡ with_graph s s'.graph)
+Accepts s (command.Index ps f bs) a told' s' =
+    (n : NodeId) × IsIndexBorn s.graph s'.graph n ps.now f bs.now × (a ≡ answer.Node n) × (told' ≡ []) × (s' ≡ with_graph s s'.graph)
 Accepts s command.Begin a told' s' =
     (t : ℕ) × (free_slot s ≡ Some t) × (a ≡ answer.Begun (record { slot = t; age = s.begins + 1 })) × (told' ≡ []) × (s' ≡ begun s t)
 Accepts s (command.Lock t n m) a told' s' = Locks s t.slot n m s' × (a ≡ lock_answer (s'.held t.slot n) (status_of s' t.slot)) × (told' ≡ told_but t.slot s s')
@@ -47,20 +50,24 @@ Accepts s (command.Unlock t n) a told' s' = (a ≡ answer.Done) × (told' ≡ to
 Accepts s (command.Escalate t n) a told' s' =
     let up : State = raised s t.slot n in
     let gone = covered_children up t.slot n in
-    (a ≡ answer.Escalated (record { mode = up.held t.slot n; released = gone; kept = held_children up t.slot n - gone })) × (told' ≡ told s s') × (s' ≡ shed up t.slot n)
+    (a ≡ answer.Escalated (record { mode = up.held t.slot n; released = gone; kept = held_children up t.slot n - gone })) × (told' ≡ told s s')
+    × (s' ≡ shed up t.slot n)
 Accepts s (command.Cancel t) a told' s' = (a ≡ answer.Done) × (told' ≡ told_but t.slot s s') × (s' ≡ cancelled s t.slot)
 Accepts s (command.Commit t) a told' s' = (a ≡ answer.Done) × (told' ≡ told s s') × (s' ≡ released s t.slot)
 Accepts s (command.Abort t) a told' s' = (a ≡ answer.Done) × (told' ≡ told s s') × (s' ≡ released s t.slot)
 Accepts s (command.Settle t) a told' s' = (a ≡ answer.Done) × (told' ≡ told s s') × Settled s.victims s t.slot s'
 Accepts s (command.Insert t f keys) a told' s' =
-    (n : NodeId) × IsBorn s.graph s'.graph n (Rec keys.now) (record_parents s.graph f keys.now) × (a ≡ answer.Node n) × (told' ≡ []) × (s' ≡ with_grant (with_graph s s'.graph) t.slot n X)
+    (n : NodeId) × IsBorn s.graph s'.graph n (Rec keys.now) (record_parents s.graph f keys.now) × (a ≡ answer.Node n) × (told' ≡ [])
+    × (s' ≡ with_grant (with_graph s s'.graph) t.slot n X)
 Accepts s (command.Delete t r) a told' s' = (a ≡ answer.Done) × (told' ≡ told s s') × (s' ≡ deleted s r)
-Accepts s (command.Rekey t r i key) a told' s' = (a ≡ answer.Done) × (told' ≡ told s s') × (s' ≡ moved_to s r (rekeyed_parents s.graph r i key) (rekeyed s.graph r i key))
+Accepts s (command.Rekey t r i key) a told' s' =
+    (a ≡ answer.Done) × (told' ≡ told s s') × (s' ≡ moved_to s r (rekeyed_parents s.graph r i key) (rekeyed s.graph r i key))
 Accepts s (command.Move t n ps) a told' s' = (a ≡ answer.Done) × (told' ≡ told s s') × (s' ≡ moved_to s n ps.now (with_parents s.graph n ps.now))
 Accepts s (command.Group n) a told' s' = ⊥
 Accepts s (command.Held t n) a told' s' = ⊥
 Accepts s (command.Effective t n) a told' s' = ⊥
-Accepts s (command.Adopt f keys) a told' s' = (n : NodeId) × IsAdopted s.graph s'.graph n f keys.now × (a ≡ answer.Node n) × (told' ≡ []) × (s' ≡ with_graph s s'.graph)
+Accepts s (command.Adopt f keys) a told' s' =
+    (n : NodeId) × IsAdopted s.graph s'.graph n f keys.now × (a ≡ answer.Node n) × (told' ≡ []) × (s' ≡ with_graph s s'.graph)
 Accepts s (command.Forget r) a told' s' = (a ≡ answer.Done) × (told' ≡ []) × (s' ≡ with_graph s (without_node s.graph r))
 
 -- what a query answers; no other command is one

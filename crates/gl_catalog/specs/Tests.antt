@@ -8,11 +8,14 @@ use Rattle.gl_modes.specs.declared.refusal.Refusal.TheVariants as no
 use Rattle.gl_catalog.specs.declared.command.Command.TheVariants as command
 use Rattle.gl_graph.specs.Changes.{rekeyed_parents}
 use Rattle.gl_graph.specs.Graph.{first_parent, indexes_of, parents_of, record_parents, shape_of}
-use Rattle.gl_graph.specs.Refusals.{bad_parents, file_refusal, first_cycle, first_refusal, index_refusal, inner_refusal, max_count, record_refusal, too_many_nodes, where_true, worn_births}
+use Rattle.gl_graph.specs.Refusals.{bad_parents, file_refusal, first_cycle, first_refusal, index_refusal, inner_refusal, max_count, record_refusal}
+use Rattle.gl_graph.specs.Refusals.{too_many_nodes, where_true, worn_births}
 use Rattle.gl_graph.specs.Shapes.{is_file_shape, is_index_of_shape, is_movable_shape, is_record_shape, least_parents}
 use Rattle.gl_header.specs.Header.{holds}
 use Rattle.gl_model.specs.Calls.{enters_at}
-use Rattle.gl_model.specs.Calls.{active_on, begin_tests, cancel_tests, commit_tests, escalation_blocks, first_not_ix, forget_tests, group_tests, held_tests, holds_x, living_tests, lock_tests, need_exclusive, need_new_parents, not_held, some_given, try_tests, unlock_tests}
+use Rattle.gl_model.specs.Calls.{active_on, begin_tests, cancel_tests, commit_tests, escalation_blocks, first_not_ix, forget_tests, group_tests}
+use Rattle.gl_model.specs.Calls.{held_tests, holds_x, living_tests, lock_tests, need_exclusive, need_new_parents, not_held, some_given, try_tests}
+use Rattle.gl_model.specs.Calls.{unlock_tests}
 use Rattle.gl_model.specs.State.{State, members}
 
 -- no further command can be counted
@@ -32,7 +35,8 @@ insert_tests s t f keys = record_asks s t f keys ++ first_not_ix (s.held t.slot)
 
 -- delete takes a record alone, and asks X on it
 abbrev pub delete_tests : State → TxnId → NodeId → List (Option Refusal)
-delete_tests s t r = active_on s t (r ∷ []) ++ where_true (not (is_record_shape (shape_of s.graph r))) no.BadParents ∷ where_true (not (holds_x s t.slot r)) no.NeedExclusive ∷ []
+delete_tests s t r = active_on s t (r ∷ []) ++ where_true (not (is_record_shape (shape_of s.graph r))) no.BadParents
+    ∷ where_true (not (holds_x s t.slot r)) no.NeedExclusive ∷ []
 
 -- rekey takes a record, and an index of its file
 abbrev pub rekey_tests : State → TxnId → NodeId → NodeId → ℕ → List (Option Refusal)

@@ -205,7 +205,8 @@ impl Manager {
     /// How many children of a node a transaction holds; `None` where it does not live or does not
     /// hold the node. It takes no memory.
     pub fn children(&self, t: TxnId, n: NodeId) -> Option<u32>
-        ensures { result ≡ (if lives (state_of self.now) t && holds (members (state_of self.now) n) t.slot then Some (held_children (state_of self.now) t.slot n) else None) }
+        ensures { result ≡ (if lives (state_of self.now) t && holds (members (state_of self.now) n) t.slot
+            then Some (held_children (state_of self.now) t.slot n) else None) }
     {
         self.table.children(t, n)
     }

@@ -1,5 +1,6 @@
 -- What shares count together, and what faults say of it.
-use Rattle.std.proofs.Common.{◌≡◌, ap, sym, subst, ℕ, suc, ◌+◌, ◌-◌, ◌*◌, ◌≤◌, List, [], ◌∷◌, ◌++◌, Option, Some, None, Result, Ok, Err, All, IfOk, MatchOption, sum, fold, length, arith, refl}
+use Rattle.std.proofs.Common.{◌≡◌, ap, sym, subst, ℕ, suc, ◌+◌, ◌-◌, ◌*◌, ◌≤◌, List, [], ◌∷◌, ◌++◌, Option, Some, None, Result, Ok, Err, All, IfOk}
+use Rattle.std.proofs.Common.{MatchOption, sum, fold, length, arith, refl}
 use Rattle.std.proofs.lemmas.List.Elements.{All-cons, All-nil}
 use Rattle.gl_model.specs.declared.answers.Detect.{Detect}
 use Rattle.gl_model.specs.declared.answers.Detect.TheVariants.{AtBlock, ByWatcher}
@@ -36,7 +37,8 @@ sum_watched k n y xs is h =
     omega (arith, all, same)
 
 -- from shares to sessions
-pub sessions_count : (d : Detect) (sessions rounds commands count : ℕ) → IsSumOf d (shares_of sessions d) (rounds * commands) count → IsCountOf d commands sessions rounds count
+pub sessions_count : (d : Detect) (sessions rounds commands count : ℕ) → IsSumOf d (shares_of sessions d) (rounds * commands) count
+    → IsCountOf d commands sessions rounds count
 sessions_count AtBlock s r k c h = grind (arith, h)
 sessions_count ByWatcher s r k c h =
     let front : (s + 1) - 1 ≡ s = omega arith in
@@ -58,6 +60,7 @@ faultless (None ∷ faults) h = All-cons (λ f. f ≡ None) None faults refl (fa
 faultless (Some f ∷ faults) h = absurd (not_none f h)
 
 -- an answer is a count only where there is no first fault
-pub answer_count : (first : Option CrewFault) (answer : Result ℕ CrewFault) (count : ℕ) (P : ℕ → Type 0) → MatchOption first (answer ≡ Ok count) (λ fault. answer ≡ Err fault) → (first ≡ None → P count) → IfOk answer P
+pub answer_count : (first : Option CrewFault) (answer : Result ℕ CrewFault) (count : ℕ) (P : ℕ → Type 0)
+    → MatchOption first (answer ≡ Ok count) (λ fault. answer ≡ Err fault) → (first ≡ None → P count) → IfOk answer P
 answer_count None answer count P is holds = subst (λ a. IfOk a P) (sym is) (holds refl)
 answer_count (Some f) answer count P is holds = subst (λ a. IfOk a P) (sym is) tt

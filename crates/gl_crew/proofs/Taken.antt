@@ -6,7 +6,8 @@ use Rattle.gl_crew.specs.Crews.{HasServed, IsFaultless}
 use Rattle.gl_crew.specs.declared.fault.CrewFault.{CrewFault}
 
 -- one seat more, of which the same is taken
-pub taken_more : {A X Y : Type 0} (f : X → Y) (h : A → Y) (xs zs : List X) (ys : List A) (x : X) (y : A) → zs ≡ xs ++ x ∷ [] → h y ≡ f x → map f xs ≡ map h ys → map f zs ≡ map h (ys ++ y ∷ [])
+pub taken_more : {A X Y : Type 0} (f : X → Y) (h : A → Y) (xs zs : List X) (ys : List A) (x : X) (y : A) → zs ≡ xs ++ x ∷ [] → h y ≡ f x
+    → map f xs ≡ map h ys → map f zs ≡ map h (ys ++ y ∷ [])
 taken_more f h xs zs ys x y is one same =
     ap (map f) is ∙ map-append f xs (x ∷ []) ∙ ap (λ l. l ++ f x ∷ []) same ∙ ap (λ (k : _). map h ys ++ k ∷ []) (sym one) ∙ sym (map-append h ys (y ∷ []))
 
@@ -38,6 +39,8 @@ served_amounts share fault amount (s ∷ seats) [] had same none = absurd (no_se
 served_amounts share fault amount (s ∷ seats) (n ∷ ns) had same none =
     let Q : Option CrewFault → Type 0 = λ f. f ≡ None in
     let here = head_equal n (share s) (map (λ n. Some n) ns) (map share seats) same in
-    let one = some_equal n amount (share s) here ((All-head (λ s. HasServed amount (share s) (fault s)) s seats had).1 (All-head Q (fault s) (map fault seats) none)) in
-    let rest = served_amounts share fault amount seats ns (All-tail (λ s. HasServed amount (share s) (fault s)) s seats had) (tail_equal n (share s) (map (λ n. Some n) ns) (map share seats) same) (All-tail Q (fault s) (map fault seats) none) in
+    let one = some_equal n amount (share s) here
+    ((All-head (λ s. HasServed amount (share s) (fault s)) s seats had).1 (All-head Q (fault s) (map fault seats) none)) in
+    let rest = served_amounts share fault amount seats ns (All-tail (λ s. HasServed amount (share s) (fault s)) s seats had)
+    (tail_equal n (share s) (map (λ n. Some n) ns) (map share seats) same) (All-tail Q (fault s) (map fault seats) none) in
     All-cons (λ n. n ≡ amount) n ns one rest

@@ -1,5 +1,6 @@
 -- What is kept beside the graph, read off the node that an id names.
-use Rattle.std.specs.Prelude.{◌≡◌, ℕ, ◌+◌, ◌<◌, ◌≤◌, Bool, true, false, ◌==◌, ◌||◌, nat_lt, nat_le, List, [], ◌∷◌, length, Option, Some, None, if◌then◌else◌, cond, slice_get, count_by, ◌&&◌}
+use Rattle.std.specs.Prelude.{◌≡◌, ℕ, ◌+◌, ◌<◌, ◌≤◌, Bool, true, false, ◌==◌, ◌||◌, nat_lt, nat_le, List, [], ◌∷◌, length, Option, Some, None}
+use Rattle.std.specs.Prelude.{if◌then◌else◌, cond, slice_get, count_by, ◌&&◌}
 use Rattle.std.specs.List.{list_any}
 use Rattle.std.specs.Borrow.{Bor}
 use Rattle.std.specs.Option.{option_copied}
@@ -18,7 +19,8 @@ use Rattle.gl_graph.specs.Shapes.{Shape, Inner, File, Index, Interval, Rec, is_f
 use Rattle.gl_graph.specs.Graph.{node_at, shape_of, shape_in, parents_in, parents_of, interval, interval_at, indexes_of}
 use Rattle.gl_graph.specs.Lawful.{IsRising, HasShape}
 use Rattle.gl_graph.specs.View.{View, graph_of, node_of, record_count, KeepsBeside}
-use Rattle.gl_graph.specs.Seen.{Limits, shape_in_body, indexes_in_body, records_in_body, intervals_in_body, vertex_of, seen, named_in, named, AreSound, parent_list}
+use Rattle.gl_graph.specs.Seen.{Limits, shape_in_body, indexes_in_body, records_in_body, intervals_in_body, vertex_of, seen, named_in, named}
+use Rattle.gl_graph.specs.Seen.{AreSound, parent_list}
 use Rattle.gl_graph.proofs.Slots.{node_named, seen_in}
 
 -- the slot of a node that an id names
@@ -26,7 +28,8 @@ named_from : (o : Option Stored) (birth : ℕ) (x : Stored) → named_in birth o
 named_from None birth x e = absurd (none_some e)
 named_from (Some y) birth x e =
     split (y.birth == birth)
-    (λ t. let same : y ≡ x = some_is (sym (ap (λ b. if b then Some y else None) t) ∙ e) in (ap Some same, ap (λ z. z.birth) (sym same) ∙ same_number y.birth birth t))
+    (λ t. let same : y ≡ x = some_is (sym (ap (λ b. if b then Some y else None) t) ∙ e) in
+    (ap Some same, ap (λ z. z.birth) (sym same) ∙ same_number y.birth birth t))
     (λ t. absurd (none_some (sym (ap (λ b. if b then Some y else None) t) ∙ e)))
 
 pub named_slot : (s : Slab Stored) (n : NodeId) (x : Stored) → named s n ≡ Some x → (get s n.key ≡ Some x) × (x.birth ≡ n.birth)
@@ -68,7 +71,8 @@ module _ (limits : Limits) (s : Slab Stored) (births : ℕ) (v : View) (sound : 
       by (Interval place) k = absurd (no k)
       by (Rec keys) k = absurd (no k)
 
-  file_beside : (x : Stored) → named s n ≡ Some x → is_file_shape (shape_of (graph_of v) n) ≡ true → (indexes_in_body x.body ≡ indexes_of (graph_of v) n) × (records_in_body x.body ≡ record_count (graph_of v) n)
+  file_beside : (x : Stored) → named s n ≡ Some x → is_file_shape (shape_of (graph_of v) n) ≡ true
+      → (indexes_in_body x.body ≡ indexes_of (graph_of v) n) × (records_in_body x.body ≡ record_count (graph_of v) n)
   file_beside x e h = subst (KeepsBeside (graph_of v) n (vertex_of x)) (file_shape x e h).1 (beside x e)
 
   pub indexes_found : (x : Stored) → named s n ≡ Some x → is_file_shape (shape_of (graph_of v) n) ≡ true → indexes_in_body x.body ≡ indexes_of (graph_of v) n
@@ -89,7 +93,8 @@ module _ (limits : Limits) (s : Slab Stored) (births : ℕ) (v : View) (sound : 
     pub each : (place : ℕ) → place ≤ length bounds → slice_get is place ≡ Some (interval (graph_of v) n place)
     pub rising : IsRising bounds
 
-  index_beside : (x : Stored) (sh : Shape) → shape_in_body x.body ≡ sh → named s n ≡ Some x → is_index_shape (Some sh) ≡ true → KeepsIntervals (intervals_in_body x.body) (bounds_in (Some sh))
+  index_beside : (x : Stored) (sh : Shape) → shape_in_body x.body ≡ sh → named s n ≡ Some x → is_index_shape (Some sh) ≡ true
+      → KeepsIntervals (intervals_in_body x.body) (bounds_in (Some sh))
   index_beside x Inner t e h = absurd (no h)
   index_beside x (File adopted) t e h = absurd (no h)
   index_beside x (Interval place) t e h = absurd (no h)
@@ -97,10 +102,12 @@ module _ (limits : Limits) (s : Slab Stored) (births : ℕ) (v : View) (sound : 
   index_beside x (Index f bs) t e h =
       let kept = subst (KeepsBeside (graph_of v) n (vertex_of x)) t (beside x e) in
       let there : node_at (graph_of (seen limits s births)) n ≡ Some (node_of n.key (vertex_of x)) = ap (λ w. node_at (graph_of w) n) view ∙ node_found x e in
-      let well = subst (λ sh. HasShape (graph_of (seen limits s births)) n sh (parent_list x.parents)) t (sound.lawful.well_formed n (node_of n.key (vertex_of x)) there) in
+      let well = subst (λ sh. HasShape (graph_of (seen limits s births)) n sh (parent_list x.parents)) t
+      (sound.lawful.well_formed n (node_of n.key (vertex_of x)) there) in
       record { count = kept.0; each = kept.1; rising = well.1.rising.1 }
 
-  pub intervals_found : (x : Stored) → named s n ≡ Some x → is_index_shape (Some (shape_in_body x.body)) ≡ true → KeepsIntervals (intervals_in_body x.body) (bounds_in (Some (shape_in_body x.body)))
+  pub intervals_found : (x : Stored) → named s n ≡ Some x → is_index_shape (Some (shape_in_body x.body)) ≡ true
+      → KeepsIntervals (intervals_in_body x.body) (bounds_in (Some (shape_in_body x.body)))
   intervals_found x e h = index_beside x (shape_in_body x.body) refl e h
 
 -- where a file is stored
@@ -111,7 +118,8 @@ pub record FileSlot (s : Slab Stored) (n : NodeId) : Type 0 where
   pub adopted : Bool
   pub shape : shape_in_body stored.body ≡ File adopted
 
-pub file_slot : (limits : Limits) (s : Slab Stored) (births : ℕ) (sound : AreSound limits s births) (n : NodeId) → is_file_shape (shape_of (graph_of (seen limits s births)) n) ≡ true → FileSlot s n
+pub file_slot : (limits : Limits) (s : Slab Stored) (births : ℕ) (sound : AreSound limits s births) (n : NodeId)
+    → is_file_shape (shape_of (graph_of (seen limits s births)) n) ≡ true → FileSlot s n
 file_slot limits s births sound n h =
     cases_of (named s n) (λ e. absurd (file_not_missed limits s births (seen limits s births) sound refl n e h))
     (λ x e.
@@ -136,7 +144,8 @@ any_counted p (x ∷ xs) =
     ap (nat_lt 0) (sum_by-cons (λ y. cond (p y) 1 0) x xs)
     ∙ split (p x)
     (λ t. ap (λ b. nat_lt 0 (cond b 1 0 + count_by p xs)) t ∙ positive (count_by p xs) ∙ sym (ap (λ b. b || list_any p xs) t))
-    (λ t. ap (λ b. nat_lt 0 (cond b 1 0 + count_by p xs)) t ∙ ap (nat_lt 0) (zero-add (count_by p xs)) ∙ any_counted p xs ∙ sym (ap (λ b. b || list_any p xs) t))
+    (λ t. ap (λ b. nat_lt 0 (cond b 1 0 + count_by p xs)) t ∙ ap (nat_lt 0) (zero-add (count_by p xs)) ∙ any_counted p xs
+    ∙ sym (ap (λ b. b || list_any p xs) t))
   where
     positive : (k : ℕ) → nat_lt 0 (1 + k) ≡ true
     positive k = grind (arith, nat_tests)
@@ -148,7 +157,8 @@ module _ (limits : Limits) (s : Slab Stored) (births : ℕ) (v : View) (sound : 
   abbrev bounds_of : Stored → List ℕ
   bounds_of x = bounds_in (Some (shape_in_body x.body))
 
-  pub index_kept : (x : Stored) → named s n ≡ Some x → is_index_shape (shape_of (graph_of v) n) ≡ true → KeepsIntervals limits s births v sound view n (intervals_in_body x.body) (bounds_of x)
+  pub index_kept : (x : Stored) → named s n ≡ Some x → is_index_shape (shape_of (graph_of v) n) ≡ true
+      → KeepsIntervals limits s births v sound view n (intervals_in_body x.body) (bounds_of x)
   index_kept x e h = intervals_found limits s births v sound view n x e (index_found x e h)
 
   pub bounds_found : (x : Stored) → named s n ≡ Some x → bounds_in (shape_of (graph_of v) n) ≡ bounds_of x
@@ -162,15 +172,19 @@ module _ (limits : Limits) (s : Slab Stored) (births : ℕ) (v : View) (sound : 
       let kept = index_kept x e t in
       let many : length (bounds_in (shape_of (graph_of v) n)) ≡ length (bounds_of x) = ap length (bounds_found x e) in
       split (nat_le place (length (bounds_in (shape_of (graph_of v) n))))
-      (λ low. kept.each place (let l : place ≤ length (bounds_in (shape_of (graph_of v) n)) = grind (arith, nat_tests) in omega arith) ∙ sym (ap₂ (λ a b. if a && b then Some (interval (graph_of v) n place) else None) t low))
-      (λ high. slice_get_past (intervals_in_body x.body) place (let h : length (bounds_in (shape_of (graph_of v) n)) < place = grind (arith, nat_tests) in let c = kept.count in omega arith)
+      (λ low. kept.each place (let l : place ≤ length (bounds_in (shape_of (graph_of v) n)) = grind (arith, nat_tests) in omega arith)
+      ∙ sym (ap₂ (λ a b. if a && b then Some (interval (graph_of v) n place) else None) t low))
+      (λ high. slice_get_past (intervals_in_body x.body) place
+      (let h : length (bounds_in (shape_of (graph_of v) n)) < place = grind (arith, nat_tests) in let c = kept.count in omega arith)
       ∙ sym (ap₂ (λ a b. if a && b then Some (interval (graph_of v) n place) else None) t high)))
       (λ t.
       let none = no_intervals x.body (ap is_index_shape (sym (shape_found limits s births v sound view n x e)) ∙ t) in
-      ap (λ (is : List NodeId). slice_get is place) none ∙ sym (ap (λ a. if a && nat_le place (length (bounds_in (shape_of (graph_of v) n))) then Some (interval (graph_of v) n place) else None) t))
+      ap (λ (is : List NodeId). slice_get is place) none
+      ∙ sym (ap (λ a. if a && nat_le place (length (bounds_in (shape_of (graph_of v) n))) then Some (interval (graph_of v) n place) else None) t))
 
   pub interval_missed : named s n ≡ None → (place : ℕ) → interval_at (graph_of v) n place ≡ None
-  interval_missed e place = ap (λ o. if is_index_shape o && nat_le place (length (bounds_in o)) then Some (interval (graph_of v) n place) else None) (shape_missed limits s births v sound view n e)
+  interval_missed e place = ap (λ o. if is_index_shape o && nat_le place (length (bounds_in o)) then Some (interval (graph_of v) n place) else None)
+      (shape_missed limits s births v sound view n e)
 
 -- what is lent at a place is the element there
 pub item_copied : {A : Type 0} (xs : List A) (i : ℕ) (r : Option (Bor A)) → IsItemAt xs i r → option_copied r ≡ slice_get xs i

@@ -1,5 +1,6 @@
 -- Nodes are born: the old ones are as they were, and the law of the graph is kept.
-use Rattle.std.specs.Prelude.{◌≡◌, ◌≢◌, ◌⊎◌, ℕ, zero, suc, ◌+◌, ◌-◌, ◌<◌, ◌≤◌, ◌^◌, true, false, List, [], ◌∷◌, ◌++◌, length, Option, Some, None, is_some, if◌then◌else◌}
+use Rattle.std.specs.Prelude.{◌≡◌, ◌≢◌, ◌⊎◌, ℕ, zero, suc, ◌+◌, ◌-◌, ◌<◌, ◌≤◌, ◌^◌, true, false, List, [], ◌∷◌, ◌++◌, length, Option, Some, None}
+use Rattle.std.specs.Prelude.{is_some, if◌then◌else◌}
 use Rattle.std.specs.List.{list_any, filter_map, range_with_len}
 use Rattle.std.proofs.lemmas.List.Elements.{filter_map-append}
 use Rattle.std.proofs.lemmas.List.FromFn.{length-range_with_len}
@@ -10,7 +11,8 @@ use Rattle.gl_modes.proofs.Words.{split, cases_of, no, none_some, number_same, n
 use Rattle.gl_modes.specs.declared.node.NodeId.{NodeId}
 use Rattle.gl_modes.specs.Nodes.{same_node}
 use Rattle.gl_graph.specs.Shapes.{is_record_shape, is_index_of_shape}
-use Rattle.gl_graph.specs.Graph.{Graph, Node, id_of, nodes, node_count, with_key, node_at, is_live, parents_in, shape_in, shape_of, is_child, indexes_of, IsFreeKey}
+use Rattle.gl_graph.specs.Graph.{Graph, Node, id_of, nodes, node_count, with_key, node_at, is_live, parents_in, shape_in, shape_of, is_child}
+use Rattle.gl_graph.specs.Graph.{indexes_of, IsFreeKey}
 use Rattle.gl_graph.specs.Lawful.{IsWellFormed, IsLawfulGraph}
 use Rattle.gl_graph.specs.Changes.{born_node, born_nodes}
 use Rattle.gl_graph.proofs.Look.{found_at, finds, live_node, there_is, child_node}
@@ -44,7 +46,8 @@ most_bounds_is g (n ∷ ns) = most_bounds_is (born_node g n) ns
 
 pub old_at : (g : Graph) (ns : List Node) (b : ℕ) → b ≤ g.births → (born_nodes g ns).at b ≡ g.at b
 old_at g [] b low = refl
-old_at g (n ∷ ns) b low = old_at (born_node g n) ns b (omega arith) ∙ ap (λ x. if x then Some n else g.at b) (let ne : b ≢ g.births + 1 = omega arith in number_other b (g.births + 1) ne)
+old_at g (n ∷ ns) b low = old_at (born_node g n) ns b (omega arith)
+    ∙ ap (λ x. if x then Some n else g.at b) (let ne : b ≢ g.births + 1 = omega arith in number_other b (g.births + 1) ne)
 
 pub new_at : (g : Graph) (ns : List Node) (k b : ℕ) → ((c : ℕ) → g.births < c → g.at c ≡ None) → b ≡ g.births + 1 + k → (born_nodes g ns).at b ≡ place_in ns k
 new_at g [] k b none e = none b (omega arith)
@@ -52,7 +55,8 @@ new_at g (n ∷ ns) zero b none e =
     let here : b ≡ g.births + 1 = omega arith in
     old_at (born_node g n) ns b (omega arith) ∙ ap (λ x. if x then Some n else g.at b) (number_same b (g.births + 1) here)
 new_at g (n ∷ ns) (suc k) b none e =
-    new_at (born_node g n) ns k b (λ c low. let ne : c ≢ g.births + 1 = omega arith in ap (λ x. if x then Some n else g.at c) (number_other c (g.births + 1) ne) ∙ none c (omega arith)) (omega arith)
+    new_at (born_node g n) ns k b (λ c low. let ne : c ≢ g.births + 1 = omega arith in
+    ap (λ x. if x then Some n else g.at c) (number_other c (g.births + 1) ne) ∙ none c (omega arith)) (omega arith)
 
 module _ (g : Graph) (law : IsLawfulGraph g) (ns : List Node) where
   abbrev pub grown : Graph
@@ -74,14 +78,16 @@ module _ (g : Graph) (law : IsLawfulGraph g) (ns : List Node) where
   new_node k node e = finds node.key (grown.at (g.births + 1 + k)) node (new_at g ns k (g.births + 1 + k) none_above refl ∙ e) refl
 
   -- a node is an old one, or one of those that were born
-  pub old_or_new : {C : Type 0} (q : NodeId) (node : Node) → node_at grown q ≡ Some node → (node_at g q ≡ Some node → C) → ((k : ℕ) → place_in ns k ≡ Some node → q ≡ new_id node k → C) → C
+  pub old_or_new : {C : Type 0} (q : NodeId) (node : Node) → node_at grown q ≡ Some node → (node_at g q ≡ Some node → C)
+      → ((k : ℕ) → place_in ns k ≡ Some node → q ≡ new_id node k → C) → C
   old_or_new q node e was is =
       let at = found_at grown q node e in
       ⊎_elim (λ (low : q.birth ≤ g.births). was (finds q.key (g.at q.birth) node (sym (old_at g ns q.birth low) ∙ at.0) at.1))
       (λ (high : g.births < q.birth).
       let k : ℕ = q.birth - (g.births + 1) in
       let birth : q.birth ≡ g.births + 1 + (q.birth - (g.births + 1)) = omega arith in
-      is (q.birth - (g.births + 1)) (sym (new_at g ns (q.birth - (g.births + 1)) q.birth none_above birth) ∙ at.0) (node_is q (new_id node (q.birth - (g.births + 1))) (sym at.1) birth))
+      is (q.birth - (g.births + 1)) (sym (new_at g ns (q.birth - (g.births + 1)) q.birth none_above birth) ∙ at.0)
+      (node_is q (new_id node (q.birth - (g.births + 1))) (sym at.1) birth))
       (below q.birth g.births)
     where
       below : (a b : ℕ) → (a ≤ b) ⊎ (b < a)
@@ -99,8 +105,11 @@ module _ (g : Graph) (law : IsLawfulGraph g) (ns : List Node) where
           let id : NodeId = record { key = x.key; birth = b } in
           ap (λ o. if is_index_of_shape f (shape_in o) then Some id else None) (ap (with_key x.key) (old_at g ns b low))
 
-  pub parts : (h : ℕ → Option NodeId) → filter_map h (range_with_len 1 grown.births) ≡ filter_map h (range_with_len 1 g.births) ++ filter_map h (range_with_len (g.births + 1) (length ns))
-  parts h = let births = births_are g ns in ap (filter_map h) (range_append 1 g.births (length ns) grown.births (g.births + 1) (omega arith) (omega arith)) ∙ filter_map-append h (range_with_len 1 g.births) (range_with_len (g.births + 1) (length ns))
+  pub parts : (h : ℕ → Option NodeId) → filter_map h (range_with_len 1 grown.births) ≡ filter_map h (range_with_len 1 g.births)
+      ++ filter_map h (range_with_len (g.births + 1) (length ns))
+  parts h = let births = births_are g ns in
+      ap (filter_map h) (range_append 1 g.births (length ns) grown.births (g.births + 1) (omega arith) (omega arith))
+      ∙ filter_map-append h (range_with_len 1 g.births) (range_with_len (g.births + 1) (length ns))
 
   -- the indexes that are born
   abbrev pub new_indexes : NodeId → List NodeId
@@ -109,10 +118,12 @@ module _ (g : Graph) (law : IsLawfulGraph g) (ns : List Node) where
   pub indexes_grown : (f : NodeId) → indexes_of grown f ≡ indexes_of g f ++ new_indexes f
   indexes_grown f =
       indexes_are grown f ∙ parts (index_born grown f)
-      ∙ ap (λ xs. xs ++ new_indexes f) (map_same (index_born g f) (index_born grown f) 1 g.births (λ b low high. old_index f b (omega arith)) ∙ sym (indexes_are g f))
+      ∙ ap (λ xs. xs ++ new_indexes f) (map_same (index_born g f) (index_born grown f) 1 g.births (λ b low high. old_index f b (omega arith))
+      ∙ sym (indexes_are g f))
 
   -- which of them is one of f
-  pub new_index : (f : NodeId) (k : ℕ) (node : Node) → place_in ns k ≡ Some node → index_born grown f (g.births + 1 + k) ≡ (if is_index_of_shape f (Some node.shape) then Some (new_id node k) else None)
+  pub new_index : (f : NodeId) (k : ℕ) (node : Node) → place_in ns k ≡ Some node
+      → index_born grown f (g.births + 1 + k) ≡ (if is_index_of_shape f (Some node.shape) then Some (new_id node k) else None)
   new_index f k node e =
       ap (λ o. kept (λ q. is_index_of_shape f (shape_of grown q)) (id_of (g.births + 1 + k) o)) (new_at g ns k (g.births + 1 + k) none_above refl ∙ e)
       ∙ ap (λ o. if is_index_of_shape f (shape_in o) then Some (new_id node k) else None) (new_node k node e)
@@ -122,7 +133,8 @@ module _ (g : Graph) (law : IsLawfulGraph g) (ns : List Node) where
       let h : ℕ → Option NodeId = λ b. id_of b (grown.at b) in
       let all : length (nodes grown) ≡ length (filter_map h (range_with_len 1 g.births)) + length (filter_map h (range_with_len (g.births + 1) (length ns)))
       = ap length (parts h) ∙ length-append (filter_map h (range_with_len 1 g.births)) (filter_map h (range_with_len (g.births + 1) (length ns))) in
-      let old : length (filter_map h (range_with_len 1 g.births)) ≡ node_count g = ap length (map_same (λ b. id_of b (g.at b)) h 1 g.births (λ b low high. ap (id_of b) (old_at g ns b (omega arith)))) in
+      let old : length (filter_map h (range_with_len 1 g.births)) ≡ node_count g =
+      ap length (map_same (λ b. id_of b (g.at b)) h 1 g.births (λ b low high. ap (id_of b) (old_at g ns b (omega arith)))) in
       let new = map_short h (range_with_len (g.births + 1) (length ns)) in
       let many = length-range_with_len (g.births + 1) (length ns) in
       omega arith
@@ -157,11 +169,14 @@ module _ (g : Graph) (law : IsLawfulGraph g) (ns : List Node) where
 
       pub born_lawful : IsLawfulGraph grown
       born_lawful = record {
-        well_formed = λ q node e. old_or_new q node e (λ was. well_formed_kept g grown law born_frames q node was) (λ k at same. subst (λ x. IsWellFormed grown x node) (sym same) (well k node at));
+        well_formed = λ q node e. old_or_new q node e (λ was. well_formed_kept g grown law born_frames q node was)
+            (λ k at same. subst (λ x. IsWellFormed grown x node) (sym same) (well k node at));
         parents_live = λ n p h. split (is_live g n) (λ old. live_later p (law.parents_live n p (old_child p n old h)))
-            (λ new. ⊎_elim (live_later p) (λ (both : (is_live grown p ≡ true) × ((q : NodeId) → is_child grown q p ≡ true → is_live g q ≡ true)). both.0) (new_child p n new h));
+            (λ new. ⊎_elim (live_later p)
+            (λ (both : (is_live grown p ≡ true) × ((q : NodeId) → is_child grown q p ≡ true → is_live g q ≡ true)). both.0) (new_child p n new h));
         acyclic = acyclic_beside g grown (λ p n h. law.parents_live n p h) old_child
-            (λ p n h k. ⊎_elim inl (λ (both : (is_live grown p ≡ true) × ((q : NodeId) → is_child grown q p ≡ true → is_live g q ≡ true)). inr both.1) (new_child p n h k)) law.acyclic;
+            (λ p n h k. ⊎_elim inl (λ (both : (is_live grown p ≡ true)
+            × ((q : NodeId) → is_child grown q p ≡ true → is_live g q ≡ true)). inr both.1) (new_child p n h k)) law.acyclic;
         keys_differ = λ a b h k e.
             let x = live_node (node_at grown a) h in
             let y = live_node (node_at grown b) k in

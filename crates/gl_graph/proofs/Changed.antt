@@ -28,7 +28,8 @@ module _ (g : Graph) (n : NodeId) (was is : Node) (there : node_at g n ≡ Some 
   after = with_node g n.birth is
 
   pub at_here : node_at after n ≡ Some is
-  at_here = finds n.key (after.at n.birth) is (ap (λ b. if b then Some is else g.at n.birth) (number_same n.birth n.birth refl)) (key ∙ (found_at g n was there).1)
+  at_here = finds n.key (after.at n.birth) is (ap (λ b. if b then Some is else g.at n.birth) (number_same n.birth n.birth refl))
+      (key ∙ (found_at g n was there).1)
 
   at_birth : (b : ℕ) → b ≡ n.birth → after.at b ≡ Some is
   at_birth b e = ap (λ x. if x then Some is else g.at b) (number_same b n.birth e)
@@ -58,7 +59,8 @@ module _ (g : Graph) (n : NodeId) (was is : Node) (there : node_at g n ≡ Some 
   nodes_same = ap (λ (f : ℕ → Option NodeId). filter_map f (range_with_len 1 g.births)) (fun_ext id_same)
 
   pub live_same : (q : NodeId) → is_live after q ≡ is_live g q
-  live_same q = split (same_node q n) (λ e. ap (is_live after) (same_node-equal q n e) ∙ ap is_some at_here ∙ sym (ap (is_live g) (same_node-equal q n e) ∙ ap is_some there)) (λ e. ap is_some (at_other q (same_node-other q n e)))
+  live_same q = split (same_node q n) (λ e. ap (is_live after) (same_node-equal q n e) ∙ ap is_some at_here
+      ∙ sym (ap (is_live g) (same_node-equal q n e) ∙ ap is_some there)) (λ e. ap is_some (at_other q (same_node-other q n e)))
 
   module _ (alike : IsAlike was.shape is.shape) where
     shape_here : shape_of after n ≡ Some is.shape
@@ -69,16 +71,19 @@ module _ (g : Graph) (n : NodeId) (was is : Node) (there : node_at g n ≡ Some 
 
     pub index_same : (f q : NodeId) → is_index_of_shape f (shape_of after q) ≡ is_index_of_shape f (shape_of g q)
     index_same f q =
-        split (same_node q n) (λ e. ap (λ x. is_index_of_shape f (shape_of after x)) (same_node-equal q n e) ∙ ap (is_index_of_shape f) shape_here ∙ alike.index f ∙ sym (ap (λ x. is_index_of_shape f (shape_of g x)) (same_node-equal q n e) ∙ ap (is_index_of_shape f) shape_was))
+        split (same_node q n) (λ e. ap (λ x. is_index_of_shape f (shape_of after x)) (same_node-equal q n e) ∙ ap (is_index_of_shape f) shape_here
+        ∙ alike.index f ∙ sym (ap (λ x. is_index_of_shape f (shape_of g x)) (same_node-equal q n e) ∙ ap (is_index_of_shape f) shape_was))
         (λ e. ap (λ o. is_index_of_shape f (shape_in o)) (at_other q (same_node-other q n e)))
 
     pub rec_same : (q : NodeId) → is_record_shape (shape_of after q) ≡ is_record_shape (shape_of g q)
     rec_same q =
-        split (same_node q n) (λ e. ap (λ x. is_record_shape (shape_of after x)) (same_node-equal q n e) ∙ ap is_record_shape shape_here ∙ alike.rec ∙ sym (ap (λ x. is_record_shape (shape_of g x)) (same_node-equal q n e) ∙ ap is_record_shape shape_was))
+        split (same_node q n) (λ e. ap (λ x. is_record_shape (shape_of after x)) (same_node-equal q n e) ∙ ap is_record_shape shape_here ∙ alike.rec
+        ∙ sym (ap (λ x. is_record_shape (shape_of g x)) (same_node-equal q n e) ∙ ap is_record_shape shape_was))
         (λ e. ap (λ o. is_record_shape (shape_in o)) (at_other q (same_node-other q n e)))
 
     pub indexes_same : (f : NodeId) → indexes_of after f ≡ indexes_of g f
-    indexes_same f = ap (filter (λ q. is_index_of_shape f (shape_of after q))) nodes_same ∙ ap (λ (p : NodeId → Bool). filter p (nodes g)) (fun_ext (index_same f))
+    indexes_same f = ap (filter (λ q. is_index_of_shape f (shape_of after q))) nodes_same
+        ∙ ap (λ (p : NodeId → Bool). filter p (nodes g)) (fun_ext (index_same f))
 
     pub changed_frames : Frames g after
     changed_frames = record {

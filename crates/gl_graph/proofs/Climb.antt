@@ -1,5 +1,6 @@
 -- A search upwards, without climbing past some nodes, finds exactly the nodes to which a route leads.
-use Rattle.std.specs.Prelude.{◌≡◌, ◌⊎◌, ℕ, ◌+◌, ◌<◌, ◌≤◌, Bool, true, false, ◌||◌, List, [], ◌∷◌, ◌++◌, length, take, None, if◌then◌else◌, slice_get, Option, Some}
+use Rattle.std.specs.Prelude.{◌≡◌, ◌⊎◌, ℕ, ◌+◌, ◌<◌, ◌≤◌, Bool, true, false, ◌||◌, List, [], ◌∷◌, ◌++◌, length, take, None, if◌then◌else◌, slice_get}
+use Rattle.std.specs.Prelude.{Option, Some}
 use Rattle.std.specs.List.{list_any}
 use Rattle.std.proofs.lemmas.Option.{slice_get-get_or, slice_get_within, get_or_from_slice_get}
 use Rattle.std.proofs.lemmas.List.{take-append-le, length-append, take_all}
@@ -35,7 +36,8 @@ added_keeps : (q : NodeId) (xs : List NodeId) (y : NodeId) → among q xs ≡ tr
 added_keeps q xs y h = added_case xs y (λ e same. ap (among q) same ∙ h) (λ same. ap (among q) same ∙ list_any-append (same_node q) xs (y ∷ []) ∙ or_left _ _ h)
 
 added_comes : (xs : List NodeId) (y : NodeId) → among y (added xs y) ≡ true
-added_comes xs y = added_case xs y (λ e same. ap (among y) same ∙ e) (λ same. ap (among y) same ∙ list_any-append (same_node y) xs (y ∷ []) ∙ or_right (among y xs) _ (or_left _ _ (same_node-refl y)))
+added_comes xs y = added_case xs y (λ e same. ap (among y) same ∙ e)
+    (λ same. ap (among y) same ∙ list_any-append (same_node y) xs (y ∷ []) ∙ or_right (among y xs) _ (or_left _ _ (same_node-refl y)))
 
 added_from : (q : NodeId) (xs : List NodeId) (y : NodeId) → among q (added xs y) ≡ true → (among q xs ≡ true) ⊎ (q ≡ y)
 added_from q xs y h =
@@ -52,18 +54,21 @@ with_all-keeps q xs (y ∷ ys) h = with_all-keeps q (added xs y) ys (added_keeps
 pub with_all-adds : (q : NodeId) (xs ys : List NodeId) → among q ys ≡ true → among q (with_all xs ys) ≡ true
 with_all-adds q xs [] h = absurd (no h)
 with_all-adds q xs (y ∷ ys) h =
-    or_elim (same_node q y) (among q ys) h (λ here. with_all-keeps q (added xs y) ys (ap (λ z. among z (added xs y)) (same_node-equal q y here) ∙ added_comes xs y))
+    or_elim (same_node q y) (among q ys) h
+    (λ here. with_all-keeps q (added xs y) ys (ap (λ z. among z (added xs y)) (same_node-equal q y here) ∙ added_comes xs y))
     (λ there. with_all-adds q (added xs y) ys there)
 
 -- nothing else does
 pub with_all-from : (q : NodeId) (xs ys : List NodeId) → among q (with_all xs ys) ≡ true → (among q xs ≡ true) ⊎ (among q ys ≡ true)
 with_all-from q xs [] h = inl h
 with_all-from q xs (y ∷ ys) h =
-    ⊎_elim (λ (was : among q (added xs y) ≡ true). ⊎_elim (λ (w : among q xs ≡ true). inl w) (λ (e : q ≡ y). inr (or_left _ _ (ap (λ z. same_node z y) e ∙ same_node-refl y))) (added_from q xs y was))
+    ⊎_elim (λ (was : among q (added xs y) ≡ true). ⊎_elim (λ (w : among q xs ≡ true). inl w)
+    (λ (e : q ≡ y). inr (or_left _ _ (ap (λ z. same_node z y) e ∙ same_node-refl y))) (added_from q xs y was))
     (λ (new : among q ys ≡ true). inr (or_right (same_node q y) _ new)) (with_all-from q (added xs y) ys h)
 
 added_longer : (xs : List NodeId) (y : NodeId) → length xs ≤ length (added xs y)
-added_longer xs y = added_case xs y (λ e same. let l = ap length same in omega arith) (λ same. let l = ap length same in let m = length-append xs (y ∷ []) in omega arith)
+added_longer xs y = added_case xs y (λ e same. let l = ap length same in omega arith)
+    (λ same. let l = ap length same in let m = length-append xs (y ∷ []) in omega arith)
 
 pub with_all-longer : (xs ys : List NodeId) → length xs ≤ length (with_all xs ys)
 with_all-longer xs [] = omega arith
@@ -72,7 +77,8 @@ with_all-longer xs (y ∷ ys) = let a = added_longer xs y in let b = with_all-lo
 pub with_all-front : (xs ys : List NodeId) (i : ℕ) → i ≤ length xs → take i (with_all xs ys) ≡ take i xs
 with_all-front xs [] i h = refl
 with_all-front xs (y ∷ ys) i h =
-    with_all-front (added xs y) ys i (let a = added_longer xs y in omega arith) ∙ added_case xs y (λ e same. ap (take i) same) (λ same. ap (take i) same ∙ take-append-le i xs (y ∷ []) h)
+    with_all-front (added xs y) ys i (let a = added_longer xs y in omega arith)
+    ∙ added_case xs y (λ e same. ap (take i) same) (λ same. ap (take i) same ∙ take-append-le i xs (y ∷ []) h)
 
 pub none_left : (xs : List NodeId) (i : ℕ) → slice_get xs i ≡ None → length xs ≤ i
 none_left xs i e = ⊎_elim (λ (low : i < length xs). by low xs refl) (λ (high : length xs ≤ i). high) (cases_lt i (length xs))
@@ -86,15 +92,18 @@ pub lent_at : (found xs : List NodeId) (i : ℕ) (r : Option (Bor NodeId)) → x
 lent_at found xs i r e at = sym (item_copied xs i r at ∙ ap (λ ys. slice_get ys i) e)
 
 pub item_among : (found : List NodeId) (i : ℕ) (n : NodeId) → slice_get found i ≡ Some n → among n found ≡ true
-item_among found i n item = list_any_at (same_node n) found i n (slice_get_within found i n item) (ap (same_node n) (get_or_from_slice_get found i n n item) ∙ same_node-refl n)
+item_among found i n item = list_any_at (same_node n) found i n (slice_get_within found i n item)
+    (ap (same_node n) (get_or_from_slice_get found i n n item) ∙ same_node-refl n)
 
 -- among the first i + 1, whatever is added behind, are the first i and the next one
-pub first_more : {C : Type 0} (found more : List NodeId) (i : ℕ) (n q : NodeId) → slice_get found i ≡ Some n → among q (take (i + 1) (with_all found more)) ≡ true → (among q (take i found) ≡ true → C) → (q ≡ n → C) → C
+pub first_more : {C : Type 0} (found more : List NodeId) (i : ℕ) (n q : NodeId) → slice_get found i ≡ Some n
+    → among q (take (i + 1) (with_all found more)) ≡ true → (among q (take i found) ≡ true → C) → (q ≡ n → C) → C
 first_more found more i n q item h was is =
     let low = slice_get_within found i n item in
     let at = get_or_from_slice_get found i n n item in
     or_elim (among q (take i found)) (same_node q n)
-    (sym (ap (among q) (with_all-front found more (i + 1) (omega arith)) ∙ list_any_more (same_node q) found i n low ∙ ap (λ x. among q (take i found) || same_node q x) at) ∙ h)
+    (sym (ap (among q) (with_all-front found more (i + 1) (omega arith)) ∙ list_any_more (same_node q) found i n low
+    ∙ ap (λ x. among q (take i found) || same_node q x) at) ∙ h)
     was (λ same. is (same_node-equal q n same))
 
 module _ (g : Graph) (stops : NodeId → Bool) where
@@ -129,29 +138,36 @@ module _ (g : Graph) (stops : NodeId → Bool) where
       })
 
   -- the search climbs from the next one found
-  pub climb_more : (from : NodeId) (found next : List NodeId) (i : ℕ) (n : NodeId) → slice_get found i ≡ Some n → IsClimb from found i → next ≡ with_all found (next_of n) → IsClimb from next (i + 1)
+  pub climb_more : (from : NodeId) (found next : List NodeId) (i : ℕ) (n : NodeId) → slice_get found i ≡ Some n → IsClimb from found i
+      → next ≡ with_all found (next_of n) → IsClimb from next (i + 1)
   climb_more from found next i n item s e =
       subst (λ xs. IsClimb from xs (i + 1)) (sym e) (record {
         starts = with_all-keeps from found (next_of n) s.starts;
         leads = λ sought q h l. ⊎_elim (λ (was : among q found ≡ true). s.leads sought q was l)
-            (λ (new : among q (next_of n) ≡ true). s.leads sought n (item_among found i n item) (leads_up sought n q new l)) (with_all-from q found (next_of n) h);
+            (λ (new : among q (next_of n) ≡ true). s.leads sought n (item_among found i n item) (leads_up sought n q new l))
+            (with_all-from q found (next_of n) h);
         climbed = λ q p h k.
             first_more found (next_of n) i n q item h (λ was. with_all-keeps p found (next_of n) (s.climbed q p was k))
             (λ is. with_all-adds p found (next_of n) (ap (λ x. among p (next_of x)) (sym is) ∙ k));
       })
 
   -- the next one found, which does not stop the search, is met where it is sought
-  pub climb_meets : (sought : NodeId → Bool) (from : NodeId) (found : List NodeId) (i : ℕ) (n : NodeId) → among n found ≡ true → IsClimb from found i → stops n ≡ false → sought n ≡ true → Leads sought from
-  climb_meets sought from found i n there s on it = s.leads sought n there (record { end = n; way = []; route = refl; free = ap (λ b. b || false) on; meets = it })
+  pub climb_meets : (sought : NodeId → Bool) (from : NodeId) (found : List NodeId) (i : ℕ) (n : NodeId) → among n found ≡ true → IsClimb from found i
+      → stops n ≡ false → sought n ≡ true → Leads sought from
+  climb_meets sought from found i n there s on it =
+      s.leads sought n there (record { end = n; way = []; route = refl; free = ap (λ b. b || false) on; meets = it })
 
   -- where nothing is left to look at, each route that is not stopped ends at a node that is found
-  pub climb_ends : (from : NodeId) (found : List NodeId) (i : ℕ) → slice_get found i ≡ None → IsClimb from found i → (q m : NodeId) (way : List NodeId) → among q found ≡ true → IsRoute g q way m → list_any stops (q ∷ way) ≡ false
+  pub climb_ends : (from : NodeId) (found : List NodeId) (i : ℕ) → slice_get found i ≡ None → IsClimb from found i
+      → (q m : NodeId) (way : List NodeId) → among q found ≡ true → IsRoute g q way m → list_any stops (q ∷ way) ≡ false
       → (among m (take i found) ≡ true) × (stops m ≡ false)
-  climb_ends from found i none s q m [] h route free = (ap (λ z. among z (take i found)) (sym route) ∙ ap (among q) (take_all i found (none_left found i none)) ∙ h, ap stops (sym route) ∙ (or_no _ _ free).0)
+  climb_ends from found i none s q m [] h route free =
+      (ap (λ z. among z (take i found)) (sym route) ∙ ap (among q) (take_all i found (none_left found i none)) ∙ h, ap stops (sym route) ∙ (or_no _ _ free).0)
   climb_ends from found i none s q m (p ∷ way) h route free =
       let free' = or_no _ _ free in
       climb_ends from found i none s p m way
-      (s.climbed q p (ap (among q) (take_all i found (none_left found i none)) ∙ h) (ap (λ b. among p (if b then [] else parents_of g q)) free'.0 ∙ route.0)) route.1 free'.1
+      (s.climbed q p (ap (among q) (take_all i found (none_left found i none)) ∙ h)
+      (ap (λ b. among p (if b then [] else parents_of g q)) free'.0 ∙ route.0)) route.1 free'.1
 
 -- a search that stops nowhere
 
@@ -163,7 +179,8 @@ never_stops [] = refl
 never_stops (n ∷ way) = never_stops way
 
 -- where nothing is left to look at, the test of the found ones is the test of routes
-pub finds_routes : (g : Graph) (law : IsLawfulGraph g) (from target : NodeId) (found : List NodeId) (i : ℕ) → is_live g from ≡ true → slice_get found i ≡ None → IsClimb g never from found i
+pub finds_routes : (g : Graph) (law : IsLawfulGraph g) (from target : NodeId) (found : List NodeId) (i : ℕ) → is_live g from ≡ true
+    → slice_get found i ≡ None → IsClimb g never from found i
     → among target found ≡ is_at_or_below (node_count g) g target from
 finds_routes g law from target found i live none s =
     split (among target found)
@@ -171,5 +188,6 @@ finds_routes g law from target found i live none s =
     below_complete g law target from l.way live (subst (IsRoute g from l.way) (sym (same_node-equal target l.end l.meets)) l.route)))
     (λ e. e ∙ sym (split (is_at_or_below (node_count g) g target from)
     (λ t. absurd (let way = below_route g target (node_count g) from t in
-    no (sym e ∙ ap (among target) (sym (take_all i found (none_left found i none))) ∙ (climb_ends g never from found i none s from target way.0 s.starts way.1 (never_stops (from ∷ way.0))).0)))
+    no (sym e ∙ ap (among target) (sym (take_all i found (none_left found i none)))
+    ∙ (climb_ends g never from found i none s from target way.0 s.starts way.1 (never_stops (from ∷ way.0))).0)))
     (λ t. t)))

@@ -40,11 +40,13 @@ filter_none q p (x ∷ xs) all none =
     let t = and_both (q x) (list_all q xs) all in
     ap (λ b. if b then x ∷ filter p xs else filter p xs) (none x t.0) ∙ filter_none q p xs t.1 none
 
-all_mapped : (q : NodeId → Bool) (h : ℕ → Option NodeId) (bs : List ℕ) → ((b : ℕ) (x : NodeId) → h b ≡ Some x → q x ≡ true) → list_all q (filter_map h bs) ≡ true
+all_mapped : (q : NodeId → Bool) (h : ℕ → Option NodeId) (bs : List ℕ) → ((b : ℕ) (x : NodeId) → h b ≡ Some x → q x ≡ true)
+    → list_all q (filter_map h bs) ≡ true
 all_mapped q h [] each = refl
 all_mapped q h (b ∷ bs) each = by (h b) (each b) (all_mapped q h bs each)
   where
-    by : (o : Option NodeId) → ((x : NodeId) → o ≡ Some x → q x ≡ true) → list_all q (filter_map h bs) ≡ true → list_all q (cons_option o (filter_map h bs)) ≡ true
+    by : (o : Option NodeId) → ((x : NodeId) → o ≡ Some x → q x ≡ true) → list_all q (filter_map h bs) ≡ true
+        → list_all q (cons_option o (filter_map h bs)) ≡ true
     by None e rest = rest
     by (Some x) e rest = both _ _ (e x refl) rest
 
@@ -64,7 +66,8 @@ pub count_ids : (birth : ℕ) (ns : List Node) → length (new_ids birth ns) ≡
 count_ids birth [] = refl
 count_ids birth (n ∷ ns) = ap suc (count_ids (birth + 1) ns)
 
-listed_new : (h : ℕ → Option NodeId) (a : ℕ) (ns : List Node) → ((k b : ℕ) → a + k ≡ b → h b ≡ id_of b (place_in ns k)) → filter_map h (range_with_len a (length ns)) ≡ new_ids a ns
+listed_new : (h : ℕ → Option NodeId) (a : ℕ) (ns : List Node) → ((k b : ℕ) → a + k ≡ b → h b ≡ id_of b (place_in ns k))
+    → filter_map h (range_with_len a (length ns)) ≡ new_ids a ns
 listed_new h a [] each = refl
 listed_new h a (n ∷ ns) each = ap₂ cons_option (each 0 a (omega arith)) (listed_new h (a + 1) ns (λ k b e. each (suc k) b (omega arith)))
 
@@ -75,7 +78,8 @@ module _ (g : Graph) (law : IsLawfulGraph g) (ns : List Node) where
   pub nodes_grown : nodes grown ≡ nodes g ++ new_ids (g.births + 1) ns
   nodes_grown =
       parts g law ns (λ b. id_of b (grown.at b))
-      ∙ ap₂ (λ xs ys. xs ++ ys) (map_same (λ b. id_of b (g.at b)) (λ b. id_of b (grown.at b)) 1 g.births (λ b low high. ap (id_of b) (old_at g ns b (omega arith))))
+      ∙ ap₂ (λ xs ys. xs ++ ys) (map_same (λ b. id_of b (g.at b)) (λ b. id_of b (grown.at b)) 1 g.births
+      (λ b low high. ap (id_of b) (old_at g ns b (omega arith))))
       (listed_new (λ b. id_of b (grown.at b)) (g.births + 1) ns (λ k b e. ap (id_of b) (new_at g ns k b (none_above g law ns) (sym e))))
 
   pub count_grown : node_count grown ≡ node_count g + length ns
@@ -88,18 +92,24 @@ module _ (g : Graph) (law : IsLawfulGraph g) (ns : List Node) where
   pub records_grown : (f : NodeId) → record_count grown f ≡ record_count g f + count_by (is_record_of grown f) (new_ids (g.births + 1) ns)
   records_grown f =
       ap (count_by (is_record_of grown f)) nodes_grown ∙ sum_by-append (λ q. cond (is_record_of grown f q) 1 0) (nodes g) (new_ids (g.births + 1) ns)
-      ∙ ap (λ k. k + count_by (is_record_of grown f) (new_ids (g.births + 1) ns)) (count_same (is_live g) (is_record_of g f) (is_record_of grown f) (nodes g) (nodes_live g) (record_same f))
+      ∙ ap (λ k. k + count_by (is_record_of grown f) (new_ids (g.births + 1) ns))
+      (count_same (is_live g) (is_record_of g f) (is_record_of grown f) (nodes g) (nodes_live g) (record_same f))
 
   -- where no record is born, a file has those it had
   module _ (none : (k : ℕ) (node : Node) → place_in ns k ≡ Some node → is_record_shape (Some node.shape) ≡ false) where
-    not_among : (f : NodeId) (ms : List Node) (k b : ℕ) → g.births + 1 + k ≡ b → ((j : ℕ) → place_in ms j ≡ place_in ns (k + j)) → count_by (is_record_of grown f) (new_ids b ms) ≡ 0
+    not_among : (f : NodeId) (ms : List Node) (k b : ℕ) → g.births + 1 + k ≡ b → ((j : ℕ) → place_in ms j ≡ place_in ns (k + j))
+        → count_by (is_record_of grown f) (new_ids b ms) ≡ 0
     not_among f [] k b e part = refl
     not_among f (m ∷ ms) k b e part =
         let at : place_in ns k ≡ Some m = (let same : k ≡ k + 0 = omega arith in ap (place_in ns) same) ∙ sym (part 0) in
-        let there : node_at grown (record { key = m.key; birth = b }) ≡ Some m = ap (λ c. node_at grown (record { key = m.key; birth = c })) (sym e) ∙ new_node g law ns k m at in
-        let other : is_record_of grown f (record { key = m.key; birth = b }) ≡ false = ap (λ o. is_record_shape (shape_in o) && is_child grown f (record { key = m.key; birth = b })) there ∙ ap (λ t. t && is_child grown f (record { key = m.key; birth = b })) (none k m at) in
+        let there : node_at grown (record { key = m.key; birth = b }) ≡ Some m =
+        ap (λ c. node_at grown (record { key = m.key; birth = c })) (sym e) ∙ new_node g law ns k m at in
+        let other : is_record_of grown f (record { key = m.key; birth = b }) ≡ false =
+        ap (λ o. is_record_shape (shape_in o) && is_child grown f (record { key = m.key; birth = b })) there
+        ∙ ap (λ t. t && is_child grown f (record { key = m.key; birth = b })) (none k m at) in
         count_cons (is_record_of grown f) (record { key = m.key; birth = b }) (new_ids (b + 1) ms)
-        ∙ ap₂ (λ t n. cond t 1 0 + n) other (not_among f ms (k + 1) (b + 1) (omega arith) (λ j. part (suc j) ∙ (let same : k + suc j ≡ k + 1 + j = omega arith in ap (place_in ns) same)))
+        ∙ ap₂ (λ t n. cond t 1 0 + n) other
+        (not_among f ms (k + 1) (b + 1) (omega arith) (λ j. part (suc j) ∙ (let same : k + suc j ≡ k + 1 + j = omega arith in ap (place_in ns) same)))
 
     pub same_records : (f : NodeId) → record_count grown f ≡ record_count g f
     same_records f =
@@ -112,7 +122,8 @@ module _ (g : Graph) (law : IsLawfulGraph g) (f : NodeId) (dead : is_live g f �
   pub dead_records : record_count g f ≡ 0
   dead_records =
       count_none (is_live g) (is_record_of g f) (nodes g) (nodes_live g)
-      (λ r live. split (is_record_of g f r) (λ t. absurd (no (sym dead ∙ law.parents_live r f (and_both (is_record_shape (shape_of g r)) (is_child g f r) t).1))) (λ t. t))
+      (λ r live. split (is_record_of g f r)
+      (λ t. absurd (no (sym dead ∙ law.parents_live r f (and_both (is_record_shape (shape_of g r)) (is_child g f r) t).1))) (λ t. t))
 
   pub dead_indexes : indexes_of g f ≡ []
   dead_indexes =

@@ -1,5 +1,6 @@
 -- No node is listed twice, among the nodes or among the indexes of a file.
-use Rattle.std.specs.Prelude.{◌≡◌, ℕ, zero, suc, ◌+◌, ◌<◌, Bool, true, false, not, ◌||◌, List, [], ◌∷◌, length, Option, Some, None, if◌then◌else◌, slice_index_or}
+use Rattle.std.specs.Prelude.{◌≡◌, ℕ, zero, suc, ◌+◌, ◌<◌, Bool, true, false, not, ◌||◌, List, [], ◌∷◌, length, Option, Some, None, if◌then◌else◌}
+use Rattle.std.specs.Prelude.{slice_index_or}
 use Rattle.std.specs.List.{cons_option, filter, filter_map, list_any, range_with_len}
 use Rattle.std.proofs.Common.{refl, sym, ap, ap₂, ◌∙◌, arith}
 use Rattle.gl_modes.proofs.NodeLemmas.{same_node-equal, same_node-differ, same_node-from_equal}
@@ -18,7 +19,8 @@ module _ (h : ℕ → Option NodeId) (born : (b : ℕ) (x : NodeId) → h b ≡ 
   not_below q a zero low = refl
   not_below q a (suc n) low = by (h a) refl (not_below q (a + 1) n (omega arith))
     where
-      by : (o : Option NodeId) → h a ≡ o → list_any (same_node q) (filter_map h (range_with_len (a + 1) n)) ≡ false → list_any (same_node q) (cons_option o (filter_map h (range_with_len (a + 1) n))) ≡ false
+      by : (o : Option NodeId) → h a ≡ o → list_any (same_node q) (filter_map h (range_with_len (a + 1) n)) ≡ false
+          → list_any (same_node q) (cons_option o (filter_map h (range_with_len (a + 1) n))) ≡ false
       by None e rest = rest
       by (Some x) e rest =
           let other : same_node q x ≡ false = same_node-differ q x (λ same. let b = ap (λ z. z.birth) same in let c = born a x e in absurd (omega arith)) in
@@ -28,7 +30,8 @@ module _ (h : ℕ → Option NodeId) (born : (b : ℕ) (x : NodeId) → h b ≡ 
   distinct_from a zero = refl
   distinct_from a (suc n) = by (h a) refl (distinct_from (a + 1) n)
     where
-      by : (o : Option NodeId) → h a ≡ o → are_distinct (filter_map h (range_with_len (a + 1) n)) ≡ true → are_distinct (cons_option o (filter_map h (range_with_len (a + 1) n))) ≡ true
+      by : (o : Option NodeId) → h a ≡ o → are_distinct (filter_map h (range_with_len (a + 1) n)) ≡ true
+          → are_distinct (cons_option o (filter_map h (range_with_len (a + 1) n))) ≡ true
       by None e rest = rest
       by (Some x) e rest = both _ _ (ap not (not_below x (a + 1) n (let b = born a x e in omega arith))) rest
 
@@ -52,7 +55,8 @@ module _ (p : NodeId → Bool) where
   filter_distinct (x ∷ xs) h =
       let t = and_both (not (list_any (same_node x) xs)) (are_distinct xs) h in
       split (p x)
-      (λ e. ap (λ b. are_distinct (if b then x ∷ filter p xs else filter p xs)) e ∙ both _ _ (ap not (none_filtered x xs (not_true (list_any (same_node x) xs) t.0))) (filter_distinct xs t.1))
+      (λ e. ap (λ b. are_distinct (if b then x ∷ filter p xs else filter p xs)) e
+      ∙ both _ _ (ap not (none_filtered x xs (not_true (list_any (same_node x) xs) t.0))) (filter_distinct xs t.1))
       (λ e. ap (λ b. are_distinct (if b then x ∷ filter p xs else filter p xs)) e ∙ filter_distinct xs t.1)
     where
       not_true : (b : Bool) → not b ≡ true → b ≡ false
@@ -63,14 +67,17 @@ module _ (p : NodeId → Bool) where
   any_filtered q [] h k = absurd (no h)
   any_filtered q (x ∷ xs) h k =
       split (p x)
-      (λ e. ap (λ b. list_any (same_node q) (if b then x ∷ filter p xs else filter p xs)) e ∙ or_elim (same_node q x) (list_any (same_node q) xs) h (λ here. or_left _ _ here) (λ there. or_right (same_node q x) _ (any_filtered q xs there k)))
       (λ e. ap (λ b. list_any (same_node q) (if b then x ∷ filter p xs else filter p xs)) e
-      ∙ or_elim (same_node q x) (list_any (same_node q) xs) h (λ here. absurd (no (sym e ∙ ap p (sym (same_node-equal q x here)) ∙ k))) (λ there. any_filtered q xs there k))
+      ∙ or_elim (same_node q x) (list_any (same_node q) xs) h (λ here. or_left _ _ here) (λ there. or_right (same_node q x) _ (any_filtered q xs there k)))
+      (λ e. ap (λ b. list_any (same_node q) (if b then x ∷ filter p xs else filter p xs)) e
+      ∙ or_elim (same_node q x) (list_any (same_node q) xs) h (λ here. absurd (no (sym e ∙ ap p (sym (same_node-equal q x here)) ∙ k)))
+      (λ there. any_filtered q xs there k))
 
 pub indexes_distinct : (g : Graph) (f : NodeId) → are_distinct (indexes_of g f) ≡ true
 indexes_distinct g f = filter_distinct (λ n. is_index_of_shape f (shape_of g n)) (nodes g) (nodes_distinct g)
 
-pub index_listed : (g : Graph) (law : IsLawfulGraph g) (f i : NodeId) → is_live g i ≡ true → is_index_of_shape f (shape_of g i) ≡ true → list_any (same_node i) (indexes_of g f) ≡ true
+pub index_listed : (g : Graph) (law : IsLawfulGraph g) (f i : NodeId) → is_live g i ≡ true → is_index_of_shape f (shape_of g i) ≡ true
+    → list_any (same_node i) (indexes_of g f) ≡ true
 index_listed g law f i live h = any_filtered (λ n. is_index_of_shape f (shape_of g n)) i (nodes g) (listed g law i live) h
 
 any_at : (q : NodeId) (xs : List NodeId) (k : ℕ) (d : NodeId) → k < length xs → slice_index_or xs k d ≡ q → list_any (same_node q) xs ≡ true
@@ -79,9 +86,13 @@ any_at q (x ∷ xs) zero d low e = or_left _ _ (same_node-from_equal q x (sym e)
 any_at q (x ∷ xs) (suc k) d low e = or_right (same_node q x) _ (any_at q xs k d (omega arith) e)
 
 -- one place for each
-pub one_place : (xs : List NodeId) (i j : ℕ) (d : NodeId) → are_distinct xs ≡ true → i < length xs → j < length xs → slice_index_or xs i d ≡ slice_index_or xs j d → i ≡ j
+pub one_place : (xs : List NodeId) (i j : ℕ) (d : NodeId) → are_distinct xs ≡ true → i < length xs → j < length xs
+    → slice_index_or xs i d ≡ slice_index_or xs j d → i ≡ j
 one_place [] i j d h low high e = absurd (omega arith)
 one_place (x ∷ xs) zero zero d h low high e = refl
-one_place (x ∷ xs) zero (suc j) d h low high e = absurd (no (sym (ap not (any_at x xs j d (omega arith) (sym e))) ∙ (and_both (not (list_any (same_node x) xs)) (are_distinct xs) h).0))
-one_place (x ∷ xs) (suc i) zero d h low high e = absurd (no (sym (ap not (any_at x xs i d (omega arith) e)) ∙ (and_both (not (list_any (same_node x) xs)) (are_distinct xs) h).0))
-one_place (x ∷ xs) (suc i) (suc j) d h low high e = ap suc (one_place xs i j d (and_both (not (list_any (same_node x) xs)) (are_distinct xs) h).1 (omega arith) (omega arith) e)
+one_place (x ∷ xs) zero (suc j) d h low high e =
+    absurd (no (sym (ap not (any_at x xs j d (omega arith) (sym e))) ∙ (and_both (not (list_any (same_node x) xs)) (are_distinct xs) h).0))
+one_place (x ∷ xs) (suc i) zero d h low high e =
+    absurd (no (sym (ap not (any_at x xs i d (omega arith) e)) ∙ (and_both (not (list_any (same_node x) xs)) (are_distinct xs) h).0))
+one_place (x ∷ xs) (suc i) (suc j) d h low high e =
+    ap suc (one_place xs i j d (and_both (not (list_any (same_node x) xs)) (are_distinct xs) h).1 (omega arith) (omega arith) e)

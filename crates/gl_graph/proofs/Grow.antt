@@ -41,7 +41,8 @@ apart_more [] x h k = refl
 apart_more (y ∷ xs) x h k =
     let t = and_both (not (list_any (λ z. z == y) xs)) (are_apart xs) h in
     let o = or_no (y == x) (list_any (λ z. z == x) xs) k in
-    both _ _ (ap not (any_more y xs x ∙ ap₂ (λ a b. a || b) (not_true (list_any (λ z. z == y) xs) t.0) (number_other x y (λ e. other_number y x o.0 (sym e))))) (apart_more xs x t.1 o.1)
+    both _ _ (ap not (any_more y xs x ∙ ap₂ (λ a b. a || b) (not_true (list_any (λ z. z == y) xs) t.0)
+    (number_other x y (λ e. other_number y x o.0 (sym e))))) (apart_more xs x t.1 o.1)
   where
     not_true : (b : Bool) → not b ≡ true → b ≡ false
     not_true true e = absurd (no e)
@@ -62,7 +63,8 @@ grown_none s births apart within =
       keys_apart = refl;
     }
 
-module _ (old now next : Slab Stored) (births : ℕ) (ns : List Node) (grown : IsGrown old births now ns) (key : ℕ) (x : Stored) (free : get now key ≡ None) (u : Updates now next key (Some x)) (birth : x.birth ≡ births + length ns + 1)
+module _ (old now next : Slab Stored) (births : ℕ) (ns : List Node) (grown : IsGrown old births now ns) (key : ℕ) (x : Stored)
+    (free : get now key ≡ None) (u : Updates now next key (Some x)) (birth : x.birth ≡ births + length ns + 1)
     (len : slab_len next ≡ slab_len now + 1) (place : ℕ) (shape : shape_in_body x.body ≡ Interval place) where
   abbrev more : List Node
   more = ns ++ node_of key (vertex_of x) ∷ []
@@ -89,27 +91,35 @@ module _ (old now next : Slab Stored) (births : ℕ) (ns : List Node) (grown : I
   pub grown_more : IsGrown old births next more
   grown_more = record {
     graph = λ limits.
-        ap (λ b. graph_of (seen limits next b)) (sym count) ∙ inserted limits now next (births + length ns) key x grown.apart grown.within free u birth ∙ ap (λ g. born_node g (node_of key (vertex_of x))) (grown.graph limits)
+        ap (λ b. graph_of (seen limits next b)) (sym count)
+        ∙ inserted limits now next (births + length ns) key x grown.apart grown.within free u birth
+        ∙ ap (λ g. born_node g (node_of key (vertex_of x))) (grown.graph limits)
         ∙ sym (born_more (graph_of (seen limits old births)) ns (node_of key (vertex_of x)));
     apart = inserted_apart (record { most = 0; most_bounds = 0 }) now next (births + length ns) key x grown.apart grown.within free u birth;
-    within = subst (AreBornWithin next) count (inserted_within (record { most = 0; most_bounds = 0 }) now next (births + length ns) key x grown.apart grown.within free u birth);
+    within = subst (AreBornWithin next) count
+        (inserted_within (record { most = 0; most_bounds = 0 }) now next (births + length ns) key x grown.apart grown.within free u birth);
     len = let e = length-append ns (node_of key (vertex_of x) ∷ []) in let was = grown.len in omega arith;
     stays = λ k y e. let now_there = grown.stays k y e in u.others k (not_key k y now_there) ∙ now_there;
     came = λ k y e. split (k == key)
-        (λ t. let same : x ≡ y = some_is (sym u.changed ∙ ap (get next) (sym (same_number k key t)) ∙ e) in inr (place, ap (λ z. shape_in_body z.body) (sym same) ∙ shape))
+        (λ t. let same : x ≡ y = some_is (sym u.changed ∙ ap (get next) (sym (same_number k key t)) ∙ e) in
+        inr (place, ap (λ z. shape_in_body z.body) (sym same) ∙ shape))
         (λ t. grown.came k y (sym (u.others k (other_number k key t)) ∙ e));
     vacant = λ k h. or_elim _ _ (sym (listed k) ∙ h) (λ was. grown.vacant k was) (λ is. ap (get old) (sym (same_number key k is)) ∙ was_vacant);
     taken = λ k h. split (k == key) (λ t. ap is_some (ap (get next) (same_number k key t) ∙ u.changed))
-        (λ t. ap is_some (u.others k (other_number k key t)) ∙ grown.taken k (or_elim _ _ (sym (listed k) ∙ h) (λ was. was) (λ is. absurd (other_number k key t (sym (same_number key k is))))));
+        (λ t. ap is_some (u.others k (other_number k key t))
+        ∙ grown.taken k (or_elim _ _ (sym (listed k) ∙ h) (λ was. was) (λ is. absurd (other_number k key t (sym (same_number key k is))))));
     keys_apart = ap are_apart (keys_more ns (node_of key (vertex_of x))) ∙ apart_more (keys_of ns) key grown.keys_apart unlisted;
   }
 
 -- one interval more
-pub intervals_more : (index : NodeId) (from : ℕ) (keys : List ℕ) (key c : ℕ) → from + length keys ≡ c → interval_nodes index from (keys ++ key ∷ []) ≡ interval_nodes index from keys ++ record { key = key; shape = Interval c; parents = index ∷ [] } ∷ []
+pub intervals_more : (index : NodeId) (from : ℕ) (keys : List ℕ) (key c : ℕ) → from + length keys ≡ c
+    → interval_nodes index from (keys ++ key ∷ []) ≡ interval_nodes index from keys ++ record { key = key; shape = Interval c; parents = index ∷ [] } ∷ []
 intervals_more index from [] key c e = let same : from ≡ c = omega arith in λ i. record { key = key; shape = Interval (same i); parents = index ∷ [] } ∷ []
-intervals_more index from (k ∷ keys) key c e = ap (λ xs. record { key = k; shape = Interval from; parents = index ∷ [] } ∷ xs) (intervals_more index (from + 1) keys key c (omega arith))
+intervals_more index from (k ∷ keys) key c e =
+    ap (λ xs. record { key = k; shape = Interval from; parents = index ∷ [] } ∷ xs) (intervals_more index (from + 1) keys key c (omega arith))
 
-pub ids_more : (birth : ℕ) (keys : List ℕ) (key b : ℕ) → birth + length keys ≡ b → ids_of birth (keys ++ key ∷ []) ≡ ids_of birth keys ++ record { key = key; birth = b } ∷ []
+pub ids_more : (birth : ℕ) (keys : List ℕ) (key b : ℕ) → birth + length keys ≡ b → ids_of birth (keys ++ key ∷ []) ≡ ids_of birth keys
+    ++ record { key = key; birth = b } ∷ []
 ids_more birth [] key b e = let same : birth ≡ b = omega arith in λ i. record { key = key; birth = same i } ∷ []
 ids_more birth (k ∷ keys) key b e = ap (λ xs. record { key = k; birth = birth } ∷ xs) (ids_more (birth + 1) keys key b (omega arith))
 
@@ -117,17 +127,22 @@ pub count_interval_nodes : (index : NodeId) (from : ℕ) (keys : List ℕ) → l
 count_interval_nodes index from [] = refl
 count_interval_nodes index from (k ∷ keys) = ap suc (count_interval_nodes index (from + 1) keys)
 
-pub intervals_born : (old now next : Slab Stored) (index : NodeId) (place : ℕ) (ids next_ids : List NodeId) (born : AreIntervalsBorn old now index place ids) (key : ℕ) (x : Stored) → get now key ≡ None → Updates now next key (Some x) → x.birth ≡ index.birth + 1 + place
-    → slab_len next ≡ slab_len now + 1 → shape_in_body x.body ≡ Interval place → parent_list x.parents ≡ index ∷ [] → next_ids ≡ ids ++ record { key = key; birth = index.birth + 1 + place } ∷ [] → AreIntervalsBorn old next index (place + 1) next_ids
+pub intervals_born : (old now next : Slab Stored) (index : NodeId) (place : ℕ) (ids next_ids : List NodeId)
+    (born : AreIntervalsBorn old now index place ids) (key : ℕ) (x : Stored) → get now key ≡ None → Updates now next key (Some x)
+    → x.birth ≡ index.birth + 1 + place
+    → slab_len next ≡ slab_len now + 1 → shape_in_body x.body ≡ Interval place → parent_list x.parents ≡ index ∷ [] → next_ids ≡ ids
+    ++ record { key = key; birth = index.birth + 1 + place } ∷ [] → AreIntervalsBorn old next index (place + 1) next_ids
 intervals_born old now next index place ids next_ids born key x free u birth len shape parents listed =
     let many = born.many in
     let nodes = count_interval_nodes index 0 born.keys in
     let all = intervals_more index 0 born.keys key place (omega arith) in
-    let node : node_of key (vertex_of x) ≡ record { key = key; shape = Interval place; parents = index ∷ [] } = (λ i. record { key = key; shape = shape i; parents = parents i }) in
+    let node : node_of key (vertex_of x) ≡ record { key = key; shape = Interval place; parents = index ∷ [] } =
+    (λ i. record { key = key; shape = shape i; parents = parents i }) in
     let more = grown_more old now next index.birth (interval_nodes index 0 born.keys) born.grown key x free u (omega arith) len place shape in
     record {
       keys = born.keys ++ key ∷ [];
       many = length-append born.keys (key ∷ []) ∙ ap (λ n. n + 1) many;
       grown = subst (IsGrown old index.birth next) (ap (λ n. interval_nodes index 0 born.keys ++ n ∷ []) node ∙ sym all) more;
-      ids_are = listed ∙ ap (λ xs. xs ++ record { key = key; birth = index.birth + 1 + place } ∷ []) born.ids_are ∙ sym (ids_more (index.birth + 1) born.keys key (index.birth + 1 + place) (omega arith));
+      ids_are = listed ∙ ap (λ xs. xs ++ record { key = key; birth = index.birth + 1 + place } ∷ []) born.ids_are
+          ∙ sym (ids_more (index.birth + 1) born.keys key (index.birth + 1 + place) (omega arith));
     }

@@ -20,14 +20,16 @@ use Rattle.gl_graph.proofs.Counts.{count_cons, count_grown, records_grown, dead_
 use Rattle.gl_graph.proofs.Slots.{at_slot, node_there, inserted, inserted_apart, inserted_free}
 
 -- an index that stays has its intervals where they were
-pub intervals_same : (g g' : Graph) (law : IsLawfulGraph g) → Frames g g' → (n f : NodeId) (bs : List ℕ) → shape_of g n ≡ Some (Index f bs) → (place : ℕ) → place ≤ length bs → interval g' n place ≡ interval g n place
+pub intervals_same : (g g' : Graph) (law : IsLawfulGraph g) → Frames g g' → (n f : NodeId) (bs : List ℕ) → shape_of g n ≡ Some (Index f bs)
+    → (place : ℕ) → place ≤ length bs → interval g' n place ≡ interval g n place
 intervals_same g g' law same n f bs e place low =
     let node = index_node g law n f bs e in
     interval_kept g g' law same n place _ (node.intervals place low) refl
 
 -- what is kept beside a node that stays
 pub beside_kept : (g g' : Graph) (law : IsLawfulGraph g) → Frames g g' → (n : NodeId) (x : Vertex) (sh : Shape) → shape_of g n ≡ Some sh
-    → (is_file_shape (Some sh) ≡ true → (indexes_of g' n ≡ indexes_of g n) × (record_count g' n ≡ record_count g n)) → KeepsBeside g n x sh → KeepsBeside g' n x sh
+    → (is_file_shape (Some sh) ≡ true → (indexes_of g' n ≡ indexes_of g n) × (record_count g' n ≡ record_count g n)) → KeepsBeside g n x sh
+    → KeepsBeside g' n x sh
 beside_kept g g' law same n x Inner e file k = tt
 beside_kept g g' law same n x (File adopted) e file k = let t = file refl in (k.0 ∙ sym t.0, k.1 ∙ sym t.1)
 beside_kept g g' law same n x (Index f bs) e file k = (k.0, λ place low. k.1 place low ∙ ap Some (sym (intervals_same g g' law same n f bs e place low)))
@@ -57,7 +59,8 @@ plain_no_record body.Bare p = absurd p
 plain_no_record (body.Keyed one) p = absurd p
 plain_no_record (body.ManyKeyed keys) p = absurd p
 
-module _ (limits : Limits) (old new : Slab Stored) (births key : ℕ) (x : Stored) (sound : AreSound limits old births) (free : get old key ≡ None) (u : Updates old new key (Some x)) (next : x.birth ≡ births + 1) where
+module _ (limits : Limits) (old new : Slab Stored) (births key : ℕ) (x : Stored) (sound : AreSound limits old births) (free : get old key ≡ None)
+    (u : Updates old new key (Some x)) (next : x.birth ≡ births + 1) where
   abbrev pub g : Graph
   g = graph_of (seen limits old births)
 
@@ -71,7 +74,12 @@ module _ (limits : Limits) (old new : Slab Stored) (births key : ℕ) (x : Store
   after = inserted limits old new births key x sound.apart (born_within limits old births sound) free u next
 
   pub is_born : IsBorn g (graph_of (seen limits new (births + 1))) id (shape_in_body x.body) (parent_list x.parents)
-  is_born = record { key_free = inserted_free limits old new births key x sound.apart (born_within limits old births sound) free u next; birth = refl; after = after }
+  is_born = record {
+    key_free = inserted_free limits old new births key x sound.apart (born_within limits old births sound) free u next;
+    birth =
+        refl;
+    after = after;
+  }
 
   not_there : is_live g id ≡ false
   not_there = split (is_live g id) (λ t. let low = old_below g sound.lawful [] id t in absurd (omega arith)) (λ t. t)
@@ -86,15 +94,19 @@ module _ (limits : Limits) (old new : Slab Stored) (births key : ℕ) (x : Store
     frames = born_frames g sound.lawful (node ∷ []) (λ f r h k. one_indexes g sound.lawful node no_index f)
 
     -- an old node other than the file of a new record
-    pub old_kept : (k : ℕ) (y : Stored) → get old k ≡ Some y → (is_file_shape (Some (shape_in_body y.body)) ≡ true → is_record_of (born_node g node) (record { key = k; birth = y.birth }) id ≡ false) → AgreesAt (born_node g node) k (vertex_of y)
+    pub old_kept : (k : ℕ) (y : Stored) → get old k ≡ Some y
+        → (is_file_shape (Some (shape_in_body y.body)) ≡ true → is_record_of (born_node g node) (record { key = k; birth = y.birth }) id ≡ false)
+        → AgreesAt (born_node g node) k (vertex_of y)
     old_kept k y e other =
         let n : NodeId = record { key = k; birth = y.birth } in
         let shape : shape_of g n ≡ Some (shape_in_body y.body) = ap shape_in (node_there limits old births sound.apart k y e) in
         beside_kept g (born_node g node) sound.lawful frames n (vertex_of y) (shape_in_body y.body) shape
         (λ h. (
           one_indexes g sound.lawful node no_index n,
-          (let count : record_count (born_node g node) n ≡ record_count g n + count_by (is_record_of (born_node g node) n) (id ∷ []) = records_grown g sound.lawful (node ∷ []) n in
-              let none : count_by (is_record_of (born_node g node) n) (id ∷ []) ≡ 0 = count_cons (is_record_of (born_node g node) n) id [] ∙ ap (λ b. cond b 1 0 + 0) (other h) in
+          (let count : record_count (born_node g node) n ≡ record_count g n + count_by (is_record_of (born_node g node) n) (id ∷ []) =
+              records_grown g sound.lawful (node ∷ []) n in
+              let none : count_by (is_record_of (born_node g node) n) (id ∷ []) ≡ 0 =
+              count_cons (is_record_of (born_node g node) n) id [] ∙ ap (λ b. cond b 1 0 + 0) (other h) in
               omega arith),
         ))
         (sound.agree k y e)
@@ -104,14 +116,17 @@ module _ (limits : Limits) (old new : Slab Stored) (births key : ℕ) (x : Store
 
   module _ (plain : IsPlainBody x.body) (lawful : IsLawfulGraph (born_node g node)) (len : slab_len new ≡ slab_len old + 1) where
     not_record : (f : NodeId) → is_record_of (born_node g node) f id ≡ false
-    not_record f = ap (λ o. is_record_shape (shape_in o) && is_child (born_node g node) f id) there ∙ ap (λ b. b && is_child (born_node g node) f id) (plain_no_record x.body plain)
+    not_record f = ap (λ o. is_record_shape (shape_in o) && is_child (born_node g node) f id) there
+        ∙ ap (λ b. b && is_child (born_node g node) f id) (plain_no_record x.body plain)
 
     new_kept : (b : Body) → x.body ≡ b → IsPlainBody b → KeepsBeside (born_node g node) id (vertex_of (record x { body = b })) (shape_in_body b)
     new_kept body.Inner e p = tt
     new_kept (body.File kept) e p = (
       p.0 ∙ sym (one_indexes g sound.lawful node (plain_no_index x.body plain) id ∙ dead_indexes g sound.lawful id not_there),
       p.1
-          ∙ sym (records_grown g sound.lawful (node ∷ []) id ∙ ap₂ (λ a b. a + b) (dead_records g sound.lawful id not_there) (count_cons (is_record_of (born_node g node) id) id [] ∙ ap (λ b. cond b 1 0 + 0) (not_record id))),
+          ∙ sym (records_grown g sound.lawful (node ∷ []) id
+          ∙ ap₂ (λ a b. a + b) (dead_records g sound.lawful id not_there)
+          (count_cons (is_record_of (born_node g node) id) id [] ∙ ap (λ b. cond b 1 0 + 0) (not_record id))),
     )
     new_kept (body.Index kept) e p = absurd p
     new_kept (body.Interval place) e p = absurd p
@@ -125,7 +140,9 @@ module _ (limits : Limits) (old new : Slab Stored) (births key : ℕ) (x : Store
         (λ t.
         let here : k ≡ key = same_number k key t in
         let same : x ≡ y = some_is (sym u.changed ∙ ap (get new) (sym here) ∙ e) in
-        let is : AgreesAt (born_node g node) key (vertex_of x) = subst (λ b. KeepsBeside (born_node g node) (record { key = key; birth = b }) (vertex_of x) (shape_in_body x.body)) (sym next) (new_kept x.body refl plain) in
+        let is : AgreesAt (born_node g node) key (vertex_of x) =
+        subst (λ b. KeepsBeside (born_node g node) (record { key = key; birth = b }) (vertex_of x) (shape_in_body x.body)) (sym next)
+        (new_kept x.body refl plain) in
         subst (λ c. AgreesAt (born_node g node) c (vertex_of y)) (sym here) (subst (λ z. AgreesAt (born_node g node) key (vertex_of z)) same is))
         (λ t. old_kept (plain_no_index x.body plain) k y (sym (u.others k (other_number k key t)) ∙ e) (λ h. not_record (record { key = k; birth = y.birth })))
 

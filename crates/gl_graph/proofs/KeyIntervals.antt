@@ -1,5 +1,6 @@
 -- The interval of a key is the one that holds it.
-use Rattle.std.specs.Prelude.{◌≡◌, ℕ, zero, suc, ◌+◌, ◌<◌, ◌≤◌, ◌⊎◌, true, nat_le, List, [], ◌∷◌, ◌&&◌, length, Option, Some, None, slice_index_or, if◌then◌else◌}
+use Rattle.std.specs.Prelude.{◌≡◌, ℕ, zero, suc, ◌+◌, ◌<◌, ◌≤◌, ◌⊎◌, true, nat_le, List, [], ◌∷◌, ◌&&◌, length, Option, Some, None, slice_index_or}
+use Rattle.std.specs.Prelude.{if◌then◌else◌}
 use Rattle.std.proofs.Common.{refl, sym, ap, subst, arith, rules, add-one, ⊎_elim, ◌∙◌}
 use Rattle.std.proofs.lemmas.Bool.Decides.{nat_tests}
 use Rattle.gl_modes.proofs.Words.{and_both, both, no, none_some, some_is, split}
@@ -37,8 +38,15 @@ some_place (b ∷ bs) key rising =
     split (nat_le b key)
     (λ e.
     let low : b ≤ key = grind (arith, nat_tests) in
-    let rest = some_place bs key rising.1 in
-    (suc rest.0, record { within = let w = rest.1.within in omega arith; before = before_more b bs key rest.0 low rest.1; after = after_more b bs key rest.0 rest.1 }))
+    let rest = some_place bs key rising.1 in (
+      suc rest.0,
+      record {
+        within = let w = rest.1.within in omega arith;
+        before = before_more b bs key rest.0 low rest.1;
+        after =
+            after_more b bs key rest.0 rest.1;
+      },
+    ))
     (λ e.
     let high : key < b = grind (arith, nat_tests) in
     (0, record { within = omega arith; before = λ j h. absurd (omega arith); after = all_above b bs key rising high }))
@@ -65,7 +73,8 @@ same_or_less i j h = search rules
 
 -- rising numbers, one not before another
 not_below : (xs : List ℕ) (i j : ℕ) → IsRising xs → i ≤ j → j < length xs → slice_index_or xs i 0 ≤ slice_index_or xs j 0
-not_below xs i j rising le low = ⊎_elim (λ h. let r = rising_at xs i j rising h low in omega arith) (λ e. let same = ap (λ k. slice_index_or xs k 0) e in omega arith) (same_or_less i j le)
+not_below xs i j rising le low = ⊎_elim (λ h. let r = rising_at xs i j rising h low in omega arith)
+    (λ e. let same = ap (λ k. slice_index_or xs k 0) e in omega arith) (same_or_less i j le)
 
 -- and there alone
 held_there : (bs : List ℕ) (key k : ℕ) → IsRising (0 ∷ bs) → k ≤ length bs → HoldsKey bs k key → IsPlace bs key k

@@ -21,17 +21,20 @@ rising_at (b ∷ bs) (suc i) zero h low high = absurd (omega arith)
 rising_at (b ∷ bs) (suc i) (suc j) h low high = rising_at bs i j h.1 (omega arith) (omega arith)
 
 -- not above the key before place k, above it from there on: k bounds are not above it
-pub place_counted : (bs : List ℕ) (key k : ℕ) → k ≤ length bs → ((j : ℕ) → j < k → slice_index_or bs j 0 ≤ key) → ((j : ℕ) → k ≤ j → j < length bs → key < slice_index_or bs j 0) → k ≡ interval_place bs key
+pub place_counted : (bs : List ℕ) (key k : ℕ) → k ≤ length bs → ((j : ℕ) → j < k → slice_index_or bs j 0 ≤ key)
+    → ((j : ℕ) → k ≤ j → j < length bs → key < slice_index_or bs j 0) → k ≡ interval_place bs key
 place_counted [] key k low begins ends = omega arith
 place_counted (b ∷ bs) key zero low begins ends =
     let above : key < b = ends 0 (omega arith) (omega arith) in
     let test : nat_le b key ≡ false = grind (arith, nat_tests) in
     let rest = place_counted bs key 0 (omega arith) (λ j h. absurd (omega arith)) (λ j h l. ends (suc j) (omega arith) (omega arith)) in
-    let here : interval_place (b ∷ bs) key ≡ 0 + interval_place bs key = sum_by-cons (λ x. cond (nat_le x key) 1 0) b bs ∙ ap (λ t. cond t 1 0 + interval_place bs key) test in
+    let here : interval_place (b ∷ bs) key ≡ 0 + interval_place bs key =
+    sum_by-cons (λ x. cond (nat_le x key) 1 0) b bs ∙ ap (λ t. cond t 1 0 + interval_place bs key) test in
     omega arith
 place_counted (b ∷ bs) key (suc k) low begins ends =
     let below : b ≤ key = begins 0 (omega arith) in
     let test : nat_le b key ≡ true = grind (arith, nat_tests) in
     let rest = place_counted bs key k (omega arith) (λ j h. begins (suc j) (omega arith)) (λ j h l. ends (suc j) (omega arith) (omega arith)) in
-    let here : interval_place (b ∷ bs) key ≡ 1 + interval_place bs key = sum_by-cons (λ x. cond (nat_le x key) 1 0) b bs ∙ ap (λ t. cond t 1 0 + interval_place bs key) test in
+    let here : interval_place (b ∷ bs) key ≡ 1 + interval_place bs key =
+    sum_by-cons (λ x. cond (nat_le x key) 1 0) b bs ∙ ap (λ t. cond t 1 0 + interval_place bs key) test in
     omega arith

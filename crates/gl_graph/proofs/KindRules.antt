@@ -7,8 +7,10 @@ use Rattle.gl_modes.proofs.NodeLemmas.{node_is, same_node-equal, same_node-refl}
 use Rattle.gl_modes.proofs.Words.{cases_of, or_elim, or_left, and_both, both, no}
 use Rattle.gl_modes.specs.declared.node.NodeId.{NodeId}
 use Rattle.gl_modes.specs.Nodes.{same_node}
-use Rattle.gl_graph.specs.Shapes.{Shape, Inner, File, Index, Interval, Rec, is_inner_shape, is_file_shape, is_record_shape, is_index_shape, is_index_of_shape, bounds_in}
-use Rattle.gl_graph.specs.Graph.{Graph, Node, nodes, node_at, is_live, shape_in, shape_of, parents_in, is_child, indexes_of, interval, interval_of, interval_place, intervals_of, record_parents, key_or_zero}
+use Rattle.gl_graph.specs.Shapes.{Shape, Inner, File, Index, Interval, Rec, is_inner_shape, is_file_shape, is_record_shape, is_index_shape}
+use Rattle.gl_graph.specs.Shapes.{is_index_of_shape, bounds_in}
+use Rattle.gl_graph.specs.Graph.{Graph, Node, nodes, node_at, is_live, shape_in, shape_of, parents_in, is_child, indexes_of, interval, interval_of}
+use Rattle.gl_graph.specs.Graph.{interval_place, intervals_of, record_parents, key_or_zero}
 use Rattle.gl_graph.specs.Lawful.{are_inner, AreInnerParents, IsIndexNode, HasShape, IsWellFormed, IsLawfulGraph}
 use Rattle.gl_graph.proofs.Look.{all_at, all_filter, found_at, shaped_node, child_node, there_is}
 
@@ -73,16 +75,20 @@ module _ (g : Graph) (law : IsLawfulGraph g) where
       (subst (λ sh. HasShape g n sh there.0.parents) there.2 well).1
 
   -- the interval of an index in which a key lies
-  pub interval_is : (f i : NodeId) (k : ℕ) → is_index_of_shape f (shape_of g i) ≡ true → node_at g (interval_of g i k) ≡ Some (record { key = (interval_of g i k).key; shape = Interval (interval_place (bounds_in (shape_of g i)) k); parents = i ∷ [] })
+  pub interval_is : (f i : NodeId) (k : ℕ) → is_index_of_shape f (shape_of g i) ≡ true
+      → node_at g (interval_of g i k) ≡ Some
+      (record { key = (interval_of g i k).key; shape = Interval (interval_place (bounds_in (shape_of g i)) k); parents = i ∷ [] })
   interval_is f i k h =
       let index = index_of f (shape_of g i) h in
       let node = index_node i index.0 index.1 index.2 in
-      let low : interval_place (bounds_in (shape_of g i)) k ≤ length (bounds_in (shape_of g i)) = count_by-le-length (λ b. nat_le b k) (bounds_in (shape_of g i)) in
+      let low : interval_place (bounds_in (shape_of g i)) k ≤ length (bounds_in (shape_of g i)) =
+      count_by-le-length (λ b. nat_le b k) (bounds_in (shape_of g i)) in
       let few : length (bounds_in (shape_of g i)) ≡ length index.1 = ap (λ o. length (bounds_in o)) index.2 in
       node.intervals (interval_place (bounds_in (shape_of g i)) k) (omega arith)
 
   -- no record is a parent
-  among_intervals : (f p : NodeId) (is : List NodeId) (keys : List ℕ) → list_all (λ i. is_index_of_shape f (shape_of g i)) is ≡ true → list_any (same_node p) (intervals_of g is keys) ≡ true → is_plain (shape_of g p) ≡ true
+  among_intervals : (f p : NodeId) (is : List NodeId) (keys : List ℕ) → list_all (λ i. is_index_of_shape f (shape_of g i)) is ≡ true
+      → list_any (same_node p) (intervals_of g is keys) ≡ true → is_plain (shape_of g p) ≡ true
   among_intervals f p [] keys h k = absurd (no k)
   among_intervals f p (i ∷ is) [] h k = absurd (no k)
   among_intervals f p (i ∷ is) (key ∷ keys) h k =
@@ -91,7 +97,8 @@ module _ (g : Graph) (law : IsLawfulGraph g) where
       (λ here. let it = interval_is f i key t.0 in ap (λ q. is_plain (shape_of g q)) (same_node-equal p _ here) ∙ ap (λ o. is_plain (shape_in o)) it)
       (λ there. among_intervals f p is keys t.1 there)
 
-  pub record_parent_plain : (f p : NodeId) (keys : List ℕ) → is_file_shape (shape_of g f) ≡ true → list_any (same_node p) (record_parents g f keys) ≡ true → is_plain (shape_of g p) ≡ true
+  pub record_parent_plain : (f p : NodeId) (keys : List ℕ) → is_file_shape (shape_of g f) ≡ true
+      → list_any (same_node p) (record_parents g f keys) ≡ true → is_plain (shape_of g p) ≡ true
   record_parent_plain f p keys h k =
       or_elim _ _ k
       (λ here. ap (λ q. is_plain (shape_of g q)) (same_node-equal p f here) ∙ file_plain _ h)
@@ -102,7 +109,8 @@ module _ (g : Graph) (law : IsLawfulGraph g) where
   parent_plain_of (File adopted) ps n p h k = inner_plain _ (all_at (λ q. is_inner_shape (shape_of g q)) ps p k h.inner)
   parent_plain_of (Index f bs) ps n p h k = inner_plain _ (all_at (λ q. is_inner_shape (shape_of g q)) ps p k h.0.inner)
   parent_plain_of (Interval place) ps n p h k =
-      or_elim _ _ (sym (ap (list_any (same_node p)) h.1) ∙ k) (λ here. ap (λ q. is_plain (shape_of g q)) (same_node-equal p h.0 here) ∙ index_plain _ h.2) (λ none. absurd (no none))
+      or_elim _ _ (sym (ap (list_any (same_node p)) h.1) ∙ k)
+      (λ here. ap (λ q. is_plain (shape_of g q)) (same_node-equal p h.0 here) ∙ index_plain _ h.2) (λ none. absurd (no none))
   parent_plain_of (Rec keys) ps n p h k = record_parent_plain h.0 p keys h.1.file_is (sym (ap (list_any (same_node p)) h.1.parents) ∙ k)
 
   pub parent_plain : (n p : NodeId) → is_child g p n ≡ true → is_plain (shape_of g p) ≡ true
@@ -118,7 +126,8 @@ module _ (g g' : Graph) (law : IsLawfulGraph g) (same : Frames g g') where
   pub parents_kept : (least : ℕ) (ps : List NodeId) → AreInnerParents g least ps → AreInnerParents g' least ps
   parents_kept least ps a = record { enough = a.enough; few = a.few; inner = inner_kept ps a.inner; distinct = a.distinct }
 
-  pub interval_kept : (n : NodeId) (place : ℕ) (node : Node) → node_at g (interval g n place) ≡ Some node → node.shape ≡ Interval place → interval g' n place ≡ interval g n place
+  pub interval_kept : (n : NodeId) (place : ℕ) (node : Node) → node_at g (interval g n place) ≡ Some node → node.shape ≡ Interval place
+      → interval g' n place ≡ interval g n place
   interval_kept n place node e shape =
       let was = found_at g (interval g n place) node e in
       let is = found_at g' (interval g n place) node (same.intervals (interval g n place) place node e shape) in
@@ -131,10 +140,12 @@ module _ (g g' : Graph) (law : IsLawfulGraph g) (same : Frames g g') where
     rising = h.rising;
     intervals = λ place low.
         let e = h.intervals place low in
-        subst (λ q. node_at g' q ≡ Some (record { key = q.key; shape = Interval place; parents = n ∷ [] })) (sym (interval_kept n place _ e refl)) (same.intervals (interval g n place) place _ e refl);
+        subst (λ q. node_at g' q ≡ Some (record { key = q.key; shape = Interval place; parents = n ∷ [] })) (sym (interval_kept n place _ e refl))
+        (same.intervals (interval g n place) place _ e refl);
   }
 
-  pub intervals_kept : (f : NodeId) (is : List NodeId) (keys : List ℕ) → list_all (λ i. is_index_of_shape f (shape_of g i)) is ≡ true → intervals_of g' is keys ≡ intervals_of g is keys
+  pub intervals_kept : (f : NodeId) (is : List NodeId) (keys : List ℕ) → list_all (λ i. is_index_of_shape f (shape_of g i)) is ≡ true
+      → intervals_of g' is keys ≡ intervals_of g is keys
   intervals_kept f [] keys h = refl
   intervals_kept f (i ∷ is) [] h = refl
   intervals_kept f (i ∷ is) (key ∷ keys) h =
@@ -148,10 +159,12 @@ module _ (g g' : Graph) (law : IsLawfulGraph g) (same : Frames g g') where
 
   pub record_parents_kept : (f : NodeId) (keys : List ℕ) → indexes_of g' f ≡ indexes_of g f → record_parents g' f keys ≡ record_parents g f keys
   record_parents_kept f keys e =
-      ap (λ xs. f ∷ xs) (ap (λ is. intervals_of g' is keys) e ∙ intervals_kept f (indexes_of g f) keys (all_filter (λ i. is_index_of_shape f (shape_of g i)) (nodes g)))
+      ap (λ xs. f ∷ xs) (ap (λ is. intervals_of g' is keys) e
+      ∙ intervals_kept f (indexes_of g f) keys (all_filter (λ i. is_index_of_shape f (shape_of g i)) (nodes g)))
 
   -- what its kind asks of a node is kept
-  pub shape_kept : (sh : Shape) (ps : List NodeId) (n : NodeId) (node : Node) → node_at g n ≡ Some node → node.shape ≡ sh → node.parents ≡ ps → HasShape g n sh ps → HasShape g' n sh ps
+  pub shape_kept : (sh : Shape) (ps : List NodeId) (n : NodeId) (node : Node) → node_at g n ≡ Some node → node.shape ≡ sh → node.parents ≡ ps
+      → HasShape g n sh ps → HasShape g' n sh ps
   shape_kept Inner ps n node e es ep h = parents_kept 0 ps h
   shape_kept (File adopted) ps n node e es ep h = parents_kept 1 ps h
   shape_kept (Index f bs) ps n node e es ep h = (parents_kept 1 ps h.0, index_kept n f bs h.1)
@@ -164,7 +177,8 @@ module _ (g g' : Graph) (law : IsLawfulGraph g) (same : Frames g g') where
         h.4 ∙ sym (interval_kept h.0 place node (subst (λ q. node_at g q ≡ Some node) h.4 e) es),
       )
   shape_kept (Rec keys) ps n node e es ep h =
-      let child : is_child g h.0 n ≡ true = ap (λ o. list_any (same_node h.0) (parents_in o)) e ∙ ap (list_any (same_node h.0)) (ep ∙ h.1.parents) ∙ or_left _ _ (same_node-refl h.0) in
+      let child : is_child g h.0 n ≡ true =
+      ap (λ o. list_any (same_node h.0) (parents_in o)) e ∙ ap (list_any (same_node h.0)) (ep ∙ h.1.parents) ∙ or_left _ _ (same_node-refl h.0) in
       let rec : is_record_shape (shape_of g n) ≡ true = ap (λ o. is_record_shape (shape_in o)) e ∙ ap (λ x. is_record_shape (Some x)) es in (
         h.0,
         record {

@@ -3,7 +3,8 @@ use Rattle.std.specs.Prelude.{◌≡◌, true, ◌&&◌, [], ◌∷◌, Option, 
 use Rattle.std.proofs.Common.{refl, sym, ap, subst, arith}
 use Rattle.gl_modes.specs.declared.node.NodeId.{NodeId}
 use Rattle.gl_graph.specs.declared.kind.Kind.TheVariants as kind
-use Rattle.gl_graph.specs.Shapes.{Shape, Inner, File, Index, Interval, Rec, kind_in, is_inner_shape, is_file_shape, is_index_shape, is_record_shape, is_movable_shape, least_parents}
+use Rattle.gl_graph.specs.Shapes.{Shape, Inner, File, Index, Interval, Rec, kind_in, is_inner_shape, is_file_shape, is_index_shape, is_record_shape}
+use Rattle.gl_graph.specs.Shapes.{is_movable_shape, least_parents}
 use Rattle.gl_graph.specs.Graph.{Graph, shape_of}
 use Rattle.gl_graph.specs.Lawful.{AreInnerParents}
 
@@ -48,7 +49,8 @@ inner_movable (Some (Interval place)) e = cc
 inner_movable (Some (Rec keys)) e = cc
 
 -- one inner node can be the parent of an inner node
-pub one_parent : (g : Graph) (n p : NodeId) → kind_in (shape_of g n) ≡ Some kind.Inner → kind_in (shape_of g p) ≡ Some kind.Inner → AreInnerParents g (least_parents (shape_of g n)) (p ∷ [])
+pub one_parent : (g : Graph) (n p : NodeId) → kind_in (shape_of g n) ≡ Some kind.Inner → kind_in (shape_of g p) ≡ Some kind.Inner
+    → AreInnerParents g (least_parents (shape_of g n)) (p ∷ [])
 one_parent g n p e f =
     subst (λ least. AreInnerParents g least (p ∷ [])) (sym (inner_movable (shape_of g n) e).1)
     (record { enough = omega arith; few = omega arith; inner = ap (λ b. b && true) (inner_kind (shape_of g p) f); distinct = refl })

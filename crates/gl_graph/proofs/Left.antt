@@ -35,7 +35,8 @@ module _ (g : Graph) (law : IsLawfulGraph g) (r : NodeId) (live : is_live g r �
   abbrev pub later : List NodeId
   later = filter_map (λ b. id_of b (g.at b)) (range_with_len (r.birth + 1) (g.births - r.birth))
 
-  cut : (h : ℕ → Option NodeId) → filter_map h (range_with_len 1 g.births) ≡ filter_map h (range_with_len 1 (r.birth - 1)) ++ cons_option (h r.birth) (filter_map h (range_with_len (r.birth + 1) (g.births - r.birth)))
+  cut : (h : ℕ → Option NodeId) → filter_map h (range_with_len 1 g.births) ≡ filter_map h (range_with_len 1 (r.birth - 1))
+      ++ cons_option (h r.birth) (filter_map h (range_with_len (r.birth + 1) (g.births - r.birth)))
   cut h =
       let w = within in
       ap (filter_map h) (range_append 1 (r.birth - 1) (suc (g.births - r.birth)) g.births r.birth (omega arith) (omega arith))
@@ -51,7 +52,8 @@ module _ (g : Graph) (law : IsLawfulGraph g) (r : NodeId) (live : is_live g r �
       cut (λ b. id_of b ((without_node g r).at b))
       ∙ ap₂ (λ xs ys. xs ++ cons_option (id_of r.birth ((without_node g r).at r.birth)) ys)
       (map_same (λ b. id_of b (g.at b)) (λ b. id_of b ((without_node g r).at b)) 1 (r.birth - 1) (λ b low high. ap (id_of b) (beside b (omega arith))))
-      (map_same (λ b. id_of b (g.at b)) (λ b. id_of b ((without_node g r).at b)) (r.birth + 1) (g.births - r.birth) (λ b low high. ap (id_of b) (beside b (omega arith))))
+      (map_same (λ b. id_of b (g.at b)) (λ b. id_of b ((without_node g r).at b)) (r.birth + 1) (g.births - r.birth)
+      (λ b low high. ap (id_of b) (beside b (omega arith))))
       ∙ ap (λ o. earlier ++ cons_option (id_of r.birth o) later) (ap (λ x. cond x None (g.at r.birth)) (number_same r.birth r.birth refl))
     where
       beside : (b : ℕ) → b ≢ r.birth → (without_node g r).at b ≡ g.at b
@@ -59,8 +61,10 @@ module _ (g : Graph) (law : IsLawfulGraph g) (r : NodeId) (live : is_live g r �
 
   pub count_there : (p : NodeId → Bool) → count_by p (nodes g) ≡ count_by p (nodes (without_node g r)) + cond (p r) 1 0
   count_there p =
-      let all : count_by p (nodes g) ≡ count_by p earlier + count_by p (r ∷ later) = ap (count_by p) nodes_there ∙ sum_by-append (λ x. cond (p x) 1 0) earlier (r ∷ later) in
-      let left : count_by p (nodes (without_node g r)) ≡ count_by p earlier + count_by p later = ap (count_by p) nodes_left ∙ sum_by-append (λ x. cond (p x) 1 0) earlier later in
+      let all : count_by p (nodes g) ≡ count_by p earlier + count_by p (r ∷ later) =
+      ap (count_by p) nodes_there ∙ sum_by-append (λ x. cond (p x) 1 0) earlier (r ∷ later) in
+      let left : count_by p (nodes (without_node g r)) ≡ count_by p earlier + count_by p later =
+      ap (count_by p) nodes_left ∙ sum_by-append (λ x. cond (p x) 1 0) earlier later in
       let one : count_by p (r ∷ later) ≡ cond (p r) 1 0 + count_by p later = count_cons p r later in
       omega arith
 
@@ -70,8 +74,12 @@ module _ (g : Graph) (law : IsLawfulGraph g) (r : NodeId) (live : is_live g r �
       let left : node_count (without_node g r) ≡ length earlier + length later = ap length nodes_left ∙ length-append earlier later in
       omega arith
 
-  pub records_there : (rec : is_record_shape (shape_in (node_at g r)) ≡ true) (f : NodeId) → record_count g f ≡ record_count (without_node g r) f + cond (is_record_of g f r) 1 0
+  pub records_there : (rec : is_record_shape (shape_in (node_at g r)) ≡ true) (f : NodeId)
+      → record_count g f ≡ record_count (without_node g r) f + cond (is_record_of g f r) 1 0
   records_there rec f =
       count_there (is_record_of g f)
-      ∙ ap (λ k. k + cond (is_record_of g f r) 1 0) (count_same (is_live (without_node g r)) (is_record_of (without_node g r) f) (is_record_of g f) (nodes (without_node g r)) (nodes_live (without_node g r))
-      (λ q h. let n = live_node (node_at (without_node g r) q) h in ap (λ o. is_record_shape (shape_in o) && list_any (same_node f) (parents_in o)) (was_there g law r rec q n.0 n.1 ∙ sym n.1)))
+      ∙ ap (λ k. k + cond (is_record_of g f r) 1 0)
+      (count_same (is_live (without_node g r)) (is_record_of (without_node g r) f) (is_record_of g f) (nodes (without_node g r))
+      (nodes_live (without_node g r))
+      (λ q h. let n = live_node (node_at (without_node g r) q) h in
+      ap (λ o. is_record_shape (shape_in o) && list_any (same_node f) (parents_in o)) (was_there g law r rec q n.0 n.1 ∙ sym n.1)))

@@ -15,18 +15,22 @@ pub filter_of_map : (p : NodeId → Bool) (h : ℕ → Option NodeId) (bs : List
 filter_of_map p h [] = refl
 filter_of_map p h (b ∷ bs) = by (h b) (filter_of_map p h bs)
   where
-    by : (o : Option NodeId) → filter p (filter_map h bs) ≡ filter_map (λ c. kept p (h c)) bs → filter p (cons_option o (filter_map h bs)) ≡ cons_option (kept p o) (filter_map (λ c. kept p (h c)) bs)
+    by : (o : Option NodeId) → filter p (filter_map h bs) ≡ filter_map (λ c. kept p (h c)) bs
+        → filter p (cons_option o (filter_map h bs)) ≡ cons_option (kept p o) (filter_map (λ c. kept p (h c)) bs)
     by None e = e
     by (Some x) e =
-        split (p x) (λ t. ap (λ z. if z then x ∷ filter p (filter_map h bs) else filter p (filter_map h bs)) t ∙ ap (λ xs. x ∷ xs) e ∙ sym (ap (λ z. cons_option (if z then Some x else None) (filter_map (λ c. kept p (h c)) bs)) t))
-        (λ t. ap (λ z. if z then x ∷ filter p (filter_map h bs) else filter p (filter_map h bs)) t ∙ e ∙ sym (ap (λ z. cons_option (if z then Some x else None) (filter_map (λ c. kept p (h c)) bs)) t))
+        split (p x) (λ t. ap (λ z. if z then x ∷ filter p (filter_map h bs) else filter p (filter_map h bs)) t ∙ ap (λ xs. x ∷ xs) e
+        ∙ sym (ap (λ z. cons_option (if z then Some x else None) (filter_map (λ c. kept p (h c)) bs)) t))
+        (λ t. ap (λ z. if z then x ∷ filter p (filter_map h bs) else filter p (filter_map h bs)) t ∙ e
+        ∙ sym (ap (λ z. cons_option (if z then Some x else None) (filter_map (λ c. kept p (h c)) bs)) t))
 
 pub range_append : (a n m k c : ℕ) → n + m ≡ k → a + n ≡ c → range_with_len a k ≡ range_with_len a n ++ range_with_len c m
 range_append a zero m k c e f = let same : k ≡ m = omega arith in let from : a ≡ c = omega arith in ap₂ range_with_len from same
 range_append a (suc n) m zero c e f = absurd (omega arith)
 range_append a (suc n) m (suc k) c e f = ap (λ xs. a ∷ xs) (range_append (a + 1) n m k c (omega arith) (omega arith))
 
-pub map_same : (h h' : ℕ → Option NodeId) (a n : ℕ) → ((b : ℕ) → a ≤ b → b < a + n → h' b ≡ h b) → filter_map h' (range_with_len a n) ≡ filter_map h (range_with_len a n)
+pub map_same : (h h' : ℕ → Option NodeId) (a n : ℕ) → ((b : ℕ) → a ≤ b → b < a + n → h' b ≡ h b)
+    → filter_map h' (range_with_len a n) ≡ filter_map h (range_with_len a n)
 map_same h h' a zero same = refl
 map_same h h' a (suc n) same = ap₂ cons_option (same a (omega arith) (omega arith)) (map_same h h' (a + 1) n (λ b low high. same b (omega arith) (omega arith)))
 
@@ -42,8 +46,10 @@ pub map_short : (h : ℕ → Option NodeId) (bs : List ℕ) → length (filter_m
 map_short h [] = omega arith
 map_short h (b ∷ bs) = let one = cons_short (h b) (filter_map h bs) in let rest = map_short h bs in omega arith
 
-cons_fewer : (o o' : Option NodeId) (xs xs' : List NodeId) → (o' ≡ o) ⊎ (o' ≡ None) → length xs' ≤ length xs → length (cons_option o' xs') ≤ length (cons_option o xs)
-cons_fewer o o' xs xs' e le = ⊎_elim (λ same. subst (λ (x : Option NodeId). length (cons_option x xs') ≤ length (cons_option o xs)) (sym same) (grown o)) (λ none. subst (λ (x : Option NodeId). length (cons_option x xs') ≤ length (cons_option o xs)) (sym none) (gone o)) e
+cons_fewer : (o o' : Option NodeId) (xs xs' : List NodeId) → (o' ≡ o) ⊎ (o' ≡ None) → length xs' ≤ length xs
+    → length (cons_option o' xs') ≤ length (cons_option o xs)
+cons_fewer o o' xs xs' e le = ⊎_elim (λ same. subst (λ (x : Option NodeId). length (cons_option x xs') ≤ length (cons_option o xs)) (sym same)
+    (grown o)) (λ none. subst (λ (x : Option NodeId). length (cons_option x xs') ≤ length (cons_option o xs)) (sym none) (gone o)) e
   where
     grown : (x : Option NodeId) → length (cons_option x xs') ≤ length (cons_option x xs)
     grown None = le

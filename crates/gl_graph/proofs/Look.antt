@@ -41,7 +41,8 @@ there_is o x e = ap is_some e
 
 pub child_node : (g : Graph) (n p : NodeId) → is_child g p n ≡ true → (node : Node) × (node_at g n ≡ Some node) × (list_any (same_node p) node.parents ≡ true)
 child_node g n p h =
-    cases_of (node_at g n) (λ e. absurd (no (sym (ap (λ o. list_any (same_node p) (parents_in o)) e) ∙ h))) (λ x e. (x, e, sym (ap (λ o. list_any (same_node p) (parents_in o)) e) ∙ h))
+    cases_of (node_at g n) (λ e. absurd (no (sym (ap (λ o. list_any (same_node p) (parents_in o)) e) ∙ h)))
+    (λ x e. (x, e, sym (ap (λ o. list_any (same_node p) (parents_in o)) e) ∙ h))
 
 pub child_live : (g : Graph) (n p : NodeId) → is_child g p n ≡ true → is_live g n ≡ true
 child_live g n p h = ap is_some (child_node g n p h).1

@@ -7,10 +7,13 @@ use Rattle.gl_modes.proofs.NodeLemmas.{node_is}
 use Rattle.gl_modes.proofs.Words.{no, none_some, some_is, number_same}
 use Rattle.gl_modes.specs.declared.node.NodeId.{NodeId}
 use Rattle.gl_modes.specs.Nodes.{same_node}
-use Rattle.gl_graph.specs.Shapes.{Shape, Inner, File, Index, Interval, Rec, kind_in, is_inner_shape, is_file_shape, is_adopted, is_record_shape, is_index_shape, is_index_of_shape, is_movable_shape}
+use Rattle.gl_graph.specs.Shapes.{Shape, Inner, File, Index, Interval, Rec, kind_in, is_inner_shape, is_file_shape, is_adopted, is_record_shape}
+use Rattle.gl_graph.specs.Shapes.{is_index_shape, is_index_of_shape, is_movable_shape}
 use Rattle.gl_graph.specs.Shapes.{least_parents, bounds_in, keys_in, place_in}
-use Rattle.gl_graph.specs.Graph.{Graph, Node, with_key, node_at, is_live, parents_in, parents_of, shape_in, shape_of, id_of, nodes, node_count, is_child, indexes_of}
-use Rattle.gl_graph.specs.Graph.{interval_place, key_or_zero, interval, interval_at, interval_of, intervals_of, record_parents, is_record_of, first_in, first_parent}
+use Rattle.gl_graph.specs.Graph.{Graph, Node, with_key, node_at, is_live, parents_in, parents_of, shape_in, shape_of, id_of, nodes, node_count}
+use Rattle.gl_graph.specs.Graph.{is_child, indexes_of}
+use Rattle.gl_graph.specs.Graph.{interval_place, key_or_zero, interval, interval_at, interval_of, intervals_of, record_parents, is_record_of}
+use Rattle.gl_graph.specs.Graph.{first_in, first_parent}
 use Rattle.gl_graph.specs.Routes.{IsRoute}
 use Rattle.gl_graph.specs.Lawful.{HasShape, IsWellFormed, IsLawfulGraph}
 use Rattle.gl_graph.specs.Changes.{marked_shape, marked_node, marked, with_node}
@@ -154,7 +157,8 @@ module _ (g : Graph) (f : NodeId) where
   marked_interval_at index place =
       let o = shape_of (marked g f) index in
       ap (λ n. if is_index_shape o && nat_le place (length (bounds_in o)) then Some n else None) (marked_interval index place)
-      ∙ ap₂ (λ (b : Bool) (bs : List ℕ). if b && nat_le place (length bs) then Some (interval g index place) else None) (marked_index index) (marked_bounds index)
+      ∙ ap₂ (λ (b : Bool) (bs : List ℕ). if b && nat_le place (length bs) then Some (interval g index place) else None) (marked_index index)
+      (marked_bounds index)
 
   pub marked_interval_of : (index : NodeId) (key : ℕ) → interval_of (marked g f) index key ≡ interval_of g index key
   marked_interval_of index key =
@@ -228,7 +232,8 @@ module _ (g : Graph) (f : NodeId) where
         there (Some x) = refl
 
 -- the node of the file is written with the mark, and no other
-pub marked_is : (g : Graph) (n : NodeId) (was : Node) → node_at g n ≡ Some was → with_node g n.birth (record was { shape = marked_shape was.shape }) ≡ marked g n
+pub marked_is : (g : Graph) (n : NodeId) (was : Node) → node_at g n ≡ Some was
+    → with_node g n.birth (record was { shape = marked_shape was.shape }) ≡ marked g n
 marked_is g n was e =
     graph_at g (marked g n).at n (record was { shape = marked_shape was.shape })
     (λ b same. ap (λ x. if x then marked_node (g.at b) else g.at b) (number_same b n.birth same) ∙ ap marked_node (ap g.at same ∙ (found_at g n was e).0))

@@ -8,26 +8,30 @@ use Rattle.gl_modes.proofs.Words.{split, or_elim, or_left, or_right, no, same_nu
 use Rattle.gl_modes.specs.declared.node.NodeId.{NodeId}
 use Rattle.gl_modes.specs.Nodes.{same_node}
 use Rattle.gl_graph.specs.Shapes.{Shape, Inner, File, Index, Interval, Rec, is_file_shape, is_record_shape, is_index_of_shape, is_movable_shape, keys_in}
-use Rattle.gl_graph.specs.Graph.{Graph, Node, node_count, node_at, is_live, parents_in, parents_of, shape_in, shape_of, is_child, indexes_of, record_parents, first_in, first_parent}
+use Rattle.gl_graph.specs.Graph.{Graph, Node, node_count, node_at, is_live, parents_in, parents_of, shape_in, shape_of, is_child, indexes_of}
+use Rattle.gl_graph.specs.Graph.{record_parents, first_in, first_parent}
 use Rattle.gl_graph.specs.Routes.{IsRoute, is_at_or_below}
 use Rattle.gl_graph.specs.Lawful.{AreInnerParents, HasShape, IsLawfulGraph}
 use Rattle.gl_graph.specs.Changes.{with_node, reparented, with_parents, keys_with, rekeyed_keys, rekeyed_parents, rekeyed_node, rekeyed}
 use Rattle.gl_graph.specs.Shapes.{least_parents}
 use Rattle.gl_graph.proofs.Look.{all_at, found_at}
-use Rattle.gl_graph.proofs.KindRules.{Frames, is_plain, file_plain, plain_live, rec_not_plain, parent_plain, record_parent_plain, parents_kept, index_kept, record_parents_kept, one_shape}
+use Rattle.gl_graph.proofs.KindRules.{Frames, is_plain, file_plain, plain_live, rec_not_plain, parent_plain, record_parent_plain, parents_kept}
+use Rattle.gl_graph.proofs.KindRules.{index_kept, record_parents_kept, one_shape}
 use Rattle.gl_graph.proofs.Changed.{IsAlike, changed_frames, changed_lawful, indexes_same}
 use Rattle.gl_graph.proofs.RouteLengths.{route_short}
 
 pub some_at : (q : NodeId → Bool) (ps : List NodeId) (p : NodeId) → list_any (same_node p) ps ≡ true → q p ≡ true → list_any q ps ≡ true
 some_at q [] p h k = absurd (no h)
-some_at q (x ∷ xs) p h k = or_elim _ _ h (λ here. or_left (q x) _ (ap q (sym (same_node-equal p x here)) ∙ k)) (λ there. or_right (q x) _ (some_at q xs p there k))
+some_at q (x ∷ xs) p h k = or_elim _ _ h (λ here. or_left (q x) _ (ap q (sym (same_node-equal p x here)) ∙ k))
+    (λ there. or_right (q x) _ (some_at q xs p there k))
 
 -- p is n or has a route to n: by at most k steps, both ways
 pub below_found : (g : Graph) (n : NodeId) (k : ℕ) (p : NodeId) (way : List NodeId) → length way ≤ k → IsRoute g p way n → is_at_or_below k g n p ≡ true
 below_found g n zero p [] few r = same_node-from_equal n p (sym r)
 below_found g n zero p (q ∷ way) few r = absurd (omega arith)
 below_found g n (suc k) p [] few r = or_left _ _ (same_node-from_equal n p (sym r))
-below_found g n (suc k) p (q ∷ way) few r = or_right (same_node n p) _ (some_at (is_at_or_below k g n) (parents_of g p) q r.0 (below_found g n k q way (omega arith) r.1))
+below_found g n (suc k) p (q ∷ way) few r =
+    or_right (same_node n p) _ (some_at (is_at_or_below k g n) (parents_of g p) q r.0 (below_found g n k q way (omega arith) r.1))
 
 -- where some pass one is found
 pub any_found : (q : NodeId → Bool) (ps : List NodeId) → list_any q ps ≡ true → (p : NodeId) × (list_any (same_node p) ps ≡ true) × (q p ≡ true)
@@ -44,18 +48,22 @@ below_route g n (suc k) p h =
     (step.0 ∷ rest.0, (step.1, rest.1)))
 
 -- with as many steps as there are nodes nothing is missed
-pub below_complete : (g : Graph) (law : IsLawfulGraph g) (n p : NodeId) (way : List NodeId) → is_live g p ≡ true → IsRoute g p way n → is_at_or_below (node_count g) g n p ≡ true
+pub below_complete : (g : Graph) (law : IsLawfulGraph g) (n p : NodeId) (way : List NodeId) → is_live g p ≡ true → IsRoute g p way n
+    → is_at_or_below (node_count g) g n p ≡ true
 below_complete g law n p way live r = below_found g n (node_count g) p way (let few = route_short g law p n way live r in omega arith) r
 
 -- a graph with one place changed
-pub graph_at : (g : Graph) (f : ℕ → Option Node) (n : NodeId) (is : Node) → ((b : ℕ) → b ≡ n.birth → f b ≡ Some is) → ((b : ℕ) → (b == n.birth) ≡ false → f b ≡ g.at b) → with_node g n.birth is ≡ record { at = f; births = g.births; most = g.most; most_bounds = g.most_bounds }
+pub graph_at : (g : Graph) (f : ℕ → Option Node) (n : NodeId) (is : Node) → ((b : ℕ) → b ≡ n.birth → f b ≡ Some is)
+    → ((b : ℕ) → (b == n.birth) ≡ false → f b ≡ g.at b)
+    → with_node g n.birth is ≡ record { at = f; births = g.births; most = g.most; most_bounds = g.most_bounds }
 graph_at g f n is here other =
     let e : (λ (b : ℕ). if b == n.birth then Some is else g.at b) ≡ f = fun_ext (λ b. split (b == n.birth)
     (λ h. ap (λ x. if x then Some is else g.at b) h ∙ sym (here b (same_number b n.birth h)))
     (λ h. ap (λ x. if x then Some is else g.at b) h ∙ sym (other b h))) in
     λ i. record { at = e i; births = g.births; most = g.most; most_bounds = g.most_bounds }
 
-pub with_parents_is : (g : Graph) (n : NodeId) (ps : List NodeId) (was : Node) → node_at g n ≡ Some was → with_node g n.birth (record was { parents = ps }) ≡ with_parents g n ps
+pub with_parents_is : (g : Graph) (n : NodeId) (ps : List NodeId) (was : Node) → node_at g n ≡ Some was
+    → with_node g n.birth (record was { parents = ps }) ≡ with_parents g n ps
 with_parents_is g n ps was e =
     graph_at g (with_parents g n ps).at n (record was { parents = ps })
     (λ b same. ap (λ x. if x then reparented ps (g.at b) else g.at b) (same_birth b same) ∙ ap (reparented ps) (ap g.at same ∙ (found_at g n was e).0))
@@ -73,7 +81,13 @@ rekeyed_is g r index key was e =
     (λ b h. ap (λ x. if x then rekeyed_node (rekeyed_keys g r index key) (rekeyed_parents g r index key) (g.at b) else g.at b) h)
 
 pub movable_alike : (sh : Shape) → is_movable_shape (Some sh) ≡ true → IsAlike sh sh
-movable_alike sh h = record { plain = λ k. one_shape _ _ refl; index = λ f. refl; rec = refl; no_interval = λ place e. no (sym (ap (λ x. is_movable_shape (Some x)) e) ∙ h) }
+movable_alike sh h = record {
+  plain = λ k. one_shape _ _ refl;
+  index = λ f. refl;
+  rec = refl;
+  no_interval =
+      λ place e. no (sym (ap (λ x. is_movable_shape (Some x)) e) ∙ h);
+}
 
 pub rec_alike : (was : Shape) (keys keys' : List ℕ) → was ≡ Rec keys → IsAlike was (Rec keys')
 rec_alike was keys keys' e = record {
@@ -85,34 +99,41 @@ rec_alike was keys keys' e = record {
 
 module _ (g : Graph) (law : IsLawfulGraph g) (n : NodeId) (was : Node) (there : node_at g n ≡ Some was) where
   -- a move
-  move_well : (ps : List NodeId) (g' : Graph) (sh : Shape) → was.shape ≡ sh → is_movable_shape (Some sh) ≡ true → Frames g g' → AreInnerParents g (least_parents (Some sh)) ps → HasShape g n sh was.parents → HasShape g' n sh ps
+  move_well : (ps : List NodeId) (g' : Graph) (sh : Shape) → was.shape ≡ sh → is_movable_shape (Some sh) ≡ true → Frames g g'
+      → AreInnerParents g (least_parents (Some sh)) ps → HasShape g n sh was.parents → HasShape g' n sh ps
   move_well ps g' Inner e m same inner h = parents_kept g g' law same 0 ps inner
   move_well ps g' (File adopted) e m same inner h = parents_kept g g' law same 1 ps inner
   move_well ps g' (Index f bs) e m same inner h = (parents_kept g g' law same 1 ps inner, index_kept g g' law same n f bs h.1)
   move_well ps g' (Interval place) e m same inner h = absurd (no m)
   move_well ps g' (Rec keys) e m same inner h = absurd (no m)
 
-  pub move_lawful : (ps : List NodeId) → is_movable_shape (Some was.shape) ≡ true → AreInnerParents g (least_parents (Some was.shape)) ps → list_all (is_live g) ps ≡ true
+  pub move_lawful : (ps : List NodeId) → is_movable_shape (Some was.shape) ≡ true → AreInnerParents g (least_parents (Some was.shape)) ps
+      → list_all (is_live g) ps ≡ true
       → list_all (λ p. not (is_at_or_below (node_count g) g n p)) ps ≡ true → IsLawfulGraph (with_parents g n ps)
   move_lawful ps movable inner live clear =
       let alike = movable_alike was.shape movable in
       subst IsLawfulGraph (with_parents_is g n ps was there)
       (changed_lawful g n was (record was { parents = ps }) there refl alike law
-      (move_well ps (with_node g n.birth (record was { parents = ps })) was.shape refl movable (changed_frames g n was (record was { parents = ps }) there refl alike) inner (law.well_formed n was there))
+      (move_well ps (with_node g n.birth (record was { parents = ps })) was.shape refl movable
+      (changed_frames g n was (record was { parents = ps }) there refl alike) inner (law.well_formed n was there))
       (λ p h. all_at (is_live g) ps p h live)
-      (λ p way h r. no (sym (ap not (below_complete g law n p way (all_at (is_live g) ps p h live) r)) ∙ all_at (λ q. not (is_at_or_below (node_count g) g n q)) ps p h clear)))
+      (λ p way h r. no (sym (ap not (below_complete g law n p way (all_at (is_live g) ps p h live) r))
+      ∙ all_at (λ q. not (is_at_or_below (node_count g) g n q)) ps p h clear)))
 
   -- no route leads to a record from what is none
   pub record_end : (p : NodeId) (way : List NodeId) → is_record_shape (shape_of g n) ≡ true → is_plain (shape_of g p) ≡ true → IsRoute g p way n → ⊥
   record_end p [] rec plain r = rec_not_plain (shape_of g n) rec (ap (λ q. is_plain (shape_of g q)) (sym r) ∙ plain)
   record_end p (q ∷ way) rec plain r = record_end q way rec (parent_plain g law p q r.0) r.1
 
-  pub file_of_record : (keys : List ℕ) → was.shape ≡ Rec keys → (is_file_shape (shape_of g (first_parent g n)) ≡ true) × (length keys ≡ length (indexes_of g (first_parent g n))) × (is_child g (first_parent g n) n ≡ true) × (was.parents ≡ record_parents g (first_parent g n) keys)
+  pub file_of_record : (keys : List ℕ) → was.shape ≡ Rec keys → (is_file_shape (shape_of g (first_parent g n)) ≡ true)
+      × (length keys ≡ length (indexes_of g (first_parent g n))) × (is_child g (first_parent g n) n ≡ true)
+      × (was.parents ≡ record_parents g (first_parent g n) keys)
   file_of_record keys e =
       let h = subst (λ sh. HasShape g n sh was.parents) e (law.well_formed n was there) in
       let ps : parents_of g n ≡ record_parents g h.0 keys = ap parents_in there ∙ h.1.parents in
       let first : first_parent g n ≡ h.0 = ap first_in ps in
-      subst (λ f. (is_file_shape (shape_of g f) ≡ true) × (length keys ≡ length (indexes_of g f)) × (is_child g f n ≡ true) × (was.parents ≡ record_parents g f keys)) (sym first)
+      subst (λ f. (is_file_shape (shape_of g f) ≡ true) × (length keys ≡ length (indexes_of g f)) × (is_child g f n ≡ true)
+      × (was.parents ≡ record_parents g f keys)) (sym first)
       (h.1.file_is, h.1.a_key_each, ap (list_any (same_node h.0)) ps ∙ or_left _ _ (same_node-refl h.0), h.1.parents)
 
   keys_with_length : (is : List NodeId) (keys : List ℕ) (index : NodeId) (key : ℕ) → length keys ≡ length is → length (keys_with is keys index key) ≡ length is
@@ -133,8 +154,10 @@ module _ (g : Graph) (law : IsLawfulGraph g) (n : NodeId) (was : Node) (there : 
         first_parent g n,
         record {
           file_is = (frames.shapes (first_parent g n) (file_plain _ file.0)).file ∙ file.0;
-          a_key_each = keys_with_length (indexes_of g (first_parent g n)) (keys_in (shape_of g n)) index key (ap length keys_are ∙ file.1) ∙ ap length (sym (indexes_same g n was is there refl alike (first_parent g n)));
-          parents = sym (record_parents_kept g (with_node g n.birth is) law frames (first_parent g n) (rekeyed_keys g n index key) (indexes_same g n was is there refl alike (first_parent g n)));
+          a_key_each = keys_with_length (indexes_of g (first_parent g n)) (keys_in (shape_of g n)) index key (ap length keys_are ∙ file.1)
+              ∙ ap length (sym (indexes_same g n was is there refl alike (first_parent g n)));
+          parents = sym (record_parents_kept g (with_node g n.birth is) law frames (first_parent g n) (rekeyed_keys g n index key)
+              (indexes_same g n was is there refl alike (first_parent g n)));
         },
       )
       (λ p h. plain_live g p (record_parent_plain g law (first_parent g n) p (rekeyed_keys g n index key) file.0 h))

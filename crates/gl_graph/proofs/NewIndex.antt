@@ -1,5 +1,6 @@
 -- A new index with its intervals: the law of the graph is kept.
-use Rattle.std.specs.Prelude.{◌≡◌, ◌⊎◌, ℕ, zero, suc, ◌+◌, ◌<◌, ◌≤◌, true, false, ◌&&◌, ◌==◌, List, [], ◌∷◌, ◌++◌, length, Option, Some, None, is_some, if◌then◌else◌}
+use Rattle.std.specs.Prelude.{◌≡◌, ◌⊎◌, ℕ, zero, suc, ◌+◌, ◌<◌, ◌≤◌, true, false, ◌&&◌, ◌==◌, List, [], ◌∷◌, ◌++◌, length, Option, Some, None}
+use Rattle.std.specs.Prelude.{is_some, if◌then◌else◌}
 use Rattle.std.specs.List.{cons_option, list_any, filter_map, range_with_len}
 use Rattle.std.proofs.lemmas.List.{length-append}
 use Rattle.std.proofs.Common.{refl, sym, ap, ap₂, ◌∙◌, subst, arith, inl, inr, ⊎_elim}
@@ -8,7 +9,8 @@ use Rattle.gl_modes.proofs.Words.{split, or_elim, both, no, none_some, some_is}
 use Rattle.gl_modes.specs.declared.node.NodeId.{NodeId}
 use Rattle.gl_modes.specs.Nodes.{same_node}
 use Rattle.gl_graph.specs.Shapes.{Index, Interval, bounds_in, is_inner_shape, is_file_shape, is_index_shape, is_record_shape, is_index_of_shape}
-use Rattle.gl_graph.specs.Graph.{Graph, Node, nodes, node_count, node_at, is_live, parents_in, shape_in, shape_of, is_child, indexes_of, interval, key_or_zero, IsFreeKey}
+use Rattle.gl_graph.specs.Graph.{Graph, Node, nodes, node_count, node_at, is_live, parents_in, shape_in, shape_of, is_child, indexes_of, interval}
+use Rattle.gl_graph.specs.Graph.{key_or_zero, IsFreeKey}
 use Rattle.gl_graph.specs.Lawful.{IsRising, AreInnerParents, HasShape, IsWellFormed, IsLawfulGraph}
 use Rattle.gl_graph.specs.Changes.{keys_of, are_apart, born_nodes, born_index, interval_nodes}
 use Rattle.gl_graph.proofs.Look.{all_at}
@@ -16,7 +18,8 @@ use Rattle.gl_graph.proofs.KindRules.{Frames, inner_plain, file_plain, plain_liv
 use Rattle.gl_graph.proofs.Moved.{some_at}
 use Rattle.gl_graph.proofs.RouteLengths.{listed}
 use Rattle.gl_graph.proofs.Listings.{index_born}
-use Rattle.gl_graph.proofs.Born.{place_in, new_index, place_below, new_at, none_above, new_id, new_node, new_indexes, indexes_grown, born_frames, born_lawful, IsFresh}
+use Rattle.gl_graph.proofs.Born.{place_in, new_index, place_below, new_at, none_above, new_id, new_node, new_indexes, indexes_grown, born_frames}
+use Rattle.gl_graph.proofs.Born.{born_lawful, IsFresh}
 use Rattle.gl_graph.proofs.NewNodes.{place_there, key_listed, places_apart, no_index_born, indexes_kept}
 
 pub keys_of_intervals : (id : NodeId) (place : ℕ) (keys : List ℕ) → keys_of (interval_nodes id place keys) ≡ keys
@@ -28,7 +31,8 @@ count_intervals id place [] = refl
 count_intervals id place (k ∷ ks) = ap suc (count_intervals id (place + 1) ks)
 
 -- the node at a place is the interval of that place
-pub interval_node : (id : NodeId) (place : ℕ) (keys : List ℕ) (k c : ℕ) (node : Node) → place + k ≡ c → place_in (interval_nodes id place keys) k ≡ Some node → node ≡ record { key = node.key; shape = Interval c; parents = id ∷ [] }
+pub interval_node : (id : NodeId) (place : ℕ) (keys : List ℕ) (k c : ℕ) (node : Node) → place + k ≡ c
+    → place_in (interval_nodes id place keys) k ≡ Some node → node ≡ record { key = node.key; shape = Interval c; parents = id ∷ [] }
 interval_node id place [] k c node e f = absurd (none_some f)
 interval_node id place (key ∷ keys) zero c node e f =
     let is : record { key = key; shape = Interval place; parents = id ∷ [] } ≡ node = some_is f in
@@ -71,7 +75,8 @@ module _ (g : Graph) (law : IsLawfulGraph g) (key : ℕ) (ps : List NodeId) (fil
       no_index_born g law ns f (g.births + 1 + 1) (length (interval_nodes id 0 keys)) (omega arith) (omega arith) by in
       let few : length (cons_option (index_born grown f (g.births + 1)) []) ≤ 1 = short (index_born grown f (g.births + 1)) in
       let new : new_indexes g law ns f ≡ cons_option (index_born grown f (g.births + 1)) [] = ap (cons_option (index_born grown f (g.births + 1))) rest in
-      let all : length (indexes_of grown f) ≡ length (indexes_of g f) + length (new_indexes g law ns f) = ap length (indexes_grown g law ns f) ∙ length-append (indexes_of g f) (new_indexes g law ns f) in
+      let all : length (indexes_of grown f) ≡ length (indexes_of g f) + length (new_indexes g law ns f) =
+      ap length (indexes_grown g law ns f) ∙ length-append (indexes_of g f) (new_indexes g law ns f) in
       let size : length (new_indexes g law ns f) ≡ length (cons_option (index_born grown f (g.births + 1)) []) = ap length new in
       omega arith
     where
@@ -79,8 +84,10 @@ module _ (g : Graph) (law : IsLawfulGraph g) (key : ℕ) (ps : List NodeId) (fil
       short None = omega arith
       short (Some x) = omega arith
 
-      by : (k : ℕ) (node : Node) → (g.births + 1 + k ≡ g.births + 1 + 1) ⊎ (g.births + 1 + 1 < g.births + 1 + k) → place_in ns k ≡ Some node → is_index_of_shape f (Some node.shape) ≡ false
-      by zero node high e = absurd (⊎_elim (λ (h : g.births + 1 + 0 ≡ g.births + 1 + 1). omega arith) (λ (h : g.births + 1 + 1 < g.births + 1 + 0). omega arith) high)
+      by : (k : ℕ) (node : Node) → (g.births + 1 + k ≡ g.births + 1 + 1) ⊎ (g.births + 1 + 1 < g.births + 1 + k) → place_in ns k ≡ Some node
+          → is_index_of_shape f (Some node.shape) ≡ false
+      by zero node high e = absurd (⊎_elim (λ (h : g.births + 1 + 0 ≡ g.births + 1 + 1). omega arith)
+          (λ (h : g.births + 1 + 1 < g.births + 1 + 0). omega arith) high)
       by (suc k) node high e = no_interval_index f k node e
 
   -- the file has the index, last
@@ -90,11 +97,14 @@ module _ (g : Graph) (law : IsLawfulGraph g) (key : ℕ) (ps : List NodeId) (fil
       no_index_born g law ns file (g.births + 1 + 1) (length (interval_nodes id 0 keys)) (omega arith) (omega arith) by in
       let birth : g.births + 1 ≡ g.births + 1 + 0 = omega arith in
       let here : index_born grown file (g.births + 1) ≡ Some id =
-      ap (index_born grown file) birth ∙ new_index g law ns file 0 index refl ∙ ap (λ b. if b then Some (new_id g law ns index 0) else None) (same_node-refl file) ∙ (λ i. Some (record { key = key; birth = sym birth i })) in
+      ap (index_born grown file) birth ∙ new_index g law ns file 0 index refl
+      ∙ ap (λ b. if b then Some (new_id g law ns index 0) else None) (same_node-refl file) ∙ (λ i. Some (record { key = key; birth = sym birth i })) in
       indexes_grown g law ns file ∙ ap (λ xs. indexes_of g file ++ xs) (ap₂ cons_option here rest)
     where
-      by : (k : ℕ) (node : Node) → (g.births + 1 + k ≡ g.births + 1 + 1) ⊎ (g.births + 1 + 1 < g.births + 1 + k) → place_in ns k ≡ Some node → is_index_of_shape file (Some node.shape) ≡ false
-      by zero node high e = absurd (⊎_elim (λ (h : g.births + 1 + 0 ≡ g.births + 1 + 1). omega arith) (λ (h : g.births + 1 + 1 < g.births + 1 + 0). omega arith) high)
+      by : (k : ℕ) (node : Node) → (g.births + 1 + k ≡ g.births + 1 + 1) ⊎ (g.births + 1 + 1 < g.births + 1 + k) → place_in ns k ≡ Some node
+          → is_index_of_shape file (Some node.shape) ≡ false
+      by zero node high e = absurd (⊎_elim (λ (h : g.births + 1 + 0 ≡ g.births + 1 + 1). omega arith)
+          (λ (h : g.births + 1 + 1 < g.births + 1 + 0). omega arith) high)
       by (suc k) node high e = no_interval_index file k node e
 
   pub no_record_born : (k : ℕ) (node : Node) → place_in ns k ≡ Some node → is_record_shape (Some node.shape) ≡ false
@@ -108,13 +118,17 @@ module _ (g : Graph) (law : IsLawfulGraph g) (key : ℕ) (ps : List NodeId) (fil
       node_is (interval grown id k) (new_id g law ns node (suc k))
       (ap key_or_zero (new_at g ns (suc k) (g.births + 1 + 1 + k) (none_above g law ns) birth ∙ e)) birth
 
-  module _ (inner : AreInnerParents g 1 ps) (is_file : is_file_shape (shape_of g file) ≡ true) (few : length bounds ≤ g.most_bounds) (rising : IsRising (0 ∷ bounds)) (no_records : list_any (λ r. is_record_shape (shape_of g r) && is_child g file r) (nodes g) ≡ false)
-      (room_for : length (indexes_of g file) + 1 ≤ 7) (each : length keys ≡ length bounds + 1) (apart : are_apart (key ∷ keys) ≡ true) (free : (k : ℕ) → list_any (λ x. x == k) (key ∷ keys) ≡ true → IsFreeKey g k)
+  module _ (inner : AreInnerParents g 1 ps) (is_file : is_file_shape (shape_of g file) ≡ true) (few : length bounds ≤ g.most_bounds)
+      (rising : IsRising (0 ∷ bounds)) (no_records : list_any (λ r. is_record_shape (shape_of g r) && is_child g file r) (nodes g) ≡ false)
+      (room_for : length (indexes_of g file) + 1 ≤ 7) (each : length keys ≡ length bounds + 1) (apart : are_apart (key ∷ keys) ≡ true)
+      (free : (k : ℕ) → list_any (λ x. x == k) (key ∷ keys) ≡ true → IsFreeKey g k)
       (room : node_count g + (2 + length bounds) ≤ g.most) where
     unused : (f r : NodeId) → is_record_shape (shape_of g r) ≡ true → is_child g f r ≡ true → indexes_of grown f ≡ indexes_of g f
     unused f r rec child =
         others f (split (same_node f file)
-        (λ e. absurd (no (sym no_records ∙ some_at (λ q. is_record_shape (shape_of g q) && is_child g file q) (nodes g) r (listed g law r (rec_live rec)) (both _ _ rec (subst (λ x. is_child g x r ≡ true) (same_node-equal f file e) child)))))
+        (λ e. absurd (no (sym no_records
+        ∙ some_at (λ q. is_record_shape (shape_of g q) && is_child g file q) (nodes g) r (listed g law r (rec_live rec))
+        (both _ _ rec (subst (λ x. is_child g x r ≡ true) (same_node-equal f file e) child)))))
         (λ e. e))
       where
         rec_live : is_record_shape (shape_of g r) ≡ true → is_live g r ≡ true
@@ -127,31 +141,45 @@ module _ (g : Graph) (law : IsLawfulGraph g) (key : ℕ) (ps : List NodeId) (fil
     pub frames : Frames g grown
     frames = born_frames g law ns unused
 
-    intervals_stand : (place : ℕ) → place ≤ length bounds → node_at grown (interval grown id place) ≡ Some (record { key = (interval grown id place).key; shape = Interval place; parents = id ∷ [] })
+    intervals_stand : (place : ℕ) → place ≤ length bounds
+        → node_at grown (interval grown id place) ≡ Some (record { key = (interval grown id place).key; shape = Interval place; parents = id ∷ [] })
     intervals_stand place low =
         let many = count_intervals id 0 keys in
         let there = place_there (interval_nodes id 0 keys) place (omega arith) in
         let at = interval_there place there.0 there.1 in
         let is = interval_node id 0 keys place place there.0 (omega arith) there.1 in
-        ap (node_at grown) at ∙ new_node g law ns (suc place) there.0 there.1 ∙ ap Some is ∙ ap (λ (q : NodeId). Some (record { key = q.key; shape = Interval place; parents = id ∷ [] })) (sym at)
+        ap (node_at grown) at ∙ new_node g law ns (suc place) there.0 there.1 ∙ ap Some is
+        ∙ ap (λ (q : NodeId). Some (record { key = q.key; shape = Interval place; parents = id ∷ [] })) (sym at)
 
     index_well : HasShape grown id (Index file bounds) ps
     index_well = (
       parents_kept g grown law frames 1 ps inner,
-      record { file = (frames.shapes file (file_plain _ is_file)).file ∙ is_file; few = subst (λ m. length bounds ≤ m) (sym frames.bounds) few; rising = rising; intervals = intervals_stand },
+      record {
+        file = (frames.shapes file (file_plain _ is_file)).file ∙ is_file;
+        few = subst (λ m. length bounds ≤ m) (sym frames.bounds) few;
+        rising = rising;
+        intervals = intervals_stand;
+      },
     )
 
     well : (k : ℕ) (node : Node) → place_in ns k ≡ Some node → IsWellFormed grown (new_id g law ns node k) node
     well zero node e =
         let birth : g.births + 1 ≡ g.births + 1 + 0 = omega arith in
-        subst (λ y. IsWellFormed grown (new_id g law ns y 0) y) (some_is e) (subst (λ b. HasShape grown (record { key = key; birth = b }) (Index file bounds) ps) birth index_well)
+        subst (λ y. IsWellFormed grown (new_id g law ns y 0) y) (some_is e)
+        (subst (λ b. HasShape grown (record { key = key; birth = b }) (Index file bounds) ps) birth index_well)
     well (suc k) node e =
         let is = interval_node id 0 keys k k node (omega arith) e in
         let below = place_below (interval_nodes id 0 keys) k node e in
         let many = count_intervals id 0 keys in
         let low : k ≤ length bounds = omega arith in
-        subst (λ (y : Node). HasShape grown (new_id g law ns node (suc k)) y.shape y.parents) (sym is)
-        (id, refl, ap (λ o. is_index_shape (shape_in o)) index_there, subst (λ (o : Option Node). k ≤ length (bounds_in (shape_in o))) (sym index_there) low, sym (interval_there k node e))
+        subst (λ (y : Node). HasShape grown (new_id g law ns node (suc k)) y.shape y.parents) (sym is) (
+          id,
+          refl,
+          ap (λ o. is_index_shape (shape_in o)) index_there,
+          subst (λ (o : Option Node). k ≤ length (bounds_in (shape_in o)))
+              (sym index_there) low,
+          sym (interval_there k node e),
+        )
 
     inner_live : (p : NodeId) → list_any (same_node p) ps ≡ true → is_live g p ≡ true
     inner_live p h = plain_live g p (inner_plain _ (all_at (λ q. is_inner_shape (shape_of g q)) ps p h inner.inner))
@@ -161,7 +189,8 @@ module _ (g : Graph) (law : IsLawfulGraph g) (key : ℕ) (ps : List NodeId) (fil
     up (suc k) node p e h =
         let is = interval_node id 0 keys k k node (omega arith) e in
         or_elim (same_node p id) false (ap (λ (y : Node). list_any (same_node p) y.parents) (sym is) ∙ h)
-        (λ here. subst (IsFresh g law ns) (sym (same_node-equal p id here)) (inr (ap is_some index_there, λ q c. inner_live q (sym (ap (λ o. list_any (same_node q) (parents_in o)) index_there) ∙ c))))
+        (λ here. subst (IsFresh g law ns) (sym (same_node-equal p id here))
+        (inr (ap is_some index_there, λ q c. inner_live q (sym (ap (λ o. list_any (same_node q) (parents_in o)) index_there) ∙ c))))
         (λ none. absurd (no none))
 
     keys_are : keys_of ns ≡ key ∷ keys
@@ -172,6 +201,7 @@ module _ (g : Graph) (law : IsLawfulGraph g) (key : ℕ) (ps : List NodeId) (fil
         born_lawful g law ns unused well up
         (λ k node e. free node.key (ap (list_any (λ x. x == node.key)) (sym keys_are) ∙ key_listed ns k node e))
         (places_apart ns (ap are_apart keys_are ∙ apart))
-        (λ f. split (same_node f file) (λ e. let more = one_more f in let same : length (indexes_of g f) ≡ length (indexes_of g file) = ap (λ x. length (indexes_of g x)) (same_node-equal f file e) in omega arith)
+        (λ f. split (same_node f file) (λ e. let more = one_more f in let same : length (indexes_of g f) ≡ length (indexes_of g file) =
+        ap (λ x. length (indexes_of g x)) (same_node-equal f file e) in omega arith)
         (λ e. subst (λ (is : List NodeId). length is ≤ 7) (sym (others f e)) (law.seven_indexes f)))
         (let many = count_intervals id 0 keys in omega arith)

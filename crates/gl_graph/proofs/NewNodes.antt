@@ -25,7 +25,8 @@ key_listed [] k node e = absurd (none_some e)
 key_listed (n ∷ ns) zero node e = ap (λ b. b || list_any (λ x. x == node.key) (keys_of ns)) (number_same n.key node.key (ap (λ x. x.key) (some_is e)))
 key_listed (n ∷ ns) (suc k) node e = or_right (n.key == node.key) _ (key_listed ns k node e)
 
-pub places_apart : (ns : List Node) → are_apart (keys_of ns) ≡ true → (j k : ℕ) (a b : Node) → place_in ns j ≡ Some a → place_in ns k ≡ Some b → a.key ≡ b.key → j ≡ k
+pub places_apart : (ns : List Node) → are_apart (keys_of ns) ≡ true → (j k : ℕ) (a b : Node) → place_in ns j ≡ Some a → place_in ns k ≡ Some b
+    → a.key ≡ b.key → j ≡ k
 places_apart [] h j k a b e f same = absurd (none_some e)
 places_apart (n ∷ ns) h zero zero a b e f same = refl
 places_apart (n ∷ ns) h zero (suc k) a b e f same = absurd (clash n ns h k b f (ap (λ x. x.key) (some_is e) ∙ same))
@@ -41,20 +42,25 @@ places_apart (n ∷ ns) h (suc j) (suc k) a b e f same = ap suc (places_apart ns
 module _ (g : Graph) (law : IsLawfulGraph g) (ns : List Node) where
   -- no index of f is born
   pub no_index_born : (f : NodeId) (from count : ℕ) → g.births + 1 ≤ from → from + count ≤ g.births + 1 + length ns
-      → ((k : ℕ) (node : Node) → g.births + 1 + k ≡ from ⊎ (from < g.births + 1 + k) → place_in ns k ≡ Some node → is_index_of_shape f (Some node.shape) ≡ false)
+      → ((k : ℕ) (node : Node) → g.births + 1 + k ≡ from ⊎ (from < g.births + 1 + k) → place_in ns k ≡ Some node
+      → is_index_of_shape f (Some node.shape) ≡ false)
       → filter_map (index_born (born_nodes g ns) f) (range_with_len from count) ≡ []
   no_index_born f from count low high none =
       map_none (index_born (born_nodes g ns) f) from count (λ b l h.
       let birth : b ≡ g.births + 1 + (b - (g.births + 1)) = omega arith in
       let there = place_there ns (b - (g.births + 1)) (omega arith) in
       ap (index_born (born_nodes g ns) f) birth ∙ new_index g law ns f (b - (g.births + 1)) there.0 there.1
-      ∙ ap (λ z. if z then Some (new_id g law ns there.0 (b - (g.births + 1))) else None) (none (b - (g.births + 1)) there.0 (at_or_above (g.births + 1 + (b - (g.births + 1))) from (omega arith)) there.1))
+      ∙ ap (λ z. if z then Some (new_id g law ns there.0 (b - (g.births + 1))) else None)
+      (none (b - (g.births + 1)) there.0 (at_or_above (g.births + 1 + (b - (g.births + 1))) from (omega arith)) there.1))
     where
       at_or_above : (a b : ℕ) → b ≤ a → (a ≡ b) ⊎ (b < a)
       at_or_above a b h = search rules
 
-  pub indexes_kept : (f : NodeId) → ((k : ℕ) (node : Node) → place_in ns k ≡ Some node → is_index_of_shape f (Some node.shape) ≡ false) → indexes_of (born_nodes g ns) f ≡ indexes_of g f
-  indexes_kept f none = indexes_grown g law ns f ∙ ap (λ xs. indexes_of g f ++ xs) (no_index_born f (g.births + 1) (length ns) (omega arith) (omega arith) (λ k node high e. none k node e)) ∙ append-nil (indexes_of g f)
+  pub indexes_kept : (f : NodeId) → ((k : ℕ) (node : Node) → place_in ns k ≡ Some node → is_index_of_shape f (Some node.shape) ≡ false)
+      → indexes_of (born_nodes g ns) f ≡ indexes_of g f
+  indexes_kept f none = indexes_grown g law ns f
+      ∙ ap (λ xs. indexes_of g f ++ xs) (no_index_born f (g.births + 1) (length ns) (omega arith) (omega arith) (λ k node high e. none k node e))
+      ∙ append-nil (indexes_of g f)
 
 -- one new node, no index
 module _ (g : Graph) (law : IsLawfulGraph g) (node : Node) (no_index : (f : NodeId) → is_index_of_shape f (Some node.shape) ≡ false) where
@@ -68,36 +74,50 @@ module _ (g : Graph) (law : IsLawfulGraph g) (node : Node) (no_index : (f : Node
   pub one_indexes : (f : NodeId) → indexes_of (born_node g node) f ≡ indexes_of g f
   one_indexes f = indexes_kept g law one f (λ k x e. ap (λ y. is_index_of_shape f (Some y.shape)) (sym (only k x e).1) ∙ no_index f)
 
-  pub one_lawful : IsWellFormed (born_node g node) (record { key = node.key; birth = g.births + 1 }) node → ((p : NodeId) → list_any (same_node p) node.parents ≡ true → is_live g p ≡ true)
+  pub one_lawful : IsWellFormed (born_node g node) (record { key = node.key; birth = g.births + 1 }) node
+      → ((p : NodeId) → list_any (same_node p) node.parents ≡ true → is_live g p ≡ true)
       → IsFreeKey g node.key → node_count g + 1 ≤ g.most → IsLawfulGraph (born_node g node)
   one_lawful well up free room =
       born_lawful g law one (λ f r h k. one_indexes f)
       (λ k x e. let o = only k x e in let birth : g.births + 1 ≡ g.births + 1 + k = omega arith in
-      subst (λ y. IsWellFormed (born_node g node) (new_id g law one y k) y) o.1 (subst (λ b. IsWellFormed (born_node g node) (record { key = node.key; birth = b }) node) birth well))
+      subst (λ y. IsWellFormed (born_node g node) (new_id g law one y k) y) o.1
+      (subst (λ b. IsWellFormed (born_node g node) (record { key = node.key; birth = b }) node) birth well))
       (λ k x p e h. inl (up p (ap (λ y. list_any (same_node p) y.parents) (only k x e).1 ∙ h)))
       (λ k x e. subst (λ y. IsFreeKey g y.key) (only k x e).1 free)
       (λ j k a b e f same. (only j a e).0 ∙ sym (only k b f).0)
       (λ f. subst (λ (is : List NodeId). length is ≤ 7) (sym (one_indexes f)) (law.seven_indexes f))
       (omega arith)
 
-pub inner_lawful : (g : Graph) (law : IsLawfulGraph g) (key : ℕ) (ps : List NodeId) → AreInnerParents g 0 ps → IsFreeKey g key → node_count g + 1 ≤ g.most → IsLawfulGraph (born_node g (record { key = key; shape = Inner; parents = ps }))
+pub inner_lawful : (g : Graph) (law : IsLawfulGraph g) (key : ℕ) (ps : List NodeId) → AreInnerParents g 0 ps → IsFreeKey g key
+    → node_count g + 1 ≤ g.most → IsLawfulGraph (born_node g (record { key = key; shape = Inner; parents = ps }))
 inner_lawful g law key ps inner free room =
     let node : Node = record { key = key; shape = Inner; parents = ps } in
-    one_lawful g law node (λ f. refl) (parents_kept g (born_node g node) law (born_frames g law (node ∷ []) (λ f r h k. one_indexes g law node (λ f'. refl) f)) 0 ps inner)
+    one_lawful g law node (λ f. refl) (parents_kept g (born_node g node) law
+    (born_frames g law (node ∷ []) (λ f r h k. one_indexes g law node (λ f'. refl) f)) 0 ps inner)
     (λ p h. plain_live g p (inner_plain _ (all_at (λ q. is_inner_shape (shape_of g q)) ps p h inner.inner))) free room
 
-pub file_lawful : (g : Graph) (law : IsLawfulGraph g) (key : ℕ) (ps : List NodeId) → AreInnerParents g 1 ps → IsFreeKey g key → node_count g + 1 ≤ g.most → IsLawfulGraph (born_node g (record { key = key; shape = File false; parents = ps }))
+pub file_lawful : (g : Graph) (law : IsLawfulGraph g) (key : ℕ) (ps : List NodeId) → AreInnerParents g 1 ps → IsFreeKey g key
+    → node_count g + 1 ≤ g.most → IsLawfulGraph (born_node g (record { key = key; shape = File false; parents = ps }))
 file_lawful g law key ps inner free room =
     let node : Node = record { key = key; shape = File false; parents = ps } in
-    one_lawful g law node (λ f. refl) (parents_kept g (born_node g node) law (born_frames g law (node ∷ []) (λ f r h k. one_indexes g law node (λ f'. refl) f)) 1 ps inner)
+    one_lawful g law node (λ f. refl) (parents_kept g (born_node g node) law
+    (born_frames g law (node ∷ []) (λ f r h k. one_indexes g law node (λ f'. refl) f)) 1 ps inner)
     (λ p h. plain_live g p (inner_plain _ (all_at (λ q. is_inner_shape (shape_of g q)) ps p h inner.inner))) free room
 
-pub record_lawful : (g : Graph) (law : IsLawfulGraph g) (key : ℕ) (file : NodeId) (keys : List ℕ) → is_file_shape (shape_of g file) ≡ true → length keys ≡ length (indexes_of g file) → IsFreeKey g key → node_count g + 1 ≤ g.most
+pub record_lawful : (g : Graph) (law : IsLawfulGraph g) (key : ℕ) (file : NodeId) (keys : List ℕ) → is_file_shape (shape_of g file) ≡ true
+    → length keys ≡ length (indexes_of g file) → IsFreeKey g key → node_count g + 1 ≤ g.most
     → IsLawfulGraph (born_node g (record { key = key; shape = Rec keys; parents = record_parents g file keys }))
 record_lawful g law key file keys is_file each free room =
     let node : Node = record { key = key; shape = Rec keys; parents = record_parents g file keys } in
     let frames = born_frames g law (node ∷ []) (λ f r h k. one_indexes g law node (λ f'. refl) f) in
     let same = one_indexes g law node (λ f'. refl) file in
-    one_lawful g law node (λ f. refl)
-    (file, record { file_is = (frames.shapes file (file_plain _ is_file)).file ∙ is_file; a_key_each = each ∙ ap length (sym same); parents = sym (record_parents_kept g (born_node g node) law frames file keys same) })
+    one_lawful g law node (λ f. refl) (
+      file,
+      record {
+        file_is = (frames.shapes file (file_plain _ is_file)).file ∙ is_file;
+        a_key_each = each ∙ ap length (sym same);
+        parents =
+            sym (record_parents_kept g (born_node g node) law frames file keys same);
+      },
+    )
     (λ p h. plain_live g p (record_parent_plain g law file p keys is_file h)) free room

@@ -7,7 +7,8 @@ use Rattle.gl_modes.proofs.Words.{split, no, and_both}
 use Rattle.gl_modes.specs.declared.node.NodeId.{NodeId}
 use Rattle.gl_modes.specs.Nodes.{same_node}
 use Rattle.gl_graph.specs.Shapes.{Shape, Inner, File, Index, Interval, Rec, is_file_shape, is_index_shape, is_record_shape, is_index_of_shape, keys_in}
-use Rattle.gl_graph.specs.Graph.{Graph, shape_of, shape_in, parents_in, parents_of, first_parent, is_record_of, nodes, indexes_of, interval_of, intervals_of, record_parents}
+use Rattle.gl_graph.specs.Graph.{Graph, shape_of, shape_in, parents_in, parents_of, first_parent, is_record_of, nodes, indexes_of, interval_of}
+use Rattle.gl_graph.specs.Graph.{intervals_of, record_parents}
 use Rattle.gl_graph.specs.Lawful.{IsLawfulGraph}
 use Rattle.gl_graph.proofs.Look.{all_filter, shaped_node}
 use Rattle.gl_graph.proofs.KindRules.{interval_is}
@@ -27,11 +28,14 @@ index_of_index f (Some (Interval place)) h = h
 index_of_index f (Some (Rec keys)) h = h
 
 -- each index of a file is an index
-pub listed_index : (g : Graph) (f : NodeId) (k : ℕ) (d : NodeId) → k < length (indexes_of g f) → is_index_of_shape f (shape_of g (slice_index_or (indexes_of g f) k d)) ≡ true
-listed_index g f k d low = all_at_place (λ i. is_index_of_shape f (shape_of g i)) (indexes_of g f) k d (all_filter (λ i. is_index_of_shape f (shape_of g i)) (nodes g)) low
+pub listed_index : (g : Graph) (f : NodeId) (k : ℕ) (d : NodeId) → k < length (indexes_of g f)
+    → is_index_of_shape f (shape_of g (slice_index_or (indexes_of g f) k d)) ≡ true
+listed_index g f k d low = all_at_place (λ i. is_index_of_shape f (shape_of g i)) (indexes_of g f) k d
+    (all_filter (λ i. is_index_of_shape f (shape_of g i)) (nodes g)) low
 
 module _ (g : Graph) (law : IsLawfulGraph g) where
-  no_file_among : (f n : NodeId) (is : List NodeId) (keys : List ℕ) → list_all (λ i. is_index_of_shape f (shape_of g i)) is ≡ true → is_file_shape (shape_of g n) ≡ true → list_any (same_node n) (intervals_of g is keys) ≡ false
+  no_file_among : (f n : NodeId) (is : List NodeId) (keys : List ℕ) → list_all (λ i. is_index_of_shape f (shape_of g i)) is ≡ true
+      → is_file_shape (shape_of g n) ≡ true → list_any (same_node n) (intervals_of g is keys) ≡ false
   no_file_among f n [] keys h k = refl
   no_file_among f n (i ∷ is) [] h k = refl
   no_file_among f n (i ∷ is) (key ∷ keys) h k =
@@ -61,13 +65,15 @@ record_shape (Some (Rec keys)) h = (keys, refl)
 
 -- a record that lives: its file is its first parent
 module _ (g : Graph) (law : IsLawfulGraph g) (r : NodeId) (rec : is_record_shape (shape_of g r) ≡ true) where
-  of_file : (is_file_shape (shape_of g (first_parent g r)) ≡ true) × (length (keys_in (shape_of g r)) ≡ length (indexes_of g (first_parent g r))) × (parents_of g r ≡ record_parents g (first_parent g r) (keys_in (shape_of g r)))
+  of_file : (is_file_shape (shape_of g (first_parent g r)) ≡ true) × (length (keys_in (shape_of g r)) ≡ length (indexes_of g (first_parent g r)))
+      × (parents_of g r ≡ record_parents g (first_parent g r) (keys_in (shape_of g r)))
   of_file =
       let keys = record_shape (shape_of g r) rec in
       let node = shaped_node g r (Rec keys.0) keys.1 in
       let file = file_of_record g law r node.0 node.1 keys.0 node.2 in
       let same : keys.0 ≡ keys_in (shape_of g r) = sym (ap keys_in keys.1) in
-      subst (λ ks. (is_file_shape (shape_of g (first_parent g r)) ≡ true) × (length ks ≡ length (indexes_of g (first_parent g r))) × (parents_of g r ≡ record_parents g (first_parent g r) ks)) same
+      subst (λ ks. (is_file_shape (shape_of g (first_parent g r)) ≡ true) × (length ks ≡ length (indexes_of g (first_parent g r)))
+      × (parents_of g r ≡ record_parents g (first_parent g r) ks)) same
       (file.0, file.1, ap parents_in node.1 ∙ file.3)
 
   pub its_file : is_file_shape (shape_of g (first_parent g r)) ≡ true

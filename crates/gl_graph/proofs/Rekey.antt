@@ -1,5 +1,6 @@
 -- One key of a record is written at the place of its index, and its interval behind it.
-use Rattle.std.specs.Prelude.{◌≡◌, ◌≢◌, ℕ, zero, suc, ◌+◌, ◌^◌, ◌<◌, Bool, true, false, not, nat_lt, ◌&&◌, ◌||◌, List, [], ◌∷◌, length, Option, Some, None, is_some, if◌then◌else◌, slice_index_or, slice_set, position}
+use Rattle.std.specs.Prelude.{◌≡◌, ◌≢◌, ℕ, zero, suc, ◌+◌, ◌^◌, ◌<◌, Bool, true, false, not, nat_lt, ◌&&◌, ◌||◌, List, [], ◌∷◌, length, Option, Some}
+use Rattle.std.specs.Prelude.{None, is_some, if◌then◌else◌, slice_index_or, slice_set, position}
 use Rattle.std.specs.List.{list_any, position_or_len}
 use Rattle.std.proofs.lemmas.Bool.Decides.{nat_tests}
 use Rattle.gl_modes.proofs.Words.{split, no, none_some, some_is}
@@ -15,7 +16,8 @@ use Rattle.gl_graph.specs.declared.node.Node.{Node as Stored}
 use Rattle.gl_graph.specs.declared.parents.Parents.{Parents}
 use Rattle.gl_graph.specs.declared.parents.Parents.TheVariants as parents
 use Rattle.gl_graph.specs.Shapes.{Shape, Rec, is_record_shape, is_index_of_shape, keys_in}
-use Rattle.gl_graph.specs.Graph.{Graph, Node, node_at, is_live, shape_in, shape_of, parents_in, first_parent, indexes_of, interval_of, intervals_of, record_parents}
+use Rattle.gl_graph.specs.Graph.{Graph, Node, node_at, is_live, shape_in, shape_of, parents_in, first_parent, indexes_of, interval_of, intervals_of}
+use Rattle.gl_graph.specs.Graph.{record_parents}
 use Rattle.gl_graph.specs.Lawful.{IsLawfulGraph}
 use Rattle.gl_graph.specs.Changes.{with_node, keys_with, rekeyed_keys, rekeyed_parents, rekeyed}
 use Rattle.gl_graph.specs.View.{graph_of, node_of, KeepsBeside}
@@ -31,14 +33,16 @@ use Rattle.gl_graph.proofs.SoundChanged.{node_was, changed, changed_graph, chang
 no_node : NodeId
 no_node = record { key = 0; birth = 0 }
 
-keys_untouched : (is : List NodeId) (ks : List ℕ) (i : NodeId) (key : ℕ) → length ks ≡ length is → ((k : ℕ) (d : NodeId) → k < length is → same_node (slice_index_or is k d) i ≡ false) → keys_with is ks i key ≡ ks
+keys_untouched : (is : List NodeId) (ks : List ℕ) (i : NodeId) (key : ℕ) → length ks ≡ length is
+    → ((k : ℕ) (d : NodeId) → k < length is → same_node (slice_index_or is k d) i ≡ false) → keys_with is ks i key ≡ ks
 keys_untouched [] ks i key e none = refl
 keys_untouched (j ∷ is) [] i key e none = refl
 keys_untouched (j ∷ is) (k ∷ ks) i key e none =
     ap₂ (λ b xs. (if b then key else k) ∷ xs) (none 0 i (omega arith)) (keys_untouched is ks i key (omega arith) (λ m d low. none (suc m) d (omega arith)))
 
 -- where only this place has the index, its key alone changes
-pub keys_set : (is : List NodeId) (ks : List ℕ) (i : NodeId) (key place : ℕ) → length ks ≡ length is → place < length is → ((d : NodeId) → same_node (slice_index_or is place d) i ≡ true)
+pub keys_set : (is : List NodeId) (ks : List ℕ) (i : NodeId) (key place : ℕ) → length ks ≡ length is → place < length is
+    → ((d : NodeId) → same_node (slice_index_or is place d) i ≡ true)
     → ((k : ℕ) (d : NodeId) → k < length is → k ≢ place → same_node (slice_index_or is k d) i ≡ false) → keys_with is ks i key ≡ slice_set ks place key
 keys_set [] ks i key place e low here other = absurd (omega arith)
 keys_set (j ∷ is) [] i key place e low here other = absurd (omega arith)
@@ -46,14 +50,17 @@ keys_set (j ∷ is) (k ∷ ks) i key zero e low here other =
     ap₂ (λ b xs. (if b then key else k) ∷ xs) (here i) (keys_untouched is ks i key (omega arith) (λ m d l. other (suc m) d (omega arith) (omega arith)))
 keys_set (j ∷ is) (k ∷ ks) i key (suc place) e low here other =
     ap₂ (λ b xs. (if b then key else k) ∷ xs) (other 0 i (omega arith) (omega arith))
-    (keys_set is ks i key place (omega arith) (omega arith) (λ d. here d) (λ m d l ne. other (suc m) d (omega arith) (let apart : suc m ≢ suc place = omega arith in apart)))
+    (keys_set is ks i key place (omega arith) (omega arith) (λ d. here d)
+    (λ m d l ne. other (suc m) d (omega arith) (let apart : suc m ≢ suc place = omega arith in apart)))
 
-pub intervals_set : (g : Graph) (is : List NodeId) (ks : List ℕ) (i : NodeId) (key place : ℕ) → length ks ≡ length is → place < length is → ((d : NodeId) → slice_index_or is place d ≡ i)
+pub intervals_set : (g : Graph) (is : List NodeId) (ks : List ℕ) (i : NodeId) (key place : ℕ) → length ks ≡ length is → place < length is
+    → ((d : NodeId) → slice_index_or is place d ≡ i)
     → intervals_of g is (slice_set ks place key) ≡ slice_set (intervals_of g is ks) place (interval_of g i key)
 intervals_set g [] ks i key place e low here = absurd (omega arith)
 intervals_set g (j ∷ is) [] i key place e low here = absurd (omega arith)
 intervals_set g (j ∷ is) (k ∷ ks) i key zero e low here = ap (λ n. interval_of g n key ∷ intervals_of g is ks) (here i)
-intervals_set g (j ∷ is) (k ∷ ks) i key (suc place) e low here = ap (λ xs. interval_of g j k ∷ xs) (intervals_set g is ks i key place (omega arith) (omega arith) (λ d. here d))
+intervals_set g (j ∷ is) (k ∷ ks) i key (suc place) e low here =
+    ap (λ xs. interval_of g j k ∷ xs) (intervals_set g is ks i key place (omega arith) (omega arith) (λ d. here d))
 
 -- an interval for each index
 pub count_intervals_of : (g : Graph) (is : List NodeId) (ks : List ℕ) → length ks ≡ length is → length (intervals_of g is ks) ≡ length is
@@ -61,7 +68,8 @@ count_intervals_of g [] ks e = refl
 count_intervals_of g (j ∷ is) [] e = e
 count_intervals_of g (j ∷ is) (k ∷ ks) e = ap suc (count_intervals_of g is ks (omega arith))
 
-body_keys : (b : Body) (place key : ℕ) → is_record_shape (Some (shape_in_body b)) ≡ true → shape_in_body (body_with_key b place key) ≡ Rec (slice_set (keys_in (Some (shape_in_body b))) place key)
+body_keys : (b : Body) (place key : ℕ) → is_record_shape (Some (shape_in_body b)) ≡ true
+    → shape_in_body (body_with_key b place key) ≡ Rec (slice_set (keys_in (Some (shape_in_body b))) place key)
 body_keys body.Inner place key h = absurd (no h)
 body_keys (body.File kept) place key h = absurd (no h)
 body_keys (body.Index kept) place key h = absurd (no h)
@@ -80,8 +88,10 @@ record_body : (sh : Shape) → is_record_shape (Some sh) ≡ true → sh ≡ Rec
 record_body (Rec keys) h = refl
 record_body _ h = absurd (no h)
 
-module _ (limits : Limits) (old new : Slab Stored) (births : ℕ) (sound : AreSound limits old births) (r i : NodeId) (key place : ℕ) (rec : is_record_shape (shape_of (graph_of (seen limits old births)) r) ≡ true)
-    (at : position (λ listed. same_node listed i) (indexes_of (graph_of (seen limits old births)) (first_parent (graph_of (seen limits old births)) r)) ≡ Some place) where
+module _ (limits : Limits) (old new : Slab Stored) (births : ℕ) (sound : AreSound limits old births) (r i : NodeId) (key place : ℕ)
+    (rec : is_record_shape (shape_of (graph_of (seen limits old births)) r) ≡ true)
+    (at : position (λ listed. same_node listed i)
+    (indexes_of (graph_of (seen limits old births)) (first_parent (graph_of (seen limits old births)) r)) ≡ Some place) where
   abbrev pub g : Graph
   g = graph_of (seen limits old births)
 
@@ -137,7 +147,8 @@ module _ (limits : Limits) (old new : Slab Stored) (births : ℕ) (sound : AreSo
       same_self : (q : NodeId) → same_node q q ≡ true
       same_self q = split (same_node q q) (λ e. e) (λ e. absurd (same_node-other q q e refl))
 
-  module _ (write : (x : Stored) → get old r.key ≡ Some x → Updates old new r.key (Some (with_key_at x place key (interval_of g i key)))) (len : slab_len new ≡ slab_len old) where
+  module _ (write : (x : Stored) → get old r.key ≡ Some x → Updates old new r.key (Some (with_key_at x place key (interval_of g i key))))
+      (len : slab_len new ≡ slab_len old) where
     abbrev was : Stored
     was = slot.0
 
@@ -148,7 +159,8 @@ module _ (limits : Limits) (old new : Slab Stored) (births : ℕ) (sound : AreSo
     rec_body = ap (λ o. is_record_shape (shape_in o)) (sym (node_is was slot.1)) ∙ rec
 
     shape_is : shape_in_body x.body ≡ Rec (rekeyed_keys g r i key)
-    shape_is = body_keys was.body place key rec_body ∙ ap (λ o. Rec (slice_set (keys_in (shape_in o)) place key)) (sym (node_is was slot.1)) ∙ ap Rec (sym keys_are)
+    shape_is = body_keys was.body place key rec_body ∙ ap (λ o. Rec (slice_set (keys_in (shape_in o)) place key)) (sym (node_is was slot.1))
+        ∙ ap Rec (sym keys_are)
 
     parents_are : parent_list x.parents ≡ rekeyed_parents g r i key
     parents_are =
@@ -169,13 +181,19 @@ module _ (limits : Limits) (old new : Slab Stored) (births : ℕ) (sound : AreSo
     pub rekeyed_sound : AreSound limits new births
     rekeyed_sound =
         changed_sound limits old new births sound r was x slot.1 slot.2 refl (write was slot.1) len
-        (subst (λ s. IsAlike (shape_in_body was.body) s) (sym shape_is) (rec_alike (shape_in_body was.body) (keys_in (Some (shape_in_body was.body))) (rekeyed_keys g r i key) (record_body (shape_in_body was.body) rec_body)))
-        (subst IsLawfulGraph (sym graph_is) (rekey_lawful g sound.lawful r (node_of r.key (vertex_of was)) (node_is was slot.1) (keys_in (Some (shape_in_body was.body))) i key (record_body (shape_in_body was.body) rec_body)))
+        (subst (λ s. IsAlike (shape_in_body was.body) s) (sym shape_is)
+        (rec_alike (shape_in_body was.body) (keys_in (Some (shape_in_body was.body))) (rekeyed_keys g r i key)
+        (record_body (shape_in_body was.body) rec_body)))
+        (subst IsLawfulGraph (sym graph_is)
+        (rekey_lawful g sound.lawful r (node_of r.key (vertex_of was)) (node_is was slot.1) (keys_in (Some (shape_in_body was.body))) i key
+        (record_body (shape_in_body was.body) rec_body)))
         (λ f h.
-        ap (λ o. is_record_shape (shape_in o) && list_any (same_node f) (parents_in o)) (at_here g r (node_of r.key (vertex_of was)) (node_of r.key (vertex_of x)) (node_is was slot.1) refl)
+        ap (λ o. is_record_shape (shape_in o) && list_any (same_node f) (parents_in o))
+        (at_here g r (node_of r.key (vertex_of was)) (node_of r.key (vertex_of x)) (node_is was slot.1) refl)
         ∙ ap₂ (λ s ps. is_record_shape (Some s) && list_any (same_node f) ps) shape_is parents_are
         ∙ file_among g sound.lawful (first_parent g r) f (rekeyed_keys g r i key) h ∙ sym (record_of_file g sound.lawful r rec f h))
-        (subst (KeepsBeside (changed limits old new births sound r was x slot.1 slot.2 refl) (record { key = r.key; birth = x.birth }) (vertex_of x)) (sym shape_is) tt)
+        (subst (KeepsBeside (changed limits old new births sound r was x slot.1 slot.2 refl) (record { key = r.key; birth = x.birth }) (vertex_of x))
+        (sym shape_is) tt)
 
 -- what passes a test is found by it
 first_within : {A : Type 0} (p : A → Bool) (xs : List A) → list_any p xs ≡ true → position_or_len p xs < length xs
@@ -195,7 +213,8 @@ not_missed p xs h e =
     none_some (sym e ∙ ap (λ b. if b then Some (position_or_len p xs) else None) there)
 
 -- an index of a file is found among the file's
-pub index_among : (g : Graph) (law : IsLawfulGraph g) (f i : NodeId) → is_index_of_shape f (shape_of g i) ≡ true → list_any (λ listed. same_node listed i) (indexes_of g f) ≡ true
+pub index_among : (g : Graph) (law : IsLawfulGraph g) (f i : NodeId) → is_index_of_shape f (shape_of g i) ≡ true
+    → list_any (λ listed. same_node listed i) (indexes_of g f) ≡ true
 index_among g law f i h =
     turned (indexes_of g f) ∙ index_listed g law f i (by (node_at g i) h) h
   where

@@ -58,7 +58,8 @@ module _ (g : Graph) (law : IsLawfulGraph g) (r : NodeId) (rec : is_record_shape
       let ne : b ≢ r.birth = other_number b r.birth e in
       ap (λ o. kept (λ q. is_index_of_shape f (shape_of (without_node g r) q)) (id_of b o)) (at_beside b ne) ∙ by ne (g.at b))
     where
-      by : b ≢ r.birth → (o : Option Node) → kept (λ q. is_index_of_shape f (shape_of (without_node g r) q)) (id_of b o) ≡ kept (λ q. is_index_of_shape f (shape_of g q)) (id_of b o)
+      by : b ≢ r.birth → (o : Option Node)
+          → kept (λ q. is_index_of_shape f (shape_of (without_node g r) q)) (id_of b o) ≡ kept (λ q. is_index_of_shape f (shape_of g q)) (id_of b o)
       by ne None = refl
       by ne (Some x) =
           let id : NodeId = record { key = x.key; birth = b } in
@@ -82,7 +83,8 @@ module _ (g : Graph) (law : IsLawfulGraph g) (r : NodeId) (rec : is_record_shape
           ∙ ap (λ z. if z then Some id else None) (ap (λ q. is_index_of_shape f (shape_of g q)) is_r ∙ none_rec f (shape_of g r) rec)
 
   pub indexes_left : (f : NodeId) → indexes_of (without_node g r) f ≡ indexes_of g f
-  indexes_left f = indexes_are (without_node g r) f ∙ ap (λ (h : ℕ → Option NodeId). filter_map h (range_with_len 1 g.births)) (fun_ext (index_same f)) ∙ sym (indexes_are g f)
+  indexes_left f = indexes_are (without_node g r) f
+      ∙ ap (λ (h : ℕ → Option NodeId). filter_map h (range_with_len 1 g.births)) (fun_ext (index_same f)) ∙ sym (indexes_are g f)
 
   pub removed_frames : Frames g (without_node g r)
   removed_frames = record {
@@ -98,11 +100,14 @@ module _ (g : Graph) (law : IsLawfulGraph g) (r : NodeId) (rec : is_record_shape
     parents_live = λ q p h. let c = was_child p q h in ap is_some (plain_stays p (parent_plain g law q p c)) ∙ law.parents_live q p c;
     acyclic = acyclic_fewer g (without_node g r) was_child law.acyclic;
     keys_differ = λ a b h k e. law.keys_differ a b (was_live a h) (was_live b k) e;
-    born = λ b h. split (b == r.birth) (λ e. absurd (no (sym (ap is_some (at_gone b (same_number b r.birth e))) ∙ h))) (λ e. law.born b (sym (ap is_some (at_beside b (other_number b r.birth e))) ∙ h));
+    born = λ b h. split (b == r.birth) (λ e. absurd (no (sym (ap is_some (at_gone b (same_number b r.birth e))) ∙ h)))
+        (λ e. law.born b (sym (ap is_some (at_beside b (other_number b r.birth e))) ∙ h));
     seven_indexes = λ f. subst (λ (is : List NodeId). length is ≤ 7) (sym (indexes_left f)) (law.seven_indexes f);
     limit = law.limit;
     room =
-        let fewer = map_fewer (λ b. id_of b (g.at b)) (λ b. id_of b ((without_node g r).at b)) (λ b. split (b == r.birth) (λ e. inr (ap (id_of b) (at_gone b (same_number b r.birth e)))) (λ e. inl (ap (id_of b) (at_beside b (other_number b r.birth e))))) (range_with_len 1 g.births) in
+        let fewer = map_fewer (λ b. id_of b (g.at b)) (λ b. id_of b ((without_node g r).at b))
+        (λ b. split (b == r.birth) (λ e. inr (ap (id_of b) (at_gone b (same_number b r.birth e))))
+        (λ e. inl (ap (id_of b) (at_beside b (other_number b r.birth e))))) (range_with_len 1 g.births) in
         let room = law.room in
         omega arith;
   }

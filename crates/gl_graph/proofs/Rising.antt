@@ -9,13 +9,15 @@ use Rattle.gl_graph.specs.Refusals.{is_rising}
 
 all_above : (a b : ℕ) (bs : List ℕ) → a < b → list_all (λ c. nat_lt b c) bs ≡ true → list_all (λ c. nat_lt a c) bs ≡ true
 all_above a b [] low h = refl
-all_above a b (c ∷ bs) low h = let t = and_both (nat_lt b c) (list_all (λ d. nat_lt b d) bs) h in both _ _ (let e = t.0 in grind (arith, nat_tests)) (all_above a b bs low t.1)
+all_above a b (c ∷ bs) low h = let t = and_both (nat_lt b c) (list_all (λ d. nat_lt b d) bs) h in
+    both _ _ (let e = t.0 in grind (arith, nat_tests)) (all_above a b bs low t.1)
 
 rising_skip : (a b : ℕ) (bs : List ℕ) → a < b → is_rising (a ∷ b ∷ bs) ≡ is_rising (b ∷ bs)
 rising_skip a b bs low =
     split (list_all (λ c. nat_lt b c) bs)
     (λ e. ap₂ (λ s t. (s && t) && (list_all (λ c. nat_lt b c) bs && is_rising bs)) less (all_above a b bs low e))
-    (λ e. ap (λ t. (nat_lt a b && list_all (λ c. nat_lt a c) bs) && (t && is_rising bs)) e ∙ nothing (nat_lt a b && list_all (λ c. nat_lt a c) bs) ∙ sym (ap (λ t. t && is_rising bs) e))
+    (λ e. ap (λ t. (nat_lt a b && list_all (λ c. nat_lt a c) bs) && (t && is_rising bs)) e ∙ nothing (nat_lt a b && list_all (λ c. nat_lt a c) bs)
+    ∙ sym (ap (λ t. t && is_rising bs) e))
   where
     less : nat_lt a b ≡ true
     less = grind (arith, nat_tests)
@@ -30,7 +32,8 @@ rising_stop a b bs high = ap (λ s. (s && list_all (λ c. nat_lt a c) bs) && is_
     less : nat_lt a b ≡ false
     less = grind (arith, nat_tests)
 
-pub rising_step : (last : ℕ) (bs : List ℕ) (i : ℕ) → i < length bs → last < slice_index_or bs i 0 → is_rising (slice_index_or bs i 0 ∷ drop (i + 1) bs) ≡ is_rising (last ∷ drop i bs)
+pub rising_step : (last : ℕ) (bs : List ℕ) (i : ℕ) → i < length bs → last < slice_index_or bs i 0
+    → is_rising (slice_index_or bs i 0 ∷ drop (i + 1) bs) ≡ is_rising (last ∷ drop i bs)
 rising_step last bs i low less = sym (ap (λ xs. is_rising (last ∷ xs)) (drop_more bs i 0 low) ∙ rising_skip last (slice_index_or bs i 0) (drop (i + 1) bs) less)
 
 pub rising_ends : (last : ℕ) (bs : List ℕ) (i : ℕ) → i < length bs → slice_index_or bs i 0 ≤ last → is_rising (last ∷ drop i bs) ≡ false

@@ -26,7 +26,13 @@ goes_up g (suc k) n = by (parents_of g n) refl (goes_up g k)
     by [] e rest = record { end = n; way = []; route = refl; done = inl e }
     by (p ∷ ps) e rest =
         let up = rest p in
-        record { end = up.end; way = p ∷ up.way; route = (ap (list_any (same_node p)) e ∙ or_left _ _ (same_node-refl p), up.route); done = ⊎_elim (λ (r : parents_of g up.end ≡ []). inl r) (λ (l : length up.way ≡ k). inr (ap suc l)) up.done }
+        record {
+          end = up.end;
+          way = p ∷ up.way;
+          route = (ap (list_any (same_node p)) e ∙ or_left _ _ (same_node-refl p), up.route);
+          done =
+              ⊎_elim (λ (r : parents_of g up.end ≡ []). inl r) (λ (l : length up.way ≡ k). inr (ap suc l)) up.done;
+        }
 
 pub root_path_there : NodesHaveRootPaths
 root_path_there g law n live =
@@ -37,7 +43,8 @@ root_path_there g law n live =
         up.route,
         (
           live_end g law n up.end up.way live up.route,
-          ⊎_elim (λ (r : parents_of g up.end ≡ []). r) (λ (l : length up.way ≡ node_count g). absurd (let short = route_short g law n up.end up.way live up.route in omega arith)) up.done,
+          ⊎_elim (λ (r : parents_of g up.end ≡ []). r)
+              (λ (l : length up.way ≡ node_count g). absurd (let short = route_short g law n up.end up.way live up.route in omega arith)) up.done,
         ),
       ),
     )

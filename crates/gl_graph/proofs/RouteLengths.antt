@@ -1,5 +1,6 @@
 -- A route has fewer steps than the graph has nodes, since it meets none of them twice.
-use Rattle.std.specs.Prelude.{◌≡◌, ℕ, zero, suc, ◌+◌, ◌<◌, ◌≤◌, Bool, true, false, ◌||◌, ◌==◌, List, [], ◌∷◌, ◌++◌, length, Option, Some, None, is_some, if◌then◌else◌}
+use Rattle.std.specs.Prelude.{◌≡◌, ℕ, zero, suc, ◌+◌, ◌<◌, ◌≤◌, Bool, true, false, ◌||◌, ◌==◌, List, [], ◌∷◌, ◌++◌, length, Option, Some, None}
+use Rattle.std.specs.Prelude.{is_some, if◌then◌else◌}
 use Rattle.std.specs.List.{cons_option, list_any, range_with_len, filter_map, AllByRecursion, IsDistinct}
 use Rattle.std.specs.Cmp.{IsEquivalence}
 use Rattle.std.proofs.lemmas.Map.Made.{length-le_from_is_member}
@@ -36,7 +37,8 @@ key_of_found key n h = by (n.key == key) refl h
     by true e h' = e
     by false e h' = absurd (true≢false (sym h'))
 
-here_id : (q : NodeId) (k : ℕ) (o : Option Node) (xs : List NodeId) → is_some (with_key q.key o) ≡ true → q.birth ≡ k → list_any (same_node q) (cons_option (id_of k o) xs) ≡ true
+here_id : (q : NodeId) (k : ℕ) (o : Option Node) (xs : List NodeId) → is_some (with_key q.key o) ≡ true → q.birth ≡ k
+    → list_any (same_node q) (cons_option (id_of k o) xs) ≡ true
 here_id q k None xs h e = absurd (true≢false (sym h))
 here_id q k (Some n) xs h e = ap (λ b. b || list_any (same_node q) xs) (same_ids q n.key k (key_of_found q.key n h) e)
 
@@ -73,7 +75,8 @@ module _ (g : Graph) (law : IsLawfulGraph g) where
   live_way n r q (p ∷ way) live route h =
       or_elim _ _ h (λ here. ap (is_live g) (same_node-equal q n here) ∙ live) (λ there. live_way p r q way (law.parents_live n p route.0) route.1 there)
 
-  listed_from : (q : NodeId) (k n : ℕ) → k ≤ q.birth → q.birth < k + n → is_live g q ≡ true → list_any (same_node q) (filter_map (λ b. id_of b (g.at b)) (range_with_len k n)) ≡ true
+  listed_from : (q : NodeId) (k n : ℕ) → k ≤ q.birth → q.birth < k + n → is_live g q ≡ true
+      → list_any (same_node q) (filter_map (λ b. id_of b (g.at b)) (range_with_len k n)) ≡ true
   listed_from q k zero low high live = absurd (omega arith)
   listed_from q k (suc n) low high live =
       ⊎_elim (λ e. here_id q k (g.at k) _ (sym (ap (λ b. is_some (with_key q.key (g.at b))) e) ∙ live) e)

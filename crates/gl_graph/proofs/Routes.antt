@@ -13,7 +13,8 @@ join g a b c [] way' r r' = subst (λ x. IsRoute g x way' c) (sym r) r'
 join g a b c (p ∷ way) way' r r' = (r.0, join g p b c way way' r.1 r')
 
 -- every step is one of g
-route_fewer : (g g' : Graph) → ((p n : NodeId) → is_child g' p n ≡ true → is_child g p n ≡ true) → (a b : NodeId) (way : List NodeId) → IsRoute g' a way b → IsRoute g a way b
+route_fewer : (g g' : Graph) → ((p n : NodeId) → is_child g' p n ≡ true → is_child g p n ≡ true) → (a b : NodeId) (way : List NodeId)
+    → IsRoute g' a way b → IsRoute g a way b
 route_fewer g g' less a b [] r = r
 route_fewer g g' less a b (p ∷ way) r = (less p a r.0, route_fewer g g' less p b way r.1)
 
@@ -23,7 +24,8 @@ acyclic_fewer g g' less a n p way r = a n p way (route_fewer g g' less n n (p �
 -- nodes beside: the parents of the old ones are as they were, and above a new one at most one more is new
 module _ (g g' : Graph) (live : (p n : NodeId) → is_child g p n ≡ true → is_live g p ≡ true)
     (old : (p n : NodeId) → is_live g n ≡ true → is_child g' p n ≡ true → is_child g p n ≡ true)
-    (new : (p n : NodeId) → is_live g n ≡ false → is_child g' p n ≡ true → (is_live g p ≡ true) ⊎ ((q : NodeId) → is_child g' q p ≡ true → is_live g q ≡ true)) where
+    (new : (p n : NodeId) → is_live g n ≡ false → is_child g' p n ≡ true → (is_live g p ≡ true)
+    ⊎ ((q : NodeId) → is_child g' q p ≡ true → is_live g q ≡ true)) where
   stays_old : (a b : NodeId) (way : List NodeId) → is_live g a ≡ true → IsRoute g' a way b → is_live g b ≡ true
   stays_old a b [] h r = ap (is_live g) (sym r) ∙ h
   stays_old a b (p ∷ way) h r = stays_old p b way (live p a (old p a h r.0)) r.1
@@ -60,11 +62,22 @@ module _ (g g' : Graph) (n : NodeId)
       (λ is.
       let same : a ≡ n = same_node-equal a n is in
       let given : is_child g' p n ≡ true = subst (λ x. is_child g' p x ≡ true) same r.0 in
-      ⊎_elim (λ up. inr (record { parent = p; given = given; before_way = []; before = same; after_way = way; after = up })) (λ o. absurd (clear p o.before_way given o.before)) (goes p b way r.1))
+      ⊎_elim (λ up. inr (record { parent = p; given = given; before_way = []; before = same; after_way = way; after = up }))
+      (λ o. absurd (clear p o.before_way given o.before)) (goes p b way r.1))
       (λ other.
       let step = kept p a (same_node-other a n other) r.0 in
-      ⊎_elim (λ up. inl (step, up)) (λ o. inr (record { parent = o.parent; given = o.given; before_way = p ∷ o.before_way; before = (step, o.before); after_way = o.after_way; after = o.after })) (goes p b way r.1))
+      ⊎_elim (λ up. inl (step, up)) (λ o. inr
+      (record {
+        parent = o.parent;
+        given = o.given;
+        before_way = p ∷ o.before_way;
+        before = (step, o.before);
+        after_way = o.after_way;
+        after =
+            o.after;
+      })) (goes p b way r.1))
 
   pub acyclic_moved : IsAcyclic g → IsAcyclic g'
   acyclic_moved a m p way r =
-      ⊎_elim (λ was. a m p way was) (λ o. clear o.parent (o.after_way ++ o.before_way) o.given (join g o.parent m n o.after_way o.before_way o.after o.before)) (goes m m (p ∷ way) r)
+      ⊎_elim (λ was. a m p way was) (λ o. clear o.parent (o.after_way ++ o.before_way) o.given
+      (join g o.parent m n o.after_way o.before_way o.after o.before)) (goes m m (p ∷ way) r)

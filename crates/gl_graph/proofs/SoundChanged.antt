@@ -19,7 +19,8 @@ use Rattle.gl_graph.proofs.Counts.{count_same, nodes_live}
 use Rattle.gl_graph.proofs.Slots.{node_there, written, written_apart}
 use Rattle.gl_graph.proofs.Kept.{beside_kept}
 
-module _ (limits : Limits) (old new : Slab Stored) (births : ℕ) (sound : AreSound limits old births) (n : NodeId) (was x : Stored) (there : get old n.key ≡ Some was) (born : was.birth ≡ n.birth) (same_birth : x.birth ≡ was.birth) where
+module _ (limits : Limits) (old new : Slab Stored) (births : ℕ) (sound : AreSound limits old births) (n : NodeId) (was x : Stored)
+    (there : get old n.key ≡ Some was) (born : was.birth ≡ n.birth) (same_birth : x.birth ≡ was.birth) where
   abbrev pub g : Graph
   g = graph_of (seen limits old births)
 
@@ -40,22 +41,31 @@ module _ (limits : Limits) (old new : Slab Stored) (births : ℕ) (sound : AreSo
       records_same f h =
           ap (count_by (is_record_of changed f)) (nodes_same g n (node_of n.key (vertex_of was)) (node_of n.key (vertex_of x)) node_was refl)
           ∙ count_same (is_live g) (is_record_of g f) (is_record_of changed f) (nodes g) (nodes_live g)
-          (λ q live. split (same_node q n) (λ e. ap (is_record_of changed f) (same_node-equal q n e) ∙ records f h ∙ ap (is_record_of g f) (sym (same_node-equal q n e)))
-          (λ e. ap (λ o. is_record_shape (shape_in o) && list_any (same_node f) (parents_in o)) (at_other g n (node_of n.key (vertex_of was)) (node_of n.key (vertex_of x)) node_was refl q (same_node-other q n e))))
+          (λ q live. split (same_node q n)
+          (λ e. ap (is_record_of changed f) (same_node-equal q n e) ∙ records f h ∙ ap (is_record_of g f) (sym (same_node-equal q n e)))
+          (λ e. ap (λ o. is_record_shape (shape_in o) && list_any (same_node f) (parents_in o))
+          (at_other g n (node_of n.key (vertex_of was)) (node_of n.key (vertex_of x)) node_was refl q (same_node-other q n e))))
 
       -- what was kept beside a node agrees
       pub still_kept : (k : ℕ) (y : Stored) → get old k ≡ Some y → AgreesAt changed k (vertex_of y)
       still_kept k y e =
-          let shape : shape_of g (record { key = k; birth = y.birth }) ≡ Some (shape_in_body y.body) = ap shape_in (node_there limits old births sound.apart k y e) in
-          beside_kept g changed sound.lawful (changed_frames g n (node_of n.key (vertex_of was)) (node_of n.key (vertex_of x)) node_was refl alike) (record { key = k; birth = y.birth }) (vertex_of y) (shape_in_body y.body) shape
-          (λ h. (indexes_same g n (node_of n.key (vertex_of was)) (node_of n.key (vertex_of x)) node_was refl alike (record { key = k; birth = y.birth }), records_same (record { key = k; birth = y.birth }) (ap is_file_shape shape ∙ h)))
+          let shape : shape_of g (record { key = k; birth = y.birth }) ≡ Some (shape_in_body y.body) =
+          ap shape_in (node_there limits old births sound.apart k y e) in
+          beside_kept g changed sound.lawful (changed_frames g n (node_of n.key (vertex_of was)) (node_of n.key (vertex_of x)) node_was refl alike)
+          (record { key = k; birth = y.birth }) (vertex_of y) (shape_in_body y.body) shape
+          (λ h. (
+            indexes_same g n (node_of n.key (vertex_of was)) (node_of n.key (vertex_of x)) node_was refl alike
+                (record { key = k; birth = y.birth }),
+            records_same (record { key = k; birth = y.birth }) (ap is_file_shape shape ∙ h),
+          ))
           (sound.agree k y e)
 
       pub changed_sound : AgreesAt changed n.key (vertex_of x) → AreSound limits new births
       changed_sound here = record {
         lawful = subst IsLawfulGraph (sym changed_graph) lawful;
         apart = written_apart limits old new births n.key was x sound.apart there u same_birth;
-        counted = len ∙ sound.counted ∙ sym (ap length (nodes_same g n (node_of n.key (vertex_of was)) (node_of n.key (vertex_of x)) node_was refl)) ∙ ap node_count (sym changed_graph);
+        counted = len ∙ sound.counted ∙ sym (ap length (nodes_same g n (node_of n.key (vertex_of was)) (node_of n.key (vertex_of x)) node_was refl))
+            ∙ ap node_count (sym changed_graph);
         agree = λ k y e. subst (λ h. AgreesAt h k (vertex_of y)) (sym changed_graph) (split (k == n.key)
             (λ t.
             let at : k ≡ n.key = same_number k n.key t in

@@ -1,5 +1,6 @@
 -- An index is born with its intervals: what is kept beside the graph agrees.
-use Rattle.std.specs.Prelude.{◌≡◌, ◌≢◌, ℕ, zero, suc, ◌+◌, ◌<◌, ◌≤◌, ◌^◌, true, not, ◌==◌, List, [], ◌∷◌, ◌++◌, length, Option, Some, None, slice_get, Vec, Bool}
+use Rattle.std.specs.Prelude.{◌≡◌, ◌≢◌, ℕ, zero, suc, ◌+◌, ◌<◌, ◌≤◌, ◌^◌, true, not, ◌==◌, List, [], ◌∷◌, ◌++◌, length, Option, Some, None, slice_get}
+use Rattle.std.specs.Prelude.{Vec, Bool}
 use Rattle.std.specs.List.{list_any}
 use Rattle.std.specs.declared.alloc.Global.{Global}
 use Rattle.std.proofs.Common.{refl, sym, ap, ◌∙◌, subst, arith, ⊎_elim}
@@ -17,7 +18,8 @@ use Rattle.gl_graph.specs.Lawful.{IsLawfulGraph}
 use Rattle.gl_graph.specs.Changes.{born_node, born_nodes, born_index, interval_nodes, are_apart, IsIndexBorn}
 use Rattle.gl_graph.specs.Refusals.{index_refusal}
 use Rattle.gl_graph.specs.View.{View, graph_of, node_of, record_count, KeepsBeside, AgreesAt}
-use Rattle.gl_graph.specs.Seen.{Limits, shape_in_body, indexes_in_body, records_in_body, intervals_in_body, body_with_intervals, body_with_indexes, vertex_of, seen, AreSound, parent_list}
+use Rattle.gl_graph.specs.Seen.{Limits, shape_in_body, indexes_in_body, records_in_body, intervals_in_body, body_with_intervals, body_with_indexes}
+use Rattle.gl_graph.specs.Seen.{vertex_of, seen, AreSound, parent_list}
 use Rattle.gl_graph.specs.Grown.{ids_of, AreIntervalsBorn}
 use Rattle.gl_graph.proofs.Born.{place_in}
 use Rattle.gl_graph.proofs.NewNodes.{place_there}
@@ -37,7 +39,8 @@ same_shape body.Bare fresh = refl
 same_shape (body.Keyed one) fresh = refl
 same_shape (body.ManyKeyed keys) fresh = refl
 
-has_intervals : (b : Body) (fresh : Vec NodeId Global) (f : NodeId) (bs : List ℕ) → shape_in_body b ≡ Index f bs → intervals_in_body (body_with_intervals b fresh) ≡ fresh.items
+has_intervals : (b : Body) (fresh : Vec NodeId Global) (f : NodeId) (bs : List ℕ) → shape_in_body b ≡ Index f bs
+    → intervals_in_body (body_with_intervals b fresh) ≡ fresh.items
 has_intervals body.Inner fresh f bs e = cc
 has_intervals (body.File kept) fresh f bs e = cc
 has_intervals (body.Index kept) fresh f bs e = refl
@@ -55,7 +58,8 @@ file_same_shape body.Bare fresh = refl
 file_same_shape (body.Keyed one) fresh = refl
 file_same_shape (body.ManyKeyed keys) fresh = refl
 
-has_indexes : (b : Body) (fresh : SmallVec NodeId) (adopted : Bool) → shape_in_body b ≡ File adopted → (indexes_in_body (body_with_indexes b fresh) ≡ fresh.items) × (records_in_body (body_with_indexes b fresh) ≡ records_in_body b)
+has_indexes : (b : Body) (fresh : SmallVec NodeId) (adopted : Bool) → shape_in_body b ≡ File adopted
+    → (indexes_in_body (body_with_indexes b fresh) ≡ fresh.items) × (records_in_body (body_with_indexes b fresh) ≡ records_in_body b)
 has_indexes body.Inner fresh adopted e = cc
 has_indexes (body.File kept) fresh adopted e = (refl, refl)
 has_indexes (body.Index kept) fresh adopted e = cc
@@ -65,12 +69,15 @@ has_indexes (body.Keyed one) fresh adopted e = cc
 has_indexes (body.ManyKeyed keys) fresh adopted e = cc
 
 -- the list of intervals names each at its place
-ids_at : (index : NodeId) (from birth : ℕ) (keys : List ℕ) (k b : ℕ) (node : Node) → birth + k ≡ b → place_in (interval_nodes index from keys) k ≡ Some node → slice_get (ids_of birth keys) k ≡ Some (record { key = node.key; birth = b })
+ids_at : (index : NodeId) (from birth : ℕ) (keys : List ℕ) (k b : ℕ) (node : Node) → birth + k ≡ b
+    → place_in (interval_nodes index from keys) k ≡ Some node → slice_get (ids_of birth keys) k ≡ Some (record { key = node.key; birth = b })
 ids_at index from birth [] k b node e f = absurd (none_some f)
-ids_at index from birth (key ∷ keys) zero b node e f = let same : birth ≡ b = omega arith in let is = some_is f in λ i. Some (record { key = (is i).key; birth = same i })
+ids_at index from birth (key ∷ keys) zero b node e f =
+    let same : birth ≡ b = omega arith in let is = some_is f in λ i. Some (record { key = (is i).key; birth = same i })
 ids_at index from birth (key ∷ keys) (suc k) b node e f = ids_at index (from + 1) (birth + 1) keys k b node (omega arith) f
 
-vacant_free : (limits : Limits) (s : Slab Stored) (births : ℕ) (sound : AreSound limits s births) (key : ℕ) → get s key ≡ None → IsFreeKey (graph_of (seen limits s births)) key
+vacant_free : (limits : Limits) (s : Slab Stored) (births : ℕ) (sound : AreSound limits s births) (key : ℕ) → get s key ≡ None
+    → IsFreeKey (graph_of (seen limits s births)) key
 vacant_free limits s births sound key e n h same = let x = stored_of limits s births sound.apart n h in none_some (sym e ∙ ap (get s) (sym same) ∙ x.1)
 
 -- an index that no test refuses can be numbered, with its intervals
@@ -84,8 +91,10 @@ count_ids_of : (birth : ℕ) (keys : List ℕ) → length (ids_of birth keys) �
 count_ids_of birth [] = refl
 count_ids_of birth (k ∷ keys) = ap suc (count_ids_of (birth + 1) keys)
 
-module _ (limits : Limits) (old mid grown : Slab Stored) (births key : ℕ) (x : Stored) (sound : AreSound limits old births) (free : get old key ≡ None) (u : Updates old mid key (Some x)) (next : x.birth ≡ births + 1) (len : slab_len mid ≡ slab_len old + 1)
-    (file : NodeId) (ps : List NodeId) (bounds : List ℕ) (shape : shape_in_body x.body ≡ Index file bounds) (parents : parent_list x.parents ≡ ps) (may : IsRoomyIndex (graph_of (seen limits old births)) ps file bounds)
+module _ (limits : Limits) (old mid grown : Slab Stored) (births key : ℕ) (x : Stored) (sound : AreSound limits old births)
+    (free : get old key ≡ None) (u : Updates old mid key (Some x)) (next : x.birth ≡ births + 1) (len : slab_len mid ≡ slab_len old + 1)
+    (file : NodeId) (ps : List NodeId) (bounds : List ℕ) (shape : shape_in_body x.body ≡ Index file bounds) (parents : parent_list x.parents ≡ ps)
+    (may : IsRoomyIndex (graph_of (seen limits old births)) ps file bounds)
     (ids : List NodeId) (born : AreIntervalsBorn mid grown (record { key = key; birth = births + 1 }) (length bounds + 1) ids) where
   abbrev pub g : Graph
   g = graph_of (seen limits old births)
@@ -103,7 +112,8 @@ module _ (limits : Limits) (old mid grown : Slab Stored) (births key : ℕ) (x :
   after = born_index g key ps file bounds keys
 
   index_born : graph_of (seen limits mid (births + 1)) ≡ born_node g (record { key = key; shape = Index file bounds; parents = ps })
-  index_born = inserted limits old mid births key x sound.apart (born_within limits old births sound) free u next ∙ (λ i. born_node g (record { key = key; shape = shape i; parents = parents i }))
+  index_born = inserted limits old mid births key x sound.apart (born_within limits old births sound) free u next
+      ∙ (λ i. born_node g (record { key = key; shape = shape i; parents = parents i }))
 
   count : births + 1 + length (interval_nodes id 0 keys) ≡ total
   count = let c = count_intervals id 0 keys in let m = born.many in omega arith
@@ -125,11 +135,13 @@ module _ (limits : Limits) (old mid grown : Slab Stored) (births key : ℕ) (x :
   apart_keys : are_apart (key ∷ keys) ≡ true
   apart_keys =
       both _ _
-      (split (list_any (λ y. y == key) keys) (λ t. absurd (none_some (sym (born.grown.vacant key (ap (list_any (λ y. y == key)) (keys_of_intervals id 0 keys) ∙ t)) ∙ u.changed))) (λ t. ap not t))
+      (split (list_any (λ y. y == key) keys)
+      (λ t. absurd (none_some (sym (born.grown.vacant key (ap (list_any (λ y. y == key)) (keys_of_intervals id 0 keys) ∙ t)) ∙ u.changed))) (λ t. ap not t))
       (ap are_apart (sym (keys_of_intervals id 0 keys)) ∙ born.grown.keys_apart)
 
   pub lawful : IsLawfulGraph after
-  lawful = index_lawful g sound.lawful key ps file bounds keys may.inner may.file may.few may.rise may.unused may.indexes born.many apart_keys free_keys may.room
+  lawful = index_lawful g sound.lawful key ps file bounds keys may.inner may.file may.few may.rise may.unused may.indexes born.many apart_keys
+      free_keys may.room
 
   abbrev pub ns : List Node
   ns = record { key = key; shape = Index file bounds; parents = ps } ∷ interval_nodes id 0 keys
@@ -152,16 +164,24 @@ module _ (limits : Limits) (old mid grown : Slab Stored) (births key : ℕ) (x :
   -- a node that stays, and is not the file, agrees as before
   pub old_agrees : (k : ℕ) (y : Stored) → k ≢ file.key → get old k ≡ Some y → AgreesAt after k (vertex_of y)
   old_agrees k y ne e =
-      let shape_there : shape_of g (record { key = k; birth = y.birth }) ≡ Some (shape_in_body y.body) = ap shape_in (node_there limits old births sound.apart k y e) in
-      beside_kept g after sound.lawful (frames g sound.lawful key ps file bounds keys may.inner may.file may.few may.rise may.unused may.indexes born.many apart_keys free_keys may.room) (record { key = k; birth = y.birth }) (vertex_of y) (shape_in_body y.body) shape_there
-      (λ h. (others g sound.lawful key ps file bounds keys (record { key = k; birth = y.birth }) (same_node-differ (record { key = k; birth = y.birth }) file (λ same. ne (ap (λ q. q.key) same))), records_kept (record { key = k; birth = y.birth })))
+      let shape_there : shape_of g (record { key = k; birth = y.birth }) ≡ Some (shape_in_body y.body) =
+      ap shape_in (node_there limits old births sound.apart k y e) in
+      beside_kept g after sound.lawful (frames g sound.lawful key ps file bounds keys may.inner may.file may.few may.rise may.unused may.indexes
+      born.many apart_keys free_keys may.room) (record { key = k; birth = y.birth }) (vertex_of y) (shape_in_body y.body) shape_there
+      (λ h. (
+        others g sound.lawful key ps file bounds keys (record { key = k; birth = y.birth })
+            (same_node-differ (record { key = k; birth = y.birth }) file (λ same. ne (ap (λ q. q.key) same))),
+        records_kept
+            (record { key = k; birth = y.birth }),
+      ))
       (sound.agree k y e)
 
   -- so does what has come
   pub grown_agrees : (k : ℕ) (y : Stored) → k ≢ file.key → k ≢ key → get grown k ≡ Some y → AgreesAt after k (vertex_of y)
   grown_agrees k y ne other e =
       ⊎_elim (λ (was : get mid k ≡ Some y). old_agrees k y ne (sym (u.others k other) ∙ was))
-      (λ (new : (place : ℕ) × (shape_in_body y.body ≡ Interval place)). subst (KeepsBeside after (record { key = k; birth = y.birth }) (vertex_of y)) (sym new.1) tt) (born.grown.came k y e)
+      (λ (new : (place : ℕ) × (shape_in_body y.body ≡ Interval place)). subst (KeepsBeside after (record { key = k; birth = y.birth }) (vertex_of y))
+      (sym new.1) tt) (born.grown.came k y e)
 
   intervals_at : (place : ℕ) → place ≤ length bounds → slice_get ids place ≡ Some (interval after id place)
   intervals_at place low =
@@ -170,10 +190,15 @@ module _ (limits : Limits) (old mid grown : Slab Stored) (births key : ℕ) (x :
       let there = place_there (interval_nodes id 0 keys) place (omega arith) in
       let at = interval_there g sound.lawful key ps file bounds keys place there.0 there.1 in
       let birth : births + 1 + suc place ≡ births + 1 + 1 + place = omega arith in
-      ap (λ xs. slice_get xs place) born.ids_are ∙ ids_at id 0 (births + 1 + 1) keys place (births + 1 + suc place) there.0 (omega arith) there.1 ∙ ap Some (sym at)
+      ap (λ xs. slice_get xs place) born.ids_are ∙ ids_at id 0 (births + 1 + 1) keys place (births + 1 + suc place) there.0 (omega arith) there.1
+      ∙ ap Some (sym at)
 
-  module _ (third fourth : Slab Stored) (fresh : Vec NodeId Global) (fresh_is : fresh.items ≡ ids) (write : (y : Stored) → get grown key ≡ Some y → Updates grown third key (Some (record y { body = body_with_intervals y.body fresh }))) (len3 : slab_len third ≡ slab_len grown)
-      (list : SmallVec NodeId) (list_is : list.items ≡ indexes_of g file ++ id ∷ []) (rewrite : (y : Stored) → get third file.key ≡ Some y → Updates third fourth file.key (Some (record y { body = body_with_indexes y.body list }))) (len4 : slab_len fourth ≡ slab_len third) where
+  module _ (third fourth : Slab Stored) (fresh : Vec NodeId Global) (fresh_is : fresh.items ≡ ids)
+      (write : (y : Stored) → get grown key ≡ Some y → Updates grown third key (Some (record y { body = body_with_intervals y.body fresh })))
+      (len3 : slab_len third ≡ slab_len grown)
+      (list : SmallVec NodeId) (list_is : list.items ≡ indexes_of g file ++ id ∷ [])
+      (rewrite : (y : Stored) → get third file.key ≡ Some y
+      → Updates third fourth file.key (Some (record y { body = body_with_indexes y.body list }))) (len4 : slab_len fourth ≡ slab_len third) where
     abbrev x3 : Stored
     x3 = record x { body = body_with_intervals x.body fresh }
 
@@ -199,28 +224,36 @@ module _ (limits : Limits) (old mid grown : Slab Stored) (births key : ℕ) (x :
     graph3 = unseen limits grown third total key x x3 born.grown.apart index_there u3 refl alike3
 
     pub index_graph : graph_of (seen limits fourth total) ≡ after
-    index_graph = unseen limits third fourth total file.key slot.stored f4 (written_apart limits grown third total key x x3 born.grown.apart index_there u3 refl) file_third u4 refl alike4 ∙ graph3 ∙ all_born
+    index_graph = unseen limits third fourth total file.key slot.stored f4
+        (written_apart limits grown third total key x x3 born.grown.apart index_there u3 refl) file_third u4 refl alike4 ∙ graph3 ∙ all_born
 
     file_agrees : AgreesAt after file.key (vertex_of f4)
     file_agrees =
         let kept = has_indexes slot.stored.body list slot.adopted slot.shape in
-        let was = subst (KeepsBeside g (record { key = file.key; birth = slot.stored.birth }) (vertex_of slot.stored)) slot.shape (sound.agree file.key slot.stored slot.there) in
+        let was = subst (KeepsBeside g (record { key = file.key; birth = slot.stored.birth }) (vertex_of slot.stored)) slot.shape
+        (sound.agree file.key slot.stored slot.there) in
         let here : NodeId = record { key = file.key; birth = slot.stored.birth } in
         let is_file : here ≡ file = (let b = slot.born in λ i. record { key = file.key; birth = b i }) in
-        subst (KeepsBeside after (record { key = file.key; birth = slot.stored.birth }) (vertex_of f4)) (sym (file_same_shape slot.stored.body list ∙ slot.shape))
-        (kept.0 ∙ list_is ∙ sym (file_index g sound.lawful key ps file bounds keys) ∙ ap (indexes_of after) (sym is_file), kept.1 ∙ was.1 ∙ sym (records_kept (record { key = file.key; birth = slot.stored.birth })))
+        subst (KeepsBeside after (record { key = file.key; birth = slot.stored.birth }) (vertex_of f4))
+        (sym (file_same_shape slot.stored.body list ∙ slot.shape)) (
+          kept.0 ∙ list_is ∙ sym (file_index g sound.lawful key ps file bounds keys) ∙ ap (indexes_of after) (sym is_file),
+          kept.1 ∙ was.1
+              ∙ sym (records_kept (record { key = file.key; birth = slot.stored.birth })),
+        )
 
     index_agrees : AgreesAt after key (vertex_of x3)
     index_agrees =
         let kept = has_intervals x.body fresh file bounds shape ∙ fresh_is in
         let many : length ids ≡ length bounds + 1 = ap length born.ids_are ∙ count_ids_of (births + 1 + 1) keys ∙ born.many in
         subst (λ b. KeepsBeside after (record { key = key; birth = b }) (vertex_of x3) (shape_in_body x3.body)) (sym next)
-        (subst (KeepsBeside after id (vertex_of x3)) (sym (same_shape x.body fresh ∙ shape)) (ap length kept ∙ many, λ place low. ap (λ is. slice_get is place) kept ∙ intervals_at place low))
+        (subst (KeepsBeside after id (vertex_of x3)) (sym (same_shape x.body fresh ∙ shape))
+        (ap length kept ∙ many, λ place low. ap (λ is. slice_get is place) kept ∙ intervals_at place low))
 
     pub index_sound : AreSound limits fourth total
     index_sound = record {
       lawful = subst IsLawfulGraph (sym index_graph) lawful;
-      apart = written_apart limits third fourth total file.key slot.stored f4 (written_apart limits grown third total key x x3 born.grown.apart index_there u3 refl) file_third u4 refl;
+      apart = written_apart limits third fourth total file.key slot.stored f4
+          (written_apart limits grown third total key x x3 born.grown.apart index_there u3 refl) file_third u4 refl;
       counted =
           (let all = count_grown g sound.lawful ns in
           let many = count_intervals id 0 keys in
@@ -249,5 +282,6 @@ module _ (limits : Limits) (old mid grown : Slab Stored) (births key : ℕ) (x :
     index_made = record { interval_keys = keys; intervals = born.many; keys_apart = apart_keys; keys_free = free_keys; birth = refl; after = index_graph }
 
 -- the capacity is not seen
-pub sound_capacity : (limits : Limits) (s : Slab Stored) (births capacity : ℕ) → AreSound limits s births → AreSound limits (record s { capacity = capacity }) births
+pub sound_capacity : (limits : Limits) (s : Slab Stored) (births capacity : ℕ) → AreSound limits s births
+    → AreSound limits (record s { capacity = capacity }) births
 sound_capacity limits s births capacity sound = record { lawful = sound.lawful; apart = sound.apart; counted = sound.counted; agree = sound.agree }

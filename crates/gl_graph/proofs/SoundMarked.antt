@@ -85,4 +85,5 @@ module _ (limits : Limits) (old new : Slab Stored) (births : ℕ) (sound : AreSo
     marked_sound =
         changed_sound limits old new births sound n was x slot.there slot.born refl (write was slot.there) len alike lawful (λ f h. records f)
         (same_beside (changed limits old new births sound n was x slot.there slot.born refl) (record { key = n.key; birth = was.birth }) was was.body
-        (still_kept limits old new births sound n was x slot.there slot.born refl (write was slot.there) len alike lawful (λ f h. records f) n.key was slot.there))
+        (still_kept limits old new births sound n was x slot.there slot.born refl (write was slot.there) len alike lawful
+        (λ f h. records f) n.key was slot.there))

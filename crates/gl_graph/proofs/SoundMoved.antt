@@ -41,14 +41,16 @@ movable_live g n h = by (node_at g n) h
     by (Some x) k = refl
 
 -- what is kept beside a node does not depend on its parents
-same_beside : (g : Graph) (n : NodeId) (was : Stored) (fresh : Parents) (sh : Shape) → KeepsBeside g n (vertex_of was) sh → KeepsBeside g n (vertex_of (record was { parents = fresh })) sh
+same_beside : (g : Graph) (n : NodeId) (was : Stored) (fresh : Parents) (sh : Shape) → KeepsBeside g n (vertex_of was) sh
+    → KeepsBeside g n (vertex_of (record was { parents = fresh })) sh
 same_beside g n was fresh Inner k = k
 same_beside g n was fresh (File adopted) k = k
 same_beside g n was fresh (Index f bs) k = k
 same_beside g n was fresh (Interval place) k = k
 same_beside g n was fresh (Rec keys) k = k
 
-module _ (limits : Limits) (old new : Slab Stored) (births : ℕ) (sound : AreSound limits old births) (n : NodeId) (movable : is_movable_shape (shape_of (graph_of (seen limits old births)) n) ≡ true) where
+module _ (limits : Limits) (old new : Slab Stored) (births : ℕ) (sound : AreSound limits old births) (n : NodeId)
+    (movable : is_movable_shape (shape_of (graph_of (seen limits old births)) n) ≡ true) where
   abbrev pub g : Graph
   g = graph_of (seen limits old births)
 
@@ -58,7 +60,8 @@ module _ (limits : Limits) (old new : Slab Stored) (births : ℕ) (sound : AreSo
   pub contained : ContainsKey old n.key
   contained = ap is_some slot.1
 
-  module _ (ps : List NodeId) (inner : AreInnerParents g (least_parents (shape_of g n)) ps) (clear : first_cycle g n ps ≡ None) (fresh : Parents) (fresh_is : parent_list fresh ≡ ps)
+  module _ (ps : List NodeId) (inner : AreInnerParents g (least_parents (shape_of g n)) ps) (clear : first_cycle g n ps ≡ None) (fresh : Parents)
+      (fresh_is : parent_list fresh ≡ ps)
       (write : (x : Stored) → get old n.key ≡ Some x → Updates old new n.key (Some (record x { parents = fresh }))) (len : slab_len new ≡ slab_len old) where
     abbrev was : Stored
     was = slot.0
@@ -86,18 +89,24 @@ module _ (limits : Limits) (old new : Slab Stored) (births : ℕ) (sound : AreSo
     lawful : IsLawfulGraph (changed limits old new births sound n was x slot.1 slot.2 refl)
     lawful =
         subst IsLawfulGraph (sym graph_is)
-        (move_lawful g sound.lawful n (node_of n.key (vertex_of was)) there ps can_move (subst (λ (o : Option Shape). AreInnerParents g (least_parents o) ps) shape_is inner) (inner_live g ps inner.inner) (no_cycle g n ps clear))
+        (move_lawful g sound.lawful n (node_of n.key (vertex_of was)) there ps can_move
+        (subst (λ (o : Option Shape). AreInnerParents g (least_parents o) ps) shape_is inner) (inner_live g ps inner.inner) (no_cycle g n ps clear))
 
     no_record : is_record_shape (Some (shape_in_body was.body)) ≡ false
     no_record = movable_no_record (Some (shape_in_body was.body)) can_move
 
-    records : (f : NodeId) → (is_record_shape (shape_of (changed limits old new births sound n was x slot.1 slot.2 refl) n) && is_child (changed limits old new births sound n was x slot.1 slot.2 refl) f n) ≡ (is_record_shape (shape_of g n) && is_child g f n)
+    records : (f : NodeId) → (is_record_shape (shape_of (changed limits old new births sound n was x slot.1 slot.2 refl) n)
+        && is_child (changed limits old new births sound n was x slot.1 slot.2 refl) f n) ≡ (is_record_shape (shape_of g n) && is_child g f n)
     records f =
-        ap (λ b. b && is_child (changed limits old new births sound n was x slot.1 slot.2 refl) f n) (ap (λ o. is_record_shape (shape_in o)) (at_here g n (node_of n.key (vertex_of was)) (node_of n.key (vertex_of x)) there refl) ∙ no_record)
+        ap (λ b. b && is_child (changed limits old new births sound n was x slot.1 slot.2 refl) f n)
+        (ap (λ o. is_record_shape (shape_in o)) (at_here g n (node_of n.key (vertex_of was)) (node_of n.key (vertex_of x)) there refl) ∙ no_record)
         ∙ sym (ap (λ b. b && is_child g f n) (ap is_record_shape shape_is ∙ no_record))
 
     pub moved_sound : AreSound limits new births
     moved_sound =
-        changed_sound limits old new births sound n was x slot.1 slot.2 refl (write was slot.1) len (movable_alike (shape_in_body was.body) can_move) lawful (λ f h. records f)
-        (same_beside (changed limits old new births sound n was x slot.1 slot.2 refl) (record { key = n.key; birth = was.birth }) was fresh (shape_in_body was.body)
-        (still_kept limits old new births sound n was x slot.1 slot.2 refl (write was slot.1) len (movable_alike (shape_in_body was.body) can_move) lawful (λ f h. records f) n.key was slot.1))
+        changed_sound limits old new births sound n was x slot.1 slot.2 refl (write was slot.1) len
+        (movable_alike (shape_in_body was.body) can_move) lawful (λ f h. records f)
+        (same_beside (changed limits old new births sound n was x slot.1 slot.2 refl) (record { key = n.key; birth = was.birth }) was fresh
+        (shape_in_body was.body)
+        (still_kept limits old new births sound n was x slot.1 slot.2 refl (write was slot.1) len
+        (movable_alike (shape_in_body was.body) can_move) lawful (λ f h. records f) n.key was slot.1))

@@ -28,7 +28,8 @@ module _ (x : Stored) (adopted : Bool) (file : shape_in_body x.body ≡ File ado
   abbrev pub recounted : Stored
   recounted = record x { body = body_with_records x.body records }
 
-  by_body : (b : Body) → shape_in_body b ≡ File adopted → (shape_in_body (body_with_records b records) ≡ File adopted) × (indexes_in_body (body_with_records b records) ≡ indexes_in_body b)
+  by_body : (b : Body) → shape_in_body b ≡ File adopted → (shape_in_body (body_with_records b records) ≡ File adopted)
+      × (indexes_in_body (body_with_records b records) ≡ indexes_in_body b)
   by_body body.Inner e = cc
   by_body (body.File kept) e = (e, refl)
   by_body (body.Index kept) e = cc
@@ -52,7 +53,8 @@ module _ (x : Stored) (adopted : Bool) (file : shape_in_body x.body ≡ File ado
   pub recounted_alike : (key : ℕ) → node_of key (vertex_of recounted) ≡ node_of key (vertex_of x)
   recounted_alike key = let same = recounted_shape ∙ sym file in λ i. record { key = key; shape = same i; parents = parent_list x.parents }
 
-  pub recounted_agrees : (h : Graph) (n : NodeId) → indexes_in_body x.body ≡ indexes_of h n → records ≡ record_count h n → KeepsBeside h n (vertex_of recounted) (shape_in_body recounted.body)
+  pub recounted_agrees : (h : Graph) (n : NodeId) → indexes_in_body x.body ≡ indexes_of h n → records ≡ record_count h n
+      → KeepsBeside h n (vertex_of recounted) (shape_in_body recounted.body)
   recounted_agrees h n indexes count =
       subst (KeepsBeside h n (vertex_of recounted)) (sym recounted_shape) ((by_body x.body file).1 ∙ indexes, count_written x.body file ∙ count)
 
@@ -67,11 +69,14 @@ pub record IsSoundBut (limits : Limits) (s : Slab Stored) (births : ℕ) (key : 
   pub indexes : indexes_in_body f.body ≡ indexes_of (graph_of (seen limits s births)) (record { key = key; birth = f.birth })
   pub agree : (k : ℕ) (x : Stored) → k ≢ key → get s k ≡ Some x → AgreesAt (graph_of (seen limits s births)) k (vertex_of x)
 
-module _ (limits : Limits) (old new : Slab Stored) (births key : ℕ) (f : Stored) (but : IsSoundBut limits old births key f) (records : ℕ) (u : Updates old new key (Some (record f { body = body_with_records f.body records }))) where
+module _ (limits : Limits) (old new : Slab Stored) (births key : ℕ) (f : Stored) (but : IsSoundBut limits old births key f) (records : ℕ)
+    (u : Updates old new key (Some (record f { body = body_with_records f.body records }))) where
   pub recount_unseen : graph_of (seen limits new births) ≡ graph_of (seen limits old births)
-  recount_unseen = unseen limits old new births key f (record f { body = body_with_records f.body records }) but.apart but.there u refl (recounted_alike f but.adopted but.shape records key)
+  recount_unseen = unseen limits old new births key f (record f { body = body_with_records f.body records }) but.apart but.there u refl
+      (recounted_alike f but.adopted but.shape records key)
 
-  pub sound_recounted : records ≡ record_count (graph_of (seen limits old births)) (record { key = key; birth = f.birth }) → slab_len new ≡ slab_len old → AreSound limits new births
+  pub sound_recounted : records ≡ record_count (graph_of (seen limits old births)) (record { key = key; birth = f.birth })
+      → slab_len new ≡ slab_len old → AreSound limits new births
   sound_recounted count len = record {
     lawful = subst IsLawfulGraph (sym recount_unseen) but.lawful;
     apart = written_apart limits old new births key f (record f { body = body_with_records f.body records }) but.apart but.there u refl;
@@ -81,12 +86,15 @@ module _ (limits : Limits) (old new : Slab Stored) (births key : ℕ) (f : Store
         let here : k ≡ key = same_number k key t in
         let same : record f { body = body_with_records f.body records } ≡ y = some_is (sym u.changed ∙ ap (get new) (sym here) ∙ e) in
         subst (λ c. AgreesAt (graph_of (seen limits old births)) c (vertex_of y)) (sym here)
-        (subst (λ z. AgreesAt (graph_of (seen limits old births)) key (vertex_of z)) same (recounted_agrees f but.adopted but.shape records (graph_of (seen limits old births)) (record { key = key; birth = f.birth }) but.indexes count)))
+        (subst (λ z. AgreesAt (graph_of (seen limits old births)) key (vertex_of z)) same
+        (recounted_agrees f but.adopted but.shape records (graph_of (seen limits old births)) (record { key = key; birth = f.birth }) but.indexes count)))
         (λ t. let ne = other_number k key t in but.agree k y ne (sym (u.others k ne) ∙ e)));
   }
 
-module _ (limits : Limits) (old new : Slab Stored) (births key : ℕ) (x : Stored) (sound : AreSound limits old births) (free : get old key ≡ None) (u : Updates old new key (Some x)) (next : x.birth ≡ births + 1)
-    (file : NodeId) (keys : List ℕ) (f : Stored) (at_file : get old file.key ≡ Some f) (born : f.birth ≡ file.birth) (adopted : Bool) (is_file : shape_in_body f.body ≡ File adopted)
+module _ (limits : Limits) (old new : Slab Stored) (births key : ℕ) (x : Stored) (sound : AreSound limits old births) (free : get old key ≡ None)
+    (u : Updates old new key (Some x)) (next : x.birth ≡ births + 1)
+    (file : NodeId) (keys : List ℕ) (f : Stored) (at_file : get old file.key ≡ Some f) (born : f.birth ≡ file.birth) (adopted : Bool)
+    (is_file : shape_in_body f.body ≡ File adopted)
     (shape : shape_in_body x.body ≡ Rec keys) (parents : parent_list x.parents ≡ record_parents (graph_of (seen limits old births)) file keys)
     (lawful : IsLawfulGraph (born_node (graph_of (seen limits old births)) (node_of key (vertex_of x)))) (len : slab_len new ≡ slab_len old + 1) where
   abbrev g0 : Graph
@@ -114,12 +122,15 @@ module _ (limits : Limits) (old new : Slab Stored) (births key : ℕ) (x : Store
   file_shape_at k y e = ap shape_in (node_there limits old births sound.apart k y e)
 
   file_is : is_file_shape (shape_of g0 file) ≡ true
-  file_is = ap is_file_shape (ap (shape_of g0) (let birth : file.birth ≡ f.birth = sym born in λ i. record { key = file.key; birth = birth i }) ∙ file_shape_at file.key f at_file) ∙ ap (λ s. is_file_shape (Some s)) is_file
+  file_is = ap is_file_shape (ap (shape_of g0) (let birth : file.birth ≡ f.birth = sym born in λ i. record { key = file.key; birth = birth i })
+      ∙ file_shape_at file.key f at_file) ∙ ap (λ s. is_file_shape (Some s)) is_file
 
   pub one_record_more : record_count g1 file ≡ record_count g0 file + 1
   one_record_more =
-      let count : record_count g1 file ≡ record_count g0 file + count_by (is_record_of g1 file) (new_id ∷ []) = records_grown g0 sound.lawful (node_of key (vertex_of x) ∷ []) file in
-      let one : count_by (is_record_of g1 file) (new_id ∷ []) ≡ 1 = count_cons (is_record_of g1 file) new_id [] ∙ ap (λ b. cond b 1 0 + 0) (record_of file file_is ∙ same_node-refl file) in
+      let count : record_count g1 file ≡ record_count g0 file + count_by (is_record_of g1 file) (new_id ∷ []) =
+      records_grown g0 sound.lawful (node_of key (vertex_of x) ∷ []) file in
+      let one : count_by (is_record_of g1 file) (new_id ∷ []) ≡ 1 =
+      count_cons (is_record_of g1 file) new_id [] ∙ ap (λ b. cond b 1 0 + 0) (record_of file file_is ∙ same_node-refl file) in
       omega arith
 
   file_stays : file.key ≢ key
@@ -135,7 +146,8 @@ module _ (limits : Limits) (old new : Slab Stored) (births key : ℕ) (x : Store
     shape = is_file;
     indexes =
         (subst (KeepsBeside g0 (record { key = file.key; birth = f.birth }) (vertex_of f)) is_file (sound.agree file.key f at_file)).0
-        ∙ sym (one_indexes g0 sound.lawful (node_of key (vertex_of x)) no_index (record { key = file.key; birth = f.birth })) ∙ ap (λ h. indexes_of h (record { key = file.key; birth = f.birth })) (sym born_graph);
+        ∙ sym (one_indexes g0 sound.lawful (node_of key (vertex_of x)) no_index (record { key = file.key; birth = f.birth }))
+        ∙ ap (λ h. indexes_of h (record { key = file.key; birth = f.birth })) (sym born_graph);
     agree = λ k y ne e. subst (λ h. AgreesAt h k (vertex_of y)) (sym born_graph) (split (k == key)
         (λ t.
         let here : k ≡ key = same_number k key t in
@@ -144,12 +156,15 @@ module _ (limits : Limits) (old new : Slab Stored) (births key : ℕ) (x : Store
         (λ t.
         let was : get old k ≡ Some y = sym (u.others k (other_number k key t)) ∙ e in
         old_kept limits old new births key x sound free u next no_index k y was
-        (λ h. record_of (record { key = k; birth = y.birth }) (ap is_file_shape (file_shape_at k y was) ∙ h) ∙ same_node-differ (record { key = k; birth = y.birth }) file (λ same. ne (ap (λ q. q.key) same)))));
+        (λ h. record_of (record { key = k; birth = y.birth }) (ap is_file_shape (file_shape_at k y was) ∙ h)
+        ∙ same_node-differ (record { key = k; birth = y.birth }) file (λ same. ne (ap (λ q. q.key) same)))));
   }
 
 -- a record is stored, and its file counts it
-module _ (limits : Limits) (old mid new : Slab Stored) (births key : ℕ) (x : Stored) (sound : AreSound limits old births) (free : get old key ≡ None) (u : Updates old mid key (Some x)) (next : x.birth ≡ births + 1) (len : slab_len mid ≡ slab_len old + 1)
-    (file : NodeId) (keys : List ℕ) (is_file : is_file_shape (shape_of (graph_of (seen limits old births)) file) ≡ true) (shape : shape_in_body x.body ≡ Rec keys) (parents : parent_list x.parents ≡ record_parents (graph_of (seen limits old births)) file keys) where
+module _ (limits : Limits) (old mid new : Slab Stored) (births key : ℕ) (x : Stored) (sound : AreSound limits old births) (free : get old key ≡ None)
+    (u : Updates old mid key (Some x)) (next : x.birth ≡ births + 1) (len : slab_len mid ≡ slab_len old + 1)
+    (file : NodeId) (keys : List ℕ) (is_file : is_file_shape (shape_of (graph_of (seen limits old births)) file) ≡ true)
+    (shape : shape_in_body x.body ≡ Rec keys) (parents : parent_list x.parents ≡ record_parents (graph_of (seen limits old births)) file keys) where
   abbrev pub slot : FileSlot old file
   slot = file_slot limits old births sound file is_file
 
@@ -159,32 +174,40 @@ module _ (limits : Limits) (old mid new : Slab Stored) (births key : ℕ) (x : S
   pub file_contained : ContainsKey mid file.key
   file_contained = ap is_some file_there
 
-  module _ (each : length keys ≡ length (indexes_of (graph_of (seen limits old births)) file)) (room : node_count (graph_of (seen limits old births)) + 1 ≤ limits.most) (records : ℕ) (count : records ≡ record_count (graph_of (seen limits old births)) file + 1)
-      (write : (y : Stored) → get mid file.key ≡ Some y → Updates mid new file.key (Some (record y { body = body_with_records y.body records }))) (len' : slab_len new ≡ slab_len mid) where
+  module _ (each : length keys ≡ length (indexes_of (graph_of (seen limits old births)) file))
+      (room : node_count (graph_of (seen limits old births)) + 1 ≤ limits.most) (records : ℕ)
+      (count : records ≡ record_count (graph_of (seen limits old births)) file + 1)
+      (write : (y : Stored) → get mid file.key ≡ Some y → Updates mid new file.key (Some (record y { body = body_with_records y.body records })))
+      (len' : slab_len new ≡ slab_len mid) where
     node_is_record : record { key = key; shape = Rec keys; parents = record_parents (graph_of (seen limits old births)) file keys } ≡ node_of key (vertex_of x)
     node_is_record = let s = sym shape in let p = sym parents in λ i. record { key = key; shape = s i; parents = p i }
 
     lawful : IsLawfulGraph (born_node (graph_of (seen limits old births)) (node_of key (vertex_of x)))
     lawful =
         subst (λ n. IsLawfulGraph (born_node (graph_of (seen limits old births)) n)) node_is_record
-        (record_lawful (graph_of (seen limits old births)) sound.lawful key file keys is_file each (inserted_free limits old mid births key x sound.apart (born_within limits old births sound) free u next) room)
+        (record_lawful (graph_of (seen limits old births)) sound.lawful key file keys is_file each
+        (inserted_free limits old mid births key x sound.apart (born_within limits old births sound) free u next) room)
 
     but : IsSoundBut limits mid (births + 1) file.key slot.stored
     but = but_file limits old mid births key x sound free u next file keys slot.stored slot.there slot.born slot.adopted slot.shape shape parents lawful len
 
     counts : records ≡ record_count (graph_of (seen limits mid (births + 1))) (record { key = file.key; birth = slot.stored.birth })
     counts =
-        count ∙ sym (one_record_more limits old mid births key x sound free u next file keys slot.stored slot.there slot.born slot.adopted slot.shape shape parents lawful len)
+        count ∙ sym (one_record_more limits old mid births key x sound free u next file keys slot.stored slot.there slot.born slot.adopted slot.shape
+        shape parents lawful len)
         ∙ ap (λ h. record_count h file) (sym (after limits old mid births key x sound free u next))
-        ∙ (let birth : file.birth ≡ slot.stored.birth = sym slot.born in ap (λ b. record_count (graph_of (seen limits mid (births + 1))) (record { key = file.key; birth = b })) birth)
+        ∙ (let birth : file.birth ≡ slot.stored.birth = sym slot.born in
+        ap (λ b. record_count (graph_of (seen limits mid (births + 1))) (record { key = file.key; birth = b })) birth)
 
     pub record_sound : AreSound limits new (births + 1)
     record_sound = sound_recounted limits mid new (births + 1) file.key slot.stored but records (write slot.stored file_there) counts len'
 
-    pub record_born : IsBorn (graph_of (seen limits old births)) (graph_of (seen limits new (births + 1))) (record { key = key; birth = births + 1 }) (Rec keys) (record_parents (graph_of (seen limits old births)) file keys)
+    pub record_born : IsBorn (graph_of (seen limits old births)) (graph_of (seen limits new (births + 1))) (record { key = key; birth = births + 1 })
+        (Rec keys) (record_parents (graph_of (seen limits old births)) file keys)
     record_born = record {
       key_free = inserted_free limits old mid births key x sound.apart (born_within limits old births sound) free u next;
       birth = refl;
-      after = recount_unseen limits mid new (births + 1) file.key slot.stored but records (write slot.stored file_there) ∙ after limits old mid births key x sound free u next
+      after = recount_unseen limits mid new (births + 1) file.key slot.stored but records (write slot.stored file_there)
+          ∙ after limits old mid births key x sound free u next
           ∙ ap (born_node (graph_of (seen limits old births))) (sym node_is_record);
     }

@@ -1,5 +1,6 @@
 -- What it says of the graph that no test finds a reason to refuse.
-use Rattle.std.specs.Prelude.{◌≡◌, ℕ, ◌+◌, ◌<◌, ◌≤◌, ◌^◌, Bool, true, false, not, ◌||◌, ◌==◌, nat_lt, nat_le, List, [], ◌∷◌, length, Option, Some, None, Result, Ok, Err, ◌++◌, if◌then◌else◌, ◌-◌}
+use Rattle.std.specs.Prelude.{◌≡◌, ℕ, ◌+◌, ◌<◌, ◌≤◌, ◌^◌, Bool, true, false, not, ◌||◌, ◌==◌, nat_lt, nat_le, List, [], ◌∷◌, length, Option, Some}
+use Rattle.std.specs.Prelude.{None, Result, Ok, Err, ◌++◌, if◌then◌else◌, ◌-◌}
 use Rattle.std.specs.List.{list_all}
 use Rattle.std.proofs.Common.{refl, sym, ap, ◌∙◌, arith}
 use Rattle.std.proofs.lemmas.Bool.Decides.{nat_tests}
@@ -12,7 +13,9 @@ use Rattle.gl_graph.specs.Graph.{Graph, node_count, shape_of, indexes_of}
 use Rattle.gl_graph.specs.Shapes.{is_file_shape, is_adopted}
 use Rattle.gl_graph.specs.Routes.{is_at_or_below}
 use Rattle.gl_graph.specs.Lawful.{IsRising, are_inner, are_distinct, AreInnerParents}
-use Rattle.gl_graph.specs.Refusals.{first_refusal, where_true, max_count, worn_births, some_no_node, bad_parents, too_many_nodes, first_cycle, is_rising, parents_refusal, record_refusal, index_refusal, bad_index_place, bad_bounds, has_records, Refuses, verdict}
+use Rattle.gl_graph.specs.Refusals.{first_refusal, where_true, max_count, worn_births, some_no_node, bad_parents, too_many_nodes, first_cycle}
+use Rattle.gl_graph.specs.Refusals.{is_rising, parents_refusal, record_refusal, index_refusal, bad_index_place, bad_bounds, has_records, Refuses}
+use Rattle.gl_graph.specs.Refusals.{verdict}
 
 pub not_refused : (x : Option Refusal) (xs : List (Option Refusal)) → first_refusal (x ∷ xs) ≡ None → (x ≡ None) × (first_refusal xs ≡ None)
 not_refused None xs h = (refl, h)
@@ -73,7 +76,12 @@ parents_unrefused g least ps e =
     let b = not_refused (some_no_node g ps) _ a.1 in
     let c = not_refused (where_true (bad_parents g least ps) refusal.BadParents) _ b.1 in
     let d = not_refused (too_many_nodes g 1) [] c.1 in
-    record { births = lt_no (max_count - g.most) g.births (test_fails _ _ a.0); inner = inner_parents g least ps (test_fails _ _ c.0); room = enough_room g 1 d.0 }
+    record {
+      births = lt_no (max_count - g.most) g.births (test_fails _ _ a.0);
+      inner = inner_parents g least ps (test_fails _ _ c.0);
+      room =
+          enough_room g 1 d.0;
+    }
 
 -- what a new record needs
 pub record IsRoomyRecord (g : Graph) (f : NodeId) (keys : List ℕ) : Type 0 where
@@ -89,7 +97,13 @@ record_unrefused g f keys e =
     let c = not_refused (where_true (not (is_file_shape (shape_of g f))) refusal.BadParents) _ b.1 in
     let d = not_refused (where_true (not (length keys == length (indexes_of g f))) refusal.BadKeys) _ c.1 in
     let r = not_refused (too_many_nodes g 1) [] d.1 in
-    record { births = lt_no (max_count - g.most) g.births (test_fails _ _ a.0); file = not_false _ (test_fails _ _ c.0); each = same_number _ _ (not_false _ (test_fails _ _ d.0)); room = enough_room g 1 r.0 }
+    record {
+      births = lt_no (max_count - g.most) g.births (test_fails _ _ a.0);
+      file = not_false _ (test_fails _ _ c.0);
+      each =
+          same_number _ _ (not_false _ (test_fails _ _ d.0));
+      room = enough_room g 1 r.0;
+    }
 
 -- what a new index needs
 pub record IsRoomyIndex (g : Graph) (ps : List NodeId) (f : NodeId) (bs : List ℕ) : Type 0 where

@@ -66,7 +66,13 @@ reparented ps (Some n) = Some (record n { parents = ps })
 
 -- the node has these parents
 abbrev pub with_parents : Graph → NodeId → List NodeId → Graph
-with_parents g n ps = record { at = λ b. if b == n.birth then reparented ps (g.at b) else g.at b; births = g.births; most = g.most; most_bounds = g.most_bounds }
+with_parents g n ps = record {
+  at = λ b. if b == n.birth then reparented ps (g.at b) else g.at b;
+  births = g.births;
+  most = g.most;
+  most_bounds =
+      g.most_bounds;
+}
 
 -- the shape, of a file as one of which rows were adopted
 abbrev pub marked_shape : Shape → Shape

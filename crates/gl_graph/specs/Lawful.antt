@@ -33,7 +33,8 @@ pub record IsIndexNode (g : Graph) (n f : NodeId) (bs : List ℕ) : Type 0 where
   pub file : is_file_shape (shape_of g f) ≡ true
   pub few : length bs ≤ g.most_bounds
   pub rising : IsRising (0 ∷ bs)
-  pub intervals : (place : ℕ) → place ≤ length bs → (node_at g (interval g n place) ≡ Some (record { key = (interval g n place).key; shape = Interval place; parents = n ∷ [] }))
+  pub intervals : (place : ℕ) → place ≤ length bs
+      → (node_at g (interval g n place) ≡ Some (record { key = (interval g n place).key; shape = Interval place; parents = n ∷ [] }))
 
 -- a key for each index of its file, whose parents are the file and the intervals of the keys
 pub record IsRecordNode (g : Graph) (keys : List ℕ) (ps : List NodeId) (file : NodeId) : Type 0 where
@@ -46,7 +47,8 @@ abbrev pub HasShape : Graph → NodeId → Shape → List NodeId → Type 0
 HasShape g n Inner ps = AreInnerParents g 0 ps
 HasShape g n (File adopted) ps = AreInnerParents g 1 ps
 HasShape g n (Index f bs) ps = AreInnerParents g 1 ps × IsIndexNode g n f bs
-HasShape g n (Interval place) ps = (index : NodeId) × (ps ≡ index ∷ []) × (is_index_shape (shape_of g index) ≡ true) × (place ≤ length (bounds_in (shape_of g index))) × (n ≡ interval g index place)
+HasShape g n (Interval place) ps = (index : NodeId) × (ps ≡ index ∷ []) × (is_index_shape (shape_of g index) ≡ true)
+    × (place ≤ length (bounds_in (shape_of g index))) × (n ≡ interval g index place)
 HasShape g n (Rec keys) ps = (file : NodeId) × IsRecordNode g keys ps file
 
 -- the node is what its shape asks

@@ -22,10 +22,12 @@ RootPathsShrink = (g : Graph) (n p : NodeId) (route : List NodeId) → IsRootPat
 -- the interval of a key is one of the index's intervals
 abbrev pub KeysHaveIntervals : Type 0
 KeysHaveIntervals =
-    (g : Graph) → IsLawfulGraph g → (index : NodeId) (key : ℕ) → is_index_shape (shape_of g index) ≡ true → (place : ℕ) × (interval_at g index place ≡ Some (interval_of g index key))
+    (g : Graph) → IsLawfulGraph g → (index : NodeId) (key : ℕ) → is_index_shape (shape_of g index) ≡ true → (place : ℕ)
+    × (interval_at g index place ≡ Some (interval_of g index key))
 
 -- of the intervals of an index, the interval of a key is the one that holds it
 abbrev pub IntervalsHoldKeys : Type 0
 IntervalsHoldKeys =
     (g : Graph) → IsLawfulGraph g → (index n : NodeId) (place key : ℕ) → interval_at g index place ≡ Some n
-    → (n ≡ interval_of g index key → HoldsKey (bounds_in (shape_of g index)) place key) × (HoldsKey (bounds_in (shape_of g index)) place key → n ≡ interval_of g index key)
+    → (n ≡ interval_of g index key → HoldsKey (bounds_in (shape_of g index)) place key)
+    × (HoldsKey (bounds_in (shape_of g index)) place key → n ≡ interval_of g index key)

@@ -1,5 +1,6 @@
 -- Why the graph's own calls are refused: the first of their tests, in order, that finds a reason.
-use Rattle.std.specs.Prelude.{◌≡◌, ℕ, ◌+◌, ◌-◌, ◌^◌, Bool, true, not, ◌&&◌, ◌||◌, ◌==◌, nat_lt, nat_le, List, [], ◌∷◌, ◌++◌, length, Option, Some, None, Result, Ok, Err, IfErr, if◌then◌else◌}
+use Rattle.std.specs.Prelude.{◌≡◌, ℕ, ◌+◌, ◌-◌, ◌^◌, Bool, true, not, ◌&&◌, ◌||◌, ◌==◌, nat_lt, nat_le, List, [], ◌∷◌, ◌++◌, length, Option, Some}
+use Rattle.std.specs.Prelude.{None, Result, Ok, Err, IfErr, if◌then◌else◌}
 use Rattle.std.specs.List.{list_all, list_any}
 use Rattle.gl_modes.specs.declared.node.NodeId.{NodeId}
 use Rattle.gl_modes.specs.declared.refusal.Refusal.{Refusal}
@@ -77,7 +78,8 @@ bad_index_place g ps f = bad_parents g 1 ps || not (is_file_shape (shape_of g f)
 abbrev pub index_refusal : Graph → List NodeId → NodeId → List ℕ → Option Refusal
 index_refusal g ps f bs =
     first_refusal (
-    worn_births g ∷ some_no_node g (ps ++ f ∷ []) ∷ where_true (bad_index_place g ps f) no.BadParents ∷ where_true (has_records g f || is_adopted (shape_of g f)) no.FileInUse
+    worn_births g ∷ some_no_node g (ps ++ f ∷ []) ∷ where_true (bad_index_place g ps f) no.BadParents
+    ∷ where_true (has_records g f || is_adopted (shape_of g f)) no.FileInUse
     ∷ where_true (bad_bounds g bs) no.BadKeys ∷ too_many_nodes g (2 + length bs) ∷ []
     )
 

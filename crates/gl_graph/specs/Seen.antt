@@ -71,7 +71,14 @@ pub record Limits : Type 0 where
 
 -- what a contract sees of all slots, under these limits
 abbrev pub seen : Limits → Slab Node → ℕ → View
-seen limits nodes births = record { slots = map see nodes.slots; births = births; most = limits.most; most_bounds = limits.most_bounds; next_key = nodes.vacant_key }
+seen limits nodes births = record {
+  slots = map see nodes.slots;
+  births = births;
+  most = limits.most;
+  most_bounds = limits.most_bounds;
+  next_key =
+      nodes.vacant_key;
+}
 
 -- the node that an id names
 abbrev pub named_in : ℕ → Option Node → Option Node

@@ -14,7 +14,8 @@ pub record Vertex : Type 0 where
   pub records : ℕ
   pub intervals : List NodeId
 
--- the node or nothing at each key from 0 on, how many births there were, how many nodes may live at once and how many bounds an index may have, and the key that the next node gets
+-- the node or nothing at each key from 0 on, how many births there were, how many nodes may live at once and how many bounds an index may have, and
+-- the key that the next node gets
 pub record View : Type 0 where
   pub slots : List (Option Vertex)
   pub births : ℕ
@@ -43,7 +44,8 @@ record_count g f = count_by (is_record_of g f) (nodes g)
 -- what is kept beside a node is what the graph says
 abbrev pub KeepsBeside : Graph → NodeId → Vertex → Shape → Type 0
 KeepsBeside g n x (File adopted) = (x.indexes ≡ indexes_of g n) × (x.records ≡ record_count g n)
-KeepsBeside g n x (Index file bounds) = (length x.intervals ≡ length bounds + 1) × ((place : ℕ) → place ≤ length bounds → slice_get x.intervals place ≡ Some (interval g n place))
+KeepsBeside g n x (Index file bounds) =
+    (length x.intervals ≡ length bounds + 1) × ((place : ℕ) → place ≤ length bounds → slice_get x.intervals place ≡ Some (interval g n place))
 KeepsBeside g n x shape = Unit {0}
 
 -- what is kept beside the map of nodes agrees with it

@@ -96,7 +96,8 @@ pub(crate) fn write_key(
 /// Writes the intervals of an index.
 pub(crate) fn write_intervals(nodes: &mut Slab<Node>, key: usize, intervals: Vec<NodeId>)
     requires { ContainsKey nodes.old key }
-    ensures written { (x : Node) → get nodes.old key ≡ Some x → Updates nodes.old nodes.new key (Some (record x { body = body_with_intervals x.body intervals })) }
+    ensures written { (x : Node) → get nodes.old key ≡ Some x
+        → Updates nodes.old nodes.new key (Some (record x { body = body_with_intervals x.body intervals })) }
     ensures len { slab_len nodes.new ≡ slab_len nodes.old }
 {
     nodes[key].body.set_intervals(intervals);

@@ -67,7 +67,8 @@ within-limit most g le w = within-more most slot_limit g (rw slot_limit-is le) w
 pub fits-limit : (most : ℕ) (g : Members) (t : ℕ) (m : Mode) → most ≤ most_slots → IsWithin most g → fits most g t m ≡ fits slot_limit g t m
 fits-limit most g t m le w = fits-limits most slot_limit g t m w (within-limit most g le w)
 
-pub enters-limit : (most : ℕ) (g : Members) (q : List Waiter) (t : ℕ) (m : Mode) → most ≤ most_slots → IsWithin most g → enters most g q t m ≡ enters slot_limit g q t m
+pub enters-limit : (most : ℕ) (g : Members) (q : List Waiter) (t : ℕ) (m : Mode) → most ≤ most_slots → IsWithin most g
+    → enters most g q t m ≡ enters slot_limit g q t m
 enters-limit most g q t m le w = enters-limits most slot_limit g q t m w (within-limit most g le w)
 
 -- a mode that fits is granted: what is held stays compatible
@@ -75,7 +76,8 @@ pub compatible-with_mode : (g : Members) (t : ℕ) (m : Mode) → IsCompatible g
 compatible-with_mode g t m all fit u v ne =
     ⊎_elim
     (λ at_u. ⊎_elim (λ at_v. absurd (ne (at_u ∙ sym at_v))) (λ off_v. ap₂ are_compatible (here u at_u) (there v off_v) ∙ fit v off_v) (cases_eq v t))
-    (λ off_u. ⊎_elim (λ at_v. ap₂ are_compatible (there u off_u) (here v at_v) ∙ compatible-symmetric (g u) m ∙ fit u off_u) (λ off_v. ap₂ are_compatible (there u off_u) (there v off_v) ∙ all u v ne) (cases_eq v t))
+    (λ off_u. ⊎_elim (λ at_v. ap₂ are_compatible (there u off_u) (here v at_v) ∙ compatible-symmetric (g u) m ∙ fit u off_u)
+    (λ off_v. ap₂ are_compatible (there u off_u) (there v off_v) ∙ all u v ne) (cases_eq v t))
     (cases_eq u t)
   where
     here : (u : ℕ) → u ≡ t → with_mode g t m u ≡ m

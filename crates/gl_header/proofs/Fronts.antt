@@ -4,7 +4,8 @@ use Rattle.std.proofs.Common.{◌≡◌, ℕ, ◌<◌, ◌≤◌, Bool, true, fa
 use Rattle.std.specs.Prelude.{if◌then◌else◌}
 use Rattle.std.proofs.lemmas.Bool.Decides.{nat_tests}
 use Rattle.gl_modes.proofs.Words.{split}
-use Rattle.gl_header.specs.Header.{Members, Waiter, IsCompatible, IsWithin, AreBelow, fits, with_mode, front, after_grants, pumped_members, pumped_queue, is_among_waiters}
+use Rattle.gl_header.specs.Header.{Members, Waiter, IsCompatible, IsWithin, AreBelow, fits, with_mode, front, after_grants, pumped_members}
+use Rattle.gl_header.specs.Header.{pumped_queue, is_among_waiters}
 use Rattle.gl_header.specs.State.{slot_limit}
 use Rattle.gl_header.proofs.Fits.{fits-all, fits-limits, within-with_mode, within-limit, compatible-with_mode, slot_limit-is}
 
@@ -33,7 +34,8 @@ front-after_front most g (w ∷ q) = by (fits most g w.0 w.1) refl (front-after_
   where
     by : (b : Bool) → fits most g w.0 w.1 ≡ b
         → front most (after_grants (with_mode g w.0 w.1) (front most (with_mode g w.0 w.1) q)) (drop (length (front most (with_mode g w.0 w.1) q)) q) ≡ []
-        → front most (after_grants g (if b then w ∷ front most (with_mode g w.0 w.1) q else [])) (drop (length (if b then w ∷ front most (with_mode g w.0 w.1) q else [])) (w ∷ q)) ≡ []
+        → front most (after_grants g (if b then w ∷ front most (with_mode g w.0 w.1) q else []))
+        (drop (length (if b then w ∷ front most (with_mode g w.0 w.1) q else [])) (w ∷ q)) ≡ []
     by true e h = h
     by false e h = ap (λ b. if b then w ∷ front most (with_mode g w.0 w.1) q else []) e
 
@@ -41,9 +43,11 @@ front-after_front most g (w ∷ q) = by (fits most g w.0 w.1) refl (front-after_
 pub pumped-compatible : (most : ℕ) (g : Members) (q : List Waiter) → AreBelow most q → IsWithin most g → IsCompatible g → IsCompatible (pumped_members most g q)
 pumped-compatible most g [] b w all = all
 pumped-compatible most g (v ∷ q) b w all =
-    by (fits most g v.0 v.1) refl (λ e. pumped-compatible most (with_mode g v.0 v.1) q (below-rest most v q b) (within-with_mode most g v.0 v.1 (below-first most v q b) w) (compatible-with_mode g v.0 v.1 all (fits-all most g v.0 v.1 w e)))
+    by (fits most g v.0 v.1) refl (λ e. pumped-compatible most (with_mode g v.0 v.1) q (below-rest most v q b)
+    (within-with_mode most g v.0 v.1 (below-first most v q b) w) (compatible-with_mode g v.0 v.1 all (fits-all most g v.0 v.1 w e)))
   where
-    by : (b : Bool) → fits most g v.0 v.1 ≡ b → (fits most g v.0 v.1 ≡ true → IsCompatible (after_grants (with_mode g v.0 v.1) (front most (with_mode g v.0 v.1) q)))
+    by : (b : Bool) → fits most g v.0 v.1 ≡ b
+        → (fits most g v.0 v.1 ≡ true → IsCompatible (after_grants (with_mode g v.0 v.1) (front most (with_mode g v.0 v.1) q)))
         → IsCompatible (after_grants g (if b then v ∷ front most (with_mode g v.0 v.1) q else []))
     by true e rest = rest e
     by false e rest = all

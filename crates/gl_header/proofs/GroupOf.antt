@@ -37,7 +37,8 @@ unfolding raised
 raised-each g k zero a u l m = absurd (omega arith)
 raised-each g k (suc n) a u l m =
     ⊎_elim
-    (λ e. at_least-transitive _ (supremum a (g k)) (g u) (raised-start g (range_with_len (k + 1) n) (supremum a (g k))) (ap (λ x. is_at_least (supremum a (g k)) (g x)) e ∙ supremum-above_right a (g k)))
+    (λ e. at_least-transitive _ (supremum a (g k)) (g u) (raised-start g (range_with_len (k + 1) n) (supremum a (g k)))
+    (ap (λ x. is_at_least (supremum a (g k)) (g x)) e ∙ supremum-above_right a (g k)))
     (λ ne. raised-each g (k + 1) n (supremum a (g k)) u (omega arith) (omega arith))
     (cases_eq u k)
 
@@ -62,7 +63,8 @@ unfolding raised
 group_of-least most g n all = raised-least g (range_with_len 0 most) NL n (at_least-NL n) all
 
 -- so a mode that is the least of these is the group mode
-pub group_of-unique : (most : ℕ) (g : Members) (n : Mode) → IsWithin most g → ((u : ℕ) → is_at_least n (g u) ≡ true) → ((x : Mode) → ((u : ℕ) → is_at_least x (g u) ≡ true) → is_at_least x n ≡ true) → n ≡ group_of most g
+pub group_of-unique : (most : ℕ) (g : Members) (n : Mode) → IsWithin most g → ((u : ℕ) → is_at_least n (g u) ≡ true)
+    → ((x : Mode) → ((u : ℕ) → is_at_least x (g u) ≡ true) → is_at_least x n ≡ true) → n ≡ group_of most g
 group_of-unique most g n w above least =
     at_least-antisymmetric n (group_of most g) (group_of-least most g n above) (least (group_of most g) (group_of-above most g w))
 

@@ -41,7 +41,8 @@ pub apart-other : (g : Group) (u : ℕ) → IsGroup g → has_slot g.intents u �
 apart-other g u k h = not_true (has_slot g.holders u) (λ e. clash h (k.apart u e))
 
 -- a slot in one of three ways
-pub by_part : {C : Type 0} (g : Group) (u : ℕ) → (has_slot g.holders u ≡ true → held_by g u ≡ g.mode → C) → (has_slot g.intents u ≡ true → held_by g u ≡ IS → C) → (held_by g u ≡ NL → C) → C
+pub by_part : {C : Type 0} (g : Group) (u : ℕ) → (has_slot g.holders u ≡ true → held_by g u ≡ g.mode → C)
+    → (has_slot g.intents u ≡ true → held_by g u ≡ IS → C) → (held_by g u ≡ NL → C) → C
 by_part g u a b c =
     split (has_slot g.holders u)
     (λ h. a h (holder-mode g u h))
@@ -60,7 +61,8 @@ no-intent g u k n =
     differ e = cc
 
 pub within-group : (g : Group) → IsGroup g → IsWithin slot_limit (held_by g)
-within-group g k = within-more most_slots slot_limit (held_by g) (rw slot_limit-is (omega arith)) (λ u le. other-mode g u (k.holders_below u le) (k.intents_below u le))
+within-group g k = within-more most_slots slot_limit (held_by g) (rw slot_limit-is (omega arith))
+    (λ u le. other-mode g u (k.holders_below u le) (k.intents_below u le))
 
 -- beside IS one mode at most is held
 pub two-modes : (g : Group) → HoldsTwoModes (held_by g)
@@ -87,7 +89,9 @@ fits-intents g s m k f =
 
 pub fits-both : (g : Group) (s : ℕ) (m : Mode) → GoesBeside g.holders g.mode s m → GoesBeside g.intents IS s m → fits slot_limit (held_by g) s m ≡ true
 fits-both g s m a b =
-    fits-from_all slot_limit (held_by g) s m (λ u ne. by_part g u (λ h e. ap (are_compatible m) e ∙ a u ne h) (λ h e. ap (are_compatible m) e ∙ b u ne h) (λ e. ap (are_compatible m) e ∙ NL-compatible m))
+    fits-from_all slot_limit (held_by g) s m
+    (λ u ne. by_part g u (λ h e. ap (are_compatible m) e ∙ a u ne h) (λ h e. ap (are_compatible m) e ∙ b u ne h)
+    (λ e. ap (are_compatible m) e ∙ NL-compatible m))
 
 -- nobody holds
 
@@ -98,7 +102,8 @@ nobody-both g k n u =
 
 pub nobody-from_both : (g : Group) → ((u : ℕ) → (has_slot g.holders u || has_slot g.intents u) ≡ false) → nobody_holds slot_limit (held_by g) ≡ true
 nobody-from_both g n =
-    range-from_each (λ t. not (holds (held_by g) t)) 0 slot_limit (λ u l m. ap (λ x. not (not (same_mode x NL))) (other-mode g u (first _ _ (n u)) (second _ _ (n u))))
+    range-from_each (λ t. not (holds (held_by g) t)) 0 slot_limit
+    (λ u l m. ap (λ x. not (not (same_mode x NL))) (other-mode g u (first _ _ (n u)) (second _ _ (n u))))
   where
     first : (a b : Bool) → (a || b) ≡ false → a ≡ false
     first a b h = grind arith
@@ -109,7 +114,8 @@ nobody-from_both g n =
 -- the supremum of what is held
 
 at_least-IS : (m : Mode) → same_mode m NL ≡ false → is_at_least m IS ≡ true
-at_least-IS m h = split (same_mode m NL) (λ e. absurd (clash e h)) (λ e. implied _ _ (every-true (λ x. implies (not (same_mode x NL)) (is_at_least x IS)) refl m) (ap not e))
+at_least-IS m h = split (same_mode m NL) (λ e. absurd (clash e h))
+    (λ e. implied _ _ (every-true (λ x. implies (not (same_mode x NL)) (is_at_least x IS)) refl m) (ap not e))
 
 -- a mode that is the group's mode or greater, if anybody holds it
 least-main : (g : Group) (x : Mode) → IsGroup g → ((u : ℕ) → is_at_least x (held_by g u) ≡ true) → is_at_least x g.mode ≡ true
@@ -130,13 +136,16 @@ refl-at_least m = every-true (λ x. is_at_least x x) refl m
 pub supremum-main : (g : Group) → IsGroup g → HasNoSlot g.intents → g.mode ≡ group_of slot_limit (held_by g)
 supremum-main g k none =
     group_of-unique slot_limit (held_by g) g.mode (within-group g k)
-    (λ u. by_part g u (λ h e. ap (is_at_least g.mode) e ∙ refl-at_least g.mode) (λ h e. absurd (clash h (none u))) (λ e. ap (is_at_least g.mode) e ∙ at_least-NL g.mode))
+    (λ u. by_part g u (λ h e. ap (is_at_least g.mode) e ∙ refl-at_least g.mode) (λ h e. absurd (clash h (none u)))
+    (λ e. ap (is_at_least g.mode) e ∙ at_least-NL g.mode))
     (λ x h. least-main g x k h)
 
 pub supremum-both : (g : Group) → IsGroup g → (HasNoSlot g.intents → ⊥) → supremum g.mode IS ≡ group_of slot_limit (held_by g)
 supremum-both g k some =
     group_of-unique slot_limit (held_by g) (supremum g.mode IS) (within-group g k)
-    (λ u. by_part g u (λ h e. ap (is_at_least (supremum g.mode IS)) e ∙ supremum-above g.mode IS) (λ h e. ap (is_at_least (supremum g.mode IS)) e ∙ supremum-above_right g.mode IS) (λ e. ap (is_at_least (supremum g.mode IS)) e ∙ at_least-NL (supremum g.mode IS)))
+    (λ u. by_part g u (λ h e. ap (is_at_least (supremum g.mode IS)) e ∙ supremum-above g.mode IS)
+    (λ h e. ap (is_at_least (supremum g.mode IS)) e ∙ supremum-above_right g.mode IS)
+    (λ e. ap (is_at_least (supremum g.mode IS)) e ∙ at_least-NL (supremum g.mode IS)))
     (λ x h. supremum-least x g.mode IS ∙ ap₂ (λ a b. a && b) (least-main g x k h) (least-IS g x k some h))
 
 -- the group mode is the supremum
@@ -190,12 +199,15 @@ module _ (old : Members) (r : Group) (s : ℕ) (k : IsGroup r) (e : held_by r �
   pub intent-held : (i : Slots) → IsWithSlot r.intents s i → held_by (record { mode = r.mode; holders = r.holders; intents = i }) ≡ with_mode old s IS
   intent-held i w = fun_ext (λ u.
       split (u == s)
-      (λ t. intent-mode (record { mode = r.mode; holders = r.holders; intents = i }) u (ap (has_slot r.holders) (same-slot u s t) ∙ no-holder r s k free-slot) (at-slot _ _ u s (w u) (same-slot u s t)) ∙ sym (here old s IS u t))
-      (λ t. ap (λ b. cond (has_slot r.holders u) r.mode (cond b IS NL)) (at-other _ _ u s (w u) t) ∙ (ap (λ (g : Members). g u) e ∙ (there old s NL u t ∙ sym (there old s IS u t)))))
+      (λ t. intent-mode (record { mode = r.mode; holders = r.holders; intents = i }) u
+      (ap (has_slot r.holders) (same-slot u s t) ∙ no-holder r s k free-slot) (at-slot _ _ u s (w u) (same-slot u s t)) ∙ sym (here old s IS u t))
+      (λ t. ap (λ b. cond (has_slot r.holders u) r.mode (cond b IS NL)) (at-other _ _ u s (w u) t)
+      ∙ (ap (λ (g : Members). g u) e ∙ (there old s NL u t ∙ sym (there old s IS u t)))))
 
   -- another mode is granted, which all that is held but IS is
 
-  pub main-group : (m : Mode) (j : Slots) → same_mode m IS ≡ false → m ≢ NL → IsWithSlot r.holders s j → IsGroup (record { mode = m; holders = j; intents = r.intents })
+  pub main-group : (m : Mode) (j : Slots) → same_mode m IS ≡ false → m ≢ NL → IsWithSlot r.holders s j
+      → IsGroup (record { mode = m; holders = j; intents = r.intents })
   main-group m j other lock w = record {
     apart = λ u h. split (u == s)
         (λ t. ap (has_slot r.intents) (same-slot u s t) ∙ no-intent r s k free-slot)
@@ -207,7 +219,8 @@ module _ (old : Members) (r : Group) (s : ℕ) (k : IsGroup r) (e : held_by r �
     intents_below = k.intents_below;
   }
 
-  one-mode : (m : Mode) → same_mode m IS ≡ false → m ≢ NL → fits slot_limit old s m ≡ true → IsWithin slot_limit old → (u : ℕ) → has_slot r.holders u ≡ true → r.mode ≡ m
+  one-mode : (m : Mode) → same_mode m IS ≡ false → m ≢ NL → fits slot_limit old s m ≡ true → IsWithin slot_limit old → (u : ℕ)
+      → has_slot r.holders u ≡ true → r.mode ≡ m
   one-mode m other lock f w u h =
       let ne : u ≢ s = (λ t. clash h (ap (has_slot r.holders) t ∙ no-holder r s k free-slot)) in
       let is : old u ≡ r.mode = sym (there old s NL u (off u s ne)) ∙ (sym (ap (λ (g : Members). g u) e) ∙ holder-mode r u h) in
@@ -218,17 +231,28 @@ module _ (old : Members) (r : Group) (s : ℕ) (k : IsGroup r) (e : held_by r �
       off : (u s : ℕ) → u ≢ s → (u == s) ≡ false
       off u s ne = grind (arith, nat_tests)
 
-      alike : (a b : Mode) → same_mode a IS ≡ false → same_mode a NL ≡ false → same_mode b IS ≡ false → same_mode b NL ≡ false → are_compatible a b ≡ true → same_mode a b ≡ true
+      alike : (a b : Mode) → same_mode a IS ≡ false → same_mode a NL ≡ false → same_mode b IS ≡ false → same_mode b NL ≡ false
+          → are_compatible a b ≡ true → same_mode a b ≡ true
       alike a b p q s t c =
-          implied _ _ (implied _ _ (implied _ _ (implied _ _ (implied _ _ (every2-true (λ x y. implies (not (same_mode x IS)) (implies (not (same_mode x NL)) (implies (not (same_mode y IS)) (implies (not (same_mode y NL)) (implies (are_compatible x y) (same_mode x y)))))) refl a b) (ap not p)) (ap not q)) (ap not s)) (ap not t)) c
+          implied _ _ (implied _ _ (implied _ _
+          (implied _ _ (implied _ _ (every2-true
+          (λ x y. implies (not (same_mode x IS))
+          (implies (not (same_mode x NL))
+          (implies (not (same_mode y IS)) (implies (not (same_mode y NL)) (implies (are_compatible x y) (same_mode x y)))))) refl a b)
+          (ap not p)) (ap not q)) (ap not s)) (ap not t)) c
 
-  pub main-held : (m : Mode) (j : Slots) → same_mode m IS ≡ false → m ≢ NL → fits slot_limit old s m ≡ true → IsWithin slot_limit old → IsWithSlot r.holders s j → held_by (record { mode = m; holders = j; intents = r.intents }) ≡ with_mode old s m
+  pub main-held : (m : Mode) (j : Slots) → same_mode m IS ≡ false → m ≢ NL → fits slot_limit old s m ≡ true → IsWithin slot_limit old
+      → IsWithSlot r.holders s j → held_by (record { mode = m; holders = j; intents = r.intents }) ≡ with_mode old s m
   main-held m j other lock f in_range w = fun_ext (λ u.
       split (u == s)
       (λ t. holder-mode (record { mode = m; holders = j; intents = r.intents }) u (at-slot _ _ u s (w u) (same-slot u s t)) ∙ sym (here old s m u t))
       (λ t. split (has_slot r.holders u)
-      (λ h. holder-mode (record { mode = m; holders = j; intents = r.intents }) u (at-other _ _ u s (w u) t ∙ h) ∙ (sym (one-mode m other lock f in_range u h) ∙ (sym (holder-mode r u h) ∙ (ap (λ (g : Members). g u) e ∙ (there old s NL u t ∙ sym (there old s m u t))))))
-      (λ h. ap (λ b. cond b m (cond (has_slot r.intents u) IS NL)) (at-other _ _ u s (w u) t ∙ h) ∙ (sym (ap (λ b. cond b r.mode (cond (has_slot r.intents u) IS NL)) h) ∙ (ap (λ (g : Members). g u) e ∙ (there old s NL u t ∙ sym (there old s m u t)))))))
+      (λ h. holder-mode (record { mode = m; holders = j; intents = r.intents }) u (at-other _ _ u s (w u) t ∙ h)
+      ∙ (sym (one-mode m other lock f in_range u h)
+      ∙ (sym (holder-mode r u h) ∙ (ap (λ (g : Members). g u) e ∙ (there old s NL u t ∙ sym (there old s m u t))))))
+      (λ h. ap (λ b. cond b m (cond (has_slot r.intents u) IS NL)) (at-other _ _ u s (w u) t ∙ h)
+      ∙ (sym (ap (λ b. cond b r.mode (cond (has_slot r.intents u) IS NL)) h)
+      ∙ (ap (λ (g : Members). g u) e ∙ (there old s NL u t ∙ sym (there old s m u t)))))))
 
 -- a release: g is the group before it
 

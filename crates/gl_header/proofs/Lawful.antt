@@ -45,7 +45,8 @@ one-wait (w ∷ q) t m d h =
 not-NL : (m : Mode) → same_mode m NL ≡ false → m ≢ NL
 not-NL m h e = cc
 
-wanted-rises : (g : Members) (q : List Waiter) (t : ℕ) (m : Mode) → list_all is_entry q ≡ true → all_rise g q ≡ true → wanted_by q t ≡ Some m → (same_mode m NL ≡ false) × (is_at_least m (g t) ≡ true)
+wanted-rises : (g : Members) (q : List Waiter) (t : ℕ) (m : Mode) → list_all is_entry q ≡ true → all_rise g q ≡ true → wanted_by q t ≡ Some m
+    → (same_mode m NL ≡ false) × (is_at_least m (g t) ≡ true)
 wanted-rises g [] t m v r h = cc
 wanted-rises g (w ∷ q) t m v r h =
     split (w.0 == t)

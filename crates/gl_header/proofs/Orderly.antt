@@ -18,7 +18,8 @@ use Rattle.gl_header.proofs.Placing.{all-placed_in, distinct-placed_in, ordered-
 
 -- a change of one who does not wait moves no border between members and newcomers
 
-pub ordered-with_mode : (g : Members) (q : List Waiter) (s : ℕ) (m : Mode) → is_among_waiters s q ≡ false → (is_ordered (with_mode g s m) q ≡ is_ordered g q) × (all_new (with_mode g s m) q ≡ all_new g q)
+pub ordered-with_mode : (g : Members) (q : List Waiter) (s : ℕ) (m : Mode) → is_among_waiters s q ≡ false
+    → (is_ordered (with_mode g s m) q ≡ is_ordered g q) × (all_new (with_mode g s m) q ≡ all_new g q)
 ordered-with_mode g [] s m h = (refl, refl)
 ordered-with_mode g (w ∷ ws) s m h = grind (arith, nat_tests, ordered-with_mode g ws s m)
 
@@ -30,7 +31,8 @@ below-limit : (s : ℕ) → s < most_slots → s < slot_limit
 below-limit s b = rw slot_limit-is b
 
 -- a mode that fits is granted to one who does not wait
-pub orderly-with_mode : (g : Members) (q : List Waiter) (s : ℕ) (m : Mode) → IsOrderly g q → is_among_waiters s q ≡ false → fits slot_limit g s m ≡ true → s < most_slots → IsOrderly (with_mode g s m) q
+pub orderly-with_mode : (g : Members) (q : List Waiter) (s : ℕ) (m : Mode) → IsOrderly g q → is_among_waiters s q ≡ false
+    → fits slot_limit g s m ≡ true → s < most_slots → IsOrderly (with_mode g s m) q
 orderly-with_mode g q s m o h f b = record {
   within = within-with_mode slot_limit g s m (below-limit s b) o.within;
   compatible = compatible-with_mode g s m o.compatible (fits-all slot_limit g s m o.within f);
@@ -41,7 +43,8 @@ orderly-with_mode g q s m o h f b = record {
 }
 
 -- a member is gone
-pub orderly-member_gone : (g : Members) (q : List Waiter) (s : ℕ) → IsOrderly g q → is_among_waiters s q ≡ false → s < most_slots → IsOrderly (with_mode g s NL) q
+pub orderly-member_gone : (g : Members) (q : List Waiter) (s : ℕ) → IsOrderly g q → is_among_waiters s q ≡ false → s < most_slots
+    → IsOrderly (with_mode g s NL) q
 orderly-member_gone g q s o h b =
     orderly-with_mode g q s NL o h (fits-from_all slot_limit g s NL (λ u ne. compatible-symmetric NL (g u) ∙ NL-compatible (g u))) b
 
@@ -82,12 +85,14 @@ orderly-front g w ws o f =
 lesser-fits : (x m a : Mode) → is_at_least m a ≡ true → are_compatible x m ≡ true → are_compatible x a ≡ true
 lesser-fits x m a h f = compatible-symmetric x a ∙ lesser-compatible m a x h (compatible-symmetric m x ∙ f)
 
-fits-weaker : (g : Members) (s : ℕ) (m : Mode) (t : ℕ) (x : Mode) → IsWithin slot_limit g → s < most_slots → is_at_least m (g s) ≡ true → fits slot_limit (with_mode g s m) t x ≡ true → fits slot_limit g t x ≡ true
+fits-weaker : (g : Members) (s : ℕ) (m : Mode) (t : ℕ) (x : Mode) → IsWithin slot_limit g → s < most_slots → is_at_least m (g s) ≡ true
+    → fits slot_limit (with_mode g s m) t x ≡ true → fits slot_limit g t x ≡ true
 fits-weaker g s m t x w b h f =
     let all : Fits (with_mode g s m) t x = fits-all slot_limit (with_mode g s m) t x (within-with_mode slot_limit g s m (below-limit s b) w) f in
     fits-from_all slot_limit g t x (λ u ne.
     split (u == s)
-    (λ e. let is : u ≡ s = grind (arith, nat_tests) in ap (λ v. are_compatible x (g v)) is ∙ lesser-fits x m (g s) h (sym (ap (are_compatible x) (here g s m u e)) ∙ all u ne))
+    (λ e. let is : u ≡ s = grind (arith, nat_tests) in ap (λ v. are_compatible x (g v)) is
+    ∙ lesser-fits x m (g s) h (sym (ap (are_compatible x) (here g s m u e)) ∙ all u ne))
     (λ e. sym (ap (are_compatible x) (there g s m u e)) ∙ all u ne))
   where
     here : (g : Members) (s : ℕ) (m : Mode) (u : ℕ) → (u == s) ≡ true → with_mode g s m u ≡ m
@@ -96,7 +101,8 @@ fits-weaker g s m t x w b h f =
     there : (g : Members) (s : ℕ) (m : Mode) (u : ℕ) → (u == s) ≡ false → with_mode g s m u ≡ g u
     there g s m u e = grind arith
 
-pub stuck-with_mode : (g : Members) (q : List Waiter) (s : ℕ) (m : Mode) → IsWithin slot_limit g → s < most_slots → is_stuck g q ≡ true → is_at_least m (g s) ≡ true → is_stuck (with_mode g s m) q ≡ true
+pub stuck-with_mode : (g : Members) (q : List Waiter) (s : ℕ) (m : Mode) → IsWithin slot_limit g → s < most_slots → is_stuck g q ≡ true
+    → is_at_least m (g s) ≡ true → is_stuck (with_mode g s m) q ≡ true
 stuck-with_mode g [] s m i b k r = refl
 stuck-with_mode g (w ∷ ws) s m i b k r =
     ap not (not_true (fits slot_limit (with_mode g s m) w.0 w.1) (λ f. clash (fits slot_limit g w.0 w.1) (fits-weaker g s m w.0 w.1 i b r f) k))
@@ -107,7 +113,8 @@ stuck-with_mode g (w ∷ ws) s m i b k r =
 
 -- a wait is put into its place
 
-pub orderly-placed_in : (g : Members) (q : List Waiter) (e : Waiter) → IsOrderly g q → is_among_waiters e.0 q ≡ false → is_entry e ≡ true → is_at_least e.1 (g e.0) ≡ true → IsOrderly g (placed_in g q e)
+pub orderly-placed_in : (g : Members) (q : List Waiter) (e : Waiter) → IsOrderly g q → is_among_waiters e.0 q ≡ false → is_entry e ≡ true
+    → is_at_least e.1 (g e.0) ≡ true → IsOrderly g (placed_in g q e)
 orderly-placed_in g q e o h v r = record {
   within = o.within;
   compatible = o.compatible;
@@ -117,7 +124,8 @@ orderly-placed_in g q e o h v r = record {
   rise = all-placed_in (λ w. is_at_least w.1 (g w.0)) g q e o.rise r;
 }
 
-pub stuck-placed_in : (g : Members) (q : List Waiter) (e : Waiter) → is_stuck g q ≡ true → (fits slot_limit g e.0 e.1 && (holds g e.0 || is_empty q)) ≡ false → is_stuck g (placed_in g q e) ≡ true
+pub stuck-placed_in : (g : Members) (q : List Waiter) (e : Waiter) → is_stuck g q ≡ true
+    → (fits slot_limit g e.0 e.1 && (holds g e.0 || is_empty q)) ≡ false → is_stuck g (placed_in g q e) ≡ true
 stuck-placed_in g [] e k f = grind arith
 stuck-placed_in g (w ∷ ws) e k f = grind arith
 

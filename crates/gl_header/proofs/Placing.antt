@@ -12,7 +12,8 @@ pub placed_in-member : (g : Members) (q : List Waiter) (e : Waiter) → holds g 
 placed_in-member g [] e h = refl
 placed_in-member g (w ∷ ws) e h =
     let k : 1 + prefix_len (λ x. holds g x.0) ws ≡ suc (prefix_len (λ x. holds g x.0) ws) = omega arith in
-    elim (holds g w.0) as (λ b. insert (w ∷ ws) (cond b (1 + prefix_len (λ x. holds g x.0) ws) 0) e ≡ cond (holds g e.0 && not b) (e ∷ w ∷ ws) (w ∷ placed_in g ws e)) [
+    elim (holds g w.0) as (λ b. insert (w ∷ ws) (cond b (1 + prefix_len (λ x. holds g x.0) ws) 0) e ≡ cond (holds g e.0 && not b) (e ∷ w ∷ ws)
+    (w ∷ placed_in g ws e)) [
       | true ↦ rw (k, h) (ap (λ z. w ∷ z) (placed_in-member g ws e h))
       | false ↦ rw h
     ]
@@ -29,7 +30,8 @@ pub among-placed_in : (g : Members) (q : List Waiter) (e : Waiter) (t : ℕ) →
 among-placed_in g [] e t = refl
 among-placed_in g (w ∷ ws) e t = grind (arith, among-placed_in g ws e t)
 
-pub distinct-placed_in : (g : Members) (q : List Waiter) (e : Waiter) → is_distinct q ≡ true → is_among_waiters e.0 q ≡ false → is_distinct (placed_in g q e) ≡ true
+pub distinct-placed_in : (g : Members) (q : List Waiter) (e : Waiter) → is_distinct q ≡ true → is_among_waiters e.0 q ≡ false
+    → is_distinct (placed_in g q e) ≡ true
 distinct-placed_in g [] e d h = refl
 distinct-placed_in g (w ∷ ws) e d h = grind (arith, nat_tests, distinct-placed_in g ws e, among-placed_in g ws e w.0)
 
@@ -43,7 +45,8 @@ ordered-placed_in g (w ∷ ws) e o = grind (arith, ordered-placed_in g ws e, all
 
 -- the same, as the model says it
 
-split-placed : (g : Members) (q : List Waiter) (e : Waiter) → holds g e.0 ≡ true → is_ordered g q ≡ true → placed_in g q e ≡ filter (λ w. holds g w.0) q ++ e ∷ filter (λ w. not (holds g w.0)) q
+split-placed : (g : Members) (q : List Waiter) (e : Waiter) → holds g e.0 ≡ true → is_ordered g q ≡ true
+    → placed_in g q e ≡ filter (λ w. holds g w.0) q ++ e ∷ filter (λ w. not (holds g w.0)) q
 split-placed g [] e h o = refl
 split-placed g (w ∷ q) e h o =
     split (holds g w.0)

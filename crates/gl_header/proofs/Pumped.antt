@@ -11,13 +11,17 @@ use Rattle.gl_header.proofs.Orderly.{orderly-front}
 pub lawful-pumped : (g : Members) (q : List Waiter) → IsOrderly g q → IsLawful (pumped_members slot_limit g q) (pumped_queue slot_limit g q)
 lawful-pumped g [] o = record { orderly = o; stuck = refl }
 lawful-pumped g (w ∷ ws) o =
-    elim (fits slot_limit g w.0 w.1) as (λ b. fits slot_limit g w.0 w.1 ≡ b → IsLawful (after_grants g (if b then w ∷ front slot_limit (with_mode g w.0 w.1) ws else [])) (drop (length (if b then w ∷ front slot_limit (with_mode g w.0 w.1) ws else [])) (w ∷ ws))) [
+    elim (fits slot_limit g w.0 w.1) as
+    (λ b. fits slot_limit g w.0 w.1 ≡ b
+    → IsLawful (after_grants g (if b then w ∷ front slot_limit (with_mode g w.0 w.1) ws else []))
+    (drop (length (if b then w ∷ front slot_limit (with_mode g w.0 w.1) ws else [])) (w ∷ ws))) [
       | true ↦ λ f. lawful-pumped (with_mode g w.0 w.1) ws (orderly-front g w ws o f)
       | false ↦ λ f. record { orderly = o; stuck = ap not f }
     ] refl
 
 -- the front waiter is granted
-pub front-granted : (g : Members) (w : Waiter) (ws : List Waiter) → fits slot_limit g w.0 w.1 ≡ true → front slot_limit g (w ∷ ws) ≡ w ∷ front slot_limit (with_mode g w.0 w.1) ws
+pub front-granted : (g : Members) (w : Waiter) (ws : List Waiter) → fits slot_limit g w.0 w.1 ≡ true → front slot_limit g (w ∷ ws) ≡ w
+    ∷ front slot_limit (with_mode g w.0 w.1) ws
 front-granted g w ws f = ap (λ b. if b then w ∷ front slot_limit (with_mode g w.0 w.1) ws else []) f
 
 -- nobody is granted where the first waiter does not fit
@@ -49,5 +53,6 @@ front-length g (w ∷ ws) =
     (λ e. rw (front-refused g w ws e) (omega arith))
 
 -- what is held in the end, with the front waiter granted first
-pub pumped-step : (g : Members) (w : Waiter) (ws : List Waiter) → fits slot_limit g w.0 w.1 ≡ true → pumped_members slot_limit g (w ∷ ws) ≡ pumped_members slot_limit (with_mode g w.0 w.1) ws
+pub pumped-step : (g : Members) (w : Waiter) (ws : List Waiter) → fits slot_limit g w.0 w.1 ≡ true
+    → pumped_members slot_limit g (w ∷ ws) ≡ pumped_members slot_limit (with_mode g w.0 w.1) ws
 pumped-step g w ws f = ap (after_grants g) (front-granted g w ws f)

@@ -1,6 +1,7 @@
 -- What a removal leaves of a queue, and where entries stand in it.
 use Rattle.gl_slots.specs.Limit.{most_slots}
-use Rattle.std.proofs.Common.{◌≡◌, ℕ, ◌+◌, ◌<◌, ◌≤◌, Bool, true, false, cond, ◌&&◌, not, Option, Some, None, MatchOption, List, [], ◌∷◌, length, position, refl, sym, subst, ◌∙◌, arith, suc, ltb, map}
+use Rattle.std.proofs.Common.{◌≡◌, ℕ, ◌+◌, ◌<◌, ◌≤◌, Bool, true, false, cond, ◌&&◌, not, Option, Some, None, MatchOption, List, [], ◌∷◌, length}
+use Rattle.std.proofs.Common.{position, refl, sym, subst, ◌∙◌, arith, suc, ltb, map}
 use Rattle.std.specs.Prelude.{◌==◌}
 use Rattle.std.specs.List.{list_all, list_any, remove, position_or_len, IsDistinct, AllByRecursion}
 use Rattle.std.proofs.lemmas.Map.Steps.{length-le_from_distinct_below}
@@ -60,7 +61,8 @@ pub place-cases : (es : List Waiter) (s : ℕ) (r : Option ℕ) → r ≡ positi
 place-cases es s r e =
     let P : Option ℕ → Type 0 = λ o. MatchOption o (is_among_waiters s es ≡ false) (IsPlaceOf es s) in
     let f = first-within es s in
-    subst P (sym e) (elim (ltb (position_or_len (is_waiter s) es) (length es)) as (λ b. ltb (position_or_len (is_waiter s) es) (length es) ≡ b → P (cond b (Some (position_or_len (is_waiter s) es)) None)) [
+    subst P (sym e) (elim (ltb (position_or_len (is_waiter s) es) (length es)) as
+    (λ b. ltb (position_or_len (is_waiter s) es) (length es) ≡ b → P (cond b (Some (position_or_len (is_waiter s) es)) None)) [
       | true ↦ λ t. record {
         there = f ∙ t;
         within = grind (arith, nat_tests);

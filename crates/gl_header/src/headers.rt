@@ -169,7 +169,8 @@ impl Headers {
     /// does not go with it, and who stands ahead in the queue.
     pub fn waits_for(&self, slot: Slot, node: NodeId, wanted: Mode) -> Slots
         requires { slot < most_slots }
-        ensures { (u : ℕ) → has_slot result u ≡ (not (slot == u) && (not (are_compatible wanted (held_of self.now.entries u node)) || is_ahead (queue_of self.now.entries node) slot u)) }
+        ensures { (u : ℕ) → has_slot result u ≡ (not (slot == u)
+            && (not (are_compatible wanted (held_of self.now.entries u node)) || is_ahead (queue_of self.now.entries node) slot u)) }
     {
         match self.get(node) {
             Some(header) => header.waits_for(slot, wanted),
@@ -197,12 +198,14 @@ impl Headers {
         ensures answer { IfOk result (λ answer. answer ≡ asked (header_or_new (header_at self.old.entries node)) slot mode) }
         ensures granted { OnOk result
             (is_granted_at self.old.entries slot node mode ≡ true
-            → (held_of self.new.entries ≡ with_members (held_of self.old.entries) node (with_mode (members_at self.old.entries node) slot (wanted_at self.old.entries slot node mode)))
+            → (held_of self.new.entries ≡ with_members (held_of self.old.entries) node
+            (with_mode (members_at self.old.entries node) slot (wanted_at self.old.entries slot node mode)))
             × (queue_of self.new.entries ≡ queue_of self.old.entries)) }
         ensures waits { OnOk result
             (is_granted_at self.old.entries slot node mode ≡ false
             → (held_of self.new.entries ≡ held_of self.old.entries)
-            × (queue_of self.new.entries ≡ with_waiters (queue_of self.old.entries) node (placed (members_at self.old.entries node) (queue_of self.old.entries node) slot (wanted_at self.old.entries slot node mode)))) }
+            × (queue_of self.new.entries ≡ with_waiters (queue_of self.old.entries) node
+            (placed (members_at self.old.entries node) (queue_of self.old.entries node) slot (wanted_at self.old.entries slot node mode)))) }
         ensures err { OnErr result (self.new.entries ≡ self.old.entries) }
         ensures room { self.old.room ≤ self.new.room }
         ensures no_memory { IfErr result (λ refusal. refusal ≡ ARefusal.NoMemory) }
@@ -227,8 +230,10 @@ impl Headers {
         requires holds { holds (members_at self.old.entries node) slot ≡ true }
         requires not_waiting { is_among_waiters slot (queue_of self.old.entries node) ≡ false }
         ensures granted { granted.new.items ≡ front slot_limit (with_mode (members_at self.old.entries node) slot NL) (queue_of self.old.entries node) }
-        ensures held { held_of self.new.entries ≡ with_members (held_of self.old.entries) node (pumped_members slot_limit (with_mode (members_at self.old.entries node) slot NL) (queue_of self.old.entries node)) }
-        ensures queue { queue_of self.new.entries ≡ with_waiters (queue_of self.old.entries) node (pumped_queue slot_limit (with_mode (members_at self.old.entries node) slot NL) (queue_of self.old.entries node)) }
+        ensures held { held_of self.new.entries ≡ with_members (held_of self.old.entries) node
+            (pumped_members slot_limit (with_mode (members_at self.old.entries node) slot NL) (queue_of self.old.entries node)) }
+        ensures queue { queue_of self.new.entries ≡ with_waiters (queue_of self.old.entries) node
+            (pumped_queue slot_limit (with_mode (members_at self.old.entries node) slot NL) (queue_of self.old.entries node)) }
         ensures room { self.new.room ≡ self.old.room }
     {
         let place = &mut self.places[node.key];
@@ -244,8 +249,10 @@ impl Headers {
     pub fn drop_wait(&mut self, slot: Slot, node: NodeId, granted: &mut GrantList)
         requires { is_among_waiters slot (queue_of self.old.entries node) ≡ true }
         ensures granted { granted.new.items ≡ front slot_limit (members_at self.old.entries node) (without_waiter slot (queue_of self.old.entries node)) }
-        ensures held { held_of self.new.entries ≡ with_members (held_of self.old.entries) node (pumped_members slot_limit (members_at self.old.entries node) (without_waiter slot (queue_of self.old.entries node))) }
-        ensures queue { queue_of self.new.entries ≡ with_waiters (queue_of self.old.entries) node (pumped_queue slot_limit (members_at self.old.entries node) (without_waiter slot (queue_of self.old.entries node))) }
+        ensures held { held_of self.new.entries ≡ with_members (held_of self.old.entries) node
+            (pumped_members slot_limit (members_at self.old.entries node) (without_waiter slot (queue_of self.old.entries node))) }
+        ensures queue { queue_of self.new.entries ≡ with_waiters (queue_of self.old.entries) node
+            (pumped_queue slot_limit (members_at self.old.entries node) (without_waiter slot (queue_of self.old.entries node))) }
         ensures room { self.new.room ≡ self.old.room }
     {
         let place = &mut self.places[node.key];

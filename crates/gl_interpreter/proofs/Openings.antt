@@ -17,7 +17,8 @@ wide true v h = let e : version.Two ≡ v = cc in ap most_of (sym e)
 wide false v h = absurd (none_some h)
 
 -- a version was chosen
-pub chooses : (v : Version) (two : ManagerView) (s s' : Script) (line : List ℕ) → IsReadyWith (Some two) s → version_of line ≡ Some v → s'.language ≡ record { version = v; listings = s.language.listings } → s'.names ≡ s.names → s'.locks ≡ state_of two → s'.deadlock ≡ two.table.deadlock
+pub chooses : (v : Version) (two : ManagerView) (s s' : Script) (line : List ℕ) → IsReadyWith (Some two) s → version_of line ≡ Some v
+    → s'.language ≡ record { version = v; listings = s.language.listings } → s'.names ≡ s.names → s'.locks ≡ state_of two → s'.deadlock ≡ two.table.deadlock
     → Prints (stage_with (Some two) s) line (codes "ok\n") (stage_with None s')
 unfolding Prints
 chooses v two s s' line ready says is names locks deadlock =
@@ -26,10 +27,12 @@ chooses v two s s' line ready says is names locks deadlock =
     let all = locks ∙ ready.0 ∙ ap (λ m. choosing c.victims (empty_state c.detect m)) (sym most) in
     let none = names ∙ ap (λ (x : Script). x.names) ready.2 in
     let no_victim = deadlock ∙ ready.1 in
-    subst (λ o. Opens c o line (codes "ok\n") (Going s')) (sym says) (refl, λ i. Going (record { language = is i; names = none i; locks = all i; deadlock = no_victim i }))
+    subst (λ o. Opens c o line (codes "ok\n") (Going s')) (sym says)
+    (refl, λ i. Going (record { language = is i; names = none i; locks = all i; deadlock = no_victim i }))
 
 -- any other line is one of the script
-pub goes_on : (two : Option ManagerView) (s s' : Script) (line text : List ℕ) → IsReadyWith two s → ((m : ManagerView) → two ≡ Some m → version_of line ≡ None) → Answers s line text s'
+pub goes_on : (two : Option ManagerView) (s s' : Script) (line text : List ℕ) → IsReadyWith two s
+    → ((m : ManagerView) → two ≡ Some m → version_of line ≡ None) → Answers s line text s'
     → Prints (stage_with two s) line text (stage_with None s')
 unfolding Prints
 goes_on None s s' line text ready other answers = (s', answers, refl)

@@ -1,5 +1,6 @@
 -- The texts that are printed, piece by piece.
-use Rattle.std.proofs.Common.{◌≡◌, ℕ, Bool, ◌||◌, true, false, List, [], ◌∷◌, ◌++◌, Option, None, Some, is_none, refl, ap, ◌∙◌, append-nil, true≢false, sym, if◌then◌else◌}
+use Rattle.std.proofs.Common.{◌≡◌, ℕ, Bool, ◌||◌, true, false, List, [], ◌∷◌, ◌++◌, Option, None, Some, is_none, refl, ap, ◌∙◌, append-nil}
+use Rattle.std.proofs.Common.{true≢false, sym, if◌then◌else◌}
 use Rattle.gl_modes.specs.declared.node.NodeId.{NodeId}
 use Rattle.gl_modes.specs.declared.refusal.Refusal.{Refusal}
 use Rattle.gl_modes.specs.declared.refusal.Refusal.TheVariants as no
@@ -15,11 +16,17 @@ used_text name (Some k) = refl
 
 module _ (s : Script) where
   -- one node whose name is not in use, and what follows it
-  pub head_unused : (n : Node) (ns : List Node) → is_none (node_named s n) ≡ true → (first_unused s (n ∷ ns) ≡ first_unused s (n ∷ [])) × (some_unused s (n ∷ ns) ≡ true)
-  head_unused n ns h = (ap (λ b. if b then 32 ∷ node_text n else first_unused s ns) h ∙ ap (λ b. if b then 32 ∷ node_text n else []) (sym h), ap (λ b. b || some_unused s ns) h)
+  pub head_unused : (n : Node) (ns : List Node) → is_none (node_named s n) ≡ true → (first_unused s (n ∷ ns) ≡ first_unused s (n ∷ []))
+      × (some_unused s (n ∷ ns) ≡ true)
+  head_unused n ns h = (
+    ap (λ b. if b then 32 ∷ node_text n else first_unused s ns) h
+        ∙ ap (λ b. if b then 32 ∷ node_text n else []) (sym h),
+    ap (λ b. b || some_unused s ns) h,
+  )
 
   -- one whose name is, and what follows it
-  pub head_used : (n : Node) (ns : List Node) → is_none (node_named s n) ≡ false → (first_unused s (n ∷ ns) ≡ first_unused s ns) × (some_unused s (n ∷ ns) ≡ some_unused s ns)
+  pub head_used : (n : Node) (ns : List Node) → is_none (node_named s n) ≡ false → (first_unused s (n ∷ ns) ≡ first_unused s ns)
+      × (some_unused s (n ∷ ns) ≡ some_unused s ns)
   head_used n ns h = (ap (λ b. if b then 32 ∷ node_text n else first_unused s ns) h, ap (λ b. b || some_unused s ns) h)
 
   -- of two lists, the first with such a node decides
@@ -46,7 +53,8 @@ module _ (s : Script) where
   none_unused ns h = ap (first_unused s) (sym (append-nil ns)) ∙ unused_in_second ns [] h
 
   -- the other refusals name nobody
-  pub names_nobody : (c : Command) (r : Refusal) → ¬ (r ≡ no.NoSuchNode) → ¬ (r ≡ no.NoSuchTxn) → ¬ (r ≡ no.NameTaken) → ((n : NodeId) → ¬ (r ≡ no.NeedParents n)) → ((n : NodeId) → ¬ (r ≡ no.HeldChild n)) → ((n : NodeId) → ¬ (r ≡ no.Cycle n))
+  pub names_nobody : (c : Command) (r : Refusal) → ¬ (r ≡ no.NoSuchNode) → ¬ (r ≡ no.NoSuchTxn) → ¬ (r ≡ no.NameTaken)
+      → ((n : NodeId) → ¬ (r ≡ no.NeedParents n)) → ((n : NodeId) → ¬ (r ≡ no.HeldChild n)) → ((n : NodeId) → ¬ (r ≡ no.Cycle n))
       → who_text s c r ≡ []
   names_nobody c no.NoSuchNode a1 a2 a3 a4 a5 a6 = absurd (a1 refl)
   names_nobody c no.NoSuchTxn a1 a2 a3 a4 a5 a6 = absurd (a2 refl)

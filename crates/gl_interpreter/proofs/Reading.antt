@@ -1,5 +1,7 @@
 -- A script on its way through the tool: lines grow, are answered, and end.
-use Rattle.std.proofs.Common.{◌≡◌, ◌≢◌, ℕ, zero, suc, ◌&&◌, ◌==◌, ◌+◌, ◌<◌, ◌≤◌, List, [], ◌∷◌, ◌++◌, Option, Some, None, if◌then◌else◌, Result, Ok, Err, OnOk, length, take, flat_map, refl, sym, ap, ◌∙◌, subst, append_assoc, append-nil, arith, inl, inr, length-take, min, take_all, true, false}
+use Rattle.std.proofs.Common.{◌≡◌, ◌≢◌, ℕ, zero, suc, ◌&&◌, ◌==◌, ◌+◌, ◌<◌, ◌≤◌, List, [], ◌∷◌, ◌++◌, Option, Some, None, if◌then◌else◌, Result, Ok}
+use Rattle.std.proofs.Common.{Err, OnOk, length, take, flat_map, refl, sym, ap, ◌∙◌, subst, append_assoc, append-nil, arith, inl, inr, length-take}
+use Rattle.std.proofs.Common.{min, take_all, true, false}
 use Rattle.std.specs.Prelude.{codes}
 use Rattle.std.specs.Str.{bytes_eq}
 use Rattle.std.proofs.Math.Seq.{take-append-add}
@@ -13,7 +15,8 @@ use Rattle.gl_interpreter.specs.declared.script.RunFault.TheVariants.{Read, Writ
 use Rattle.gl_script.specs.declared.form.Version.{Version}
 use Rattle.gl_script.specs.declared.form.Version.TheVariants as version
 use Rattle.gl_words.specs.declared.requests.Choices.{Choices}
-use Rattle.gl_interpreter.specs.Report.{Answers, Going, IsOpen, Left, Opening, Opens, Prints, Ran, Report, ReportOfWhole, Run, Splits, Stage, ended, last_line, version_of}
+use Rattle.gl_interpreter.specs.Report.{Answers, Going, IsOpen, Left, Opening, Opens, Prints, Ran, Report, ReportOfWhole, Run, Splits, Stage, ended}
+use Rattle.gl_interpreter.specs.Report.{last_line, version_of}
 use Rattle.gl_interpreter.specs.Script.{Script}
 use Rattle.std.specs.Io.KnownBytes.{Appends, Consumes}
 use Rattle.gl_interpreter.specs.declared.sink.Sink.{Sink}
@@ -26,12 +29,14 @@ Splits-none = record { whole = refl; each = All-nil IsOpen; tail = All-nil (λ b
 
 pub Splits-newline : (read : List ℕ) (lines : List (List ℕ)) (rest : List ℕ) → Splits read lines rest → Splits (read ++ 10 ∷ []) (lines ++ rest ∷ []) []
 Splits-newline read lines rest s = record {
-  whole = ap (λ l. l ++ 10 ∷ []) s.whole ∙ append_assoc (flat_map ended lines) rest (10 ∷ []) ∙ flat_map_more ended [] lines rest ∙ sym (append-nil (flat_map ended (lines ++ rest ∷ [])));
+  whole = ap (λ l. l ++ 10 ∷ []) s.whole ∙ append_assoc (flat_map ended lines) rest (10 ∷ []) ∙ flat_map_more ended [] lines rest
+      ∙ sym (append-nil (flat_map ended (lines ++ rest ∷ [])));
   each = All-push IsOpen lines rest s.each s.tail;
   tail = All-nil (λ b. b ≢ 10);
 }
 
-pub Splits-open : (read : List ℕ) (lines : List (List ℕ)) (rest bytes : List ℕ) → IsOpen bytes → Splits read lines rest → Splits (read ++ bytes) lines (rest ++ bytes)
+pub Splits-open : (read : List ℕ) (lines : List (List ℕ)) (rest bytes : List ℕ) → IsOpen bytes → Splits read lines rest
+    → Splits (read ++ bytes) lines (rest ++ bytes)
 Splits-open read lines rest bytes open_ s = record {
   whole = ap (λ l. l ++ bytes) s.whole ∙ append_assoc (flat_map ended lines) rest bytes;
   each = s.each;
@@ -99,7 +104,8 @@ SoFar-newline d first read w w' tool tool' reported tool'' same sink line (lines
       text ++ done.0,
       record {
         splits = Splits-newline read lines rest so.splits;
-        run = Run-more (Opening d) lines text (stage_of tool.interpreter) rest done.0 (stage_of tool''.interpreter) so.run (subst (λ i. Prints (stage_of tool.interpreter) rest done.0 (stage_of i)) (sym same) done.1);
+        run = Run-more (Opening d) lines text (stage_of tool.interpreter) rest done.0 (stage_of tool''.interpreter) so.run
+            (subst (λ i. Prints (stage_of tool.interpreter) rest done.0 (stage_of i)) (sym same) done.1);
         ready = subst IsReady (sym same) done.2;
         line = line;
         handed = subst (λ s. Holds first w' s (text ++ done.0)) (sym sink) (done.3 first text so.handed);
@@ -135,7 +141,8 @@ Takes-line w tool w' tool' line none none' open_ answered d first read (lines, r
       [],
       text ++ done.0,
       record {
-        splits = subst (λ r. Splits r (lines ++ line ∷ []) []) (append_assoc read line (10 ∷ [])) (Splits-newline (read ++ line) lines line (Splits-open read lines [] line open_ splits));
+        splits = subst (λ r. Splits r (lines ++ line ∷ []) []) (append_assoc read line (10 ∷ []))
+            (Splits-newline (read ++ line) lines line (Splits-open read lines [] line open_ splits));
         run = Run-more (Opening d) lines text (stage_of tool.interpreter) line done.0 (stage_of tool'.interpreter) so.run done.1;
         ready = done.2;
         line = none';
@@ -148,7 +155,8 @@ pub IsOpen-front : (bytes : List ℕ) (n : ℕ) → Nowhere (Passes (is_byte 10)
 IsOpen-front bytes zero h = All-nil (λ b. b ≢ 10)
 IsOpen-front [] (suc n) h = All-nil (λ b. b ≢ 10)
 IsOpen-front (b ∷ bytes) (suc n) h =
-    All-cons (λ x. x ≢ 10) b (take n bytes) (λ e. h 0 (omega arith) (omega arith) ((Decides-eqb b 10).1 e)) (IsOpen-front bytes n (λ k low high. h (suc k) (omega arith) (omega (arith, high))))
+    All-cons (λ x. x ≢ 10) b (take n bytes) (λ e. h 0 (omega arith) (omega arith) ((Decides-eqb b 10).1 e))
+    (IsOpen-front bytes n (λ k low high. h (suc k) (omega arith) (omega (arith, high))))
 
 pub Takes-none : (w : Option (List ℕ)) (tool : Tool) → Takes w tool w tool []
 unfolding Takes
@@ -198,7 +206,14 @@ Ended-rest d first read w w' tool tool' some reported (lines, rest, text, so) =
     let long : 0 < length rest = omega (arith, length-take 257 rest, ap length so.line) in
     let all = Run-more (Opening d) lines text (stage_of tool.interpreter) rest done.0 (stage_of tool'.interpreter) so.run done.1 in (
       text ++ done.0,
-      (lines, rest, stage_of tool'.interpreter, so.splits, subst (λ ls. Run (Opening d) (lines ++ ls) (text ++ done.0) (stage_of tool'.interpreter)) (sym (last_line-some rest long)) all),
+      (
+        lines,
+        rest,
+        stage_of tool'.interpreter,
+        so.splits,
+        subst (λ ls. Run (Opening d) (lines ++ ls) (text ++ done.0) (stage_of tool'.interpreter))
+            (sym (last_line-some rest long)) all,
+      ),
       done.3 first text so.handed,
     )
 
@@ -236,10 +251,21 @@ Ended-broken d first read w sink broken (text, report, holds) =
     (h.0, h.1, (h.2.0, subst (Report d read) h.2.1 report))
 
 pub SoFar-whole : (d : Choices) (first : Option (List ℕ)) (read : List ℕ) (w : Option (List ℕ)) (tool : Tool)
-    → tool.sink.broken ≡ false → tool.sink.held.items ≡ [] → SoFar d first read w tool → (written : List ℕ) × Appends first w written × ReportOfWhole d read written
+    → tool.sink.broken ≡ false → tool.sink.held.items ≡ [] → SoFar d first read w tool → (written : List ℕ) × Appends first w written
+    × ReportOfWhole d read written
 SoFar-whole d first read w tool whole empty (lines, rest, text, so) =
-    let h = subst (λ b. Handed first w tool.sink.held.items b text) whole so.handed in
-    (h.0, h.1, (lines, rest, stage_of tool.interpreter, so.splits, subst (λ t. Run (Opening d) lines t (stage_of tool.interpreter)) (h.2 ∙ ap (λ l. h.0 ++ l) empty ∙ append-nil h.0) so.run))
+    let h = subst (λ b. Handed first w tool.sink.held.items b text) whole so.handed in (
+      h.0,
+      h.1,
+      (
+        lines,
+        rest,
+        stage_of tool.interpreter,
+        so.splits,
+        subst (λ t. Run (Opening d) lines t (stage_of tool.interpreter))
+            (h.2 ∙ ap (λ l. h.0 ++ l) empty ∙ append-nil h.0) so.run,
+      ),
+    )
 
 pub SoFar-new : (d : Choices) (first : Option (List ℕ)) (tool : Tool) → IsNew d tool → SoFar d first [] first tool
 SoFar-new d first tool new = (
@@ -277,7 +303,8 @@ Ran-at_fault d r r' first w tool read whole empty consumes so =
     let done = SoFar-whole d first read w tool whole empty so in (read, done.0, consumes, done.1, done.2)
 
 pub Ran-too_much : (d : Choices) (r r' first w : Option (List ℕ)) (tool : Tool) (read : List ℕ)
-    → tool.sink.broken ≡ false → tool.sink.held.items ≡ [] → length read ≡ 16777217 → Consumes r r' read → SoFar d first read w tool → Ran d r r' first w (Err TooMuch)
+    → tool.sink.broken ≡ false → tool.sink.held.items ≡ [] → length read ≡ 16777217 → Consumes r r' read → SoFar d first read w tool
+    → Ran d r r' first w (Err TooMuch)
 Ran-too_much d r r' first w tool read whole empty long consumes so =
     let done = SoFar-whole d first read w tool whole empty so in (read, done.0, consumes, done.1, (long, done.2))
 

@@ -15,7 +15,8 @@ on_ok (Err e) ok p = absurd (true≢false (sym ok))
 module _ {I S : Type 0} (old new : IndexMap (ArrayVec ℕ) I S) (k : ArrayVec ℕ) (name : List ℕ) (is : k.items ≡ name) where
   -- a name that was put in, or taken out
   pub ids-updated : (o : Option I) → Updates same_name old new k o
-      → ◌≡◌ {A = List ℕ → Option I} (λ n. get same_name new (record { items = n })) (λ n. if bytes_eq name n then o else get same_name old (record { items = n }))
+      → ◌≡◌ {A = List ℕ → Option I} (λ n. get same_name new (record { items = n }))
+      (λ n. if bytes_eq name n then o else get same_name old (record { items = n }))
   ids-updated o up = fun_ext (λ n. up.0 (record { items = n }) ∙ ap (λ t. if bytes_eq t n then o else get same_name old (record { items = n })) is)
 
 named : (b : Bool) (o p : Option (ArrayVec ℕ)) → text_or_none (if b then o else p) ≡ (if b then text_or_none o else text_or_none p)

@@ -1,5 +1,6 @@
 -- Rows that are printed one after the other.
-use Rattle.std.specs.Prelude.{◌≡◌, ◌≢◌, ℕ, ◌+◌, ◌<◌, Bool, List, [], ◌∷◌, ◌++◌, codes, flat_map, get_or, length, map, take, Option, None, Some, IsNone, is_some, slice_get, Result, Ok, Err, if◌then◌else◌, true, false, zero, suc}
+use Rattle.std.specs.Prelude.{◌≡◌, ◌≢◌, ℕ, ◌+◌, ◌<◌, Bool, List, [], ◌∷◌, ◌++◌, codes, flat_map, get_or, length, map, take, Option, None, Some}
+use Rattle.std.specs.Prelude.{IsNone, is_some, slice_get, Result, Ok, Err, if◌then◌else◌, true, false, zero, suc}
 use Rattle.std.specs.List.{filter, range_with_len}
 use Rattle.std.proofs.Common.{refl, sym, ap, ◌∙◌, arith, append_assoc, append-nil, true≢false}
 use Rattle.std.proofs.Math.Path.{fun_ext}
@@ -26,19 +27,22 @@ module _ {A : Type 0} (row : A → List ℕ) where
   one_more xs x = flat_map_more row [] xs x
 
   pub more_rows : (xs : List A) (i : ℕ) (d e : A) → i < length xs → flat_map row (take i xs) ++ row (get_or xs i e) ≡ flat_map row (take (i + 1) xs)
-  more_rows xs i d e low = ap (λ x. flat_map row (take i xs) ++ row x) (get_or_default xs i e d low) ∙ one_more (take i xs) (get_or xs i d) ∙ ap (flat_map row) (sym (take_more xs i d low))
+  more_rows xs i d e low = ap (λ x. flat_map row (take i xs) ++ row x) (get_or_default xs i e d low) ∙ one_more (take i xs) (get_or xs i d)
+      ∙ ap (flat_map row) (sym (take_more xs i d low))
 
   -- the row that stands at a place
   pub row_there : (xs : List A) (i : ℕ) (x : A) → slice_get xs i ≡ Some x → flat_map row (take i xs) ++ row x ≡ flat_map row (take (i + 1) xs)
   row_there xs i x at =
-      one_more (take i xs) x ∙ ap (λ y. flat_map row (take i xs ++ y ∷ [])) (sym (get_or_from_slice_get xs i x x at)) ∙ ap (flat_map row) (sym (take_more xs i x (slice_get_within xs i x at)))
+      one_more (take i xs) x ∙ ap (λ y. flat_map row (take i xs ++ y ∷ [])) (sym (get_or_from_slice_get xs i x x at))
+      ∙ ap (flat_map row) (sym (take_more xs i x (slice_get_within xs i x at)))
 
 map_same : {A : Type 0} (xs : List A) → map (λ x. x) xs ≡ xs
 map_same [] = refl
 map_same (x ∷ xs) = ap (λ ys. x ∷ ys) (map_same xs)
 
 range_more : (n : ℕ) → range_with_len 0 (n + 1) ≡ range_with_len 0 n ++ n ∷ []
-range_more n = sym (map_same (range_with_len 0 (n + 1))) ∙ map-range_with_len_more (λ k. k) 0 n n (omega arith) ∙ ap (λ ks. ks ++ n ∷ []) (map_same (range_with_len 0 n))
+range_more n = sym (map_same (range_with_len 0 (n + 1))) ∙ map-range_with_len_more (λ k. k) 0 n n (omega arith)
+    ∙ ap (λ ks. ks ++ n ∷ []) (map_same (range_with_len 0 n))
 
 -- a row for each number below n, and that of n
 pub range_rows : (row : ℕ → List ℕ) (n : ℕ) → flat_map row (range_with_len 0 n) ++ row n ≡ flat_map row (range_with_len 0 (n + 1))

@@ -1,5 +1,6 @@
 -- What becomes of text on its way to a writer.
-use Rattle.std.proofs.Common.{◌≡◌, ℕ, List, [], ◌++◌, Bool, true, false, not, Option, Some, None, refl, sym, ap, ◌∙◌, subst, append_assoc, append-nil, take, drop, ◌+◌, take-append-drop}
+use Rattle.std.proofs.Common.{◌≡◌, ℕ, List, [], ◌++◌, Bool, true, false, not, Option, Some, None, refl, sym, ap, ◌∙◌, subst, append_assoc, append-nil}
+use Rattle.std.proofs.Common.{take, drop, ◌+◌, take-append-drop}
 use Rattle.std.proofs.Math.Seq.{take-add}
 use Rattle.std.specs.Io.KnownBytes.{Appends, Consumes, Keeps}
 use Rattle.gl_interpreter.specs.declared.sink.Sink.{Sink}
@@ -69,7 +70,8 @@ Hands-broken w s s' was is first before h =
     let h' = subst (λ b. Handed first w s.held.items b before) was h in
     subst (Holds first w s') (sym (append-nil before)) (subst (λ b. Handed first w s'.held.items b before) (sym is) h')
 
-pub Sends-more : (a b d : Option (List ℕ)) (text : List ℕ) (at n : ℕ) → Appends a b (take at text) → Appends b d (take n (drop at text)) → Appends a d (take (at + n) text)
+pub Sends-more : (a b d : Option (List ℕ)) (text : List ℕ) (at n : ℕ) → Appends a b (take at text) → Appends b d (take n (drop at text))
+    → Appends a d (take (at + n) text)
 Sends-more a b d text at n p q = subst (Appends a d) (sym (take-add at n text)) (Appends-then a b d (take at text) (take n (drop at text)) p q)
 
 pub Sends-front : (a b : Option (List ℕ)) (text : List ℕ) (at : ℕ) → Appends a b (take at text) → Sends a b text false

@@ -23,11 +23,19 @@ no_names = record { node = λ n. None; node_name = λ x. []; txn = λ t. None; t
 
 -- the name stands for this node
 abbrev pub with_node : Names → Text → NodeId → Names
-with_node names n x = record names { node = λ m. if bytes_eq n m then Some x else names.node m; node_name = λ y. if same_node x y then n else names.node_name y }
+with_node names n x = record names {
+  node = λ m. if bytes_eq n m then Some x else names.node m;
+  node_name = λ y. if same_node x y then n
+      else names.node_name y;
+}
 
 -- the name of this node is free again
 abbrev pub without_node : Names → Text → NodeId → Names
-without_node names n x = record names { node = λ m. if bytes_eq n m then None else names.node m; node_name = λ y. if same_node x y then [] else names.node_name y }
+without_node names n x = record names {
+  node = λ m. if bytes_eq n m then None else names.node m;
+  node_name = λ y. if same_node x y then []
+      else names.node_name y;
+}
 
 -- the name stands for this transaction
 abbrev pub with_txn : Names → Text → TxnId → Names

@@ -16,7 +16,8 @@ use Rattle.gl_model.specs.declared.txn.TxnId.{TxnId}
 use Rattle.gl_model.specs.Tellings.{Told}
 use Rattle.gl_catalog.specs.declared.command.Answer.{Answer}
 use Rattle.gl_catalog.specs.declared.command.Answer.TheVariants as answer
-use Rattle.gl_script.specs.Grammar.{Text, Node, Plain, Interval, Command, Inner, File, Index, Lock, Try, Unlock, Cancel, Commit, Abort, Settle, Insert, Delete, Rekey, Escalate, Move, Group, Held, Effective, node_text}
+use Rattle.gl_script.specs.Grammar.{Text, Node, Plain, Interval, Command, Inner, File, Index, Lock, Try, Unlock, Cancel, Commit, Abort, Settle}
+use Rattle.gl_script.specs.Grammar.{Insert, Delete, Rekey, Escalate, Move, Group, Held, Effective, node_text}
 use Rattle.gl_interpreter.specs.Script.{Script, Declared, NodeName, TxnName, Nothing, declared, node_named}
 
 -- a dot, and the place of an interval
@@ -113,7 +114,8 @@ answer_line s c (answer.Granted m) = codes "ok " ++ mode_text m ++ 10 ∷ []
 answer_line s c (answer.Mode m) = codes "ok " ++ mode_text m ++ 10 ∷ []
 answer_line s c answer.Waiting = codes "wait\n"
 answer_line s c answer.Victim = codes "victim\n"
-answer_line s c (answer.Escalated e) = codes "ok " ++ mode_text e.mode ++ codes " released " ++ decimal e.released ++ codes " kept " ++ decimal e.kept ++ 10 ∷ []
+answer_line s c (answer.Escalated e) = codes "ok " ++ mode_text e.mode ++ codes " released " ++ decimal e.released ++ codes " kept "
+    ++ decimal e.kept ++ 10 ∷ []
 answer_line s c (answer.Effect e) = codes "ok " ++ effect_text e ++ 10 ∷ []
 answer_line s c (answer.Refused r) = refusal_line r (who_text s c r)
 

@@ -1,5 +1,6 @@
 -- What is printed for a script, from all bytes read to all bytes written.
-use Rattle.std.specs.Prelude.{◌≡◌, ◌≢◌, ◌<◌, ◌≤◌, ◌⊎◌, List, [], ◌∷◌, ◌++◌, length, slice_index, All, codes, flat_map, Option, Some, None, if◌then◌else◌, Result, MatchResult, OnOk}
+use Rattle.std.specs.Prelude.{◌≡◌, ◌≢◌, ◌<◌, ◌≤◌, ◌⊎◌, List, [], ◌∷◌, ◌++◌, length, slice_index, All, codes, flat_map, Option, Some, None}
+use Rattle.std.specs.Prelude.{if◌then◌else◌, Result, MatchResult, OnOk}
 use Rattle.std.specs.Io.KnownBytes.{Consumes, Appends}
 use Rattle.std.specs.Str.{bytes_eq}
 use Rattle.gl_words.specs.declared.requests.Choices.{Choices}

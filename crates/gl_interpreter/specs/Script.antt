@@ -20,7 +20,8 @@ use Rattle.gl_catalog.specs.Step.{Step}
 use Rattle.gl_script.specs.declared.form.Language.{Language}
 use Rattle.gl_script.specs.declared.form.Version.{Version}
 use Rattle.gl_script.specs.declared.form.Version.TheVariants as version
-use Rattle.gl_script.specs.Grammar.{Text, Node, Plain, Interval, Command, Inner, File, Index, Begin, Lock, Try, Unlock, Cancel, Commit, Abort, Settle, Insert, Delete, Rekey, Escalate, Move, Group, Held, Effective}
+use Rattle.gl_script.specs.Grammar.{Text, Node, Plain, Interval, Command, Inner, File, Index, Begin, Lock, Try, Unlock, Cancel, Commit, Abort, Settle}
+use Rattle.gl_script.specs.Grammar.{Insert, Delete, Rekey, Escalate, Move, Group, Held, Effective}
 use Rattle.gl_interpreter.specs.Names.{Names, no_names, with_node, with_txn, without_node, without_txn}
 
 -- its language, the names that it has declared, the locks, and the deadlock of which the last victim fell
@@ -37,7 +38,13 @@ most_of version.Two = 128
 
 -- a script of which no line was carried out
 abbrev pub begun : Choices → Version → Script
-begun c v = record { language = record { version = v; listings = c.listings }; names = no_names; locks = choosing c.victims (empty_state c.detect (most_of v)); deadlock = no_deadlock }
+begun c v = record {
+  language = record { version = v; listings = c.listings };
+  names = no_names;
+  locks =
+      choosing c.victims (empty_state c.detect (most_of v));
+  deadlock = no_deadlock;
+}
 
 -- the interval of an index that stands for itself
 abbrev pub interval_named : Graph → Option NodeId → ℕ → Option NodeId

@@ -37,7 +37,8 @@ stage_of i = stage_with i.two (script_of i.desk)
 -- as long as no version is chosen, both managers are as they were made
 abbrev pub IsReadyWith : Option ManagerView → Script → Type 0
 IsReadyWith None s = Unit
-IsReadyWith (Some two) s = let c = choices_of s in (state_of two ≡ choosing c.victims (empty_state c.detect 128)) × (two.table.deadlock ≡ no_deadlock) × (s ≡ begun c version.One)
+IsReadyWith (Some two) s = let c = choices_of s in (state_of two ≡ choosing c.victims (empty_state c.detect 128))
+    × (two.table.deadlock ≡ no_deadlock) × (s ≡ begun c version.One)
 
 abbrev pub IsReady : Interpreter → Type 0
 IsReady i = IsReadyWith i.two (script_of i.desk)
@@ -59,7 +60,8 @@ IsShown w sink s listing w' sink' = (text : List ℕ) × Shows s listing text ×
 
 -- a line of a script whose version is known was answered, as it was given
 unfoldable pub CarriesOut : Option (List ℕ) → Sink → Interpreter → List ℕ → Option (List ℕ) → Sink → Interpreter → Type 0
-CarriesOut w sink i line w' sink' i' = (text : List ℕ) × Answers (script_of i.desk) line text (script_of i'.desk) × (i'.two ≡ i.two) × Hands w sink w' sink' text
+CarriesOut w sink i line w' sink' i' = (text : List ℕ) × Answers (script_of i.desk) line text (script_of i'.desk) × (i'.two ≡ i.two)
+    × Hands w sink w' sink' text
 
 -- a line was answered, as it was given
 unfoldable pub Answered : Option (List ℕ) → Sink → Interpreter → List ℕ → Option (List ℕ) → Sink → Interpreter → Type 0
@@ -73,7 +75,8 @@ pub record IsNew (choices : Choices) (tool : Tool) : Type 0 where
   pub whole : tool.sink.broken ≡ false
 
 -- Of the bytes read, the whole lines are answered; the answers were handed on; the tool has the front of the rest.
-pub record IsSoFar (c : Choices) (first : Option (List ℕ)) (read : List ℕ) (w : Option (List ℕ)) (tool : Tool) (lines : List (List ℕ)) (rest text : List ℕ) : Type 0 where
+pub record IsSoFar (c : Choices) (first : Option (List ℕ)) (read : List ℕ) (w : Option (List ℕ)) (tool : Tool) (lines : List (List ℕ))
+    (rest text : List ℕ) : Type 0 where
   pub splits : Splits read lines rest
   pub run : Run (Opening c) lines text (stage_of tool.interpreter)
   pub ready : IsReady tool.interpreter

@@ -7,7 +7,21 @@ ghost use Rattle.gl_script.specs.Grammar.{Plain};
 ghost use Rattle.gl_script.specs.declared.form.Lists.{Lists as TheLists};
 ghost use Rattle.gl_script.specs.Views.{command_of, node_of, nodes_of};
 ghost use Rattle.gl_interpreter.specs.Held.{Hands};
-ghost use Rattle.gl_interpreter.specs.Printed.{answer_line, called, declared_text, effect_text, first_unused, notice_text, place_text, refusal_line, some_unused, told_line, used_nodes, used_txn, who_text};
+ghost use Rattle.gl_interpreter.specs.Printed.{
+  answer_line,
+  called,
+  declared_text,
+  effect_text,
+  first_unused,
+  notice_text,
+  place_text,
+  refusal_line,
+  some_unused,
+  told_line,
+  used_nodes,
+  used_txn,
+  who_text,
+};
 ghost use Rattle.gl_interpreter.specs.Script.{declared, node_named};
 ghost use Rattle.gl_interpreter.specs.Views.{script_of};
 
@@ -44,7 +58,8 @@ pub(crate) fn put_answer<W: Write>(
     lists: &Lists,
     answer: Answer,
 )
-    ensures { Hands (W.contents writer.old) sink.old (W.contents writer.new) sink.new (answer_line (script_of desk.now) (command_of form.now lists.now) answer) }
+    ensures { Hands (W.contents writer.old) sink.old (W.contents writer.new) sink.new
+        (answer_line (script_of desk.now) (command_of form.now lists.now) answer) }
 {
     match answer {
         Answer::Done | Answer::Node(_) | Answer::Begun(_) => put(sink, writer, b"ok\n"),
@@ -100,7 +115,8 @@ fn put_refusal<W: Write>(
     lists: &Lists,
     refusal: Refusal,
 )
-    ensures { Hands (W.contents writer.old) sink.old (W.contents writer.new) sink.new (refusal_line refusal (who_text (script_of desk.now) (command_of form.now lists.now) refusal)) }
+    ensures { Hands (W.contents writer.old) sink.old (W.contents writer.new) sink.new
+        (refusal_line refusal (who_text (script_of desk.now) (command_of form.now lists.now) refusal)) }
 {
     put_no(sink, writer, refusal);
     put_who(sink, writer, desk, form, lists, refusal);
@@ -115,7 +131,8 @@ pub(crate) fn put_no_node<W: Write>(
     node: &Used,
     refusal: Refusal,
 )
-    ensures { Hands (W.contents writer.old) sink.old (W.contents writer.new) sink.new (refusal_line refusal (first_unused (script_of desk.now) (node_of node.now ∷ []))) }
+    ensures { Hands (W.contents writer.old) sink.old (W.contents writer.new) sink.new
+        (refusal_line refusal (first_unused (script_of desk.now) (node_of node.now ∷ []))) }
 {
     put_no(sink, writer, refusal);
     put_unused(sink, writer, desk, node);
@@ -133,7 +150,8 @@ pub(crate) fn put_no_txn<W: Write>(sink: &mut Sink, writer: &mut W, name: &Name,
 
 /// Prints `no`, with the number and the name of a refusal.
 fn put_no<W: Write>(sink: &mut Sink, writer: &mut W, refusal: Refusal)
-    ensures { Hands (W.contents writer.old) sink.old (W.contents writer.new) sink.new (codes "no " ++ decimal (refusal_number refusal) ++ 32 ∷ [] ++ refusal_name refusal) }
+    ensures { Hands (W.contents writer.old) sink.old (W.contents writer.new) sink.new
+        (codes "no " ++ decimal (refusal_number refusal) ++ 32 ∷ [] ++ refusal_name refusal) }
 {
     put(sink, writer, b"no ");
     put_number(sink, writer, refusal.number() as u64);
@@ -208,7 +226,8 @@ fn put_first_unused<W: Write>(
     form: &Form,
     lists: &Lists,
 )
-    ensures { Hands (W.contents writer.old) sink.old (W.contents writer.new) sink.new (first_unused (script_of desk.now) (used_nodes (command_of form.now lists.now))) }
+    ensures { Hands (W.contents writer.old) sink.old (W.contents writer.new) sink.new
+        (first_unused (script_of desk.now) (used_nodes (command_of form.now lists.now))) }
 {
     match form {
         Form::Inner { .. } | Form::File { .. } => {

@@ -8,7 +8,22 @@ ghost use Rattle.gl_script.specs.declared.form.Lists.{Lists as TheLists};
 ghost use Rattle.gl_interpreter.specs.Names.{no_names};
 ghost use Rattle.gl_interpreter.specs.Rows.{name_at};
 ghost use Rattle.gl_interpreter.specs.Rooms.{HasRoomFor, MakesRoom, MakesRoomIn};
-ghost use Rattle.gl_interpreter.specs.Script.{Asks, Does, NodeName, TxnName, declared, named_as, node_id, node_ids, node_named, plain_id, renamed, txn_id, without_deleted, without_ended};
+ghost use Rattle.gl_interpreter.specs.Script.{
+  Asks,
+  Does,
+  NodeName,
+  TxnName,
+  declared,
+  named_as,
+  node_id,
+  node_ids,
+  node_named,
+  plain_id,
+  renamed,
+  txn_id,
+  without_deleted,
+  without_ended,
+};
 ghost use Rattle.gl_interpreter.specs.Views.{HasRoom, id_in, name_in, names_of, script_of};
 
 use crate::register::Register;

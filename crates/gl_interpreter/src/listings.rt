@@ -8,7 +8,22 @@ ghost use Rattle.gl_table.specs.Table.{living_in, rows_of};
 ghost use Rattle.gl_model.specs.State.{lives, status_of};
 ghost use Rattle.gl_catalog.specs.Replies.{wait_of};
 ghost use Rattle.gl_interpreter.specs.Held.{Hands};
-ghost use Rattle.gl_interpreter.specs.Rows.{blocker_row, deadlock_rows, holder_row, kept_node, lock_row, member_text, or_dash, status_text, stuck_rows, txn_row, txn_rows, wait_row, waiter_row, wanted_text};
+ghost use Rattle.gl_interpreter.specs.Rows.{
+  blocker_row,
+  deadlock_rows,
+  holder_row,
+  kept_node,
+  lock_row,
+  member_text,
+  or_dash,
+  status_text,
+  stuck_rows,
+  txn_row,
+  txn_rows,
+  wait_row,
+  waiter_row,
+  wanted_text,
+};
 ghost use Rattle.gl_interpreter.specs.SoFar.{IsShown};
 ghost use Rattle.gl_interpreter.specs.Views.{script_of};
 
@@ -164,7 +179,8 @@ fn put_txns<W: Write>(sink: &mut Sink, writer: &mut W, desk: &Desk)
 
 /// Prints the line of the transaction in a slot, if there is one.
 fn put_living<W: Write>(sink: &mut Sink, writer: &mut W, desk: &Desk, slot: u8)
-    ensures { Hands (W.contents writer.old) sink.old (W.contents writer.new) sink.new (txn_row (script_of desk.now) (living_in (script_of desk.now).locks slot)) }
+    ensures { Hands (W.contents writer.old) sink.old (W.contents writer.new) sink.new
+        (txn_row (script_of desk.now) (living_in (script_of desk.now).locks slot)) }
 {
     if let Some((txn, status)) = desk.manager.living(slot) {
         put_txn(sink, writer, desk, txn, status);
@@ -264,7 +280,8 @@ fn put_wanted<W: Write>(sink: &mut Sink, writer: &mut W, wait: Option<(NodeId, M
 
 /// Prints the deadlock of which the last victim fell, if one ever did.
 fn put_deadlock<W: Write>(sink: &mut Sink, writer: &mut W, desk: &Desk)
-    ensures { Hands (W.contents writer.old) sink.old (W.contents writer.new) sink.new (deadlock_rows (script_of desk.now) (script_of desk.now).deadlock.victim (script_of desk.now).deadlock.cycle.items) }
+    ensures { Hands (W.contents writer.old) sink.old (W.contents writer.new) sink.new
+        (deadlock_rows (script_of desk.now) (script_of desk.now).deadlock.victim (script_of desk.now).deadlock.cycle.items) }
 {
     if let Some(deadlock) = desk.manager.last_deadlock() {
         put(sink, writer, b"victim");

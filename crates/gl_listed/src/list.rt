@@ -300,7 +300,8 @@ impl LockList {
         found: Option<NodeId>,
     ) -> Option<NodeId>
         ensures { result ≡
-            (if (is_child (graph_of graph.now) node child && not (same_mode (mode_of self.now child) NL)) && option_map_or (λ other. nat_lt child.birth other.birth) found true then Some child else found) }
+            (if (is_child (graph_of graph.now) node child && not (same_mode (mode_of self.now child) NL))
+            && option_map_or (λ other. nat_lt child.birth other.birth) found true then Some child else found) }
     {
         if is_child(graph, node, child) && self.holds(child) && is_born_before(child, found) {
             Some(child)
@@ -341,7 +342,8 @@ impl LockList {
 
     /// Marks the covered children of a node by the mode `NL`.
     pub fn mark_covered(&mut self, graph: &Graph, node: NodeId)
-        requires counted { (c p : Node) → not (same_mode (mode_of self.old c) NL) ≡ true → list_any (same_node p) (parents_of (graph_of graph.now) c) ≡ true → 0 < count_of self.old p }
+        requires counted { (c p : Node) → not (same_mode (mode_of self.old c) NL) ≡ true
+            → list_any (same_node p) (parents_of (graph_of graph.now) c) ≡ true → 0 < count_of self.old p }
         ensures listed { (q : Node) → is_listed self.new q ≡ is_listed self.old q }
         ensures modes { (q : Node) → mode_of self.new q ≡ (if covered_in (graph_of graph.now) self.old node q then NL else mode_of self.old q) }
         ensures counts { (q : Node) → count_of self.new q ≡ count_of self.old q }
@@ -403,7 +405,8 @@ impl LockList {
     pub fn take_marked(&mut self, graph: &Graph, at: usize) -> Option<NodeId>
         requires within { at < length (keys self.old.entries) }
         requires childless { (c : Node) → is_listed self.old c ≡ true → mode_of self.old c ≡ NL → count_of self.old c ≡ 0 }
-        requires counted { (c q : Node) → is_listed self.old c ≡ true → mode_of self.old c ≡ NL → count_by (same_node q) (parents_of (graph_of graph.now) c) ≤ count_of self.old q }
+        requires counted { (c q : Node) → is_listed self.old c ≡ true → mode_of self.old c ≡ NL
+            → count_by (same_node q) (parents_of (graph_of graph.now) c) ≤ count_of self.old q }
         requires passed { NoneMarkedFrom self.old (at + 1) }
         ensures passed { NoneMarkedFrom self.new at }
         ensures len { at ≤ length (keys self.new.entries) }
@@ -412,7 +415,8 @@ impl LockList {
         ensures was_marked { IfSome result (λ n. mode_of self.old n ≡ NL) }
         ensures listed { IfSome result (λ n. (q : Node) → is_listed self.new q ≡ (is_listed self.old q && not (same_node q n))) }
         ensures modes { IfSome result (λ n. (q : Node) → mode_of self.new q ≡ mode_of self.old q) }
-        ensures counts { IfSome result (λ n. (q : Node) → count_of self.new q + count_by (same_node q) (parents_of (graph_of graph.now) n) ≡ count_of self.old q) }
+        ensures counts { IfSome result (λ n. (q : Node)
+            → count_of self.new q + count_by (same_node q) (parents_of (graph_of graph.now) n) ≡ count_of self.old q) }
     {
         let node = *self.entries.get_index(at)?.0;
         if self.holds(node) {

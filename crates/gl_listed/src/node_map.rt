@@ -1,6 +1,27 @@
 //! The map.
 
-ghost use Rattle.std.specs.Prelude.{◌≡◌, ◌+◌, ◌<◌, ◌≤◌, ◌↔◌, ◌++◌, ◌∷◌, [], is_some, if◌then◌else◌, slice_get, position, None, Some, IsTrue, IsOk, IsSome, IfSome, IfNone, OnOk};
+ghost use Rattle.std.specs.Prelude.{
+  ◌≡◌,
+  ◌+◌,
+  ◌<◌,
+  ◌≤◌,
+  ◌↔◌,
+  ◌++◌,
+  ◌∷◌,
+  [],
+  is_some,
+  if◌then◌else◌,
+  slice_get,
+  position,
+  None,
+  Some,
+  IsTrue,
+  IsOk,
+  IsSome,
+  IfSome,
+  IfNone,
+  OnOk,
+};
 ghost use Rattle.std.specs.Borrow.{sem};
 ghost use Rattle.std.specs.Map.Iter.{deref_pair};
 ghost use Rattle.std.specs.Option.{option_copied, option_copied_mut, option_map, option_to_list};

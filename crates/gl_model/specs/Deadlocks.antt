@@ -44,7 +44,8 @@ pub record IsDeadlock (s : State) (t v : ℕ) (d : Deadlock) : Type 0 where
 -- settling t in this many turns: each keeps, in place of the last, the deadlock as it was before its victim was condemned
 abbrev pub SettlesKeepingWithin : Victims → ℕ → State → ℕ → Deadlock → State → Deadlock → Type 0
 SettlesKeepingWithin c zero s t d s' d' = IsOnNoCycle (waits_for s) t × (s' ≡ s) × (d' ≡ d)
-SettlesKeepingWithin c (suc k) s t d s' d' = (v : ℕ) × (e : Deadlock) × IsVictim c s t v × IsDeadlock s t v e × SettlesKeepingWithin c k (condemned s v) t e s' d'
+SettlesKeepingWithin c (suc k) s t d s' d' =
+    (v : ℕ) × (e : Deadlock) × IsVictim c s t v × IsDeadlock s t v e × SettlesKeepingWithin c k (condemned s v) t e s' d'
 
 -- settling t, in as many turns as it takes: the last deadlock is kept, or what was kept before, where nobody was condemned
 abbrev pub SettlesKeeping : Victims → State → ℕ → Deadlock → State → Deadlock → Type 0
@@ -70,4 +71,5 @@ VictimHasRow = (c : Victims) (s : State) (t v : ℕ) (d : Deadlock) → IsVictim
 
 -- each row is of one who waits for a slot that has a row: so the rows lead round
 abbrev pub RowsLeadOn : Type 0
-RowsLeadOn = (s : State) (t v : ℕ) (d : Deadlock) → IsDeadlock s t v d → All (λ (r : Stuck). (u : ℕ) × (has_slot r.waits_for u ≡ true) × (has_row d u ≡ true)) d.cycle.items
+RowsLeadOn = (s : State) (t v : ℕ) (d : Deadlock) → IsDeadlock s t v d
+    → All (λ (r : Stuck). (u : ℕ) × (has_slot r.waits_for u ≡ true) × (has_row d u ≡ true)) d.cycle.items

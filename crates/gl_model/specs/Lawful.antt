@@ -44,11 +44,13 @@ GrantsIntend s = (t : ℕ) (n : NodeId) → holds (members s n) t ≡ true → i
 -- slots are below the limit, ages from 1 to the count of begins, and no two alike
 pub record IsLawful (s : State) : Type 0 where
   pub graph : IsLawfulGraph s.graph
-  pub grants_live : (t : ℕ) (n : NodeId) → holds (members s n) t ≡ true → (is_some (s.txns t) ≡ true) × (is_live s.graph n ≡ true) × ModeFitsKind s n (s.held t n)
+  pub grants_live : (t : ℕ) (n : NodeId) → holds (members s n) t ≡ true → (is_some (s.txns t) ≡ true) × (is_live s.graph n ≡ true)
+      × ModeFitsKind s n (s.held t n)
   pub waits_live : (t : ℕ) (n : NodeId) → is_among_waiters t (s.queue n) ≡ true → is_live s.graph n ≡ true
   pub compatible : GrantsGoTogether s
   pub grants_intend : GrantsIntend s
-  pub waits_intend : (t : ℕ) (n : NodeId) (m : Mode) → status_of s t ≡ Some (Waiting n m) → (intends s t n m ≡ true) × (m ≢ NL) × (is_at_least m (s.held t n) ≡ true) × ModeFitsKind s n m
+  pub waits_intend : (t : ℕ) (n : NodeId) (m : Mode) → status_of s t ≡ Some (Waiting n m) → (intends s t n m ≡ true) × (m ≢ NL)
+      × (is_at_least m (s.held t n) ≡ true) × ModeFitsKind s n m
   pub one_wait : (t : ℕ) (n : NodeId) (m : Mode) → status_of s t ≡ Some (Waiting n m) → filter (is_waiter t) (s.queue n) ≡ (t, m) ∷ []
   pub waits_are : (t : ℕ) (n : NodeId) → is_among_waiters t (s.queue n) ≡ true → is_waiting_at s t n ≡ true
   pub holders_first : (t u : ℕ) (n : NodeId) → holds (members s n) t ≡ true → is_ahead (s.queue n) t u ≡ true → holds (members s n) u ≡ true
@@ -134,7 +136,8 @@ LawfulCutSet = (s : State) → IsLawful s → (t : ℕ) (n : NodeId) → is_live
 
 -- where nobody is on a cycle of waits, whoever waits waits, over some steps, for one who does not wait
 abbrev pub ChainsEnd : Type 0
-ChainsEnd = (s : State) → IsLawful s → HasNoCycle s → (t : ℕ) → is_wait (status_of s t) ≡ true → (u : ℕ) × Reaches (waits_for s) t u × (is_wait (status_of s u) ≡ false)
+ChainsEnd = (s : State) → IsLawful s → HasNoCycle s → (t : ℕ) → is_wait (status_of s t) ≡ true → (u : ℕ) × Reaches (waits_for s) t u
+    × (is_wait (status_of s u) ≡ false)
 
 -- settling ends, and in one state
 abbrev pub SettlingEnds : Type 0
@@ -143,7 +146,8 @@ SettlingEnds = (c : Victims) (s : State) → IsLawful s → (t : ℕ) → (s' : 
 -- and then t is on no cycle, and nobody waits for whom it did not wait for
 abbrev pub SettlingFrees : Type 0
 SettlingFrees =
-    (c : Victims) (s s' : State) → IsLawful s → (t : ℕ) → Settled c s t s' → IsOnNoCycle (waits_for s') t × ((x y : ℕ) → waits_for s' x y ≡ true → waits_for s x y ≡ true)
+    (c : Victims) (s s' : State) → IsLawful s → (t : ℕ) → Settled c s t s' → IsOnNoCycle (waits_for s') t
+    × ((x y : ℕ) → waits_for s' x y ≡ true → waits_for s x y ≡ true)
 
 -- to condemn v takes waits away and adds none: what is left are waits that are not v's
 abbrev pub CondemningFrees : Type 0

@@ -128,7 +128,8 @@ abbrev pub no_parents : List NodeId → Bool
 no_parents [] = true
 no_parents (p ∷ ps) = false
 
--- the rule of the lock graph (1976), for a mode on a node with these parents: to write, IX or greater on every parent; to read, IS or greater on one, and nothing for a root
+-- the rule of the lock graph (1976), for a mode on a node with these parents: to write, IX or greater on every parent; to read, IS or greater on one,
+-- and nothing for a root
 abbrev pub intends_over : (NodeId → Mode) → List NodeId → Mode → Bool
 intends_over held ps m =
     if is_write m
@@ -188,7 +189,8 @@ condemned s t = pumped (without_wait s t Condemned) (is_waiting_at s t)
 
 -- Who waits for whom, cycles, and victims.
 
--- what a wait is for: u holds the node in a mode that does not go with the wanted one, or stands ahead in its queue (Gray and Reuter; that all ahead count is own)
+-- what a wait is for: u holds the node in a mode that does not go with the wanted one, or stands ahead in its queue (Gray and Reuter; that all ahead
+-- count is own)
 abbrev pub blocks : State → ℕ → ℕ → Option Status → Bool
 blocks s t u (Some (Waiting n m)) = not (are_compatible m (s.held u n)) || is_ahead (s.queue n) t u
 blocks s t u o = false

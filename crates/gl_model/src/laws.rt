@@ -1,7 +1,17 @@
 //! The laws of the model, each the contract of a call that does nothing.
 
 ghost use Rattle.gl_model.specs.Deadlocks.{KeepingSettles, RowsLeadOn, VictimHasRow};
-ghost use Rattle.gl_model.specs.Lawful.{ChainsEnd, CondemningFrees, CutSetLaw, LawfulCutSet, LawfulNoConflict, NoConflictLaw, OneFalls, SettlingEnds, SettlingFrees};
+ghost use Rattle.gl_model.specs.Lawful.{
+  ChainsEnd,
+  CondemningFrees,
+  CutSetLaw,
+  LawfulCutSet,
+  LawfulNoConflict,
+  NoConflictLaw,
+  OneFalls,
+  SettlingEnds,
+  SettlingFrees,
+};
 
 /// Where the grants of different transactions on each node are compatible, and every grant meets the
 /// rule of the graph, no two transactions hold conflicting effective modes on any node. In a lawful

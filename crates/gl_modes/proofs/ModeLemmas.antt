@@ -102,7 +102,8 @@ not_NL X h = refl
 -- a mode at least one that is a lock is a lock
 pub at_least-not_NL : (a b : Mode) → is_at_least a b ≡ true → same_mode b NL ≡ false → same_mode a NL ≡ false
 at_least-not_NL a b h k =
-    not-false _ (implied _ _ (implied _ _ (every2-true (λ x y. implies (is_at_least x y) (implies (not (same_mode y NL)) (not (same_mode x NL)))) refl a b) h) (ap not k))
+    not-false _ (implied _ _ (implied _ _
+    (every2-true (λ x y. implies (is_at_least x y) (implies (not (same_mode y NL)) (not (same_mode x NL)))) refl a b) h) (ap not k))
 
 pub supremum-not_NL : (a b : Mode) → same_mode b NL ≡ false → same_mode (supremum a b) NL ≡ false
 supremum-not_NL a b = at_least-not_NL (supremum a b) b (supremum-above_right a b)

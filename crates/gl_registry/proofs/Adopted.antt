@@ -26,7 +26,8 @@ use Rattle.gl_catalog.specs.Step.{Accepts, Answers, Goes, Step, query_answer}
 use Rattle.gl_catalog.specs.Tests.{refusal_of, worn}
 
 -- a command that is answered otherwise than by a refusal was accepted
-pub accepted_of : (s : State) (c : Command) (a : Answer) (told : Told) (s' : State) → query_answer s c ≡ None → ((r : Refusal) → a ≢ answer.Refused r) → Step s c a told s'
+pub accepted_of : (s : State) (c : Command) (a : Answer) (told : Told) (s' : State) → query_answer s c ≡ None
+    → ((r : Refusal) → a ≢ answer.Refused r) → Step s c a told s'
     → (next : State) × Accepts s c a told next × (s' ≡ accepted_once next) × (refusal_of s c ≡ None)
 accepted_of s c a told s' plain said (inr want) = absurd (said no.NoMemory want.1.answer_is)
 accepted_of s c a told s' plain said (inl goes) = by (refusal_of s c) refl goes
@@ -36,7 +37,8 @@ accepted_of s c a told s' plain said (inl goes) = by (refusal_of s c) refl goes
     by None e goes = let it = subst (λ q. Answers s c q a told s') plain goes in (it.0, it.1, it.2, refl)
 
 -- a forget that no test refuses is done
-pub forget_ok : (s s' : State) (n : NodeId) (result : Result (Unit {0}) Refusal) → refusal_of s (command.Forget n) ≡ None → CallSteps s (command.Forget n) (doing []) result s' → IsOk result
+pub forget_ok : (s s' : State) (n : NodeId) (result : Result (Unit {0}) Refusal) → refusal_of s (command.Forget n) ≡ None
+    → CallSteps s (command.Forget n) (doing []) result s' → IsOk result
 forget_ok s s' n (Ok u) free step = refl
 forget_ok s s' n (Err r) free (inr want) = absurd (never want.0)
 forget_ok s s' n (Err r) free (inl goes) =
@@ -91,14 +93,16 @@ pub record IsAdoptedNode (s s' : State) (f n : NodeId) (keys : List ℕ) : Type 
   pub rec : is_record_shape (shape_of s'.graph n) ≡ true
   pub idle : is_idle s' n ≡ true
 
-pub adopted_node : (s s' : State) → IsLawful s → (f n : NodeId) (keys : Bor (List ℕ)) → Step s (command.Adopt f keys) (answer.Node n) [] s' → IsAdoptedNode s s' f n keys.now
+pub adopted_node : (s s' : State) → IsLawful s → (f n : NodeId) (keys : Bor (List ℕ)) → Step s (command.Adopt f keys) (answer.Node n) [] s'
+    → IsAdoptedNode s s' f n keys.now
 adopted_node s s' law f n keys step =
     let acc = accepted_of s (command.Adopt f keys) (answer.Node n) [] s' refl (λ r e. cc) step in
     let next : State = acc.0 in
     let same : next ≡ with_graph s next.graph = acc.1.4 in
     let born : IsAdopted s.graph next.graph n f keys.now = subst (λ x. IsAdopted s.graph next.graph x f keys.now) (sym (node_is acc.1.2)) acc.1.1 in
     let live : is_live s'.graph n ≡ true = ap (λ (x : State). is_live x.graph n) acc.2 ∙ adopted_live s.graph law.graph n f keys.now next.graph born in
-    let came = (rows_come_and_go s s' (command.Adopt f keys) (answer.Node n) [] law refl step).came n (new_dead s.graph law.graph n f keys.now born.birth) live in
+    let came = (rows_come_and_go s s' (command.Adopt f keys) (answer.Node n) [] law refl step).came n
+    (new_dead s.graph law.graph n f keys.now born.birth) live in
     record {
       graph = next.graph;
       born = born;
@@ -110,5 +114,6 @@ adopted_node s s' law f n keys step =
     }
 
 -- so it can be forgotten again
-pub adopted_free : (s s' : State) (f n : NodeId) (keys : List ℕ) → s.accepted + 1 < max_count → IsAdoptedNode s s' f n keys → refusal_of s' (command.Forget n) ≡ None
+pub adopted_free : (s s' : State) (f n : NodeId) (keys : List ℕ) → s.accepted + 1 < max_count → IsAdoptedNode s s' f n keys
+    → refusal_of s' (command.Forget n) ≡ None
 adopted_free s s' f n keys less is = may_be_forgotten s' n (not_worn s' (subst (λ k. k < max_count) (sym is.accepted) less)) is.live is.rec is.idle

@@ -58,7 +58,8 @@ module _ (m m' : ManagerView) (v v' : RowsView) (law : IsLawful (state_of m)) (h
   Kept = NamesHold v' (state_of m').graph
 
   -- a row gets another key
-  rekeyed_holds : (t : TxnId) (n index : NodeId) (key : ℕ) (told : Told) (result : Result (Unit {0}) RowRefusal) → RekeysBy (Ok n) m v t index key result told m' v' → Kept
+  rekeyed_holds : (t : TxnId) (n index : NodeId) (key : ℕ) (told : Told) (result : Result (Unit {0}) RowRefusal)
+      → RekeysBy (Ok n) m v t index key result told m' v' → Kept
   rekeyed_holds t n index key told (Ok u) h =
       let s : State = state_of m in
       let acc = accepted_of s (command.Rekey t n index key) answer.Done told (state_of m') refl (λ x e. cc) h.0.step in
@@ -70,7 +71,8 @@ module _ (m m' : ManagerView) (v v' : RowsView) (law : IsLawful (state_of m)) (h
   rekeyed_holds t n index key told (Err (row_no.Refused r)) h = stays_keep m m' v v' h.same_manager h.same_rows holds
   rekeyed_holds t n index key told (Err row_no.NotRows) h = absurd h
 
-  rekeys_keep : (t : TxnId) (row : Row) (index : NodeId) (key : ℕ) (result : Result (Unit {0}) RowRefusal) (told : Told) → RekeysRow m v t row index key result told m' v' → Kept
+  rekeys_keep : (t : TxnId) (row : Row) (index : NodeId) (key : ℕ) (result : Result (Unit {0}) RowRefusal) (told : Told)
+      → RekeysRow m v t row index key result told m' v' → Kept
   rekeys_keep t row index key result told h = by (node_for v row) h
     where
       by : (o : Result NodeId RowRefusal) → RekeysBy o m v t index key result told m' v' → Kept

@@ -35,7 +35,8 @@ use Rattle.gl_registry.specs.Applying.{AppliesRow, CarriesOut, StepsAmid, Upkeep
 use Rattle.gl_registry.specs.Files.{MakesFile}
 use Rattle.gl_registry.specs.Locking.{Does, LetsGo, LetsGoOf, LocksBy, LocksRow, Names, NamesNew, Registers, SameAccount, Wish, forgets}
 use Rattle.gl_registry.specs.Locking.{refuses as refuses_line}
-use Rattle.gl_registry.specs.Releasing.{EndsTxn, GivesBack, LetsEachGo, LetsGoAsked, RekeysBy, RekeysRow, UnlocksBy, UnlocksRow, named_or_none, no_node, node_for, node_or_no}
+use Rattle.gl_registry.specs.Releasing.{EndsTxn, GivesBack, LetsEachGo, LetsGoAsked, RekeysBy, RekeysRow, UnlocksBy, UnlocksRow, named_or_none}
+use Rattle.gl_registry.specs.Releasing.{no_node, node_for, node_or_no}
 use Rattle.gl_registry.specs.Rows.{RowsView, has_rows, name_of, same_row}
 use Rattle.gl_registry.proofs.Forgets.{forget_account}
 use Rattle.gl_registry.proofs.LettingGo.{same_row-refl}
@@ -88,7 +89,8 @@ done_amid m mid m' c a told said does after account = record {
 }
 
 -- alone
-done_alone : (m m' : ManagerView) (c : Command) (a : Answer) (told : Told) → ((r : Refusal) → a ≢ answer.Refused r) → Does m c (a, told) m' → StepsAmid m c a told m'
+done_alone : (m m' : ManagerView) (c : Command) (a : Answer) (told : Told) → ((r : Refusal) → a ≢ answer.Refused r) → Does m c (a, told) m'
+    → StepsAmid m c a told m'
 done_alone m m' c a told said does = done_amid m m' m' c a told said does (upkeep_none (state_of m') (state_of m') refl) (refl, refl)
 
 -- a lock's answer is no refusal
@@ -223,7 +225,8 @@ module _ (m : ManagerView) (v : RowsView) (m' : ManagerView) (v' : RowsView) (t 
 -- What ends a transaction or gives locks back.
 
 module _ (m : ManagerView) (v : RowsView) (m' : ManagerView) (v' : RowsView) (slot : ℕ) (told : Told) where
-  asked_amid : (mid : ManagerView) (c : Command) (a : Answer) (list : Told) → ((r : Refusal) → a ≢ answer.Refused r) → Does m c (a, list) mid → LetsGoAsked mid v slot m' v'
+  asked_amid : (mid : ManagerView) (c : Command) (a : Answer) (list : Told) → ((r : Refusal) → a ≢ answer.Refused r) → Does m c (a, list) mid
+      → LetsGoAsked mid v slot m' v'
       → StepsAmid m c a list m'
   asked_amid mid c a list said does h =
       done_amid m mid m' c a list said does (each_goes (state_of mid) (state_of m') v.names v'.names _ h.goes) h.account

@@ -1,5 +1,6 @@
 -- Rows are let go one after the other.
-use Rattle.std.specs.Prelude.{◌≡◌, ◌||◌, ◌++◌, ◌⊎◌, Bool, true, false, not, List, [], ◌∷◌, Option, Some, None, Result, Ok, Err, cond, map, is_some, if◌then◌else◌}
+use Rattle.std.specs.Prelude.{◌≡◌, ◌||◌, ◌++◌, ◌⊎◌, Bool, true, false, not, List, [], ◌∷◌, Option, Some, None, Result, Ok, Err, cond, map, is_some}
+use Rattle.std.specs.Prelude.{if◌then◌else◌}
 use Rattle.std.specs.Map.{lookup, lookup_key}
 use Rattle.std.proofs.lemmas.List.Folds.{list_any-append}
 use Rattle.std.proofs.lemmas.Map.Made.{lookup_key_passes}
@@ -45,7 +46,8 @@ same_row-sym p q = split (same_row p q) (λ e. e ∙ sym (one_row p q e)) (λ e.
     one_row a b h = subst (λ (x : Row). same_row b x ≡ true) (sym (same_row-equal a b h)) (same_row-refl b)
 
 -- the name that was found goes, once its node is forgotten
-pub gone_at : (s s' : State) (ns ns' : Names) (row key : Row) (n : NodeId) → lookup (same_row row) ns ≡ Some n → lookup_key (same_row row) ns ≡ Some key → ForgetsLiving s n (Ok tt) s'
+pub gone_at : (s s' : State) (ns ns' : Names) (row key : Row) (n : NodeId) → lookup (same_row row) ns ≡ Some n
+    → lookup_key (same_row row) ns ≡ Some key → ForgetsLiving s n (Ok tt) s'
     → Renames ns ns' key None → LetsGo s ns row (Ok tt) s' ns'
 gone_at s s' ns ns' row key n named found forgotten out =
     subst (λ o. LetsGoOf o s ns row (Ok tt) s' ns') (sym named)
@@ -70,12 +72,14 @@ refused_stuck s s' n r (inl goes) = by (refusal_of s (command.Forget n)) refl go
     by None e goes = let is : answer.Refused r ≡ answer.Done = goes.1.0 in absurd (cc is)
 
 -- the node m is forgotten
-module _ (s s' : State) (law : IsLawful s) (m : NodeId) (free : refusal_of s (command.Forget m) ≡ None) (is : s' ≡ accepted_once (with_graph s (without_node s.graph m))) where
+module _ (s s' : State) (law : IsLawful s) (m : NodeId) (free : refusal_of s (command.Forget m) ≡ None)
+    (is : s' ≡ accepted_once (with_graph s (without_node s.graph m))) where
   rec : is_record_shape (shape_of s.graph m) ≡ true
   rec = (may_forget s m free).rec
 
   pub forgotten_dead : is_live s'.graph m ≡ false
-  forgotten_dead = ap (λ (x : State). is_live x.graph m) is ∙ ap (λ b. is_some (with_key m.key (if b then None else s.graph.at m.birth))) (number_same m.birth m.birth refl)
+  forgotten_dead = ap (λ (x : State). is_live x.graph m) is
+      ∙ ap (λ b. is_some (with_key m.key (if b then None else s.graph.at m.birth))) (number_same m.birth m.birth refl)
 
   pub dead_stays : (n : NodeId) → is_live s.graph n ≡ false → is_live s'.graph n ≡ false
   dead_stays n dead = split (is_live s'.graph n)
@@ -83,7 +87,8 @@ module _ (s s' : State) (law : IsLawful s) (m : NodeId) (free : refusal_of s (co
       (λ e. e)
 
   abbrev tests_by : NodeId → Option Node → List (Option Refusal)
-  tests_by n o = where_true (not (is_some o)) no.NoSuchNode ∷ where_true (not (is_record_shape (shape_in o))) no.BadParents ∷ where_true (not (is_idle s n)) no.RecordInUse ∷ []
+  tests_by n o = where_true (not (is_some o)) no.NoSuchNode ∷ where_true (not (is_record_shape (shape_in o))) no.BadParents
+      ∷ where_true (not (is_idle s n)) no.RecordInUse ∷ []
 
   behind : (o : Option Refusal) (os : List (Option Refusal)) → is_some (first_refusal os) ≡ true → is_some (first_refusal (o ∷ os)) ≡ true
   behind None os h = h
@@ -94,7 +99,8 @@ module _ (s s' : State) (law : IsLawful s) (m : NodeId) (free : refusal_of s (co
       let there : is_live (without_node s.graph m) n ≡ true = split (is_live (without_node s.graph m) n) (λ e. e)
       (λ dead. absurd (clash stuck (ap (λ x. is_some (refusal_of s (command.Forget x))) (gone_is s.graph law.graph m rec n live dead) ∙ ap is_some free))) in
       let counted : worn s ≡ None = (not_refused (worn s) (forget_tests s m) free).0 in
-      let tests : is_some (first_refusal (tests_by n (node_at s.graph n))) ≡ true = ap (λ o. is_some (first_refusal (o ∷ forget_tests s n))) (sym counted) ∙ stuck in
+      let tests : is_some (first_refusal (tests_by n (node_at s.graph n))) ≡ true =
+      ap (λ o. is_some (first_refusal (o ∷ forget_tests s n))) (sym counted) ∙ stuck in
       let after : is_some (first_refusal (tests_by n (node_at (without_node s.graph m) n))) ≡ true =
       ap (λ o. is_some (first_refusal (tests_by n o))) (left_was s.graph law.graph m rec n there) ∙ tests in (
         ap (λ (x : State). is_live x.graph n) is ∙ there,
@@ -126,7 +132,8 @@ none_living g was (inr e) = e
 pub record RowGoes (s s' : State) (ns ns' : Names) (row : Row) : Type 0 where
   pub others : (q : Row) → same_row row q ≡ false → lookup (same_row q) ns' ≡ lookup (same_row q) ns
   pub settled : (was now : Option NodeId) → Settled s was now → Settled s' was now
-  pub own : (was : Option NodeId) → (lookup (same_row row) ns ≡ was) ⊎ (lookup (same_row row) ns ≡ living s.graph was) → Settled s' was (lookup (same_row row) ns')
+  pub own : (was : Option NodeId) → (lookup (same_row row) ns ≡ was) ⊎ (lookup (same_row row) ns ≡ living s.graph was)
+      → Settled s' was (lookup (same_row row) ns')
   pub run : (gone : List NodeId) × Runs s (map forgets gone) s' × AreNodesOf ns (row ∷ []) gone
 
 module _ (s s' : State) (law : IsLawful s) (ns ns' : Names) (row : Row) where
@@ -157,7 +164,8 @@ module _ (s s' : State) (law : IsLawful s) (ns ns' : Names) (row : Row) where
   pub goes : (result : Result (Unit {0}) Refusal) → LetsGo s ns row result s' ns' → RowGoes s s' ns ns' row
   goes result h = by (lookup (same_row row) ns) refl result h
     where
-      by : (o : Option NodeId) → lookup (same_row row) ns ≡ o → (result : Result (Unit {0}) Refusal) → LetsGoOf o s ns row result s' ns' → RowGoes s s' ns ns' row
+      by : (o : Option NodeId) → lookup (same_row row) ns ≡ o → (result : Result (Unit {0}) Refusal) → LetsGoOf o s ns row result s' ns'
+          → RowGoes s s' ns ns' row
       by None e result h = same_goes h.1 h.2 e
       by (Some n) e (Ok u) (inr dead, renames) = record {
         others = λ q apart. renames q ∙ ap (λ b. cond b None (lookup (same_row q) ns)) apart;
@@ -201,7 +209,8 @@ live_kind (Some x) = by x.shape
     by (Rec keys) = refl
 
 -- the call that forgets
-pub forgets_living : (s s' : State) (n : NodeId) (result : Result (Unit {0}) Refusal) → is_live s.graph n ≡ true → CallSteps s (command.Forget n) (doing []) result s' → ForgetsLiving s n result s'
+pub forgets_living : (s s' : State) (n : NodeId) (result : Result (Unit {0}) Refusal) → is_live s.graph n ≡ true
+    → CallSteps s (command.Forget n) (doing []) result s' → ForgetsLiving s n result s'
 forgets_living s s' n (Ok u) live step = inl (s', step, refl)
 forgets_living s s' n (Err r) live step = ((s', step, refl), live)
 
@@ -239,8 +248,10 @@ module _ (s₀ s s' : State) (ns₀ ns ns' : Names) (done : List Row) (row : Row
   each_named : (q : Row) → Named q (is_among (done ++ row ∷ []) q)
   each_named q = subst (Named q) (sym (among_more q)) (split (same_row row q)
       (λ same. let is : row ≡ q = same_row-equal row q same in
-      subst (Named q) (sym (ap (λ b. is_among done q || (b || false)) (ap (same_row q) is ∙ same_row-refl q) ∙ or_some (is_among done q))) (subst (λ x. Named x true) is own_named))
-      (λ apart. subst (Named q) (sym (ap (λ b. is_among done q || (b || false)) (other q apart) ∙ or_none (is_among done q))) (other_named q apart (is_among done q) refl)))
+      subst (Named q) (sym (ap (λ b. is_among done q || (b || false)) (ap (same_row q) is ∙ same_row-refl q) ∙ or_some (is_among done q)))
+      (subst (λ x. Named x true) is own_named))
+      (λ apart. subst (Named q) (sym (ap (λ b. is_among done q || (b || false)) (other q apart) ∙ or_none (is_among done q)))
+      (other_named q apart (is_among done q) refl)))
     where
       or_some : (a : Bool) → (a || (true || false)) ≡ true
       or_some true = refl
@@ -254,7 +265,8 @@ module _ (s₀ s s' : State) (ns₀ ns ns' : Names) (done : List Row) (row : Row
       other q apart = split (same_row q row) (λ e. absurd (clash (ap (same_row row) (same_row-equal q row e) ∙ same_row-refl row) apart)) (λ e. e)
 
   -- the name that it loses is the one that it had at first
-  its_own : (q : Row) (n : NodeId) → is_among (row ∷ []) q ≡ true → lookup (same_row q) ns ≡ Some n → (is_among (done ++ row ∷ []) q ≡ true) × (lookup (same_row q) ns₀ ≡ Some n)
+  its_own : (q : Row) (n : NodeId) → is_among (row ∷ []) q ≡ true → lookup (same_row q) ns ≡ Some n → (is_among (done ++ row ∷ []) q ≡ true)
+      × (lookup (same_row q) ns₀ ≡ Some n)
   its_own q n among e = (
     among_more q ∙ or_right (is_among done q) (same_row q row || false) among,
     split (is_among done q)

@@ -69,7 +69,8 @@ module _ (m m' : ManagerView) (law : IsLawful (state_of m)) (w : Wish) (n : Node
     other_queue = ap (λ (x : State). x.queue old) behind_is ∙ between_queue
 
   -- one that nobody held or waited for can be forgotten
-  module _ (old : NodeId) (rec : is_record_shape (shape_of (state_of m).graph old) ≡ true) (idle : is_idle (state_of m) old ≡ true) (room : m.accepted + 3 ≤ max_count) where
+  module _ (old : NodeId) (rec : is_record_shape (shape_of (state_of m).graph old) ≡ true) (idle : is_idle (state_of m) old ≡ true)
+      (room : m.accepted + 3 ≤ max_count) where
     other : same_node old n ≡ false
     other = split (same_node old n)
         (λ e. absurd (clash (record_live (state_of m).graph old rec) (ap (is_live (state_of m).graph) (same_node-equal old n e) ∙ comes.new)))

@@ -93,8 +93,11 @@ module _ (name name' : Naming) (g g' : Graph) (row : Row) (n : NodeId) (comes : 
     stands = λ q k e.
         split (same_row row q)
         (λ same.
-        let is : n ≡ k = some_is (own q same e) in
-        (ap (λ x. is_record_shape (shape_of g' x)) (sym is) ∙ comes.rec, ap (first_parent g') (sym is) ∙ comes.file ∙ ap (λ (x : Row). x.file) (same_row-equal row q same)))
+        let is : n ≡ k = some_is (own q same e) in (
+          ap (λ x. is_record_shape (shape_of g' x)) (sym is) ∙ comes.rec,
+          ap (first_parent g') (sym is) ∙ comes.file
+              ∙ ap (λ (x : Row). x.file) (same_row-equal row q same),
+        ))
         (λ apart.
         let was = well.stands q k (sym (other q apart) ∙ e) in
         let now = comes.on k (record_live g k was.0) in (now.0 ∙ was.0, now.1 ∙ was.1));

@@ -72,7 +72,8 @@ wait_graph ByWatcher c s s' t h = ap (λ (z : State). z.graph) h
 
 accepted_graph : (s : State) (c : Command) (a : Answer) (told : Told) (s' : State) → is_of_locks c ≡ true → Accepts s c a told s' → s'.graph ≡ s.graph
 accepted_graph s (command.Lock t n m) a told s' of acc =
-    split (enters_at s t.slot n m) (λ e. ap (λ (z : State). z.graph) (acc.0.at_once e)) (λ e. wait_graph s.detect s.victims (enqueued s t.slot n (wanted s t.slot n m)) s' t.slot (acc.0.waits e))
+    split (enters_at s t.slot n m) (λ e. ap (λ (z : State). z.graph) (acc.0.at_once e))
+    (λ e. wait_graph s.detect s.victims (enqueued s t.slot n (wanted s t.slot n m)) s' t.slot (acc.0.waits e))
 accepted_graph s (command.Unlock t n) a told s' of acc = ap (λ (z : State). z.graph) acc.2
 accepted_graph s (command.Escalate t n) a told s' of acc = ap (λ (z : State). z.graph) acc.2
 accepted_graph s (command.Cancel t) a told s' of acc = ap (λ (z : State). z.graph) acc.2
@@ -105,7 +106,8 @@ forget_leaves s s' law m step =
     }
 
 pub run_leaves : (s s' : State) → IsLawful s → (gone : List NodeId) → Runs s (map forgets gone) s' → Leaves s s' gone
-run_leaves s s' law [] run = subst (λ (x : State). Leaves s x []) (sym run) (record { law = law; same = λ n live. refl; lost = λ n live dead. absurd (clash live dead) })
+run_leaves s s' law [] run = subst (λ (x : State). Leaves s x []) (sym run)
+    (record { law = law; same = λ n live. refl; lost = λ n live dead. absurd (clash live dead) })
 run_leaves s s' law (m ∷ gone) run =
     let first = forget_leaves s run.0 law m run.1 in
     let rest = run_leaves run.0 s' first.law gone run.2 in
@@ -115,7 +117,8 @@ run_leaves s s' law (m ∷ gone) run =
       lost = λ n live dead.
           split (is_live run.0.graph n)
           (λ mid. or_right (same_node n m) (list_any (same_node n) gone) (rest.lost n mid dead))
-          (λ mid. or_left (same_node n m) (list_any (same_node n) gone) (or_elim (same_node n m) false (first.lost n live mid) (λ e. e) (λ e. absurd (never e))));
+          (λ mid. or_left (same_node n m) (list_any (same_node n) gone)
+          (or_elim (same_node n m) false (first.lost n live mid) (λ e. e) (λ e. absurd (never e))));
     }
 
 whose : (ns : Names) (rows : List Row) (gone : List NodeId) → AreNodesOf ns rows gone → (n : NodeId) → list_any (same_node n) gone ≡ true
@@ -133,7 +136,8 @@ living_some g (Some k) n e = split (is_live g k)
     (λ dead. absurd (none_some (sym (ap (λ b. if b then Some k else None) dead) ∙ e)))
 
 -- rows are let go: names and records become fewer
-pub each_fewer : (s s' : State) (ns ns' : Names) (rows : List Row) → IsLawful s → NameWell (named ns) s.graph → LetsEachGo s ns rows s' ns' → Fewer (named ns) (named ns') s.graph s'.graph
+pub each_fewer : (s s' : State) (ns ns' : Names) (rows : List Row) → IsLawful s → NameWell (named ns) s.graph → LetsEachGo s ns rows s' ns'
+    → Fewer (named ns) (named ns') s.graph s'.graph
 each_fewer s s' ns ns' rows law well lets = record {
   records = λ r rec. still r rec;
   names = λ q n e.
@@ -168,7 +172,8 @@ each_fewer s s' ns ns' rows law well lets = record {
         (sym (lets.names q ∙ ap (λ b. if b then living s'.graph (lookup (same_row q) ns) else lookup (same_row q) ns) among) ∙ e) in
         (was.0, leaves.same n was.1))
         (λ beside.
-        let was : lookup (same_row q) ns ≡ Some n = sym (lets.names q ∙ ap (λ b. if b then living s'.graph (lookup (same_row q) ns) else lookup (same_row q) ns) beside) ∙ e in
+        let was : lookup (same_row q) ns ≡ Some n =
+        sym (lets.names q ∙ ap (λ b. if b then living s'.graph (lookup (same_row q) ns) else lookup (same_row q) ns) beside) ∙ e in
         (was, leaves.same n (there q n was beside)))
 
 pub one_lawful : (s s' : State) (ns ns' : Names) (row : Row) (result : Result (Unit {0}) Refusal) → IsLawful s → LetsGo s ns row result s' ns' → IsLawful s'

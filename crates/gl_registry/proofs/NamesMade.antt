@@ -70,7 +70,15 @@ module _ (g : Graph) (law : IsLawfulGraph g) (n f : NodeId) (keys : List ℕ) (b
   born_live k live = ap is_some (old_same g law (new_node g law n f keys birth ∷ []) k live) ∙ live
 
   pub born_comes : Comes g grown n f
-  born_comes = record { on = born_on; live = born_live; new = new_dead g law n f keys birth; rec = born_rec; file = born_file; alone = λ k rec. born_alone k (record_live grown k rec) }
+  born_comes = record {
+    on = born_on;
+    live = born_live;
+    new = new_dead g law n f keys birth;
+    rec = born_rec;
+    file = born_file;
+    alone =
+        λ k rec. born_alone k (record_live grown k rec);
+  }
 
   -- and its file is marked
   pub adopted_comes : Comes g (marked grown f) n f

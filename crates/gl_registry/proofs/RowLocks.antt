@@ -45,7 +45,8 @@ module _ (m : ManagerView) (files : List NodeId) (w : Wish) (told : Told) (m' : 
         (λ e. sym (ap (λ b. cond b (Some n) (lookup (same_row q) ns)) e))
 
     pub stands_locked : (IsStale (state_of m) n w.keys → ⊥) → (x : RowLocked) → x.node ≡ n → (IsTrue x.own_keys ↔ HasKeys (state_of m) n w.keys)
-        → CallSteps (state_of m) (locks w n) (asking told) (Ok x.locked) (state_of m') → Completes (locks w n) m (asking told x.locked) m' → ns' ≡ ns → LocksSo (Ok x)
+        → CallSteps (state_of m) (locks w n) (asking told) (Ok x.locked) (state_of m') → Completes (locks w n) m (asking told x.locked) m' → ns' ≡ ns
+        → LocksSo (Ok x)
     stands_locked fresh x node own step completes same asked asked' asks =
         inr (by_name (Some n) named (Ok x) _ _ (inl (
           fresh,
@@ -98,7 +99,8 @@ module _ (m : ManagerView) (files : List NodeId) (w : Wish) (told : Told) (m' : 
           (adopts, record { answer_is = refl; nobody_told = none; registers = record { files = refl; names = renames; asked = asks } }),
         )))
 
-    pub vacant_refused : has_rows (with_asked files ns []) w.row.file ≡ true → (r : Refusal) → Refuses {T = NodeId} (first_refusal (wish_tests m w)) (Err r) → m' ≡ m
+    pub vacant_refused : has_rows (with_asked files ns []) w.row.file ≡ true → (r : Refusal)
+        → Refuses {T = NodeId} (first_refusal (wish_tests m w)) (Err r) → m' ≡ m
         → told ≡ [] → ns' ≡ ns → LocksSo (Err (row_no.Refused r))
     vacant_refused of_rows r refuses manager none same asked asked' asks =
         inr (by_name None bare _ _ _ (inr (

@@ -4,7 +4,8 @@ use Rattle.std.proofs.Common.{refl, rules, sym, ap, subst, ◌∙◌}
 use denote.Bor.{Bor}
 use Rattle.gl_modes.proofs.Words.{and_both, clash, no as never, none_some, same_number, some_is, split}
 use Rattle.gl_modes.specs.declared.node.NodeId.{NodeId}
-use Rattle.gl_graph.specs.Changes.{IsBorn, IsIndexBorn, born_node, born_nodes, marked, rekeyed, rekeyed_keys, rekeyed_node, rekeyed_parents, with_node, without_node}
+use Rattle.gl_graph.specs.Changes.{IsBorn, IsIndexBorn, born_node, born_nodes, marked, rekeyed, rekeyed_keys, rekeyed_node, rekeyed_parents}
+use Rattle.gl_graph.specs.Changes.{with_node, without_node}
 use Rattle.gl_graph.specs.Graph.{Graph, Node, first_in, first_parent, is_live, node_at, parents_in, record_parents, shape_in, shape_of, with_key}
 use Rattle.gl_graph.specs.Lawful.{IsLawfulGraph}
 use Rattle.gl_graph.specs.Refusals.{bad_parents, some_no_node, where_true}
@@ -46,7 +47,8 @@ rekey_rec s t r i key free =
     let t3 = not_refused (waiting_test (status_of s t.slot)) _ t2.1 in
     let t4 = not_refused (condemned_test (status_of s t.slot)) _ t3.1 in
     let t5 = not_refused (some_no_node s.graph (r ∷ i ∷ [])) _ t4.1 in
-    let t6 = not_refused (where_true (not (is_record_shape (shape_of s.graph r) && is_index_of_shape (first_parent s.graph r) (shape_of s.graph i))) _) _ t5.1 in
+    let t6 = not_refused (where_true (not
+    (is_record_shape (shape_of s.graph r) && is_index_of_shape (first_parent s.graph r) (shape_of s.graph i))) _) _ t5.1 in
     (and_both (is_record_shape (shape_of s.graph r)) (is_index_of_shape (first_parent s.graph r) (shape_of s.graph i)) (not_false _ (test_fails _ _ t6.0))).0
 
 -- a record that has other keys is one still, of the same file
@@ -54,7 +56,8 @@ module _ (g : Graph) (law : IsLawfulGraph g) (r i : NodeId) (key : ℕ) (rec : i
   abbrev ps : List NodeId
   ps = rekeyed_parents g r i key
 
-  shaped : (k : ℕ) (o : Option Node) → is_some (with_key k o) ≡ true → (is_record_shape (shape_in (with_key k (rekeyed_node (rekeyed_keys g r i key) ps o))) ≡ true)
+  shaped : (k : ℕ) (o : Option Node) → is_some (with_key k o) ≡ true
+      → (is_record_shape (shape_in (with_key k (rekeyed_node (rekeyed_keys g r i key) ps o))) ≡ true)
       × (first_in (parents_in (with_key k (rekeyed_node (rekeyed_keys g r i key) ps o))) ≡ first_parent g r)
   shaped k None h = absurd (never h)
   shaped k (Some x) h = split (x.key == k)
@@ -175,11 +178,13 @@ module _ (has : NodeId → Bool) where
       → is_record_shape (Some is.shape) ≡ false → with_node g n.birth is ≡ g' → Same g g'
   moved_same g n was is g' there key plain still e = subst (Same g) e (record {
     on = λ q q_rec of.
-        let at = at_other g n was is there key q (λ same. clash q_rec (ap (λ x. is_record_shape (shape_of g x)) same ∙ ap (λ o. is_record_shape (shape_in o)) there ∙ plain)) in
+        let at = at_other g n was is there key q
+        (λ same. clash q_rec (ap (λ x. is_record_shape (shape_of g x)) same ∙ ap (λ o. is_record_shape (shape_in o)) there ∙ plain)) in
         (ap (λ o. is_record_shape (shape_in o)) at ∙ q_rec, ap (λ o. first_in (parents_in o)) at);
     back = λ q q_rec of.
         let at = at_other g n was is there key q (λ same. clash q_rec
-        (ap (λ x. is_record_shape (shape_of (with_node g n.birth is) x)) same ∙ ap (λ o. is_record_shape (shape_in o)) (at_here g n was is there key) ∙ still)) in
+        (ap (λ x. is_record_shape (shape_of (with_node g n.birth is) x)) same ∙ ap (λ o. is_record_shape (shape_in o)) (at_here g n was is there key)
+        ∙ still)) in
         (sym (ap (λ o. is_record_shape (shape_in o)) at) ∙ q_rec, ap (λ o. first_in (parents_in o)) at);
   })
 
@@ -187,14 +192,16 @@ module _ (has : NodeId → Bool) where
 movable_plain : (o : Option Shape) → is_movable_shape o ≡ true → is_record_shape o ≡ false
 movable_plain o h = search rules
 
-move_plain : (s : State) (t : TxnId) (n : NodeId) (ps : Bor (List NodeId)) → refusal_of s (command.Move t n ps) ≡ None → is_record_shape (shape_of s.graph n) ≡ false
+move_plain : (s : State) (t : TxnId) (n : NodeId) (ps : Bor (List NodeId)) → refusal_of s (command.Move t n ps) ≡ None
+    → is_record_shape (shape_of s.graph n) ≡ false
 move_plain s t n ps free =
     let t1 = not_refused (worn s) _ free in
     let t2 = not_refused (no_txn s t) _ t1.1 in
     let t3 = not_refused (waiting_test (status_of s t.slot)) _ t2.1 in
     let t4 = not_refused (condemned_test (status_of s t.slot)) _ t3.1 in
     let t5 = not_refused (some_no_node s.graph (n ∷ ps.now)) _ t4.1 in
-    let t6 = not_refused (where_true (not (is_movable_shape (shape_of s.graph n)) || bad_parents s.graph (least_parents (shape_of s.graph n)) ps.now) _) _ t5.1 in
+    let t6 = not_refused (where_true (not (is_movable_shape (shape_of s.graph n))
+    || bad_parents s.graph (least_parents (shape_of s.graph n)) ps.now) _) _ t5.1 in
     let bad = or_no (not (is_movable_shape (shape_of s.graph n))) (bad_parents s.graph (least_parents (shape_of s.graph n)) ps.now) (test_fails _ _ t6.0) in
     movable_plain (shape_of s.graph n) (not_false _ bad.0)
 

@@ -1,5 +1,6 @@
 -- What a row's lock does, and how rows get and lose their nodes.
-use Rattle.std.specs.Prelude.{◌≡◌, ◌≢◌, ◌⊎◌, ◌↔◌, IsTrue, ℕ, ◌-◌, true, false, ◌||◌, ◌&&◌, ◌==◌, nat_lt, List, [], ◌∷◌, Option, Some, None, Result, Ok, Err, cond, map}
+use Rattle.std.specs.Prelude.{◌≡◌, ◌≢◌, ◌⊎◌, ◌↔◌, IsTrue, ℕ, ◌-◌, true, false, ◌||◌, ◌&&◌, ◌==◌, nat_lt, List, [], ◌∷◌, Option, Some, None, Result}
+use Rattle.std.specs.Prelude.{Ok, Err, cond, map}
 use Rattle.std.specs.Map.{lookup}
 use denote.Bor.{Bor}
 use Rattle.gl_modes.specs.declared.mode.Mode.{Mode}
@@ -64,7 +65,8 @@ pub record Does (m : ManagerView) (c : Command) (r : Says) (m' : ManagerView) : 
   pub completes : Completes c m r m'
 
 -- a call is refused so: nobody is told, and all is as it was
-pub record Refused {A : Type 0} {R : Type 0} (m : ManagerView) (v : RowsView) (r : R) (result : Result A R) (told : Told) (m' : ManagerView) (v' : RowsView) : Type 0 where
+pub record Refused {A : Type 0} {R : Type 0} (m : ManagerView) (v : RowsView) (r : R) (result : Result A R) (told : Told) (m' : ManagerView)
+    (v' : RowsView) : Type 0 where
   pub answer_is : result ≡ Err r
   pub nobody_told : told ≡ []
   pub same_manager : m' ≡ m
@@ -137,7 +139,8 @@ pub record NamesNew (v : RowsView) (w : Wish) (x : RowLocked) (told : Told) (v' 
   pub registers : Registers v v' w.txn.slot w.row x.node
 
 -- these tests refuse the row's lock so, or memory does; then nobody is told, and all is as it was
-pub record NoneNew (tests : List (Option Refusal)) (m : ManagerView) (v : RowsView) (r : Refusal) (told : Told) (m' : ManagerView) (v' : RowsView) : Type 0 where
+pub record NoneNew (tests : List (Option Refusal)) (m : ManagerView) (v : RowsView) (r : Refusal) (told : Told) (m' : ManagerView)
+    (v' : RowsView) : Type 0 where
   pub refuses : Refuses {T = NodeId} (first_refusal tests) (Err r)
   pub nobody_told : told ≡ []
   pub same_manager : m' ≡ m

@@ -1,5 +1,6 @@
 -- What the calls do that give locks back, or a row another key: rows that nobody holds any more lose their nodes and their names.
-use Rattle.std.specs.Prelude.{◌≡◌, ℕ, Bool, true, not, ◌&&◌, ◌==◌, List, [], ◌∷◌, Option, Some, None, Result, Ok, Err, map, is_some, get_or, unwrap_or, if◌then◌else◌}
+use Rattle.std.specs.Prelude.{◌≡◌, ℕ, Bool, true, not, ◌&&◌, ◌==◌, List, [], ◌∷◌, Option, Some, None, Result, Ok, Err, map, is_some, get_or}
+use Rattle.std.specs.Prelude.{unwrap_or, if◌then◌else◌}
 use Rattle.std.specs.List.{list_any}
 use Rattle.std.specs.Map.{lookup}
 use Rattle.gl_modes.specs.declared.node.NodeId.{NodeId}
@@ -33,7 +34,8 @@ abbrev pub AreNodesOf : Names → List Row → List NodeId → Type 0
 AreNodesOf ns rows [] = Unit {0}
 AreNodesOf ns rows (n ∷ gone) = ((q : Row) × (is_among rows q ≡ true) × (lookup (same_row q) ns ≡ Some n)) × AreNodesOf ns rows gone
 
--- these rows are let go: some of their nodes are forgotten; each of these rows keeps its name where its node lives, and then the node cannot be forgotten; all others keep theirs
+-- these rows are let go: some of their nodes are forgotten; each of these rows keeps its name where its node lives, and then the node cannot be
+-- forgotten; all others keep theirs
 pub record LetsEachGo (s : State) (ns : Names) (rows : List Row) (s' : State) (ns' : Names) : Type 0 where
   pub forgotten : (gone : List NodeId) × Runs s (map forgets gone) s' × AreNodesOf ns rows gone
   pub names : (q : Row) → lookup (same_row q) ns' ≡ (if is_among rows q then living s'.graph (lookup (same_row q) ns) else lookup (same_row q) ns)
@@ -82,7 +84,8 @@ abbrev pub UnlocksRow : ManagerView → RowsView → TxnId → Row → Result (U
 UnlocksRow m v t row result told m' v' = UnlocksBy (node_for v row) m v t row result told m' v'
 
 -- a node gets another key for one index, or that is refused
-abbrev pub RekeysBy : Result NodeId RowRefusal → ManagerView → RowsView → TxnId → NodeId → ℕ → Result (Unit {0}) RowRefusal → Told → ManagerView → RowsView → Type 0
+abbrev pub RekeysBy : Result NodeId RowRefusal → ManagerView → RowsView → TxnId → NodeId → ℕ → Result (Unit {0}) RowRefusal → Told → ManagerView
+    → RowsView → Type 0
 RekeysBy (Err r) m v t index key result told m' v' = Refused m v r result told m' v'
 RekeysBy (Ok n) m v t index key (Ok u) told m' v' = Does m (command.Rekey t n index key) (doing told tt) m' × (v' ≡ v)
 RekeysBy (Ok n) m v t index key (Err (row_no.Refused r)) told m' v' = IsRefused m v (command.Rekey t n index key) r told m' v'
@@ -101,7 +104,8 @@ pub record LetsGoAsked (m : ManagerView) (v : RowsView) (slot : ℕ) (m' : Manag
 -- a transaction ends by this command, and asks for nothing more; the rows that it has asked for are let go
 abbrev pub EndsTxn : Command → ManagerView → RowsView → ℕ → Result (Unit {0}) Refusal → Told → ManagerView → RowsView → Type 0
 EndsTxn c m v slot (Ok u) told m' v' =
-    (mid : ManagerView) × Does m c (doing told tt) mid × LetsGoAsked mid v slot m' v' × ((w : ℕ) (q : Row) → has_asked v' w q ≡ (has_asked v w q && not (w == slot)))
+    (mid : ManagerView) × Does m c (doing told tt) mid × LetsGoAsked mid v slot m' v'
+    × ((w : ℕ) (q : Row) → has_asked v' w q ≡ (has_asked v w q && not (w == slot)))
 EndsTxn c m v slot (Err r) told m' v' = IsRefused m v c r told m' v'
 
 -- locks are given back by this command, which says so, and the rows that the transaction has asked for are let go

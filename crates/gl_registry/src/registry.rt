@@ -137,7 +137,8 @@ impl Registry {
     pub fn apply(&mut self, call: RowCall<'_>, told: &mut Told) -> RowAnswer
         requires empty { told.old.items ≡ [] }
         ensures applies { AppliesCall self.old call.entry result told.new.items self.new }
-        ensures own { CarriesOut self.old.manager (own_command (naming call.entry self.old.rows self.new.rows) call.entry) (answer_in result) told.new.items self.new.manager }
+        ensures own { CarriesOut self.old.manager (own_command (naming call.entry self.old.rows self.new.rows) call.entry)
+            (answer_in result) told.new.items self.new.manager }
     {
         self.manager.law();
         carry_out(&mut self.manager, &mut self.rows, call, told)

@@ -15,7 +15,8 @@ pub none_plain : (text : List ℕ) → All (λ b. b ≢ 46) text → (IsName tex
 none_plain text whole nay (Plain m) is e = nay (subst IsName (sym e) is)
 none_plain text whole nay (Interval m k) is e = has_byte 46 m (decimal k) (subst (All (λ b. b ≢ 46)) e whole)
 
-pub none_front : (text front back : List ℕ) → text ≡ front ++ 46 ∷ back → All (λ b. b ≢ 46) front → (IsName front → ⊥) → (n : Node) → IsNode n → text ≡ node_text n → ⊥
+pub none_front : (text front back : List ℕ) → text ≡ front ++ 46 ∷ back → All (λ b. b ≢ 46) front → (IsName front → ⊥) → (n : Node) → IsNode n
+    → text ≡ node_text n → ⊥
 none_front text front back cut here nay (Plain m) is e = has_byte 46 front back (subst (All (λ b. b ≢ 46)) (sym e ∙ cut) (name_no_dot m is))
 none_front text front back cut here nay (Interval m k) is e =
     nay (subst IsName (sym (cut_once 46 front m back (decimal k) here (name_no_dot m is.0) (sym cut ∙ e)).0) is.0)

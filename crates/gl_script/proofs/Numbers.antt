@@ -1,5 +1,6 @@
 -- Numbers and their one spelling.
-use Rattle.std.proofs.Common.{◌≡◌, ◌≢◌, ℕ, ◌<◌, ◌^◌, List, [], ◌∷◌, length, get_or, All, Result, Ok, Err, decimal, sym, ap, ◌∙◌, subst, arith, eq-zero-or-pos, inl, inr, ◌⊎◌, rules}
+use Rattle.std.proofs.Common.{◌≡◌, ◌≢◌, ℕ, ◌<◌, ◌^◌, List, [], ◌∷◌, length, get_or, All, Result, Ok, Err, decimal, sym, ap, ◌∙◌, subst, arith}
+use Rattle.std.proofs.Common.{eq-zero-or-pos, inl, inr, ◌⊎◌, rules}
 use Rattle.std.specs.Str.Parse.{ParsesUnsigned, AllDigits, digits_value}
 use Rattle.std.specs.Str.{IsUtf8}
 use Rattle.std.proofs.lemmas.Str.{IsUtf8-from_ascii}
@@ -36,7 +37,8 @@ no_plus text p e = omega (arith, (All-get_or IsDigit text 0 0 p.some p.digits).0
 
 pub plain_read : {E : Type 0} (text : List ℕ) (n : ℕ) (r : Result ℕ E) → IsPlain text → r ≡ Ok n → ParsesUnsigned 64 10 text r → text ≡ decimal n
 plain_read {E} text n r p e h =
-    let parsed = subst (λ q. OkIff q (AllDigits 10 text × (0 < length text) × (digits_value 10 text < 2 ^ 64)) (digits_value 10 text)) e (parse_plain own 64 text r h (no_plus text p)) in
+    let parsed = subst (λ q. OkIff q (AllDigits 10 text × (0 < length text) × (digits_value 10 text < 2 ^ 64)) (digits_value 10 text)) e
+    (parse_plain own 64 text r h (no_plus text p)) in
     sym (decimal-digits_value own text parsed.0.0 p.some p.lead parsed.0.2) ∙ ap decimal (sym parsed.1)
 
 pub plain_unread : {E : Type 0} (text : List ℕ) (x : E) (r : Result ℕ E) → r ≡ Err x → ParsesUnsigned 64 10 text r → (n : ℕ) → n < 2 ^ 64 → text ≡ decimal n → ⊥

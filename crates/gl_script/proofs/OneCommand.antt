@@ -1,4 +1,5 @@
--- A line says at most one command or listing: its first field tells the verb or the topic, and names, modes, nodes, numbers and lists of them are spelt in one way.
+-- A line says at most one command or listing: its first field tells the verb or the topic, and names, modes, nodes, numbers and lists of them are
+-- spelt in one way.
 use Rattle.std.proofs.Common.{◌≡◌, ◌≢◌, ℕ, ◌==◌, List, [], ◌∷◌, ◌++◌, All, Bool, map, false, codes, decimal, refl, sym, ap, ap₂, ◌∙◌, subst}
 use Rattle.std.specs.List.{slice_split}
 use Rattle.std.specs.Str.{bytes_eq}
@@ -9,7 +10,10 @@ use Rattle.gl_modes.specs.Modes.{mode_text}
 use Rattle.gl_modes.proofs.Spellings.{mode_text-injective}
 use Rattle.gl_script.specs.declared.form.Language.{Language}
 use Rattle.gl_script.specs.declared.form.Version.{Version}
-use Rattle.gl_script.specs.Grammar.{Text, Command, Inner, File, Index, Begin, Lock, Try, Unlock, Cancel, Commit, Abort, Settle, Insert, Delete, Rekey, Escalate, Move, Group, Held, Effective, Listing, Holders, Queue, Locks, Waits, Txns, Cycle, Line, Orders, Lists, Node, Plain, Interval, IsNode, IsNumber, AreSomeNodes, node_text, parents, fields, listing_fields, SaysFields, ListsFields, LineFields, LineSaysOneCommand}
+use Rattle.gl_script.specs.Grammar.{Text, Command, Inner, File, Index, Begin, Lock, Try, Unlock, Cancel, Commit, Abort, Settle, Insert, Delete, Rekey}
+use Rattle.gl_script.specs.Grammar.{Escalate, Move, Group, Held, Effective, Listing, Holders, Queue, Locks, Waits, Txns, Cycle, Line, Orders, Lists}
+use Rattle.gl_script.specs.Grammar.{Node, Plain, Interval, IsNode, IsNumber, AreSomeNodes, node_text, parents, fields, listing_fields, SaysFields}
+use Rattle.gl_script.specs.Grammar.{ListsFields, LineFields, LineSaysOneCommand}
 use Rattle.gl_script.proofs.Splitting.{cut_once, has_byte}
 use Rattle.gl_script.proofs.NodeTexts.{name_no_dot}
 use Rattle.gl_script.proofs.ListTexts.{on_parts}
@@ -54,7 +58,8 @@ apart : (fs gs : List Text) → fs ≡ gs → bytes_eq (first_field fs) (first_f
 apart fs gs e f = told_apart (first_field fs) (first_field gs) f (ap first_field e)
 
 -- two commands with one line have one verb
-differ : (v : Version) (all : List Text) (c d : Command) → SaysFields v all c → SaysFields v all d → bytes_eq (first_field (fields c)) (first_field (fields d)) ≡ false → ⊥
+differ : (v : Version) (all : List Text) (c d : Command) → SaysFields v all c → SaysFields v all d
+    → bytes_eq (first_field (fields c)) (first_field (fields d)) ≡ false → ⊥
 differ v all c d p q f = apart (fields c) (fields d) (sym p.2 ∙ q.2) f
 
 -- what the forms with two parts and more have in common
@@ -97,8 +102,10 @@ one_of_fields v all (Index m ps g ks) (Index n qs h bs) p q =
     let same = same_of_index _ m n ps qs g h ks bs p.0.1 q.0.1 p.0.3 q.0.3 (sym p.2 ∙ q.2) in
     λ i. Index (same.0 i) (same.1 i) (same.2 i) (same.3 i)
 one_of_fields v all (Begin s) (Begin t) p q = ap Begin (same_of_name _ s t (sym p.2 ∙ q.2))
-one_of_fields v all (Lock s a m) (Lock t b n) p q = let same = same_of_txn_mode_node _ s t a b m n p.0.1 q.0.1 (sym p.2 ∙ q.2) in λ i. Lock (same.0 i) (same.1 i) (same.2 i)
-one_of_fields v all (Try s a m) (Try t b n) p q = let same = same_of_txn_mode_node _ s t a b m n p.0.1 q.0.1 (sym p.2 ∙ q.2) in λ i. Try (same.0 i) (same.1 i) (same.2 i)
+one_of_fields v all (Lock s a m) (Lock t b n) p q =
+    let same = same_of_txn_mode_node _ s t a b m n p.0.1 q.0.1 (sym p.2 ∙ q.2) in λ i. Lock (same.0 i) (same.1 i) (same.2 i)
+one_of_fields v all (Try s a m) (Try t b n) p q =
+    let same = same_of_txn_mode_node _ s t a b m n p.0.1 q.0.1 (sym p.2 ∙ q.2) in λ i. Try (same.0 i) (same.1 i) (same.2 i)
 one_of_fields v all (Unlock s m) (Unlock t n) p q = let same = same_of_txn_node _ s t m n p.0.1 q.0.1 (sym p.2 ∙ q.2) in ap₂ Unlock same.0 same.1
 one_of_fields v all (Cancel s) (Cancel t) p q = ap Cancel (same_of_name _ s t (sym p.2 ∙ q.2))
 one_of_fields v all (Commit s) (Commit t) p q = ap Commit (same_of_name _ s t (sym p.2 ∙ q.2))

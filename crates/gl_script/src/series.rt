@@ -55,7 +55,8 @@ pub(crate) fn read_parents_on(
     nodes: &mut ArrayVec<Used, MOST_LISTED>,
 ) -> Option<()>
     requires room { length (left fields.old) ≤ 257 }
-    ensures found { IfSome result (λ _. AreSomeNodes (map node_of nodes.new.items) × (left fields.old ≡ parents (map node_of nodes.new.items) ++ codes "on" ∷ left fields.new)) }
+    ensures found { IfSome result (λ _. AreSomeNodes (map node_of nodes.new.items)
+        × (left fields.old ≡ parents (map node_of nodes.new.items) ++ codes "on" ∷ left fields.new)) }
     ensures none { IfNone result ((ps : List Node) (more : List Text) → AreSomeNodes ps → left fields.old ≢ parents ps ++ codes "on" ∷ more) }
 {
     if !is_colon(fields.next()?) {
@@ -96,7 +97,8 @@ fn read_nodes(fields: &mut Fields, nodes: &mut ArrayVec<Used, MOST_LISTED>) -> O
 fn read_nodes_on(fields: &mut Fields, nodes: &mut ArrayVec<Used, MOST_LISTED>) -> Option<()>
     requires room { length (left fields.old) ≤ 257 }
     requires empty { nodes.old.items ≡ [] }
-    ensures found { IfSome result (λ _. AreSomeNodes (map node_of nodes.new.items) × (left fields.old ≡ map node_text (map node_of nodes.new.items) ++ codes "on" ∷ left fields.new)) }
+    ensures found { IfSome result (λ _. AreSomeNodes (map node_of nodes.new.items)
+        × (left fields.old ≡ map node_text (map node_of nodes.new.items) ++ codes "on" ∷ left fields.new)) }
     ensures none { IfNone result ((ns : List Node) (more : List Text) → AreSomeNodes ns → left fields.old ≢ map node_text ns ++ codes "on" ∷ more) }
 {
     while let Some(field) = fields.next() {

@@ -38,7 +38,8 @@ pub(crate) fn only_node<T, F: FnOnce(Used) -> T>(fields: &mut Fields, form: F) -
 /// A transaction and a node.
 pub(crate) fn txn_node<F: FnOnce(Name, Used) -> Form>(fields: &mut Fields, form: F) -> Option<Form>
     requires form { F.IsAlwaysCallable form }
-    ensures found { IfSome result (λ r. (txn : _) × (node : _) × F.post form txn node r × IsName txn.items × IsNode (node_of node) × (left fields.old ≡ txn.items ∷ node_text (node_of node) ∷ [])) }
+    ensures found { IfSome result (λ r. (txn : _) × (node : _) × F.post form txn node r × IsName txn.items × IsNode (node_of node)
+        × (left fields.old ≡ txn.items ∷ node_text (node_of node) ∷ [])) }
     ensures none { IfNone result ((t : Text) (n : Node) → IsName t → IsNode n → left fields.old ≢ t ∷ node_text n ∷ []) }
 {
     let txn = next_name(fields)?;
@@ -52,7 +53,8 @@ pub(crate) fn txn_mode_node<F: FnOnce(Name, Mode, Used) -> Form>(
     form: F,
 ) -> Option<Form>
     requires form { F.IsAlwaysCallable form }
-    ensures found { IfSome result (λ r. (txn : _) × (mode : _) × (node : _) × F.post form txn mode node r × IsName txn.items × IsNode (node_of node) × (left fields.old ≡ txn.items ∷ mode_text mode ∷ node_text (node_of node) ∷ [])) }
+    ensures found { IfSome result (λ r. (txn : _) × (mode : _) × (node : _) × F.post form txn mode node r × IsName txn.items × IsNode (node_of node)
+        × (left fields.old ≡ txn.items ∷ mode_text mode ∷ node_text (node_of node) ∷ [])) }
     ensures none { IfNone result ((t : Text) (m : Mode) (n : Node) → IsName t → IsNode n → left fields.old ≢ t ∷ mode_text m ∷ node_text n ∷ []) }
 {
     let txn = next_name(fields)?;
@@ -67,7 +69,8 @@ pub(crate) fn txn_record<F: FnOnce(Name, Name) -> Form>(
     form: F,
 ) -> Option<Form>
     requires form { F.IsAlwaysCallable form }
-    ensures found { IfSome result (λ r. (txn : _) × (rec : _) × F.post form txn rec r × IsName txn.items × IsName rec.items × (left fields.old ≡ txn.items ∷ rec.items ∷ [])) }
+    ensures found { IfSome result (λ r. (txn : _) × (rec : _) × F.post form txn rec r × IsName txn.items × IsName rec.items
+        × (left fields.old ≡ txn.items ∷ rec.items ∷ [])) }
     ensures none { IfNone result ((t r : Text) → IsName t → IsName r → left fields.old ≢ t ∷ r ∷ []) }
 {
     let txn = next_name(fields)?;
@@ -81,7 +84,8 @@ pub(crate) fn rekey_parts<F: FnOnce(Name, Name, Name, u64) -> Form>(
     form: F,
 ) -> Option<Form>
     requires form { F.IsAlwaysCallable form }
-    ensures found { IfSome result (λ r. (txn : _) × (rec : _) × (index : _) × (key : _) × F.post form txn rec index key r × IsName txn.items × IsName rec.items × IsName index.items × IsNumber key × (left fields.old ≡ txn.items ∷ rec.items ∷ index.items ∷ decimal key ∷ [])) }
+    ensures found { IfSome result (λ r. (txn : _) × (rec : _) × (index : _) × (key : _) × F.post form txn rec index key r × IsName txn.items
+        × IsName rec.items × IsName index.items × IsNumber key × (left fields.old ≡ txn.items ∷ rec.items ∷ index.items ∷ decimal key ∷ [])) }
     ensures none { IfNone result ((t r i : Text) (k : ℕ) → IsName t → IsName r → IsName i → IsNumber k → left fields.old ≢ t ∷ r ∷ i ∷ decimal k ∷ []) }
 {
     let txn = next_name(fields)?;
@@ -102,8 +106,10 @@ pub(crate) fn insert_parts<F: FnOnce(Name, Name, Name) -> Form>(
 ) -> Option<Form>
     requires room { length (left fields.old) ≤ 257 }
     requires form { F.IsAlwaysCallable form }
-    ensures found { IfSome result (λ r. (txn : _) × (rec : _) × (file : _) × F.post form txn rec file r × IsName txn.items × IsName rec.items × IsName file.items × All IsNumber keys.new.items × (left fields.old ≡ txn.items ∷ rec.items ∷ file.items ∷ map decimal keys.new.items)) }
-    ensures none { IfNone result ((t r f : Text) (ks : List ℕ) → IsName t → IsName r → IsName f → All IsNumber ks → left fields.old ≢ t ∷ r ∷ f ∷ map decimal ks) }
+    ensures found { IfSome result (λ r. (txn : _) × (rec : _) × (file : _) × F.post form txn rec file r × IsName txn.items × IsName rec.items
+        × IsName file.items × All IsNumber keys.new.items × (left fields.old ≡ txn.items ∷ rec.items ∷ file.items ∷ map decimal keys.new.items)) }
+    ensures none { IfNone result ((t r f : Text) (ks : List ℕ) → IsName t → IsName r → IsName f → All IsNumber ks → left fields.old ≢ t ∷ r ∷ f
+        ∷ map decimal ks) }
 {
     let txn = next_name(fields)?;
     let rec = next_name(fields)?;
@@ -120,7 +126,8 @@ pub(crate) fn name_parents<F: FnOnce(Name) -> Form>(
 ) -> Option<Form>
     requires room { length (left fields.old) ≤ 257 }
     requires form { F.IsAlwaysCallable form }
-    ensures found { IfSome result (λ r. let ps = map node_of nodes.new.items in (name : _) × F.post form name r × IsName name.items × All IsNode ps × (left fields.old ≡ name.items ∷ parents ps)) }
+    ensures found { IfSome result (λ r. let ps = map node_of nodes.new.items in (name : _) × F.post form name r × IsName name.items × All IsNode ps
+        × (left fields.old ≡ name.items ∷ parents ps)) }
     ensures none { IfNone result ((n : Text) (ps : List Node) → IsName n → All IsNode ps → left fields.old ≢ n ∷ parents ps) }
 {
     let name = next_name(fields)?;
@@ -136,7 +143,8 @@ pub(crate) fn name_some_parents<F: FnOnce(Name) -> Form>(
 ) -> Option<Form>
     requires room { length (left fields.old) ≤ 257 }
     requires form { F.IsAlwaysCallable form }
-    ensures found { IfSome result (λ r. let ps = map node_of nodes.new.items in (name : _) × F.post form name r × IsName name.items × AreSomeNodes ps × (left fields.old ≡ name.items ∷ parents ps)) }
+    ensures found { IfSome result (λ r. let ps = map node_of nodes.new.items in (name : _) × F.post form name r × IsName name.items × AreSomeNodes ps
+        × (left fields.old ≡ name.items ∷ parents ps)) }
     ensures none { IfNone result ((n : Text) (ps : List Node) → IsName n → AreSomeNodes ps → left fields.old ≢ n ∷ parents ps) }
 {
     let read = name_parents(fields, nodes, form)?;
@@ -151,8 +159,10 @@ pub(crate) fn txn_node_parents<F: FnOnce(Name, Used) -> Form>(
 ) -> Option<Form>
     requires room { length (left fields.old) ≤ 257 }
     requires form { F.IsAlwaysCallable form }
-    ensures found { IfSome result (λ r. let ps = map node_of nodes.new.items in (txn : _) × (node : _) × F.post form txn node r × IsName txn.items × IsNode (node_of node) × All IsNode ps × (left fields.old ≡ txn.items ∷ node_text (node_of node) ∷ parents ps)) }
-    ensures none { IfNone result ((t : Text) (n : Node) (ps : List Node) → IsName t → IsNode n → All IsNode ps → left fields.old ≢ t ∷ node_text n ∷ parents ps) }
+    ensures found { IfSome result (λ r. let ps = map node_of nodes.new.items in (txn : _) × (node : _) × F.post form txn node r × IsName txn.items
+        × IsNode (node_of node) × All IsNode ps × (left fields.old ≡ txn.items ∷ node_text (node_of node) ∷ parents ps)) }
+    ensures none { IfNone result ((t : Text) (n : Node) (ps : List Node) → IsName t → IsNode n → All IsNode ps → left fields.old ≢ t ∷ node_text n
+        ∷ parents ps) }
 {
     let txn = next_name(fields)?;
     let node = next_node(fields)?;
@@ -168,8 +178,11 @@ pub(crate) fn index_parts<F: FnOnce(Name, Name) -> Form>(
 ) -> Option<Form>
     requires room { length (left fields.old) ≤ 257 }
     requires form { F.IsAlwaysCallable form }
-    ensures found { IfSome result (λ r. let ps = nodes_of lists.new in let bs = lists.new.numbers.items in (name : _) × (file : _) × F.post form name file r × IsName name.items × AreSomeNodes ps × IsName file.items × All IsNumber bs × (left fields.old ≡ name.items ∷ parents ps ++ codes "on" ∷ file.items ∷ codes "at" ∷ map decimal bs)) }
-    ensures none { IfNone result ((n f : Text) (ps : List Node) (bs : List ℕ) → IsName n → AreSomeNodes ps → IsName f → All IsNumber bs → left fields.old ≢ n ∷ parents ps ++ codes "on" ∷ f ∷ codes "at" ∷ map decimal bs) }
+    ensures found { IfSome result (λ r. let ps = nodes_of lists.new in let bs = lists.new.numbers.items in (name : _) × (file : _)
+        × F.post form name file r × IsName name.items × AreSomeNodes ps × IsName file.items × All IsNumber bs
+        × (left fields.old ≡ name.items ∷ parents ps ++ codes "on" ∷ file.items ∷ codes "at" ∷ map decimal bs)) }
+    ensures none { IfNone result ((n f : Text) (ps : List Node) (bs : List ℕ) → IsName n → AreSomeNodes ps → IsName f → All IsNumber bs
+        → left fields.old ≢ n ∷ parents ps ++ codes "on" ∷ f ∷ codes "at" ∷ map decimal bs) }
 {
     let name = next_name(fields)?;
     read_parents_on(fields, &mut lists.nodes)?;
@@ -198,7 +211,8 @@ fn last_node(fields: &mut Fields) -> Option<Used>
 /// A file, the word `at`, and bounds.
 fn file_bounds(fields: &mut Fields, bounds: &mut ArrayVec<u64, MOST_LISTED>) -> Option<Name>
     requires room { length (left fields.old) ≤ 257 }
-    ensures found { IfSome result (λ file. IsName file.items × All IsNumber bounds.new.items × (left fields.old ≡ file.items ∷ codes "at" ∷ map decimal bounds.new.items)) }
+    ensures found { IfSome result (λ file. IsName file.items × All IsNumber bounds.new.items
+        × (left fields.old ≡ file.items ∷ codes "at" ∷ map decimal bounds.new.items)) }
     ensures none { IfNone result ((f : Text) (bs : List ℕ) → IsName f → All IsNumber bs → left fields.old ≢ f ∷ codes "at" ∷ map decimal bs) }
 {
     let file = next_name(fields)?;

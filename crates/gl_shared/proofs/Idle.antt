@@ -20,10 +20,12 @@ abbrev pub IsQuiet : State → List Board → Bool → Type 0
 IsQuiet s list waited = waited ≡ false → NobodyWaits s × EndsIdle list
 
 -- a step keeps it, where a lock that is left waiting is noted
-pub quiet_on : (s s' : State) (list : List Board) (waited waits : Bool) (c : Command) (a : Answer) (told : Told) → waits ≡ leaves_waiting a → IsQuiet s list waited → Step s c a told s' → IsQuiet s' list (waited || waits)
+pub quiet_on : (s s' : State) (list : List Board) (waited waits : Bool) (c : Command) (a : Answer) (told : Told) → waits ≡ leaves_waiting a
+    → IsQuiet s list waited → Step s c a told s' → IsQuiet s' list (waited || waits)
 quiet_on s s' list waited waits c a told is_so quiet step e =
     (nobody_on s s' waited waits c a told is_so (λ is. (quiet is).0) step e, (quiet (neither waited waits e).0).1)
 
 -- and a telling makes it anew
-pub quiet_told : (m : ManagerView) (list after : List Board) (board : Board) (shown : Bool) → IsLawfulManager m → board ≡ board_of (state_of m) → after ≡ list ++ board ∷ [] → (shown ≡ false → ShowsNobody board) → IsQuiet (state_of m) after shown
+pub quiet_told : (m : ManagerView) (list after : List Board) (board : Board) (shown : Bool) → IsLawfulManager m → board ≡ board_of (state_of m)
+    → after ≡ list ++ board ∷ [] → (shown ≡ false → ShowsNobody board) → IsQuiet (state_of m) after shown
 quiet_told m list after board shown law is ends none e = (nobody_shown m law (subst ShowsNobody is (none e)), (board, (list, ends), none e))

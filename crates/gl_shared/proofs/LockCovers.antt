@@ -22,7 +22,8 @@ use Rattle.gl_model.specs.declared.txn.Status.TheVariants.{Active, Waiting, Cond
 use Rattle.gl_model.specs.declared.txn.TxnId.{TxnId}
 use Rattle.gl_model.specs.Calls.{WaitSettles, enqueued, enters_at, granted, wanted}
 use Rattle.gl_model.specs.Lawful.{IsLawful}
-use Rattle.gl_model.specs.State.{awake, condemned, granted_at, is_waiting_at, without_wait, woken, State, Txn, members, restatus, status_in, status_of, SettledWithin, is_wait, waits_for}
+use Rattle.gl_model.specs.State.{awake, condemned, granted_at, is_waiting_at, without_wait, woken, State, Txn, members, restatus, status_in}
+use Rattle.gl_model.specs.State.{status_of, SettledWithin, is_wait, waits_for}
 use Rattle.gl_model.specs.Tellings.{Told}
 use Rattle.gl_model.proofs.law.Keeps.{less-lawful, one_of, woken_sleeps, IsLawfulBut}
 use Rattle.gl_model.proofs.law.Lock.{may_lock, waiting-lawful}
@@ -56,7 +57,8 @@ module _ (s : State) (law : IsLawful s) (v t : ℕ) (apart : (t == v) ≡ false)
   here = is_waiting_at s v
 
   law_but : IsLawfulBut here b
-  law_but = less-lawful s law s.held (λ q. without_waiter v (s.queue q)) (λ u. if u == v then restatus Condemned (s.txns v) else s.txns u) here (without_wait-less s law v Condemned (λ q m h. cc))
+  law_but = less-lawful s law s.held (λ q. without_waiter v (s.queue q)) (λ u. if u == v then restatus Condemned (s.txns v) else s.txns u) here
+      (without_wait-less s law v Condemned (λ q m h. cc))
 
   same_txn : b.txns t ≡ s.txns t
   same_txn = ap (λ c. if c then restatus Condemned (s.txns v) else s.txns t) apart
@@ -85,7 +87,8 @@ self_condemned s t n w waits =
     stays_condemned (granted_at (without_wait s t Condemned) (is_waiting_at s t)) t ((without_wait s t Condemned).txns t)
     (ap (λ c. status_in (if c then restatus Condemned (s.txns t) else s.txns t)) (number_same t t refl) ∙ restatus_is Condemned (Waiting n w) (s.txns t) waits)
 
-settled_comes : (c : Victims) (k : ℕ) (s s' : State) (t : ℕ) (n : NodeId) (w : Mode) → IsLawful s → status_of s t ≡ Some (Waiting n w) → SettledWithin c k s t s' → Comes s' t n w
+settled_comes : (c : Victims) (k : ℕ) (s s' : State) (t : ℕ) (n : NodeId) (w : Mode) → IsLawful s → status_of s t ≡ Some (Waiting n w)
+    → SettledWithin c k s t s' → Comes s' t n w
 settled_comes c zero s s' t n w law waits h = inl (ap (λ (x : State). is_wait (status_of x t)) h.1 ∙ ap is_wait waits)
 settled_comes c (suc k) s s' t n w law waits h =
     let v = h.0 in
@@ -132,19 +135,22 @@ module _ (s : State) (law : IsLawful s) (t : TxnId) (n : NodeId) (m k : Mode) wh
       ∙ restatus_is (Waiting n (wanted s t.slot n m)) Active (s.txns t.slot) active
 
   -- or after a wait that others ended
-  after_wait : (d : Detect) (next : State) → IsLawful (enqueued s t.slot n (wanted s t.slot n m)) → status_of s t.slot ≡ Some Active → WaitSettles d s.victims (enqueued s t.slot n (wanted s t.slot n m)) t.slot next
+  after_wait : (d : Detect) (next : State) → IsLawful (enqueued s t.slot n (wanted s t.slot n m)) → status_of s t.slot ≡ Some Active
+      → WaitSettles d s.victims (enqueued s t.slot n (wanted s t.slot n m)) t.slot next
       → is_wait (status_of next t.slot) ≡ false → (status_of next t.slot ≡ Some Condemned → ⊥) → next.held t.slot n ≡ wanted s t.slot n m
   after_wait AtBlock next queued active settles quiet free =
       ⊎_elim (λ h. absurd (true≢false (sym h ∙ quiet)))
       (λ h. ⊎_elim (λ e. absurd (free e)) (λ e. e) h)
-      (settled_comes s.victims settles.0 (enqueued s t.slot n (wanted s t.slot n m)) next t.slot n (wanted s t.slot n m) queued (enqueued_waits active) settles.1)
+      (settled_comes s.victims settles.0 (enqueued s t.slot n (wanted s t.slot n m)) next t.slot n (wanted s t.slot n m) queued
+      (enqueued_waits active) settles.1)
   after_wait ByWatcher next queued active settles quiet free =
       absurd (true≢false (sym (ap (λ (x : State). is_wait (status_of x t.slot)) settles ∙ ap is_wait (enqueued_waits active)) ∙ quiet))
 
   held_covers : (next : State) → k ≡ next.held t.slot n → next.held t.slot n ≡ wanted s t.slot n m → is_at_least k m ≡ true
   held_covers next is held = ap (λ x. is_at_least x m) (is ∙ held) ∙ supremum-above_right (s.held t.slot n) m
 
-  goes : (told : Told) (s' : State) (r : Option Refusal) → refusal_of s (command.Lock t n m) ≡ r → Goes s (command.Lock t n m) r (answer.Granted k) told s' → is_at_least k m ≡ true
+  goes : (told : Told) (s' : State) (r : Option Refusal) → refusal_of s (command.Lock t n m) ≡ r
+      → Goes s (command.Lock t n m) r (answer.Granted k) told s' → is_at_least k m ≡ true
   goes told s' (Some r) e same = absurd (cc (same.answer_is))
   goes told s' None e ends =
       let next = ends.0 in
@@ -159,8 +165,10 @@ module _ (s : State) (law : IsLawful s) (t : TxnId) (n : NodeId) (m k : Mode) wh
   pub lock_covers : (told : Told) (s' : State) → Step s (command.Lock t n m) (answer.Granted k) told s' → is_at_least k m ≡ true
   lock_covers told s' step =
       ⊎_elim (λ h. goes told s' (refusal_of s (command.Lock t n m)) refl h)
-      (λ (want : (may_want_memory s (command.Lock t n m) ≡ true) × Unchanged s (answer.Granted k) told s' (answer.Refused no.NoMemory)). absurd (cc (want.1.answer_is))) step
+      (λ (want : (may_want_memory s (command.Lock t n m) ≡ true) × Unchanged s (answer.Granted k) told s' (answer.Refused no.NoMemory)). absurd
+      (cc (want.1.answer_is))) step
 
 -- the same of any answer
-pub answer_covers : (s : State) → IsLawful s → (t : TxnId) (n : NodeId) (m : Mode) (told : Told) (s' : State) (a : Answer) → Step s (command.Lock t n m) a told s' → (k : Mode) → a ≡ answer.Granted k → is_at_least k m ≡ true
+pub answer_covers : (s : State) → IsLawful s → (t : TxnId) (n : NodeId) (m : Mode) (told : Told) (s' : State) (a : Answer)
+    → Step s (command.Lock t n m) a told s' → (k : Mode) → a ≡ answer.Granted k → is_at_least k m ≡ true
 answer_covers s law t n m told s' a step k is = lock_covers s law t n m k told s' (subst (λ (x : Answer). Step s (command.Lock t n m) x told s') is step)

@@ -38,7 +38,8 @@ shares_lock (Ok g) old new is = is
 shares_lock (Err s) old new is = stops (is_refusal s) old new is
 
 -- whoever is neither granted nor ended at once waits for a verdict
-pub gives_verdict : (t : TxnId) (n : NodeId) (k : Mode) (a : Answer) (x : Result Grant Stop) → ((m : Mode) → a ≡ answer.Granted m → ⊥) → (a ≡ answer.Victim → ⊥) → ((r : Refusal) → a ≡ answer.Refused r → ⊥) → IsVerdict t n k x → Gives t n k a x
+pub gives_verdict : (t : TxnId) (n : NodeId) (k : Mode) (a : Answer) (x : Result Grant Stop) → ((m : Mode) → a ≡ answer.Granted m → ⊥)
+    → (a ≡ answer.Victim → ⊥) → ((r : Refusal) → a ≡ answer.Refused r → ⊥) → IsVerdict t n k x → Gives t n k a x
 gives_verdict t n k (answer.Granted m) x granted victim refused later = absurd (granted m refl)
 gives_verdict t n k answer.Victim x granted victim refused later = absurd (victim refl)
 gives_verdict t n k (answer.Refused r) x granted victim refused later = absurd (refused r refl)

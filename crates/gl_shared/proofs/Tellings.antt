@@ -11,10 +11,12 @@ told_either list board (Published e) after h = inr h.0
 told_either list board NoMemory after h = inl h
 
 -- a publication that had memory, and one that had none
-pub published : (told : Bool) (list after now : List Board) (board current : Board) → told ≡ true → MatchBool told (after ≡ list ++ board ∷ []) (after ≡ list) → list ≡ now → board ≡ current → after ≡ now ++ current ∷ []
+pub published : (told : Bool) (list after now : List Board) (board current : Board) → told ≡ true
+    → MatchBool told (after ≡ list ++ board ∷ []) (after ≡ list) → list ≡ now → board ≡ current → after ≡ now ++ current ∷ []
 published true list after now board current sure h same is = h ∙ ap₂ (λ (l : List Board) (b : Board). l ++ b ∷ []) same is
 published false list after now board current sure h same is = absurd (cc sure)
 
-pub unpublished : (told : Bool) (list after now : List Board) (board : Board) → told ≡ false → MatchBool told (after ≡ list ++ board ∷ []) (after ≡ list) → list ≡ now → after ≡ now
+pub unpublished : (told : Bool) (list after now : List Board) (board : Board) → told ≡ false
+    → MatchBool told (after ≡ list ++ board ∷ []) (after ≡ list) → list ≡ now → after ≡ now
 unpublished false list after now board sure h same = h ∙ same
 unpublished true list after now board sure h same = absurd (cc sure)

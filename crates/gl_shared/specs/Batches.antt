@@ -22,7 +22,8 @@ abbrev pub one_if : Bool → ℕ
 one_if true = 1
 one_if false = 0
 
--- one command of a list behind the latch: a step of the manager that is counted where it is accepted; its notices stand in their boxes, but that an accepted lock empties its own slot's; a command that is not accepted changes nothing
+-- one command of a list behind the latch: a step of the manager that is counted where it is accepted; its notices stand in their boxes, but that an
+-- accepted lock empties its own slot's; a command that is not accepted changes nothing
 pub record ServesOne (g : GuardedView) (c : Command) (a : Answer) (told : Told) (g' : GuardedView) : Type 0 where
   pub step : Step (state_of g.manager) c a told (state_of g'.manager)
   pub boxes : (mid : List Slot) × Delivers g.boxes told mid × (g'.boxes ≡ cleared c a mid)

@@ -32,7 +32,8 @@ AreWoken c told slots = (u : ℕ) → u < most_slots → has_slot slots u ≡ (n
 abbrev pub IsVerdict : TxnId → NodeId → Mode → Result Grant Stop → Type 0
 IsVerdict t n k x = (g : GuardedView) × IsLawfulManager g.manager × (verdict_of (state_of g.manager) g.boxes t n k ≡ Some x)
 
--- what a lock gives that is answered so: the grant of the mode then held, or why there is none; and where it is left waiting, which is all that is left, a verdict
+-- what a lock gives that is answered so: the grant of the mode then held, or why there is none; and where it is left waiting, which is all that is
+-- left, a verdict
 abbrev pub Gives : TxnId → NodeId → Mode → Answer → Result Grant Stop → Type 0
 Gives t n k (answer.Granted m) x = x ≡ Ok (record { txn = t; node = n; mode = m })
 Gives t n k answer.Victim x = x ≡ Err stop.Victim

@@ -12,7 +12,8 @@ use Rattle.gl_boxes.specs.declared.telling.Telling.TheVariants.{WhileWaiting}
 use Rattle.gl_shared.specs.declared.guarded.Tell.{Tell}
 use Rattle.gl_shared.specs.declared.guarded.Tell.TheVariants.{Published, NoMemory}
 
--- the manager, the count of accepted commands that were served, one box a slot, the boards that were published, when they are told, and whether somebody waited when they last were or a lock was left waiting since
+-- the manager, the count of accepted commands that were served, one box a slot, the boards that were published, when they are told, and whether
+-- somebody waited when they last were or a lock was left waiting since
 pub record GuardedView : Type 0 where
   pub manager : ManagerView
   pub book : ℕ
@@ -26,7 +27,8 @@ abbrev pub Told : List Board → Board → Tell → List Board → Type 0
 Told list board (Published e) after = (after ≡ list ++ board ∷ []) × (e ≡ board.epoch)
 Told list board NoMemory after = after ≡ list
 
--- what is kept of who waited when watchers were told of a board: that nobody did is kept only of a board that shows nobody, and of each such where telling waits for waiters
+-- what is kept of who waited when watchers were told of a board: that nobody did is kept only of a board that shows nobody, and of each such where
+-- telling waits for waiters
 abbrev pub Remembers : Telling → Board → Tell → Bool → Bool → Type 0
 Remembers telling board (Published e) before after = (after ≡ false → ShowsNobody board) × (telling ≡ WhileWaiting → ShowsNobody board → after ≡ false)
 Remembers telling board NoMemory before after = after ≡ before

@@ -73,7 +73,9 @@ impl<'a, N: Naming> Session<'a, N> {
         alloc: Global,
         commands: &[Command<'_>],
     ) -> Result<Vec<Answer>, Refusal>
-        ensures run { IfOk result (λ answers. (g : GuardedView) × (h : GuardedView) × IsLawfulManager g.manager × Serves g commands.now answers.items h × (self.new.served_at ≡ h.manager.accepted) × (0 < accepted_in commands.now answers.items → HasEnded (state_of g.manager) (state_of h.manager) self.new.woken)) }
+        ensures run { IfOk result (λ answers. (g : GuardedView) × (h : GuardedView) × IsLawfulManager g.manager
+            × Serves g commands.now answers.items h × (self.new.served_at ≡ h.manager.accepted)
+            × (0 < accepted_in commands.now answers.items → HasEnded (state_of g.manager) (state_of h.manager) self.new.woken)) }
         ensures count { IfOk result (λ _. N.opening + self.new.share ≤ self.new.served_at) }
         ensures stops { IfOk result (λ answers. Stops commands.now answers.items) }
         ensures share { IfOk result (λ answers. self.new.share ≡ self.old.share + accepted_in commands.now answers.items) }

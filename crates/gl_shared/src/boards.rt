@@ -39,7 +39,8 @@ impl Side {
 
 // Publishes what is pending, as often as it has to.
 fn publish_all<R: Wait>(rt: &R, writer: BoardWriter) -> BoardWriter
-    requires same { (fold (λ turn next. turned next) (turn_of writer.desk.shown.value) (drop writer.behind writer.log.items)).tie ≡ tie_of writer.desk.shown.value.line }
+    requires same { (fold (λ turn next. turned next) (turn_of writer.desk.shown.value)
+        (drop writer.behind writer.log.items)).tie ≡ tie_of writer.desk.shown.value.line }
     ensures rest { drop result.behind result.log.items ≡ [] }
     ensures turn { turn_of result.desk.shown.value ≡ fold (λ turn next. turned next) (turn_of writer.desk.shown.value) (drop writer.behind writer.log.items) }
     ensures tie { tie_of result.desk.shown.value.line ≡ tie_of writer.desk.shown.value.line }
@@ -110,7 +111,8 @@ pub fn open<R: Wait>(
     readers: usize,
 ) -> Result<BoardWriter, AllocError>
     requires { (0 < readers) × (readers < 2 ^ 32) }
-    ensures { IfOk result (λ w. (drop w.behind w.log.items ≡ []) × (w.desk.shown.value.line.list ≡ line.now.list) × (tie_of w.desk.shown.value.line ≡ tie_of line.now) × (view w.desk.place ≡ Some (tie_of line.now))) }
+    ensures { IfOk result (λ w. (drop w.behind w.log.items ≡ []) × (w.desk.shown.value.line.list ≡ line.now.list)
+        × (tie_of w.desk.shown.value.line ≡ tie_of line.now) × (view w.desk.place ≡ Some (tie_of line.now))) }
 {
     let first = unpublished(line)?;
     let second = unpublished(line)?;

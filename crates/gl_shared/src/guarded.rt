@@ -137,7 +137,8 @@ impl<N: Naming> Guarded<N> {
     pub fn note<R: Wait>(&mut self, rt: &R) -> Note<N>
         ensures list { result ≡ self.new.list }
         ensures told { (self.new.list ≡ self.old.list) ⊎ (self.new.list ≡ self.old.list ++ board_of (state_of self.old.manager) ∷ []) }
-        ensures kept { (self.new.manager ≡ self.old.manager) × (self.new.book ≡ self.old.book) × (self.new.boxes ≡ self.old.boxes) × (self.new.telling ≡ self.old.telling) }
+        ensures kept { (self.new.manager ≡ self.old.manager) × (self.new.book ≡ self.old.book) × (self.new.boxes ≡ self.old.boxes)
+            × (self.new.telling ≡ self.old.telling) }
     {
         let _ = self.tell(rt);
         self.publisher.note(rt)
@@ -150,14 +151,17 @@ impl<N: Naming> Guarded<N> {
     pub fn verdict(&self, txn: TxnId, node: NodeId, mode: Mode) -> Option<Result<Grant, Stop>>
         ensures verdict { result ≡ verdict_of (state_of self.now.manager) self.now.boxes txn node mode }
         ensures waits { lives (state_of self.now.manager) txn ≡ true → is_waiting_at (state_of self.now.manager) txn.slot node ≡ true → result ≡ None }
-        ensures grant { (x : Grant) → result ≡ Some (Ok x) → (x.txn ≡ txn) × (x.node ≡ node) × (x.mode ≡ (state_of self.now.manager).held txn.slot node) × (is_at_least x.mode mode ≡ true) × (is_waiting_at (state_of self.now.manager) txn.slot node ≡ false) }
+        ensures grant { (x : Grant) → result ≡ Some (Ok x) → (x.txn ≡ txn) × (x.node ≡ node)
+            × (x.mode ≡ (state_of self.now.manager).held txn.slot node) × (is_at_least x.mode mode ≡ true)
+            × (is_waiting_at (state_of self.now.manager) txn.slot node ≡ false) }
     {
         self.boxes.verdict(&self.manager, txn, node, mode)
     }
 
     /// Publishes the board of now.
     pub fn tell<R: Wait>(&mut self, rt: &R) -> Tell
-        ensures kept { (self.new.manager ≡ self.old.manager) × (self.new.book ≡ self.old.book) × (self.new.boxes ≡ self.old.boxes) × (self.new.telling ≡ self.old.telling) }
+        ensures kept { (self.new.manager ≡ self.old.manager) × (self.new.book ≡ self.old.book) × (self.new.boxes ≡ self.old.boxes)
+            × (self.new.telling ≡ self.old.telling) }
         ensures told { Told self.old.list (board_of (state_of self.old.manager)) result self.new.list }
         ensures waited { Remembers self.old.telling (board_of (state_of self.old.manager)) result self.old.waited self.new.waited }
     {
@@ -172,7 +176,8 @@ impl<N: Naming> Guarded<N> {
     /// Publishes the board of now, where it is to be told: always, or only where somebody waits or
     /// waited when watchers were last told.
     pub fn tell_if_due<R: Wait>(&mut self, rt: &R) -> Option<Tell>
-        ensures kept { (self.new.manager ≡ self.old.manager) × (self.new.book ≡ self.old.book) × (self.new.boxes ≡ self.old.boxes) × (self.new.telling ≡ self.old.telling) }
+        ensures kept { (self.new.manager ≡ self.old.manager) × (self.new.book ≡ self.old.book) × (self.new.boxes ≡ self.old.boxes)
+            × (self.new.telling ≡ self.old.telling) }
         ensures told { IfSome result (λ t. Told self.old.list (board_of (state_of self.old.manager)) t self.new.list) }
         ensures due { is_some result ≡ is_due self.old.telling self.old.waited }
         ensures waited { IfSome result (λ t. Remembers self.old.telling (board_of (state_of self.old.manager)) t self.old.waited self.new.waited) }

@@ -30,7 +30,8 @@ pub struct Parts {
     pub(crate) telling: Telling,
     pub ghost cut: { (blank.parts ≡ shares) × (0 < shares) × (shares < 130) },
     pub ghost head_is: { arc_value head ≡ head_of line.book },
-    pub ghost one: { (line.list ≡ board_of (state_of manager) ∷ []) × (line.detect ≡ manager.table.detect) × Fine manager.table.detect (board_of (state_of manager)) },
+    pub ghost one: { (line.list ≡ board_of (state_of manager) ∷ []) × (line.detect ≡ manager.table.detect)
+        × Fine manager.table.detect (board_of (state_of manager)) },
     pub ghost rest: { (drop writer.behind writer.log.items ≡ []) × (writer.desk.shown.value.line.list ≡ line.list) },
     pub ghost tie: { (tie_of writer.desk.shown.value.line ≡ tie_of line) × (writer.desk.place.me.0.client ≡ Some (tie_of line)) },
     pub ghost looking: { (0 < watchers) × (watchers < 9) },

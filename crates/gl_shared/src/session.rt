@@ -146,9 +146,11 @@ impl<'a, N: Naming> Session<'a, N> {
         mode: Mode,
     ) -> Result<Grant, Stop>
         ensures noted { self.new.last_epoch ≡ self.old.last_epoch }
-        ensures share { MatchResult result (λ _. self.new.share ≡ self.old.share + 1) (λ s. MatchBool (is_refusal s) ((self.old.share ≤ self.new.share) × (self.new.share ≤ self.old.share + 1)) (self.new.share ≡ self.old.share + 1)) }
+        ensures share { MatchResult result (λ _. self.new.share ≡ self.old.share + 1)
+            (λ s. MatchBool (is_refusal s) ((self.old.share ≤ self.new.share) × (self.new.share ≤ self.old.share + 1)) (self.new.share ≡ self.old.share + 1)) }
         ensures grant { IfOk result (λ g. (g.txn ≡ txn) × (g.node ≡ node) × (is_at_least g.mode mode ≡ true)) }
-        ensures step { (answer : AnAnswer) × (told : Notices) × IsServed (Lock txn node mode) answer told self.new.served_at × Gives txn node mode answer result × (is_refused answer ≡ false → AreWoken (Lock txn node mode) told self.new.woken) }
+        ensures step { (answer : AnAnswer) × (told : Notices) × IsServed (Lock txn node mode) answer told self.new.served_at
+            × Gives txn node mode answer result × (is_refused answer ≡ false → AreWoken (Lock txn node mode) told self.new.woken) }
         ensures count { N.opening + self.new.share ≤ self.new.served_at }
     {
         self.notices.clear();

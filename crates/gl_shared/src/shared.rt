@@ -55,7 +55,8 @@ fn cut_shares<N: Naming>(
 fn watch<N: Naming>(writer: &mut BoardWriter, line: &Line) -> Result<Watcher<N>, AllocError>
     requires of { IsOf N.book N.detect N.first line.now }
     requires tie { writer.old.desk.place.me.0.client ≡ Some (tie_of line.now) }
-    ensures kept { (writer.new.desk.place.me.0.client ≡ writer.old.desk.place.me.0.client) × (writer.new.desk.shown ≡ writer.old.desk.shown) × (writer.new.log ≡ writer.old.log) × (writer.new.behind ≡ writer.old.behind) }
+    ensures kept { (writer.new.desk.place.me.0.client ≡ writer.old.desk.place.me.0.client) × (writer.new.desk.shown ≡ writer.old.desk.shown)
+        × (writer.new.log ≡ writer.old.log) × (writer.new.behind ≡ writer.old.behind) }
     ensures watcher { IfOk result (λ w. w ≡ line.now.list) }
 {
     let last = line.again()?;
@@ -77,7 +78,8 @@ fn watch_all<N: Naming>(
 ) -> Result<Vec<Watcher<N>>, AllocError>
     requires of { IsOf N.book N.detect N.first line.now }
     requires tie { writer.old.desk.place.me.0.client ≡ Some (tie_of line.now) }
-    ensures kept { (writer.new.desk.place.me.0.client ≡ writer.old.desk.place.me.0.client) × (writer.new.desk.shown ≡ writer.old.desk.shown) × (writer.new.log ≡ writer.old.log) × (writer.new.behind ≡ writer.old.behind) }
+    ensures kept { (writer.new.desk.place.me.0.client ≡ writer.old.desk.place.me.0.client) × (writer.new.desk.shown ≡ writer.old.desk.shown)
+        × (writer.new.log ≡ writer.old.log) × (writer.new.behind ≡ writer.old.behind) }
     ensures watchers { IfOk result (λ v. (vec_len v ≡ count) × All (λ w. w ≡ line.now.list) v.items) }
 {
     let mut watchers = Vec::new(alloc);

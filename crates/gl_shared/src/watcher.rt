@@ -32,7 +32,8 @@ impl<N: Naming> Model for Watcher<N> {
 
     ghost view = { λ w. w.last.list };
 
-    ghost invariant = { λ w. IsOf N.book N.detect N.first w.last × IsSomeAnd w.reader (λ r. r.place.me.0.client ≡ Some (record { head = head_of N.book; detect = N.detect })) };
+    ghost invariant = { λ w. IsOf N.book N.detect N.first w.last
+        × IsSomeAnd w.reader (λ r. r.place.me.0.client ≡ Some (record { head = head_of N.book; detect = N.detect })) };
 }
 
 impl<N: Naming> Watcher<N> {

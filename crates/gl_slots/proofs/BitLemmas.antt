@@ -1,9 +1,13 @@
 -- Bits of numbers: union, intersection, one bit more or less, the lowest bit.
-use Rattle.std.proofs.Common.{◌≡◌, ◌≢◌, ℕ, zero, suc, ◌+◌, ◌-◌, ◌*◌, ◌/◌, ◌%◌, ◌^◌, ◌<◌, ◌≤◌, Bool, true, false, cond, not, min, ltb, ◌&&◌, ◌||◌, ◌==◌, bit_and, bit_or, ◌⊎◌, ⊎_elim, inl, inr, sym, ap, ◌∙◌, pow-suc, mod-lt, arith}
+use Rattle.std.proofs.Common.{◌≡◌, ◌≢◌, ℕ, zero, suc, ◌+◌, ◌-◌, ◌*◌, ◌/◌, ◌%◌, ◌^◌, ◌<◌, ◌≤◌, Bool, true, false, cond, not, min, ltb, ◌&&◌, ◌||◌}
+use Rattle.std.proofs.Common.{◌==◌, bit_and, bit_or, ◌⊎◌, ⊎_elim, inl, inr, sym, ap, ◌∙◌, pow-suc, mod-lt, arith}
 use Rattle.std.specs.Int.{bit_at, bit_not, w128}
 use Rattle.std.proofs.Math.Pow.{pow-lt}
 use Rattle.std.proofs.lemmas.Nat.{and_le_l, div-add-mod', one_shl, pow_pos}
-use Rattle.std.proofs.lemmas.Nat.Bits.{bit_at-suc, bit_at_lowest, bit_at_not, bit_at-zero, bit_at-lt, bit_at_and, bit_at_or, bit_at_above, bit_at_set_same, bit_at_set_other, bit_at_clear_same, bit_at_clear_other, bit_at_ones, bit_at_ones_above, bit_at-pow_same, bit_at-pow_other, bit_at_cat_low, bit_at_cat_high, and_pow, same_from_bits, same_from_bits_below}
+use Rattle.std.proofs.lemmas.Nat.Bits.{bit_at-suc, bit_at_lowest, bit_at_not, bit_at-zero, bit_at-lt, bit_at_and, bit_at_or, bit_at_above}
+use Rattle.std.proofs.lemmas.Nat.Bits.{bit_at_set_same, bit_at_set_other, bit_at_clear_same, bit_at_clear_other, bit_at_ones, bit_at_ones_above}
+use Rattle.std.proofs.lemmas.Nat.Bits.{bit_at-pow_same, bit_at-pow_other, bit_at_cat_low, bit_at_cat_high, and_pow, same_from_bits}
+use Rattle.std.proofs.lemmas.Nat.Bits.{same_from_bits_below}
 use Rattle.std.proofs.lemmas.Bool.{cases_lt, cases_order}
 use Rattle.std.proofs.lemmas.Bool.Decides.{nat_tests}
 use Rattle.gl_slots.specs.Bits.{in_bits, bits_below}
@@ -66,8 +70,10 @@ less set after k u same other = grind (arith, nat_tests)
 pub in_bits-set : (set k : ℕ) → k < 128 → (u : ℕ) → in_bits (bit_or set (1 * 2 ^ k % 2 ^ 128)) u ≡ (in_bits set u || (u == k))
 in_bits-set set k low u = more set _ k u (bit_at_set_same w128 set k low) (bit_at_set_other w128 set k low u)
 
-pub in_bits-clear : (set k : ℕ) → set < 2 ^ 128 → k < 128 → (u : ℕ) → in_bits (bit_and set (bit_not w128 (1 * 2 ^ k % 2 ^ 128))) u ≡ (in_bits set u && not (u == k))
-in_bits-clear set k small low u = less set cleared k u (bit_at_clear_same w128 set k low) (⊎_elim (λ within. bit_at_clear_other w128 set k low u within) (λ above ne. outside above) (cases_lt u 128))
+pub in_bits-clear : (set k : ℕ) → set < 2 ^ 128 → k < 128 → (u : ℕ)
+    → in_bits (bit_and set (bit_not w128 (1 * 2 ^ k % 2 ^ 128))) u ≡ (in_bits set u && not (u == k))
+in_bits-clear set k small low u = less set cleared k u (bit_at_clear_same w128 set k low)
+    (⊎_elim (λ within. bit_at_clear_other w128 set k low u within) (λ above ne. outside above) (cases_lt u 128))
   where
     cleared : ℕ
     cleared = bit_and set (bit_not w128 (1 * 2 ^ k % 2 ^ 128))
@@ -97,7 +103,8 @@ in_bits-ones k u low = ap (λ x. x == 1) (bit_at_ones k u low)
 
 -- what `set & (1 << k) != 0` tests
 pub in_bits-test : (set k : ℕ) → k < 128 → not (bit_and set (1 * 2 ^ k % 2 ^ 128) == 0) ≡ in_bits set k
-in_bits-test set k low = ap (λ p. not (bit_and set p == 0)) (one_shl k 128 low) ∙ ap (λ n. not (n == 0)) (and_pow set k) ∙ by (bit_at set k) (2 ^ k) (bit_at-lt set k) (pow_pos k)
+in_bits-test set k low = ap (λ p. not (bit_and set p == 0)) (one_shl k 128 low) ∙ ap (λ n. not (n == 0)) (and_pow set k)
+    ∙ by (bit_at set k) (2 ^ k) (bit_at-lt set k) (pow_pos k)
   where
     by : (b p : ℕ) → b < 2 → 0 < p → not (b * p == 0) ≡ (b == 1)
     by zero p small above = let e : 0 * p ≡ 0 = omega arith in ap (λ n. not (n == 0)) e

@@ -47,19 +47,22 @@ same-filtered p p' a (suc n) same =
     let r : filter p (range_with_len (a + 1) n) ≡ filter p' (range_with_len (a + 1) n) = same-filtered p p' (a + 1) n (λ u le. same u (omega arith)) in
     grind arith
 
-first-filtered : (p p' : ℕ → Bool) (a n k : ℕ) → a ≤ k → k < a + n → p k ≡ true → ((u : ℕ) → u < k → p u ≡ false) → ((u : ℕ) → p' u ≡ (p u && not (u == k))) → filter p (range_with_len a n) ≡ k ∷ filter p' (range_with_len a n)
+first-filtered : (p p' : ℕ → Bool) (a n k : ℕ) → a ≤ k → k < a + n → p k ≡ true → ((u : ℕ) → u < k → p u ≡ false)
+    → ((u : ℕ) → p' u ≡ (p u && not (u == k))) → filter p (range_with_len a n) ≡ k ∷ filter p' (range_with_len a n)
 first-filtered p p' a zero k low high has none left = absurd (omega arith)
 first-filtered p p' a (suc n) k low high has none left =
     ⊎_elim
     (λ e.
     let h : p a ≡ true = ap p e ∙ has in
     let g : p' a ≡ false = gone a k (p a) (p' a) (left a) e in
-    let r : filter p (range_with_len (a + 1) n) ≡ filter p' (range_with_len (a + 1) n) = same-filtered p p' (a + 1) n (λ u le. kept u k (p u) (p' u) (left u) (omega arith)) in
+    let r : filter p (range_with_len (a + 1) n) ≡ filter p' (range_with_len (a + 1) n) =
+    same-filtered p p' (a + 1) n (λ u le. kept u k (p u) (p' u) (left u) (omega arith)) in
     grind arith)
     (λ ne.
     let h : p a ≡ false = none a (omega arith) in
     let g : p' a ≡ false = absent (p a) (p' a) (a == k) (left a) h in
-    let r : filter p (range_with_len (a + 1) n) ≡ k ∷ filter p' (range_with_len (a + 1) n) = first-filtered p p' (a + 1) n k (omega arith) (omega arith) has none left in
+    let r : filter p (range_with_len (a + 1) n) ≡ k ∷ filter p' (range_with_len (a + 1) n) =
+    first-filtered p p' (a + 1) n k (omega arith) (omega arith) has none left in
     grind arith)
     (cases_eq a k)
   where

@@ -25,7 +25,8 @@ use Rattle.gl_model.specs.declared.txn.Status.{Status}
 use Rattle.gl_model.specs.declared.txn.TxnId.{TxnId}
 use Rattle.gl_model.specs.declared.answers.Detect.TheVariants.{ByWatcher}
 
--- a table: the graph, the headers by node, the transactions by slot with their lists, the way of detection, whom a deadlock takes, how many began, and the last deadlock of which a victim fell
+-- a table: the graph, the headers by node, the transactions by slot with their lists, the way of detection, whom a deadlock takes, how many began,
+-- and the last deadlock of which a victim fell
 pub record TableView : Type 0 where
   pub graph : View
   pub headers : Entries
@@ -55,7 +56,8 @@ state_of v =
 abbrev pub entry_at : TableView → ℕ → NodeId → Option Entry
 entry_at v t n = option_map_or (λ es. lookup (same_node n) es) (slice_get v.lists t) None
 
--- the lists agree with the state: each has exactly the nodes that its transaction holds or waits for, with the mode that is held and the exact count of held children
+-- the lists agree with the state: each has exactly the nodes that its transaction holds or waits for, with the mode that is held and the exact count
+-- of held children
 pub record ListsAgree (v : TableView) : Type 0 where
   pub listed : (t : ℕ) (n : NodeId) → is_some (entry_at v t n) ≡ (holds (members (state_of v) n) t || is_waiting_at (state_of v) t n)
   pub modes : (t : ℕ) (n : NodeId) → mode_in (entry_at v t n) ≡ (state_of v).held t n
@@ -89,7 +91,8 @@ rows_of v t = map row_of (get_or v.lists t [])
 abbrev pub is_row_of : NodeId → LockRow → Bool
 is_row_of n r = same_node n r.node
 
--- the rows are the locks of the slot in the model: each node that it holds or waits for has one row, with the mode that is held and the exact count of held children, and no other node has one
+-- the rows are the locks of the slot in the model: each node that it holds or waits for has one row, with the mode that is held and the exact count
+-- of held children, and no other node has one
 pub record AreRowsOf (s : State) (t : ℕ) (rows : List LockRow) : Type 0 where
   pub nodes : (n : NodeId) → list_any (is_row_of n) rows ≡ (holds (members s n) t || is_waiting_at s t n)
   pub once : IsDistinct same_node (map (λ (r : LockRow). r.node) rows)

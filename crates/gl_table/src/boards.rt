@@ -74,7 +74,8 @@ fn show_waiter(headers: &Headers, seats: &Seats, slot: Slot, rows: &mut [Bits; S
     requires none { get_or rows.old slot no_bits ≡ no_bits }
     ensures len { length rows.new ≡ length rows.old }
     ensures own { get_or rows.new slot no_bits ≡ bits_of (waits_for (shown headers.now.entries seats.now.items 0) slot) }
-    ensures rows { (t : ℕ) → (get_or rows.new t no_bits ≡ get_or rows.old t no_bits) ⊎ (get_or rows.new t no_bits ≡ bits_of (waits_for (shown headers.now.entries seats.now.items 0) t)) }
+    ensures rows { (t : ℕ) → (get_or rows.new t no_bits ≡ get_or rows.old t no_bits)
+        ⊎ (get_or rows.new t no_bits ≡ bits_of (waits_for (shown headers.now.entries seats.now.items 0) t)) }
 {
     let Some((node, wanted)) = wait_of(seats, slot) else {
         return;
@@ -101,7 +102,8 @@ fn wait_of(seats: &Seats, slot: Slot) -> Option<(NodeId, Mode)>
 /// who were passed. A slot's first place counts.
 fn show_queue(headers: &Headers, seats: &[Option<Seat>], node: NodeId, rows: &mut [Bits; SLOTS])
     ensures len { length rows.new ≡ length rows.old }
-    ensures rows { (t : ℕ) → (get_or rows.new t no_bits ≡ get_or rows.old t no_bits) ⊎ (get_or rows.new t no_bits ≡ bits_of (waits_for (shown headers.now.entries seats.now 0) t)) }
+    ensures rows { (t : ℕ) → (get_or rows.new t no_bits ≡ get_or rows.old t no_bits)
+        ⊎ (get_or rows.new t no_bits ≡ bits_of (waits_for (shown headers.now.entries seats.now 0) t)) }
 {
     let Some(header) = headers.get(node) else {
         return;
@@ -174,7 +176,8 @@ impl Ages for Waits<'_> {
 /// Whom a slot waits for that waits on this node for this mode.
 fn row(headers: &Headers, slot: Slot, node: NodeId, wanted: Mode) -> Slots
     requires below { slot < most_slots }
-    ensures { (u : ℕ) → has_slot result u ≡ (not (slot == u) && (not (are_compatible wanted (held_of headers.now.entries u node)) || is_ahead (queue_of headers.now.entries node) slot u)) }
+    ensures { (u : ℕ) → has_slot result u ≡ (not (slot == u)
+        && (not (are_compatible wanted (held_of headers.now.entries u node)) || is_ahead (queue_of headers.now.entries node) slot u)) }
 {
     headers.waits_for(slot, node, wanted)
 }

@@ -173,13 +173,17 @@ impl Ledger {
         requires orderly { IsOrderly (state_in graph.now self.old) }
         requires holds { holds (members (state_in graph.now self.old) node) slot ≡ true }
         requires no_wait { is_among_waiters slot ((state_in graph.now self.old).queue node) ≡ false }
-        requires agree { (u : ℕ) → is_among_waiters u ((state_in graph.now self.old).queue node) ≡ true → Agrees (state_in graph.now self.old) self.old.lists.items u }
-        requires count { (u : ℕ) → is_among_waiters u ((state_in graph.now self.old).queue node) ≡ true → CountsHeld (state_in graph.now self.old) self.old.lists.items u }
+        requires agree { (u : ℕ) → is_among_waiters u ((state_in graph.now self.old).queue node) ≡ true
+            → Agrees (state_in graph.now self.old) self.old.lists.items u }
+        requires count { (u : ℕ) → is_among_waiters u ((state_in graph.now self.old).queue node) ≡ true
+            → CountsHeld (state_in graph.now self.old) self.old.lists.items u }
         requires tell { CanTell told.old.items (λ u. is_among_waiters u ((state_in graph.now self.old).queue node)) }
         ensures sound { AreSound self.new }
         ensures state { state_in graph.now self.new ≡ unlocked (state_in graph.now self.old) slot node }
-        ensures lists { WakesLists self.old.lists.items node (parents_of (graph_of graph.now) node) (front_at (with_grant (state_in graph.now self.old) slot node NL) node) self.new.lists.items }
-        ensures tells { WakesTold (state_in graph.now self.old).txns node (front_at (with_grant (state_in graph.now self.old) slot node NL) node) told.old.items told.new.items }
+        ensures lists { WakesLists self.old.lists.items node (parents_of (graph_of graph.now) node)
+            (front_at (with_grant (state_in graph.now self.old) slot node NL) node) self.new.lists.items }
+        ensures tells { WakesTold (state_in graph.now self.old).txns node
+            (front_at (with_grant (state_in graph.now self.old) slot node NL) node) told.old.items told.new.items }
     {
         graph.law();
         self.headers.drop_grant(slot, node, granted);
@@ -199,14 +203,20 @@ impl Ledger {
         requires sound { AreSound self.old }
         requires orderly { IsOrderly (state_in graph.now self.old) }
         requires waits { is_waiting_at (state_in graph.now self.old) slot node ≡ true }
-        requires agree { (u : ℕ) → is_among_waiters u ((state_in graph.now self.old).queue node) ≡ true → Agrees (state_in graph.now self.old) self.old.lists.items u }
-        requires count { (u : ℕ) → is_among_waiters u ((state_in graph.now self.old).queue node) ≡ true → CountsHeld (state_in graph.now self.old) self.old.lists.items u }
+        requires agree { (u : ℕ) → is_among_waiters u ((state_in graph.now self.old).queue node) ≡ true
+            → Agrees (state_in graph.now self.old) self.old.lists.items u }
+        requires count { (u : ℕ) → is_among_waiters u ((state_in graph.now self.old).queue node) ≡ true
+            → CountsHeld (state_in graph.now self.old) self.old.lists.items u }
         requires by_slot { IsBySlot told.old.items }
-        requires untold { (u : ℕ) → is_among_waiters u ((state_in graph.now self.old).queue node) ≡ true → (u == slot) ≡ false → notices_in told.old.items u ≡ None }
+        requires untold { (u : ℕ) → is_among_waiters u ((state_in graph.now self.old).queue node) ≡ true → (u == slot) ≡ false
+            → notices_in told.old.items u ≡ None }
         ensures sound { AreSound self.new }
-        ensures state { state_in graph.now self.new ≡ pumped (without_wait (state_in graph.now self.old) slot status) (is_waiting_at (state_in graph.now self.old) slot) }
-        ensures lists { WakesLists self.old.lists.items node (parents_of (graph_of graph.now) node) (front_at (without_wait (state_in graph.now self.old) slot status) node) self.new.lists.items }
-        ensures tells { WakesTold (state_in graph.now self.old).txns node (front_at (without_wait (state_in graph.now self.old) slot status) node) told.old.items told.new.items }
+        ensures state { state_in graph.now self.new ≡ pumped (without_wait (state_in graph.now self.old) slot status)
+            (is_waiting_at (state_in graph.now self.old) slot) }
+        ensures lists { WakesLists self.old.lists.items node (parents_of (graph_of graph.now) node)
+            (front_at (without_wait (state_in graph.now self.old) slot status) node) self.new.lists.items }
+        ensures tells { WakesTold (state_in graph.now self.old).txns node
+            (front_at (without_wait (state_in graph.now self.old) slot status) node) told.old.items told.new.items }
     {
         graph.law();
         let mut granted = GrantList::new();
@@ -227,7 +237,8 @@ impl Ledger {
         requires can { CanEnd (books_of self.old.seats self.old.lists.items told.old.items) granted.now }
         requires hold { (u : ℕ) → is_among_waiters u granted.now ≡ true → CanHold self.old.lists.items u node (parents_of (graph_of graph.now) node) }
         ensures headers { self.new.headers.entries ≡ self.old.headers.entries }
-        ensures wakes { Wakes (books_of self.old.seats self.old.lists.items told.old.items) node (parents_of (graph_of graph.now) node) granted.now (books_of self.new.seats self.new.lists.items told.new.items) }
+        ensures wakes { Wakes (books_of self.old.seats self.old.lists.items told.old.items) node (parents_of (graph_of graph.now) node) granted.now
+            (books_of self.new.seats self.new.lists.items told.new.items) }
     {
         if granted.is_empty() {
             return; // As mostly: the parents are looked up only where somebody is granted.

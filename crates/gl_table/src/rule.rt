@@ -43,7 +43,8 @@ pub(crate) fn check_writable(list: &LockList, parents: &[NodeId]) -> Result<(), 
 
 /// Whether one of these is held in IS or greater, if there are any.
 fn check_readable(list: &LockList, parents: &[NodeId]) -> Result<(), Refusal>
-    ensures { result ≡ verdict (if no_parents parents.now || list_any (λ p. is_at_least (mode_of list.now p) IS) parents.now then None else first_of_all parents.now) }
+    ensures { result ≡ verdict (if no_parents parents.now || list_any (λ p. is_at_least (mode_of list.now p) IS) parents.now then None
+        else first_of_all parents.now) }
 {
     match parents.first() {
         Some(first) => {

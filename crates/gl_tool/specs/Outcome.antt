@@ -52,7 +52,8 @@ PutsCount count held holds (Ok _) = HasCounted count held holds
 PutsCount count held holds (Err fault) = (fault ≡ Run Write) × HasBegunCount count held holds
 
 -- the words ask for a crew; it did all its rounds, and what it counted was written so far; nothing was read
-abbrev pub CountsAsAsked : (ℕ → Option (List ℕ) → Option (List ℕ) → Type 0) → List Text → Option (List ℕ) → Option (List ℕ) → Option (List ℕ) → Option (List ℕ) → Type 0
+abbrev pub CountsAsAsked : (ℕ → Option (List ℕ) → Option (List ℕ) → Type 0) → List Text → Option (List ℕ) → Option (List ℕ) → Option (List ℕ)
+    → Option (List ℕ) → Type 0
 CountsAsAsked Puts words had has held holds =
     (sessions : ℕ) × (rounds : ℕ) × (detect : Detect) × (victims : Victims) × AsksFor words (asked.Crew sessions rounds detect victims) × (has ≡ had)
     × ((count : ℕ) × IsCount detect sessions rounds count × Puts count held holds)
@@ -60,7 +61,8 @@ CountsAsAsked Puts words had has held holds =
 -- the words ask for a crew, and it stopped; nothing was read or written
 abbrev pub CrewStops : List Text → Option (List ℕ) → Option (List ℕ) → Option (List ℕ) → Option (List ℕ) → Type 0
 CrewStops words had has held holds =
-    (sessions : ℕ) × (rounds : ℕ) × (detect : Detect) × (victims : Victims) × AsksFor words (asked.Crew sessions rounds detect victims) × (has ≡ had) × (holds ≡ held)
+    (sessions : ℕ) × (rounds : ℕ) × (detect : Detect) × (victims : Victims) × AsksFor words (asked.Crew sessions rounds detect victims) × (has ≡ had)
+    × (holds ≡ held)
 
 -- what the words ask for was done
 abbrev pub Ends : List Text → Option (List ℕ) → Option (List ℕ) → Option (List ℕ) → Option (List ℕ) → Type 0

@@ -44,7 +44,8 @@ pub fn program<H: Threads + Wait + Sync, S: AsStr, R: Read, W: Write, E: Write>(
     faults: &mut E,
 ) -> u8
     ensures done { result ≡ 0 → Ends (map S.text words.now) (R.remaining reader.old) (R.remaining reader.new) (W.contents writer.old) (W.contents writer.new) }
-    ensures fault { result ≡ 1 → Stops (map S.text words.now) (R.remaining reader.old) (R.remaining reader.new) (W.contents writer.old) (W.contents writer.new) }
+    ensures fault { result ≡ 1 → Stops (map S.text words.now) (R.remaining reader.old) (R.remaining reader.new) (W.contents writer.old)
+        (W.contents writer.new) }
     ensures bad_words { result ≡ 2 → (R.remaining reader.new ≡ R.remaining reader.old) × (W.contents writer.new ≡ W.contents writer.old) }
     ensures no_plan { HasNoPlan (map S.text words.now) → result ≡ 2 }
     ensures bound { result ≤ 2 }

@@ -22,7 +22,9 @@ pub empty_rows : (rows : List Slots) → ((s u : ℕ) → s < length rows → ro
 empty_rows rows empty s u = false_from_ne_true (row_edge rows s u) (λ h. cc (empty s u (row_edge-inside rows s u h)))
 
 pub row_edge-replicate : (n s u : ℕ) → row_edge (replicate n no_slots) s u ≡ false
-row_edge-replicate n = empty_rows (replicate n no_slots) (λ s u low. let e = length-replicate {A = Slots} n no_slots in let inside : s < n = omega arith in empty_row (replicate n no_slots) s u (get_or-replicate n s no_slots no_slots inside))
+row_edge-replicate n = empty_rows (replicate n no_slots)
+    (λ s u low. let e = length-replicate {A = Slots} n no_slots in let inside : s < n = omega arith in
+    empty_row (replicate n no_slots) s u (get_or-replicate n s no_slots no_slots inside))
 
 -- a row that is read, whatever a read past the end would give
 pub row_edge-read : (rows : List Slots) (i u : ℕ) (d : Slots) → i < length rows → has_slot (get_or rows i d) u ≡ row_edge rows i u
@@ -55,12 +57,14 @@ module _ (n : ℕ) (edge : ℕ → ℕ → Bool) (low : (s u : ℕ) → edge s u
 
   past : (s u : ℕ) → n ≤ s → row s u ≡ false
   unfolding row rows
-  past s u far = ap (λ set. has_bit set u) (get_or_past rows s no_bits (let e = length-map-range_with_len (λ t. bits_of (edge t)) 0 n in omega arith)) ∙ no_bits-none u
+  past s u far = ap (λ set. has_bit set u)
+      (get_or_past rows s no_bits (let e = length-map-range_with_len (λ t. bits_of (edge t)) 0 n in omega arith)) ∙ no_bits-none u
 
   pub shown_rows-edge : (s u : ℕ) → has_bit (get_or (map (λ t. bits_of (edge t)) (range_with_len 0 n)) s no_bits) u ≡ edge s u
   unfolding row rows
   shown_rows-edge s u =
       ⊎_elim
-      (λ h. ⊎_elim (λ k. inside s u h ∙ has_bit-bits_of (edge s) u k) (λ far. outside s u (inside s u h ∙ bits_of-above (edge s) u far) (λ near. let k = near.1 in omega arith)) (cases_lt u most_slots))
+      (λ h. ⊎_elim (λ k. inside s u h ∙ has_bit-bits_of (edge s) u k)
+      (λ far. outside s u (inside s u h ∙ bits_of-above (edge s) u far) (λ near. let k = near.1 in omega arith)) (cases_lt u most_slots))
       (λ far. outside s u (past s u far) (λ near. let k = near.0 in omega arith))
       (cases_lt s n)

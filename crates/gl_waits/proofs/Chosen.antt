@@ -54,7 +54,8 @@ module _ (set left left' : Slots) (age : ℕ → ℕ) (slot : ℕ) (lowest : IsL
       record {
         low = lowest.within;
         member = within slot lowest.member;
-        greatest = λ u h out. ⊎_elim (λ no. let most = best.greatest u h no in omega (arith, most, less)) (λ is. let e = ap age is in omega (arith, e)) (gone u out);
+        greatest = λ u h out. ⊎_elim (λ no. let most = best.greatest u h no in omega (arith, most, less))
+            (λ is. let e = ap age is in omega (arith, e)) (gone u out);
         first = λ u h out e. ⊎_elim (λ no. let most = best.greatest u h no in omega (arith, most, less, e)) (λ is. omega (arith, is)) (gone u out);
         before = λ u h. (still u h).1;
       }

@@ -68,7 +68,8 @@ module _ (edge new : ℕ → ℕ → Bool) (t : ℕ) (others : (x y : ℕ) → n
   at_one-no_cycle none free x v on =
       ⊎_elim
       (λ is. free v (subst (λ y. IsOnCycleOf new y v) is on))
-      (λ nx. ⊎_elim (λ is. free x (record { there = subst (λ y. Reaches new y x) is on.back; back = subst (Reaches new x) is on.there })) (λ nv. apart nx nv) (cases_eq v t))
+      (λ nx. ⊎_elim (λ is. free x (record { there = subst (λ y. Reaches new y x) is on.back; back = subst (Reaches new x) is on.there }))
+      (λ nv. apart nx nv) (cases_eq v t))
       (cases_eq x t)
     where
       back_too : IsWalk edge x on.there.0 v → x ≢ t → v ≢ t → ⊥
@@ -80,4 +81,5 @@ module _ (edge new : ℕ → ℕ → Bool) (t : ℕ) (others : (x y : ℕ) → n
 
       apart : x ≢ t → v ≢ t → ⊥
       apart nx nv =
-          ⊎_elim (λ w. back_too w nx nv) (λ r. free x (record { there = reaches_join new t v x r.1 on.back; back = r.0 })) (past x v on.there.0 nx nv on.there.1)
+          ⊎_elim (λ w. back_too w nx nv) (λ r. free x (record { there = reaches_join new t v x r.1 on.back; back = r.0 }))
+          (past x v on.there.0 nx nv on.there.1)

@@ -12,15 +12,18 @@ pub reaches_join : (edge : ℕ → ℕ → Bool) (a b c : ℕ) → Reaches edge 
 reaches_join edge a b c h k = (h.0 ++ b ∷ k.0, walk_join edge a b c h.0 k.0 h.1 k.1)
 
 -- a set that has what one step from a reaches, and what one step from a member reaches, has all that a reaches
-walk_inside : (edge : ℕ → ℕ → Bool) (member : ℕ → Bool) → ((x y : ℕ) → member x ≡ true → edge x y ≡ true → member y ≡ true) → (a u : ℕ) (way : List ℕ) → ((y : ℕ) → edge a y ≡ true → member y ≡ true) → IsWalk edge a way u → member u ≡ true
+walk_inside : (edge : ℕ → ℕ → Bool) (member : ℕ → Bool) → ((x y : ℕ) → member x ≡ true → edge x y ≡ true → member y ≡ true)
+    → (a u : ℕ) (way : List ℕ) → ((y : ℕ) → edge a y ≡ true → member y ≡ true) → IsWalk edge a way u → member u ≡ true
 walk_inside edge member closed a u [] first h = first u h
 walk_inside edge member closed a u (v ∷ way) first h = walk_inside edge member closed v u way (λ y. closed v y (first v h.0)) h.1
 
-pub reaches_inside : (edge : ℕ → ℕ → Bool) (member : ℕ → Bool) → ((x y : ℕ) → member x ≡ true → edge x y ≡ true → member y ≡ true) → (a u : ℕ) → ((y : ℕ) → edge a y ≡ true → member y ≡ true) → Reaches edge a u → member u ≡ true
+pub reaches_inside : (edge : ℕ → ℕ → Bool) (member : ℕ → Bool) → ((x y : ℕ) → member x ≡ true → edge x y ≡ true → member y ≡ true) → (a u : ℕ)
+    → ((y : ℕ) → edge a y ≡ true → member y ≡ true) → Reaches edge a u → member u ≡ true
 reaches_inside edge member closed a u first r = walk_inside edge member closed a u r.0 first r.1
 
 -- where each step from a member is one of another relation, and no step leaves the members, so is each walk from a member
-pub reaches_among : (edge more : ℕ → ℕ → Bool) (member : ℕ → Bool) → ((x y : ℕ) → member x ≡ true → edge x y ≡ true → member y ≡ true) → ((x y : ℕ) → member x ≡ true → edge x y ≡ true → more x y ≡ true) → (a u : ℕ) → member a ≡ true → Reaches edge a u → Reaches more a u
+pub reaches_among : (edge more : ℕ → ℕ → Bool) (member : ℕ → Bool) → ((x y : ℕ) → member x ≡ true → edge x y ≡ true → member y ≡ true)
+    → ((x y : ℕ) → member x ≡ true → edge x y ≡ true → more x y ≡ true) → (a u : ℕ) → member a ≡ true → Reaches edge a u → Reaches more a u
 reaches_among edge more member closed sub a u inside r = (r.0, by a r.0 inside r.1)
   where
     by : (x : ℕ) (way : List ℕ) → member x ≡ true → IsWalk edge x way u → IsWalk more x way u
@@ -38,7 +41,8 @@ pub reaches_of : (member : ℕ → Bool) (edge : ℕ → ℕ → Bool) (a u : �
 reaches_of member edge = reaches_more (waits_of member edge) edge (waits_of-less member edge)
 
 -- of more members, and more waits
-pub reaches_of_more : (member member' : ℕ → Bool) (edge edge' : ℕ → ℕ → Bool) → ((x : ℕ) → member x ≡ true → member' x ≡ true) → ((x y : ℕ) → edge x y ≡ true → edge' x y ≡ true)
+pub reaches_of_more : (member member' : ℕ → Bool) (edge edge' : ℕ → ℕ → Bool) → ((x : ℕ) → member x ≡ true → member' x ≡ true)
+    → ((x y : ℕ) → edge x y ≡ true → edge' x y ≡ true)
     → (a u : ℕ) → Reaches (waits_of member edge) a u → Reaches (waits_of member' edge') a u
 reaches_of_more member member' edge edge' members steps = reaches_more (waits_of member edge) (waits_of member' edge') each
   where
@@ -46,7 +50,8 @@ reaches_of_more member member' edge edge' members steps = reaches_more (waits_of
     each x y h = let both = and_parts (member x) (edge x y) h in and_from (member' x) (edge' x y) (members x both.0) (steps x y both.1)
 
 -- where each step from a member is one of another relation, read backwards, and no step leaves the members, a walk is one backwards
-pub reaches_back : (edge back : ℕ → ℕ → Bool) (member : ℕ → Bool) → ((x y : ℕ) → member x ≡ true → edge x y ≡ true → member y ≡ true) → ((x y : ℕ) → member x ≡ true → edge x y ≡ true → back y x ≡ true) → (a u : ℕ) → member a ≡ true → Reaches edge a u → Reaches back u a
+pub reaches_back : (edge back : ℕ → ℕ → Bool) (member : ℕ → Bool) → ((x y : ℕ) → member x ≡ true → edge x y ≡ true → member y ≡ true)
+    → ((x y : ℕ) → member x ≡ true → edge x y ≡ true → back y x ≡ true) → (a u : ℕ) → member a ≡ true → Reaches edge a u → Reaches back u a
 reaches_back edge back member closed turned a u inside r = by a r.0 inside r.1
   where
     by : (x : ℕ) (way : List ℕ) → member x ≡ true → IsWalk edge x way u → Reaches back u x

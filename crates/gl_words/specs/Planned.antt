@@ -35,7 +35,8 @@ bare_app = let app = new_app (codes "gltool") in record app { top = record app.t
 abbrev pub tool_app : App
 tool_app =
     with_rule (with_rule (with_rule (with_rule (with_rule bare_app
-    (option_rule (codes "detect"))) (option_rule (codes "victims"))) (flag_rule (codes "listings"))) (option_rule (codes "crew"))) (option_rule (codes "rounds"))
+    (option_rule (codes "detect"))) (option_rule (codes "victims"))) (flag_rule (codes "listings"))) (option_rule (codes "crew")))
+    (option_rule (codes "rounds"))
 
 -- the values that clap finds in the words
 unfoldable pub rows_in : List Text → List Row
@@ -71,13 +72,15 @@ IsNumberTo most word n = IsNumeral 10 (without_leading_plus word) × (digits_val
 -- what the values of the options ask for: both numbers, and no listings, or neither number
 abbrev pub IsAsked : Option Text → Option Text → Bool → Option Text → Option Text → Asked → Type 0
 IsAsked way choice listings None None (Script choices) = IsWay way choices.detect × IsChoice choice choices.victims × (choices.listings ≡ listings)
-IsAsked way choice false (Some crew) (Some rounds) (Crew s r detect victims) = IsNumberTo 128 crew s × IsNumberTo 100000 rounds r × IsWay way detect × IsChoice choice victims
+IsAsked way choice false (Some crew) (Some rounds) (Crew s r detect victims) =
+    IsNumberTo 128 crew s × IsNumberTo 100000 rounds r × IsWay way detect × IsChoice choice victims
 IsAsked way choice listings crew rounds asked = ⊥
 
 -- what the values that clap found ask for
 abbrev pub IsAskedIn : List Row → Asked → Type 0
 IsAskedIn rows asked =
-    IsAsked (first_of (codes "detect") rows) (first_of (codes "victims") rows) (is_set (first_of (codes "listings") rows)) (first_of (codes "crew") rows) (first_of (codes "rounds") rows) asked
+    IsAsked (first_of (codes "detect") rows) (first_of (codes "victims") rows) (is_set (first_of (codes "listings") rows))
+    (first_of (codes "crew") rows) (first_of (codes "rounds") rows) asked
 
 -- clap takes the words, and they ask for this by what it finds in them
 abbrev pub AsksFor : List Text → Asked → Type 0

@@ -123,7 +123,8 @@ fn asked_of(
     rounds: Option<&str>,
 ) -> Option<Asked>
     ensures some { IfSome result (λ asked. IsAsked (text detect.entry) (text victims.entry) listings (text crew.entry) (text rounds.entry) asked) }
-    ensures none { IfNone result ((asked : WhatIsAsked) → ¬ (IsAsked (text detect.entry) (text victims.entry) listings (text crew.entry) (text rounds.entry) asked)) }
+    ensures none { IfNone result ((asked : WhatIsAsked)
+        → ¬ (IsAsked (text detect.entry) (text victims.entry) listings (text crew.entry) (text rounds.entry) asked)) }
 {
     let detect = way(detect)?;
     let victims = choice(victims)?;

@@ -1,6 +1,7 @@
 -- Boards on which nobody waits, and lists of boards of rising epochs.
 use Rattle.gl_slots.specs.Limit.{most_slots}
-use Rattle.std.proofs.Common.{◌≡◌, ◌≤◌, ◌⊎◌, ⊎_elim, ℕ, zero, suc, Bool, true, false, List, [], ◌∷◌, ◌++◌, replicate, get_or, ap, sym, ◌∙◌, refl, subst, arith, le_trans}
+use Rattle.std.proofs.Common.{◌≡◌, ◌≤◌, ◌⊎◌, ⊎_elim, ℕ, zero, suc, Bool, true, false, List, [], ◌∷◌, ◌++◌, replicate, get_or, ap, sym, ◌∙◌, refl}
+use Rattle.std.proofs.Common.{subst, arith, le_trans}
 use Rattle.gl_waits.specs.declared.board.Board.{Board}
 use Rattle.gl_waits.specs.Boards.{board_edge, idle_board}
 use Rattle.gl_slots.specs.Slots.{Bits, has_bit, no_bits}
@@ -15,7 +16,8 @@ use Rattle.gl_boxes.proofs.Lists.{last_ends}
 empty_row : (s : ℕ) → get_or (replicate most_slots no_bits) s no_bits ≡ no_bits
 empty_row s = ⊎_elim
     (λ low. get_or-replicate {A = Bits} most_slots s no_bits no_bits low)
-    (λ past. get_or_past (replicate most_slots no_bits) s no_bits (let e = length-replicate {A = Bits} most_slots no_bits in omega arith)) (cases_lt s most_slots)
+    (λ past. get_or_past (replicate most_slots no_bits) s no_bits (let e = length-replicate {A = Bits} most_slots no_bits in omega arith))
+    (cases_lt s most_slots)
 
 no_walk : (edge : ℕ → ℕ → Bool) → ((s u : ℕ) → edge s u ≡ false) → (s : ℕ) (way : List ℕ) (u : ℕ) → IsWalk edge s way u → ⊥
 no_walk edge none s [] u w = cc (none s u, w)

@@ -18,7 +18,8 @@ stays-first most g w q r h =
     taken ws false h e = cc
 
 -- a waiter behind another one can be dismissed
-pub dismissed-behind : (most : ℕ) (g : Members) (q : List Waiter) (t u : ℕ) → is_ahead q t u ≡ true → front most g q ≡ [] → front most g (without_waiter t q) ≡ []
+pub dismissed-behind : (most : ℕ) (g : Members) (q : List Waiter) (t u : ℕ) → is_ahead q t u ≡ true → front most g q ≡ []
+    → front most g (without_waiter t q) ≡ []
 dismissed-behind most g [] t u a h = refl
 dismissed-behind most g (w ∷ q) t u a h =
     split (w.0 == t)

@@ -34,7 +34,8 @@ impl Manager {
         ensures caller { KeepsCaller (command.Escalate t n) (state_of self.old) (state_of self.new) }
         ensures others { StepLeavesOthers (state_of self.old) (command.Escalate t n) (said rose result) (state_of self.new) }
         ensures counted { OnOk result (self.new.accepted ≡ self.old.accepted + 1) }
-        ensures counters { self.new.counters ≡ counted (state_of self.old) (command.Escalate t n) (said rose result).0 (said rose result).1 (state_of self.new) self.old.counters }
+        ensures counters { self.new.counters ≡ counted (state_of self.old) (command.Escalate t n) (said rose result).0 (said rose result).1
+            (state_of self.new) self.old.counters }
         ensures err { OnErr result (self.new ≡ self.old) }
     {
         let mut told = Told::new();

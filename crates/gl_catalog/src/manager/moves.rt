@@ -40,7 +40,8 @@ impl Manager {
         ensures caller { KeepsCaller (command.Rekey t rec index key) (state_of self.old) (state_of self.new) }
         ensures others { StepLeavesOthers (state_of self.old) (command.Rekey t rec index key) (said done result) (state_of self.new) }
         ensures counted { OnOk result (self.new.accepted ≡ self.old.accepted + 1) }
-        ensures counters { self.new.counters ≡ counted (state_of self.old) (command.Rekey t rec index key) (said done result).0 (said done result).1 (state_of self.new) self.old.counters }
+        ensures counters { self.new.counters ≡ counted (state_of self.old) (command.Rekey t rec index key) (said done result).0 (said done result).1
+            (state_of self.new) self.old.counters }
         ensures err { OnErr result (self.new ≡ self.old) }
     {
         let mut told = Told::new();
@@ -88,7 +89,8 @@ impl Manager {
         ensures caller { KeepsCaller (command.Move t n parents.entry) (state_of self.old) (state_of self.new) }
         ensures others { StepLeavesOthers (state_of self.old) (command.Move t n parents.entry) (said done result) (state_of self.new) }
         ensures counted { OnOk result (self.new.accepted ≡ self.old.accepted + 1) }
-        ensures counters { self.new.counters ≡ counted (state_of self.old) (command.Move t n parents.entry) (said done result).0 (said done result).1 (state_of self.new) self.old.counters }
+        ensures counters { self.new.counters ≡ counted (state_of self.old) (command.Move t n parents.entry) (said done result).0 (said done result).1
+            (state_of self.new) self.old.counters }
         ensures err { OnErr result (self.new ≡ self.old) }
     {
         let mut told = Told::new();
@@ -136,7 +138,8 @@ impl Manager {
 
     /// Whether the one node is a record, and the other an index of its file.
     fn is_keyed_by(&self, rec: NodeId, index: NodeId) -> bool
-        ensures { result ≡ (is_record_shape (shape_of (state_of self.now).graph rec) && is_index_of_shape (first_parent (state_of self.now).graph rec) (shape_of (state_of self.now).graph index)) }
+        ensures { result ≡ (is_record_shape (shape_of (state_of self.now).graph rec)
+            && is_index_of_shape (first_parent (state_of self.now).graph rec) (shape_of (state_of self.now).graph index)) }
     {
         let graph = self.table.graph();
         matches!(graph.kind(rec), Some(Kind::Rec))
@@ -186,7 +189,8 @@ impl Manager {
 
     /// Whether a node may move, and could have been made under these parents.
     fn can_lie_under(&self, n: NodeId, parents: &[NodeId]) -> bool
-        ensures { result ≡ (is_movable_shape (shape_of (state_of self.now).graph n) && not (bad_parents (state_of self.now).graph (least_parents (shape_of (state_of self.now).graph n)) parents.now)) }
+        ensures { result ≡ (is_movable_shape (shape_of (state_of self.now).graph n)
+            && not (bad_parents (state_of self.now).graph (least_parents (shape_of (state_of self.now).graph n)) parents.now)) }
     {
         let graph = self.table.graph();
         match graph.kind(n) {
@@ -206,7 +210,8 @@ impl Manager {
         parents: &[NodeId],
     ) -> Result<(), Refusal>
         requires txn { lives (state_of self.now) t ≡ true }
-        ensures { result ≡ verdict (first_refusal (need_exclusive (state_of self.now) t.slot n both_given parents.now ∷ need_new_parents (state_of self.now) t.slot n parents.now ∷ [])) }
+        ensures { result ≡ verdict (first_refusal
+            (need_exclusive (state_of self.now) t.slot n both_given parents.now ∷ need_new_parents (state_of self.now) t.slot n parents.now ∷ [])) }
     {
         if self.mode(t, n) == Mode::X {
             return self.check_writable(t, parents);

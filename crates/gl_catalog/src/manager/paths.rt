@@ -6,7 +6,20 @@ ghost use Rattle.gl_graph.specs.Refusals.{first_refusal};
 ghost use Rattle.gl_catalog.specs.Counters.{grants};
 ghost use Rattle.gl_catalog.specs.Manager.{state_of};
 ghost use Rattle.gl_catalog.specs.Replies.{said};
-ghost use Rattle.gl_catalog.specs.Paths.{AsksOnce, KeepsBelow, KeepsWay, LeavesAllBut, LocksPath, goes_on, intention, missing_parent, next_ask, parent_wanted, path_tests, reaching};
+ghost use Rattle.gl_catalog.specs.Paths.{
+  AsksOnce,
+  KeepsBelow,
+  KeepsWay,
+  LeavesAllBut,
+  LocksPath,
+  goes_on,
+  intention,
+  missing_parent,
+  next_ask,
+  parent_wanted,
+  path_tests,
+  reaching,
+};
 ghost use Rattle.gl_catalog.specs.Tests.{worn};
 
 use super::Manager;

@@ -34,7 +34,8 @@ impl Manager {
         ensures deadlock { OnOk result (KeepsAccepted (command.Insert t file keys.entry) self.old self.new) }
         ensures others { StepLeavesOthers (state_of self.old) (command.Insert t file keys.entry) (said made result) (state_of self.new) }
         ensures counted { OnOk result (self.new.accepted ≡ self.old.accepted + 1) }
-        ensures counters { self.new.counters ≡ counted (state_of self.old) (command.Insert t file keys.entry) (said made result).0 (said made result).1 (state_of self.new) self.old.counters }
+        ensures counters { self.new.counters ≡ counted (state_of self.old) (command.Insert t file keys.entry) (said made result).0
+            (said made result).1 (state_of self.new) self.old.counters }
         ensures uncounted { self.new.counters ≡ self.old.counters }
         ensures err { OnErr result (self.new ≡ self.old) }
     {
@@ -57,7 +58,8 @@ impl Manager {
         ensures deadlock { OnOk result (KeepsAccepted (command.Delete t rec) self.old self.new) }
         ensures others { StepLeavesOthers (state_of self.old) (command.Delete t rec) (said done result) (state_of self.new) }
         ensures counted { OnOk result (self.new.accepted ≡ self.old.accepted + 1) }
-        ensures counters { self.new.counters ≡ counted (state_of self.old) (command.Delete t rec) (said done result).0 (said done result).1 (state_of self.new) self.old.counters }
+        ensures counters { self.new.counters ≡ counted (state_of self.old) (command.Delete t rec) (said done result).0 (said done result).1
+            (state_of self.new) self.old.counters }
         ensures err { OnErr result (self.new ≡ self.old) }
     {
         let mut told = Told::new();

@@ -231,7 +231,8 @@ impl Graph {
     fn insert(&mut self, parents: &[NodeId], body: Body) -> Result<NodeId, Refusal>
         requires births { self.old.births + 1 < 2 ^ 64 }
         requires plain { IsPlainBody body }
-        requires lawful { (key : ℕ) → IsLawfulGraph (graph_of self.old) → IsFreeKey (graph_of self.old) key → IsLawfulGraph (born_node (graph_of self.old) (record { key = key; shape = shape_in_body body; parents = parents.now })) }
+        requires lawful { (key : ℕ) → IsLawfulGraph (graph_of self.old) → IsFreeKey (graph_of self.old) key
+            → IsLawfulGraph (born_node (graph_of self.old) (record { key = key; shape = shape_in_body body; parents = parents.now })) }
         ensures made { IfOk result (λ n. IsBorn (graph_of self.old) (graph_of self.new) n (shape_in_body body) parents.now) }
         ensures memory { IfErr result (λ r. r ≡ Refusal.NoMemory) }
         ensures err { OnErr result (self.new ≡ self.old) }

@@ -104,7 +104,8 @@ rising_few lo k (x ∷ xs) h up from below =
 
 -- there is room for one more slot
 pub few_told : (xs : Told) → IsBySlot xs → length xs ≤ most_slots
-few_told xs is = let h = rising_few 0 most_slots xs (omega arith) is.rising (all_weaker (λ (x : Named). nat_lt x.0.slot most_slots) (λ (x : Named). nat_le 0 x.0.slot) xs
+few_told xs is = let h = rising_few 0 most_slots xs (omega arith) is.rising
+    (all_weaker (λ (x : Named). nat_lt x.0.slot most_slots) (λ (x : Named). nat_le 0 x.0.slot) xs
     (λ x e. grind (arith, nat_tests)) is.below) is.below in omega arith
 
 length-inserted : (xs : Told) (i : ℕ) (x : Named) → i ≤ length xs → length (insert xs i x) ≡ length xs + 1

@@ -76,7 +76,8 @@ fn lock_named(
 ) -> Result<RowLocked, RowRefusal>
     requires empty { told.old.items ≡ [] }
     requires stands { (n : ANode) → lookup (same_row row) names.old.entries ≡ Some n → is_record_shape (shape_of (state_of manager.old).graph n) ≡ true }
-    ensures locks { LocksName manager.old files.now.keys names.old.entries (record { txn = t; row = row; keys = keys.entry; mode = mode }) result told.new.items manager.new names.new.entries }
+    ensures locks { LocksName manager.old files.now.keys names.old.entries
+        (record { txn = t; row = row; keys = keys.entry; mode = mode }) result told.new.items manager.new names.new.entries }
     ensures lives { OnOk result (lives (state_of manager.old) t ≡ true) }
 {
     let Ok(entry) = names.entry(row) else {

@@ -106,7 +106,8 @@ pub rows-idle : (s : State) (t : ℕ) (xs : List Bits) → is_wait (status_of s 
 rows-idle s t xs idle none = none ∙ sym (bits_of-none (waits_for s t) (λ u low. idle_no_step s t (λ n m e. clash (ap is_wait e) idle) u))
 
 -- nothing is written yet
-pub rows-begin : (s : State) (waiting : Slots) (xs : List Bits) → ((u : ℕ) → has_slot waiting u ≡ is_wait (status_of s u)) → ((t : ℕ) → get_or xs t no_bits ≡ no_bits)
+pub rows-begin : (s : State) (waiting : Slots) (xs : List Bits) → ((u : ℕ) → has_slot waiting u ≡ is_wait (status_of s u))
+    → ((t : ℕ) → get_or xs t no_bits ≡ no_bits)
     → AreRowsBut (waits_for s) waiting xs
 rows-begin s waiting xs is none t = split (has_slot waiting t) (λ h. inr (h, none t)) (λ h. inl (rows-idle s t xs (sym (is t) ∙ h) (none t)))
 
@@ -119,13 +120,17 @@ rows-next edge left after k old xs less own kept rows t =
     (rows t)) inl (kept t)) (cases_eq t k)
 
 -- a row that is not empty was right
-pub rows-there : (edge : ℕ → ℕ → Bool) (left after : Slots) (k : ℕ) (xs : List Bits) → IsWithout left k after → (HasNoBit (get_or xs k no_bits) → ⊥) → AreRowsBut edge left xs
+pub rows-there : (edge : ℕ → ℕ → Bool) (left after : Slots) (k : ℕ) (xs : List Bits) → IsWithout left k after → (HasNoBit (get_or xs k no_bits) → ⊥)
+    → AreRowsBut edge left xs
     → AreRowsBut edge after xs
 rows-there edge left after k xs less some rows =
-    rows-next edge left after k xs xs less (⊎_elim (λ right. right) (λ none. absurd (some (λ u. subst (λ (b : Bits). has_bit b u ≡ false) (sym none.1) (no_bits-none u)))) (rows k)) (λ t. inl refl) rows
+    rows-next edge left after k xs xs less
+    (⊎_elim (λ right. right) (λ none. absurd (some (λ u. subst (λ (b : Bits). has_bit b u ≡ false) (sym none.1) (no_bits-none u)))) (rows k))
+    (λ t. inl refl) rows
 
 -- a row without slots is empty, also where it is right
-pub rows-unwritten : (edge : ℕ → ℕ → Bool) (left : Slots) (k : ℕ) (xs : List Bits) → HasNoBit (get_or xs k no_bits) → AreRowsBut edge left xs → get_or xs k no_bits ≡ no_bits
+pub rows-unwritten : (edge : ℕ → ℕ → Bool) (left : Slots) (k : ℕ) (xs : List Bits) → HasNoBit (get_or xs k no_bits) → AreRowsBut edge left xs
+    → get_or xs k no_bits ≡ no_bits
 rows-unwritten edge left k xs none rows = ⊎_elim
     (λ right. right ∙ bits_of-none (edge k) (λ u low. sym (has_bit-bits_of (edge k) u low) ∙ subst (λ (b : Bits). has_bit b u ≡ false) right (none u)))
     (λ empty. empty.1) (rows k)

@@ -65,7 +65,8 @@ impl Ledger {
 
 /// Whether the mode is none, or one that a node of this kind does not take: a record takes `S` and `X`.
 fn is_bad_mode(kind: Kind, mode: Mode) -> bool
-    ensures { (shape : Option Shape) → Some kind ≡ kind_in shape → result ≡ (same_mode mode NL || (is_record_shape shape && not (same_mode mode S || same_mode mode X))) }
+    ensures { (shape : Option Shape) → Some kind ≡ kind_in shape
+        → result ≡ (same_mode mode NL || (is_record_shape shape && not (same_mode mode S || same_mode mode X))) }
 {
     match mode {
         Mode::NL => true,

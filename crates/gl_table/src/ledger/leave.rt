@@ -48,7 +48,8 @@ pub(crate) fn end_wait(
     requires seated { slot < length seats.old.items }
     requires room { 0 < counted_by lists.old.items slot node → 0 < room_by lists.old.items slot }
     requires untold { notices_in told.old.items slot ≡ None }
-    ensures { WaitsEnd (books_of seats.old lists.old.items told.old.items) node (λ u. u == slot) as_left (λ u. why) (books_of seats.new lists.new.items told.new.items) }
+    ensures { WaitsEnd (books_of seats.old lists.old.items told.old.items) node (λ u. u == slot) as_left (λ u. why)
+        (books_of seats.new lists.new.items told.new.items) }
 {
     let age = seats.set_status(slot, Status::Active);
     lists[slot as usize].leave(node);

@@ -93,18 +93,23 @@ impl Ledger {
         requires agree { (u : ℕ) → Agrees (state_in graph.now self.old) self.old.lists.items u }
         requires slot { slot < length self.old.lists.items }
         requires newcomers { (u : ℕ) → is_among_waiters u ((state_in graph.now self.old).queue node) ≡ true → (state_in graph.now self.old).held u node ≡ NL }
-        requires stuck { list_all (λ w. not (fits slot_limit (members (state_in graph.now self.old) node) w.0 w.1)) ((state_in graph.now self.old).queue node) ≡ true }
-        requires counted { holds (members (state_in graph.now self.old) node) slot ≡ true → (q : Node) → count_by (same_node q) old.now ≤ counted_by self.old.lists.items slot q }
+        requires stuck { list_all (λ w. not (fits slot_limit (members (state_in graph.now self.old) node) w.0 w.1))
+            ((state_in graph.now self.old).queue node) ≡ true }
+        requires counted { holds (members (state_in graph.now self.old) node) slot ≡ true → (q : Node)
+            → count_by (same_node q) old.now ≤ counted_by self.old.lists.items slot q }
         requires listed { unlisted_by self.old.lists.items slot (parents_of (graph_of graph.now) node) ≡ 0 }
         requires few { (q : Node) → counted_by self.old.lists.items slot q + count_by (same_node q) (parents_of (graph_of graph.now) node) < 2 ^ 32 }
         ensures sound { AreSound self.new }
         ensures state { state_in graph.now self.new ≡ moved_to (state_in graph.now self.old) node (parents_of (graph_of graph.now) node) (graph_of graph.now) }
         ensures agree { (u : ℕ) → Agrees (state_in graph.now self.new) self.new.lists.items u }
         ensures counts { (u : ℕ) (q : Node) →
-            counted_by self.new.lists.items u q + (if (u == slot) && holds (members (state_in graph.now self.old) node) slot then count_by (same_node q) old.now else 0)
-            ≡ counted_by self.old.lists.items u q + (if (u == slot) && holds (members (state_in graph.now self.old) node) slot then count_by (same_node q) (parents_of (graph_of graph.now) node) else 0) }
+            counted_by self.new.lists.items u q + (if (u == slot) && holds (members (state_in graph.now self.old) node) slot
+            then count_by (same_node q) old.now else 0)
+            ≡ counted_by self.old.lists.items u q + (if (u == slot) && holds (members (state_in graph.now self.old) node) slot
+            then count_by (same_node q) (parents_of (graph_of graph.now) node) else 0) }
         ensures tells { IsTold (state_in graph.now self.old).txns
-            (λ u. is_among_waiters u (filter (λ w. not (stays (state_in graph.now self.old) (parents_of (graph_of graph.now) node) w)) ((state_in graph.now self.old).queue node)))
+            (λ u. is_among_waiters u (filter (λ w. not (stays (state_in graph.now self.old) (parents_of (graph_of graph.now) node) w))
+            ((state_in graph.now self.old).queue node)))
             (λ u. notice.Moved) [] told.new.items }
     {
         let list = &mut self.lists[slot as usize];
@@ -119,14 +124,16 @@ impl Ledger {
         requires orderly { IsOrderly (state_in graph.now self.old) }
         requires agree { (u : ℕ) → Agrees (state_in graph.now self.old) self.old.lists.items u }
         requires newcomers { (u : ℕ) → is_among_waiters u ((state_in graph.now self.old).queue node) ≡ true → (state_in graph.now self.old).held u node ≡ NL }
-        requires stuck { list_all (λ w. not (fits slot_limit (members (state_in graph.now self.old) node) w.0 w.1)) ((state_in graph.now self.old).queue node) ≡ true }
+        requires stuck { list_all (λ w. not (fits slot_limit (members (state_in graph.now self.old) node) w.0 w.1))
+            ((state_in graph.now self.old).queue node) ≡ true }
         requires tell { CanTell told.old.items (λ u. is_among_waiters u ((state_in graph.now self.old).queue node)) }
         ensures sound { AreSound self.new }
         ensures state { state_in graph.now self.new ≡ moved_to (state_in graph.now self.old) node (parents_of (graph_of graph.now) node) (graph_of graph.now) }
         ensures agree { (u : ℕ) → Agrees (state_in graph.now self.new) self.new.lists.items u }
         ensures counts { (u : ℕ) (q : Node) → counted_by self.new.lists.items u q ≡ counted_by self.old.lists.items u q }
         ensures tells { IsTold (state_in graph.now self.old).txns
-            (λ u. is_among_waiters u (filter (λ w. not (stays (state_in graph.now self.old) (parents_of (graph_of graph.now) node) w)) ((state_in graph.now self.old).queue node)))
+            (λ u. is_among_waiters u (filter (λ w. not (stays (state_in graph.now self.old) (parents_of (graph_of graph.now) node) w))
+            ((state_in graph.now self.old).queue node)))
             (λ u. notice.Moved) told.old.items told.new.items }
     {
         let mut strays = self.strays(graph, node);
@@ -140,7 +147,8 @@ impl Ledger {
         requires sound { AreSound self.now }
         requires orderly { IsOrderly (state_in graph.now self.now) }
         requires agree { (u : ℕ) → Agrees (state_in graph.now self.now) self.now.lists.items u }
-        ensures { (u : ℕ) → has_slot result u ≡ is_among_waiters u (filter (λ w. not (stays (state_in graph.now self.now) (parents_of (graph_of graph.now) node) w)) (queue_of self.now.headers.entries node)) }
+        ensures { (u : ℕ) → has_slot result u ≡ is_among_waiters u
+            (filter (λ w. not (stays (state_in graph.now self.now) (parents_of (graph_of graph.now) node) w)) (queue_of self.now.headers.entries node)) }
     {
         let Some(header) = self.headers.get(node) else {
             return Slots::empty();
@@ -165,8 +173,10 @@ impl Ledger {
         requires room { 9 ≤ room_by self.old.lists.items slot }
         requires untold { notices_in told.old.items slot ≡ None }
         ensures held { held_of self.new.headers.entries ≡ held_of self.old.headers.entries }
-        ensures queue { queue_of self.new.headers.entries ≡ with_waiters (queue_of self.old.headers.entries) node (without_waiter slot (queue_of self.old.headers.entries node)) }
-        ensures ends { WaitsEnd (books_of self.old.seats self.old.lists.items told.old.items) node (λ u. u == slot) as_left (λ u. notice.Moved) (books_of self.new.seats self.new.lists.items told.new.items) }
+        ensures queue { queue_of self.new.headers.entries ≡ with_waiters (queue_of self.old.headers.entries) node
+            (without_waiter slot (queue_of self.old.headers.entries node)) }
+        ensures ends { WaitsEnd (books_of self.old.seats self.old.lists.items told.old.items) node (λ u. u == slot) as_left (λ u. notice.Moved)
+            (books_of self.new.seats self.new.lists.items told.new.items) }
     {
         self.headers.dismiss(slot, node);
         end_wait(

@@ -41,7 +41,8 @@ fn free(
 )
     requires can { CanEnd (books_of seats.old lists.old.items told.old.items) waiters.now }
     requires childless { (u : ℕ) → is_among_waiters u waiters.now ≡ true → counted_by lists.old.items u node ≡ 0 }
-    ensures { WaitsEnd (books_of seats.old lists.old.items told.old.items) node (λ u. is_among_waiters u waiters.now) as_left (λ u. notice.Gone) (books_of seats.new lists.new.items told.new.items) }
+    ensures { WaitsEnd (books_of seats.old lists.old.items told.old.items) node (λ u. is_among_waiters u waiters.now) as_left (λ u. notice.Gone)
+        (books_of seats.new lists.new.items told.new.items) }
 {
     for waiter in waiters {
         let (slot, _) = *waiter;
@@ -64,7 +65,8 @@ impl Ledger {
         ensures state { state_on (without_node (graph_of graph.now) rec) self.new ≡ deleted (state_in graph.now self.old) rec }
         ensures agree { (u : ℕ) → Agrees (deleted (state_in graph.now self.old) rec) self.new.lists.items u }
         ensures count { (u : ℕ) → CountsHeld (deleted (state_in graph.now self.old) rec) self.new.lists.items u }
-        ensures tells { IsTold (state_in graph.now self.old).txns (λ u. is_among_waiters u ((state_in graph.now self.old).queue rec)) (λ u. notice.Gone) told.old.items told.new.items }
+        ensures tells { IsTold (state_in graph.now self.old).txns (λ u. is_among_waiters u ((state_in graph.now self.old).queue rec))
+            (λ u. notice.Gone) told.old.items told.new.items }
     {
         graph.law();
         strike(&mut self.lists, slot, rec, graph.parents(rec));

@@ -36,7 +36,8 @@ impl Locks {
     /// The held child of a node that was born first.
     #[inline]
     pub(crate) fn first_child(&self, slot: Slot, node: NodeId) -> Option<NodeId>
-        ensures { result ≡ find (λ c. is_child (state_at self.now).graph node c && holds (members (state_at self.now) c) slot) (nodes (state_at self.now).graph) }
+        ensures { result ≡ find (λ c. is_child (state_at self.now).graph node c && holds (members (state_at self.now) c) slot)
+            (nodes (state_at self.now).graph) }
     {
         self.ledger.first_child(&self.graph, slot, node)
     }
@@ -44,7 +45,8 @@ impl Locks {
     /// Whether a slot holds some child of a node in `IX`, `SIX` or `X`.
     #[inline]
     pub(crate) fn writes_below(&self, slot: Slot, node: NodeId) -> bool
-        ensures { result ≡ list_any (λ c. is_child (state_at self.now).graph node c && is_write ((state_at self.now).held slot c)) (nodes (state_at self.now).graph) }
+        ensures { result ≡ list_any (λ c. is_child (state_at self.now).graph node c && is_write ((state_at self.now).held slot c))
+            (nodes (state_at self.now).graph) }
     {
         self.ledger.writes_below(&self.graph, slot, node)
     }

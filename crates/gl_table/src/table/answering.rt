@@ -125,7 +125,8 @@ impl Table {
     pub fn settle(&mut self, t: TxnId) -> Result<Told, Refusal>
         ensures told { IfOk result (λ list. list.items ≡ told (state_of self.old) (state_of self.new)) }
         ensures state { OnOk result (Settled (state_of self.old).victims (state_of self.old) t.slot (state_of self.new)) }
-        ensures deadlock { OnOk result (SettlesKeeping (state_of self.old).victims (state_of self.old) t.slot self.old.deadlock (state_of self.new) self.new.deadlock) }
+        ensures deadlock { OnOk result (SettlesKeeping (state_of self.old).victims (state_of self.old) t.slot self.old.deadlock
+            (state_of self.new) self.new.deadlock) }
         ensures idle { IsOnNoCycle (waits_for (state_of self.old)) t.slot → IfOk result (λ list. (list.items ≡ []) × (state_of self.new ≡ state_of self.old)) }
         ensures refuses { RefusesOnly (first_refusal (living_tests (state_of self.old) t)) result }
         ensures err { OnErr result (self.new ≡ self.old) }
@@ -168,7 +169,8 @@ impl Table {
         requires index { is_index_of_shape (first_parent (state_of self.old).graph rec) (shape_of (state_of self.old).graph index) ≡ true }
         requires exclusive { need_exclusive (state_of self.old) t.slot rec true (rekeyed_parents (state_of self.old).graph rec index key) ≡ None }
         requires parents { need_new_parents (state_of self.old) t.slot rec (rekeyed_parents (state_of self.old).graph rec index key) ≡ None }
-        ensures state { state_of self.new ≡ moved_to (state_of self.old) rec (rekeyed_parents (state_of self.old).graph rec index key) (rekeyed (state_of self.old).graph rec index key) }
+        ensures state { state_of self.new ≡ moved_to (state_of self.old) rec (rekeyed_parents (state_of self.old).graph rec index key)
+            (rekeyed (state_of self.old).graph rec index key) }
         ensures deadlock { self.new.deadlock ≡ self.old.deadlock }
         ensures told { result.items ≡ told (state_of self.old) (state_of self.new) }
     {
@@ -193,7 +195,8 @@ impl Table {
         requires active { status_of (state_of self.old) t.slot ≡ Some Active }
         requires movable { is_movable_shape (shape_of (state_of self.old).graph n) ≡ true }
         requires inner { AreInnerParents (state_of self.old).graph (least_parents (shape_of (state_of self.old).graph n)) parents.now }
-        requires exclusive { need_exclusive (state_of self.old) t.slot n (some_given (parents_of (state_of self.old).graph n) && some_given parents.now) parents.now ≡ None }
+        requires exclusive { need_exclusive (state_of self.old) t.slot n
+            (some_given (parents_of (state_of self.old).graph n) && some_given parents.now) parents.now ≡ None }
         requires rule { need_new_parents (state_of self.old) t.slot n parents.now ≡ None }
         ensures told { IfOk result (λ list. list.items ≡ told (state_of self.old) (state_of self.new)) }
         ensures state { OnOk result (state_of self.new ≡ moved_to (state_of self.old) n parents.now (with_parents (state_of self.old).graph n parents.now)) }

@@ -35,7 +35,8 @@ impl Table {
         requires index { is_index_of_shape (first_parent (state_of self.old).graph rec) (shape_of (state_of self.old).graph index) ≡ true }
         requires exclusive { need_exclusive (state_of self.old) t.slot rec true (rekeyed_parents (state_of self.old).graph rec index key) ≡ None }
         requires parents { need_new_parents (state_of self.old) t.slot rec (rekeyed_parents (state_of self.old).graph rec index key) ≡ None }
-        ensures state { state_of self.new ≡ moved_to (state_of self.old) rec (rekeyed_parents (state_of self.old).graph rec index key) (rekeyed (state_of self.old).graph rec index key) }
+        ensures state { state_of self.new ≡ moved_to (state_of self.old) rec (rekeyed_parents (state_of self.old).graph rec index key)
+            (rekeyed (state_of self.old).graph rec index key) }
         ensures deadlock { self.new.deadlock ≡ self.old.deadlock }
         ensures told { notices.new.items ≡ told (state_of self.old) (state_of self.new) }
     {
@@ -60,7 +61,8 @@ impl Table {
         requires active { status_of (state_of self.old) t.slot ≡ Some Active }
         requires movable { is_movable_shape (shape_of (state_of self.old).graph n) ≡ true }
         requires inner { AreInnerParents (state_of self.old).graph (least_parents (shape_of (state_of self.old).graph n)) parents.now }
-        requires exclusive { need_exclusive (state_of self.old) t.slot n (some_given (parents_of (state_of self.old).graph n) && some_given parents.now) parents.now ≡ None }
+        requires exclusive { need_exclusive (state_of self.old) t.slot n
+            (some_given (parents_of (state_of self.old).graph n) && some_given parents.now) parents.now ≡ None }
         requires rule { need_new_parents (state_of self.old) t.slot n parents.now ≡ None }
         ensures told { OnOk result (notices.new.items ≡ told (state_of self.old) (state_of self.new)) }
         ensures untold { OnErr result (notices.new ≡ notices.old) }

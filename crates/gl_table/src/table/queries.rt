@@ -58,7 +58,8 @@ impl Table {
     /// How many children of a node a transaction holds; `None` where it does not live or does not
     /// hold the node.
     pub fn children(&self, t: TxnId, n: NodeId) -> Option<u32>
-        ensures { result ≡ (if lives (state_of self.now) t && holds (members (state_of self.now) n) t.slot then Some (held_children (state_of self.now) t.slot n) else None) }
+        ensures { result ≡ (if lives (state_of self.now) t && holds (members (state_of self.now) n) t.slot
+            then Some (held_children (state_of self.now) t.slot n) else None) }
     {
         match self.status(t) {
             Some(_) => self.locks.children(t.slot, n),
@@ -69,7 +70,8 @@ impl Table {
     /// Whether a transaction holds some child of a node in `IX`, `SIX` or `X`; `false` where it does
     /// not live. It takes no memory.
     pub fn writes_below(&self, t: TxnId, n: NodeId) -> bool
-        ensures { result ≡ (lives (state_of self.now) t && list_any (λ c. is_child (state_of self.now).graph n c && is_write ((state_of self.now).held t.slot c)) (nodes (state_of self.now).graph)) }
+        ensures { result ≡ (lives (state_of self.now) t
+            && list_any (λ c. is_child (state_of self.now).graph n c && is_write ((state_of self.now).held t.slot c)) (nodes (state_of self.now).graph)) }
     {
         match self.status(t) {
             Some(_) => self.locks.writes_below(t.slot, n),

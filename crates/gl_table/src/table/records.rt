@@ -32,7 +32,8 @@ impl Table {
         requires file { is_file_shape (shape_of (state_of self.old).graph file) ≡ true }
         requires keys { length keys.now ≡ length (indexes_of (state_of self.old).graph file) }
         requires parents { first_not_ix ((state_of self.old).held t.slot) (record_parents (state_of self.old).graph file keys.now) ≡ None }
-        ensures made { IfOk result (λ n. IsBorn (state_of self.old).graph (state_of self.new).graph n (Rec keys.now) (record_parents (state_of self.old).graph file keys.now)) }
+        ensures made { IfOk result (λ n. IsBorn (state_of self.old).graph (state_of self.new).graph n (Rec keys.now)
+            (record_parents (state_of self.old).graph file keys.now)) }
         ensures state { IfOk result (λ n. state_of self.new ≡ with_grant (with_graph (state_of self.old) (state_of self.new).graph) t.slot n X) }
         ensures deadlock { self.new.deadlock ≡ self.old.deadlock }
         ensures refuses { Refuses (first_refusal (worn_births (state_of self.old).graph ∷ too_many_nodes (state_of self.old).graph 1 ∷ [])) result }
@@ -62,7 +63,8 @@ impl Table {
         requires free { record_refusal (state_of self.old).graph file keys.now ≡ None }
         requires parents { parents.now ≡ record_parents (state_of self.old).graph file keys.now }
         requires writable { first_not_ix ((state_of self.old).held t.slot) parents.now ≡ None }
-        ensures made { IfOk result (λ n. IsBorn (state_of self.old).graph (state_of self.new).graph n (Rec keys.now) (record_parents (state_of self.old).graph file keys.now)) }
+        ensures made { IfOk result (λ n. IsBorn (state_of self.old).graph (state_of self.new).graph n (Rec keys.now)
+            (record_parents (state_of self.old).graph file keys.now)) }
         ensures state { IfOk result (λ n. state_of self.new ≡ with_grant (with_graph (state_of self.old) (state_of self.new).graph) t.slot n X) }
         ensures deadlock { self.new.deadlock ≡ self.old.deadlock }
         ensures memory { IfErr result (λ r. r ≡ ARefusal.NoMemory) }

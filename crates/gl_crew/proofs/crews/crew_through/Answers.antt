@@ -13,4 +13,5 @@ returns g c =
     ended.count
     (IsCount c.args.detect c.args.sessions c.args.rounds)
     c.answer.ensures
-    (λ none. subst (λ d. IsCountOf d 7 c.args.sessions c.args.rounds ended.count) c.in_ok-manager.ensures (c.in_ok-crew_over.ensures.count (faultless faults none)))
+    (λ none. subst (λ d. IsCountOf d 7 c.args.sessions c.args.rounds ended.count) c.in_ok-manager.ensures
+    (c.in_ok-crew_over.ensures.count (faultless faults none)))

@@ -18,6 +18,7 @@ returns-clause-none c = (
   (λ bad s v on. absurd (cc)),
   λ calm.
       let member : has_slot c.from_bits-suspects.result c.in_ok-at.at ≡ true = c.in_ok-at.ensures.some.youngest.is_member in
-      let on : IsOnCycle (board_edge c.args.board.now) c.in_ok-at.at = (c.suspects.ensures c.in_ok-at.at).0 (sym (c.from_bits-suspects.ensures c.in_ok-at.at) ∙ member) in
+      let on : IsOnCycle (board_edge c.args.board.now) c.in_ok-at.at =
+      (c.suspects.ensures c.in_ok-at.at).0 (sym (c.from_bits-suspects.ensures c.in_ok-at.at) ∙ member) in
       absurd (calm c.in_ok-at.at on.0 on.1),
 )

@@ -17,7 +17,8 @@ returns-clause-count g c =
     _
     _
     (λ ended h none.
-    subst (λ d. IsCountOf d k c.args.sessions c.args.rounds ended.count) c.detect-detect.ensures (sessions_count detect c.args.sessions c.args.rounds k ended.count (subst (λ n. IsSumOf detect n (c.args.rounds * k) ended.count) shares (h none))))
+    subst (λ d. IsCountOf d k c.args.sessions c.args.rounds ended.count) c.detect-detect.ensures
+    (sessions_count detect c.args.sessions c.args.rounds k ended.count (subst (λ n. IsSumOf detect n (c.args.rounds * k) ended.count) shares (h none))))
     c.run_crew.ensures.count
 
 pub returns-clause-accepted : goal.returns-clause-accepted

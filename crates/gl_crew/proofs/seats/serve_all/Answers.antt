@@ -9,4 +9,5 @@ pub returns-clause-served : goal.returns-clause-served
 returns-clause-served g c none =
     let share : Seat g.row.N.Denot → Option ℕ = λ s. s.share in
     let fault : Seat g.row.N.Denot → Option CrewFault = λ s. s.fault in
-    served_amounts share fault (c.args.rounds * g.W.Work.commands) _ c.leave_all.result.shares.items c.serve_each.ensures.served c.leave_all.ensures.shares (subst IsFaultless c.leave_all.ensures.faults none)
+    served_amounts share fault (c.args.rounds * g.W.Work.commands) _ c.leave_all.result.shares.items c.serve_each.ensures.served
+    c.leave_all.ensures.shares (subst IsFaultless c.leave_all.ensures.faults none)

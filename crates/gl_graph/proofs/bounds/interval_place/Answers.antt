@@ -11,8 +11,10 @@ loop-low-preserved-then-bounds-middle c =
       ordered = omega arith;
       within = c.loop-low.invariant.within;
       begins = λ j h.
-          ⊎_elim (λ (l : j < c.loop-low.low + (c.loop-low.high - c.loop-low.low) / 2). let r = rising_at c.args.bounds.now j (c.loop-low.low + (c.loop-low.high - c.loop-low.low) / 2) c.requires l (omega arith) in omega arith)
-          (λ (e : j ≡ c.loop-low.low + (c.loop-low.high - c.loop-low.low) / 2). let same = ap (λ k. slice_index_or c.args.bounds.now k 0) e in omega arith) (less_or_same j (c.loop-low.low + (c.loop-low.high - c.loop-low.low) / 2) (omega arith));
+          ⊎_elim (λ (l : j < c.loop-low.low + (c.loop-low.high - c.loop-low.low) / 2). let r =
+          rising_at c.args.bounds.now j (c.loop-low.low + (c.loop-low.high - c.loop-low.low) / 2) c.requires l (omega arith) in omega arith)
+          (λ (e : j ≡ c.loop-low.low + (c.loop-low.high - c.loop-low.low) / 2). let same = ap (λ k. slice_index_or c.args.bounds.now k 0) e in
+          omega arith) (less_or_same j (c.loop-low.low + (c.loop-low.high - c.loop-low.low) / 2) (omega arith));
       ends = c.loop-low.invariant.ends;
     }
 
@@ -22,8 +24,10 @@ loop-low-preserved c = record {
   within = omega arith;
   begins = c.loop-low.invariant.begins;
   ends = λ j h low.
-      ⊎_elim (λ (l : c.loop-low.low + (c.loop-low.high - c.loop-low.low) / 2 < j). let r = rising_at c.args.bounds.now (c.loop-low.low + (c.loop-low.high - c.loop-low.low) / 2) j c.requires l low in omega arith)
-      (λ (e : c.loop-low.low + (c.loop-low.high - c.loop-low.low) / 2 ≡ j). let same = ap (λ k. slice_index_or c.args.bounds.now k 0) e in omega arith) (less_or_same (c.loop-low.low + (c.loop-low.high - c.loop-low.low) / 2) j h);
+      ⊎_elim (λ (l : c.loop-low.low + (c.loop-low.high - c.loop-low.low) / 2 < j). let r =
+      rising_at c.args.bounds.now (c.loop-low.low + (c.loop-low.high - c.loop-low.low) / 2) j c.requires l low in omega arith)
+      (λ (e : c.loop-low.low + (c.loop-low.high - c.loop-low.low) / 2 ≡ j). let same = ap (λ k. slice_index_or c.args.bounds.now k 0) e in
+      omega arith) (less_or_same (c.loop-low.low + (c.loop-low.high - c.loop-low.low) / 2) j h);
 }
 
 pub returns-clause-place : goal.returns-clause-place

@@ -15,8 +15,12 @@ loop-place-preserved c =
     record {
       room = omega arith;
       list_room = omega arith;
-      listed = ap length c.push_reserved.ensures.items ∙ length-append c.loop-place.ids.items (record { key = c.insert_reserved-key.result; birth = c.args.index.birth + 1 + c.loop-place.place } ∷ []) ∙ ap (λ n. n + 1) c.loop-place.invariant.listed;
-      born = intervals_born c.args.nodes.now c.loop-place.nodes c.insert_reserved-key.new.self c.args.index c.loop-place.place c.loop-place.ids.items c.push_reserved.new.self.items c.loop-place.invariant.born c.insert_reserved-key.result
+      listed = ap length c.push_reserved.ensures.items
+          ∙ length-append c.loop-place.ids.items
+          (record { key = c.insert_reserved-key.result; birth = c.args.index.birth + 1 + c.loop-place.place } ∷ [])
+          ∙ ap (λ n. n + 1) c.loop-place.invariant.listed;
+      born = intervals_born c.args.nodes.now c.loop-place.nodes c.insert_reserved-key.new.self c.args.index c.loop-place.place c.loop-place.ids.items
+          c.push_reserved.new.self.items c.loop-place.invariant.born c.insert_reserved-key.result
           (record { birth = c.args.index.birth + 1 + c.loop-place.place; parents = parents.One (c.args.index ∷ []); body = body.Interval c.loop-place.place })
           c.insert_reserved-key.ensures.was_vacant c.insert_reserved-key.ensures.updates refl len refl refl c.push_reserved.ensures.items;
     }

@@ -16,4 +16,6 @@ pub returns-in_ok-insert-clause-ok : goal.returns-in_ok-insert-clause-ok
 returns-in_ok-insert-clause-ok c =
     let h : holds (held_by c.args.group.now) c.args.slot ≡ true = sym c.has.ensures ∙ c.if-has.true in
     c.in_ok-insert.ensures.ok
-    ∙ (ap (λ k. insert c.args.queue.now.items k (c.args.slot, c.args.wanted)) (c.waiting_members-place.ensures ∙ ap (λ z. prefix_len (λ x. holds (held_by c.args.group.now) x.0) z) c.deref.ensures) ∙ placed_in-member (held_by c.args.group.now) c.args.queue.now.items (c.args.slot, c.args.wanted) h)
+    ∙ (ap (λ k. insert c.args.queue.now.items k (c.args.slot, c.args.wanted))
+    (c.waiting_members-place.ensures ∙ ap (λ z. prefix_len (λ x. holds (held_by c.args.group.now) x.0) z) c.deref.ensures)
+    ∙ placed_in-member (held_by c.args.group.now) c.args.queue.now.items (c.args.slot, c.args.wanted) h)

@@ -21,4 +21,5 @@ loop-txn-preserved g c =
     let d : TxnId × Notice = (record { slot = 0; age = 0 }, notice.Victim) in
     let all = Hands-then _ _ _ _ _ _ _ _ c.loop-txn.invariant c.put_told.ensures in
     subst (Hands (g.W.Write.contents c.args.writer.now) c.args.sink.now (g.W.Write.contents c.put_told.new.writer) c.put_told.new.sink)
-    (ap (λ x. flat_map line (take i told) ++ line x) (get_or_default told i _ d low) ∙ flat_map_more line [] (take i told) (get_or told i d) ∙ ap (flat_map line) (sym (take_more told i d low))) all
+    (ap (λ x. flat_map line (take i told) ++ line x) (get_or_default told i _ d low) ∙ flat_map_more line [] (take i told) (get_or told i d)
+    ∙ ap (flat_map line) (sym (take_more told i d low))) all

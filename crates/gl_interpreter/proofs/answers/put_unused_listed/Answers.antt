@@ -9,7 +9,8 @@ use Rattle.gl_interpreter.proofs.Writing.{Hands-none, Hands-then}
 use Rattle.gl_interpreter.proofs.answers.put_unused_listed.Goals as goal
 
 -- of the nodes that are left the first is the one at hand
-left : (used slice : List Used) (i : ℕ) (u d : Used) → slice ≡ used → i < length slice → u ≡ get_or slice i d → drop i (map node_of used) ≡ node_of u ∷ drop (i + 1) (map node_of used)
+left : (used slice : List Used) (i : ℕ) (u d : Used) → slice ≡ used → i < length slice → u ≡ get_or slice i d → drop i (map node_of used) ≡ node_of u
+    ∷ drop (i + 1) (map node_of used)
 left used slice i u d value low is =
     let low' : i < length used = omega (arith, low, ap length value) in
     let low'' : i < length (map node_of used) = omega (arith, low', length-map used node_of) in
@@ -23,7 +24,8 @@ pub returns-then-put_unused-clause-text : goal.returns-then-put_unused-clause-te
 returns-then-put_unused-clause-text g c =
     let s = script_of c.args.desk.now in
     let nodes = nodes_of c.args.lists.now in
-    let here = left c.args.lists.now.nodes.items c.as_slice-node-items.result.now c.loop-node.node-index c.node-item.result _ c.as_slice-node-items.ensures.value c.loop-node-test.true c.node-item.is in
+    let here = left c.args.lists.now.nodes.items c.as_slice-node-items.result.now c.loop-node.node-index c.node-item.result _
+    c.as_slice-node-items.ensures.value c.loop-node-test.true c.node-item.is in
     let unused = head_unused s (node_of c.node-item.result) (drop (c.loop-node.node-index + 1) nodes) (sym c.put_unused.ensures.is ∙ c.if-put_unused.true) in
     rw (c.loop-node.invariant.first ∙ ap (first_unused s) here ∙ unused.0) (Hands-then _ _ _ _ _ _ _ _ c.loop-node.invariant.text c.put_unused.ensures.text)
 
@@ -31,7 +33,8 @@ pub returns-then-put_unused-clause-is : goal.returns-then-put_unused-clause-is
 returns-then-put_unused-clause-is g c =
     let s = script_of c.args.desk.now in
     let nodes = nodes_of c.args.lists.now in
-    let here = left c.args.lists.now.nodes.items c.as_slice-node-items.result.now c.loop-node.node-index c.node-item.result _ c.as_slice-node-items.ensures.value c.loop-node-test.true c.node-item.is in
+    let here = left c.args.lists.now.nodes.items c.as_slice-node-items.result.now c.loop-node.node-index c.node-item.result _
+    c.as_slice-node-items.ensures.value c.loop-node-test.true c.node-item.is in
     let unused = head_unused s (node_of c.node-item.result) (drop (c.loop-node.node-index + 1) nodes) (sym c.put_unused.ensures.is ∙ c.if-put_unused.true) in
     sym (c.loop-node.invariant.some ∙ ap (some_unused s) here ∙ unused.1)
 
@@ -39,11 +42,13 @@ pub loop-node-preserved : goal.loop-node-preserved
 loop-node-preserved g c =
     let s = script_of c.args.desk.now in
     let nodes = nodes_of c.args.lists.now in
-    let here = left c.args.lists.now.nodes.items c.as_slice-node-items.result.now c.loop-node.node-index c.node-item.result _ c.as_slice-node-items.ensures.value c.loop-node-test.true c.node-item.is in
+    let here = left c.args.lists.now.nodes.items c.as_slice-node-items.result.now c.loop-node.node-index c.node-item.result _
+    c.as_slice-node-items.ensures.value c.loop-node-test.true c.node-item.is in
     let in_use = sym c.put_unused.ensures.is ∙ c.if-put_unused.false in
     let used = head_used s (node_of c.node-item.result) (drop (c.loop-node.node-index + 1) nodes) in_use in
     record {
-      text = rw (none_unused s (node_of c.node-item.result ∷ []) (head_used s (node_of c.node-item.result) [] in_use).1) at (Hands-then _ _ _ _ _ _ _ _ c.loop-node.invariant.text c.put_unused.ensures.text);
+      text = rw (none_unused s (node_of c.node-item.result ∷ []) (head_used s (node_of c.node-item.result) [] in_use).1) at
+          (Hands-then _ _ _ _ _ _ _ _ c.loop-node.invariant.text c.put_unused.ensures.text);
       first = c.loop-node.invariant.first ∙ ap (first_unused s) here ∙ used.0;
       some = c.loop-node.invariant.some ∙ ap (some_unused s) here ∙ used.1;
     }

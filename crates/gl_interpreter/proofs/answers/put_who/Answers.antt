@@ -7,4 +7,6 @@ use Rattle.gl_interpreter.proofs.answers.put_who.Goals as goal
 pub returns-in_default : goal.returns-in_default
 returns-in_default g c =
     let d = c.in_default in
-    rw (names_nobody (script_of c.args.desk.now) (command_of c.args.form.now c.args.lists.now) c.args.refusal d.not-NoSuchNode d.not-NoSuchTxn d.not-NameTaken d.not-NeedParents d.not-HeldChild d.not-Cycle) (Hands-none _ _)
+    rw (names_nobody (script_of c.args.desk.now)
+    (command_of c.args.form.now c.args.lists.now) c.args.refusal d.not-NoSuchNode d.not-NoSuchTxn d.not-NameTaken d.not-NeedParents
+    d.not-HeldChild d.not-Cycle) (Hands-none _ _)

@@ -12,7 +12,8 @@ returns-in-Some g c =
     let s = script_of c.args.desk.now in
     let d = c.in-Some.deadlock.now in
     let kept : d ≡ c.args.desk.now.manager.table.deadlock = c.in-Some.ensures.some in
-    let some : d.cycle.items ≡ [] → ⊥ = λ e. is_something _ _ c.in-Some.is (c.last_deadlock.ensures.none.1 (ap (λ (x : Deadlock). x.cycle.items) (sym kept) ∙ e)) in
+    let some : d.cycle.items ≡ [] → ⊥ =
+    λ e. is_something _ _ c.in-Some.is (c.last_deadlock.ensures.none.1 (ap (λ (x : Deadlock). x.cycle.items) (sym kept) ∙ e)) in
     let victim = Hands-then _ _ _ _ _ _ _ _ c.put.ensures c.put_member.ensures in
     let line = Hands-then _ _ _ _ _ _ _ _ victim c.put-in-Some.ensures in
     let all = Hands-then _ _ _ _ _ _ _ _ line (rw c.as_slice.ensures.value at c.put_each_stuck.ensures) in

@@ -15,12 +15,14 @@ pub loop-slot-preserved : goal.loop-slot-preserved
 loop-slot-preserved g c =
     let so_far = c.loop-slot.yielded in
     let slot = c.in-Some.slot in (
-      subst (Hands (g.W.Write.contents c.args.writer.now) c.args.sink.now (g.W.Write.contents c.put_blocker.new.writer) c.put_blocker.new.sink) (one_more (blocker_row (script_of c.args.desk.now)) so_far slot)
+      subst (Hands (g.W.Write.contents c.args.writer.now) c.args.sink.now (g.W.Write.contents c.put_blocker.new.writer) c.put_blocker.new.sink)
+          (one_more (blocker_row (script_of c.args.desk.now)) so_far slot)
           (Hands-then _ _ _ _ _ _ _ _ c.loop-slot.invariant.0 c.put_blocker.ensures),
       yielded_more so_far slot _ _ _ c.loop-slot.invariant.1 c.in-Some.ensures.steps,
     )
 
 pub returns : goal.returns
 returns g c =
-    subst (λ slots. Hands (g.W.Write.contents c.args.writer.now) c.args.sink.now (g.W.Write.contents c.loop-slot.writer) c.loop-slot.sink (flat_map (blocker_row (script_of c.args.desk.now)) slots))
+    subst (λ slots. Hands (g.W.Write.contents c.args.writer.now) c.args.sink.now (g.W.Write.contents c.loop-slot.writer) c.loop-slot.sink
+    (flat_map (blocker_row (script_of c.args.desk.now)) slots))
     (all_yielded c.loop-slot.yielded _ _ c.loop-slot.invariant.1 c.in-None.ensures.steps.0) c.loop-slot.invariant.0

@@ -19,7 +19,8 @@ loop-place-preserved g c =
     let there = sym (c.lock_at.ensures.row ∙ ap (λ b. if b then slice_get rows place else None) c.requires.lives) in
     elim c.match-lock_at.branch [
       | in-Some w ↦ rw (w.sink-is, w.writer-is)
-          (subst (Hands (g.W.Write.contents c.args.writer.now) c.args.sink.now (g.W.Write.contents w.put_lock.new.writer) w.put_lock.new.sink) (row_there (lock_row s c.waiting-wait.result) rows place w.in-Some.row (there ∙ w.in-Some.is))
+          (subst (Hands (g.W.Write.contents c.args.writer.now) c.args.sink.now (g.W.Write.contents w.put_lock.new.writer) w.put_lock.new.sink)
+          (row_there (lock_row s c.waiting-wait.result) rows place w.in-Some.row (there ∙ w.in-Some.is))
           (Hands-then _ _ _ _ _ _ _ _ c.loop-place.invariant w.put_lock.ensures))
       | in_default w ↦ absurd (not_past rows place (omega (arith, c.loop-place-test.true, c.requires.all)) (there ∙ w.in_default.is))
     ]

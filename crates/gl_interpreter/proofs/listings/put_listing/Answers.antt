@@ -16,4 +16,8 @@ pub returns-in-Cycle : goal.returns-in-Cycle
 unfolding IsShown
 returns-in-Cycle g c =
     let s = script_of c.args.desk.now in
-    rw c.in-Cycle.is (codes "ok\n" ++ deadlock_rows s s.deadlock.victim s.deadlock.cycle.items, refl, Hands-then _ _ _ _ _ _ _ _ c.put-in-Cycle.ensures c.put_deadlock.ensures)
+    rw c.in-Cycle.is (
+      codes "ok\n" ++ deadlock_rows s s.deadlock.victim s.deadlock.cycle.items,
+      refl,
+      Hands-then _ _ _ _ _ _ _ _ c.put-in-Cycle.ensures c.put_deadlock.ensures,
+    )

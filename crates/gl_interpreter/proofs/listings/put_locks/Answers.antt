@@ -28,8 +28,15 @@ returns-in-Some g c =
     let none : first_refusal (living_tests s.locks txn) ≡ None = ap (λ b. first_refusal (where_true (not b) NoSuchTxn ∷ [])) lives_on in
     let text = codes "ok\n" ++ flat_map (lock_row s (wait_of (status_of s.locks txn.slot))) (rows_of v txn.slot) in (
       text,
-      subst (λ (t : TxnId). (rows : List LockRow) × AreRowsOf s.locks t.slot rows × (text ≡ listed (first_refusal (living_tests s.locks t)) (32 ∷ c.args.name.now.items) (flat_map (lock_row s (wait_of (status_of s.locks t.slot))) rows)))
-          c.txn_id-txn.ensures (rows_of v txn.slot, counting_rows c.args.desk.now.manager.accepted _ _ _ (are_rows v c.law.ensures.lists c.law.ensures.unique txn.slot), listed_rows _ _ _ _ none refl),
+      subst (λ (t : TxnId). (rows : List LockRow) × AreRowsOf s.locks t.slot rows
+          × (text ≡ listed (first_refusal (living_tests s.locks t)) (32 ∷ c.args.name.now.items)
+          (flat_map (lock_row s (wait_of (status_of s.locks t.slot))) rows)))
+          c.txn_id-txn.ensures (
+            rows_of v txn.slot,
+            counting_rows c.args.desk.now.manager.accepted _ _ _
+                (are_rows v c.law.ensures.lists c.law.ensures.unique txn.slot),
+            listed_rows _ _ _ _ none refl,
+          ),
       Hands-then _ _ _ _ _ _ _ _ c.put.ensures c.put_each_lock.ensures,
     )
 
@@ -43,7 +50,14 @@ returns-in-None g c =
     let refused : first_refusal (living_tests s.locks txn) ≡ Some NoSuchTxn = ap (λ b. first_refusal (where_true (not b) NoSuchTxn ∷ [])) ended in
     let text = refusal_line NoSuchTxn (32 ∷ c.args.name.now.items) in (
       text,
-      subst (λ (t : TxnId). (rows : List LockRow) × AreRowsOf s.locks t.slot rows × (text ≡ listed (first_refusal (living_tests s.locks t)) (32 ∷ c.args.name.now.items) (flat_map (lock_row s (wait_of (status_of s.locks t.slot))) rows)))
-          c.txn_id-txn.ensures (rows_of v txn.slot, counting_rows c.args.desk.now.manager.accepted _ _ _ (are_rows v c.law.ensures.lists c.law.ensures.unique txn.slot), listed_refusal _ _ _ _ refused),
+      subst (λ (t : TxnId). (rows : List LockRow) × AreRowsOf s.locks t.slot rows
+          × (text ≡ listed (first_refusal (living_tests s.locks t)) (32 ∷ c.args.name.now.items)
+          (flat_map (lock_row s (wait_of (status_of s.locks t.slot))) rows)))
+          c.txn_id-txn.ensures (
+            rows_of v txn.slot,
+            counting_rows c.args.desk.now.manager.accepted _ _ _
+                (are_rows v c.law.ensures.lists c.law.ensures.unique txn.slot),
+            listed_refusal _ _ _ _ refused,
+          ),
       c.put_no_txn.ensures,
     )

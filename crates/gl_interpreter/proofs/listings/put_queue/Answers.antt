@@ -17,8 +17,11 @@ returns-in-Ok g c =
     let s = script_of c.args.desk.now in
     let is = c.node_id.ensures in
     let rows = ap (flat_map (waiter_row s)) (c.in-Ok.ensures.queue ∙ ap s.locks.queue is) in
-    let none = ap (λ i. first_refusal (group_tests s.locks i)) (sym is) ∙ goes _ c.queue.result _ c.queue.ensures.refused c.in-Ok.is in
-    (codes "ok\n" ++ flat_map (waiter_row s) c.in-Ok.queue.now, listed_rows _ _ _ _ none rows, Hands-then _ _ _ _ _ _ _ _ c.put.ensures c.put_each_waiter.ensures)
+    let none = ap (λ i. first_refusal (group_tests s.locks i)) (sym is) ∙ goes _ c.queue.result _ c.queue.ensures.refused c.in-Ok.is in (
+      codes "ok\n" ++ flat_map (waiter_row s) c.in-Ok.queue.now,
+      listed_rows _ _ _ _ none rows,
+      Hands-then _ _ _ _ _ _ _ _ c.put.ensures c.put_each_waiter.ensures,
+    )
 
 pub returns-in-Err : goal.returns-in-Err
 unfolding IsShown

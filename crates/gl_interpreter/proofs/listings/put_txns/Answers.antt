@@ -15,5 +15,6 @@ loop-slot-preserved g c =
     let s = script_of c.args.desk.now in
     let slot = c.loop-slot.slot in
     let row : ℕ → List ℕ = λ t. txn_row s (living_in s.locks t) in
-    subst (Hands (g.W.Write.contents c.args.writer.now) c.args.sink.now (g.W.Write.contents c.put_living.new.writer) c.put_living.new.sink) (range_rows row slot)
+    subst (Hands (g.W.Write.contents c.args.writer.now) c.args.sink.now (g.W.Write.contents c.put_living.new.writer) c.put_living.new.sink)
+    (range_rows row slot)
     (Hands-then _ _ _ _ _ _ _ _ c.loop-slot.invariant c.put_living.ensures)

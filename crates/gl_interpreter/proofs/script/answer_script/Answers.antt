@@ -25,7 +25,14 @@ loop-total-preserved g c =
       bound = omega (arith, c.in-Ok.ensures.bound.0, length-take c.min-most.result c.loop-total.block);
       taken = (
         read ++ piece,
-        omega (arith, length-append read piece, length-take c.in-Ok.count c.read.new.buf, inv.taken.1, c.in-Ok.ensures.bound.0, length-take c.min-most.result c.loop-total.block),
+        omega (
+          arith,
+          length-append read piece,
+          length-take c.in-Ok.count c.read.new.buf,
+          inv.taken.1,
+          c.in-Ok.ensures.bound.0,
+          length-take c.min-most.result c.loop-total.block,
+        ),
         Consumes-then _ _ _ read piece inv.taken.2 c.in-Ok.ensures.bytes.0,
         c.take_block.ensures.takes _ _ read inv.taken.3,
       );
@@ -34,7 +41,8 @@ loop-total-preserved g c =
 pub returns-in_default-clause-report : goal.returns-in_default-clause-report
 returns-in_default-clause-report g c =
     let inv = c.loop-total.invariant in
-    Ran-at_fault (choices_now c.args.tool.now) _ _ _ _ _ inv.taken.0 inv.whole inv.held (Consumes-kept _ _ _ _ inv.taken.2 c.in_default.ensures.bytes) inv.taken.3
+    Ran-at_fault (choices_now c.args.tool.now) _ _ _ _ _ inv.taken.0 inv.whole inv.held
+    (Consumes-kept _ _ _ _ inv.taken.2 c.in_default.ensures.bytes) inv.taken.3
 
 pub returns-then-count-eq0-clause-report : goal.returns-then-count-eq0-clause-report
 returns-then-count-eq0-clause-report g c =
@@ -54,7 +62,8 @@ returns-then-tool-clause-report g c =
     let inv = c.loop-total.invariant in
     let read = inv.taken.0 in
     let piece = take c.in-Ok.count c.read.new.buf in
-    Ran-broken (choices_now c.args.tool.now) _ _ _ _ _ _ c.finish-then-tool.result (read ++ piece) (Consumes-then _ _ _ read piece inv.taken.2 c.in-Ok.ensures.bytes.0) (c.take_block.ensures.takes _ _ read inv.taken.3) c.finish-then-tool.ensures
+    Ran-broken (choices_now c.args.tool.now) _ _ _ _ _ _ c.finish-then-tool.result (read ++ piece)
+    (Consumes-then _ _ _ read piece inv.taken.2 c.in-Ok.ensures.bytes.0) (c.take_block.ensures.takes _ _ read inv.taken.3) c.finish-then-tool.ensures
 
 pub returns-clause-report : goal.returns-clause-report
 returns-clause-report g c =
@@ -81,7 +90,14 @@ returns-then-tool-clause-limit g c =
     let piece = take c.in-Ok.count c.read.new.buf in (
       read ++ piece,
       Consumes-then _ _ _ read piece inv.taken.2 c.in-Ok.ensures.bytes.0,
-      omega (arith, length-append read piece, length-take c.in-Ok.count c.read.new.buf, inv.taken.1, c.in-Ok.ensures.bound.0, length-take c.min-most.result c.loop-total.block),
+      omega (
+        arith,
+        length-append read piece,
+        length-take c.in-Ok.count c.read.new.buf,
+        inv.taken.1,
+        c.in-Ok.ensures.bound.0,
+        length-take c.min-most.result c.loop-total.block,
+      ),
       tt,
     )
 

@@ -45,6 +45,8 @@ unfolding Takes
 returns-clause-takes g c d first read so =
     let at = c.loop-count.at in
     let block = c.args.block.now in
-    let all = Takes-then _ _ _ _ _ _ (take at block) (drop at block) c.loop-count.invariant.1 (rw take_rest at (c.keep.ensures (g.W.Write.contents c.loop-count.writer))) in
-    let taken : SoFar d first (read ++ block) (g.W.Write.contents c.loop-count.writer) c.keep.new.tool = subst (λ b. SoFar d first (read ++ b) (g.W.Write.contents c.loop-count.writer) c.keep.new.tool) (take-append-drop at block) (all d first read so) in
+    let all = Takes-then _ _ _ _ _ _ (take at block) (drop at block) c.loop-count.invariant.1
+    (rw take_rest at (c.keep.ensures (g.W.Write.contents c.loop-count.writer))) in
+    let taken : SoFar d first (read ++ block) (g.W.Write.contents c.loop-count.writer) c.keep.new.tool =
+    subst (λ b. SoFar d first (read ++ b) (g.W.Write.contents c.loop-count.writer) c.keep.new.tool) (take-append-drop at block) (all d first read so) in
     SoFar-flushed d first (read ++ block) _ _ c.keep.new.tool _ refl refl c.flush.ensures.text taken

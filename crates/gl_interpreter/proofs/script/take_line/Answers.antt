@@ -15,5 +15,11 @@ unfolding Takes
 returns-else-is_empty g c d first read so =
     let bytes = c.args.bytes.now in
     let kept = c.keep.ensures (g.W.Write.contents c.args.writer.now) d first read so in
-    let done = SoFar-newline d first (read ++ bytes) _ _ c.keep.new.tool c.answer_line.new.tool c.answer_line.ensures.answers (record { interpreter = c.answer_line.new.tool.interpreter; line = c.clear.new.self; sink = c.answer_line.new.tool.sink }) refl refl c.clear.ensures kept in
+    let done = SoFar-newline d first (read ++ bytes) _ _ c.keep.new.tool c.answer_line.new.tool c.answer_line.ensures.answers
+    (record {
+      interpreter = c.answer_line.new.tool.interpreter;
+      line = c.clear.new.self;
+      sink =
+          c.answer_line.new.tool.sink;
+    }) refl refl c.clear.ensures kept in
     rw (sym (append_assoc read bytes (10 ∷ []))) done

@@ -10,7 +10,8 @@ loop-at-preserved g c = (
 )
 
 pub returns-in-Ok-eq0 : goal.returns-in-Ok-eq0
-returns-in-Ok-eq0 g c = Sends-front _ _ c.args.text.now _ (Sends-more _ _ _ c.args.text.now c.loop-at.at c.in-Ok-eq0.field-0 c.loop-at.invariant.1 (rw take_rest at c.in-Ok-eq0.ensures.bytes))
+returns-in-Ok-eq0 g c = Sends-front _ _ c.args.text.now _
+    (Sends-more _ _ _ c.args.text.now c.loop-at.at c.in-Ok-eq0.field-0 c.loop-at.invariant.1 (rw take_rest at c.in-Ok-eq0.ensures.bytes))
 
 pub returns-in-Err : goal.returns-in-Err
 returns-in-Err g c = Sends-front _ _ c.args.text.now _ (Appends-kept _ _ _ _ c.loop-at.invariant.1 c.in-Err.ensures.bytes)

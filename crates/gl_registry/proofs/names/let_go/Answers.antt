@@ -13,5 +13,6 @@ returns-clause-goes c =
     let out =
     MatchOption-at_some _ (λ p. Updates same_row c.args.names.now c.swap_remove_index.new.self p.0 None) (key, c.in-Some.node.now)
     (c.swap_remove_index.ensures.entry ∙ c.in-Some.ensures.entry) c.swap_remove_index.ensures.updates in
-    gone_at (state_of c.args.manager.now) (state_of c.forget_living.new.manager) c.args.names.now.entries c.swap_remove_index.new.self.entries c.args.row key c.in-Some.node.now
+    gone_at (state_of c.args.manager.now)
+    (state_of c.forget_living.new.manager) c.args.names.now.entries c.swap_remove_index.new.self.entries c.args.row key c.in-Some.node.now
     (search rules) (search rules) (search rules) out.0

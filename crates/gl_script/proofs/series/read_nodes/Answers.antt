@@ -18,7 +18,8 @@ loop-field-preserved c =
     let inv = c.loop-field.invariant in
     let used = c.in_ok-read_used.field-0 in
     let done : List Node = map node_of c.loop-field.nodes.items in
-    let pushed : map node_of c.push.new.self.items ≡ done ++ node_of used ∷ [] = ap (map node_of) c.push.ensures.items ∙ map_push node_of c.loop-field.nodes.items used in
+    let pushed : map node_of c.push.new.self.items ≡ done ++ node_of used ∷ [] =
+    ap (map node_of) c.push.ensures.items ∙ map_push node_of c.loop-field.nodes.items used in
     record {
       room = omega (arith, c.push.ensures.len, inv.room, ap length c.in-Some.ensures.some);
       each = subst (All IsNode) (sym pushed) (All-push IsNode _ _ inv.each c.in_ok-read_used.ensures.found.0);

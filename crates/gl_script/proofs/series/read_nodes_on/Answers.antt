@@ -12,7 +12,8 @@ returns-in_err-read_used-clause-none c =
     let inv = c.loop-field.invariant in
     let done : List Node = map node_of c.loop-field.nodes.items in
     rw c.from_residual.ensures (λ ns more some e.
-    none_before_on done c.in-Some.field.now _ ns more (λ on. true≢false (sym (c.is_on.ensures.1 on) ∙ c.if-is_on.false)) c.in_err-read_used.ensures.none inv.each some.0
+    none_before_on done c.in-Some.field.now _ ns more
+    (λ on. true≢false (sym (c.is_on.ensures.1 on) ∙ c.if-is_on.false)) c.in_err-read_used.ensures.none inv.each some.0
     (sym (inv.split ∙ ap (λ fs. map node_text done ++ fs) c.in-Some.ensures.some) ∙ e))
 
 pub loop-field-preserved : goal.loop-field-preserved
@@ -20,7 +21,8 @@ loop-field-preserved c =
     let inv = c.loop-field.invariant in
     let used = c.in_ok-read_used.field-0 in
     let done : List Node = map node_of c.loop-field.nodes.items in
-    let pushed : map node_of c.push.new.self.items ≡ done ++ node_of used ∷ [] = ap (map node_of) c.push.ensures.items ∙ map_push node_of c.loop-field.nodes.items used in
+    let pushed : map node_of c.push.new.self.items ≡ done ++ node_of used ∷ [] =
+    ap (map node_of) c.push.ensures.items ∙ map_push node_of c.loop-field.nodes.items used in
     record {
       room = omega (arith, c.push.ensures.len, inv.room, ap length c.in-Some.ensures.some);
       each = subst (All IsNode) (sym pushed) (All-push IsNode _ _ inv.each c.in_ok-read_used.ensures.found.0);

@@ -54,7 +54,8 @@ loop-command-preserved g c =
           inv.book;
       list = e.list.0 ∙ inv.list;
       lawful = λ law. steps_keep_law _ _ _ _ _ (inv.lawful law) e.step;
-      ended = ended_more _ _ _ _ _ _ _ _ _ c.union-ended.ensures inv.lawful inv.ended (wakes_told _ _ _ _ c.as_slice.ensures.value c.ended_by.ensures.all) e.step;
+      ended = ended_more _ _ _ _ _ _ _ _ _ c.union-ended.ensures inv.lawful inv.ended
+          (wakes_told _ _ _ _ c.as_slice.ensures.value c.ended_by.ensures.all) e.step;
     }
 
 pub returns-then-last-clause-run : goal.returns-then-last-clause-run

@@ -30,7 +30,9 @@ loop-slot-preserved c =
         ap length w.rows-is ∙ length-set c.loop-slot.rows t w.bits.result ∙ so.len,
         subst (AreRowsShown edge c.args.rows.now) (sym w.rows-is) (rows-shown edge t w.bits.result c.args.rows.now c.loop-slot.rows
             (omega (arith, low, so.len, c.told-rows))
-            (w.bits.ensures.is ∙ bits_of-same _ _ (λ u low. reached-row c.args.headers.now.entries c.args.seats.now c.args.node h q t i w.in-Some-wanted_on.wanted c.loop-slot.passed w.row_behind.result
+            (w.bits.ensures.is ∙ bits_of-same _ _
+            (λ u low. reached-row c.args.headers.now.entries c.args.seats.now c.args.node h q t i w.in-Some-wanted_on.wanted c.loop-slot.passed
+            w.row_behind.result
             (0, NL) (ap header_or_new c.in-Some.ensures) c.queue-slot-items.ensures w.in-Some-wanted_on.ensures c.loop-slot-test.true refl so.passed
             (sym w.contains.ensures ∙ w.if-not-contains.true) w.row_behind.ensures u)) so.rows),
       )

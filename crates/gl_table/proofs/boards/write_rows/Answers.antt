@@ -14,7 +14,8 @@ loop-slot-preserved-then-is_unwritten c = (
 )
 
 pub show_waiter-requires-clause-none : goal.show_waiter-requires-clause-none
-show_waiter-requires-clause-none c = rows-unwritten (waits_for (shown c.args.headers.now.entries c.args.seats.now.items 0)) c.loop-slot.left c.in-Some.slot c.loop-slot.rows
+show_waiter-requires-clause-none c = rows-unwritten
+    (waits_for (shown c.args.headers.now.entries c.args.seats.now.items 0)) c.loop-slot.left c.in-Some.slot c.loop-slot.rows
     (c.is_unwritten.ensures.0 c.if-is_unwritten.true) c.loop-slot.invariant.1
 
 pub loop-slot-preserved : goal.loop-slot-preserved

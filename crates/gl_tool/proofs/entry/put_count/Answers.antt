@@ -15,7 +15,8 @@ counted w w' s' text empty whole h =
     let k = subst (λ b. Handed w w' s'.held.items b text) whole h in
     subst (Appends w w') (sym (k.2 ∙ ap (λ l. k.0 ++ l) empty ∙ append-nil k.0)) k.1
 
-begun : (w w' : Option (List ℕ)) (s' : Sink) (text : List ℕ) → s'.broken ≡ true → Holds w w' s' text → (front : List ℕ) × (rest : List ℕ) × Appends w w' front × (text ≡ front ++ rest)
+begun : (w w' : Option (List ℕ)) (s' : Sink) (text : List ℕ) → s'.broken ≡ true → Holds w w' s' text → (front : List ℕ) × (rest : List ℕ)
+    × Appends w w' front × (text ≡ front ++ rest)
 begun w w' s' text broken h =
     let k = subst (λ b. Handed w w' s'.held.items b text) broken h in (k.0, k.2.0, k.1, k.2.1)
 
@@ -23,12 +24,16 @@ pub returns-then-sink : goal.returns-then-sink
 returns-then-sink g c =
     let number = Hands-then _ _ _ _ _ _ _ _ c.put.ensures c.put_number.ensures in
     let line = Hands-then _ _ _ _ _ _ _ _ number c.put-2.ensures in
-    let all = Hands-then _ _ _ _ _ _ _ _ line c.flush.ensures.text in
-    (refl, begun _ _ _ _ c.if-sink.true (subst (Holds _ _ _) (append-nil _) (from_empty _ _ _ _ _ c.new_sink-sink.ensures.empty c.new_sink-sink.ensures.whole all)))
+    let all = Hands-then _ _ _ _ _ _ _ _ line c.flush.ensures.text in (
+      refl,
+      begun _ _ _ _ c.if-sink.true
+          (subst (Holds _ _ _) (append-nil _) (from_empty _ _ _ _ _ c.new_sink-sink.ensures.empty c.new_sink-sink.ensures.whole all)),
+    )
 
 pub returns-else-sink : goal.returns-else-sink
 returns-else-sink g c =
     let number = Hands-then _ _ _ _ _ _ _ _ c.put.ensures c.put_number.ensures in
     let line = Hands-then _ _ _ _ _ _ _ _ number c.put-2.ensures in
     let all = Hands-then _ _ _ _ _ _ _ _ line c.flush.ensures.text in
-    counted _ _ _ _ c.flush.ensures.empty c.if-sink.false (subst (Holds _ _ _) (append-nil _) (from_empty _ _ _ _ _ c.new_sink-sink.ensures.empty c.new_sink-sink.ensures.whole all))
+    counted _ _ _ _ c.flush.ensures.empty c.if-sink.false
+    (subst (Holds _ _ _) (append-nil _) (from_empty _ _ _ _ _ c.new_sink-sink.ensures.empty c.new_sink-sink.ensures.whole all))

@@ -21,5 +21,6 @@ returns-then-contains g c =
 pub returns-else-contains : goal.returns-else-contains
 returns-else-contains g c = λ u. (
   (λ h. cc (c.empty.ensures.none u)),
-  (λ on. let round = (c.reached_from-reached.ensures c.args.slot).1 (reaches_join (g.T.WaitsFor.edge c.args.waits.now) c.args.slot u c.args.slot on.there on.back) in cc),
+  (λ on. let round = (c.reached_from-reached.ensures c.args.slot).1
+      (reaches_join (g.T.WaitsFor.edge c.args.waits.now) c.args.slot u c.args.slot on.there on.back) in cc),
 )

@@ -1,4 +1,5 @@
-use Rattle.std.proofs.Common.{◌≡◌, ◌≢◌, ℕ, ◌+◌, ⊎_elim, Bool, true, false, ◌&&◌, ◌||◌, nat_lt, List, length, get_or, set, ◌<◌, ◌≤◌, refl, sym, ap, ap₂, ◌∙◌, subst, arith}
+use Rattle.std.proofs.Common.{◌≡◌, ◌≢◌, ℕ, ◌+◌, ⊎_elim, Bool, true, false, ◌&&◌, ◌||◌, nat_lt, List, length, get_or, set, ◌<◌, ◌≤◌, refl, sym, ap}
+use Rattle.std.proofs.Common.{ap₂, ◌∙◌, subst, arith}
 use Rattle.std.proofs.lemmas.Bool.{cases_eq}
 use Rattle.std.proofs.lemmas.Bool.Decides.{nat_tests}
 use Rattle.std.proofs.lemmas.List.{get_or-set_same, get_or-set_other}
@@ -16,18 +17,21 @@ IsPassed before now middle beyond i = (s u : ℕ) → row_edge now s u ≡ (row_
 same_row : (a b now : Bool) (s i : ℕ) → s ≢ i → now ≡ (a || (nat_lt s i && b)) → now ≡ (a || (nat_lt s (i + 1) && b))
 same_row a b now s i ne h = grind (arith, nat_tests)
 
-this_row : (a now has beyond : Bool) (i : ℕ) → now ≡ (a || (nat_lt i i && (has && beyond))) → (now || (has && beyond)) ≡ (a || (nat_lt i (i + 1) && (has && beyond)))
+this_row : (a now has beyond : Bool) (i : ℕ) → now ≡ (a || (nat_lt i i && (has && beyond)))
+    → (now || (has && beyond)) ≡ (a || (nat_lt i (i + 1) && (has && beyond)))
 this_row a now has beyond i h = grind (arith, nat_tests)
 
 untouched : (a now : Bool) (b : Bool) (i : ℕ) → now ≡ (a || (nat_lt i i && b)) → now ≡ a
 untouched a now b i h = grind (arith, nat_tests)
 
-passed_row : (before now after : List Slots) (middle : ℕ) (beyond : Slots) (i : ℕ) → IsPassed before now middle beyond i → ((s u : ℕ) → s ≢ i → row_edge after s u ≡ row_edge now s u)
+passed_row : (before now after : List Slots) (middle : ℕ) (beyond : Slots) (i : ℕ) → IsPassed before now middle beyond i
+    → ((s u : ℕ) → s ≢ i → row_edge after s u ≡ row_edge now s u)
     → ((u : ℕ) → row_edge after i u ≡ (row_edge now i u || (row_edge now i middle && has_slot beyond u))) → IsPassed before after middle beyond (i + 1)
 passed_row before now after middle beyond i passed others this s u =
     ⊎_elim
     (λ is. subst (λ x. row_edge after x u ≡ (row_edge before x u || (nat_lt x (i + 1) && (row_edge before x middle && has_slot beyond u)))) (sym is)
-    (this u ∙ ap (λ b. row_edge now i u || (b && has_slot beyond u)) (untouched _ _ _ i (passed i middle)) ∙ this_row (row_edge before i u) (row_edge now i u) (row_edge before i middle) (has_slot beyond u) i (passed i u)))
+    (this u ∙ ap (λ b. row_edge now i u || (b && has_slot beyond u)) (untouched _ _ _ i (passed i middle))
+    ∙ this_row (row_edge before i u) (row_edge now i u) (row_edge before i middle) (has_slot beyond u) i (passed i u)))
     (λ ne. others s u ne ∙ same_row _ _ _ s i ne (passed s u))
     (cases_eq s i)
 

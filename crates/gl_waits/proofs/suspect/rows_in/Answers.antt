@@ -26,14 +26,17 @@ loop-slot-init c = (
 pub loop-slot-preserved : goal.loop-slot-preserved
 loop-slot-preserved c = (
   length-set c.loop-slot.rows c.loop-slot.slot c.from_bits.result ∙ c.loop-slot.invariant.0,
-  λ s u. ⊎_elim (λ is. at s u is) (λ ne. row_edge-set_other c.loop-slot.rows c.loop-slot.slot s u c.from_bits.result ne ∙ others s c.loop-slot.slot _ _ ne (c.loop-slot.invariant.1 s u)) (cases_eq s c.loop-slot.slot),
+  λ s u. ⊎_elim (λ is. at s u is) (λ ne. row_edge-set_other c.loop-slot.rows c.loop-slot.slot s u c.from_bits.result ne
+      ∙ others s c.loop-slot.slot _ _ ne (c.loop-slot.invariant.1 s u)) (cases_eq s c.loop-slot.slot),
 )
   where
     inside : c.loop-slot.slot < length c.loop-slot.rows
     inside = let h = c.loop-slot-test.true in let many = c.loop-slot.invariant.0 in omega arith
 
-    at : (s u : ℕ) → s ≡ c.loop-slot.slot → row_edge (set c.loop-slot.rows c.loop-slot.slot c.from_bits.result) s u ≡ (nat_lt s (c.loop-slot.slot + 1) && board_edge c.args.board.now s u)
-    at s u is = subst (λ x. row_edge (set c.loop-slot.rows c.loop-slot.slot c.from_bits.result) x u ≡ (nat_lt x (c.loop-slot.slot + 1) && board_edge c.args.board.now x u)) (sym is)
+    at : (s u : ℕ) → s ≡ c.loop-slot.slot
+        → row_edge (set c.loop-slot.rows c.loop-slot.slot c.from_bits.result) s u ≡ (nat_lt s (c.loop-slot.slot + 1) && board_edge c.args.board.now s u)
+    at s u is = subst (λ x. row_edge (set c.loop-slot.rows c.loop-slot.slot c.from_bits.result) x u ≡ (nat_lt x (c.loop-slot.slot + 1)
+        && board_edge c.args.board.now x u)) (sym is)
         (row_edge-set_same c.loop-slot.rows c.loop-slot.slot u c.from_bits.result inside
         ∙ c.from_bits.ensures u
         ∙ bit_edge-read c.args.board.now.rows c.loop-slot.slot u _ (omega arith)

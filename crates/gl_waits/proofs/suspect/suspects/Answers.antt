@@ -11,6 +11,9 @@ returns-then-shows_nobody c = λ s. (
 
 pub returns-else-shows_nobody : goal.returns-else-shows_nobody
 returns-else-shows_nobody c = λ s. (
-  (λ h. reaches-on_cycle (board_edge c.args.board.now) s (reaches_more _ _ (λ x y e. sym (c.rows_in.ensures x y) ∙ e) s s ((c.reaches_of_all.ensures s s).0 (sym (c.diagonal.ensures s) ∙ sym (c.bits-else-shows_nobody.ensures.shows s) ∙ h)))),
-  (λ on. c.bits-else-shows_nobody.ensures.shows s ∙ c.diagonal.ensures s ∙ (c.reaches_of_all.ensures s s).1 (reaches_more _ _ (λ x y e. c.rows_in.ensures x y ∙ e) s s (on_cycle-reaches (board_edge c.args.board.now) s on))),
+  (λ h. reaches-on_cycle (board_edge c.args.board.now) s
+      (reaches_more _ _ (λ x y e. sym (c.rows_in.ensures x y) ∙ e) s s
+      ((c.reaches_of_all.ensures s s).0 (sym (c.diagonal.ensures s) ∙ sym (c.bits-else-shows_nobody.ensures.shows s) ∙ h)))),
+  (λ on. c.bits-else-shows_nobody.ensures.shows s ∙ c.diagonal.ensures s
+      ∙ (c.reaches_of_all.ensures s s).1 (reaches_more _ _ (λ x y e. c.rows_in.ensures x y ∙ e) s s (on_cycle-reaches (board_edge c.args.board.now) s on))),
 )

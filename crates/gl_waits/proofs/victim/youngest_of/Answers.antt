@@ -8,7 +8,8 @@ loop-slot-init g c = ((λ u. refl), (λ u h. h))
 pub loop-slot-preserved-then-is_younger : goal.loop-slot-preserved-then-is_younger
 loop-slot-preserved-then-is_younger g c = (
   chosen-younger c.args.set c.loop-slot.left c.take_lowest.new.self (g.A.Ages.age_of c.args.ages.now) c.in-Some.slot
-      c.in-Some.ensures.some c.loop-slot.invariant.1 c.in-Some.ensures.left c.loop-slot.chosen c.loop-slot.invariant.0 (sym c.is_younger.ensures ∙ c.if-is_younger.true),
+      c.in-Some.ensures.some c.loop-slot.invariant.1 c.in-Some.ensures.left c.loop-slot.chosen c.loop-slot.invariant.0
+      (sym c.is_younger.ensures ∙ c.if-is_younger.true),
   still-within c.args.set c.loop-slot.left c.take_lowest.new.self (g.A.Ages.age_of c.args.ages.now) c.in-Some.slot
       c.in-Some.ensures.some c.loop-slot.invariant.1 c.in-Some.ensures.left,
 )
@@ -16,16 +17,20 @@ loop-slot-preserved-then-is_younger g c = (
 pub loop-slot-preserved : goal.loop-slot-preserved
 loop-slot-preserved g c = (
   chosen-stays c.args.set c.loop-slot.left c.take_lowest.new.self (g.A.Ages.age_of c.args.ages.now) c.in-Some.slot
-      c.in-Some.ensures.some c.loop-slot.invariant.1 c.in-Some.ensures.left c.loop-slot.chosen c.loop-slot.invariant.0 (sym c.is_younger.ensures ∙ c.if-is_younger.false),
+      c.in-Some.ensures.some c.loop-slot.invariant.1 c.in-Some.ensures.left c.loop-slot.chosen c.loop-slot.invariant.0
+      (sym c.is_younger.ensures ∙ c.if-is_younger.false),
   still-within c.args.set c.loop-slot.left c.take_lowest.new.self (g.A.Ages.age_of c.args.ages.now) c.in-Some.slot
       c.in-Some.ensures.some c.loop-slot.invariant.1 c.in-Some.ensures.left,
 )
 
 pub returns-clause-none : goal.returns-clause-none
-returns-clause-none g c = chosen-none c.args.set c.loop-slot.left (g.A.Ages.age_of c.args.ages.now) c.in_default.ensures.none c.loop-slot.chosen c.loop-slot.invariant.0
+returns-clause-none g c = chosen-none c.args.set c.loop-slot.left
+    (g.A.Ages.age_of c.args.ages.now) c.in_default.ensures.none c.loop-slot.chosen c.loop-slot.invariant.0
 
 pub returns-clause-some : goal.returns-clause-some
-returns-clause-some g c = chosen-youngest c.args.set c.loop-slot.left (g.A.Ages.age_of c.args.ages.now) c.in_default.ensures.none c.loop-slot.chosen c.loop-slot.invariant.0
+returns-clause-some g c = chosen-youngest c.args.set c.loop-slot.left
+    (g.A.Ages.age_of c.args.ages.now) c.in_default.ensures.none c.loop-slot.chosen c.loop-slot.invariant.0
 
 pub returns-clause-low : goal.returns-clause-low
-returns-clause-low g c = chosen-low c.args.set c.loop-slot.left (g.A.Ages.age_of c.args.ages.now) c.in_default.ensures.none c.loop-slot.chosen c.loop-slot.invariant.0
+returns-clause-low g c = chosen-low c.args.set c.loop-slot.left
+    (g.A.Ages.age_of c.args.ages.now) c.in_default.ensures.none c.loop-slot.chosen c.loop-slot.invariant.0

@@ -18,8 +18,10 @@ returns-in-Youngest-clause-none g c = (
 
 pub returns-in-Youngest-clause-some : goal.returns-in-Youngest-clause-some
 returns-in-Youngest-clause-some g c =
-    subst (λ (victims : Victims). IfSome c.youngest_of.result (IsLowestYoungest (IsCandidate victims edge c.args.slot) (g.A.Ages.age_of c.args.ages.now))) (sym c.in-Youngest.is)
-    (same-some_youngest (λ u. IsTrue (has_slot c.on_cycle_in.result u)) (IsOnCycleOf edge c.args.slot) c.on_cycle_in.ensures (g.A.Ages.age_of c.args.ages.now) c.youngest_of.result c.youngest_of.ensures.some)
+    subst (λ (victims : Victims). IfSome c.youngest_of.result
+    (IsLowestYoungest (IsCandidate victims edge c.args.slot) (g.A.Ages.age_of c.args.ages.now))) (sym c.in-Youngest.is)
+    (same-some_youngest (λ u. IsTrue (has_slot c.on_cycle_in.result u)) (IsOnCycleOf edge c.args.slot) c.on_cycle_in.ensures
+    (g.A.Ages.age_of c.args.ages.now) c.youngest_of.result c.youngest_of.ensures.some)
   where
     edge : ℕ → ℕ → Bool
     edge = g.T.WaitsFor.edge c.args.waits.now

@@ -11,7 +11,8 @@ more a b r s e f = ap₂ with_rule e f
 
 pub returns : goal.returns
 returns c =
-    let bare_is : app_of c.no_binary_name.result ≡ bare_app = ap app_of_fields c.no_binary_name.ensures ∙ ap (λ (a : App). record a { top = record a.top { no_binary_name = true } }) c.new.ensures.app in
+    let bare_is : app_of c.no_binary_name.result ≡ bare_app =
+    ap app_of_fields c.no_binary_name.ensures ∙ ap (λ (a : App). record a { top = record a.top { no_binary_name = true } }) c.new.ensures.app in
     let one = c.in_ok-arg.ensures.shape c.option-detect.ensures.local ∙ more _ _ _ _ bare_is c.option-detect.ensures.rule in
     let two = c.in_ok-arg-2.ensures.shape c.option-victims.ensures.local ∙ more _ _ _ _ one c.option-victims.ensures.rule in
     let three = c.in_ok-arg-3.ensures.shape c.flag-listings.ensures.local ∙ more _ _ _ _ two c.flag-listings.ensures.rule in

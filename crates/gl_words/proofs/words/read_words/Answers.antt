@@ -34,7 +34,8 @@ unfolding faults_in
 faults_are app words is = ap (λ a. fault_of a words) is
 
 -- where clap refuses the words, and not for memory, they ask for nothing
-refused : (kinds : Kinds) (words : List Text) (e : Error) (u : Unread) → (u ≡ Memory) ↔ (kind_of e ≡ OutOfMemory) → kinds ≡ faults_in words → HasKind kinds e → Reads words (Err u)
+refused : (kinds : Kinds) (words : List Text) (e : Error) (u : Unread) → (u ≡ Memory) ↔ (kind_of e ≡ OutOfMemory) → kinds ≡ faults_in words
+    → HasKind kinds e → Reads words (Err u)
 refused kinds words e Memory why are h = tt
 refused kinds words e Words why are (inl wanting) = let bad : Words ≡ Memory = why.1 wanting in absurd (cc)
 refused [] words e Words why are (inr among) = absurd among
@@ -44,7 +45,8 @@ pub returns-in-Err : goal.returns-in-Err
 returns-in-Err g c =
     let app_is = c.in-Ok.ensures in
     let words = map g.S.AsStr.text c.args.words.now in
-    refused _ words c.in-Err.error c.cause.result (search rules) (faults_are _ words app_is) (c.in-Err.ensures.kinds (ap is_simple_and_free app_is ∙ is_free_tool))
+    refused _ words c.in-Err.error c.cause.result (search rules) (faults_are _ words app_is)
+    (c.in-Err.ensures.kinds (ap is_simple_and_free app_is ∙ is_free_tool))
 
 -- the values of the options, as the words hold them
 module _ (words : List Text) (way choice : Option Text) (listings : Bool) (crew rounds : Option Text) (way_is : way ≡ first_of (codes "detect") (rows_in words))
@@ -62,7 +64,8 @@ module _ (words : List Text) (way choice : Option Text) (listings : Bool) (crew 
   something asked p = transport (asked_is asked) p
 
 -- what clap gives for an option
-value : (app : App) (words : List Text) (m : ArgMatches) (id : Text) (o : Option Text) → app ≡ tool_app → HasMatchesOf app words m → o ≡ first_value (found_of m) id → o ≡ first_of id (rows_in words)
+value : (app : App) (words : List Text) (m : ArgMatches) (id : Text) (o : Option Text) → app ≡ tool_app → HasMatchesOf app words m
+    → o ≡ first_value (found_of m) id → o ≡ first_of id (rows_in words)
 value app words m id o is h e = e ∙ first_value-rows (found_of m) id ∙ ap (first_of id) (rows_are app words m is h)
 
 pub returns-in-Some : goal.returns-in-Some

@@ -16,7 +16,8 @@ returns-clause-index c =
     let file : c.in_ok-file.field-0.now ≡ first_parent (graph_of c.args.graph.now) c.args.rec =
     is_first c.parents.result.now _ c.in_ok-file.ensures.item.0 c.in_ok-file.ensures.item.1 ∙ ap first_in c.parents.ensures in
     let one = sym c.indexes-indexes.ensures ∙ only c.indexes-indexes.result.now c.args.index _ c.if-indexes-ne1.false c.if-ne.ensures in
-    of_file (graph_of c.args.graph.now) (first_parent (graph_of c.args.graph.now) c.args.rec) c.args.index (ap (indexes_of (graph_of c.args.graph.now)) (sym file) ∙ one)
+    of_file (graph_of c.args.graph.now) (first_parent (graph_of c.args.graph.now) c.args.rec) c.args.index
+    (ap (indexes_of (graph_of c.args.graph.now)) (sym file) ∙ one)
 
 pub returns-clause-parents : goal.returns-clause-parents
 returns-clause-parents c =

@@ -66,13 +66,15 @@ pub deliver-requires : goal.deliver-requires
 deliver-requires c =
     let h = made c.self.inside.registry c.serve.new.self c.args.command c.in-Some.answer
     c.serve.new.told.items c.in-Some.ensures in
-    subst (λ (l : List (TxnId × Notice)). RisingTo 0 l most_slots) (sym c.as_slice.ensures.value) (step_rises _ _ _ _ _ c.law.ensures.manager.few h.applies.step)
+    subst (λ (l : List (TxnId × Notice)). RisingTo 0 l most_slots) (sym c.as_slice.ensures.value)
+    (step_rises _ _ _ _ _ c.law.ensures.manager.few h.applies.step)
 
 pub ended_by-self-inside-requires : goal.ended_by-self-inside-requires
 ended_by-self-inside-requires c =
     let h = made c.self.inside.registry c.serve.new.self c.args.command c.in-Some.answer
     c.serve.new.told.items c.in-Some.ensures in
-    subst (λ (l : List (TxnId × Notice)). RisingTo 0 l most_slots) (sym c.as_slice-2.ensures.value) (step_rises _ _ _ _ _ c.law.ensures.manager.few h.applies.step)
+    subst (λ (l : List (TxnId × Notice)). RisingTo 0 l most_slots) (sym c.as_slice-2.ensures.value)
+    (step_rises _ _ _ _ _ c.law.ensures.manager.few h.applies.step)
 
 pub invariant_of-self-2 : goal.invariant_of-self-2
 invariant_of-self-2 c =

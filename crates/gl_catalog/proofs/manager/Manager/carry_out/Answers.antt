@@ -35,7 +35,8 @@ returns-in-Begin c =
 pub returns-in-Lock : goal.returns-in-Lock
 returns-in-Lock c =
     carries_telling answer_of_lock c.args.self.now c.lock_telling.new.self _ c.args.command c.lock_telling.result c.lock_answer.result
-    c.lock_answer.ensures c.in-Lock.is c.lock_telling.ensures.err (keeps_locked (command.Lock c.in-Lock.txn c.in-Lock.node c.in-Lock.mode) c.args.self.now c.lock_telling.new.self)
+    c.lock_answer.ensures c.in-Lock.is c.lock_telling.ensures.err
+    (keeps_locked (command.Lock c.in-Lock.txn c.in-Lock.node c.in-Lock.mode) c.args.self.now c.lock_telling.new.self)
     c.lock_telling.new.told c.args.told.now c.lock_telling.ensures.untold c.requires.empty c.lock_telling.ensures.step c.lock_telling.ensures.completes
 
 pub returns-in-Try : goal.returns-in-Try
@@ -54,7 +55,8 @@ pub returns-in-Escalate : goal.returns-in-Escalate
 returns-in-Escalate c =
     carries_telling answer.Escalated c.args.self.now c.escalate_telling.new.self _ c.args.command c.escalate_telling.result c.escalate_answer.result
     c.escalate_answer.ensures c.in-Escalate.is c.escalate_telling.ensures.err (λ x h. h)
-    c.escalate_telling.new.told c.args.told.now c.escalate_telling.ensures.untold c.requires.empty c.escalate_telling.ensures.step c.escalate_telling.ensures.completes
+    c.escalate_telling.new.told c.args.told.now c.escalate_telling.ensures.untold c.requires.empty c.escalate_telling.ensures.step
+    c.escalate_telling.ensures.completes
 
 pub returns-in-Cancel : goal.returns-in-Cancel
 returns-in-Cancel c =
@@ -104,7 +106,8 @@ pub returns-in-Move : goal.returns-in-Move
 returns-in-Move c =
     carries_telling (λ u. answer.Done) c.args.self.now c.relocate_telling.new.self _ c.args.command c.relocate_telling.result c.done_answer-in-Move.result
     c.done_answer-in-Move.ensures c.in-Move.is c.relocate_telling.ensures.err (λ x h. h)
-    c.relocate_telling.new.told c.args.told.now c.relocate_telling.ensures.untold c.requires.empty c.relocate_telling.ensures.step c.relocate_telling.ensures.completes
+    c.relocate_telling.new.told c.args.told.now c.relocate_telling.ensures.untold c.requires.empty c.relocate_telling.ensures.step
+    c.relocate_telling.ensures.completes
 
 pub returns-in-Adopt : goal.returns-in-Adopt
 returns-in-Adopt c =
@@ -142,7 +145,8 @@ returns-in-Held c =
 
 pub returns-in-Effective : goal.returns-in-Effective
 returns-in-Effective c =
-    carries_query answer.Effect c.args.self.now (command.Effective c.in-Effective.txn c.in-Effective.node) c.args.command c.effective.result c.effect_answer.result
+    carries_query answer.Effect c.args.self.now
+    (command.Effective c.in-Effective.txn c.in-Effective.node) c.args.command c.effective.result c.effect_answer.result
     c.args.told.now (λ x. refl) (λ x. raised_by_none c.args.self.now.counters)
     (subst (λ (v : ManagerView). CallSteps (state_of v) (command.Effective c.in-Effective.txn c.in-Effective.node) read_effect c.effective.result
     (state_of v)) c.self-in-Effective.view_is (asked_step read_effect (command.Effective c.in-Effective.txn c.in-Effective.node) (state_of

@@ -11,5 +11,6 @@ pub insert-requires-clause-lawful : goal.insert-requires-clause-lawful
 insert-requires-clause-lawful c = λ key law free.
     let may = parents_unrefused (graph_of c.args.self.now) 1 c.args.parents.now (verdict_ok _ _ c.in_ok-check_parents.ensures) in
     let unadopted : c.in-Ok.body.value.adopted ≡ false = ap (λ kept. kept.adopted) c.in-Ok.ensures.ok in
-    subst (λ adopted. IsLawfulGraph (born_node (graph_of c.args.self.now) (record { key = key; shape = File adopted; parents = c.args.parents.now }))) (sym unadopted)
+    subst (λ adopted. IsLawfulGraph (born_node (graph_of c.args.self.now)
+    (record { key = key; shape = File adopted; parents = c.args.parents.now }))) (sym unadopted)
     (file_lawful (graph_of c.args.self.now) law key c.args.parents.now may.inner free may.room)

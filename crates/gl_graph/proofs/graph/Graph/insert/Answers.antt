@@ -14,17 +14,30 @@ pub invariant_of-self-2 : goal.invariant_of-self-2
 invariant_of-self-2 c =
     let x : Stored = record { birth = c.self.inside.births + 1; parents = c.in-Ok.parents; body = c.args.body } in
     let old = c.self.inside.nodes in
-    let free = inserted_free (limits_of c.self.inside) old c.insert.new.self c.self.inside.births c.in-Ok-insert.key x c.self.invariant.apart (born_within (limits_of c.self.inside) old c.self.inside.births c.self.invariant) c.in-Ok-insert.ensures.was_vacant c.in-Ok-insert.ensures.updates refl in
-    let allowed : IsFreeKey (graph_of (seen (limits_of c.self.inside) old c.self.inside.births)) c.in-Ok-insert.key → IsLawfulGraph (born_node (graph_of (seen (limits_of c.self.inside) old c.self.inside.births)) (record { key = c.in-Ok-insert.key; shape = shape_in_body c.args.body; parents = c.args.parents.now })) =
-    subst (λ (v : View). IsLawfulGraph (graph_of v) → IsFreeKey (graph_of v) c.in-Ok-insert.key → IsLawfulGraph (born_node (graph_of v) (record { key = c.in-Ok-insert.key; shape = shape_in_body c.args.body; parents = c.args.parents.now }))) (sym c.self.view_is) (c.requires.lawful c.in-Ok-insert.key) c.self.invariant.lawful in
-    sound_born (limits_of c.self.inside) old c.insert.new.self c.self.inside.births c.in-Ok-insert.key x c.self.invariant c.in-Ok-insert.ensures.was_vacant c.in-Ok-insert.ensures.updates refl c.requires.plain
-    (subst (λ ps. IsLawfulGraph (born_node (graph_of (seen (limits_of c.self.inside) old c.self.inside.births)) (record { key = c.in-Ok-insert.key; shape = shape_in_body c.args.body; parents = ps }))) (sym c.in-Ok.ensures) (allowed free))
+    let free = inserted_free (limits_of c.self.inside) old c.insert.new.self c.self.inside.births c.in-Ok-insert.key x c.self.invariant.apart
+    (born_within (limits_of c.self.inside) old c.self.inside.births c.self.invariant) c.in-Ok-insert.ensures.was_vacant
+    c.in-Ok-insert.ensures.updates refl in
+    let allowed : IsFreeKey (graph_of (seen (limits_of c.self.inside) old c.self.inside.births)) c.in-Ok-insert.key
+    → IsLawfulGraph (born_node (graph_of (seen (limits_of c.self.inside) old c.self.inside.births))
+    (record { key = c.in-Ok-insert.key; shape = shape_in_body c.args.body; parents = c.args.parents.now })) =
+    subst (λ (v : View). IsLawfulGraph (graph_of v) → IsFreeKey (graph_of v) c.in-Ok-insert.key
+    → IsLawfulGraph (born_node (graph_of v)
+    (record { key = c.in-Ok-insert.key; shape = shape_in_body c.args.body; parents = c.args.parents.now }))) (sym c.self.view_is)
+    (c.requires.lawful c.in-Ok-insert.key) c.self.invariant.lawful in
+    sound_born (limits_of c.self.inside) old c.insert.new.self c.self.inside.births c.in-Ok-insert.key x c.self.invariant
+    c.in-Ok-insert.ensures.was_vacant c.in-Ok-insert.ensures.updates refl c.requires.plain
+    (subst (λ ps. IsLawfulGraph (born_node (graph_of (seen (limits_of c.self.inside) old c.self.inside.births))
+    (record { key = c.in-Ok-insert.key; shape = shape_in_body c.args.body; parents = ps }))) (sym c.in-Ok.ensures) (allowed free))
     c.in-Ok-insert.ensures.len
 
 pub returns-clause-made : goal.returns-clause-made
 returns-clause-made c =
     let x : Stored = record { birth = c.self.inside.births + 1; parents = c.in-Ok.parents; body = c.args.body } in
     let old = c.self.inside.nodes in
-    let born = is_born (limits_of c.self.inside) old c.insert.new.self c.self.inside.births c.in-Ok-insert.key x c.self.invariant c.in-Ok-insert.ensures.was_vacant c.in-Ok-insert.ensures.updates refl in
-    subst (λ (v : View). IsBorn (graph_of v) (graph_of (seen (limits_of c.self.inside) c.insert.new.self (c.self.inside.births + 1))) (record { key = c.in-Ok-insert.key; birth = c.self.inside.births + 1 }) (shape_in_body c.args.body) c.args.parents.now) c.self.view_is
-    (subst (λ ps. IsBorn (graph_of (seen (limits_of c.self.inside) old c.self.inside.births)) (graph_of (seen (limits_of c.self.inside) c.insert.new.self (c.self.inside.births + 1))) (record { key = c.in-Ok-insert.key; birth = c.self.inside.births + 1 }) (shape_in_body c.args.body) ps) c.in-Ok.ensures born)
+    let born = is_born (limits_of c.self.inside) old c.insert.new.self c.self.inside.births c.in-Ok-insert.key x c.self.invariant
+    c.in-Ok-insert.ensures.was_vacant c.in-Ok-insert.ensures.updates refl in
+    subst (λ (v : View). IsBorn (graph_of v) (graph_of (seen (limits_of c.self.inside) c.insert.new.self (c.self.inside.births + 1)))
+    (record { key = c.in-Ok-insert.key; birth = c.self.inside.births + 1 }) (shape_in_body c.args.body) c.args.parents.now) c.self.view_is
+    (subst (λ ps. IsBorn (graph_of (seen (limits_of c.self.inside) old c.self.inside.births))
+    (graph_of (seen (limits_of c.self.inside) c.insert.new.self (c.self.inside.births + 1)))
+    (record { key = c.in-Ok-insert.key; birth = c.self.inside.births + 1 }) (shape_in_body c.args.body) ps) c.in-Ok.ensures born)

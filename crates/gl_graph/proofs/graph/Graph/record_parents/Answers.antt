@@ -9,7 +9,8 @@ use Rattle.gl_graph.proofs.graph.Graph.record_parents.Goals as goal
 
 pub loop-place-init : goal.loop-place-init
 loop-place-init c = record {
-  so_far = ap₂ (λ ps is. ps ++ intervals_of (graph_of c.args.self.now) is c.args.keys.now) (c.push.ensures.items ∙ ap (λ ps. ps ++ c.args.file ∷ []) c.new-parents.ensures) c.indexes-index-items.ensures;
+  so_far = ap₂ (λ ps is. ps ++ intervals_of (graph_of c.args.self.now) is c.args.keys.now)
+      (c.push.ensures.items ∙ ap (λ ps. ps ++ c.args.file ∷ []) c.new-parents.ensures) c.indexes-index-items.ensures;
   many = ap length (c.push.ensures.items ∙ ap (λ ps. ps ++ c.args.file ∷ []) c.new-parents.ensures);
 }
 
@@ -25,13 +26,17 @@ interval_of-requires c =
     let low : c.loop-place.place < length c.indexes-index-items.result.now = c.loop-place-test.true in
     let many = ap length c.indexes-index-items.ensures in
     let index = listed_index (graph_of c.args.self.now) c.args.file c.loop-place.place (record { key = 0; birth = 0 }) (omega arith) in
-    ap (λ is. is_index_shape (shape_of (graph_of c.args.self.now) (slice_index_or is c.loop-place.place (record { key = 0; birth = 0 })))) c.indexes-index-items.ensures
+    ap (λ is. is_index_shape (shape_of (graph_of c.args.self.now)
+    (slice_index_or is c.loop-place.place (record { key = 0; birth = 0 })))) c.indexes-index-items.ensures
     ∙ index_of_index c.args.file _ index
 
-step : (g : Graph) (parents is : List NodeId) (keys : List ℕ) (place : ℕ) (all : List NodeId) → place < length is → place < length keys → parents ++ intervals_of g (drop place is) (drop place keys) ≡ all
-    → (parents ++ interval_of g (slice_index_or is place (record { key = 0; birth = 0 })) (slice_index_or keys place 0) ∷ []) ++ intervals_of g (drop (place + 1) is) (drop (place + 1) keys) ≡ all
+step : (g : Graph) (parents is : List NodeId) (keys : List ℕ) (place : ℕ) (all : List NodeId) → place < length is → place < length keys → parents
+    ++ intervals_of g (drop place is) (drop place keys) ≡ all
+    → (parents ++ interval_of g (slice_index_or is place (record { key = 0; birth = 0 })) (slice_index_or keys place 0) ∷ [])
+    ++ intervals_of g (drop (place + 1) is) (drop (place + 1) keys) ≡ all
 step g parents is keys place all low low' e =
-    append_assoc parents (interval_of g (slice_index_or is place (record { key = 0; birth = 0 })) (slice_index_or keys place 0) ∷ []) (intervals_of g (drop (place + 1) is) (drop (place + 1) keys))
+    append_assoc parents (interval_of g (slice_index_or is place (record { key = 0; birth = 0 })) (slice_index_or keys place 0) ∷ [])
+    (intervals_of g (drop (place + 1) is) (drop (place + 1) keys))
     ∙ sym (ap (λ xs. parents ++ xs) (ap₂ (intervals_of g) (drop_more is place (record { key = 0; birth = 0 }) low) (drop_more keys place 0 low'))) ∙ e
 
 pub loop-place-preserved : goal.loop-place-preserved
@@ -41,13 +46,17 @@ loop-place-preserved c =
     let each = c.requires.keys in
     record {
       so_far =
-          ap (λ ps. ps ++ intervals_of (graph_of c.args.self.now) (drop (c.loop-place.place + 1) c.indexes-index-items.result.now) (drop (c.loop-place.place + 1) c.args.keys.now))
+          ap (λ ps. ps ++ intervals_of (graph_of c.args.self.now) (drop (c.loop-place.place + 1) c.indexes-index-items.result.now)
+          (drop (c.loop-place.place + 1) c.args.keys.now))
           (c.push-in-loop-place.ensures.items ∙ ap (λ n. c.loop-place.parents.items ++ n ∷ []) c.interval_of.ensures)
-          ∙ step (graph_of c.args.self.now) c.loop-place.parents.items c.indexes-index-items.result.now c.args.keys.now c.loop-place.place _ low (omega arith) c.loop-place.invariant.so_far;
+          ∙ step (graph_of c.args.self.now) c.loop-place.parents.items c.indexes-index-items.result.now c.args.keys.now c.loop-place.place _ low
+          (omega arith) c.loop-place.invariant.so_far;
       many = omega arith;
     }
 
 pub returns : goal.returns
 returns c =
     let none : drop c.loop-place.place c.indexes-index-items.result.now ≡ [] = drop_all c.loop-place.place c.indexes-index-items.result.now (omega arith) in
-    sym (append-nil c.loop-place.parents.items) ∙ sym (ap (λ is. c.loop-place.parents.items ++ intervals_of (graph_of c.args.self.now) is (drop c.loop-place.place c.args.keys.now)) none) ∙ c.loop-place.invariant.so_far
+    sym (append-nil c.loop-place.parents.items)
+    ∙ sym (ap (λ is. c.loop-place.parents.items ++ intervals_of (graph_of c.args.self.now) is (drop c.loop-place.place c.args.keys.now)) none)
+    ∙ c.loop-place.invariant.so_far

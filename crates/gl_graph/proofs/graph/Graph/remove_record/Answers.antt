@@ -15,15 +15,19 @@ pub records-records-requires : goal.records-records-requires
 records-records-requires c =
     let rec = subst (λ (v : View). is_record_shape (shape_of (graph_of v) c.args.rec) ≡ true) (sym c.self.view_is) c.requires in
     let file : is_file_shape (shape_of (graph_of c.args.self.now) (first_parent (graph_of c.args.self.now) c.args.rec)) ≡ true
-    = subst (λ (v : View). is_file_shape (shape_of (graph_of v) (first_parent (graph_of v) c.args.rec)) ≡ true) c.self.view_is (file_is (limits_of c.self.inside) c.self.inside.nodes c.self.inside.nodes c.self.inside.nodes c.self.inside.births c.self.invariant c.args.rec rec) in
+    = subst (λ (v : View). is_file_shape (shape_of (graph_of v) (first_parent (graph_of v) c.args.rec)) ≡ true) c.self.view_is
+    (file_is (limits_of c.self.inside) c.self.inside.nodes c.self.inside.nodes c.self.inside.nodes c.self.inside.births c.self.invariant c.args.rec rec) in
     ap (λ n. is_file_shape (shape_of (graph_of c.args.self.now) n)) c.file_of-file.ensures ∙ file
 
 pub overflow_sub-records : goal.overflow_sub-records
 overflow_sub-records c =
     let rec = subst (λ (v : View). is_record_shape (shape_of (graph_of v) c.args.rec) ≡ true) (sym c.self.view_is) c.requires in
-    let count = counted_there (limits_of c.self.inside) c.self.inside.nodes c.self.inside.nodes c.self.inside.nodes c.self.inside.births c.self.invariant c.args.rec rec in
-    let same : c.records-records.result ≡ record_count (graph_of (seen (limits_of c.self.inside) c.self.inside.nodes c.self.inside.births)) (first_parent (graph_of (seen (limits_of c.self.inside) c.self.inside.nodes c.self.inside.births)) c.args.rec)
-    = c.records-records.ensures ∙ ap (record_count (graph_of c.args.self.now)) c.file_of-file.ensures ∙ ap (λ (v : View). record_count (graph_of v) (first_parent (graph_of v) c.args.rec)) (sym c.self.view_is) in
+    let count = counted_there (limits_of c.self.inside) c.self.inside.nodes c.self.inside.nodes c.self.inside.nodes c.self.inside.births
+    c.self.invariant c.args.rec rec in
+    let same : c.records-records.result ≡ record_count (graph_of (seen (limits_of c.self.inside) c.self.inside.nodes c.self.inside.births))
+    (first_parent (graph_of (seen (limits_of c.self.inside) c.self.inside.nodes c.self.inside.births)) c.args.rec)
+    = c.records-records.ensures ∙ ap (record_count (graph_of c.args.self.now)) c.file_of-file.ensures
+    ∙ ap (λ (v : View). record_count (graph_of v) (first_parent (graph_of v) c.args.rec)) (sym c.self.view_is) in
     omega arith
 
 pub remove-requires : goal.remove-requires
@@ -35,28 +39,46 @@ pub write_records-requires : goal.write_records-requires
 write_records-requires c =
     let s = c.self.inside.nodes in
     let rec = subst (λ (v : View). is_record_shape (shape_of (graph_of v) c.args.rec) ≡ true) (sym c.self.view_is) c.requires in
-    let same : c.file_of-file.result ≡ first_parent (graph_of (seen (limits_of c.self.inside) c.self.inside.nodes c.self.inside.births)) c.args.rec = c.file_of-file.ensures ∙ ap (λ (v : View). first_parent (graph_of v) c.args.rec) (sym c.self.view_is) in
-    ap (λ (n : NodeId). is_some (get c.remove.new.self n.key)) same ∙ file_contained (limits_of c.self.inside) s c.remove.new.self c.remove.new.self c.self.inside.births c.self.invariant c.args.rec rec c.remove.ensures.updates c.remove.ensures.len
+    let same : c.file_of-file.result ≡ first_parent (graph_of (seen (limits_of c.self.inside) c.self.inside.nodes c.self.inside.births)) c.args.rec =
+    c.file_of-file.ensures ∙ ap (λ (v : View). first_parent (graph_of v) c.args.rec) (sym c.self.view_is) in
+    ap (λ (n : NodeId). is_some (get c.remove.new.self n.key)) same
+    ∙ file_contained (limits_of c.self.inside) s c.remove.new.self c.remove.new.self c.self.inside.births c.self.invariant c.args.rec rec
+    c.remove.ensures.updates c.remove.ensures.len
 
 pub invariant_of-self : goal.invariant_of-self
 invariant_of-self c =
     let s = c.self.inside.nodes in
     let rec = subst (λ (v : View). is_record_shape (shape_of (graph_of v) c.args.rec) ≡ true) (sym c.self.view_is) c.requires in
-    let same : c.file_of-file.result ≡ first_parent (graph_of (seen (limits_of c.self.inside) c.self.inside.nodes c.self.inside.births)) c.args.rec = c.file_of-file.ensures ∙ ap (λ (v : View). first_parent (graph_of v) c.args.rec) (sym c.self.view_is) in
-    let count = counted_there (limits_of c.self.inside) c.self.inside.nodes c.self.inside.nodes c.self.inside.nodes c.self.inside.births c.self.invariant c.args.rec rec in
-    let was : c.records-records.result ≡ record_count (graph_of (seen (limits_of c.self.inside) c.self.inside.nodes c.self.inside.births)) (first_parent (graph_of (seen (limits_of c.self.inside) c.self.inside.nodes c.self.inside.births)) c.args.rec)
-    = c.records-records.ensures ∙ ap (record_count (graph_of c.args.self.now)) c.file_of-file.ensures ∙ ap (λ (v : View). record_count (graph_of v) (first_parent (graph_of v) c.args.rec)) (sym c.self.view_is) in
-    let written = subst (λ (n : NodeId). (y : Stored) → get c.remove.new.self n.key ≡ Some y → Updates c.remove.new.self c.write_records.new.nodes n.key (Some (record y { body = body_with_records y.body (c.records-records.result - 1) }))) same c.write_records.ensures.written in
-    removed_sound (limits_of c.self.inside) c.self.inside.nodes c.remove.new.self c.write_records.new.nodes c.self.inside.births c.self.invariant c.args.rec rec c.remove.ensures.updates c.remove.ensures.len (c.records-records.result - 1) (omega arith) written c.write_records.ensures.len
+    let same : c.file_of-file.result ≡ first_parent (graph_of (seen (limits_of c.self.inside) c.self.inside.nodes c.self.inside.births)) c.args.rec =
+    c.file_of-file.ensures ∙ ap (λ (v : View). first_parent (graph_of v) c.args.rec) (sym c.self.view_is) in
+    let count = counted_there (limits_of c.self.inside) c.self.inside.nodes c.self.inside.nodes c.self.inside.nodes c.self.inside.births
+    c.self.invariant c.args.rec rec in
+    let was : c.records-records.result ≡ record_count (graph_of (seen (limits_of c.self.inside) c.self.inside.nodes c.self.inside.births))
+    (first_parent (graph_of (seen (limits_of c.self.inside) c.self.inside.nodes c.self.inside.births)) c.args.rec)
+    = c.records-records.ensures ∙ ap (record_count (graph_of c.args.self.now)) c.file_of-file.ensures
+    ∙ ap (λ (v : View). record_count (graph_of v) (first_parent (graph_of v) c.args.rec)) (sym c.self.view_is) in
+    let written = subst (λ (n : NodeId). (y : Stored) → get c.remove.new.self n.key ≡ Some y
+    → Updates c.remove.new.self c.write_records.new.nodes n.key
+    (Some (record y { body = body_with_records y.body (c.records-records.result - 1) }))) same c.write_records.ensures.written in
+    removed_sound (limits_of c.self.inside) c.self.inside.nodes c.remove.new.self c.write_records.new.nodes c.self.inside.births c.self.invariant
+    c.args.rec rec c.remove.ensures.updates c.remove.ensures.len (c.records-records.result - 1) (omega arith) written c.write_records.ensures.len
 
 pub returns : goal.returns
 returns c =
     let s = c.self.inside.nodes in
     let rec = subst (λ (v : View). is_record_shape (shape_of (graph_of v) c.args.rec) ≡ true) (sym c.self.view_is) c.requires in
-    let same : c.file_of-file.result ≡ first_parent (graph_of (seen (limits_of c.self.inside) c.self.inside.nodes c.self.inside.births)) c.args.rec = c.file_of-file.ensures ∙ ap (λ (v : View). first_parent (graph_of v) c.args.rec) (sym c.self.view_is) in
-    let count = counted_there (limits_of c.self.inside) c.self.inside.nodes c.self.inside.nodes c.self.inside.nodes c.self.inside.births c.self.invariant c.args.rec rec in
-    let was : c.records-records.result ≡ record_count (graph_of (seen (limits_of c.self.inside) c.self.inside.nodes c.self.inside.births)) (first_parent (graph_of (seen (limits_of c.self.inside) c.self.inside.nodes c.self.inside.births)) c.args.rec)
-    = c.records-records.ensures ∙ ap (record_count (graph_of c.args.self.now)) c.file_of-file.ensures ∙ ap (λ (v : View). record_count (graph_of v) (first_parent (graph_of v) c.args.rec)) (sym c.self.view_is) in
-    let written = subst (λ (n : NodeId). (y : Stored) → get c.remove.new.self n.key ≡ Some y → Updates c.remove.new.self c.write_records.new.nodes n.key (Some (record y { body = body_with_records y.body (c.records-records.result - 1) }))) same c.write_records.ensures.written in
-    let left = removed_graph (limits_of c.self.inside) c.self.inside.nodes c.remove.new.self c.write_records.new.nodes c.self.inside.births c.self.invariant c.args.rec rec c.remove.ensures.updates c.remove.ensures.len (c.records-records.result - 1) (omega arith) written c.write_records.ensures.len in
+    let same : c.file_of-file.result ≡ first_parent (graph_of (seen (limits_of c.self.inside) c.self.inside.nodes c.self.inside.births)) c.args.rec =
+    c.file_of-file.ensures ∙ ap (λ (v : View). first_parent (graph_of v) c.args.rec) (sym c.self.view_is) in
+    let count = counted_there (limits_of c.self.inside) c.self.inside.nodes c.self.inside.nodes c.self.inside.nodes c.self.inside.births
+    c.self.invariant c.args.rec rec in
+    let was : c.records-records.result ≡ record_count (graph_of (seen (limits_of c.self.inside) c.self.inside.nodes c.self.inside.births))
+    (first_parent (graph_of (seen (limits_of c.self.inside) c.self.inside.nodes c.self.inside.births)) c.args.rec)
+    = c.records-records.ensures ∙ ap (record_count (graph_of c.args.self.now)) c.file_of-file.ensures
+    ∙ ap (λ (v : View). record_count (graph_of v) (first_parent (graph_of v) c.args.rec)) (sym c.self.view_is) in
+    let written = subst (λ (n : NodeId). (y : Stored) → get c.remove.new.self n.key ≡ Some y
+    → Updates c.remove.new.self c.write_records.new.nodes n.key
+    (Some (record y { body = body_with_records y.body (c.records-records.result - 1) }))) same c.write_records.ensures.written in
+    let left = removed_graph (limits_of c.self.inside) c.self.inside.nodes c.remove.new.self c.write_records.new.nodes c.self.inside.births
+    c.self.invariant c.args.rec rec c.remove.ensures.updates c.remove.ensures.len (c.records-records.result - 1)
+    (omega arith) written c.write_records.ensures.len in
     record { removed = left ∙ ap (λ (v : View). without_node (graph_of v) c.args.rec) c.self.view_is }

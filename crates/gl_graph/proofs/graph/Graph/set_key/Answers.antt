@@ -18,60 +18,103 @@ pub index_place-place-requires-clause-file : goal.index_place-place-requires-cla
 index_place-place-requires-clause-file c =
     let rec = subst (λ (v : View). is_record_shape (shape_of (graph_of v) c.args.rec) ≡ true) (sym c.self.view_is) c.requires.«record» in
     let file : is_file_shape (shape_of (graph_of c.args.self.now) (first_parent (graph_of c.args.self.now) c.args.rec)) ≡ true
-    = subst (λ (v : View). is_file_shape (shape_of (graph_of v) (first_parent (graph_of v) c.args.rec)) ≡ true) c.self.view_is (its_file (graph_of (seen (limits_of c.self.inside) c.self.inside.nodes c.self.inside.births)) c.self.invariant.lawful c.args.rec rec) in
+    = subst (λ (v : View). is_file_shape (shape_of (graph_of v) (first_parent (graph_of v) c.args.rec)) ≡ true) c.self.view_is
+    (its_file (graph_of (seen (limits_of c.self.inside) c.self.inside.nodes c.self.inside.births)) c.self.invariant.lawful c.args.rec rec) in
     ap (λ n. is_file_shape (shape_of (graph_of c.args.self.now) n)) c.file_of.ensures ∙ file
 
 pub index_place-place-requires-clause-listed : goal.index_place-place-requires-clause-listed
 index_place-place-requires-clause-listed c =
-    let index = subst (λ (v : View). is_index_of_shape (first_parent (graph_of v) c.args.rec) (shape_of (graph_of v) c.args.index) ≡ true) (sym c.self.view_is) c.requires.index in
-    let among : list_any (λ listed. same_node listed c.args.index) (indexes_of (graph_of c.args.self.now) (first_parent (graph_of c.args.self.now) c.args.rec)) ≡ true
-    = subst (λ (v : View). list_any (λ listed. same_node listed c.args.index) (indexes_of (graph_of v) (first_parent (graph_of v) c.args.rec)) ≡ true) c.self.view_is
-    (index_among (graph_of (seen (limits_of c.self.inside) c.self.inside.nodes c.self.inside.births)) c.self.invariant.lawful (first_parent (graph_of (seen (limits_of c.self.inside) c.self.inside.nodes c.self.inside.births)) c.args.rec) c.args.index index) in
+    let index = subst (λ (v : View). is_index_of_shape (first_parent (graph_of v) c.args.rec) (shape_of (graph_of v) c.args.index) ≡ true)
+    (sym c.self.view_is) c.requires.index in
+    let among : list_any (λ listed. same_node listed c.args.index)
+    (indexes_of (graph_of c.args.self.now) (first_parent (graph_of c.args.self.now) c.args.rec)) ≡ true
+    = subst (λ (v : View). list_any (λ listed. same_node listed c.args.index)
+    (indexes_of (graph_of v) (first_parent (graph_of v) c.args.rec)) ≡ true) c.self.view_is
+    (index_among (graph_of (seen (limits_of c.self.inside) c.self.inside.nodes c.self.inside.births)) c.self.invariant.lawful
+    (first_parent (graph_of (seen (limits_of c.self.inside) c.self.inside.nodes c.self.inside.births)) c.args.rec) c.args.index index) in
     ap (λ f. list_any (λ listed. same_node listed c.args.index) (indexes_of (graph_of c.args.self.now) f)) c.file_of.ensures ∙ among
 
 pub write_key-requires-clause-there : goal.write_key-requires-clause-there
 write_key-requires-clause-there c =
     let rec = subst (λ (v : View). is_record_shape (shape_of (graph_of v) c.args.rec) ≡ true) (sym c.self.view_is) c.requires.«record» in
-    let at : position (λ listed. same_node listed c.args.index) (indexes_of (graph_of (seen (limits_of c.self.inside) c.self.inside.nodes c.self.inside.births)) (first_parent (graph_of (seen (limits_of c.self.inside) c.self.inside.nodes c.self.inside.births)) c.args.rec)) ≡ Some c.index_place-place.result
-    = ap (λ (v : View). position (λ listed. same_node listed c.args.index) (indexes_of (graph_of v) (first_parent (graph_of v) c.args.rec))) c.self.view_is ∙ ap (λ f. position (λ listed. same_node listed c.args.index) (indexes_of (graph_of c.args.self.now) f)) (sym c.file_of.ensures) ∙ c.index_place-place.ensures in
-    contained (limits_of c.self.inside) c.self.inside.nodes c.self.inside.nodes c.self.inside.births c.self.invariant c.args.rec c.args.index c.args.key c.index_place-place.result rec at
+    let at : position (λ listed. same_node listed c.args.index)
+    (indexes_of (graph_of (seen (limits_of c.self.inside) c.self.inside.nodes c.self.inside.births))
+    (first_parent (graph_of (seen (limits_of c.self.inside) c.self.inside.nodes c.self.inside.births)) c.args.rec)) ≡ Some c.index_place-place.result
+    = ap (λ (v : View). position (λ listed. same_node listed c.args.index)
+    (indexes_of (graph_of v) (first_parent (graph_of v) c.args.rec))) c.self.view_is
+    ∙ ap (λ f. position (λ listed. same_node listed c.args.index) (indexes_of (graph_of c.args.self.now) f)) (sym c.file_of.ensures)
+    ∙ c.index_place-place.ensures in
+    contained (limits_of c.self.inside) c.self.inside.nodes c.self.inside.nodes c.self.inside.births c.self.invariant c.args.rec c.args.index
+    c.args.key c.index_place-place.result rec at
 
 pub write_key-requires-clause-keys : goal.write_key-requires-clause-keys
 write_key-requires-clause-keys c =
     let rec = subst (λ (v : View). is_record_shape (shape_of (graph_of v) c.args.rec) ≡ true) (sym c.self.view_is) c.requires.«record» in
-    let at : position (λ listed. same_node listed c.args.index) (indexes_of (graph_of (seen (limits_of c.self.inside) c.self.inside.nodes c.self.inside.births)) (first_parent (graph_of (seen (limits_of c.self.inside) c.self.inside.nodes c.self.inside.births)) c.args.rec)) ≡ Some c.index_place-place.result
-    = ap (λ (v : View). position (λ listed. same_node listed c.args.index) (indexes_of (graph_of v) (first_parent (graph_of v) c.args.rec))) c.self.view_is ∙ ap (λ f. position (λ listed. same_node listed c.args.index) (indexes_of (graph_of c.args.self.now) f)) (sym c.file_of.ensures) ∙ c.index_place-place.ensures in
-    key_there (limits_of c.self.inside) c.self.inside.nodes c.self.inside.nodes c.self.inside.births c.self.invariant c.args.rec c.args.index c.args.key c.index_place-place.result rec at
+    let at : position (λ listed. same_node listed c.args.index)
+    (indexes_of (graph_of (seen (limits_of c.self.inside) c.self.inside.nodes c.self.inside.births))
+    (first_parent (graph_of (seen (limits_of c.self.inside) c.self.inside.nodes c.self.inside.births)) c.args.rec)) ≡ Some c.index_place-place.result
+    = ap (λ (v : View). position (λ listed. same_node listed c.args.index)
+    (indexes_of (graph_of v) (first_parent (graph_of v) c.args.rec))) c.self.view_is
+    ∙ ap (λ f. position (λ listed. same_node listed c.args.index) (indexes_of (graph_of c.args.self.now) f)) (sym c.file_of.ensures)
+    ∙ c.index_place-place.ensures in
+    key_there (limits_of c.self.inside) c.self.inside.nodes c.self.inside.nodes c.self.inside.births c.self.invariant c.args.rec c.args.index
+    c.args.key c.index_place-place.result rec at
 
 pub write_key-requires-clause-parents : goal.write_key-requires-clause-parents
 write_key-requires-clause-parents c =
     let rec = subst (λ (v : View). is_record_shape (shape_of (graph_of v) c.args.rec) ≡ true) (sym c.self.view_is) c.requires.«record» in
-    let at : position (λ listed. same_node listed c.args.index) (indexes_of (graph_of (seen (limits_of c.self.inside) c.self.inside.nodes c.self.inside.births)) (first_parent (graph_of (seen (limits_of c.self.inside) c.self.inside.nodes c.self.inside.births)) c.args.rec)) ≡ Some c.index_place-place.result
-    = ap (λ (v : View). position (λ listed. same_node listed c.args.index) (indexes_of (graph_of v) (first_parent (graph_of v) c.args.rec))) c.self.view_is ∙ ap (λ f. position (λ listed. same_node listed c.args.index) (indexes_of (graph_of c.args.self.now) f)) (sym c.file_of.ensures) ∙ c.index_place-place.ensures in
-    parent_there (limits_of c.self.inside) c.self.inside.nodes c.self.inside.nodes c.self.inside.births c.self.invariant c.args.rec c.args.index c.args.key c.index_place-place.result rec at
+    let at : position (λ listed. same_node listed c.args.index)
+    (indexes_of (graph_of (seen (limits_of c.self.inside) c.self.inside.nodes c.self.inside.births))
+    (first_parent (graph_of (seen (limits_of c.self.inside) c.self.inside.nodes c.self.inside.births)) c.args.rec)) ≡ Some c.index_place-place.result
+    = ap (λ (v : View). position (λ listed. same_node listed c.args.index)
+    (indexes_of (graph_of v) (first_parent (graph_of v) c.args.rec))) c.self.view_is
+    ∙ ap (λ f. position (λ listed. same_node listed c.args.index) (indexes_of (graph_of c.args.self.now) f)) (sym c.file_of.ensures)
+    ∙ c.index_place-place.ensures in
+    parent_there (limits_of c.self.inside) c.self.inside.nodes c.self.inside.nodes c.self.inside.births c.self.invariant c.args.rec c.args.index
+    c.args.key c.index_place-place.result rec at
 
 pub write_key-requires-clause-place : goal.write_key-requires-clause-place
 write_key-requires-clause-place c =
     let rec = subst (λ (v : View). is_record_shape (shape_of (graph_of v) c.args.rec) ≡ true) (sym c.self.view_is) c.requires.«record» in
-    let at : position (λ listed. same_node listed c.args.index) (indexes_of (graph_of (seen (limits_of c.self.inside) c.self.inside.nodes c.self.inside.births)) (first_parent (graph_of (seen (limits_of c.self.inside) c.self.inside.nodes c.self.inside.births)) c.args.rec)) ≡ Some c.index_place-place.result
-    = ap (λ (v : View). position (λ listed. same_node listed c.args.index) (indexes_of (graph_of v) (first_parent (graph_of v) c.args.rec))) c.self.view_is ∙ ap (λ f. position (λ listed. same_node listed c.args.index) (indexes_of (graph_of c.args.self.now) f)) (sym c.file_of.ensures) ∙ c.index_place-place.ensures in
-    place_fits (limits_of c.self.inside) c.self.inside.nodes c.self.inside.nodes c.self.inside.births c.self.invariant c.args.rec c.args.index c.args.key c.index_place-place.result rec at
+    let at : position (λ listed. same_node listed c.args.index)
+    (indexes_of (graph_of (seen (limits_of c.self.inside) c.self.inside.nodes c.self.inside.births))
+    (first_parent (graph_of (seen (limits_of c.self.inside) c.self.inside.nodes c.self.inside.births)) c.args.rec)) ≡ Some c.index_place-place.result
+    = ap (λ (v : View). position (λ listed. same_node listed c.args.index)
+    (indexes_of (graph_of v) (first_parent (graph_of v) c.args.rec))) c.self.view_is
+    ∙ ap (λ f. position (λ listed. same_node listed c.args.index) (indexes_of (graph_of c.args.self.now) f)) (sym c.file_of.ensures)
+    ∙ c.index_place-place.ensures in
+    place_fits (limits_of c.self.inside) c.self.inside.nodes c.self.inside.nodes c.self.inside.births c.self.invariant c.args.rec c.args.index
+    c.args.key c.index_place-place.result rec at
 
 pub invariant_of-self : goal.invariant_of-self
 invariant_of-self c =
     let rec = subst (λ (v : View). is_record_shape (shape_of (graph_of v) c.args.rec) ≡ true) (sym c.self.view_is) c.requires.«record» in
-    let at : position (λ listed. same_node listed c.args.index) (indexes_of (graph_of (seen (limits_of c.self.inside) c.self.inside.nodes c.self.inside.births)) (first_parent (graph_of (seen (limits_of c.self.inside) c.self.inside.nodes c.self.inside.births)) c.args.rec)) ≡ Some c.index_place-place.result
-    = ap (λ (v : View). position (λ listed. same_node listed c.args.index) (indexes_of (graph_of v) (first_parent (graph_of v) c.args.rec))) c.self.view_is ∙ ap (λ f. position (λ listed. same_node listed c.args.index) (indexes_of (graph_of c.args.self.now) f)) (sym c.file_of.ensures) ∙ c.index_place-place.ensures in
-    let written = subst (λ (n : NodeId). (x : Stored) → get c.self.inside.nodes c.args.rec.key ≡ Some x → Updates c.self.inside.nodes c.write_key.new.nodes c.args.rec.key (Some (with_key_at x c.index_place-place.result c.args.key n)))
+    let at : position (λ listed. same_node listed c.args.index)
+    (indexes_of (graph_of (seen (limits_of c.self.inside) c.self.inside.nodes c.self.inside.births))
+    (first_parent (graph_of (seen (limits_of c.self.inside) c.self.inside.nodes c.self.inside.births)) c.args.rec)) ≡ Some c.index_place-place.result
+    = ap (λ (v : View). position (λ listed. same_node listed c.args.index)
+    (indexes_of (graph_of v) (first_parent (graph_of v) c.args.rec))) c.self.view_is
+    ∙ ap (λ f. position (λ listed. same_node listed c.args.index) (indexes_of (graph_of c.args.self.now) f)) (sym c.file_of.ensures)
+    ∙ c.index_place-place.ensures in
+    let written = subst (λ (n : NodeId). (x : Stored) → get c.self.inside.nodes c.args.rec.key ≡ Some x
+    → Updates c.self.inside.nodes c.write_key.new.nodes c.args.rec.key (Some (with_key_at x c.index_place-place.result c.args.key n)))
     (c.interval_of-interval.ensures ∙ ap (λ (v : View). interval_of (graph_of v) c.args.index c.args.key) (sym c.self.view_is)) c.write_key.ensures.written in
-    rekeyed_sound (limits_of c.self.inside) c.self.inside.nodes c.write_key.new.nodes c.self.inside.births c.self.invariant c.args.rec c.args.index c.args.key c.index_place-place.result rec at written c.write_key.ensures.len
+    rekeyed_sound (limits_of c.self.inside) c.self.inside.nodes c.write_key.new.nodes c.self.inside.births c.self.invariant c.args.rec c.args.index
+    c.args.key c.index_place-place.result rec at written c.write_key.ensures.len
 
 pub returns : goal.returns
 returns c =
     let rec = subst (λ (v : View). is_record_shape (shape_of (graph_of v) c.args.rec) ≡ true) (sym c.self.view_is) c.requires.«record» in
-    let at : position (λ listed. same_node listed c.args.index) (indexes_of (graph_of (seen (limits_of c.self.inside) c.self.inside.nodes c.self.inside.births)) (first_parent (graph_of (seen (limits_of c.self.inside) c.self.inside.nodes c.self.inside.births)) c.args.rec)) ≡ Some c.index_place-place.result
-    = ap (λ (v : View). position (λ listed. same_node listed c.args.index) (indexes_of (graph_of v) (first_parent (graph_of v) c.args.rec))) c.self.view_is ∙ ap (λ f. position (λ listed. same_node listed c.args.index) (indexes_of (graph_of c.args.self.now) f)) (sym c.file_of.ensures) ∙ c.index_place-place.ensures in
-    let written = subst (λ (n : NodeId). (x : Stored) → get c.self.inside.nodes c.args.rec.key ≡ Some x → Updates c.self.inside.nodes c.write_key.new.nodes c.args.rec.key (Some (with_key_at x c.index_place-place.result c.args.key n)))
+    let at : position (λ listed. same_node listed c.args.index)
+    (indexes_of (graph_of (seen (limits_of c.self.inside) c.self.inside.nodes c.self.inside.births))
+    (first_parent (graph_of (seen (limits_of c.self.inside) c.self.inside.nodes c.self.inside.births)) c.args.rec)) ≡ Some c.index_place-place.result
+    = ap (λ (v : View). position (λ listed. same_node listed c.args.index)
+    (indexes_of (graph_of v) (first_parent (graph_of v) c.args.rec))) c.self.view_is
+    ∙ ap (λ f. position (λ listed. same_node listed c.args.index) (indexes_of (graph_of c.args.self.now) f)) (sym c.file_of.ensures)
+    ∙ c.index_place-place.ensures in
+    let written = subst (λ (n : NodeId). (x : Stored) → get c.self.inside.nodes c.args.rec.key ≡ Some x
+    → Updates c.self.inside.nodes c.write_key.new.nodes c.args.rec.key (Some (with_key_at x c.index_place-place.result c.args.key n)))
     (c.interval_of-interval.ensures ∙ ap (λ (v : View). interval_of (graph_of v) c.args.index c.args.key) (sym c.self.view_is)) c.write_key.ensures.written in
-    let made = rekeyed_graph (limits_of c.self.inside) c.self.inside.nodes c.write_key.new.nodes c.self.inside.births c.self.invariant c.args.rec c.args.index c.args.key c.index_place-place.result rec at written c.write_key.ensures.len in
+    let made = rekeyed_graph (limits_of c.self.inside) c.self.inside.nodes c.write_key.new.nodes c.self.inside.births c.self.invariant c.args.rec
+    c.args.index c.args.key c.index_place-place.result rec at written c.write_key.ensures.len in
     record { rekeyed = made ∙ ap (λ (v : View). rekeyed (graph_of v) c.args.rec c.args.index c.args.key) c.self.view_is }

@@ -21,7 +21,8 @@ pub invariant_of-self : goal.invariant_of-self
 invariant_of-self c =
     moved_sound (limits_of c.self.inside) c.self.inside.nodes c.write_parents.new.nodes c.self.inside.births c.self.invariant c.args.n
     (subst (λ (v : View). is_movable_shape (shape_of (graph_of v) c.args.n) ≡ true) (sym c.self.view_is) c.requires.node) c.args.parents.now
-    (subst (λ (v : View). AreInnerParents (graph_of v) (least_parents (shape_of (graph_of v) c.args.n)) c.args.parents.now) (sym c.self.view_is) c.requires.parents)
+    (subst (λ (v : View). AreInnerParents (graph_of v) (least_parents (shape_of (graph_of v) c.args.n)) c.args.parents.now)
+    (sym c.self.view_is) c.requires.parents)
     (subst (λ (v : View). first_cycle (graph_of v) c.args.n c.args.parents.now ≡ None) (sym c.self.view_is) c.in_ok-check_cycles.ensures.clear)
     c.in-Ok.fresh c.in-Ok.ensures c.write_parents.ensures.written c.write_parents.ensures.len
 
@@ -29,7 +30,8 @@ pub returns-clause-moved : goal.returns-clause-moved
 returns-clause-moved c =
     moved_graph (limits_of c.self.inside) c.self.inside.nodes c.write_parents.new.nodes c.self.inside.births c.self.invariant c.args.n
     (subst (λ (v : View). is_movable_shape (shape_of (graph_of v) c.args.n) ≡ true) (sym c.self.view_is) c.requires.node) c.args.parents.now
-    (subst (λ (v : View). AreInnerParents (graph_of v) (least_parents (shape_of (graph_of v) c.args.n)) c.args.parents.now) (sym c.self.view_is) c.requires.parents)
+    (subst (λ (v : View). AreInnerParents (graph_of v) (least_parents (shape_of (graph_of v) c.args.n)) c.args.parents.now)
+    (sym c.self.view_is) c.requires.parents)
     (subst (λ (v : View). first_cycle (graph_of v) c.args.n c.args.parents.now ≡ None) (sym c.self.view_is) c.in_ok-check_cycles.ensures.clear)
     c.in-Ok.fresh c.in-Ok.ensures c.write_parents.ensures.written c.write_parents.ensures.len
     ∙ ap (λ (v : View). with_parents (graph_of v) c.args.n c.args.parents.now) c.self.view_is

@@ -11,9 +11,12 @@ loop-place-preserved c =
     let ids = c.args.ids.now in
     let here = drop_more ids place (record { key = 0; birth = 0 }) c.loop-place-test.true in
     let count = length-drop (place + 1) ids in
-    let whole : take (length ids - (place + 1)) (drop (place + 1) ids) ≡ drop (place + 1) ids = take_all (length ids - (place + 1)) (drop (place + 1) ids) (omega arith) in
-    let none : list_any (same_node (get_or ids place (record { key = 0; birth = 0 }))) (drop (place + 1) ids) ≡ false = sym (ap (list_any (same_node (get_or ids place (record { key = 0; birth = 0 })))) whole) ∙ sym c.if-is_among.ensures in
-    let rest : (not (list_any (same_node (get_or ids place (record { key = 0; birth = 0 }))) (drop (place + 1) ids)) && are_distinct (drop (place + 1) ids)) ≡ are_distinct (drop (place + 1) ids)
+    let whole : take (length ids - (place + 1)) (drop (place + 1) ids) ≡ drop (place + 1) ids =
+    take_all (length ids - (place + 1)) (drop (place + 1) ids) (omega arith) in
+    let none : list_any (same_node (get_or ids place (record { key = 0; birth = 0 }))) (drop (place + 1) ids) ≡ false =
+    sym (ap (list_any (same_node (get_or ids place (record { key = 0; birth = 0 })))) whole) ∙ sym c.if-is_among.ensures in
+    let rest : (not (list_any (same_node (get_or ids place (record { key = 0; birth = 0 }))) (drop (place + 1) ids))
+    && are_distinct (drop (place + 1) ids)) ≡ are_distinct (drop (place + 1) ids)
     = ap (λ (b : Bool). not b && are_distinct (drop (place + 1) ids)) none in
     let was : are_distinct (drop place ids) ≡ are_distinct ids = c.loop-place.invariant in
     sym rest ∙ sym (ap are_distinct here) ∙ was

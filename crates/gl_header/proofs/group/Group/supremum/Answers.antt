@@ -13,4 +13,5 @@ returns-then-is_empty c =
 pub returns-else-is_empty : goal.returns-else-is_empty
 returns-else-is_empty c =
     c.sup.ensures
-    ∙ sym (ap (λ b. cond b c.args.self.now.mode (supremum c.args.self.now.mode IS)) (not_true (has_none c.args.self.now.intents) (λ e. cc (c.is_empty.ensures.1 (test-none c.args.self.now.intents e)))))
+    ∙ sym (ap (λ b. cond b c.args.self.now.mode (supremum c.args.self.now.mode IS))
+    (not_true (has_none c.args.self.now.intents) (λ e. cc (c.is_empty.ensures.1 (test-none c.args.self.now.intents e)))))

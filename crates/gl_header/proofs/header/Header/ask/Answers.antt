@@ -16,10 +16,14 @@ granted c =
     let free : is_among_waiters c.args.slot c.self.inside.queue.items ≡ false
     = subst (λ (x : HeaderState). is_among_waiters c.args.slot x.queue ≡ false) (sym c.self.view_is) c.requires.not_waiting in
     let w : c.sup-wanted.result ≡ wanted (state_of c.self.inside) c.args.slot c.args.mode
-    = subst (λ (x : HeaderState). c.sup-wanted.result ≡ wanted x c.args.slot c.args.mode) (sym c.self.view_is) (c.sup-wanted.ensures ∙ ap (λ x. supremum x c.args.mode) c.mode_of-held.ensures) in
+    = subst (λ (x : HeaderState). c.sup-wanted.result ≡ wanted x c.args.slot c.args.mode) (sym c.self.view_is)
+    (c.sup-wanted.ensures ∙ ap (λ x. supremum x c.args.mode) c.mode_of-held.ensures) in
     let g : is_granted (state_of c.self.inside) c.args.slot c.args.mode ≡ true
-    = subst (λ (x : HeaderState). is_granted x c.args.slot c.args.mode ≡ true) (sym c.self.view_is) (sym (c.enters.ensures ∙ ap (λ m. enters slot_limit (members_of c.args.self.now) c.args.self.now.queue c.args.slot m) (c.sup-wanted.ensures ∙ ap (λ x. supremum x c.args.mode) c.mode_of-held.ensures)) ∙ c.if-enters.true) in
-    lawful-granted (state_of c.self.inside) c.args.slot c.args.mode c.sup-wanted.result (held_by c.hold.new.self) c.self.invariant.lawful free c.requires.below g w c.hold.ensures.held
+    = subst (λ (x : HeaderState). is_granted x c.args.slot c.args.mode ≡ true) (sym c.self.view_is)
+    (sym (c.enters.ensures ∙ ap (λ m. enters slot_limit (members_of c.args.self.now) c.args.self.now.queue c.args.slot m)
+    (c.sup-wanted.ensures ∙ ap (λ x. supremum x c.args.mode) c.mode_of-held.ensures)) ∙ c.if-enters.true) in
+    lawful-granted (state_of c.self.inside) c.args.slot c.args.mode c.sup-wanted.result
+    (held_by c.hold.new.self) c.self.invariant.lawful free c.requires.below g w c.hold.ensures.held
 
 pub invariant_of-self : goal.invariant_of-self
 invariant_of-self c = record { group = c.hold.ensures.group; lawful = granted c }
@@ -32,27 +36,37 @@ returns-then-enters-clause-lawful c = lawful _ c.hold.ensures.group (granted c)
 pub returns-in_default-clause-lawful : goal.returns-in_default-clause-lawful
 returns-in_default-clause-lawful c =
     lawful _ c.self.invariant.group
-    (lawful-by (held_by c.self.inside.granted) (held_by c.self.inside.granted) c.enqueue.new.queue.items c.self.inside.queue.items refl c.in_default.ensures.err c.self.invariant.lawful)
+    (lawful-by (held_by c.self.inside.granted)
+    (held_by c.self.inside.granted) c.enqueue.new.queue.items c.self.inside.queue.items refl c.in_default.ensures.err c.self.invariant.lawful)
 
 pub invariant_of-self-else-enters : goal.invariant_of-self-else-enters
 invariant_of-self-else-enters c =
     let free : is_among_waiters c.args.slot c.self.inside.queue.items ≡ false
     = subst (λ (x : HeaderState). is_among_waiters c.args.slot x.queue ≡ false) (sym c.self.view_is) c.requires.not_waiting in
     let w : c.sup-wanted.result ≡ wanted (state_of c.self.inside) c.args.slot c.args.mode
-    = subst (λ (x : HeaderState). c.sup-wanted.result ≡ wanted x c.args.slot c.args.mode) (sym c.self.view_is) (c.sup-wanted.ensures ∙ ap (λ x. supremum x c.args.mode) c.mode_of-held.ensures) in
+    = subst (λ (x : HeaderState). c.sup-wanted.result ≡ wanted x c.args.slot c.args.mode) (sym c.self.view_is)
+    (c.sup-wanted.ensures ∙ ap (λ x. supremum x c.args.mode) c.mode_of-held.ensures) in
     let g : is_granted (state_of c.self.inside) c.args.slot c.args.mode ≡ false
-    = subst (λ (x : HeaderState). is_granted x c.args.slot c.args.mode ≡ false) (sym c.self.view_is) (sym (c.enters.ensures ∙ ap (λ m. enters slot_limit (members_of c.args.self.now) c.args.self.now.queue c.args.slot m) (c.sup-wanted.ensures ∙ ap (λ x. supremum x c.args.mode) c.mode_of-held.ensures)) ∙ c.if-enters.false) in
+    = subst (λ (x : HeaderState). is_granted x c.args.slot c.args.mode ≡ false) (sym c.self.view_is)
+    (sym (c.enters.ensures ∙ ap (λ m. enters slot_limit (members_of c.args.self.now) c.args.self.now.queue c.args.slot m)
+    (c.sup-wanted.ensures ∙ ap (λ x. supremum x c.args.mode) c.mode_of-held.ensures)) ∙ c.if-enters.false) in
     record {
       group = c.self.invariant.group;
-      lawful = lawful-waiting (state_of c.self.inside) c.args.slot c.args.mode c.sup-wanted.result c.enqueue.new.queue.items c.self.invariant.lawful free c.requires.below c.requires.lock g w c.in-Ok.ensures.ok;
+      lawful = lawful-waiting (state_of c.self.inside) c.args.slot c.args.mode c.sup-wanted.result c.enqueue.new.queue.items c.self.invariant.lawful
+          free c.requires.below c.requires.lock g w c.in-Ok.ensures.ok;
     }
 
 pub returns-in-Ok-clause-queue : goal.returns-in-Ok-clause-queue
 returns-in-Ok-clause-queue c =
-    let g : is_granted c.args.self.now c.args.slot c.args.mode ≡ false = sym (c.enters.ensures ∙ ap (λ m. enters slot_limit (members_of c.args.self.now) c.args.self.now.queue c.args.slot m) (c.sup-wanted.ensures ∙ ap (λ x. supremum x c.args.mode) c.mode_of-held.ensures)) ∙ c.if-enters.false in
-    let w : c.sup-wanted.result ≡ wanted c.args.self.now c.args.slot c.args.mode = c.sup-wanted.ensures ∙ ap (λ x. supremum x c.args.mode) c.mode_of-held.ensures in
-    subst (λ (x : HeaderState). is_granted x c.args.slot c.args.mode ≡ false → c.sup-wanted.result ≡ wanted x c.args.slot c.args.mode → c.enqueue.new.queue.items ≡ asked_queue x c.args.slot c.args.mode) c.self.view_is
-    (λ k v. queue-waiting (state_of c.self.inside) c.args.slot c.args.mode c.sup-wanted.result c.enqueue.new.queue.items c.self.invariant.lawful.orderly k v c.in-Ok.ensures.ok) g w
+    let g : is_granted c.args.self.now c.args.slot c.args.mode ≡ false =
+    sym (c.enters.ensures ∙ ap (λ m. enters slot_limit (members_of c.args.self.now) c.args.self.now.queue c.args.slot m)
+    (c.sup-wanted.ensures ∙ ap (λ x. supremum x c.args.mode) c.mode_of-held.ensures)) ∙ c.if-enters.false in
+    let w : c.sup-wanted.result ≡ wanted c.args.self.now c.args.slot c.args.mode =
+    c.sup-wanted.ensures ∙ ap (λ x. supremum x c.args.mode) c.mode_of-held.ensures in
+    subst (λ (x : HeaderState). is_granted x c.args.slot c.args.mode ≡ false → c.sup-wanted.result ≡ wanted x c.args.slot c.args.mode
+    → c.enqueue.new.queue.items ≡ asked_queue x c.args.slot c.args.mode) c.self.view_is
+    (λ k v. queue-waiting (state_of c.self.inside) c.args.slot c.args.mode c.sup-wanted.result c.enqueue.new.queue.items
+    c.self.invariant.lawful.orderly k v c.in-Ok.ensures.ok) g w
 
 pub returns-in-Ok-clause-lawful : goal.returns-in-Ok-clause-lawful
 returns-in-Ok-clause-lawful c =

@@ -20,7 +20,8 @@ after c =
     let waits : front slot_limit (held_by c.self.inside.granted) (without_waiter c.args.slot c.self.inside.queue.items) ≡ []
     = subst (λ (x : HeaderState). front slot_limit (members_of x) (without_waiter c.args.slot x.queue) ≡ []) (sym c.self.view_is) c.requires.front_waits in
     record {
-      orderly = orderly-by (held_by c.self.inside.granted) (held_by c.self.inside.granted) c.take_out.new.queue.items (without c.self.inside.queue.items c.args.slot) refl c.take_out.ensures
+      orderly = orderly-by (held_by c.self.inside.granted) (held_by c.self.inside.granted) c.take_out.new.queue.items
+          (without c.self.inside.queue.items c.args.slot) refl c.take_out.ensures
           (orderly-waiter_gone (held_by c.self.inside.granted) c.self.inside.queue.items c.args.slot c.self.invariant.lawful.orderly);
       stuck = front-stuck (held_by c.self.inside.granted) c.take_out.new.queue.items (ap (front slot_limit (held_by c.self.inside.granted)) (gone c) ∙ waits);
     }
@@ -30,7 +31,10 @@ invariant_of-self c = record { group = c.self.invariant.group; lawful = after c 
 
 pub returns-clause-after : goal.returns-clause-after
 returns-clause-after c =
-    subst (λ (x : HeaderState). record { granted = c.self.inside.granted; queue = c.take_out.new.queue.items } ≡ record x { queue = without_waiter c.args.slot x.queue }) c.self.view_is
+    subst (λ (x : HeaderState). record { granted = c.self.inside.granted; queue = c.take_out.new.queue.items } ≡ record x {
+      queue =
+          without_waiter c.args.slot x.queue;
+    }) c.self.view_is
     (ap (λ q. record { granted = c.self.inside.granted; queue = q }) (gone c))
 
 pub returns-clause-lawful : goal.returns-clause-lawful

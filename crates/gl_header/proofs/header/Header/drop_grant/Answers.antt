@@ -17,8 +17,10 @@ orderly c =
     let held : holds (held_by c.self.inside.granted) c.args.slot ≡ true
     = subst (λ (x : HeaderState). holds (members_of x) c.args.slot ≡ true) (sym c.self.view_is) c.requires.holds in
     let o = c.self.invariant.lawful.orderly in
-    orderly-by (held_by c.release.new.self) (with_mode (held_by c.self.inside.granted) c.args.slot NL) c.self.inside.queue.items c.self.inside.queue.items c.release.ensures.held refl
-    (orderly-member_gone (held_by c.self.inside.granted) c.self.inside.queue.items c.args.slot o free (member-below (held_by c.self.inside.granted) c.args.slot o.within held))
+    orderly-by (held_by c.release.new.self)
+    (with_mode (held_by c.self.inside.granted) c.args.slot NL) c.self.inside.queue.items c.self.inside.queue.items c.release.ensures.held refl
+    (orderly-member_gone (held_by c.self.inside.granted) c.self.inside.queue.items c.args.slot o free
+    (member-below (held_by c.self.inside.granted) c.args.slot o.within held))
 
 pub pump-requires-clause-orderly : goal.pump-requires-clause-orderly
 pump-requires-clause-orderly c =
@@ -27,12 +29,15 @@ pump-requires-clause-orderly c =
     let held : holds (held_by c.self.inside.granted) c.args.slot ≡ true
     = subst (λ (x : HeaderState). holds (members_of x) c.args.slot ≡ true) (sym c.self.view_is) c.requires.holds in
     let o = c.self.invariant.lawful.orderly in
-    orderly-by (held_by c.release.new.self) (with_mode (held_by c.self.inside.granted) c.args.slot NL) c.self.inside.queue.items c.self.inside.queue.items c.release.ensures.held refl
-    (orderly-member_gone (held_by c.self.inside.granted) c.self.inside.queue.items c.args.slot o free (member-below (held_by c.self.inside.granted) c.args.slot o.within held))
+    orderly-by (held_by c.release.new.self)
+    (with_mode (held_by c.self.inside.granted) c.args.slot NL) c.self.inside.queue.items c.self.inside.queue.items c.release.ensures.held refl
+    (orderly-member_gone (held_by c.self.inside.granted) c.self.inside.queue.items c.args.slot o free
+    (member-below (held_by c.self.inside.granted) c.args.slot o.within held))
 
 after : (c : goal.After-pump) → IsLawful (held_by c.pump.new.group) c.pump.new.queue.items
 after c =
-    lawful-by (held_by c.pump.new.group) (pumped_members slot_limit (held_by c.release.new.self) c.self.inside.queue.items) c.pump.new.queue.items (pumped_queue slot_limit (held_by c.release.new.self) c.self.inside.queue.items) c.pump.ensures.members c.pump.ensures.queue
+    lawful-by (held_by c.pump.new.group) (pumped_members slot_limit (held_by c.release.new.self) c.self.inside.queue.items) c.pump.new.queue.items
+    (pumped_queue slot_limit (held_by c.release.new.self) c.self.inside.queue.items) c.pump.ensures.members c.pump.ensures.queue
     (lawful-pumped (held_by c.release.new.self) c.self.inside.queue.items (orderly c))
 
 pub invariant_of-self : goal.invariant_of-self

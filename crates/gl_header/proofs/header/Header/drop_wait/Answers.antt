@@ -13,12 +13,14 @@ use Rattle.gl_header.proofs.header.Header.drop_wait.Goals as goal
 
 pub pump-requires-clause-orderly : goal.pump-requires-clause-orderly
 pump-requires-clause-orderly c =
-    orderly-by (held_by c.self.inside.granted) (held_by c.self.inside.granted) c.take_out.new.queue.items (without c.self.inside.queue.items c.args.slot) refl c.take_out.ensures
+    orderly-by (held_by c.self.inside.granted) (held_by c.self.inside.granted) c.take_out.new.queue.items
+    (without c.self.inside.queue.items c.args.slot) refl c.take_out.ensures
     (orderly-waiter_gone (held_by c.self.inside.granted) c.self.inside.queue.items c.args.slot c.self.invariant.lawful.orderly)
 
 orderly : (c : goal.After-pump) → IsOrderly (held_by c.self.inside.granted) c.take_out.new.queue.items
 orderly c =
-    orderly-by (held_by c.self.inside.granted) (held_by c.self.inside.granted) c.take_out.new.queue.items (without c.self.inside.queue.items c.args.slot) refl c.take_out.ensures
+    orderly-by (held_by c.self.inside.granted) (held_by c.self.inside.granted) c.take_out.new.queue.items
+    (without c.self.inside.queue.items c.args.slot) refl c.take_out.ensures
     (orderly-waiter_gone (held_by c.self.inside.granted) c.self.inside.queue.items c.args.slot c.self.invariant.lawful.orderly)
 
 gone : (c : goal.After-pump) → c.take_out.new.queue.items ≡ without_waiter c.args.slot c.self.inside.queue.items
@@ -27,7 +29,9 @@ gone c =
 
 after : (c : goal.After-pump) → IsLawful (held_by c.pump.new.group) c.pump.new.queue.items
 after c =
-    lawful-by (held_by c.pump.new.group) (pumped_members slot_limit (held_by c.self.inside.granted) c.take_out.new.queue.items) c.pump.new.queue.items (pumped_queue slot_limit (held_by c.self.inside.granted) c.take_out.new.queue.items) c.pump.ensures.members c.pump.ensures.queue
+    lawful-by (held_by c.pump.new.group)
+    (pumped_members slot_limit (held_by c.self.inside.granted) c.take_out.new.queue.items) c.pump.new.queue.items
+    (pumped_queue slot_limit (held_by c.self.inside.granted) c.take_out.new.queue.items) c.pump.ensures.members c.pump.ensures.queue
     (lawful-pumped (held_by c.self.inside.granted) c.take_out.new.queue.items (orderly c))
 
 pub invariant_of-self : goal.invariant_of-self

@@ -6,4 +6,5 @@ use Rattle.gl_header.proofs.header.Header.group.Goals as goal
 
 pub returns-clause-supremum : goal.returns-clause-supremum
 returns-clause-supremum c =
-    subst (λ (x : HeaderState). c.supremum.result ≡ group_of slot_limit (members_of x)) c.self.view_is (c.supremum.ensures ∙ group_mode-is c.self.inside.granted c.self.invariant.group)
+    subst (λ (x : HeaderState). c.supremum.result ≡ group_of slot_limit (members_of x)) c.self.view_is
+    (c.supremum.ensures ∙ group_mode-is c.self.inside.granted c.self.invariant.group)

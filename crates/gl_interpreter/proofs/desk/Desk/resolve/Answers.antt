@@ -21,5 +21,9 @@ loop-node-preserved c =
     let low' : i < length (map node_of nodes) = omega (arith, low, length-map nodes node_of) in
     let low'' : i < length all = omega (arith, low', length-map (map node_of nodes) (node_id s)) in
     let d : Used = record { name = record { items = [] }; interval = None } in
-    let item = get_or-map (node_id s) (map node_of nodes) i (node_of d) (node_id s (node_of d)) low' ∙ ap (node_id s) (get_or-map node_of nodes i d (node_of d) low) in
-    pushed ∙ ap₂ (λ xs x. xs ++ x ∷ []) c.loop-node.invariant (c.node_id.ensures ∙ ap (λ u. node_id s (node_of u)) (c.node-item.is ∙ get_or_default c.as_slice-node-items.result.now i _ d c.loop-node-test.true ∙ ap (λ xs. get_or xs i d) value) ∙ sym item) ∙ sym (take_more all i (node_id s (node_of d)) low'')
+    let item = get_or-map (node_id s) (map node_of nodes) i (node_of d) (node_id s (node_of d)) low'
+    ∙ ap (node_id s) (get_or-map node_of nodes i d (node_of d) low) in
+    pushed ∙ ap₂ (λ xs x. xs ++ x ∷ []) c.loop-node.invariant
+    (c.node_id.ensures ∙ ap (λ u. node_id s (node_of u))
+    (c.node-item.is ∙ get_or_default c.as_slice-node-items.result.now i _ d c.loop-node-test.true ∙ ap (λ xs. get_or xs i d) value) ∙ sym item)
+    ∙ sym (take_more all i (node_id s (node_of d)) low'')

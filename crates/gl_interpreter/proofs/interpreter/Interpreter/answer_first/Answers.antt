@@ -14,10 +14,13 @@ unfolding Answered
 returns-in-Some-Some g c ready =
     let old = c.args.self.now in
     let some : old.two ≡ Some c.in-Some-Some.manager = sym c.take.ensures.value ∙ c.in-Some-Some.is-0 in
-    let prints = chooses c.in-Some-Some.version c.in-Some-Some.manager (script_of old.desk) (script_of c.begin_version.new.self) c.args.line.now (subst (λ o. IsReadyWith o (script_of old.desk)) some ready) (sym c.chosen_version.ensures ∙ c.in-Some-Some.is-1)
-    c.begin_version.ensures.language c.begin_version.ensures.names (ap state_of c.begin_version.ensures.manager) (ap (λ (m : ManagerView). m.table.deadlock) c.begin_version.ensures.manager) in (
+    let prints = chooses c.in-Some-Some.version c.in-Some-Some.manager (script_of old.desk) (script_of c.begin_version.new.self) c.args.line.now
+    (subst (λ o. IsReadyWith o (script_of old.desk)) some ready) (sym c.chosen_version.ensures ∙ c.in-Some-Some.is-1)
+    c.begin_version.ensures.language c.begin_version.ensures.names (ap state_of c.begin_version.ensures.manager)
+    (ap (λ (m : ManagerView). m.table.deadlock) c.begin_version.ensures.manager) in (
       codes "ok\n",
-      rw c.take.ensures.after (subst (λ o. Prints (stage_with o (script_of old.desk)) c.args.line.now (codes "ok\n") (stage_with None (script_of c.begin_version.new.self))) (sym some) prints),
+      rw c.take.ensures.after (subst (λ o. Prints (stage_with o (script_of old.desk)) c.args.line.now (codes "ok\n")
+          (stage_with None (script_of c.begin_version.new.self))) (sym some) prints),
       rw c.take.ensures.after tt,
       c.put.ensures,
     )

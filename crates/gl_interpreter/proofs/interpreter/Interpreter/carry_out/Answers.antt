@@ -32,8 +32,12 @@ returns-then-is_empty g c =
 pub returns-in-None : goal.returns-in-None
 unfolding CarriesOut
 returns-in-None g c =
-    let speaks = not_silent c.args.line.now (other_test _ _ _ c.is_empty.ensures c.if-is_empty.false) c.if-line-eq35.false in
-    (bad_line, inr (inr (inl (omega (arith, c.if-line-gt-LONGEST.false), speaks, rw c.in-None.is at c.parse.ensures.none, refl, refl))), refl, c.put-in-None.ensures)
+    let speaks = not_silent c.args.line.now (other_test _ _ _ c.is_empty.ensures c.if-is_empty.false) c.if-line-eq35.false in (
+      bad_line,
+      inr (inr (inl (omega (arith, c.if-line-gt-LONGEST.false), speaks, rw c.in-None.is at c.parse.ensures.none, refl, refl))),
+      refl,
+      c.put-in-None.ensures,
+    )
 
 pub returns-in-Order : goal.returns-in-Order
 unfolding CarriesOut Obeys

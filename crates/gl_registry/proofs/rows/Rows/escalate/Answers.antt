@@ -12,7 +12,8 @@ returns-in_err-escalated c =
     let exit = err_from_is_err_and c.from_residual.result c.from_residual.ensures.1 in
     rw (exit.1, exit.2) (record {
       step = subst
-          (λ (m : ManagerView). Step (state_of c.args.manager.now) (command.Escalate c.args.t c.args.node) (answer.Refused c.in_err-escalated.field-0.0) [] (state_of m))
+          (λ (m : ManagerView). Step (state_of c.args.manager.now) (command.Escalate c.args.t c.args.node)
+          (answer.Refused c.in_err-escalated.field-0.0) [] (state_of m))
           e.err e.step;
       nobody_told = ap (λ told. told.items) e.untold ∙ c.requires.empty;
       same_manager = e.err;

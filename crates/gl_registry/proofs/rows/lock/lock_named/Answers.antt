@@ -19,7 +19,8 @@ returns-then-own_keys-clause-locks c =
       | then-own_keys-via-then-own_keys w ↦ (λ stale. stale.others (own.0 (search rules)))
       | then-own_keys-via-else-own_keys+then-not-is_idle w ↦ (λ stale. clash stale.idle (search rules))
     ] in
-    stands_locked c.args.manager.now c.args.files.now.keys w c.lock_telling.new.told.items c.lock_telling.new.self c.args.names.now.entries _ c.get-named.result.now
+    stands_locked c.args.manager.now c.args.files.now.keys w c.lock_telling.new.told.items c.lock_telling.new.self c.args.names.now.entries _
+    c.get-named.result.now
     (search rules) fresh _ refl own c.in_ok-locked-in-Occupied.ensures.step c.in_ok-locked-in-Occupied.ensures.completes (search rules)
 
 pub returns-in_ok-node-in-Occupied-clause-locks : goal.returns-in_ok-node-in-Occupied-clause-locks

@@ -24,9 +24,18 @@ returns g c =
       step = (
         served.result,
         served.new.told.items,
-        (c.deref_mut.result.now.manager, served.new.self.manager, law, served.ensures.step, count.count ∙ ap (λ (g : GuardedView). g.manager.accepted) c.deref_mut-2.ensures.value),
-        gives_verdict c.args.txn c.args.node c.args.mode served.result c.await_verdict.result c.in_default-answer.not-Granted c.in_default-answer.not-Victim c.in_default.not-Refused c.await_verdict.ensures.verdict,
-        λ _. subst (λ (l : Notices). AreWoken (Lock c.args.txn c.args.node c.args.mode) l c.wake_ended.result) c.as_slice-told.ensures.value c.wake_ended.ensures,
+        (
+          c.deref_mut.result.now.manager,
+          served.new.self.manager,
+          law,
+          served.ensures.step,
+          count.count
+              ∙ ap (λ (g : GuardedView). g.manager.accepted) c.deref_mut-2.ensures.value,
+        ),
+        gives_verdict c.args.txn c.args.node c.args.mode served.result c.await_verdict.result c.in_default-answer.not-Granted
+            c.in_default-answer.not-Victim c.in_default.not-Refused c.await_verdict.ensures.verdict,
+        λ _. subst (λ (l : Notices). AreWoken
+            (Lock c.args.txn c.args.node c.args.mode) l c.wake_ended.result) c.as_slice-told.ensures.value c.wake_ended.ensures,
       );
       count = (omega (arith, bound, kept));
     }

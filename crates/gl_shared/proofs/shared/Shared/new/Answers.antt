@@ -13,7 +13,8 @@ watch_all-requires-clause-of g c =
     let p = c.args.parts in (
       c.requires.book.0,
       p.one.1 ∙ c.requires.opening.1,
-      lawful_here g.N.Naming.detect p.manager.table.detect g.N.Naming.first (board_of (state_of p.manager)) p.line.list p.one.0 c.requires.book.1 c.requires.opening.1 p.one.2,
+      lawful_here g.N.Naming.detect p.manager.table.detect g.N.Naming.first
+          (board_of (state_of p.manager)) p.line.list p.one.0 c.requires.book.1 c.requires.opening.1 p.one.2,
     )
 
 pub new-publisher-requires-clause-head : goal.new-publisher-requires-clause-head
@@ -24,7 +25,8 @@ new-publisher-requires-clause-rest g c =
     let p = c.args.parts in
     let kept = c.watch_all.ensures.kept in
     let line = ap (λ s. s.value.line) kept.1 in
-    let law = lawful_here g.N.Naming.detect p.manager.table.detect g.N.Naming.first (board_of (state_of p.manager)) p.line.list p.one.0 c.requires.book.1 c.requires.opening.1 p.one.2 in (
+    let law = lawful_here g.N.Naming.detect p.manager.table.detect g.N.Naming.first
+    (board_of (state_of p.manager)) p.line.list p.one.0 c.requires.book.1 c.requires.opening.1 p.one.2 in (
       rw (kept.3, kept.2) p.rest.0,
       (
         ap (λ l. l.book) line ∙ (ap (λ (t : Tie). t.head.book) p.tie.0 ∙ c.requires.book.0),

@@ -8,5 +8,8 @@ zero_from : (n : ℕ) → (n == 0) ≡ true → n ≡ 0
 zero_from n h = grind (arith, nat_tests)
 
 pub returns : goal.returns
-returns c =
-    (λ h u. ap (λ n. in_bits n u) (zero_from c.args.self.bits h) ∙ in_bits-zero u, λ none. let e = no_bit-zero c.args.self.bits none in grind (arith, nat_tests))
+returns c = (
+  λ h u. ap (λ n. in_bits n u) (zero_from c.args.self.bits h) ∙ in_bits-zero u,
+  λ none. let e = no_bit-zero c.args.self.bits none in
+      grind (arith, nat_tests),
+)

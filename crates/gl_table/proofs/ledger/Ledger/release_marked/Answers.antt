@@ -27,11 +27,13 @@ take_marked-requires-clause-counted c = λ n q listed mark.
 
 pub drop_and_wake-requires-clause-agree : goal.drop_and_wake-requires-clause-agree
 drop_and_wake-requires-clause-agree c = let is = c.loop-at.invariant.releasing.leaving in
-    λ u h. is.agree u (stands_other (state_in c.args.graph.now c.loop-at.self) is.orderly c.args.slot (ap (λ x. is_wait (status_in x)) is.txn ∙ ap is_wait c.requires.active) u c.in-Some.child h)
+    λ u h. is.agree u (stands_other (state_in c.args.graph.now c.loop-at.self) is.orderly c.args.slot
+    (ap (λ x. is_wait (status_in x)) is.txn ∙ ap is_wait c.requires.active) u c.in-Some.child h)
 
 pub drop_and_wake-requires-clause-count : goal.drop_and_wake-requires-clause-count
 drop_and_wake-requires-clause-count c = let is = c.loop-at.invariant.releasing.leaving in
-    λ u h. is.count u (stands_other (state_in c.args.graph.now c.loop-at.self) is.orderly c.args.slot (ap (λ x. is_wait (status_in x)) is.txn ∙ ap is_wait c.requires.active) u c.in-Some.child h)
+    λ u h. is.count u (stands_other (state_in c.args.graph.now c.loop-at.self) is.orderly c.args.slot
+    (ap (λ x. is_wait (status_in x)) is.txn ∙ ap is_wait c.requires.active) u c.in-Some.child h)
 
 pub drop_and_wake-requires-clause-tell : goal.drop_and_wake-requires-clause-tell
 drop_and_wake-requires-clause-tell c = let is = c.loop-at.invariant.releasing.leaving in record {

@@ -1,4 +1,5 @@
-use Rattle.gl_table.proofs.Words.{◌&&◌, ◌<◌, ◌==◌, ◌||◌, ◌∙◌, ◌≡◌, ap, arith, Bool, common_steps, false, gets, if◌then◌else◌, length, nat_tests, None, not, refl, sym}
+use Rattle.gl_table.proofs.Words.{◌&&◌, ◌<◌, ◌==◌, ◌||◌, ◌∙◌, ◌≡◌, ap, arith, Bool, common_steps, false, gets, if◌then◌else◌, length, nat_tests, None}
+use Rattle.gl_table.proofs.Words.{not, refl, sym}
 use Rattle.gl_table.proofs.Words.{true}
 use Rattle.gl_table.proofs.inside.Seats.{free-set, lives-set, waits-set}
 use Rattle.gl_table.proofs.seats.Seats.leave.Goals as goal

@@ -1,4 +1,5 @@
-use Rattle.gl_table.proofs.Words.{◌&&◌, ◌<◌, ◌==◌, ◌||◌, ◌∙◌, ◌≡◌, ap, arith, Bool, common_steps, false, gets, if◌then◌else◌, is_wait, length, nat_tests, not, refl, Some}
+use Rattle.gl_table.proofs.Words.{◌&&◌, ◌<◌, ◌==◌, ◌||◌, ◌∙◌, ◌≡◌, ap, arith, Bool, common_steps, false, gets, if◌then◌else◌, is_wait, length}
+use Rattle.gl_table.proofs.Words.{nat_tests, not, refl, Some}
 use Rattle.gl_table.proofs.Words.{sym, true}
 use Rattle.gl_table.proofs.inside.Seats.{free-set, lives-set, waits-set}
 use Rattle.gl_table.proofs.seats.Seats.take.Goals as goal

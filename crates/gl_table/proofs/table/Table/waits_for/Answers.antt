@@ -1,5 +1,6 @@
 use Rattle.gl_slots.specs.Slots.{has_slot}
-use Rattle.gl_table.proofs.Words.{◌&&◌, ◌==◌, ◌∙◌, ◌≡◌, ap, blocks, Bool, false, if◌then◌else◌, lives, None, not, Option, Some, state_of, Status, status_of, subst}
+use Rattle.gl_table.proofs.Words.{◌&&◌, ◌==◌, ◌∙◌, ◌≡◌, ap, blocks, Bool, false, if◌then◌else◌, lives, None, not, Option, Some, state_of, Status}
+use Rattle.gl_table.proofs.Words.{status_of, subst}
 use Rattle.gl_table.proofs.Words.{sym, TableView, true, view_of, Waiting, waits_for, ℕ}
 use Rattle.gl_table.proofs.table.Table.waits_for.Goals as goal
 
@@ -14,5 +15,6 @@ returns-in-Some-Waiting-clause-waits c u =
   where
     at : status_of (state_of (view_of c.self.inside)) c.args.t.slot ≡ Some (Waiting c.in-Some-Waiting.node c.in-Some-Waiting.wanted)
     at = subst (λ (v : TableView). status_of (state_of v) c.args.t.slot ≡ Some (Waiting c.in-Some-Waiting.node c.in-Some-Waiting.wanted)) (sym c.self.view_is)
-        (there (lives (state_of c.args.self.now) c.args.t) (status_of (state_of c.args.self.now) c.args.t.slot) (Waiting c.in-Some-Waiting.node c.in-Some-Waiting.wanted)
+        (there (lives (state_of c.args.self.now) c.args.t) (status_of (state_of c.args.self.now) c.args.t.slot)
+        (Waiting c.in-Some-Waiting.node c.in-Some-Waiting.wanted)
         (sym c.status.ensures ∙ c.in-Some-Waiting.is ∙ ap Some c.in-Some-Waiting.field-0-is))
