@@ -1,7 +1,7 @@
 -- Managers come and go.
 use Rattle.gl_slots.specs.Slots.{no_slots}
 use Rattle.gl_slots.specs.Limit.{most_slots}
-use Rattle.std.specs.Prelude.{◌≡◌, ◌⊎◌, ℕ, Bool, false, ◌&&◌, ◌==◌, Option, Some, None, if◌then◌else◌, nat_lt, replicate}
+use Rattle.std.specs.Prelude.{◌≡◌, ◌⊎◌, ℕ, Bool, false, ◌&&◌, Option, Some, None, if◌then◌else◌, nat_lt, replicate}
 use Rattle.gl_modes.specs.declared.node.NodeId.{NodeId}
 use Rattle.gl_modes.specs.declared.refusal.Refusal.TheVariants as no
 use Rattle.gl_model.specs.declared.answers.Detect.{Detect}
