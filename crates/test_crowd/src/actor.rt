@@ -5,6 +5,7 @@ ghost use Rattle.std.specs.Prelude.{◌<◌};
 use crate::forest::{
     FILES, Forest, INDEXES, NODES, RECORDS, Rank, may_be_above, pair, part, rank_of,
 };
+use crate::wanted::{allowed, same};
 use gl_catalog::{Answer, Command};
 use gl_modes::Mode::{IS, IX, NL, S, SIX, X};
 use gl_modes::{Mode, NodeId};
@@ -16,7 +17,6 @@ use std::alloc::Global;
 use std::process::Abort;
 use std::sync::Wait;
 use std::thread::yield_now;
-use test_wanted::{allowed, same};
 
 /// A command, with what it names in a list of its own.
 #[derive(Clone, Copy)]

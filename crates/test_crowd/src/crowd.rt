@@ -4,6 +4,7 @@ use crate::actor::{Act, Entry, acts};
 use crate::forest::{Forest, add_forest};
 use crate::stage::enact;
 use crate::tally::replays;
+use crate::wanted::{allowed, same};
 use gl_catalog::{Answer, Command, Manager};
 use gl_modes::{Mode, NodeId, Refusal};
 use gl_shared::{Naming, Session, Share, Shared, Watcher};
@@ -18,7 +19,6 @@ use std::sync::Wait;
 use std::sync::atomic::{AtomicBool, Ordering};
 use std::test::Fail;
 use std::thread::{Threads, join, map_vec, yield_now};
-use test_wanted::{allowed, same};
 
 /// How many commands each session asks at least, where the environment has no other number.
 const COMMANDS: u32 = 200;

@@ -2,12 +2,12 @@
 
 ghost use Rattle.std.specs.Prelude.{◌<◌};
 
+use crate::wanted::{allowed, same};
 use gl_catalog::Manager;
 use gl_modes::Mode::IX;
 use gl_modes::{NodeId, Refusal};
 use gl_table::{Told, TxnId};
 use std::process::Abort;
-use test_wanted::{allowed, same};
 
 /// How many nodes there are before the sessions begin.
 pub const NODES: usize = 50;

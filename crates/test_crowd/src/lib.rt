@@ -11,3 +11,5 @@ mod forest;
 mod stage;
 #[cfg(test)]
 mod tally;
+#[cfg(test)]
+mod wanted;

@@ -1,10 +1,10 @@
 //! What a crowd did, put to a manager alone.
 
 use crate::actor::Entry;
+use crate::wanted::same;
 use gl_catalog::{Answer, Command, Manager};
 use gl_shared::is_accepted;
 use std::process::Abort;
-use test_wanted::same;
 
 /// What was done at least once.
 #[derive(Clone, Copy, PartialEq, Eq, Debug, Default)]

@@ -13,4 +13,6 @@ mod rows;
 #[cfg(test)]
 mod story;
 #[cfg(test)]
+mod wanted;
+#[cfg(test)]
 mod windows;

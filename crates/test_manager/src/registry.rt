@@ -1,6 +1,7 @@
 //! Rows by the engine's own numbers, whose nodes come and go with their locks.
 
 use crate::story::{A, Ask, B, N1, N2, N3, N4, N5, N6, N7, command_of};
+use crate::wanted::{allowed, same};
 use gl_catalog::{Answer, Manager};
 use gl_modes::Mode::{IX, S, X};
 use gl_modes::{Mode, NodeId, Refusal};
@@ -8,7 +9,6 @@ use gl_registry::{Registry, Row, RowAnswer, RowCall, RowLocked};
 use gl_table::{Detect, Locked, Told, TxnId};
 use std::alloc::Global;
 use std::process::Abort;
-use test_wanted::{allowed, same};
 
 const DB: NodeId = N1;
 /// A file of records.

@@ -2,12 +2,12 @@
 //! data, and what plays it is proved once. The names are those that a manager gives: nodes are born and
 //! transactions begin in the order of their numbers.
 
+use crate::wanted::{allowed, same};
 use gl_catalog::{Answer, Command, Counters, Manager, Reached};
 use gl_modes::{Mode, NodeId, Refusal};
 use gl_table::{Detect, Locked, Told, TxnId};
 use std::alloc::Global;
 use std::process::Abort;
-use test_wanted::{allowed, same};
 
 pub const A: TxnId = TxnId { slot: 0, age: 1 };
 

@@ -5,13 +5,13 @@ ghost use Rattle.std.specs.Prelude.{◌≡◌, ◌≤◌};
 ghost use Rattle.gl_model.specs.declared.answers.Detect.TheVariants.{AtBlock};
 ghost use Rattle.gl_boxes.specs.Boards.{Fine, last_epoch};
 
+use crate::wanted::same;
 use gl_table::Detect;
 use gl_waits::{Board, SLOTS};
 use gl_window::{Publisher, WatchFault, Watcher};
 use std::alloc::Global;
 use std::process::Abort;
 use std::test::Fail;
-use test_wanted::same;
 
 /// A board of this epoch, on which nobody lives.
 fn board_of(epoch: u64) -> Board

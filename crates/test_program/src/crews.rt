@@ -2,6 +2,7 @@
 
 ghost use Rattle.std.specs.Prelude.{◌≡◌, ◌+◌, ◌<◌, ◌≤◌, IfOk};
 
+use crate::wanted::same;
 use gl_catalog::{Answer, Command, Manager};
 use gl_crew::{Ended, Field, RecordRounds, Work, crew_over};
 use gl_modes::{Mode, NodeId, Refusal};
@@ -12,7 +13,6 @@ use std::alloc::Global;
 use std::process::Abort;
 use std::sync::{Mutex, MutexGuard, Wait};
 use std::thread::{Threads, yield_now};
-use test_wanted::same;
 
 /// How often each of two sessions has come to each point.
 #[derive(Clone, Copy, Debug, PartialEq, Eq, Drop)]

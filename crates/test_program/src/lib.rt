@@ -7,4 +7,6 @@ mod crews;
 #[cfg(test)]
 mod rounds;
 #[cfg(test)]
+mod wanted;
+#[cfg(test)]
 mod words;

@@ -2,6 +2,7 @@
 
 ghost use Rattle.std.specs.Prelude.{◌≡◌};
 
+use crate::wanted::{allowed, same};
 use gl_catalog::Manager;
 use gl_crew::{CrewFault, Work, crew_over};
 use gl_shared::{Naming, Session};
@@ -11,7 +12,6 @@ use std::process::Abort;
 use std::sync::{Mutex, MutexGuard, Wait};
 use std::test::Fail;
 use std::thread::Threads;
-use test_wanted::{allowed, same};
 
 /// How many sessions there are.
 const SESSIONS: usize = 3;

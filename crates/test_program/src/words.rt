@@ -1,6 +1,7 @@
 //! The words of the program: what they ask for, the plan of it, and what becomes of those that ask for
 //! nothing.
 
+use crate::wanted::same;
 use gl_modes::Refusal;
 use gl_table::Detect;
 use gl_table::Detect::{AtBlock, ByWatcher};
@@ -16,7 +17,6 @@ use std::process::Abort;
 use std::sync::Wait;
 use std::test::Fail;
 use std::thread::Threads;
-use test_wanted::same;
 
 /// Two readers of `db` that both ask for it alone: a deadlock.
 const SCRIPT: &[u8] =

@@ -18,4 +18,6 @@ mod standing;
 #[cfg(test)]
 mod twins;
 #[cfg(test)]
+mod wanted;
+#[cfg(test)]
 mod work;

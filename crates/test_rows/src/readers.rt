@@ -3,13 +3,13 @@
 use crate::act::Act;
 use crate::named::Named;
 use crate::site::{Line, interval};
+use crate::wanted::{allowed, same};
 use gl_catalog::{Answer, Command, Reached};
 use gl_modes::Mode::{IS, IX, S, X};
 use gl_modes::{Mode, NodeId, Refusal};
 use gl_table::{Detect, Effect, Locked, Told, TxnId};
 use std::alloc::Global;
 use std::process::Abort;
-use test_wanted::{allowed, same};
 
 /// A reader of the first interval, a row in it that a third transaction reads, and another transaction.
 #[derive(Drop)]

@@ -6,6 +6,7 @@ use crate::act::Act;
 use crate::seen::ALL;
 use crate::site::{KEYS, Line, Site, interval, with_key};
 use crate::twins::Twins;
+use crate::wanted::same;
 use gl_catalog::Answer;
 use gl_modes::Mode::{IS, IX, S, SIX, X};
 use gl_modes::{Mode, NodeId, Refusal};
@@ -15,7 +16,6 @@ use rand_pcg::Pcg32;
 use std::alloc::Global;
 use std::process::Abort;
 use std::test::Fail;
-use test_wanted::same;
 
 /// How many rows are worked on.
 const SOUGHT: usize = 6;

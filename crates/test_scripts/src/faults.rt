@@ -3,9 +3,9 @@
 
 use crate::rows::{AT_BLOCK, answer};
 use crate::streams::{Sheet, Source};
+use crate::wanted::same;
 use gl_interpreter::RunFault;
 use std::test::Fail;
-use test_wanted::same;
 
 const SCRIPT: &[u8] = b"begin a\nbegin b\n";
 

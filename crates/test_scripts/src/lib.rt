@@ -25,3 +25,5 @@ mod records;
 mod rows;
 #[cfg(test)]
 mod streams;
+#[cfg(test)]
+mod wanted;

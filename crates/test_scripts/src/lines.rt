@@ -2,10 +2,10 @@
 
 use crate::rows::{AT_BLOCK, FEWEST, LISTED, Row, answer, comes_out, try_row};
 use crate::streams::{Sheet, Source};
+use crate::wanted::same;
 use gl_interpreter::RunFault;
 use std::alloc::{AllocError, Global};
 use std::test::Fail;
-use test_wanted::same;
 
 /// Nothing is read, and nothing is written.
 #[test]

@@ -1,11 +1,11 @@
 //! What a picture of a script's end looks like, and what becomes of bad words and faults.
 
 use crate::streams::{Sheet, Source};
+use crate::wanted::same;
 use gl_interpreter::draw_script;
 use std::alloc::Global;
 use std::process::Abort;
 use std::test::Fail;
-use test_wanted::same;
 
 /// Two readers of `db` that both ask for it alone.
 const SCRIPT: &[u8] =

@@ -1,6 +1,7 @@
 //! A script line by line, and all that is tried with it.
 
 use crate::streams::{Sheet, Source};
+use crate::wanted::same;
 use gl_interpreter::{Choices, RunFault, run, run_choosing};
 use gl_table::Detect;
 use gl_waits::Victims;
@@ -8,7 +9,6 @@ use std::alloc::{AllocError, Global};
 use std::io::{Read, Write};
 use std::process::Abort;
 use std::test::Fail;
-use test_wanted::same;
 
 /// Lines of a script, each with its answer: nothing, or one line or more.
 pub(crate) type Lines = &'static [(&'static str, &'static str)];

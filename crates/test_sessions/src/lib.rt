@@ -14,3 +14,5 @@ mod stage;
 mod story;
 #[cfg(test)]
 mod wakings;
+#[cfg(test)]
+mod wanted;

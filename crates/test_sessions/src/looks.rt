@@ -2,6 +2,7 @@
 
 use crate::stage::{add_root, done, enact, new_manager};
 use crate::story::Story;
+use crate::wanted::same;
 use gl_catalog::{Answer, Command};
 use gl_modes::Mode::X;
 use gl_modes::NodeId;
@@ -15,7 +16,6 @@ use std::rt::Clock;
 use std::sync::Wait;
 use std::test::Fail;
 use std::thread::{Threads, map_vec};
-use test_wanted::same;
 
 /// How often each session commits.
 const COMMITS: u32 = 100;

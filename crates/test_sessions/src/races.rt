@@ -2,6 +2,7 @@
 
 use crate::stage::{add_root, begin_with, done, enact, new_manager, settles, youngest_suspect};
 use crate::story::Story;
+use crate::wanted::same;
 use gl_catalog::{Answer, Command, Manager};
 use gl_modes::Mode::{S, X};
 use gl_modes::{NodeId, Refusal};
@@ -14,7 +15,6 @@ use std::sync::Wait;
 use std::sync::atomic::{AtomicBool, Ordering};
 use std::test::Fail;
 use std::thread::{Threads, join, yield_now};
-use test_wanted::same;
 
 /// The younger gives way, and the older is granted.
 #[derive(Clone, Copy)]

@@ -3,6 +3,7 @@
 
 use crate::stage::{add_root, begin_with, done, enact, new_manager, settles};
 use crate::story::Story;
+use crate::wanted::same;
 use gl_catalog::{Command, Manager};
 use gl_modes::Mode::X;
 use gl_modes::NodeId;
@@ -15,7 +16,6 @@ use std::rt::Clock;
 use std::sync::Wait;
 use std::test::Fail;
 use std::thread::{Threads, join, map_vec};
-use test_wanted::same;
 
 /// A transaction and the root that it holds.
 #[derive(Clone, Copy)]

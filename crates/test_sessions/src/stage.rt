@@ -5,6 +5,7 @@ ghost use Rattle.gl_table.specs.Table.{board_of};
 ghost use Rattle.gl_catalog.specs.Manager.{state_of};
 
 use crate::story::Story;
+use crate::wanted::{allowed, same};
 use gl_catalog::{Answer, Command, Manager};
 use gl_modes::{Mode, NodeId};
 use gl_shared::{Closed, Naming, NotAll, Parts, Session, Share, Shared, Watcher, gather};
@@ -17,7 +18,6 @@ use std::rt::Clock;
 use std::sync::Wait;
 use std::test::Fail;
 use std::thread::{Threads, yield_now};
-use test_wanted::{allowed, same};
 
 /// The story on a table with its name.
 fn enact_under_name<N: Naming + Send + Sync, R: Threads + Wait + Abort + Clock + Sync>(

@@ -3,6 +3,7 @@
 
 use crate::stage::{add_root, begin_with, enact, new_manager};
 use crate::story::Story;
+use crate::wanted::{allowed, same};
 use gl_catalog::{Answer, Command, Manager};
 use gl_modes::Mode::{S, X};
 use gl_modes::{Mode, NodeId};
@@ -15,7 +16,6 @@ use std::sync::Wait;
 use std::sync::atomic::{AtomicUsize, Ordering};
 use std::test::Fail;
 use std::thread::{Threads, map_vec, yield_now};
-use test_wanted::{allowed, same};
 
 /// How many sleep.
 const SLEEPERS: usize = 3;

@@ -4,6 +4,7 @@ ghost use Rattle.std.specs.Prelude.{◌≡◌};
 ghost use Rattle.gl_table.specs.Table.{board_of};
 ghost use Rattle.gl_catalog.specs.Manager.{state_of};
 
+use crate::wanted::same;
 use gl_catalog::{Answer, Command, Manager};
 use gl_shared::{Naming, NotAll, Parts, Session, Share, Shared, gather};
 use gl_table::Detect;
@@ -12,7 +13,6 @@ use std::marker::Brand;
 use std::process::Abort;
 use std::sync::Wait;
 use std::test::Fail;
-use test_wanted::same;
 
 /// Has a root made for this share.
 fn makes_root<N: Naming, R: Wait + Abort>(rt: &R, table: &Shared<N>, share: Share<N>) -> Share<N> {

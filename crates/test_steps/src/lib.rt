@@ -16,3 +16,5 @@ mod table;
 mod tellings;
 #[cfg(test)]
 mod waits;
+#[cfg(test)]
+mod wanted;

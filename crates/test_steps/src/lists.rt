@@ -5,6 +5,7 @@ ghost use Rattle.std.specs.Prelude.{◌≡◌};
 ghost use Rattle.gl_table.specs.Table.{board_of};
 ghost use Rattle.gl_catalog.specs.Manager.{state_of};
 
+use crate::wanted::{allowed, same};
 use gl_catalog::{Answer, Command, Manager};
 use gl_modes::Mode::{IX, X};
 use gl_modes::{NodeId, Refusal};
@@ -15,7 +16,6 @@ use std::marker::Brand;
 use std::process::Abort;
 use std::sync::Wait;
 use std::test::Fail;
-use test_wanted::{allowed, same};
 
 /// A root with a file, and two transactions.
 #[derive(Clone, Copy)]

@@ -5,6 +5,7 @@ ghost use Rattle.gl_table.specs.Table.{board_of};
 ghost use Rattle.gl_catalog.specs.Manager.{state_of};
 
 use crate::steps::{Alone, Made, Step, Through, take};
+use crate::wanted::same;
 use gl_catalog::{Answer, Manager};
 use gl_shared::{Naming, NotAll, Parts, Session, Share, Shared, gather};
 use gl_table::Detect;
@@ -13,7 +14,6 @@ use std::marker::Brand;
 use std::process::Abort;
 use std::sync::Wait;
 use std::test::Fail;
-use test_wanted::same;
 
 /// Puts each step to a session and to the manager: the replies must be the same, and so must the counts of
 /// accepted commands and the counters behind each.

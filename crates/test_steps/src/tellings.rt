@@ -6,6 +6,7 @@ ghost use Rattle.gl_table.specs.Table.{board_of};
 ghost use Rattle.gl_catalog.specs.Manager.{state_of};
 
 use crate::steps::{Made, Step, Through, take};
+use crate::wanted::same;
 use gl_catalog::{Answer, Manager};
 use gl_modes::Mode::{S, X};
 use gl_modes::{NodeId, Refusal};
@@ -17,7 +18,6 @@ use std::marker::Brand;
 use std::process::Abort;
 use std::sync::Wait;
 use std::test::Fail;
-use test_wanted::same;
 
 /// A step, and what a look shows behind it: the epoch, and whether slot 1 waits.
 type Shows = (Step, u64, bool);

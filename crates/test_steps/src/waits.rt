@@ -8,6 +8,7 @@ ghost use Rattle.gl_catalog.specs.Manager.{state_of};
 use crate::rows::PRELUDE;
 use crate::steps::{Alone, Answers, Made, Step, Through, take};
 use crate::table::keep_intervals;
+use crate::wanted::same;
 use gl_catalog::{Answer, Command, Manager};
 use gl_modes::Mode::{IS, IX, S, X};
 use gl_modes::{Mode, NodeId, Refusal};
@@ -22,7 +23,6 @@ use std::process::Abort;
 use std::sync::Wait;
 use std::test::Fail;
 use std::thread::{Threads, join, yield_now};
-use test_wanted::same;
 
 /// A wait and its end. Transactions and nodes stand in it by their places.
 #[derive(Clone, Copy)]

@@ -1,10 +1,9 @@
 //! Transactions that try and release locks, and what they are answered.
 
-use crate::story::{A, Ask, B, Came, N1, N2, N3, Part, asks, tell, told};
+use crate::story::{A, Ask, B, Came, N1, N2, N3, Part, allowed, asks, same, tell, told};
 use gl_modes::Mode::{IS, IX, NL, S, SIX, X};
 use gl_modes::{NodeId, Refusal};
 use gl_table::{Detect, Effect, Table, TxnId};
-use test_wanted::{allowed, same};
 
 const DB: NodeId = N1;
 

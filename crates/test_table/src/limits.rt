@@ -1,10 +1,9 @@
 //! Calls at the limits. With ample memory none is refused for want of it.
 
-use crate::story::{Ask, Came, N1, asks};
+use crate::story::{Ask, Came, N1, allowed, asks};
 use gl_modes::Mode::{NL, S, X};
 use gl_modes::NodeId;
 use gl_table::{Detect, Table, TxnId};
-use test_wanted::allowed;
 
 /// How many nodes one transaction holds.
 const MANY: u32 = 60_000;

@@ -8,8 +8,8 @@ use crate::answering::{give_key, move_under, remove, shed};
 use gl_modes::{Mode, NodeId, Refusal};
 use gl_table::{Detect, Effect, Locked, Notice, Status, Table, Told, TxnId};
 use std::alloc::Global;
+use std::fmt::Debug;
 use std::process::Abort;
-use test_wanted::{allowed, same};
 
 pub const A: TxnId = TxnId { slot: 0, age: 1 };
 
@@ -95,6 +95,16 @@ pub enum Came {
 
 /// Asks one after the other, each with what it is to come to.
 pub type Part = &'static [(Ask, Came)];
+
+/// What came must be what is wanted.
+pub fn same<T: PartialEq + Debug + Drop>(rt: &impl Abort, came: T, wanted: T) {
+    assert_eq!(rt; came, wanted);
+}
+
+/// What is answered, which must be no refusal.
+pub fn allowed<T: Drop>(rt: &impl Abort, answer: Result<T, Refusal>) -> T {
+    answer.expect(rt, "a call is refused")
+}
 
 /// Who is told in a list.
 pub fn hear(told: &Told) -> Came {

@@ -1,8 +1,8 @@
 //! Each cause of a bad line once.
 
+use crate::wanted::same;
 use gl_script::{Language, Lists, Version, parse};
 use std::process::Abort;
-use test_wanted::same;
 
 /// Whether the line says nothing in this language.
 fn says_nothing(version: Version, listings: bool, line: &[u8]) -> bool {

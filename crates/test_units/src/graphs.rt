@@ -1,11 +1,11 @@
 //! Values from outside, and limits, as tables. Nodes are born in the order of their numbers.
 
+use crate::wanted::same;
 use gl_graph::laws::root_path_laws;
 use gl_graph::{Graph, Kind};
 use gl_modes::{NodeId, Refusal};
 use std::alloc::Global;
 use std::process::Abort;
-use test_wanted::same;
 
 const N1: NodeId = NodeId { key: 0, birth: 1 };
 

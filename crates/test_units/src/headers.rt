@@ -4,12 +4,12 @@ ghost use Rattle.std.specs.Prelude.{◌≡◌, ◌≢◌, ◌<◌, false, true};
 ghost use Rattle.gl_modes.specs.declared.mode.Mode.TheVariants.{NL};
 ghost use Rattle.gl_header.specs.Header.{is_among_waiters};
 
+use crate::wanted::same;
 use arrayvec::ArrayVec;
 use gl_header::{Asked, GrantList, Header, Try};
 use gl_modes::{Mode, Refusal};
 use std::alloc::Global;
 use std::process::Abort;
-use test_wanted::same;
 
 /// Whether a slot may ask for a mode: it does not wait, and the mode is one to hold.
 #[tactic(auto, using(crate::proofs::Steps::caller_steps))]

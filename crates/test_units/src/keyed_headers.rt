@@ -5,12 +5,12 @@ ghost use Rattle.gl_modes.specs.declared.mode.Mode.TheVariants.{NL};
 ghost use Rattle.gl_header.specs.Header.{is_among_waiters};
 ghost use Rattle.gl_header.specs.Headers.{HasItsKey, queue_of};
 
+use crate::wanted::same;
 use arrayvec::ArrayVec;
 use gl_header::{Asked, GrantList, Headers};
 use gl_modes::{Mode, NodeId, Refusal};
 use std::alloc::Global;
 use std::process::Abort;
-use test_wanted::same;
 
 /// Whether a slot waits for a node.
 fn waits(headers: &Headers, slot: u8, node: NodeId) -> bool

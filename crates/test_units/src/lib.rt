@@ -24,3 +24,5 @@ mod script;
 mod slots;
 #[cfg(test)]
 mod waits;
+#[cfg(test)]
+mod wanted;

@@ -1,11 +1,11 @@
 //! A list under nodes beside an `IndexMap` that is asked the same.
 
+use crate::wanted::same;
 use gl_listed::NodeMap;
 use gl_modes::NodeId;
 use indexmap::IndexMap;
 use std::alloc::{AllocError, Global};
 use std::test::Fail;
-use test_wanted::same;
 
 fn node(number: u64) -> NodeId {
     NodeId {

@@ -2,9 +2,9 @@
 
 use crate::bad_lines::{Texts, are_bad, are_bad_unlisted};
 use crate::script::{Node, Text, is, names, order_in};
+use crate::wanted::same;
 use gl_script::{Form, Language, Line, Listing, Lists, Version, parse};
 use std::process::Abort;
-use test_wanted::same;
 
 /// The listing that the line says in this version, with listings.
 fn listing_in(version: Version, line: &[u8]) -> Option<Listing> {

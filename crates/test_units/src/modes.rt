@@ -1,7 +1,7 @@
 //! Spellings, order and compatibility of modes; numbers and names of refusals.
 
+use crate::wanted::same;
 use gl_modes::{Mode, NodeId, Refusal, compatible, covers, mode_laws, sup};
-use test_wanted::same;
 
 const MODES: [Mode; 6] = [Mode::NL, Mode::IS, Mode::IX, Mode::S, Mode::SIX, Mode::X];
 

@@ -1,9 +1,9 @@
 //! Each form of a command read once.
 
+use crate::wanted::same;
 use gl_modes::Mode;
 use gl_script::{Form, Language, Line, Lists, Name, Used, Version, one_command, parse};
 use std::process::Abort;
-use test_wanted::same;
 
 /// The name's bytes.
 pub(crate) fn is(name: &Name, text: &[u8]) -> bool {

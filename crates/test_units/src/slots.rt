@@ -1,7 +1,7 @@
 //! Each call once, at both ends of a set.
 
+use crate::wanted::same;
 use gl_slots::{Slots, from_words, to_words};
-use test_wanted::same;
 
 #[test]
 fn a_set_has_what_was_put_in(rt: HostRuntime) {

@@ -1,6 +1,4 @@
-//! What the tests of the other crates want. It is compared in one function, since each comparison makes the
-//! proof of a test longer.
-#![tactic(auto)]
+//! What is wanted is compared in one function, since each comparison makes the proof of a test longer.
 
 use gl_modes::Refusal;
 use std::fmt::Debug;
