@@ -282,6 +282,24 @@ static inline bs_reply bs_table_sleep_in_line(bs_table *table, const struct time
   return turn.begun;
 }
 
+/* The time by CLOCK_MONOTONIC that lies so far ahead. */
+static inline struct timespec bs_ahead(uint64_t seconds, uint32_t nanoseconds) {
+  struct timespec time;
+  clock_gettime(CLOCK_MONOTONIC, &time);
+  time.tv_sec += (time_t)seconds;
+  time.tv_nsec += (long)nanoseconds;
+  if (time.tv_nsec >= 1000000000L) {
+    time.tv_sec++;
+    time.tv_nsec -= 1000000000L;
+  }
+  return time;
+}
+
+/* The time that lies so many milliseconds ahead, for the calls that sleep to a time at most. */
+static inline struct timespec bs_after(uint64_t milliseconds) {
+  return bs_ahead(milliseconds / 1000u, (uint32_t)(milliseconds % 1000u) * 1000000u);
+}
+
 /* Whether this is a time: null, or with nanoseconds below a second. */
 static inline bool bs_is_time(const struct timespec *until) {
   return until == NULL || (until->tv_nsec >= 0 && until->tv_nsec < 1000000000L);
@@ -445,11 +463,11 @@ static inline bs_reply bs_table_begin(bs_table *table) {
 }
 
 /* As bs_begin, but it never answers BS_TOO_MANY_TXNS: where all slots are taken it sleeps until one is its own, or,
- * where `until` is not null, until that time by CLOCK_MONOTONIC. Those who sleep for a slot are served in the order in
- * which they came. Whoever ends a transaction begins the next for the first of them, in the same hold of the latch: so
- * nobody who came later is served before. A slot that is free before the one who sleeps got the latch is a begin, also
- * where its time was over by then. One who sleeps has no transaction, so it is on no cycle of waits. A thread that has
- * one still, and sleeps for another, may wait for itself, and nobody finds that.
+ * where `until` is not null, until that time by CLOCK_MONOTONIC (bs_after gives one). Those who sleep for a slot are
+ * served in the order in which they came. Whoever ends a transaction begins the next for the first of them, in the
+ * same hold of the latch: so nobody who came later is served before. A slot that is free before the one who sleeps
+ * got the latch is a begin, also where its time was over by then. One who sleeps has no transaction, so it is on no
+ * cycle of waits. A thread that has one still, and sleeps for another, may wait for itself, and nobody finds that.
  * BS_TIMED_OUT: its time came first, and nothing has begun. BS_NO_MEMORY may also come behind a sleep. Refused with
  * BS_BAD_NUMBER also where `until` is no time. */
 static inline bs_reply bs_table_begin_until(bs_table *table, const struct timespec *until) {
@@ -1071,15 +1089,8 @@ static inline bs_reply bs_table_watch_end(bs_watcher *watcher) { return bs_watch
 
 /* Sleeps for some nanoseconds, but no longer than the table lives. The latch is held before and behind it. */
 static inline void bs_table_rest(bs_table *table, bs_table_inside *in, uint64_t nanoseconds) {
-  struct timespec until;
+  struct timespec until = bs_ahead(nanoseconds / 1000000000u, (uint32_t)(nanoseconds % 1000000000u));
   if (nanoseconds == 0) return;
-  clock_gettime(CLOCK_MONOTONIC, &until);
-  until.tv_sec += (time_t)(nanoseconds / 1000000000u);
-  until.tv_nsec += (long)(nanoseconds % 1000000000u);
-  if (until.tv_nsec >= 1000000000L) {
-    until.tv_sec++;
-    until.tv_nsec -= 1000000000L;
-  }
   while (!in->is_ending && pthread_cond_timedwait(&in->over, &table->latch, &until) != ETIMEDOUT) continue;
 }
 

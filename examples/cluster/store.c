@@ -5,8 +5,8 @@
 
 #include <inttypes.h>
 
-/* How many seconds a wait lasts at most. It is for waits on those who do not wait for locks, and ends no deadlock. */
-enum { PATIENCE = 10 };
+/* How many milliseconds a wait lasts at most. It is for waits on those who do not wait for locks, and ends no deadlock. */
+enum { PATIENCE = 10000 };
 
 /* The owner of what the log has left. */
 enum { NOBODY = 0 };
@@ -111,11 +111,8 @@ static bool name_of(struct store *s, uint64_t number, bs_txn *name) {
 
 static bool lock(struct store *s, bs_txn name, unsigned account, bs_mode mode) {
   bs_node record = s->records[account % ACCOUNTS_EACH];
-  struct timespec until;
-  bs_status status;
-  clock_gettime(CLOCK_MONOTONIC, &until);
-  until.tv_sec += PATIENCE;
-  status = bs_table_lock_path(&s->locks, name, record, mode, &until).status;
+  struct timespec until = bs_after(PATIENCE);
+  bs_status status = bs_table_lock_path(&s->locks, name, record, mode, &until).status;
   switch (status) {
     case BS_DONE: return true;
     case BS_VICTIM: case BS_TIMED_OUT: case BS_NOT_WAITING: case BS_NO_SUCH_TXN: return false;

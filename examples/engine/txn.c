@@ -6,21 +6,9 @@
  * Locks.
  */
 
-static struct timespec moment_in(unsigned milliseconds) {
-  struct timespec moment;
-  clock_gettime(CLOCK_MONOTONIC, &moment);
-  moment.tv_sec += milliseconds / 1000;
-  moment.tv_nsec += milliseconds % 1000 * 1000000L;
-  if (moment.tv_nsec >= 1000000000L) {
-    moment.tv_sec++;
-    moment.tv_nsec -= 1000000000L;
-  }
-  return moment;
-}
-
 /* Locks a node, with the intentions above it. */
 static bs_status lock(struct txn *t, bs_node node, bs_mode mode) {
-  struct timespec until = moment_in(t->patience);
+  struct timespec until = bs_after(t->patience);
   const struct timespec *limit = t->patience == FOR_EVER ? NULL : &until;
   bs_reply reply = bs_table_lock_path(&t->bank->locks, t->name, node, mode, limit);
   switch (reply.status) {

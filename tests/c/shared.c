@@ -500,6 +500,27 @@ static bool is_over(const struct timespec *until) {
   return now.tv_sec > until->tv_sec || (now.tv_sec == until->tv_sec && now.tv_nsec >= until->tv_nsec);
 }
 
+/* Whether `later` lies at least so many milliseconds behind `sooner`, and less than a minute more. */
+static bool lies_behind(const struct timespec *sooner, const struct timespec *later, uint64_t milliseconds) {
+  int64_t apart = (int64_t)(later->tv_sec - sooner->tv_sec) * 1000000000 + (later->tv_nsec - sooner->tv_nsec);
+  int64_t least = (int64_t)milliseconds * 1000000;
+  return apart >= least && apart < least + (int64_t)60 * 1000000000;
+}
+
+/* A time ahead is one, and as far as was said. */
+static void a_time_ahead(void) {
+  static const uint64_t far[] = { 0, 1, 999, 1000, 1001, 86400000, 4294967296 };
+  size_t i, ms;
+  for (i = 0; i < sizeof far / sizeof *far; i++) {
+    struct timespec before = moment_in(0), time = bs_after(far[i]);
+    WANT(bs_is_time(&time) && lies_behind(&before, &time, far[i]));
+  }
+  for (ms = 0; ms < 1000; ms++) {
+    struct timespec time = bs_after(ms);
+    WANT(bs_is_time(&time));
+  }
+}
+
 static void a_time_comes(void) {
   struct timespec until = moment_in(2000), wrong = moment_in(0);
   struct asker two;
@@ -2300,6 +2321,7 @@ int main(int count, char **words) {
   TELL(a_thread_dies);
   TELL(an_idle_wake);
   TELL(a_thread_is_cancelled_in_its_sleep);
+  TELL(a_time_ahead);
   TELL(a_time_comes);
   TELL(a_time_comes_and_grants);
   TELL(a_grant_behind_the_time);
