@@ -21,5 +21,6 @@ read_more rows sets i d low here so_far =
     ∙ ap (λ (xs : List Bits). xs ++ set_of (get_or rows i d) ∷ []) so_far
     ∙ sym (take_more_set sets i (set_of (get_or rows i d)) here)
 
-pub put_all : (rows : List Slots) (sets : List Bits) (i : ℕ) → length rows ≤ i → length sets ≤ i → map set_of (take i rows) ≡ take i sets → map set_of rows ≡ sets
+pub put_all : (rows : List Slots) (sets : List Bits) (i : ℕ) → length rows ≤ i → length sets ≤ i → map set_of (take i rows) ≡ take i sets
+    → map set_of rows ≡ sets
 put_all rows sets i low here so_far = ap (map set_of) (sym (take_all i rows low)) ∙ so_far ∙ take_all i sets here
