@@ -44,6 +44,9 @@
  *
  * MEMORY. Calls that end something or give something back take no memory and cannot fail for want of it:
  * unlock, cancel, commit, abort, settle, delete, rekey, escalate, of nodes and of rows. Others say so.
+ *
+ * STACK. To make a manager takes some 140 kilobytes of stack, any other call 20 at most. With 1,024 slots it takes two
+ * megabytes, and what reads a board or finds a deadlock 0.7: give the thread so much.
  */
 #ifndef BURLAPSLATE_H
 #define BURLAPSLATE_H

@@ -731,7 +731,7 @@ static void a_begin_sleeps_for_a_slot(void) {
   ANSWERS(BS_NULL_POINTER, bs_table_begin_until(NULL, NULL));
 }
 
-enum { MOST_BEGINNERS = 1000 };
+enum { MOST_BEGINNERS = BS_SLOTS < 500 ? 1000 : 2 * BS_SLOTS };
 
 static size_t beginners = MOST_BEGINNERS;
 
@@ -2178,7 +2178,7 @@ static void places_without_a_table(void) {
   ANSWERS(BS_NO_MANAGER, bs_table_read_board(&never, &board));
   WANT(bs_table_hold(&never) == NULL && bs_table_holders(&never, root).status == BS_NO_MANAGER);
   ANSWERS(BS_BAD_NUMBER, bs_table_make(&never, 2, BS_YOUNGEST, 1));
-  ANSWERS(BS_BAD_NUMBER, bs_table_make(&never, BS_AT_BLOCK, BS_YOUNGEST, 129));
+  ANSWERS(BS_BAD_NUMBER, bs_table_make(&never, BS_AT_BLOCK, BS_YOUNGEST, BS_SLOTS + 1));
   ANSWERS(BS_NULL_POINTER, bs_table_make(NULL, BS_AT_BLOCK, BS_YOUNGEST, 1));
   ANSWERS(BS_NULL_POINTER, bs_table_end(NULL));
   set_up(BS_AT_BLOCK);

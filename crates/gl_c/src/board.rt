@@ -42,10 +42,10 @@ pub struct Board {
 }
 
 impl Board {
-    /// Says what this board says.
+    /// Says what this board says. It is given by value: of that it is known how many rows it has.
     #[tactic(auto, using(crate::proofs::BoardRows::put_more, crate::proofs::BoardRows::put_all))]
-    pub(crate) fn put(&mut self, board: &gl_waits::Board)
-        ensures { board_in self.new ≡ board.now }
+    pub(crate) fn put(&mut self, board: gl_waits::Board)
+        ensures { board_in self.new ≡ board }
     {
         self.epoch = board.epoch;
         self.ages = board.ages;

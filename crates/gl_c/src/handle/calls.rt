@@ -203,7 +203,7 @@ impl Handle {
         let Some(session) = self.take() else {
             return Reply::with_status(NO_MANAGER);
         };
-        board.put(&session.board());
+        board.put(session.board());
         *self = Handle::of(alloc, session);
         Reply::with_status(DONE)
     }

@@ -70,7 +70,7 @@ impl Lookout {
         let Some(mut watcher) = self.take() else {
             return Reply::with_status(NO_WATCHER);
         };
-        board.put(&watcher.look());
+        board.put(watcher.look());
         *self = Lookout::of(alloc, watcher);
         Reply::with_status(DONE)
     }

@@ -14,7 +14,11 @@ use std::sync::Mutex;
 use std::thread;
 use std::time::{Duration, Instant};
 
-const BEGINNERS: usize = 1000;
+const BEGINNERS: usize = if crate::SLOTS < 500 {
+    1000
+} else {
+    2 * crate::SLOTS
+};
 const HALF: usize = BEGINNERS / 2;
 
 /// So many slots, and a root.
@@ -64,7 +68,7 @@ fn each_end_hands_its_slot_on() {
     }
 }
 
-/// A thousand threads over fewer slots do their work once each. Half of them come to sleep, and while the
+/// A thousand threads, or more, over fewer slots do their work once each. Half of them come to sleep, and while the
 /// others come one slot after the other is freed. Those who slept began in the order in which they came.
 fn turns_over(most: usize) {
     let (table, root) = &table_of(most);
