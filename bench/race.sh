@@ -23,7 +23,7 @@
 # - A short transaction is begin, intentions on a data base, an area and a file, a lock on a record, and
 #   commit: IX and X where it writes, IS and S where it reads. Each lock is a call; in one line the four are
 #   one call, bs_lock_path and lock_vec. The others hold IX on all but the record. 128 transactions can live
-#   with ours, so 127 others are the most.
+#   with ours, so 127 others are the most; with SLOTS=1024 also 1,000 others are tried.
 # - A wait and its grant: one holds a node in X, another asks for it and waits, and the first's commit grants
 #   it. A call of theirs that waits blocks its thread, so its round takes two: the lock goes to and fro, and
 #   a release and the next ask are one lock_vec. No call of ours blocks, so its round is three calls in one

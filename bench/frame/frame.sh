@@ -4,7 +4,8 @@
 #     . "$(dirname "$0")/frame/frame.sh"
 #
 # It makes a folder $work that goes with the script, and builds the library where that is not there; where there is no C
-# compiler, or no library, it says so and ends the script. CC names another compiler than cc.
+# compiler, or no library, it says so and ends the script. CC names another compiler than cc. SLOTS=1024 takes the library
+# for so many transactions, in place of that for 128.
 set -uo pipefail
 top=$(cd "$(dirname "${BASH_SOURCE[0]}")/../.." && pwd) || exit 2
 me=$(basename "$0")
@@ -15,13 +16,16 @@ if ! command -v "${compiler%% *}" >/dev/null; then
 fi
 work=$(mktemp -d) || exit 2
 trap 'rm -rf "$work"' EXIT
-mapfile -t libraries < <("$top/tools/c_library.sh" 2>"$work/log")
+slots=${SLOTS:-128}
+mapfile -t libraries < <("$top/tools/c_library.sh" --slots "$slots" 2>"$work/log")
 [ "${#libraries[@]}" -eq 2 ] || { cat "$work/log" >&2; exit 1; }
+headers=$top/include
+[ "$slots" = 128 ] || headers=$top/out/slots-$slots/include
 
 # compile PROGRAM WORD..: $work/PROGRAM, from sources and with options.
 compile() {
   # shellcheck disable=SC2086 # CC may have words behind the name.
-  $compiler -std=c99 -D_DEFAULT_SOURCE -Wall -Wextra -Werror -O2 -I"$top/include" -I"$top/bench/frame" \
+  $compiler -std=c99 -D_DEFAULT_SOURCE -Wall -Wextra -Werror -O2 -I"$headers" -I"$top/bench/frame" \
     -o "$work/$1" "${@:2}" "$top/bench/frame/frame.c" "${libraries[@]}" -pthread
 }
 

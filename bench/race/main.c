@@ -11,6 +11,8 @@
  */
 #include "race.h"
 
+#include "burlapslate.h"
+
 #include <inttypes.h>
 #include <stdio.h>
 #include <stdlib.h>
@@ -49,6 +51,12 @@ static const struct line lines[] = {
     ours_write, THEIRS(theirs_write), 2, { KEPT, FRESH } },
   { "write-127", "short transaction, writes, beside 127", 127, 1, 1, BEST,
     ours_write, THEIRS(theirs_write), 2, { KEPT, FRESH } },
+#if BS_SLOTS > 1000
+  { "write-1000", "short transaction, writes, beside 1,000", 1000, 1, 1, BEST,
+    ours_write, THEIRS(theirs_write), 2, { KEPT, FRESH } },
+  { "wait-1000", "wait and grant, beside 1,000", 1000, 1, 4, MEDIAN,
+    ours_wait, THEIRS(theirs_wait_paired), 1, { THREADED } },
+#endif
   { "at-once", "writes, alone, all four in one call", 0, 1, 1, BEST,
     ours_write_path, THEIRS(theirs_write), 2, { KEPT | AT_ONCE, FRESH | AT_ONCE } },
   { "wait", "wait and grant, ours in one thread", 0, 1, 4, MEDIAN,

@@ -146,11 +146,11 @@ uint64_t ours_wait(long rounds) {
   bs_notices *told = &sessions[0].notices;
   bs_txn holder = begun();
   uint64_t start;
-  quiet(bs_lock(&manager, holder, inner[0], BS_X, told), told);
+  quiet(bs_lock(&manager, holder, other_root, BS_X, told), told);
   start = now();
   while (rounds-- > 0) {
     bs_txn waiter = begun();
-    WANT(bs_lock(&manager, waiter, inner[0], BS_X, told).status == BS_WAITING && told->count == 0);
+    WANT(bs_lock(&manager, waiter, other_root, BS_X, told).status == BS_WAITING && told->count == 0);
     DONE(bs_commit(&manager, holder, told));
     WANT(is_told(told, waiter, BS_TOLD_GRANTED));
     holder = waiter;
