@@ -84,6 +84,12 @@ typedef struct bs_path {
   bool is_cancelled;
 } bs_path;
 
+/* The time at which each wait of a transaction ends at last; of age 0 there is none. */
+typedef struct bs_deadline {
+  uint64_t age;
+  struct timespec time;
+} bs_deadline;
+
 /* What is made with a table, and ends with it. Its fields are this header's own: they are read and written with
  * the latch held. */
 typedef struct bs_table_inside {
@@ -91,6 +97,7 @@ typedef struct bs_table_inside {
   bs_notices told;                /* by the last command whose caller wanted no list */
   pthread_cond_t ended[BS_SLOTS]; /* by slot: a wait may be over */
   bs_path *paths[BS_SLOTS];       /* by slot: who sleeps on a path */
+  bs_deadline deadlines[BS_SLOTS]; /* by slot: of the transaction of this age, and of no later one */
   bs_turn *first, *last;          /* the line of those who sleep for a slot, by their arrival */
   size_t sleepers;                /* how many threads sleep, for a lock or for a slot */
   uint64_t waited;                /* how many commands had been accepted when the last lock was left waiting */
@@ -185,13 +192,29 @@ static inline bs_reply bs_table_late(bs_table_inside *in, bs_txn txn) {
   return reply;
 }
 
+/* The time at which a wait that begins now ends at last: the earlier of the call's and the transaction's own, or null. */
+static inline const struct timespec *bs_table_earlier(const bs_table_inside *in, bs_txn txn,
+                                                      const struct timespec *until) {
+  const bs_deadline *own = &in->deadlines[txn.slot];
+  if (own->age != txn.age) return until;
+  if (until == NULL || own->time.tv_sec < until->tv_sec) return &own->time;
+  return own->time.tv_sec == until->tv_sec && own->time.tv_nsec < until->tv_nsec ? &own->time : until;
+}
+
 /* Of a lock that was answered BS_WAITING: sleeps, with the latch held before and behind it, until it has its verdict,
- * or the time is over, or the table ends. What became of the wait is asked before the clock. */
+ * or the time is over, or the table ends. What became of the wait is asked before the clock. The time is copied: a
+ * deadline that another thread sets meanwhile is of later waits. */
 static inline bs_reply bs_table_sleep(bs_table *table, bs_txn txn, bs_node node, bs_mode mode,
                                       const struct timespec *until) {
   bs_table_inside *in = table->in;
+  struct timespec time;
   bs_reply reply = bs_null();
   int late = 0;
+  until = bs_table_earlier(in, txn, until);
+  if (until != NULL) {
+    time = *until;
+    until = &time;
+  }
   in->sleepers++;
   reply.status = BS_WAITING;
   while (reply.status == BS_WAITING) {
@@ -479,6 +502,21 @@ static inline bs_reply bs_table_begin_until(bs_table *table, const struct timesp
   if (reply.status == BS_TOO_MANY_TXNS) reply = bs_table_sleep_in_line(table, until);
   pthread_mutex_unlock(&table->latch);
   return reply;
+}
+
+/* From now on each wait of a transaction for a lock ends at this time by CLOCK_MONOTONIC at the latest, whatever the
+ * call that waits says; with null that is over. A wait that sleeps already keeps its time. It is the transaction's
+ * own: the next one of its slot has none. Refused with BS_NO_SUCH_TXN, and with BS_BAD_NUMBER where it is no time. */
+static inline bs_reply bs_table_deadline(bs_table *table, bs_txn txn, const struct timespec *time) {
+  bs_table_inside *in = bs_table_enter(table);
+  bs_reply reply;
+  if (in == NULL) return bs_no_table(table);
+  if (!bs_is_time(time)) return bs_table_leave(table, bs_bad_number());
+  reply = bs_doing(&in->manager, txn);
+  if (reply.status != BS_DONE) return bs_table_leave(table, reply);
+  in->deadlines[txn.slot].age = time == NULL ? 0 : txn.age;
+  if (time != NULL) in->deadlines[txn.slot].time = *time;
+  return bs_table_leave(table, bs_only(BS_DONE));
 }
 
 /* As bs_lock, but it never answers BS_WAITING: a lock that has to wait sleeps until its end, or, where `until` is

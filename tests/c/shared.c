@@ -546,6 +546,42 @@ static void a_time_comes(void) {
   DONE(bs_table_end(&table));
 }
 
+/* Each wait of a transaction ends at its own time at the latest, and no wait of the next one in its slot does. */
+static void a_deadline_of_its_own(void) {
+  struct timespec soon = moment_in(2000), far = moment_in(60000000), wrong = far;
+  struct asker two;
+  bs_txn a, b, c;
+  set_up(BS_AT_BLOCK);
+  a = begin(), b = begin();
+  DONE(bs_table_lock(&table, a, root, BS_X));
+  DONE(bs_table_deadline(&table, b, &soon));
+  ANSWERS(BS_TIMED_OUT, bs_table_lock(&table, b, root, BS_S));
+  WANT(is_over(&soon));
+  ANSWERS(BS_TIMED_OUT, bs_table_lock_until(&table, b, root, BS_S, &far));
+  ANSWERS(BS_TIMED_OUT, bs_table_lock_path(&table, b, root, BS_S, NULL));
+  DONE(bs_table_deadline(&table, b, &far));
+  soon = moment_in(2000);
+  ANSWERS(BS_TIMED_OUT, bs_table_lock_until(&table, b, root, BS_S, &soon));
+  wrong.tv_nsec = 1000000000;
+  ANSWERS(BS_BAD_NUMBER, bs_table_deadline(&table, b, &wrong));
+  DONE(bs_table_deadline(&table, b, &soon));
+  DONE(bs_table_deadline(&table, b, NULL));
+  send(&two, b, root, BS_S);
+  DONE(bs_table_commit(&table, a, NULL));
+  back(&two, BS_DONE);
+  DONE(bs_table_deadline(&table, b, &soon));
+  DONE(bs_table_commit(&table, b, NULL));
+  ANSWERS(BS_NO_SUCH_TXN, bs_table_deadline(&table, b, &soon));
+  a = begin(), c = begin();
+  WANT(c.slot == b.slot);
+  DONE(bs_table_lock(&table, a, root, BS_X));
+  send(&two, c, root, BS_S);
+  DONE(bs_table_commit(&table, a, NULL));
+  back(&two, BS_DONE);
+  DONE(bs_table_end(&table));
+  ANSWERS(BS_NO_MANAGER, bs_table_deadline(&table, c, &soon));
+}
+
 /* Whose time comes wakes who stood behind it. */
 static void a_time_comes_and_grants(void) {
   struct timespec until = moment_in(100000);
@@ -2323,6 +2359,7 @@ int main(int count, char **words) {
   TELL(a_thread_is_cancelled_in_its_sleep);
   TELL(a_time_ahead);
   TELL(a_time_comes);
+  TELL(a_deadline_of_its_own);
   TELL(a_time_comes_and_grants);
   TELL(a_grant_behind_the_time);
   TELL(times_and_grants);

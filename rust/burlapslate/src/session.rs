@@ -84,6 +84,8 @@ pub struct Session<'t> {
     has_ended: bool,
     /// Whether it ever asked for a row, so that its end lets rows go.
     has_rows: bool,
+    /// When each of its waits ends at the latest.
+    deadline: Option<Instant>,
 }
 
 impl<'t> Session<'t> {
@@ -93,6 +95,7 @@ impl<'t> Session<'t> {
             txn,
             has_ended: false,
             has_rows: false,
+            deadline: None,
         }
     }
 
@@ -101,10 +104,34 @@ impl<'t> Session<'t> {
         self.txn
     }
 
+    /// From now on each of its waits for a lock ends at this time at the latest, and is answered with
+    /// [`Stop::TimedOut`], whatever the call that waits says; with `None` that is over.
+    ///
+    /// ```
+    /// # use burlapslate::{Detect, Mode, Stop, Table, SLOTS};
+    /// # use std::time::{Duration, Instant};
+    /// # let table = Table::new(Detect::AtBlock, SLOTS)?;
+    /// # let db = table.add_inner(&[])?;
+    /// let (mut first, mut second) = (table.begin()?, table.begin()?);
+    /// assert_eq!(first.lock(db, Mode::X), Ok(Mode::X));
+    /// second.set_deadline(Some(Instant::now() + Duration::from_millis(1)));
+    /// assert_eq!(second.lock(db, Mode::S), Err(Stop::TimedOut));
+    /// assert_eq!(second.lock_path(db, Mode::S), Err(Stop::TimedOut));
+    /// # Ok::<(), burlapslate::Refusal>(())
+    /// ```
+    pub fn set_deadline(&mut self, deadline: Option<Instant>) {
+        self.deadline = deadline;
+    }
+
+    /// The earlier of this time and its own.
+    fn until(&self, time: Option<Instant>) -> Option<Instant> {
+        time.into_iter().chain(self.deadline).min()
+    }
+
     /// As [`Manager::lock`](crate::Manager::lock), but it sleeps until the lock is granted, or never
     /// will be. It answers the mode that is held then.
     pub fn lock(&mut self, node: Node, mode: Mode) -> Result<Mode, Stop> {
-        self.table.lock(self.txn, node, mode, None)
+        self.table.lock(self.txn, node, mode, self.until(None))
     }
 
     /// As [`lock`](Session::lock), but the wait is taken back after this time, and answered with
@@ -123,7 +150,8 @@ impl<'t> Session<'t> {
     /// # Ok::<(), burlapslate::Refusal>(())
     /// ```
     pub fn lock_timeout(&mut self, node: Node, mode: Mode, time: Duration) -> Result<Mode, Stop> {
-        self.table.lock(self.txn, node, mode, deadline(time))
+        self.table
+            .lock(self.txn, node, mode, self.until(deadline(time)))
     }
 
     /// Locks a node with what has to be held above it: intentions, root first, on all parents to
@@ -144,7 +172,7 @@ impl<'t> Session<'t> {
     /// # Ok::<(), burlapslate::Refusal>(())
     /// ```
     pub fn lock_path(&mut self, node: Node, mode: Mode) -> Result<Mode, Stop> {
-        self.table.lock_path(self.txn, node, mode, None)
+        self.table.lock_path(self.txn, node, mode, self.until(None))
     }
 
     /// As [`lock_path`](Session::lock_path), within this time.
@@ -154,7 +182,8 @@ impl<'t> Session<'t> {
         mode: Mode,
         time: Duration,
     ) -> Result<Mode, Stop> {
-        self.table.lock_path(self.txn, node, mode, deadline(time))
+        self.table
+            .lock_path(self.txn, node, mode, self.until(deadline(time)))
     }
 
     /// As [`Manager::lock_row`](crate::Manager::lock_row), but it sleeps until the row is granted, or never
@@ -179,7 +208,8 @@ impl<'t> Session<'t> {
     /// ```
     pub fn lock_row(&mut self, row: Row, keys: &[u64], mode: Mode) -> Result<RowLocked, Stop> {
         self.has_rows = true;
-        self.table.lock_row(self.txn, row, keys, mode, None)
+        self.table
+            .lock_row(self.txn, row, keys, mode, self.until(None))
     }
 
     /// As [`lock_row`](Session::lock_row), but the wait is taken back after this time, and answered with
@@ -193,7 +223,7 @@ impl<'t> Session<'t> {
     ) -> Result<RowLocked, Stop> {
         self.has_rows = true;
         self.table
-            .lock_row(self.txn, row, keys, mode, deadline(time))
+            .lock_row(self.txn, row, keys, mode, self.until(deadline(time)))
     }
 
     /// As [`Manager::unlock_row`](crate::Manager::unlock_row).
