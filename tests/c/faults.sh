@@ -60,6 +60,10 @@ hold-keeps-the-slot	s/  bs_table_hand_on(table->in);//
 one-slot-is-handed-on	s/  while (in->first != NULL) {/  if (in->first != NULL) {/
 time-before-turn	s/  if (turn.begun.status == BS_WAITING) {/  if (late == ETIMEDOUT) {/
 turn-wakes-nobody	s/    pthread_cond_signal(&turn->came);//
+deadline-is-forgotten	s/  until = bs_table_earlier(in, txn, until);//
+deadline-is-of-the-slot	s/  if (own->age != txn.age) return until;/  if (own->age == 0) return until;/
+deadline-hides-the-call	s/  return own->time.tv_sec == until->tv_sec .*/  return \&own->time;/
+ahead-by-a-second-less	s/    time.tv_sec++;//
 end-leaves-the-line	s/  for (turn = in->first; turn != NULL; .*//
 FAULTS
 }
