@@ -1,0 +1,175 @@
+/*
+ * What a manager, a table, a record, a lock and a row take of memory. It is run by bench/memory.sh, which links this
+ * program's malloc, realloc and free ahead of the C library's (--wrap). They count what malloc_usable_size says, and
+ * eight bytes for each block.
+ */
+#include "ours.h"
+
+#include "burlapslate_shared.h"
+
+#include <inttypes.h>
+#include <malloc.h>
+#include <stdio.h>
+#include <stdlib.h>
+
+enum { RECORDS = 100000, PER_TRANSACTION = 100, HEAD = 8 };
+
+static size_t taken;
+
+void *__real_malloc(size_t size);
+void *__real_realloc(void *block, size_t size);
+void __real_free(void *block);
+void *__wrap_malloc(size_t size);
+void *__wrap_realloc(void *block, size_t size);
+void __wrap_free(void *block);
+
+static void *counted(void *block) {
+  if (block != NULL) taken += malloc_usable_size(block) + HEAD;
+  return block;
+}
+
+static void uncounted(void *block) {
+  if (block != NULL) taken -= malloc_usable_size(block) + HEAD;
+}
+
+void *__wrap_malloc(size_t size) {
+  return counted(__real_malloc(size));
+}
+
+void *__wrap_realloc(void *block, size_t size) {
+  uncounted(block);
+  return counted(__real_realloc(block, size));
+}
+
+void __wrap_free(void *block) {
+  uncounted(block);
+  __real_free(block);
+}
+
+static bs_manager m = BS_NO_MANAGER_HERE;
+static bs_notices told;
+static bs_node db, file, below, row_file, row_below;
+static bs_node records[RECORDS];
+
+static void row(const char *what, size_t bytes) {
+  printf("%-66s%9zu\n", what, bytes);
+}
+
+/* Of each of so many, rounded to the nearest. */
+static size_t each(size_t bytes, size_t count) {
+  return (bytes + count / 2) / count;
+}
+
+static bs_node interval_of(bs_node of) {
+  bs_node index = DONE(bs_add_index(&m, &db, 1, of, NULL, 0)).node;
+  return DONE(bs_interval_of(&m, index, 0)).node;
+}
+
+static void set_up(void) {
+  bs_options options = bs_usual();
+  options.nodes = 4 * RECORDS;
+  DONE(bs_make_with(&m, &options));
+  db = DONE(bs_add_inner(&m, NULL, 0)).node;
+  file = DONE(bs_add_file(&m, &db, 1)).node;
+  below = interval_of(file);
+  row_file = DONE(bs_add_row_file(&m, &db, 1)).node;
+  row_below = interval_of(row_file);
+}
+
+static bs_txn begin_at(bs_node above, bs_node interval) {
+  bs_txn t = DONE(bs_begin(&m)).txn;
+  DONE(bs_lock_path(&m, t, above, BS_IX, &told));
+  DONE(bs_lock_path(&m, t, interval, BS_IX, &told));
+  return t;
+}
+
+/* What an empty manager takes, for so many transactions. */
+static size_t empty_manager(uint32_t most) {
+  size_t before = taken, with;
+  DONE(bs_make(&m, BS_AT_BLOCK, most));
+  with = taken - before;
+  DONE(bs_end(&m));
+  WANT(taken == before);
+  return with;
+}
+
+static size_t empty_table(void) {
+  static bs_table table = BS_NO_TABLE_HERE;
+  size_t before = taken, with;
+  DONE(bs_table_make(&table, BS_AT_BLOCK, BS_YOUNGEST, BS_SLOTS));
+  with = taken - before;
+  DONE(bs_table_end(&table));
+  WANT(taken == before);
+  return with;
+}
+
+/* Records come, a hundred in a transaction, so that no list is large before the locks are taken. */
+static size_t records_come(void) {
+  size_t before = taken;
+  uint64_t key = 0;
+  while (key < RECORDS) {
+    bs_txn t = begin_at(file, below);
+    do {
+      records[key] = DONE(bs_insert(&m, t, file, &key, 1)).node;
+    } while (++key % PER_TRANSACTION != 0);
+    DONE(bs_commit(&m, t, &told));
+  }
+  return taken - before;
+}
+
+static void lock_from(bs_txn t, size_t from, size_t count) {
+  size_t at;
+  for (at = from; at < from + count; at++) DONE(bs_lock(&m, t, records[at], BS_X, &told));
+}
+
+/* Locks all records in X by so many transactions: what that takes, and what stays behind their commits. */
+static void lock_all(size_t by, size_t *with, size_t *behind) {
+  bs_txn t[PER_TRANSACTION];
+  size_t before = taken, i;
+  for (i = 0; i < by; i++) {
+    t[i] = begin_at(file, below);
+    lock_from(t[i], i * (RECORDS / by), RECORDS / by);
+  }
+  *with = taken - before;
+  for (i = 0; i < by; i++) DONE(bs_commit(&m, t[i], &told));
+  *behind = taken - before;
+}
+
+static void lock_rows(size_t *with, size_t *behind) {
+  bs_txn t = begin_at(row_file, row_below);
+  size_t before = taken;
+  uint64_t number;
+  for (number = 0; number < RECORDS; number++) {
+    DONE(bs_lock_row(&m, t, row_file, number, &number, 1, BS_X, &told));
+  }
+  *with = taken - before;
+  DONE(bs_commit_rows(&m, t, &told));
+  *behind = taken - before;
+}
+
+int main(void) {
+  size_t with, behind, again;
+  printf("of %d slots, in bytes\n", BS_SLOTS);
+  row("an empty manager for all transactions", empty_manager(BS_SLOTS));
+  row("for 16", empty_manager(16));
+  row("for 1", empty_manager(1));
+  row("an empty bs_table, beside its own place", empty_table());
+  row("its own place", sizeof(bs_table));
+  set_up();
+  row("a record that nobody locks, of 100,000", each(records_come(), RECORDS));
+  lock_all(1, &with, &behind);
+  row("a lock of a record in X, of 100,000 by one transaction", each(with, RECORDS));
+  row("of it, what stays with the manager behind the commit", each(behind, RECORDS));
+  DONE(bs_end(&m));
+  set_up();
+  (void)records_come();
+  lock_all(PER_TRANSACTION, &with, &again);
+  row("a lock of a record in X, of 100,000 by a hundred transactions", each(with, RECORDS));
+  DONE(bs_end(&m));
+  set_up();
+  lock_rows(&with, &behind);
+  row("a row by its number while it is locked in X, of 100,000", each(with, RECORDS));
+  row("of it, what stays with the manager behind the commit", each(behind, RECORDS));
+  DONE(bs_end(&m));
+  return 0;
+}
