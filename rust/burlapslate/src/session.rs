@@ -7,6 +7,8 @@ use crate::refusal::Refusal;
 use crate::table::Table;
 use std::error::Error;
 use std::fmt;
+use std::ops::Deref;
+use std::sync::Arc;
 use std::time::{Duration, Instant};
 
 /// Why a lock gave no grant.
@@ -64,7 +66,7 @@ pub enum RowLocked {
 
 /// A transaction of a [`Table`], which one thread drives. Its locks sleep until they are granted. One
 /// that is dropped without a commit is aborted, so that its locks never outlive it: undo first what
-/// it wrote.
+/// it wrote. It has its table lent, or is one of its owners ([`Table::begin_shared`]).
 ///
 /// ```
 /// use burlapslate::{Detect, Mode, Table, SLOTS};
@@ -79,7 +81,7 @@ pub enum RowLocked {
 /// ```
 #[must_use = "a session that is dropped is aborted"]
 pub struct Session<'t> {
-    table: &'t Table,
+    table: Handle<'t>,
     txn: Txn,
     has_ended: bool,
     /// Whether it ever asked for a row, so that its end lets rows go.
@@ -88,8 +90,36 @@ pub struct Session<'t> {
     deadline: Option<Instant>,
 }
 
+/// How a session has its table: lent, or as one of its owners.
+enum Handle<'t> {
+    Lent(&'t Table),
+    Shared(Arc<Table>),
+}
+
+impl Deref for Handle<'_> {
+    type Target = Table;
+
+    fn deref(&self) -> &Table {
+        match self {
+            Handle::Lent(table) => table,
+            Handle::Shared(table) => table,
+        }
+    }
+}
+
+impl Session<'static> {
+    /// The same transaction in the hands of a session that owns its table with others.
+    pub(crate) fn shared(table: &Arc<Table>, lent: Session<'_>) -> Session<'static> {
+        Session::over(Handle::Shared(Arc::clone(table)), lent.leave())
+    }
+}
+
 impl<'t> Session<'t> {
     pub(crate) fn of(table: &'t Table, txn: Txn) -> Session<'t> {
+        Session::over(Handle::Lent(table), txn)
+    }
+
+    fn over(table: Handle<'t>, txn: Txn) -> Session<'t> {
         Session {
             table,
             txn,

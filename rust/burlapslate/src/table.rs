@@ -10,7 +10,7 @@ use crate::turns::Turns;
 use crate::watcher::Watcher;
 use crate::SLOTS;
 use std::fmt;
-use std::sync::{Condvar, Mutex, MutexGuard, PoisonError};
+use std::sync::{Arc, Condvar, Mutex, MutexGuard, PoisonError};
 use std::thread;
 use std::time::{Duration, Instant};
 
@@ -152,6 +152,44 @@ impl Table {
     /// answered [`Stop::TimedOut`] then. A slot that is free at the same moment is a begin.
     pub fn begin_timeout(&self, time: Duration) -> Result<Session<'_>, Stop> {
         self.begin_until(deadline(time))?.ok_or(Stop::TimedOut)
+    }
+
+    /// As [`begin`](Table::begin), of a session that is one of the table's owners: whatever keeps it, as a
+    /// connection does, needs no table beside it.
+    ///
+    /// ```
+    /// use burlapslate::{Detect, Mode, Session, Table, SLOTS};
+    /// use std::sync::Arc;
+    ///
+    /// struct Connection {
+    ///     session: Session<'static>,
+    /// }
+    ///
+    /// let table = Arc::new(Table::new(Detect::AtBlock, SLOTS)?);
+    /// let db = table.add_inner(&[])?;
+    /// let mut connection = Connection {
+    ///     session: table.begin_shared()?,
+    /// };
+    /// drop(table);
+    /// assert_eq!(connection.session.lock(db, Mode::X), Ok(Mode::X));
+    /// connection.session.commit()?;
+    /// # Ok::<(), burlapslate::Refusal>(())
+    /// ```
+    pub fn begin_shared(self: &Arc<Table>) -> Result<Session<'static>, Refusal> {
+        Ok(Session::shared(self, self.begin()?))
+    }
+
+    /// As [`begin_in_turn`](Table::begin_in_turn), of a session that is one of the table's owners.
+    pub fn begin_shared_in_turn(self: &Arc<Table>) -> Result<Session<'static>, Refusal> {
+        Ok(Session::shared(self, self.begin_in_turn()?))
+    }
+
+    /// As [`begin_timeout`](Table::begin_timeout), of a session that is one of the table's owners.
+    pub fn begin_shared_timeout(
+        self: &Arc<Table>,
+        time: Duration,
+    ) -> Result<Session<'static>, Stop> {
+        Ok(Session::shared(self, self.begin_timeout(time)?))
     }
 
     /// As [`Manager::add_inner`].

@@ -5,7 +5,7 @@ use burlapslate::{
     Board, Detect, Doing, Mode, Node, Refusal, Row, RowLocked, Session, Stop, Table, Txn, Victims,
     Wait, Watcher, MOST_WATCHERS, SLOTS,
 };
-use std::sync::mpsc;
+use std::sync::{mpsc, Arc};
 use std::thread;
 use std::time::{Duration, Instant};
 
@@ -447,8 +447,47 @@ fn listings() {
 fn what_threads_may_do() {
     fn goes<T: Send>() {}
     fn is_shared<T: Sync>() {}
-    goes::<(Table, Session<'_>, Watcher, Stop)>();
-    is_shared::<(Table, Session<'_>, Watcher, Stop)>();
+    goes::<(Table, Session<'_>, Session<'static>, Watcher, Stop)>();
+    is_shared::<(Table, Session<'_>, Session<'static>, Watcher, Stop)>();
+}
+
+/// A session that owns its table with others outlives all of them, and its drop aborts it.
+#[test]
+fn a_session_that_owns_its_table() {
+    let table = Arc::new(Table::new(Detect::AtBlock, 1).unwrap());
+    let db = table.add_inner(&[]).unwrap();
+    let mut first = table.begin_shared().unwrap();
+    assert_eq!(first.lock(db, Mode::X), Ok(Mode::X));
+    let none = table.begin_shared_timeout(Duration::from_millis(1));
+    assert_eq!(none.map(Session::leave), Err(Stop::TimedOut));
+    let waits = Arc::clone(&table);
+    let second = thread::spawn(move || waits.begin_shared_in_turn().unwrap());
+    drop(first);
+    let mut second = second.join().unwrap();
+    let last = Arc::downgrade(&table);
+    drop(table);
+    assert_eq!(second.lock(db, Mode::S), Ok(Mode::S));
+    second.commit().unwrap();
+    assert!(last.upgrade().is_none());
+}
+
+/// Each wait of a session ends at its own time at the latest.
+#[test]
+fn a_session_has_a_deadline() {
+    let s = Store::new(Detect::AtBlock);
+    let (mut a, mut b) = (s.begin(), s.begin());
+    a.lock(s.root, Mode::X).unwrap();
+    let far = Duration::from_secs(60);
+    b.set_deadline(Some(Instant::now() + Duration::from_millis(2)));
+    assert_eq!(b.lock(s.root, Mode::S), Err(Stop::TimedOut));
+    assert_eq!(b.lock_timeout(s.root, Mode::S, far), Err(Stop::TimedOut));
+    assert_eq!(b.lock_path(s.file, Mode::S), Err(Stop::TimedOut));
+    b.set_deadline(Some(Instant::now() + far));
+    let soon = Duration::from_millis(2);
+    assert_eq!(b.lock_timeout(s.root, Mode::S, soon), Err(Stop::TimedOut));
+    b.set_deadline(None);
+    a.commit().unwrap();
+    assert_eq!(b.lock(s.root, Mode::S), Ok(Mode::S));
 }
 
 /// A file of rows under a root, with an index of two intervals, parted at 100.
