@@ -8,6 +8,7 @@ use crate::sys;
 use std::fmt;
 
 /// What a transaction is doing.
+#[non_exhaustive]
 #[derive(Clone, Copy, PartialEq, Eq, Hash, Debug)]
 pub enum Doing {
     /// It may ask for locks.

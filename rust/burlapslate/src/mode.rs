@@ -106,6 +106,7 @@ impl Detect {
 }
 
 /// Whom a deadlock takes.
+#[non_exhaustive]
 #[repr(u32)]
 #[derive(Clone, Copy, PartialEq, Eq, Hash, Debug)]
 pub enum Victims {

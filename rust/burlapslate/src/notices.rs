@@ -7,6 +7,7 @@ use std::iter::FusedIterator;
 use std::slice;
 
 /// What a transaction is told of another's command: how its wait ended.
+#[non_exhaustive]
 #[derive(Clone, Copy, PartialEq, Eq, Hash, Debug)]
 pub enum Notice {
     /// Its lock is granted.

@@ -7,6 +7,7 @@ use std::fmt;
 
 /// Why a call was refused. A refused call changed nothing and told nobody. Where several refusals
 /// hold, the first in the order of the call's list is answered.
+#[non_exhaustive]
 #[derive(Clone, Copy, PartialEq, Eq, Hash, Debug)]
 pub enum Refusal {
     /// The allocator refused. It comes to calls that take memory, and last of all, but where one says

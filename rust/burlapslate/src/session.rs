@@ -12,6 +12,7 @@ use std::sync::Arc;
 use std::time::{Duration, Instant};
 
 /// Why a lock gave no grant.
+#[non_exhaustive]
 #[derive(Clone, Copy, PartialEq, Eq, Hash, Debug)]
 pub enum Stop {
     /// It was refused, before it waited or behind that: [`Refusal::NoSuchTxn`] where another thread
@@ -184,6 +185,12 @@ impl<'t> Session<'t> {
             .lock(self.txn, node, mode, self.until(deadline(time)))
     }
 
+    /// As [`lock_timeout`](Session::lock_timeout), with the time at which the wait is taken back.
+    pub fn lock_until(&mut self, node: Node, mode: Mode, until: Instant) -> Result<Mode, Stop> {
+        self.table
+            .lock(self.txn, node, mode, self.until(Some(until)))
+    }
+
     /// Locks a node with what has to be held above it: intentions, root first, on all parents to
     /// write, and to read on a parent that is held already, or else on the first; then the node in
     /// its mode. Each is waited for in its turn. A node that moves meanwhile is begun anew, so it is
@@ -214,6 +221,17 @@ impl<'t> Session<'t> {
     ) -> Result<Mode, Stop> {
         self.table
             .lock_path(self.txn, node, mode, self.until(deadline(time)))
+    }
+
+    /// As [`lock_path_timeout`](Session::lock_path_timeout), with the time at which a wait is taken back.
+    pub fn lock_path_until(
+        &mut self,
+        node: Node,
+        mode: Mode,
+        until: Instant,
+    ) -> Result<Mode, Stop> {
+        self.table
+            .lock_path(self.txn, node, mode, self.until(Some(until)))
     }
 
     /// As [`Manager::lock_row`](crate::Manager::lock_row), but it sleeps until the row is granted, or never
@@ -254,6 +272,19 @@ impl<'t> Session<'t> {
         self.has_rows = true;
         self.table
             .lock_row(self.txn, row, keys, mode, self.until(deadline(time)))
+    }
+
+    /// As [`lock_row_timeout`](Session::lock_row_timeout), with the time at which the wait is taken back.
+    pub fn lock_row_until(
+        &mut self,
+        row: Row,
+        keys: &[u64],
+        mode: Mode,
+        until: Instant,
+    ) -> Result<RowLocked, Stop> {
+        self.has_rows = true;
+        self.table
+            .lock_row(self.txn, row, keys, mode, self.until(Some(until)))
     }
 
     /// As [`Manager::unlock_row`](crate::Manager::unlock_row).

@@ -485,6 +485,13 @@ fn a_session_has_a_deadline() {
     b.set_deadline(Some(Instant::now() + far));
     let soon = Duration::from_millis(2);
     assert_eq!(b.lock_timeout(s.root, Mode::S, soon), Err(Stop::TimedOut));
+    let until = Instant::now() + soon;
+    assert_eq!(b.lock_until(s.root, Mode::S, until), Err(Stop::TimedOut));
+    assert!(Instant::now() >= until);
+    assert_eq!(
+        b.lock_path_until(s.file, Mode::S, until),
+        Err(Stop::TimedOut)
+    );
     b.set_deadline(None);
     a.commit().unwrap();
     assert_eq!(b.lock(s.root, Mode::S), Ok(Mode::S));

@@ -349,6 +349,7 @@ impl Desk {
             Notice::Victim { .. } => format!("told {txn} victim\n"),
             Notice::Moved { .. } => format!("told {txn} moved\n"),
             Notice::Gone { .. } => format!("told {txn} gone\n"),
+            other => panic!("a notice that is new here: {other:?}"),
         }
     }
 }
@@ -436,5 +437,6 @@ fn number(refusal: Refusal) -> u32 {
         Refusal::TooManyWatchers => panic!("a script has no watcher"),
         Refusal::RecordInUse => panic!("a script forgets no row"),
         Refusal::RowsByNumber | Refusal::NotRows => panic!("a script has no file of rows"),
+        other => panic!("a refusal that is new here: {other:?}"),
     }
 }
