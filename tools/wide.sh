@@ -1,29 +1,44 @@
 #!/usr/bin/env bash
-# wide.sh [--in FOLDER] [CRATE..]: proves crates over gl_wide_slots in the place of gl_slots. With no CRATE: gl_c and all
-# that it stands on. It works on a copy of the crates, in FOLDER or else in a folder that it takes away again. In FOLDER
-# stays what was proved, so that a second run there is short. Prints a line for each crate that is proved. Ends at the
-# first that is not with what was open, and status 1.
+# wide.sh: proves the library for 1,024 slots, over gl_wide_slots in the place of gl_slots (tools/c_library.sh), and runs
+# over it the stories, a crowd of a thousand threads and the engine. The last line is 'wide.sh: N passed'. Ends with
+# status 1 at the first that does not pass, with what it said. It takes as long as the proof of the library; run it before
+# a release.
+# wide.sh [--in FOLDER] CRATE..: proves crates so, in a copy in FOLDER, or else in a folder that it takes away again. In
+# FOLDER stays what was proved, so that a second run there is short. Prints a line for each crate that is proved. Ends at
+# the first that is not with what was open, and status 1.
 set -uo pipefail
 top=$(cd "$(dirname "$0")/.." && pwd) || exit 2
+work=$(mktemp -d) || exit 2
+trap 'rm -rf "$work"' EXIT
 
-scratch=
-if [ "${1:-}" = --in ]; then
-  [ "$#" -ge 2 ] || { echo "usage: tools/wide.sh [--in FOLDER] [CRATE..]" >&2; exit 2; }
+# passes WHAT WORD..: runs a command that must end well, and counts it.
+passed=0
+passes() {
+  "${@:2}" >"$work/log" 2>&1 || { cat "$work/log"; echo "wide.sh: $1: failed"; exit 1; }
+  echo "wide.sh: $1: passed"
+  passed=$((passed + 1))
+}
+
+if [ $# -eq 0 ]; then
+  passes "the library for 1,024 slots is proved" "$top/tools/c_library.sh" --slots 1024
+  passes "the stories and a crowd over it" "$top/tests/c/run.sh" --slots 1024
+  passes "the engine over it" "$top/examples/engine/run.sh" --slots 1024
+  echo "wide.sh: $passed passed"
+  exit 0
+fi
+
+scratch=$work
+if [ "$1" = --in ]; then
+  [ "$#" -ge 3 ] || { echo "usage: tools/wide.sh [--in FOLDER] CRATE.." >&2; exit 2; }
   mkdir -p "$2" && scratch=$(cd "$2" && pwd) || exit 2
   shift 2
 fi
 for name in "$@"; do
   grep -Eq "^$name( staticlib)?:" "$top/crates.txt" || { echo "wide.sh: no crate $name in crates.txt" >&2; exit 2; }
 done
-if [ -z "$scratch" ]; then
-  scratch=$(mktemp -d) || exit 2
-  trap 'rm -rf "$scratch"' EXIT
-fi
 
 "$top/tools/wide_sources.sh" "$scratch" || exit 2
-
-if [ "$#" -gt 0 ]; then crates=("$@"); else mapfile -t crates < <("$top/tools/below.sh" gl_c); fi
-for name in "${crates[@]}"; do
+for name in "$@"; do
   log=$scratch/$name.log
   if (cd "$scratch/crates/$name" && rt check) >"$log" 2>&1; then
     echo "wide.sh: $name proved"

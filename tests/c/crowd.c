@@ -290,8 +290,8 @@ static bs_reply served_add_index(bs_manager *m, const bs_node *parents, size_t c
  * are locked.
  */
 
-enum { AREAS = 2, FILES = 4, INTERVALS = 3, RECORDS = 24, ROWS = 10, ACCOUNTS = 8, THREADS = 128, WATCHERS = 2,
-       FEW_SLOTS = 16 };
+enum { AREAS = 2, FILES = 4, INTERVALS = 3, RECORDS = 24, ROWS = 10, ACCOUNTS = 8, WATCHERS = 2, FEW_SLOTS = 16,
+       THREADS = BS_SLOTS > 1000 ? 1000 : 128 };
 
 static bs_table table = BS_NO_TABLE_HERE;
 
