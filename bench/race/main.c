@@ -54,8 +54,7 @@ static const struct line lines[] = {
 #if BS_SLOTS > 1000
   { "write-1000", "short transaction, writes, beside 1,000", 1000, 1, 1, BEST,
     ours_write, THEIRS(theirs_write), 2, { KEPT, FRESH } },
-  { "wait-1000", "wait and grant, beside 1,000", 1000, 1, 4, MEDIAN,
-    ours_wait, THEIRS(theirs_wait_paired), 1, { THREADED } },
+  { "wait-1000", "wait and grant, beside 1,000", 1000, 1, 4, MEDIAN, ours_wait, NULL, 0, { 0 } },
 #endif
   { "at-once", "writes, alone, all four in one call", 0, 1, 1, BEST,
     ours_write_path, THEIRS(theirs_write), 2, { KEPT | AT_ONCE, FRESH | AT_ONCE } },

@@ -73,7 +73,8 @@ static void set_up(const struct scene *scene) {
   make_names();
   done(db_env_create(&env, 0));
   done(env->set_lk_detect(env, DB_LOCK_YOUNGEST));
-  done(env->set_lk_max_locks(env, 2 * MOST_RECORDS));
+  done(env->set_lk_max_locks(env, (u_int32_t)(2 * MOST_RECORDS + INNER_NODES * scene->others)));
+  done(env->set_lk_max_lockers(env, (u_int32_t)(MOST_RECORDS + scene->others)));
   done(env->set_lk_max_objects(env, 2 * MOST_RECORDS));
   if (!(way & PARTITIONED)) done(env->set_lk_partitions(env, 1));
   if (way & THREADED) flags |= DB_THREAD;

@@ -1,6 +1,6 @@
 /*
- * A crowd over one shared table: 128 threads make random commands of every kind, by both ways of detection and both
- * choices of victims, and over fewer slots than there are threads.
+ * A crowd over one shared table: 128 threads, or 1,000 where there are slots for them, make random commands of every
+ * kind, by both ways of detection and both choices of victims, and over fewer slots than there are threads.
  *
  *   crowd [ROUNDS [SECONDS]]   how many transactions each thread begins, 4 where none is given; and the time that a
  *                              setting may take before it is said to hang, 20 where none is given
