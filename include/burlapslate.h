@@ -877,14 +877,14 @@ static inline bs_reply bs_most_bounds(bs_manager *manager) {
   return manager == NULL ? bs_null() : bs_call_most_bounds(manager);
 }
 
-/* What a manager was made with, into `options`. */
+/* What a manager was made with, into `options`; where it is refused they stay as they were. */
 static inline bs_reply bs_limits(bs_manager *manager, bs_options *options) {
   bs_reply reply = bs_null();
   if (manager == NULL || options == NULL) return reply;
-  *options = bs_usual();
   reply = bs_call_detect(manager);
-  options->detect = (uint32_t)reply.count;
   if (reply.status != BS_DONE) return reply;
+  *options = bs_usual();
+  options->detect = (uint32_t)reply.count;
   options->victims = (uint32_t)bs_call_victims(manager).count;
   options->transactions = (uint32_t)bs_call_most(manager).count;
   options->nodes = (uint32_t)bs_call_most_nodes(manager).count;

@@ -2200,13 +2200,17 @@ static void a_table_by_options(void) {
   options.bounds = UINT32_MAX;
   ANSWERS(BS_BAD_NUMBER, bs_table_make_with(&t, &options));
   ANSWERS(BS_NO_MANAGER, bs_table_most_bounds(&t));
+  ANSWERS(BS_NO_MANAGER, bs_table_limits(&t, &was));
+  WANT(was.bounds == 300 && was.size == sizeof was);
 }
 
 static void places_without_a_table(void) {
   static bs_board board;
   bs_table never = BS_NO_TABLE_HERE;
   bs_watcher watcher = BS_NO_WATCHER_HERE;
-  bs_txn t;
+  bs_txn t = { 0, 0 };
+  ANSWERS(BS_NO_MANAGER, bs_table_deadline(&never, t, NULL));
+  ANSWERS(BS_NULL_POINTER, bs_table_deadline(NULL, t, NULL));
   ANSWERS(BS_NO_MANAGER, bs_table_begin(&never));
   ANSWERS(BS_NO_MANAGER, bs_table_end(&never));
   ANSWERS(BS_NO_MANAGER, bs_table_watch(&never, &watcher));

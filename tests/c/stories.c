@@ -895,6 +895,8 @@ static void options_are_taken(void) {
   WANT(bs_most_nodes(&usual).count == 65536 && bs_most(&usual).count == BS_SLOTS);
   WANT(bs_make_with(NULL, NULL).status == BS_NULL_POINTER && bs_limits(&usual, NULL).status == BS_NULL_POINTER);
   DONE(bs_end(&usual));
+  was.bounds = 7;
+  WANT(bs_limits(&usual, &was).status == BS_NO_MANAGER && was.bounds == 7 && was.size == sizeof was);
 }
 
 /* A manager that is made by options has indexes of so many bounds, and of no more. */
