@@ -1,5 +1,5 @@
 #!/usr/bin/env bash
-# faults.sh NAME.. LIBRARY LIBRARY: plants faults in a copy of include/burlapslate_shared.h, each by itself, and wants
+# faults.sh NAME.. LIBRARY LIBRARY: plants faults in a copy of the headers of the shared table, each by itself, and wants
 # the stories or the crowd to find it: by a want that does not hold, or since they hang. `all` stands for every fault
 # there is. The libraries are those that tools/c_library.sh prints. Ends with status 1 where one is not found. CC names
 # another compiler than cc.
@@ -71,9 +71,8 @@ FAULTS
 # found NAME EDIT: whether the fault is found.
 found() {
   local there=$work/$1 compiler=${CC:-cc} program
-  mkdir -p "$there" && cp "$top/include/burlapslate.h" "$there/" || return 1
-  sed "$2" "$top/include/burlapslate_shared.h" >"$there/burlapslate_shared.h"
-  ! cmp -s "$there/burlapslate_shared.h" "$top/include/burlapslate_shared.h" || { echo "faults.sh: $1 changes nothing"; return 1; }
+  mkdir -p "$there" && cp "$top"/include/*.h "$there/" && sed -i "$2" "$there"/burlapslate_{shared,dump}.h || return 1
+  ! diff -q "$top/include" "$there" >/dev/null || { echo "faults.sh: $1 changes nothing"; return 1; }
   for program in shared crowd; do
     local with=()
     [ "$program" != shared ] || with=(-Wl,--wrap=malloc,--wrap=realloc,--wrap=free)

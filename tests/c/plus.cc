@@ -1,6 +1,6 @@
 // The headers as C++: one call of each, and a session that sleeps in a thread.
 #include "burlapslate.h"
-#include "burlapslate_shared.h"
+#include "burlapslate_dump.h"
 
 static bs_table table = BS_NO_TABLE_HERE;
 static bs_node root;

@@ -56,8 +56,8 @@ timeout 200 "$work/crowd" "${few[@]}" 2>"$work/log" || { cat "$work/log" >&2; ex
 headers=$work/other other=1024
 [ "$slots" = 128 ] || other=128
 mkdir "$headers" || exit 1
-for name in burlapslate{,_shared}.h; do
-  sed "s/^#define BS_SLOTS .*/#define BS_SLOTS $other/" "$top/include/$name" >"$headers/$name" || exit 1
+for name in "$top"/include/*.h; do
+  sed "s/^#define BS_SLOTS .*/#define BS_SLOTS $other/" "$name" >"$headers/${name##*/}" || exit 1
 done
 compile other_slots || exit 1
 timeout 60 "$work/other_slots" || exit 1

@@ -896,7 +896,7 @@ static void options_are_taken(void) {
   WANT(bs_make_with(NULL, NULL).status == BS_NULL_POINTER && bs_limits(&usual, NULL).status == BS_NULL_POINTER);
   DONE(bs_end(&usual));
   was.bounds = 7;
-  WANT(bs_limits(&usual, &was).status == BS_NO_MANAGER && was.bounds == 7 && was.size == sizeof was);
+  WANT(bs_limits(&usual, &was).status == BS_NO_MANAGER && was.bounds == 0 && was.size == sizeof was);
 }
 
 /* A manager that is made by options has indexes of so many bounds, and of no more. */

@@ -8,6 +8,7 @@
 #include "burlapslate_shared.h"
 
 #include <signal.h>
+#include <stdio.h>
 #include <unistd.h>
 
 /* The story that is played, for messages. */
