@@ -1,4 +1,4 @@
-//! The library's calls, as `include/burlapslate.h` declares them. All that is unsafe stands here.
+//! The library's calls, as `include/burlapslate_calls.h` declares them. All that is unsafe stands here.
 //!
 //! A reference stands for a pointer that is not null, and says for the call what the header asks of
 //! it: what a call writes is behind a `&mut`, so it overlaps with nothing else and nobody else uses
