@@ -25,12 +25,11 @@
 # A reply with a list of notices for each command, and the calls of the table below the manager, no program in C can
 # reach: they are not measured.
 #
-# The aims, in instructions, and what was counted in November 2026: with one list, a round alone at most 5000 (3734) and
-# beside 127 others at most 6000 (3914, as beside 8); a wait and its grant at most 4000 (5354); a release linear in
-# those granted (880, 11196, 22117 and 43972 for 1, 32, 64 and 127). There is no aim for a list of commands (4206 alone,
-# 4386 beside others), nor for an insert and its delete (2428). In time, the best of nine on a core of an Intel Xeon at
-# 2.5 GHz that other work shares: a round some 0.4 microseconds with one list and 0.6 as a list of commands, a wait and
-# its grant 0.6.
+# The aims, in instructions, and what was counted in November 2026: with one list, a round alone at most 5000 (3676) and
+# beside 127 others at most 6000 (3856, as beside 8); a wait and its grant at most 4000 (1689); a release linear in
+# those granted (865, 10956, 21653 and 43074 for 1, 32, 64 and 127). There is no aim for a list of commands (4171 alone,
+# 4351 beside others), nor for an insert and its delete (2405). In time, the best of nine on a core of an Intel Xeon at
+# 2.5 GHz: a round some 0.4 microseconds with one list and 0.5 as a list of commands, a wait and its grant 0.2.
 
 # shellcheck source-path=SCRIPTDIR source=frame/frame.sh
 . "$(dirname "$0")/frame/frame.sh" || exit 2
