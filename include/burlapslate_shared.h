@@ -1127,8 +1127,9 @@ static inline bs_reply bs_table_watch_end(bs_watcher *watcher) { return bs_watch
 
 /* Sleeps for some nanoseconds, but no longer than the table lives. The latch is held before and behind it. */
 static inline void bs_table_rest(bs_table *table, bs_table_inside *in, uint64_t nanoseconds) {
-  struct timespec until = bs_ahead(nanoseconds / 1000000000u, (uint32_t)(nanoseconds % 1000000000u));
+  struct timespec until;
   if (nanoseconds == 0) return;
+  until = bs_ahead(nanoseconds / 1000000000u, (uint32_t)(nanoseconds % 1000000000u));
   while (!in->is_ending && pthread_cond_timedwait(&in->over, &table->latch, &until) != ETIMEDOUT) continue;
 }
 

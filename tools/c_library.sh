@@ -1,21 +1,22 @@
 #!/usr/bin/env bash
-# c_library.sh [--look] [--slots N]: builds the library for C where it is not there or older than its sources, and prints
-# what a program over include/burlapslate.h is linked with: the library, and the toolchain's calls for memory.
+# c_library.sh [--look | --headers] [--slots N]: builds the library for C where it is not there or older than its sources,
+# and prints what a program over include/burlapslate.h is linked with: the library, and the toolchain's calls for memory.
 # `rt` is to be found by PATH. With --look it builds nothing, and ends with status 1 where there is something to build.
+# With --headers it builds nothing, and prints the folder in which the headers of the library stand once it is built.
 # N is how many transactions can live at once: 128, or 1024. The library for 1024 is proved in out/slots-1024, over
 # gl_wide_slots, and stands there with its headers.
 set -uo pipefail
 top=$(cd "$(dirname "$0")/.." && pwd) || exit 2
 
 usage() {
-  sed -n '2,7s/^# //p' "$0" >&2
+  sed -n '2,8s/^# //p' "$0" >&2
   exit 2
 }
 
-looks='' slots=128
+asked='' slots=128
 while [ $# -gt 0 ]; do
   case $1 in
-    --look) looks=yes && shift ;;
+    --look | --headers) asked=$1 && shift ;;
     --slots)
       [ $# -ge 2 ] || usage
       slots=$2 && shift 2
@@ -31,6 +32,7 @@ case $slots in
     usage
     ;;
 esac
+[ "$asked" != --headers ] || { echo "$built/include"; exit; }
 library=$built/crates/gl_c/out/libgl_c.a
 rt=$(command -v rt) || { echo "c_library.sh: rt is not found" >&2; exit 2; }
 kit=$(dirname "$(dirname "$(readlink -f "$rt")")")
@@ -77,16 +79,7 @@ build_wide() {
   "$top/tools/wide_sources.sh" "$built" && cd "$built/crates/gl_c" && rt lib
 }
 
-# say_slots: writes the headers that go with it.
-say_slots() {
-  local header
-  mkdir -p "$built/include" || return
-  for header in "$top"/include/*.h; do
-    sed "s/^#define BS_SLOTS .*/#define BS_SLOTS $slots/" "$header" >"$built/include/${header##*/}" || return
-  done
-}
-
-if [ "$looks" ]; then
+if [ "$asked" = --look ]; then
   ! is_old
   exit
 fi
@@ -100,5 +93,5 @@ if is_old; then
   # What tools/package.sh says of it.
   echo "crates $sum library $(sha256sum <"$library" | cut -d ' ' -f 1)" >"${library%/*}/built_from" || exit 1
 fi
-[ "$slots" = 128 ] || say_slots || exit 1
+[ "$slots" = 128 ] || "$top/tools/headers.sh" "$slots" "$built/include" || exit 1
 printf '%s\n%s\n' "$library" "$kit/c/liblibc_c.a"

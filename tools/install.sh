@@ -31,14 +31,7 @@ while [ $# -gt 0 ]; do
   shift
 done
 [ -n "$prefix" ] || usage
-case $slots in
-  128) headers=$top/include ;;
-  1024) headers=$top/out/slots-1024/include ;;
-  *)
-    echo "install.sh: a library has 128 slots or 1024, and not $slots" >&2
-    usage
-    ;;
-esac
+headers=$("$top/tools/c_library.sh" --headers --slots "$slots") || exit 2
 work=$(mktemp -d) || exit 2
 trap 'rm -rf "$work"' EXIT
 

@@ -17,10 +17,9 @@ fi
 work=$(mktemp -d) || exit 2
 trap 'rm -rf "$work"' EXIT
 slots=${SLOTS:-128}
+headers=$("$top/tools/c_library.sh" --headers --slots "$slots") || exit 2
 mapfile -t libraries < <("$top/tools/c_library.sh" --slots "$slots" 2>"$work/log")
 [ "${#libraries[@]}" -eq 2 ] || { cat "$work/log" >&2; exit 1; }
-headers=$top/include
-[ "$slots" = 128 ] || headers=$top/out/slots-$slots/include
 
 # compile PROGRAM WORD..: $work/PROGRAM, from sources and with options.
 compile() {

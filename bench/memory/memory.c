@@ -3,14 +3,12 @@
  * program's malloc, realloc and free ahead of the C library's (--wrap). They count what malloc_usable_size says, and
  * eight bytes for each block.
  */
-#include "ours.h"
+#include "files.h"
 
 #include "burlapslate_shared.h"
 
-#include <inttypes.h>
 #include <malloc.h>
 #include <stdio.h>
-#include <stdlib.h>
 
 enum { RECORDS = 100000, PER_TRANSACTION = 100, HEAD = 8 };
 
@@ -46,9 +44,6 @@ void __wrap_free(void *block) {
   __real_free(block);
 }
 
-static bs_manager m = BS_NO_MANAGER_HERE;
-static bs_notices told;
-static bs_node db, file, below, row_file, row_below;
 static bs_node records[RECORDS];
 
 static void row(const char *what, size_t bytes) {
@@ -60,27 +55,8 @@ static size_t each(size_t bytes, size_t count) {
   return (bytes + count / 2) / count;
 }
 
-static bs_node interval_of(bs_node of) {
-  bs_node index = DONE(bs_add_index(&m, &db, 1, of, NULL, 0)).node;
-  return DONE(bs_interval_of(&m, index, 0)).node;
-}
-
 static void set_up(void) {
-  bs_options options = bs_usual();
-  options.nodes = 4 * RECORDS;
-  DONE(bs_make_with(&m, &options));
-  db = DONE(bs_add_inner(&m, NULL, 0)).node;
-  file = DONE(bs_add_file(&m, &db, 1)).node;
-  below = interval_of(file);
-  row_file = DONE(bs_add_row_file(&m, &db, 1)).node;
-  row_below = interval_of(row_file);
-}
-
-static bs_txn begin_at(bs_node above, bs_node interval) {
-  bs_txn t = DONE(bs_begin(&m)).txn;
-  DONE(bs_lock_path(&m, t, above, BS_IX, &told));
-  DONE(bs_lock_path(&m, t, interval, BS_IX, &told));
-  return t;
+  make_files(4 * RECORDS);
 }
 
 /* What an empty manager takes, for so many transactions. */
@@ -148,7 +124,7 @@ static void lock_rows(size_t *with, size_t *behind) {
 }
 
 int main(void) {
-  size_t with, behind, again;
+  size_t with, behind;
   printf("of %d slots, in bytes\n", BS_SLOTS);
   row("an empty manager for all transactions", empty_manager(BS_SLOTS));
   row("for 16", empty_manager(16));
@@ -163,7 +139,7 @@ int main(void) {
   DONE(bs_end(&m));
   set_up();
   (void)records_come();
-  lock_all(PER_TRANSACTION, &with, &again);
+  lock_all(PER_TRANSACTION, &with, &behind);
   row("a lock of a record in X, of 100,000 by a hundred transactions", each(with, RECORDS));
   DONE(bs_end(&m));
   set_up();

@@ -1,45 +1,20 @@
 /* The steps through the library, in a manager whose limit is what they need. */
 #include "scale.h"
-#include "ours.h"
+#include "files.h"
 
 #include <stdlib.h>
 
-/* The root; a file of records and one of rows, each with an index of one interval. */
-enum { ABOVE = 7 };
-
-static bs_manager m = BS_NO_MANAGER_HERE;
-static bs_notices told;
-static bs_node db, file, below, row_file, row_below, *records;
-
-/* An index of a file, of one interval, which it answers. */
-static bs_node interval_of(bs_node of) {
-  bs_node index = DONE(bs_add_index(&m, &db, 1, of, NULL, 0)).node;
-  return DONE(bs_interval_of(&m, index, 0)).node;
-}
+static bs_node *records;
 
 static void set_up(const struct work *work) {
-  bs_options options = bs_usual();
-  options.nodes = work->records + ABOVE;
   records = malloc(work->records * sizeof *records);
   if (records == NULL) fail("no memory", __FILE__, __LINE__);
-  DONE(bs_make_with(&m, &options));
-  db = DONE(bs_add_inner(&m, NULL, 0)).node;
-  file = DONE(bs_add_file(&m, &db, 1)).node;
-  below = interval_of(file);
-  row_file = DONE(bs_add_row_file(&m, &db, 1)).node;
-  row_below = interval_of(row_file);
+  make_files(work->records + ABOVE);
 }
 
 static void tear_down(void) {
   DONE(bs_end(&m));
   free(records);
-}
-
-static bs_txn begin_at(bs_node above, bs_node interval) {
-  bs_txn t = DONE(bs_begin(&m)).txn;
-  DONE(bs_lock_path(&m, t, above, BS_IX, &told));
-  DONE(bs_lock_path(&m, t, interval, BS_IX, &told));
-  return t;
 }
 
 static bs_txn begin(void) {

@@ -6,14 +6,14 @@
 set -uo pipefail
 here=$(cd "$(dirname "$0")" && pwd) || exit 2
 top=$here/../..
-slots=128 headers=$top/include
+slots=128
 if [ "${1:-}" = --slots ] && [ $# -eq 2 ]; then
   slots=$2
-  [ "$slots" = 128 ] || headers=$top/out/slots-$slots/include
 elif [ $# -ne 0 ]; then
   sed -n '2,5s/^# //p' "$0" >&2
   exit 2
 fi
+headers=$("$top/tools/c_library.sh" --headers --slots "$slots") || exit 2
 compiler=${CC:-cc}
 if ! command -v "${compiler%% *}" >/dev/null; then
   echo "examples/engine: not tried: there is no C compiler $compiler"

@@ -6,14 +6,14 @@
 # than cc. N is the number of slots of the library, 128 or 1024 (tools/c_library.sh); faults are planted for 128 alone.
 set -uo pipefail
 top=$(cd "$(dirname "$0")/../.." && pwd) || exit 2
-slots=128 headers=$top/include
+slots=128
 if [ "${1:-}" = --slots ] && [ $# -eq 2 ]; then
   slots=$2
-  [ "$slots" = 128 ] || headers=$top/out/slots-$slots/include
 elif [ $# -ne 0 ]; then
   sed -n '2,6s/^# //p' "$0" >&2
   exit 2
 fi
+headers=$("$top/tools/c_library.sh" --headers --slots "$slots") || exit 2
 compiler=${CC:-cc}
 if ! command -v "${compiler%% *}" >/dev/null; then
   echo "tests/c: not tried: there is no C compiler $compiler"
@@ -55,10 +55,7 @@ few=()
 timeout 200 "$work/crowd" "${few[@]}" 2>"$work/log" || { cat "$work/log" >&2; exit 1; }
 headers=$work/other other=1024
 [ "$slots" = 128 ] || other=128
-mkdir "$headers" || exit 1
-for name in "$top"/include/*.h; do
-  sed "s/^#define BS_SLOTS .*/#define BS_SLOTS $other/" "$name" >"$headers/${name##*/}" || exit 1
-done
+"$top/tools/headers.sh" "$other" "$headers" || exit 1
 compile other_slots || exit 1
 timeout 60 "$work/other_slots" || exit 1
 [ "$slots" = 128 ] || exit 0

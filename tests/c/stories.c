@@ -7,6 +7,7 @@
  */
 #include "burlapslate.h"
 #include "memory.h"
+#include "same.h"
 
 #include <stdio.h>
 #include <stdlib.h>
@@ -21,18 +22,6 @@ static void wanted(bool holds, const char *what, int line) {
 }
 
 #define WANT(condition) wanted((condition), #condition, __LINE__)
-
-static bool same_node(bs_node a, bs_node b) {
-  return a.key == b.key && a.birth == b.birth;
-}
-
-static bool same_txn(bs_txn a, bs_txn b) {
-  return a.slot == b.slot && a.age == b.age;
-}
-
-static bool same_slots(bs_slots a, bs_slots b) {
-  return memcmp(&a, &b, sizeof a) == 0;
-}
 
 static bool is_empty(bs_slots slots) {
   static const bs_slots none = { { 0 } };

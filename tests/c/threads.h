@@ -6,6 +6,7 @@
 #define THREADS_H
 
 #include "burlapslate_shared.h"
+#include "same.h"
 
 #include <signal.h>
 #include <stdio.h>
@@ -78,18 +79,6 @@ static uint64_t roll(uint64_t *dice, uint64_t sides) {
   *dice ^= *dice >> 7;
   *dice ^= *dice << 17;
   return (*dice >> 16) % sides;
-}
-
-static bool same_node(bs_node a, bs_node b) {
-  return a.key == b.key && a.birth == b.birth;
-}
-
-static bool same_txn(bs_txn a, bs_txn b) {
-  return a.slot == b.slot && a.age == b.age;
-}
-
-static bool same_slots(bs_slots a, bs_slots b) {
-  return memcmp(&a, &b, sizeof a) == 0;
 }
 
 #endif

@@ -60,8 +60,8 @@ pub enum Refusal {
     NotRows,
     /// As many watch already as may: [`MOST_WATCHERS`](crate::MOST_WATCHERS).
     TooManyWatchers,
-    /// More than 8 parents, or a manager for none or more than [`SLOTS`](crate::SLOTS) transactions. It comes first of
-    /// all.
+    /// More than 8 parents, or a manager for none or more than [`SLOTS`](crate::SLOTS) transactions. It
+    /// comes first of all.
     BadNumber,
 }
 
