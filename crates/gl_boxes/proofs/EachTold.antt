@@ -5,12 +5,12 @@ use Rattle.gl_modes.specs.declared.refusal.Refusal.{Refusal}
 use Rattle.gl_modes.specs.declared.refusal.Refusal.TheVariants as no
 use Rattle.gl_model.specs.State.{State}
 use Rattle.gl_model.specs.Tellings.{Told, told, told_but}
-use Rattle.gl_catalog.specs.declared.command.Answer.{Answer}
-use Rattle.gl_catalog.specs.declared.command.Answer.TheVariants as answer
-use Rattle.gl_catalog.specs.declared.command.Command.{Command}
-use Rattle.gl_catalog.specs.declared.command.Command.TheVariants as command
-use Rattle.gl_catalog.specs.Step.{Accepts, Answers, Goes, Step, Unchanged, query_answer}
-use Rattle.gl_catalog.specs.Tests.{may_want_memory, refusal_of}
+use Rattle.gl_steps.specs.declared.command.Answer.{Answer}
+use Rattle.gl_steps.specs.declared.command.Answer.TheVariants as answer
+use Rattle.gl_steps.specs.declared.command.Command.{Command}
+use Rattle.gl_steps.specs.declared.command.Command.TheVariants as command
+use Rattle.gl_steps.specs.Step.{Accepts, Answers, Goes, Step, Unchanged, query_answer}
+use Rattle.gl_steps.specs.Tests.{may_want_memory, refusal_of}
 
 module _ (Holds : Told → Type 0) (s : State) (none : Holds []) (all : (now : State) → Holds (told s now))
     (but : (t : ℕ) (now : State) → Holds (told_but t s now)) where

@@ -8,12 +8,12 @@ use Rattle.gl_table.specs.Table.{board_of}
 use Rattle.gl_model.specs.State.{State, status_of, is_wait}
 use Rattle.gl_model.specs.Tellings.{Told}
 use Rattle.gl_model.proofs.law.Settle.{waits_for_one}
-use Rattle.gl_catalog.specs.declared.command.Answer.{Answer}
-use Rattle.gl_catalog.specs.declared.command.Command.{Command}
+use Rattle.gl_steps.specs.declared.command.Answer.{Answer}
+use Rattle.gl_steps.specs.declared.command.Command.{Command}
 use Rattle.gl_catalog.specs.Manager.{IsLawfulManager, ManagerView, state_of}
-use Rattle.gl_catalog.specs.Promises.{NobodyWaits}
-use Rattle.gl_catalog.specs.Step.{Step}
-use Rattle.gl_catalog.proofs.WaitsBegin.{nobody_waits_on}
+use Rattle.gl_steps.specs.Promises.{NobodyWaits}
+use Rattle.gl_steps.specs.Step.{Step}
+use Rattle.gl_steps.proofs.WaitsBegin.{nobody_waits_on}
 use Rattle.gl_waits.specs.Boards.{ShowsNobody}
 use Rattle.gl_boxes.specs.Served.{leaves_waiting}
 use Rattle.gl_boxes.specs.Tellings.{is_due}

@@ -7,9 +7,9 @@ use Rattle.gl_model.specs.declared.answers.Notice.{Notice}
 use Rattle.gl_model.specs.declared.txn.TxnId.{TxnId}
 use Rattle.gl_model.specs.State.{State, age_of, status_of}
 use Rattle.gl_model.specs.Tellings.{addressed, told, told_from}
-use Rattle.gl_catalog.specs.declared.command.Answer.{Answer}
-use Rattle.gl_catalog.specs.declared.command.Command.{Command}
-use Rattle.gl_catalog.specs.Step.{Step}
+use Rattle.gl_steps.specs.declared.command.Answer.{Answer}
+use Rattle.gl_steps.specs.declared.command.Command.{Command}
+use Rattle.gl_steps.specs.Step.{Step}
 use Rattle.gl_boxes.specs.Served.{RisingTo}
 use Rattle.gl_boxes.proofs.EachTold.{each_told}
 use Rattle.gl_boxes.proofs.Notices.{rising_on}

@@ -8,12 +8,12 @@ use Rattle.gl_model.specs.declared.txn.Status.{Status}
 use Rattle.gl_model.specs.declared.txn.Status.TheVariants.{Active, Waiting, Condemned}
 use Rattle.gl_model.specs.State.{State, status_of}
 use Rattle.gl_model.specs.Tellings.{Told}
-use Rattle.gl_catalog.specs.declared.command.Answer.{Answer}
-use Rattle.gl_catalog.specs.declared.command.Answer.TheVariants as answer
-use Rattle.gl_catalog.specs.declared.command.Command.{Command}
-use Rattle.gl_catalog.specs.declared.command.Command.TheVariants as command
-use Rattle.gl_catalog.specs.Step.{Accepts, Answers, Goes, Step, Unchanged, lock_answer, query_answer}
-use Rattle.gl_catalog.specs.Tests.{may_want_memory, refusal_of}
+use Rattle.gl_steps.specs.declared.command.Answer.{Answer}
+use Rattle.gl_steps.specs.declared.command.Answer.TheVariants as answer
+use Rattle.gl_steps.specs.declared.command.Command.{Command}
+use Rattle.gl_steps.specs.declared.command.Command.TheVariants as command
+use Rattle.gl_steps.specs.Step.{Accepts, Answers, Goes, Step, Unchanged, lock_answer, query_answer}
+use Rattle.gl_steps.specs.Tests.{may_want_memory, refusal_of}
 use Rattle.gl_catalog.proofs.Accepting.{accepting_keeps_count}
 use Rattle.gl_boxes.specs.Served.{Counts, accepts, is_query, is_refused}
 

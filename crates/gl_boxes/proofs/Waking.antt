@@ -12,13 +12,13 @@ use Rattle.gl_model.specs.declared.txn.TxnId.{TxnId}
 use Rattle.gl_model.specs.Lawful.{IsLawful}
 use Rattle.gl_model.specs.State.{State}
 use Rattle.gl_model.specs.Tellings.{Told}
-use Rattle.gl_catalog.specs.declared.command.Answer.{Answer}
-use Rattle.gl_catalog.specs.declared.command.Command.{Command}
-use Rattle.gl_catalog.specs.declared.command.Command.TheVariants as command
-use Rattle.gl_catalog.specs.Promises.{ends_wait_of, is_told, same_txn, waits_on}
-use Rattle.gl_catalog.specs.Step.{Step}
-use Rattle.gl_catalog.proofs.ToldGrants.{any_weaker}
-use Rattle.gl_catalog.proofs.WaitsEnd.{ends_waits}
+use Rattle.gl_steps.specs.declared.command.Answer.{Answer}
+use Rattle.gl_steps.specs.declared.command.Command.{Command}
+use Rattle.gl_steps.specs.declared.command.Command.TheVariants as command
+use Rattle.gl_steps.specs.Promises.{ends_wait_of, is_told, same_txn, waits_on}
+use Rattle.gl_steps.specs.Step.{Step}
+use Rattle.gl_steps.proofs.ToldGrants.{any_weaker}
+use Rattle.gl_steps.proofs.WaitsEnd.{ends_waits}
 use Rattle.gl_boxes.specs.Served.{names_slot}
 use Rattle.gl_boxes.specs.Wakes.{HasEnded, WakesEnded}
 

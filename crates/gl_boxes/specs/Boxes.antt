@@ -11,9 +11,9 @@ use Rattle.gl_model.specs.declared.txn.TxnId.{TxnId}
 use Rattle.gl_model.specs.declared.answers.Notice.{Notice}
 use Rattle.gl_model.specs.declared.answers.Notice.TheVariants.{Granted, Victim, Moved, Gone}
 use Rattle.gl_model.specs.State.{is_waiting_at, State, lives}
-use Rattle.gl_catalog.specs.declared.command.Answer.{Answer}
-use Rattle.gl_catalog.specs.declared.command.Command.{Command}
-use Rattle.gl_catalog.specs.declared.command.Command.TheVariants as command
+use Rattle.gl_steps.specs.declared.command.Answer.{Answer}
+use Rattle.gl_steps.specs.declared.command.Command.{Command}
+use Rattle.gl_steps.specs.declared.command.Command.TheVariants as command
 use Rattle.gl_boxes.specs.Served.{is_refused}
 use Rattle.gl_boxes.specs.declared.grant.Grant.{Grant}
 use Rattle.gl_boxes.specs.declared.grant.Stop.{Stop}

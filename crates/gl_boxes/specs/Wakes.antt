@@ -8,10 +8,10 @@ use Rattle.gl_model.specs.declared.txn.TxnId.{TxnId}
 use Rattle.gl_model.specs.Lawful.{IsLawful}
 use Rattle.gl_model.specs.State.{State}
 use Rattle.gl_model.specs.Tellings.{Told}
-use Rattle.gl_catalog.specs.declared.command.Answer.{Answer}
-use Rattle.gl_catalog.specs.declared.command.Command.{Command}
-use Rattle.gl_catalog.specs.Promises.{waits_on}
-use Rattle.gl_catalog.specs.Step.{Step}
+use Rattle.gl_steps.specs.declared.command.Answer.{Answer}
+use Rattle.gl_steps.specs.declared.command.Command.{Command}
+use Rattle.gl_steps.specs.Promises.{waits_on}
+use Rattle.gl_steps.specs.Step.{Step}
 
 -- whoever waits in the one state and no more in the other has its slot in the set
 abbrev pub HasEnded : State → State → Slots → Type 0

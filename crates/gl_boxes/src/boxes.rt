@@ -13,7 +13,7 @@ use crate::grant::{Grant, Stop};
 use gl_catalog::{Command, Manager};
 use gl_modes::{Mode, NodeId, Refusal, covers};
 use gl_slots::SLOTS;
-use gl_table::{Notice, TxnId};
+use gl_model::{Notice, TxnId};
 use std::marker::Model;
 
 /// A slot's last notice.

@@ -10,7 +10,7 @@ ghost use Rattle.gl_boxes.specs.Wakes.{WakesEnded};
 
 use gl_catalog::Command;
 use gl_slots::{SLOTS, Slots};
-use gl_table::{Notice, TxnId};
+use gl_model::{Notice, TxnId};
 
 /// The slots whose wait a command may have ended that told these: who is told, and whose wait it
 /// cancelled or aborted by name.

@@ -6,7 +6,7 @@ ghost use mathlib.Core.List.{IsPrefix};
 ghost use Rattle.gl_boxes.specs.Boards.{Fine, AllFine, Rising, Ends, last_epoch};
 ghost use Rattle.gl_boxes.specs.Rules.{head_of};
 
-use gl_table::Detect;
+use gl_model::Detect;
 use gl_waits::Board;
 use logbook::{Gain, Offer, Opening, Plain, Play, Rule, Seen, Start, Word};
 use std::alloc::{AllocError, Global};

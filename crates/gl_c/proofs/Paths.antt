@@ -20,20 +20,20 @@ use Rattle.gl_model.specs.declared.txn.TxnId.{TxnId}
 use Rattle.gl_model.specs.Calls.{WaitSettles, enqueued, enters_at, wanted}
 use Rattle.gl_model.specs.State.{SettledWithin, State, condemned}
 use Rattle.gl_model.specs.Tellings.{Told}
-use Rattle.gl_catalog.specs.declared.command.Answer.{Answer}
-use Rattle.gl_catalog.specs.declared.command.Answer.TheVariants as answer
+use Rattle.gl_steps.specs.declared.command.Answer.{Answer}
+use Rattle.gl_steps.specs.declared.command.Answer.TheVariants as answer
 use Rattle.gl_catalog.specs.Counters.{grants, refuses}
 use Rattle.gl_catalog.specs.Manager.{ManagerView, state_of}
 use Rattle.gl_catalog.specs.declared.manager.paths.Reached.{Reached}
 use Rattle.gl_catalog.specs.Paths.{Ask, AsksFirst, IsPath, LocksPath, goes_on, lock_of, reaching}
-use Rattle.gl_catalog.specs.Promises.{NobodyWaits, is_told, waits_on}
+use Rattle.gl_steps.specs.Promises.{NobodyWaits, is_told, waits_on}
 use Rattle.gl_catalog.specs.Replies.{Says, said}
-use Rattle.gl_catalog.specs.Step.{Step, answer_of_lock}
-use Rattle.gl_catalog.proofs.Detection.{steps_keep_detect}
-use Rattle.gl_catalog.proofs.EachStep.{each_step}
-use Rattle.gl_catalog.proofs.StepsKeepLaw.{steps_keep_law}
-use Rattle.gl_catalog.proofs.WaitsBegin.{nobody_waits_on}
-use Rattle.gl_catalog.proofs.WaitsEnd.{ends_waits}
+use Rattle.gl_steps.specs.Step.{Step, answer_of_lock}
+use Rattle.gl_steps.proofs.Detection.{steps_keep_detect}
+use Rattle.gl_steps.proofs.EachStep.{each_step}
+use Rattle.gl_steps.proofs.StepsKeepLaw.{steps_keep_law}
+use Rattle.gl_steps.proofs.WaitsBegin.{nobody_waits_on}
+use Rattle.gl_steps.proofs.WaitsEnd.{ends_waits}
 use Rattle.gl_boxes.specs.Served.{Counts, RisingTo, is_refused}
 use Rattle.gl_boxes.specs.Wakes.{HasEnded}
 use Rattle.gl_boxes.proofs.Idle.{neither}

@@ -15,17 +15,17 @@ use Rattle.gl_model.specs.declared.txn.TxnId.{TxnId}
 use Rattle.gl_model.specs.State.{State, is_wait, status_of}
 use Rattle.gl_table.specs.Table.{board_of}
 use Rattle.gl_model.specs.Tellings.{Told}
-use Rattle.gl_catalog.specs.declared.command.Answer.{Answer}
-use Rattle.gl_catalog.specs.declared.command.Answer.TheVariants as answer
-use Rattle.gl_catalog.specs.declared.command.Command.{Command}
-use Rattle.gl_catalog.specs.declared.command.Escalated.{Escalated}
+use Rattle.gl_steps.specs.declared.command.Answer.{Answer}
+use Rattle.gl_steps.specs.declared.command.Answer.TheVariants as answer
+use Rattle.gl_steps.specs.declared.command.Command.{Command}
+use Rattle.gl_steps.specs.declared.command.Escalated.{Escalated}
 use Rattle.gl_catalog.specs.Counters.{refuses}
 use Rattle.gl_catalog.specs.Manager.{ManagerView, state_of}
-use Rattle.gl_catalog.specs.Promises.{NobodyWaits, waits_on}
+use Rattle.gl_steps.specs.Promises.{NobodyWaits, waits_on}
 use Rattle.gl_catalog.specs.Replies.{doing, made, rising}
-use Rattle.gl_catalog.specs.Step.{answer_of_lock}
-use Rattle.gl_catalog.proofs.Detection.{steps_keep_detect}
-use Rattle.gl_catalog.proofs.WaitsBegin.{nobody_waits_on}
+use Rattle.gl_steps.specs.Step.{answer_of_lock}
+use Rattle.gl_steps.proofs.Detection.{steps_keep_detect}
+use Rattle.gl_steps.proofs.WaitsBegin.{nobody_waits_on}
 use Rattle.gl_registry.specs.declared.answer.RowAnswer.{RowAnswer}
 use Rattle.gl_registry.specs.declared.answer.RowLocked.{RowLocked}
 use Rattle.gl_registry.specs.declared.answer.RowRefusal.{RowRefusal}

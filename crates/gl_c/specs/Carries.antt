@@ -3,8 +3,8 @@ use Rattle.std.specs.Prelude.{◌≡◌, ℕ, [], ◌<◌, ◌≤◌, List, Opti
 use denote.Bor.{Bor}
 use Rattle.gl_modes.specs.declared.node.NodeId.{NodeId}
 use Rattle.gl_model.specs.Tellings.{Told}
-use Rattle.gl_catalog.specs.declared.command.Answer.{Answer}
-use Rattle.gl_catalog.specs.declared.command.Command.{Command}
+use Rattle.gl_steps.specs.declared.command.Answer.{Answer}
+use Rattle.gl_steps.specs.declared.command.Command.{Command}
 use Rattle.gl_c.specs.declared.names.Node.{Node}
 use Rattle.gl_c.specs.declared.notices.Notices.{Notices}
 use Rattle.gl_c.specs.declared.reply.Reply.{Reply}

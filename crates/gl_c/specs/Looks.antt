@@ -18,7 +18,7 @@ use Rattle.gl_waits.specs.declared.victims.Victims.TheVariants.{Youngest, Fewest
 use Rattle.gl_model.specs.Calls.{held_children, group_tests}
 use Rattle.gl_table.specs.Table.{living_in, rows_of}
 use Rattle.gl_model.specs.State.{lives, members, status_of}
-use Rattle.gl_catalog.specs.declared.command.Answer.TheVariants as answer
+use Rattle.gl_steps.specs.declared.command.Answer.TheVariants as answer
 use Rattle.gl_catalog.specs.Manager.{ManagerView, state_of}
 use Rattle.gl_catalog.specs.Replies.{wait_of}
 use Rattle.gl_c.specs.declared.look.Query.{Query}

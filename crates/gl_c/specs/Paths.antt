@@ -8,11 +8,11 @@ use Rattle.gl_model.specs.declared.answers.Locked.TheVariants as locked
 use Rattle.gl_model.specs.declared.txn.TxnId.{TxnId}
 use Rattle.gl_table.specs.Table.{board_of}
 use Rattle.gl_model.specs.Tellings.{Told}
-use Rattle.gl_catalog.specs.declared.command.Answer.TheVariants as answer
+use Rattle.gl_steps.specs.declared.command.Answer.TheVariants as answer
 use Rattle.gl_catalog.specs.declared.manager.paths.Reached.{Reached}
 use Rattle.gl_catalog.specs.Manager.{state_of}
 use Rattle.gl_catalog.specs.Paths.{Ask, lock_of}
-use Rattle.gl_catalog.specs.Promises.{NobodyWaits}
+use Rattle.gl_steps.specs.Promises.{NobodyWaits}
 use Rattle.gl_registry.specs.Serving.{LocksWay}
 use Rattle.gl_boxes.specs.Boxes.{Delivers, Slot, emptied}
 use Rattle.gl_c.specs.declared.notices.Notices.{Notices}

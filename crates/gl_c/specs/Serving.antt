@@ -7,10 +7,10 @@ use Rattle.gl_slots.specs.declared.slots.Slots.{Slots}
 use Rattle.gl_slots.specs.Slots.{has_slot}
 use Rattle.gl_table.specs.Table.{board_of}
 use Rattle.gl_model.specs.Tellings.{Told}
-use Rattle.gl_catalog.specs.declared.command.Answer.{Answer}
-use Rattle.gl_catalog.specs.declared.command.Command.{Command}
+use Rattle.gl_steps.specs.declared.command.Answer.{Answer}
+use Rattle.gl_steps.specs.declared.command.Command.{Command}
 use Rattle.gl_catalog.specs.Manager.{ManagerView, state_of}
-use Rattle.gl_catalog.specs.Promises.{NobodyWaits}
+use Rattle.gl_steps.specs.Promises.{NobodyWaits}
 use Rattle.gl_registry.specs.Serving.{Applies, touches_rows}
 use Rattle.gl_boxes.specs.Boards.{EndsIdle}
 use Rattle.gl_boxes.specs.Boxes.{Delivers, Slot, cleared}

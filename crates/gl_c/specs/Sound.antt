@@ -1,7 +1,7 @@
 -- What a contract sees of the fields that C's mutex guards, and what holds of them always.
 use Rattle.std.specs.Prelude.{◌≡◌, ◌≤◌, false, IfSome}
 use Rattle.gl_catalog.specs.Manager.{state_of}
-use Rattle.gl_catalog.specs.Promises.{NobodyWaits}
+use Rattle.gl_steps.specs.Promises.{NobodyWaits}
 use Rattle.gl_boxes.specs.Boards.{last_epoch}
 use Rattle.gl_c.specs.declared.guarded.Guarded.TheInside.{Inside}
 use Rattle.gl_c.specs.Guarded.{GuardedView}

@@ -5,7 +5,7 @@ ghost use Rattle.std.specs.Prelude.{◌≡◌, ◌≤◌, ◌^◌, ◌⊎◌, �
 ghost use Rattle.gl_modes.specs.declared.refusal.Refusal.{Refusal as ARefusal};
 ghost use Rattle.gl_table.specs.Table.{board_of};
 ghost use Rattle.gl_catalog.specs.Manager.{IsLawfulManager, state_of};
-ghost use Rattle.gl_catalog.specs.Promises.{NobodyWaits};
+ghost use Rattle.gl_steps.specs.Promises.{NobodyWaits};
 ghost use Rattle.gl_boxes.specs.Boards.{Ends, Fine, last_epoch};
 ghost use Rattle.gl_waits.specs.Boards.{ShowsNobody};
 ghost use Rattle.gl_registry.specs.Applying.{answer_in};

@@ -1,6 +1,6 @@
 //! New nodes of the graph.
 
-ghost use Rattle.gl_catalog.specs.declared.command.Command.TheVariants as command;
+ghost use Rattle.gl_steps.specs.declared.command.Command.TheVariants as command;
 ghost use Rattle.gl_registry.specs.declared.call.RowCall.TheVariants as call;
 ghost use Rattle.gl_c.specs.Carries.{Asks, Declines, Under};
 ghost use Rattle.gl_c.specs.Handle.{guarded_in};

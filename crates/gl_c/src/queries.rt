@@ -1,6 +1,6 @@
 //! Questions, which change nothing. They take no memory, but for the effective mode.
 
-ghost use Rattle.gl_catalog.specs.declared.command.Command.TheVariants as command;
+ghost use Rattle.gl_steps.specs.declared.command.Command.TheVariants as command;
 ghost use Rattle.gl_c.specs.declared.look.Query.TheVariants as query;
 ghost use Rattle.gl_c.specs.Carries.{Asks};
 ghost use Rattle.gl_c.specs.Handle.{guarded_in};

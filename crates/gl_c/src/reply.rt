@@ -1,7 +1,7 @@
 //! What is answered to C.
 
 ghost use Rattle.std.specs.Prelude.{◌≡◌};
-ghost use Rattle.gl_catalog.specs.declared.command.Answer.TheVariants as answer;
+ghost use Rattle.gl_steps.specs.declared.command.Answer.TheVariants as answer;
 ghost use Rattle.gl_c.specs.Paths.{path_reply, reached_reply, reply_at};
 ghost use Rattle.gl_c.specs.Replies.{count_reply, refused_at, refused_reply, reply_of, served_reply, status_reply};
 ghost use Rattle.gl_c.specs.Rows.{call_reply, row_lock_status};

@@ -1,7 +1,7 @@
 //! Transactions and their locks. Each call that tells somebody fills `told`, whatever it had before.
 
 ghost use Rattle.std.specs.Prelude.{[]};
-ghost use Rattle.gl_catalog.specs.declared.command.Command.TheVariants as command;
+ghost use Rattle.gl_steps.specs.declared.command.Command.TheVariants as command;
 ghost use Rattle.gl_c.specs.Carries.{Asks, Carries, Declines, Where};
 ghost use Rattle.gl_c.specs.Handle.{guarded_in};
 ghost use Rattle.gl_c.specs.Names.{node_id, txn_id};

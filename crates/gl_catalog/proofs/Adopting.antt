@@ -26,23 +26,22 @@ use Rattle.gl_model.specs.declared.txn.TxnId.{TxnId}
 use Rattle.gl_model.specs.Calls.{Locks, accepted_once, bad_mode, commit_tests, condemned_test, enters_at}
 use Rattle.gl_model.specs.Calls.{need_parents, no_txn, rule_refusal, waiting_test, wanted}
 use Rattle.gl_model.specs.Lawful.{IsLawful}
-use Rattle.gl_model.specs.State.{State, lives, status_of, with_grant, with_graph}
+use Rattle.gl_model.specs.State.{State, lives, status_of, with_grant, with_graph, counting}
 use Rattle.gl_model.proofs.law.Records.{idle-free}
 use Rattle.gl_model.proofs.law.Rows.{dead-idle}
 use Rattle.gl_model.proofs.telling.Lists.{told_nothing}
 use Rattle.gl_table.proofs.calls.Adopting.{adopted_lives, adopted_parents}
-use Rattle.gl_catalog.specs.declared.command.Answer.TheVariants as answer
-use Rattle.gl_catalog.specs.declared.command.Command.TheVariants as command
+use Rattle.gl_steps.specs.declared.command.Answer.TheVariants as answer
+use Rattle.gl_steps.specs.declared.command.Command.TheVariants as command
 use Rattle.gl_catalog.specs.declared.counters.Counters.{Counters}
 use Rattle.gl_catalog.specs.Adopting.{adopting_tests, no_record_mode, worn_twice}
 use Rattle.gl_catalog.specs.Counters.{counted, one_if, rises}
-use Rattle.gl_catalog.specs.Manager.{counting}
 use Rattle.gl_catalog.specs.Replies.{asking, made}
-use Rattle.gl_catalog.specs.Step.{Step, lock_answer}
-use Rattle.gl_catalog.specs.Tests.{refusal_of, worn}
+use Rattle.gl_steps.specs.Step.{Step, lock_answer}
+use Rattle.gl_steps.specs.Tests.{refusal_of, worn}
 use Rattle.gl_catalog.proofs.Carried.{accepted_step}
 use Rattle.gl_catalog.proofs.Completed.{try_counted}
-use Rattle.gl_catalog.proofs.NotRefused.{active_is}
+use Rattle.gl_steps.proofs.NotRefused.{active_is}
 
 module _ (s : State) (t : TxnId) (f : NodeId) (keys : List ℕ) (m : Mode) where
   -- two commands can be counted and the transaction is active: then what refuses the record is the refusal

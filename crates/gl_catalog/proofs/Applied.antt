@@ -12,21 +12,21 @@ use Rattle.gl_model.specs.Calls.{answered}
 use Rattle.gl_model.specs.Lawful.{IsLawful}
 use Rattle.gl_model.specs.State.{State}
 use Rattle.gl_model.specs.Tellings.{Told}
-use Rattle.gl_catalog.specs.declared.command.Answer.{Answer}
-use Rattle.gl_catalog.specs.declared.command.Command.{Command}
-use Rattle.gl_catalog.specs.declared.command.Command.TheVariants as command
+use Rattle.gl_steps.specs.declared.command.Answer.{Answer}
+use Rattle.gl_steps.specs.declared.command.Command.{Command}
+use Rattle.gl_steps.specs.declared.command.Command.TheVariants as command
 use Rattle.gl_catalog.specs.declared.counters.Counters.{Counters}
 use Rattle.gl_catalog.specs.Completes.{Completes, IsCarriedOut}
 use Rattle.gl_catalog.specs.Counters.{counted}
 use Rattle.gl_catalog.specs.Deadlocks.{KeepsAccepted, KeepsDeadlock}
 use Rattle.gl_catalog.specs.Manager.{ManagerView, state_of}
-use Rattle.gl_catalog.specs.Promises.{KeepsCaller, StepLeavesOthers}
+use Rattle.gl_steps.specs.Promises.{KeepsCaller, StepLeavesOthers}
 use Rattle.gl_catalog.specs.Replies.{CallSteps, Notices, Says, made, said}
-use Rattle.gl_catalog.specs.Step.{Answers, Goes, Step, answer_of_lock, query_answer}
-use Rattle.gl_catalog.specs.Tests.{is_cycle, lists_memory, refusal_of}
+use Rattle.gl_steps.specs.Step.{Answers, Goes, Step, answer_of_lock, query_answer}
+use Rattle.gl_steps.specs.Tests.{is_cycle, lists_memory, refusal_of}
 use Rattle.gl_catalog.proofs.Carried.{memory_step, refused_step}
-use Rattle.gl_catalog.proofs.MoverEffects.{move_keeps_mover, rekey_keeps_mover}
-use Rattle.gl_catalog.proofs.EscalateEffects.{escalate_lowers_none}
+use Rattle.gl_steps.proofs.MoverEffects.{move_keeps_mover, rekey_keeps_mover}
+use Rattle.gl_steps.proofs.EscalateEffects.{escalate_lowers_none}
 use Rattle.gl_catalog.proofs.Uncounted.{refusal_counted}
 
 -- a call that is a step and tells nobody leaves the list empty

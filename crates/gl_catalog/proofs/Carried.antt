@@ -7,13 +7,12 @@ use Rattle.gl_modes.specs.declared.refusal.Refusal.TheVariants as refusal
 use Rattle.gl_graph.specs.Refusals.{Refuses, first_refusal, verdict}
 use Rattle.gl_graph.proofs.Unrefused.{verdict_ok}
 use Rattle.gl_model.specs.Calls.{RefusesOnly, accepted_once}
-use Rattle.gl_model.specs.State.{State}
-use Rattle.gl_catalog.specs.declared.command.Answer.TheVariants as answer
-use Rattle.gl_catalog.specs.declared.command.Command.{Command}
-use Rattle.gl_catalog.specs.Manager.{counting}
+use Rattle.gl_model.specs.State.{State, counting}
+use Rattle.gl_steps.specs.declared.command.Answer.TheVariants as answer
+use Rattle.gl_steps.specs.declared.command.Command.{Command}
 use Rattle.gl_catalog.specs.Replies.{CallSteps, Says}
-use Rattle.gl_catalog.specs.Step.{Accepts, Answers, Goes, query_answer}
-use Rattle.gl_catalog.specs.Tests.{is_cycle, lists_memory, may_want_memory, refusal_of, tests_of, worn}
+use Rattle.gl_steps.specs.Step.{Accepts, Answers, Goes, query_answer}
+use Rattle.gl_steps.specs.Tests.{is_cycle, lists_memory, may_want_memory, refusal_of, tests_of, worn}
 
 ok_err : {A : Type 0} {x : A} {r : Refusal} → Ok x ≡ Err r → ⊥
 ok_err e = cc

@@ -22,7 +22,7 @@ use Rattle.gl_model.specs.declared.txn.TxnId.{TxnId}
 use Rattle.gl_model.specs.Calls.{condemned_test, first_not_ix, first_of_all, need_parents, rule_refusal, waiting_test, wanted}
 use Rattle.gl_model.specs.State.{State, intends_over, is_write}
 use Rattle.gl_catalog.specs.Paths.{Ask, ClimbsTo, intention, parent_missed, parent_wanted, path_tests}
-use Rattle.gl_catalog.specs.Tests.{is_cycle}
+use Rattle.gl_steps.specs.Tests.{is_cycle}
 
 -- a test that finds no parent missing, and no path that closes
 abbrev Plain : Option Refusal → Type 0

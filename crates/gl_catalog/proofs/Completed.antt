@@ -15,11 +15,11 @@ use Rattle.gl_model.specs.declared.txn.TxnId.{TxnId}
 use Rattle.gl_model.specs.Calls.{lock_tests, no_txn}
 use Rattle.gl_model.specs.State.{State}
 use Rattle.gl_model.specs.Tellings.{Told}
-use Rattle.gl_catalog.specs.declared.command.Answer.{Answer}
-use Rattle.gl_catalog.specs.declared.command.Answer.TheVariants as answer
-use Rattle.gl_catalog.specs.declared.command.Command.{Command}
-use Rattle.gl_catalog.specs.declared.command.Command.TheVariants as command
-use Rattle.gl_catalog.specs.declared.command.Escalated.{Escalated}
+use Rattle.gl_steps.specs.declared.command.Answer.{Answer}
+use Rattle.gl_steps.specs.declared.command.Answer.TheVariants as answer
+use Rattle.gl_steps.specs.declared.command.Command.{Command}
+use Rattle.gl_steps.specs.declared.command.Command.TheVariants as command
+use Rattle.gl_steps.specs.declared.command.Escalated.{Escalated}
 use Rattle.gl_catalog.specs.declared.counters.Counters.{Counters}
 use Rattle.gl_catalog.specs.Completes.{Completes}
 use Rattle.gl_catalog.specs.Counters.{condemns, counted, grants, holds_already, is_gone, is_grant, is_moved, is_victim, lock_counted, one_if, rises}
@@ -27,11 +27,11 @@ use Rattle.gl_catalog.specs.Counters.{waiting_in, waits, with_notices}
 use Rattle.gl_catalog.specs.Deadlocks.{KeepsAccepted}
 use Rattle.gl_catalog.specs.Manager.{IsLawfulManager, ManagerView, state_of}
 use Rattle.gl_catalog.specs.Replies.{Says}
-use Rattle.gl_catalog.specs.Step.{Step, answer_of_lock}
+use Rattle.gl_steps.specs.Step.{Step, answer_of_lock}
 use Rattle.gl_catalog.proofs.Applied.{keeps_caller}
 use Rattle.gl_catalog.proofs.Counts.{max_none, rises_none, rises_twice}
-use Rattle.gl_catalog.proofs.IdleSettle.{settles_idle}
-use Rattle.gl_catalog.proofs.NotRefused.{txn_lives}
+use Rattle.gl_steps.proofs.IdleSettle.{settles_idle}
+use Rattle.gl_steps.proofs.NotRefused.{txn_lives}
 use Rattle.gl_catalog.proofs.RunsOn.{step_leaves_others}
 
 -- a step that was counted, and kept what it is to keep of deadlocks, completes its command

@@ -1,7 +1,7 @@
 -- The delete of a record as a step.
 use Rattle.gl_catalog.specs.Replies.{doing}
 use Rattle.gl_graph.specs.Changes.{without_node}
-use Rattle.gl_model.specs.State.{with_graph}
+use Rattle.gl_model.specs.State.{with_graph, counting}
 use Rattle.std.specs.Prelude.{[]}
 use Rattle.std.specs.Prelude.{◌≡◌, ℕ, ◌+◌, None, Ok}
 use Rattle.std.proofs.Common.{refl, sym, ap, subst}
@@ -10,11 +10,11 @@ use Rattle.gl_model.specs.declared.txn.TxnId.{TxnId}
 use Rattle.gl_model.specs.Calls.{deleted}
 use Rattle.gl_table.specs.Table.{TableView, state_of as table_state}
 use Rattle.gl_model.specs.Tellings.{told}
-use Rattle.gl_catalog.specs.declared.command.Command.TheVariants as command
+use Rattle.gl_steps.specs.declared.command.Command.TheVariants as command
 use Rattle.gl_catalog.specs.declared.counters.Counters.{Counters}
-use Rattle.gl_catalog.specs.Manager.{ManagerView, counting, state_of}
+use Rattle.gl_catalog.specs.Manager.{ManagerView, state_of}
 use Rattle.gl_catalog.specs.Replies.{CallSteps, Notices, done}
-use Rattle.gl_catalog.specs.Tests.{refusal_of}
+use Rattle.gl_steps.specs.Tests.{refusal_of}
 use Rattle.gl_catalog.proofs.Carried.{accepted_step}
 
 -- no test refused, and the table took the record away

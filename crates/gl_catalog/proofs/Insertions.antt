@@ -15,8 +15,8 @@ use Rattle.gl_model.specs.declared.txn.TxnId.{TxnId}
 use Rattle.gl_model.specs.Calls.{RefusesOnly, commit_tests, condemned_test, first_not_ix, no_txn, waiting_test}
 use Rattle.gl_model.specs.State.{State, lives, status_of}
 use Rattle.gl_table.proofs.calls.Locking.{test_refused}
-use Rattle.gl_catalog.specs.Tests.{insert_tests, record_asks}
-use Rattle.gl_catalog.proofs.NotRefused.{active_is, txn_lives}
+use Rattle.gl_steps.specs.Tests.{insert_tests, record_asks}
+use Rattle.gl_steps.proofs.NotRefused.{active_is, txn_lives}
 
 module _ (s : State) (t : TxnId) (f : NodeId) (keys : List ℕ) where
   -- what is tested of the record behind the births and the one who asks

@@ -5,12 +5,13 @@ use Rattle.gl_modes.specs.declared.refusal.Refusal.{Refusal}
 use Rattle.gl_graph.specs.Refusals.{Refuses, first_refusal, verdict}
 use Rattle.gl_model.specs.Calls.{RefusesOnly}
 use Rattle.gl_table.specs.Table.{TableView, state_of as table_state}
-use Rattle.gl_catalog.specs.declared.command.Command.{Command}
+use Rattle.gl_steps.specs.declared.command.Command.{Command}
 use Rattle.gl_catalog.specs.declared.counters.Counters.{Counters}
-use Rattle.gl_catalog.specs.Manager.{ManagerView, counting, state_of}
+use Rattle.gl_model.specs.State.{counting}
+use Rattle.gl_catalog.specs.Manager.{ManagerView, state_of}
 use Rattle.gl_catalog.specs.Replies.{CallSteps, Says}
-use Rattle.gl_catalog.specs.Step.{Accepts, query_answer}
-use Rattle.gl_catalog.specs.Tests.{lists_memory, tests_of, worn}
+use Rattle.gl_steps.specs.Step.{Accepts, query_answer}
+use Rattle.gl_steps.specs.Tests.{lists_memory, tests_of, worn}
 use Rattle.gl_catalog.proofs.Carried.{err_or_memory_step, err_step, ok_step, ok_step_only, worn_step}
 
 module _ {A : Type 0} (says : A → Says) (c : Command) {counts : Counters} (table : TableView) (k : ℕ) (v : ManagerView)

@@ -15,7 +15,7 @@ use Rattle.gl_graph.proofs.Unrefused.{verdict_ok}
 use Rattle.gl_model.specs.Calls.{commit_tests, need_exclusive, need_new_parents, some_given}
 use Rattle.gl_model.specs.State.{State}
 use Rattle.gl_model.specs.declared.txn.TxnId.{TxnId}
-use Rattle.gl_catalog.specs.Tests.{move_asks, rekey_tests, worn}
+use Rattle.gl_steps.specs.Tests.{move_asks, rekey_tests, worn}
 use Rattle.gl_graph.proofs.FirstOf.{passed_then}
 
 -- where the count and the one who asks pass, and these nodes live, the kinds decide, and then what follows

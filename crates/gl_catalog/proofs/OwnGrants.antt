@@ -21,11 +21,11 @@ use Rattle.gl_model.proofs.telling.Follows.{Follows, GrantedTo, SameGrants, lawf
 use Rattle.gl_catalog.specs.Counters.{grants}
 use Rattle.gl_catalog.specs.Paths.{Ask, lock_of}
 use Rattle.gl_catalog.specs.Replies.{Says}
-use Rattle.gl_catalog.specs.Step.{Goes, Step, lock_answer}
-use Rattle.gl_catalog.specs.Tests.{refusal_of, tests_of, worn}
-use Rattle.gl_catalog.proofs.NotRefused.{txn_lives}
-use Rattle.gl_catalog.proofs.OneStep.{all_none}
-use Rattle.gl_catalog.proofs.OtherChanges.{wait_settles_follows}
+use Rattle.gl_steps.specs.Step.{Goes, Step, lock_answer}
+use Rattle.gl_steps.specs.Tests.{refusal_of, tests_of, worn}
+use Rattle.gl_steps.proofs.NotRefused.{txn_lives}
+use Rattle.gl_steps.proofs.OneStep.{all_none}
+use Rattle.gl_steps.proofs.OtherChanges.{wait_settles_follows}
 
 -- t was granted a lock on n: it is active, holds at least what it held there, and the same elsewhere; the command could be counted
 pub record GrantsOwn (s s' : State) (t : TxnId) (n : NodeId) : Type 0 where

@@ -5,17 +5,17 @@ use Rattle.std.proofs.Common.{refl, ap, ◌∙◌, subst}
 use Rattle.gl_model.specs.declared.txn.TxnId.{TxnId}
 use Rattle.gl_model.specs.Lawful.{IsLawful}
 use Rattle.gl_model.specs.Tellings.{Told}
-use Rattle.gl_catalog.specs.declared.command.Answer.{Answer}
-use Rattle.gl_catalog.specs.declared.command.Command.{Command}
+use Rattle.gl_steps.specs.declared.command.Answer.{Answer}
+use Rattle.gl_steps.specs.declared.command.Command.{Command}
 use Rattle.gl_catalog.specs.Manager.{ManagerView, state_of}
 use Rattle.gl_catalog.specs.Paths.{Ask, IsPath, LeavesAllBut, lock_of}
-use Rattle.gl_catalog.specs.Promises.{KeepsEffects, is_grant_to, is_of_rows, names, same_txn, told_granted}
+use Rattle.gl_steps.specs.Promises.{KeepsEffects, is_grant_to, is_of_rows, names, same_txn, told_granted}
 use Rattle.gl_catalog.specs.Replies.{Says}
-use Rattle.gl_catalog.specs.Step.{Run}
+use Rattle.gl_steps.specs.Step.{Run}
 use Rattle.gl_catalog.proofs.PathRuns.{told_nobody}
-use Rattle.gl_catalog.proofs.OthersBelow.{same_below}
+use Rattle.gl_steps.proofs.OthersBelow.{same_below}
 use Rattle.gl_catalog.proofs.RunsOn.{leaves_others}
-use Rattle.gl_catalog.proofs.StepsKeepLaw.{runs_keep_law}
+use Rattle.gl_steps.proofs.StepsKeepLaw.{runs_keep_law}
 
 -- the run of a path: its commands are locks of its own transaction alone, and only its last reply tells anybody
 record RunsBy (t : TxnId) (m : ManagerView) (r : Says) (m' : ManagerView) : Type 0 where

@@ -11,15 +11,15 @@ use Rattle.gl_model.specs.declared.txn.TxnId.{TxnId}
 use Rattle.gl_model.specs.Calls.{need_parents, wanted}
 use Rattle.gl_model.specs.State.{State}
 use Rattle.gl_model.specs.Tellings.{Told}
-use Rattle.gl_catalog.specs.declared.command.Answer.{Answer}
-use Rattle.gl_catalog.specs.declared.command.Answer.TheVariants as answer
+use Rattle.gl_steps.specs.declared.command.Answer.{Answer}
+use Rattle.gl_steps.specs.declared.command.Answer.TheVariants as answer
 use Rattle.gl_catalog.specs.declared.manager.paths.Reached.{Reached}
 use Rattle.gl_catalog.specs.Counters.{grants, refuses}
 use Rattle.gl_catalog.specs.Manager.{ManagerView, state_of}
 use Rattle.gl_catalog.specs.Paths.{Ask, AsksFirst, AsksOnce, IsPath, LocksPath, goes_on, lock_of, parent_missed, parent_wanted, path_tests, reaching}
 use Rattle.gl_catalog.specs.Replies.{Says, said}
-use Rattle.gl_catalog.specs.Step.{Goes, Step, answer_of_lock}
-use Rattle.gl_catalog.specs.Tests.{is_cycle, lists_memory, may_want_memory, refusal_of}
+use Rattle.gl_steps.specs.Step.{Goes, Step, answer_of_lock}
+use Rattle.gl_steps.specs.Tests.{is_cycle, lists_memory, may_want_memory, refusal_of}
 use Rattle.gl_catalog.proofs.Climbing.{first_stays, plain_tests, stays_at}
 
 -- what a path was at its beginning, once it goes on from a later manager

@@ -13,15 +13,15 @@ use Rattle.gl_model.specs.Calls.{lock_tests}
 use Rattle.gl_model.specs.Lawful.{IsLawful}
 use Rattle.gl_model.specs.State.{State}
 use Rattle.gl_model.specs.Tellings.{Told}
-use Rattle.gl_catalog.specs.declared.command.Answer.TheVariants as answer
+use Rattle.gl_steps.specs.declared.command.Answer.TheVariants as answer
 use Rattle.gl_catalog.specs.Completes.{Completes}
 use Rattle.gl_catalog.specs.Counters.{grants, refuses}
 use Rattle.gl_catalog.specs.Manager.{ManagerView, state_of}
 use Rattle.gl_catalog.specs.Paths.{Ask, AsksOnce, ClimbsTo, ComesFirst, KeepsBelow, KeepsWay, intention, lock_of}
 use Rattle.gl_catalog.specs.Paths.{missing_parent, next_ask, parent_missed, parent_wanted}
 use Rattle.gl_catalog.specs.Replies.{CallSteps, asking}
-use Rattle.gl_catalog.specs.Step.{Goes, Step, answer_of_lock}
-use Rattle.gl_catalog.specs.Tests.{is_cycle, lists_memory, may_want_memory, refusal_of, worn}
+use Rattle.gl_steps.specs.Step.{Goes, Step, answer_of_lock}
+use Rattle.gl_steps.specs.Tests.{is_cycle, lists_memory, may_want_memory, refusal_of, worn}
 use Rattle.gl_table.proofs.inside.Lists.{length-more}
 use Rattle.gl_catalog.proofs.Climbing.{climb_on}
 use Rattle.gl_catalog.proofs.KeptWays.{way_climbs}

@@ -19,21 +19,20 @@ use Rattle.gl_header.specs.Header.{fits, holds, is_empty}
 use Rattle.gl_model.specs.declared.txn.Status.TheVariants.{Active}
 use Rattle.gl_model.specs.declared.txn.TxnId.{TxnId}
 use Rattle.gl_model.specs.Calls.{asked_by_escalation, granted, raised, shed, wanted, covered_children, held_children}
-use Rattle.gl_model.specs.State.{is_write, State, lives, members, status_of}
+use Rattle.gl_model.specs.State.{is_write, State, lives, members, status_of, counting}
 use Rattle.gl_model.specs.Lawful.{IsLawful}
 use Rattle.gl_model.specs.Calls.{active_on, bad_mode, escalation_blocks, first_not_ix, first_of_all, need_parents, no_txn, not_held, try_tests, would_block}
 use Rattle.gl_model.specs.Tellings.{told}
 use Rattle.gl_table.proofs.calls.Locking.{test_refused}
 use Rattle.gl_model.proofs.law.Tests.{active_after}
-use Rattle.gl_catalog.specs.declared.command.Answer.TheVariants as answer
-use Rattle.gl_catalog.specs.declared.command.Command.TheVariants as command
-use Rattle.gl_catalog.specs.declared.command.Escalated.{Escalated}
-use Rattle.gl_catalog.specs.Manager.{counting}
+use Rattle.gl_steps.specs.declared.command.Answer.TheVariants as answer
+use Rattle.gl_steps.specs.declared.command.Command.TheVariants as command
+use Rattle.gl_steps.specs.declared.command.Escalated.{Escalated}
 use Rattle.gl_catalog.specs.Replies.{CallSteps, Notices, rose}
-use Rattle.gl_catalog.specs.Tests.{escalate_asks, refusal_of, worn}
+use Rattle.gl_steps.specs.Tests.{escalate_asks, refusal_of, worn}
 use Rattle.gl_catalog.proofs.Carried.{accepted_step, refused_step}
 use Rattle.gl_graph.proofs.FirstOf.{passed_then, passes_first, refused_first}
-use Rattle.gl_catalog.proofs.NotRefused.{txn_lives}
+use Rattle.gl_steps.proofs.NotRefused.{txn_lives}
 use Rattle.gl_model.proofs.law.Tests.{raised_intends}
 
 -- what an escalation asks, by whether some child is held to write

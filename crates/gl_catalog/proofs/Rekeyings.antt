@@ -18,14 +18,13 @@ use Rattle.gl_graph.proofs.Unrefused.{not_false, not_refused, test_fails, verdic
 use Rattle.gl_model.specs.declared.txn.Status.TheVariants.{Active}
 use Rattle.gl_model.specs.declared.txn.TxnId.{TxnId}
 use Rattle.gl_model.specs.Calls.{moved_to, condemned_test, need_exclusive, need_new_parents, no_txn, waiting_test}
-use Rattle.gl_model.specs.State.{State, lives, status_of}
+use Rattle.gl_model.specs.State.{State, lives, status_of, counting}
 use Rattle.gl_model.specs.Tellings.{told}
-use Rattle.gl_catalog.specs.declared.command.Command.TheVariants as command
-use Rattle.gl_catalog.specs.Manager.{counting}
+use Rattle.gl_steps.specs.declared.command.Command.TheVariants as command
 use Rattle.gl_catalog.specs.Replies.{CallSteps, Notices, done}
-use Rattle.gl_catalog.specs.Tests.{refusal_of, worn}
+use Rattle.gl_steps.specs.Tests.{refusal_of, worn}
 use Rattle.gl_catalog.proofs.Carried.{accepted_step}
-use Rattle.gl_catalog.proofs.NotRefused.{active_is, txn_lives}
+use Rattle.gl_steps.proofs.NotRefused.{active_is, txn_lives}
 
 -- a key for each index, also where one has changed
 keys_counted : (is : List NodeId) (ks : List ℕ) (index : NodeId) (key : ℕ) → length ks ≡ length is → length (keys_with is ks index key) ≡ length is

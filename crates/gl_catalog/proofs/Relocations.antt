@@ -15,16 +15,15 @@ use Rattle.gl_graph.proofs.Unrefused.{inner_parents, not_false, not_refused, or_
 use Rattle.gl_model.specs.declared.txn.Status.TheVariants.{Active}
 use Rattle.gl_model.specs.declared.txn.TxnId.{TxnId}
 use Rattle.gl_model.specs.Calls.{moved_to, condemned_test, need_exclusive, need_new_parents, no_txn, some_given, waiting_test}
-use Rattle.gl_model.specs.State.{State, lives, status_of}
+use Rattle.gl_model.specs.State.{State, lives, status_of, counting}
 use Rattle.gl_model.specs.Tellings.{told}
 use Rattle.gl_table.proofs.calls.Locking.{test_refused}
-use Rattle.gl_catalog.specs.declared.command.Command.TheVariants as command
-use Rattle.gl_catalog.specs.Manager.{counting}
+use Rattle.gl_steps.specs.declared.command.Command.TheVariants as command
 use Rattle.gl_catalog.specs.Replies.{CallSteps, Notices, done}
-use Rattle.gl_catalog.specs.Tests.{is_cycle, move_asks, refusal_of, worn}
+use Rattle.gl_steps.specs.Tests.{is_cycle, move_asks, refusal_of, worn}
 use Rattle.gl_catalog.proofs.Carried.{accepted_step, memory_step, refused_step}
 use Rattle.gl_graph.proofs.FirstOf.{alone, passed_then, refused_first}
-use Rattle.gl_catalog.proofs.NotRefused.{active_is, txn_lives}
+use Rattle.gl_steps.proofs.NotRefused.{active_is, txn_lives}
 
 -- who may give the node these parents, but for a path that would close
 pub record MayRegraft (s : State) (t : TxnId) (n : NodeId) (ps : List NodeId) : Type 0 where

@@ -5,14 +5,14 @@ use Rattle.std.proofs.lemmas.List.{map-append, take_all, take_more}
 use Rattle.gl_model.specs.Lawful.{IsLawful}
 use Rattle.gl_model.specs.State.{State}
 use Rattle.gl_model.specs.Tellings.{Told}
-use Rattle.gl_catalog.specs.declared.command.Answer.{Answer}
-use Rattle.gl_catalog.specs.declared.command.Command.{Command}
-use Rattle.gl_catalog.specs.declared.command.Reply.{Reply}
-use Rattle.gl_catalog.specs.Promises.{LeavesOthers, StepLeavesOthers}
+use Rattle.gl_steps.specs.declared.command.Answer.{Answer}
+use Rattle.gl_steps.specs.declared.command.Command.{Command}
+use Rattle.gl_steps.specs.declared.command.Reply.{Reply}
+use Rattle.gl_steps.specs.Promises.{LeavesOthers, StepLeavesOthers}
 use Rattle.gl_catalog.specs.Replies.{said_in}
-use Rattle.gl_catalog.specs.Step.{Run, Step}
-use Rattle.gl_catalog.proofs.OthersBelow.{others_leave_below}
-use Rattle.gl_catalog.proofs.OthersKeep.{others_keep_effects}
+use Rattle.gl_steps.specs.Step.{Run, Step}
+use Rattle.gl_steps.proofs.OthersBelow.{others_leave_below}
+use Rattle.gl_steps.proofs.OthersKeep.{others_keep_effects}
 
 -- one command more at the end
 pub run_snoc : (s mid s' : State) (cs : List Command) (rs : List (Answer × Told)) (c : Command) (a : Answer) (told : Told) → Run s cs rs mid

@@ -23,10 +23,10 @@ use Rattle.gl_model.specs.Calls.{condemned_test, first_not_ix, first_of_all, rul
 use Rattle.gl_model.specs.Lawful.{IsLawful}
 use Rattle.gl_model.specs.State.{State, is_write, no_parents}
 use Rattle.gl_catalog.specs.Paths.{Ask, ClimbsTo, IsWay, KeepsBelow, KeepsWay, intention, next_ask, parent_missed, parent_wanted, path_tests}
-use Rattle.gl_catalog.specs.Tests.{worn}
+use Rattle.gl_steps.specs.Tests.{worn}
 use Rattle.gl_catalog.proofs.Climbing.{climb_route, passes, rule_of, wanted_by_rule}
 use Rattle.gl_catalog.proofs.KeptWays.{next_last}
-use Rattle.gl_catalog.proofs.OneStep.{AllNone, all_none}
+use Rattle.gl_steps.proofs.OneStep.{AllNone, all_none}
 use Rattle.gl_catalog.proofs.OwnGrants.{GrantsOwn}
 
 -- To write, the rule of the graph misses the first parent that is not held to write.

@@ -2,8 +2,8 @@
 use Rattle.std.specs.Prelude.{◌≡◌, [], max}
 use Rattle.gl_modes.specs.declared.refusal.Refusal.{Refusal}
 use Rattle.gl_model.specs.State.{State}
-use Rattle.gl_catalog.specs.declared.command.Answer.TheVariants as answer
-use Rattle.gl_catalog.specs.declared.command.Command.{Command}
+use Rattle.gl_steps.specs.declared.command.Answer.TheVariants as answer
+use Rattle.gl_steps.specs.declared.command.Command.{Command}
 use Rattle.gl_catalog.specs.declared.counters.Counters.{Counters}
 use Rattle.gl_catalog.specs.Counters.{counted, rises}
 use Rattle.gl_catalog.proofs.Counts.{max_none, rises_none}

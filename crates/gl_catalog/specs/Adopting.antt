@@ -12,11 +12,11 @@ use Rattle.gl_graph.specs.Refusals.{max_count, record_refusal, where_true}
 use Rattle.gl_model.specs.declared.txn.TxnId.{TxnId}
 use Rattle.gl_model.specs.Calls.{commit_tests, rule_refusal}
 use Rattle.gl_model.specs.State.{State}
-use Rattle.gl_catalog.specs.declared.command.Answer.TheVariants as answer
-use Rattle.gl_catalog.specs.declared.command.Command.TheVariants as command
+use Rattle.gl_steps.specs.declared.command.Answer.TheVariants as answer
+use Rattle.gl_steps.specs.declared.command.Command.TheVariants as command
 use Rattle.gl_catalog.specs.Counters.{counted}
 use Rattle.gl_catalog.specs.Manager.{ManagerView, state_of}
-use Rattle.gl_catalog.specs.Step.{Step}
+use Rattle.gl_steps.specs.Step.{Step}
 
 -- two further commands cannot be counted
 abbrev pub worn_twice : State → Option Refusal

@@ -1,13 +1,13 @@
 -- What a call of the manager does beside its step, where it is not refused.
 use Rattle.std.specs.Prelude.{◌≡◌, ◌+◌}
-use Rattle.gl_catalog.specs.declared.command.Answer.{Answer}
-use Rattle.gl_catalog.specs.declared.command.Command.{Command}
+use Rattle.gl_steps.specs.declared.command.Answer.{Answer}
+use Rattle.gl_steps.specs.declared.command.Command.{Command}
 use Rattle.gl_catalog.specs.Counters.{counted}
 use Rattle.gl_catalog.specs.Deadlocks.{KeepsAccepted, KeepsDeadlock}
 use Rattle.gl_catalog.specs.Manager.{ManagerView, state_of}
-use Rattle.gl_catalog.specs.Promises.{KeepsCaller, SettlesIdle, StepLeavesOthers}
+use Rattle.gl_steps.specs.Promises.{KeepsCaller, SettlesIdle, StepLeavesOthers}
 use Rattle.gl_catalog.specs.Replies.{Says}
-use Rattle.gl_catalog.specs.Step.{Step}
+use Rattle.gl_steps.specs.Step.{Step}
 use Rattle.gl_model.specs.Tellings.{Told}
 
 -- a command that was answered so is accepted once and counted, keeps of deadlocks what it is to keep, and leaves its caller, all others and those on

@@ -2,12 +2,12 @@
 use Rattle.std.specs.Prelude.{◌≡◌}
 use Rattle.gl_model.specs.declared.deadlock.Deadlock.{Deadlock}
 use Rattle.gl_model.specs.Deadlocks.{LocksKeeping, SettlesKeeping}
-use Rattle.gl_model.specs.State.{State}
-use Rattle.gl_catalog.specs.declared.command.Answer.{Answer}
-use Rattle.gl_catalog.specs.declared.command.Answer.TheVariants as answer
-use Rattle.gl_catalog.specs.declared.command.Command.{Command}
-use Rattle.gl_catalog.specs.declared.command.Command.TheVariants as command
-use Rattle.gl_catalog.specs.Manager.{ManagerView, counting, state_of}
+use Rattle.gl_model.specs.State.{State, counting}
+use Rattle.gl_steps.specs.declared.command.Answer.{Answer}
+use Rattle.gl_steps.specs.declared.command.Answer.TheVariants as answer
+use Rattle.gl_steps.specs.declared.command.Command.{Command}
+use Rattle.gl_steps.specs.declared.command.Command.TheVariants as command
+use Rattle.gl_catalog.specs.Manager.{ManagerView, state_of}
 
 -- a command that is not refused: a lock and a settle keep the last deadlock that they end, every other what was kept before
 abbrev pub Keeps : State → Command → Deadlock → State → Deadlock → Type 0

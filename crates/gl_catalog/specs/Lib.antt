@@ -1,6 +1,3 @@
-pub mod Tests
-pub mod Step
-pub mod Promises
 pub mod Manager
 pub mod Deadlocks
 pub mod Counters

@@ -4,7 +4,7 @@ use Rattle.std.specs.Prelude.{◌≡◌, ◌≤◌, ℕ}
 use Rattle.gl_model.specs.declared.answers.Detect.TheVariants.{AtBlock}
 use Rattle.gl_model.specs.Lawful.{HasNoConflict, IsLawful}
 use Rattle.gl_header.specs.Headers.{AreHeaders}
-use Rattle.gl_model.specs.State.{State, HasNoCycle}
+use Rattle.gl_model.specs.State.{State, HasNoCycle, counting}
 use Rattle.gl_table.specs.Table.{ListsAgree, StandOnce, TableView, state_of as table_state}
 use Rattle.gl_catalog.specs.declared.counters.Counters.{Counters}
 
@@ -13,10 +13,6 @@ pub record ManagerView : Type 0 where
   pub table : TableView
   pub accepted : ℕ
   pub counters : Counters
-
--- the state with this count of accepted commands
-abbrev pub counting : ℕ → State → State
-counting k s = record s { accepted = k }
 
 -- the state that it stands for
 abbrev pub state_of : ManagerView → State

@@ -12,16 +12,16 @@ use Rattle.gl_model.specs.Calls.{active_on, bad_mode}
 use Rattle.gl_model.specs.Lawful.{EffS, SameBelow}
 use Rattle.gl_model.specs.State.{State, is_write, lives}
 use Rattle.gl_model.specs.Tellings.{Told}
-use Rattle.gl_catalog.specs.declared.command.Command.{Command}
-use Rattle.gl_catalog.specs.declared.command.Command.TheVariants as command
+use Rattle.gl_steps.specs.declared.command.Command.{Command}
+use Rattle.gl_steps.specs.declared.command.Command.TheVariants as command
 use Rattle.gl_catalog.specs.declared.manager.paths.Reached.{Reached}
 use Rattle.gl_catalog.specs.Completes.{Completes}
 use Rattle.gl_catalog.specs.Counters.{grants, refuses}
 use Rattle.gl_catalog.specs.Manager.{ManagerView, state_of}
-use Rattle.gl_catalog.specs.Promises.{KeepsEffects, same_txn, told_granted}
+use Rattle.gl_steps.specs.Promises.{KeepsEffects, same_txn, told_granted}
 use Rattle.gl_catalog.specs.Replies.{Says, asking, said}
-use Rattle.gl_catalog.specs.Step.{Step}
-use Rattle.gl_catalog.specs.Tests.{refusal_of, worn}
+use Rattle.gl_steps.specs.Step.{Step}
+use Rattle.gl_steps.specs.Tests.{refusal_of, worn}
 
 -- a node, and the mode asked for on it
 abbrev pub Ask : Type 0

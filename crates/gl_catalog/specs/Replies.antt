@@ -12,12 +12,12 @@ use Rattle.gl_model.specs.declared.txn.Status.TheVariants.{Waiting}
 use Rattle.gl_model.specs.declared.txn.TxnId.{TxnId}
 use Rattle.gl_model.specs.State.{State}
 use Rattle.gl_model.specs.Tellings.{Told}
-use Rattle.gl_catalog.specs.declared.command.Answer.{Answer}
-use Rattle.gl_catalog.specs.declared.command.Answer.TheVariants as answer
-use Rattle.gl_catalog.specs.declared.command.Command.{Command}
-use Rattle.gl_catalog.specs.declared.command.Escalated.{Escalated}
-use Rattle.gl_catalog.specs.declared.command.Reply.{Reply}
-use Rattle.gl_catalog.specs.Step.{Step, answer_of_lock}
+use Rattle.gl_steps.specs.declared.command.Answer.{Answer}
+use Rattle.gl_steps.specs.declared.command.Answer.TheVariants as answer
+use Rattle.gl_steps.specs.declared.command.Command.{Command}
+use Rattle.gl_steps.specs.declared.command.Escalated.{Escalated}
+use Rattle.gl_steps.specs.declared.command.Reply.{Reply}
+use Rattle.gl_steps.specs.Step.{Step, answer_of_lock}
 
 -- an answer, and who is told what
 abbrev pub Says : Type 0

@@ -2,7 +2,7 @@
 
 ghost use Rattle.std.specs.Prelude.{◌≡◌, max};
 ghost use Rattle.gl_catalog.specs.Counters.{condemns, grants, one_if, rises, waits, with_notice, with_notices};
-ghost use Rattle.gl_catalog.specs.Step.{answer_of_lock};
+ghost use Rattle.gl_steps.specs.Step.{answer_of_lock};
 
 use gl_table::{Locked, Notice, TxnId};
 

@@ -1,15 +1,12 @@
-//! The catalog: commands, the manager that carries them out, the model of what each does, and the
-//! laws that hold over every run.
+//! The manager: a table that carries out commands, counts them, and locks along paths.
 #![tactic(auto)]
 
-mod command;
 mod counters;
-pub mod laws;
 mod manager;
 pub mod replies;
 mod run;
 
-pub use command::{Answer, Command, Escalated, Reply};
 pub use counters::Counters;
+pub use gl_steps::{Answer, Command, Escalated, Reply};
 pub use manager::{Manager, Reached};
 pub use run::run_commands;

@@ -2,11 +2,11 @@
 
 ghost use Rattle.std.specs.Prelude.{◌≡◌, IfErr, IfOk, OnErr};
 ghost use Rattle.gl_catalog.specs.Manager.{state_of};
-ghost use Rattle.gl_catalog.specs.Promises.{LeavesOthers};
+ghost use Rattle.gl_steps.specs.Promises.{LeavesOthers};
 ghost use Rattle.gl_catalog.specs.Replies.{said_in};
-ghost use Rattle.gl_catalog.specs.Step.{Run};
+ghost use Rattle.gl_steps.specs.Step.{Run};
 
-use crate::command::{Command, Reply};
+use gl_steps::{Command, Reply};
 use crate::manager::Manager;
 use gl_modes::Refusal;
 use std::alloc::Global;

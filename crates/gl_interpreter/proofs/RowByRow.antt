@@ -16,8 +16,7 @@ use Rattle.gl_model.specs.declared.answers.LockRow.{LockRow}
 use Rattle.gl_model.specs.declared.txn.TxnId.{TxnId}
 use Rattle.gl_model.specs.Calls.{RefusesOnly}
 use Rattle.gl_table.specs.Table.{AreRowsOf}
-use Rattle.gl_model.specs.State.{State}
-use Rattle.gl_catalog.specs.Manager.{counting}
+use Rattle.gl_model.specs.State.{State, counting}
 use Rattle.gl_interpreter.specs.Printed.{refusal_line}
 use Rattle.gl_interpreter.specs.Script.{Script}
 use Rattle.gl_interpreter.specs.Rows.{deadlock_rows, listed, member_text, or_dash, slots_where, stuck_rows}

@@ -3,7 +3,7 @@ use Rattle.std.proofs.Common.{◌≡◌, Bool, true, Err, Ok, sym, subst, inl, i
 use Rattle.gl_modes.specs.declared.refusal.Refusal.{Refusal}
 use Rattle.gl_modes.specs.declared.refusal.Refusal.TheVariants as no
 use Rattle.gl_model.specs.Tellings.{Told}
-use Rattle.gl_catalog.specs.declared.command.Answer.{Answer}
+use Rattle.gl_steps.specs.declared.command.Answer.{Answer}
 use Rattle.gl_script.specs.Grammar.{Command}
 use Rattle.gl_interpreter.specs.Rooms.{IsRoomed}
 use Rattle.gl_interpreter.specs.Script.{DoesWhere, HandedOn, RefusedHere, Script, declared, is_name}

@@ -14,8 +14,8 @@ use Rattle.gl_model.specs.declared.answers.Notice.{Notice}
 use Rattle.gl_model.specs.declared.answers.Notice.TheVariants as notice
 use Rattle.gl_model.specs.declared.txn.TxnId.{TxnId}
 use Rattle.gl_model.specs.Tellings.{Told}
-use Rattle.gl_catalog.specs.declared.command.Answer.{Answer}
-use Rattle.gl_catalog.specs.declared.command.Answer.TheVariants as answer
+use Rattle.gl_steps.specs.declared.command.Answer.{Answer}
+use Rattle.gl_steps.specs.declared.command.Answer.TheVariants as answer
 use Rattle.gl_script.specs.Grammar.{Text, Node, Plain, Interval, Command, Inner, File, Index, Lock, Try, Unlock, Cancel, Commit, Abort, Settle}
 use Rattle.gl_script.specs.Grammar.{Insert, Delete, Rekey, Escalate, Move, Group, Held, Effective, node_text}
 use Rattle.gl_interpreter.specs.Script.{Script, Declared, NodeName, TxnName, Nothing, declared, node_named}

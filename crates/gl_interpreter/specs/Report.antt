@@ -5,7 +5,7 @@ use Rattle.std.specs.Io.KnownBytes.{Consumes, Appends}
 use Rattle.std.specs.Str.{bytes_eq}
 use Rattle.gl_words.specs.declared.requests.Choices.{Choices}
 use Rattle.gl_model.specs.Tellings.{Told}
-use Rattle.gl_catalog.specs.declared.command.Answer.{Answer}
+use Rattle.gl_steps.specs.declared.command.Answer.{Answer}
 use Rattle.gl_script.specs.declared.form.Version.{Version}
 use Rattle.gl_script.specs.declared.form.Version.TheVariants as version
 use Rattle.gl_script.specs.Grammar.{Text, Command, Line, Lists, Listing, Orders, Says}

@@ -11,12 +11,12 @@ use Rattle.gl_model.specs.declared.deadlock.Deadlock.{Deadlock}
 use Rattle.gl_model.specs.Deadlocks.{no_deadlock}
 use Rattle.gl_model.specs.State.{State, choosing, empty_state}
 use Rattle.gl_model.specs.Tellings.{Told}
-use Rattle.gl_catalog.specs.declared.command.Answer.{Answer}
-use Rattle.gl_catalog.specs.declared.command.Answer.TheVariants as answer
-use Rattle.gl_catalog.specs.declared.command.Command.{Command as Asked}
-use Rattle.gl_catalog.specs.declared.command.Command.TheVariants as command
+use Rattle.gl_steps.specs.declared.command.Answer.{Answer}
+use Rattle.gl_steps.specs.declared.command.Answer.TheVariants as answer
+use Rattle.gl_steps.specs.declared.command.Command.{Command as Asked}
+use Rattle.gl_steps.specs.declared.command.Command.TheVariants as command
 use Rattle.gl_catalog.specs.Deadlocks.{KeptBy}
-use Rattle.gl_catalog.specs.Step.{Step}
+use Rattle.gl_steps.specs.Step.{Step}
 use Rattle.gl_script.specs.declared.form.Language.{Language}
 use Rattle.gl_script.specs.declared.form.Version.{Version}
 use Rattle.gl_script.specs.declared.form.Version.TheVariants as version

@@ -6,7 +6,7 @@ use Rattle.gl_model.specs.Deadlocks.{no_deadlock}
 use Rattle.gl_model.specs.State.{choosing, empty_state}
 use Rattle.gl_model.specs.Tellings.{Told}
 use Rattle.gl_catalog.specs.Manager.{ManagerView, state_of}
-use Rattle.gl_catalog.specs.declared.command.Answer.{Answer}
+use Rattle.gl_steps.specs.declared.command.Answer.{Answer}
 use Rattle.gl_script.specs.Grammar.{Command, Listing}
 use Rattle.gl_script.specs.declared.form.Version.TheVariants as version
 use Rattle.gl_interpreter.specs.declared.interpreter.Interpreter.{Interpreter}

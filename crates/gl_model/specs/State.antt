@@ -102,6 +102,10 @@ choosing c s = record s { victims = c }
 abbrev pub with_limits : ℕ → ℕ → State → State
 with_limits nodes bounds s = record s { graph = record s.graph { most = nodes; most_bounds = bounds } }
 
+-- the state with this count of accepted commands
+abbrev pub counting : ℕ → State → State
+counting k s = record s { accepted = k }
+
 -- no node, of which 65,536 may live at once, 256 bounds for an index, no transaction, nothing counted; of a deadlock the youngest falls
 abbrev pub empty_state : Detect → ℕ → State
 empty_state detect most =

@@ -16,14 +16,14 @@ use Rattle.gl_model.specs.Calls.{accepted_once, is_idle}
 use Rattle.gl_model.specs.Lawful.{IsLawful}
 use Rattle.gl_model.specs.State.{State, with_graph}
 use Rattle.gl_model.specs.Tellings.{Told}
-use Rattle.gl_catalog.proofs.RowKeeps.{rows_come_and_go}
-use Rattle.gl_catalog.specs.declared.command.Answer.{Answer}
-use Rattle.gl_catalog.specs.declared.command.Answer.TheVariants as answer
-use Rattle.gl_catalog.specs.declared.command.Command.{Command}
-use Rattle.gl_catalog.specs.declared.command.Command.TheVariants as command
+use Rattle.gl_steps.proofs.RowKeeps.{rows_come_and_go}
+use Rattle.gl_steps.specs.declared.command.Answer.{Answer}
+use Rattle.gl_steps.specs.declared.command.Answer.TheVariants as answer
+use Rattle.gl_steps.specs.declared.command.Command.{Command}
+use Rattle.gl_steps.specs.declared.command.Command.TheVariants as command
 use Rattle.gl_catalog.specs.Replies.{CallSteps, doing}
-use Rattle.gl_catalog.specs.Step.{Accepts, Answers, Goes, Step, query_answer}
-use Rattle.gl_catalog.specs.Tests.{refusal_of, worn}
+use Rattle.gl_steps.specs.Step.{Accepts, Answers, Goes, Step, query_answer}
+use Rattle.gl_steps.specs.Tests.{refusal_of, worn}
 
 -- a command that is answered otherwise than by a refusal was accepted
 pub accepted_of : (s : State) (c : Command) (a : Answer) (told : Told) (s' : State) → query_answer s c ≡ None

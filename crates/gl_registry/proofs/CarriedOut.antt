@@ -13,16 +13,16 @@ use Rattle.gl_model.specs.declared.txn.TxnId.{TxnId}
 use Rattle.gl_model.specs.Lawful.{IsLawful}
 use Rattle.gl_model.specs.State.{State}
 use Rattle.gl_model.specs.Tellings.{Told}
-use Rattle.gl_catalog.specs.declared.command.Escalated.{Escalated}
-use Rattle.gl_catalog.specs.declared.command.Answer.{Answer}
-use Rattle.gl_catalog.specs.declared.command.Answer.TheVariants as answer
-use Rattle.gl_catalog.specs.declared.command.Command.{Command}
-use Rattle.gl_catalog.specs.declared.command.Command.TheVariants as command
+use Rattle.gl_steps.specs.declared.command.Escalated.{Escalated}
+use Rattle.gl_steps.specs.declared.command.Answer.{Answer}
+use Rattle.gl_steps.specs.declared.command.Answer.TheVariants as answer
+use Rattle.gl_steps.specs.declared.command.Command.{Command}
+use Rattle.gl_steps.specs.declared.command.Command.TheVariants as command
 use Rattle.gl_catalog.specs.Adopting.{AdoptsLocked}
 use Rattle.gl_catalog.specs.Deadlocks.{KeepsAccepted, KeptBy}
 use Rattle.gl_catalog.specs.Manager.{ManagerView, state_of}
 use Rattle.gl_catalog.specs.Replies.{doing, made, rising, said}
-use Rattle.gl_catalog.specs.Step.{answer_of_lock}
+use Rattle.gl_steps.specs.Step.{answer_of_lock}
 use Rattle.gl_registry.specs.declared.answer.RowAnswer.{RowAnswer}
 use Rattle.gl_registry.specs.declared.answer.RowLocked.{RowLocked}
 use Rattle.gl_registry.specs.declared.answer.RowRefusal.{RowRefusal}

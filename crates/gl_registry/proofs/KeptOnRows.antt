@@ -13,8 +13,8 @@ use Rattle.gl_model.specs.declared.answers.Effect.TheVariants as effect
 use Rattle.gl_model.specs.declared.txn.TxnId.{TxnId}
 use Rattle.gl_model.specs.Lawful.{IsLawful, effective, is_at_least_effect}
 use Rattle.gl_model.specs.State.{State}
-use Rattle.gl_catalog.proofs.Keeps.{effect_refl}
-use Rattle.gl_catalog.proofs.OthersKeep.{KeepsOver}
+use Rattle.gl_steps.proofs.Keeps.{effect_refl}
+use Rattle.gl_steps.proofs.OthersKeep.{KeepsOver}
 use Rattle.gl_catalog.specs.Manager.{state_of}
 use Rattle.gl_registry.specs.declared.row.Row.{Row}
 use Rattle.gl_registry.specs.Promises.{IsOwnInBoth, IsRegistry, KeepsOnRows, OwnKeys, effect_of, effect_on, of_node, reads_row, row_effect, writes_row}

@@ -5,8 +5,8 @@ use Rattle.gl_modes.specs.declared.node.NodeId.{NodeId}
 use Rattle.gl_graph.specs.Graph.{is_live, record_parents}
 use Rattle.gl_model.specs.Lawful.{IsLawful, effective, is_at_least_effect}
 use Rattle.gl_model.specs.State.{State}
-use Rattle.gl_catalog.proofs.OthersKeep.{run_keeps}
-use Rattle.gl_catalog.proofs.StepsKeepLaw.{runs_keep_law}
+use Rattle.gl_steps.proofs.OthersKeep.{run_keeps}
+use Rattle.gl_steps.proofs.StepsKeepLaw.{runs_keep_law}
 use Rattle.gl_registry.proofs.KeptIndexes.{KeepsIndexes, same_parents}
 use Rattle.gl_registry.proofs.RowEffects.{OfEach, effect_under, row_parents_live, under_more, under_same}
 use Rattle.gl_registry.proofs.RunsKeepIndexes.{run_keeps as run_keeps_indexes}

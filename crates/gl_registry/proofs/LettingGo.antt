@@ -21,11 +21,11 @@ use Rattle.gl_model.specs.Calls.{accepted_once, forget_tests, is_idle}
 use Rattle.gl_model.specs.Lawful.{IsLawful}
 use Rattle.gl_model.specs.State.{State, with_graph}
 use Rattle.gl_model.proofs.law.Rows.{gone_is, left_was}
-use Rattle.gl_catalog.specs.declared.command.Answer.TheVariants as answer
-use Rattle.gl_catalog.specs.declared.command.Command.TheVariants as command
-use Rattle.gl_catalog.specs.Step.{Goes, Step}
-use Rattle.gl_catalog.specs.Tests.{refusal_of, worn}
-use Rattle.gl_catalog.proofs.RowKeeps.{may_forget}
+use Rattle.gl_steps.specs.declared.command.Answer.TheVariants as answer
+use Rattle.gl_steps.specs.declared.command.Command.TheVariants as command
+use Rattle.gl_steps.specs.Step.{Goes, Step}
+use Rattle.gl_steps.specs.Tests.{refusal_of, worn}
+use Rattle.gl_steps.proofs.RowKeeps.{may_forget}
 use Rattle.gl_registry.specs.Locking.{ForgetsLiving, LetsGo, LetsGoOf, Names, Renames, Runs, forgets}
 use Rattle.gl_registry.specs.Releasing.{AreNodesOf, LetsEachGo, is_among, living}
 use Rattle.gl_registry.specs.Rows.{same_row}

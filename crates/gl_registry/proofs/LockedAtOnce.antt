@@ -18,11 +18,11 @@ use Rattle.gl_model.specs.Calls.{accepted_once, enters_at, granted, is_idle, wan
 use Rattle.gl_model.specs.Lawful.{IsLawful}
 use Rattle.gl_model.specs.State.{State}
 use Rattle.gl_model.proofs.law.Records.{idle-free}
-use Rattle.gl_catalog.specs.declared.command.Answer.TheVariants as answer
-use Rattle.gl_catalog.specs.declared.command.Command.TheVariants as command
+use Rattle.gl_steps.specs.declared.command.Answer.TheVariants as answer
+use Rattle.gl_steps.specs.declared.command.Command.TheVariants as command
 use Rattle.gl_catalog.specs.Adopting.{AdoptsLocked}
 use Rattle.gl_catalog.specs.Manager.{ManagerView, state_of}
-use Rattle.gl_catalog.specs.Tests.{refusal_of}
+use Rattle.gl_steps.specs.Tests.{refusal_of}
 use Rattle.gl_registry.specs.Locking.{Wish}
 use Rattle.gl_registry.proofs.Adopted.{accepted_of, may_be_forgotten, not_worn}
 use Rattle.gl_registry.proofs.NameChanges.{Comes, record_live}

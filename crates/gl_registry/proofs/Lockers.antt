@@ -13,16 +13,16 @@ use Rattle.gl_model.specs.Tellings.{Told}
 use Rattle.gl_model.specs.declared.answers.Locked.{Locked}
 use Rattle.gl_model.specs.declared.answers.Locked.TheVariants as locked
 use Rattle.gl_model.specs.declared.txn.TxnId.{TxnId}
-use Rattle.gl_catalog.proofs.NotRefused.{txn_lives}
-use Rattle.gl_catalog.proofs.ToldGrants.{txn_there}
-use Rattle.gl_catalog.specs.declared.command.Answer.{Answer}
-use Rattle.gl_catalog.specs.declared.command.Answer.TheVariants as answer
-use Rattle.gl_catalog.specs.declared.command.Command.TheVariants as command
+use Rattle.gl_steps.proofs.NotRefused.{txn_lives}
+use Rattle.gl_steps.proofs.ToldGrants.{txn_there}
+use Rattle.gl_steps.specs.declared.command.Answer.{Answer}
+use Rattle.gl_steps.specs.declared.command.Answer.TheVariants as answer
+use Rattle.gl_steps.specs.declared.command.Command.TheVariants as command
 use Rattle.gl_catalog.specs.Adopting.{AdoptsLocked}
 use Rattle.gl_catalog.specs.Manager.{ManagerView, state_of}
 use Rattle.gl_catalog.specs.Replies.{CallSteps, asking}
-use Rattle.gl_catalog.specs.Step.{Step, answer_of_lock}
-use Rattle.gl_catalog.specs.Tests.{worn}
+use Rattle.gl_steps.specs.Step.{Step, answer_of_lock}
+use Rattle.gl_steps.specs.Tests.{worn}
 use Rattle.gl_registry.specs.Locking.{Keys}
 use Rattle.gl_registry.proofs.Adopted.{accepted_of}
 

@@ -8,7 +8,7 @@ use Rattle.gl_modes.specs.Nodes.{same_node}
 use Rattle.gl_modes.specs.declared.node.NodeId.{NodeId}
 use Rattle.gl_graph.specs.Graph.{Graph, Node, first_parent, is_live, node_at, shape_in, shape_of}
 use Rattle.gl_graph.specs.Shapes.{is_record_shape}
-use Rattle.gl_catalog.proofs.KeptKinds.{KeepsKinds}
+use Rattle.gl_steps.proofs.KeptKinds.{KeepsKinds}
 use Rattle.gl_registry.specs.Names.{NameWell, NamesHold, NamesHoldIn, Naming}
 use Rattle.gl_registry.specs.Rows.{RowsView, has_rows, name_of, same_row}
 use Rattle.gl_registry.specs.declared.row.Row.{Row}

@@ -23,15 +23,15 @@ use Rattle.gl_catalog.specs.Manager.{ManagerView, state_of}
 use Rattle.gl_model.specs.State.{SettledWithin, State, condemned, with_graph}
 use Rattle.gl_model.specs.Tellings.{Told}
 use Rattle.gl_model.proofs.law.Rows.{gone_is, left_was}
-use Rattle.gl_catalog.proofs.EachStep.{each_step}
-use Rattle.gl_catalog.proofs.RowKeeps.{may_forget}
-use Rattle.gl_catalog.proofs.StepsKeepLaw.{steps_keep_law}
-use Rattle.gl_catalog.specs.declared.command.Answer.{Answer}
-use Rattle.gl_catalog.specs.declared.command.Answer.TheVariants as answer
-use Rattle.gl_catalog.specs.declared.command.Command.{Command}
-use Rattle.gl_catalog.specs.declared.command.Command.TheVariants as command
+use Rattle.gl_steps.proofs.EachStep.{each_step}
+use Rattle.gl_steps.proofs.RowKeeps.{may_forget}
+use Rattle.gl_steps.proofs.StepsKeepLaw.{steps_keep_law}
+use Rattle.gl_steps.specs.declared.command.Answer.{Answer}
+use Rattle.gl_steps.specs.declared.command.Answer.TheVariants as answer
+use Rattle.gl_steps.specs.declared.command.Command.{Command}
+use Rattle.gl_steps.specs.declared.command.Command.TheVariants as command
 use Rattle.gl_catalog.specs.Replies.{Says}
-use Rattle.gl_catalog.specs.Step.{Accepts, Step}
+use Rattle.gl_steps.specs.Step.{Accepts, Step}
 use Rattle.gl_registry.specs.Locking.{IsRefused, LetsGo, Names, Refused, Runs, forgets}
 use Rattle.gl_registry.specs.Names.{NameWell, NamesHold, NamesHoldIn, Naming}
 use Rattle.gl_registry.specs.Releasing.{AreNodesOf, EndsTxn, GivesBack, LetsEachGo, LetsGoAsked, Unlocks, UnlocksBy, UnlocksRow, is_among, living, node_for}

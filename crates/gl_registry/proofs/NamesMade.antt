@@ -19,14 +19,14 @@ use Rattle.gl_model.specs.Lawful.{IsLawful}
 use Rattle.gl_model.specs.State.{State}
 use Rattle.gl_model.specs.Tellings.{Told}
 use Rattle.gl_model.proofs.law.Rows.{gone_is, left_was}
-use Rattle.gl_catalog.proofs.StepsKeepLaw.{steps_keep_law}
-use Rattle.gl_catalog.specs.declared.command.Answer.TheVariants as answer
-use Rattle.gl_catalog.specs.declared.command.Command.{Command}
-use Rattle.gl_catalog.specs.declared.command.Command.TheVariants as command
+use Rattle.gl_steps.proofs.StepsKeepLaw.{steps_keep_law}
+use Rattle.gl_steps.specs.declared.command.Answer.TheVariants as answer
+use Rattle.gl_steps.specs.declared.command.Command.{Command}
+use Rattle.gl_steps.specs.declared.command.Command.TheVariants as command
 use Rattle.gl_catalog.specs.Adopting.{AdoptsLocked}
 use Rattle.gl_catalog.specs.Manager.{ManagerView, state_of}
-use Rattle.gl_catalog.specs.Step.{Accepts, Answers, Goes, Step, query_answer}
-use Rattle.gl_catalog.specs.Tests.{refusal_of}
+use Rattle.gl_steps.specs.Step.{Accepts, Answers, Goes, Step, query_answer}
+use Rattle.gl_steps.specs.Tests.{refusal_of}
 use Rattle.gl_registry.specs.declared.answer.RowLocked.{RowLocked}
 use Rattle.gl_registry.specs.declared.answer.RowRefusal.{RowRefusal}
 use Rattle.gl_registry.specs.declared.answer.RowRefusal.TheVariants as row_no

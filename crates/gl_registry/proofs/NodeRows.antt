@@ -8,7 +8,7 @@ use Rattle.gl_graph.specs.Shapes.{keys_in}
 use Rattle.gl_model.specs.declared.answers.Effect.TheVariants as effect
 use Rattle.gl_model.specs.Lawful.{IsLawful, effective, is_at_least_effect}
 use Rattle.gl_model.specs.State.{State}
-use Rattle.gl_catalog.proofs.GraphChanges.{quiet_under}
+use Rattle.gl_steps.proofs.GraphChanges.{quiet_under}
 use Rattle.gl_catalog.specs.Manager.{state_of}
 use Rattle.gl_registry.specs.declared.row.Row.{Row}
 use Rattle.gl_registry.specs.Names.{NamesHold}

@@ -15,8 +15,8 @@ use Rattle.gl_model.specs.declared.answers.Effect.TheVariants as effect
 use Rattle.gl_model.specs.Lawful.{EffS, EffX, eff_s, eff_x, effective, is_at_least_effect}
 use Rattle.gl_model.specs.State.{State}
 use Rattle.gl_model.proofs.law.Effects.{ReadOn, all_from, any_all, eff_s_route, eff_x_route}
-use Rattle.gl_catalog.proofs.GraphChanges.{quiet_under}
-use Rattle.gl_catalog.proofs.Keeps.{effect_refl, greater_effect}
+use Rattle.gl_steps.proofs.GraphChanges.{quiet_under}
+use Rattle.gl_steps.proofs.Keeps.{effect_refl, greater_effect}
 use Rattle.gl_registry.specs.Promises.{IsRow, NoRowConflict, effect_of}
 
 -- the order of effective modes

@@ -16,17 +16,17 @@ use Rattle.gl_model.specs.State.{State}
 use Rattle.gl_model.specs.Tellings.{Told}
 use Rattle.gl_model.proofs.law.Move.{Moves}
 use Rattle.gl_model.proofs.telling.Follows.{lawful_waits}
-use Rattle.gl_catalog.specs.Step.{Accepts, Run, Step}
-use Rattle.gl_catalog.specs.Tests.{refusal_of, tests_of}
-use Rattle.gl_catalog.specs.declared.command.Answer.{Answer}
-use Rattle.gl_catalog.specs.declared.command.Command.{Command}
-use Rattle.gl_catalog.specs.declared.command.Command.TheVariants as command
-use Rattle.gl_catalog.proofs.EachStep.{each_step}
-use Rattle.gl_catalog.proofs.MoveCommands.{move_moves, rekey_moves}
-use Rattle.gl_catalog.proofs.OneStep.{all_none}
-use Rattle.gl_catalog.proofs.OtherChanges.{enqueued_follows, settled_follows, wait_settles_follows}
-use Rattle.gl_catalog.proofs.RowKeeps.{may_forget}
-use Rattle.gl_catalog.proofs.StepsKeepLaw.{steps_keep_law}
+use Rattle.gl_steps.specs.Step.{Accepts, Run, Step}
+use Rattle.gl_steps.specs.Tests.{refusal_of, tests_of}
+use Rattle.gl_steps.specs.declared.command.Answer.{Answer}
+use Rattle.gl_steps.specs.declared.command.Command.{Command}
+use Rattle.gl_steps.specs.declared.command.Command.TheVariants as command
+use Rattle.gl_steps.proofs.EachStep.{each_step}
+use Rattle.gl_steps.proofs.MoveCommands.{move_moves, rekey_moves}
+use Rattle.gl_steps.proofs.OneStep.{all_none}
+use Rattle.gl_steps.proofs.OtherChanges.{enqueued_follows, settled_follows, wait_settles_follows}
+use Rattle.gl_steps.proofs.RowKeeps.{may_forget}
+use Rattle.gl_steps.proofs.StepsKeepLaw.{steps_keep_law}
 use Rattle.gl_registry.proofs.KeptIndexes.{KeepsIndexes, born_keeps, changed_keeps, keeps_itself, keeps_trans, marked_keeps, removed_keeps}
 
 -- the same graph

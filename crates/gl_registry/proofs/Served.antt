@@ -8,19 +8,19 @@ use Rattle.gl_model.specs.declared.txn.TxnId.{TxnId}
 use Rattle.gl_model.specs.Lawful.{IsLawful}
 use Rattle.gl_model.specs.State.{State, lives}
 use Rattle.gl_model.specs.Tellings.{Told}
-use Rattle.gl_catalog.specs.declared.command.Answer.{Answer}
-use Rattle.gl_catalog.specs.declared.command.Command.{Command}
-use Rattle.gl_catalog.specs.declared.command.Command.TheVariants as command
+use Rattle.gl_steps.specs.declared.command.Answer.{Answer}
+use Rattle.gl_steps.specs.declared.command.Command.{Command}
+use Rattle.gl_steps.specs.declared.command.Command.TheVariants as command
 use Rattle.gl_catalog.specs.declared.manager.paths.Reached.{Reached}
 use Rattle.gl_catalog.specs.Manager.{ManagerView, state_of}
 use Rattle.gl_catalog.specs.Paths.{Ask, IsPath, lock_of, reaching}
-use Rattle.gl_catalog.specs.Promises.{names, same_txn, told_granted}
+use Rattle.gl_steps.specs.Promises.{names, same_txn, told_granted}
 use Rattle.gl_catalog.specs.Replies.{Says, said}
-use Rattle.gl_catalog.specs.Step.{Goes, Run, Step}
-use Rattle.gl_catalog.specs.Tests.{refusal_of}
-use Rattle.gl_catalog.proofs.OthersKeep.{KeepsOver, over_trans, run_keeps}
+use Rattle.gl_steps.specs.Step.{Goes, Run, Step}
+use Rattle.gl_steps.specs.Tests.{refusal_of}
+use Rattle.gl_steps.proofs.OthersKeep.{KeepsOver, over_trans, run_keeps}
 use Rattle.gl_catalog.proofs.PathRuns.{told_nobody}
-use Rattle.gl_catalog.proofs.StepsKeepLaw.{runs_keep_law}
+use Rattle.gl_steps.proofs.StepsKeepLaw.{runs_keep_law}
 use Rattle.gl_registry.specs.declared.call.RowCall.{RowCall}
 use Rattle.gl_registry.specs.declared.call.RowCall.TheVariants as call
 use Rattle.gl_registry.specs.Applying.{CarriesOut, Stays, StepsAmid, Upkeep, answer_in, is_upkeep, naming, own_command}

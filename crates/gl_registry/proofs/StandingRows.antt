@@ -18,7 +18,7 @@ use Rattle.gl_graph.proofs.Removed.{rec_live}
 use Rattle.gl_model.specs.Lawful.{EffS, EffX, IsLawful, eff_s, eff_x, effective, is_at_least_effect, is_read}
 use Rattle.gl_model.specs.State.{State, no_parents}
 use Rattle.gl_model.proofs.law.Effects.{all_from, eff_s_route, eff_x_any, read_on_eff}
-use Rattle.gl_catalog.proofs.Keeps.{greater_effect}
+use Rattle.gl_steps.proofs.Keeps.{greater_effect}
 use Rattle.gl_registry.proofs.RowEffects.{OfEach, all_more, as_one, read_by, reads_at, row_parents_live, there_s, there_x, writes_at, x_there}
 use Rattle.gl_registry.specs.Promises.{RecordsHaveRowEffects, reads_row, row_effect, writes_row}
 

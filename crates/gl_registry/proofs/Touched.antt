@@ -24,16 +24,16 @@ use Rattle.gl_model.specs.State.{State, status_of}
 use Rattle.gl_model.specs.Tellings.{Told}
 use Rattle.gl_model.proofs.telling.Follows.{lawful_waits}
 use Rattle.gl_catalog.specs.Manager.{state_of}
-use Rattle.gl_catalog.specs.Step.{Accepts, Step}
-use Rattle.gl_catalog.specs.Tests.{refusal_of, tests_of, worn}
-use Rattle.gl_catalog.specs.declared.command.Answer.{Answer}
-use Rattle.gl_catalog.specs.declared.command.Command.{Command}
-use Rattle.gl_catalog.specs.declared.command.Command.TheVariants as command
-use Rattle.gl_catalog.proofs.EachStep.{each_step}
-use Rattle.gl_catalog.proofs.MoveCommands.{move_moves}
-use Rattle.gl_catalog.proofs.OneStep.{all_none}
-use Rattle.gl_catalog.proofs.OtherChanges.{settled_follows}
-use Rattle.gl_catalog.proofs.RowKeeps.{may_forget}
+use Rattle.gl_steps.specs.Step.{Accepts, Step}
+use Rattle.gl_steps.specs.Tests.{refusal_of, tests_of, worn}
+use Rattle.gl_steps.specs.declared.command.Answer.{Answer}
+use Rattle.gl_steps.specs.declared.command.Command.{Command}
+use Rattle.gl_steps.specs.declared.command.Command.TheVariants as command
+use Rattle.gl_steps.proofs.EachStep.{each_step}
+use Rattle.gl_steps.proofs.MoveCommands.{move_moves}
+use Rattle.gl_steps.proofs.OneStep.{all_none}
+use Rattle.gl_steps.proofs.OtherChanges.{settled_follows}
+use Rattle.gl_steps.proofs.RowKeeps.{may_forget}
 use Rattle.gl_registry.specs.Names.{NamesHold}
 use Rattle.gl_registry.specs.Rows.{RegistryView, has_rows, name_of}
 use Rattle.gl_registry.specs.Serving.{touches_rows}

@@ -8,12 +8,12 @@ use Rattle.gl_model.specs.Calls.{accepted_once}
 use Rattle.gl_model.specs.Lawful.{IsLawful}
 use Rattle.gl_model.specs.State.{State}
 use Rattle.gl_model.specs.Tellings.{Told}
-use Rattle.gl_catalog.proofs.StepsKeepLaw.{runs_keep_law}
-use Rattle.gl_catalog.specs.declared.command.Answer.{Answer}
-use Rattle.gl_catalog.specs.declared.command.Command.{Command}
-use Rattle.gl_catalog.specs.declared.command.Command.TheVariants as command
-use Rattle.gl_catalog.specs.Step.{Goes, Step}
-use Rattle.gl_catalog.specs.Tests.{refusal_of}
+use Rattle.gl_steps.proofs.StepsKeepLaw.{runs_keep_law}
+use Rattle.gl_steps.specs.declared.command.Answer.{Answer}
+use Rattle.gl_steps.specs.declared.command.Command.{Command}
+use Rattle.gl_steps.specs.declared.command.Command.TheVariants as command
+use Rattle.gl_steps.specs.Step.{Goes, Step}
+use Rattle.gl_steps.specs.Tests.{refusal_of}
 use Rattle.gl_registry.specs.Applying.{Upkeep, is_upkeep}
 use Rattle.gl_registry.specs.Locking.{Line, Runs}
 

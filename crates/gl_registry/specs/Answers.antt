@@ -1,6 +1,6 @@
 -- What is answered to calls about rows, by what they come to.
 use Rattle.std.specs.Prelude.{Result, Ok, Err}
-use Rattle.gl_catalog.specs.declared.command.Answer.TheVariants as answer
+use Rattle.gl_steps.specs.declared.command.Answer.TheVariants as answer
 use Rattle.gl_registry.specs.declared.answer.RowAnswer.{RowAnswer}
 use Rattle.gl_registry.specs.declared.answer.RowAnswer.TheVariants as row_answer
 use Rattle.gl_registry.specs.declared.answer.RowLocked.{RowLocked}

@@ -5,7 +5,7 @@ use Rattle.gl_modes.specs.declared.node.NodeId.{NodeId}
 use Rattle.gl_modes.specs.Nodes.{same_node}
 use Rattle.gl_modes.specs.declared.refusal.Refusal.{Refusal}
 use Rattle.gl_modes.specs.declared.refusal.Refusal.TheVariants as no
-use Rattle.gl_catalog.specs.declared.command.Command.TheVariants as command
+use Rattle.gl_steps.specs.declared.command.Command.TheVariants as command
 use Rattle.gl_catalog.specs.Manager.{ManagerView}
 use Rattle.gl_catalog.specs.Replies.{made}
 use Rattle.gl_registry.specs.Locking.{Does, IsRefused, Refused}

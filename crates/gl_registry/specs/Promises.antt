@@ -12,13 +12,13 @@ use Rattle.gl_model.specs.declared.txn.TxnId.{TxnId}
 use Rattle.gl_model.specs.Lawful.{IsLawful, effective, is_at_least_effect}
 use Rattle.gl_model.specs.State.{State, lives}
 use Rattle.gl_model.specs.Tellings.{Told}
-use Rattle.gl_catalog.specs.declared.command.Answer.{Answer}
-use Rattle.gl_catalog.specs.declared.command.Command.{Command}
+use Rattle.gl_steps.specs.declared.command.Answer.{Answer}
+use Rattle.gl_steps.specs.declared.command.Command.{Command}
 use Rattle.gl_catalog.specs.declared.manager.paths.Reached.{Reached}
-use Rattle.gl_catalog.specs.Promises.{is_grant_to, names, same_txn, told_granted}
+use Rattle.gl_steps.specs.Promises.{is_grant_to, names, same_txn, told_granted}
 use Rattle.gl_catalog.specs.Manager.{state_of}
 use Rattle.gl_catalog.specs.Paths.{Ask}
-use Rattle.gl_catalog.specs.Step.{Run}
+use Rattle.gl_steps.specs.Step.{Run}
 use Rattle.gl_registry.specs.declared.answer.RowAnswer.{RowAnswer}
 use Rattle.gl_registry.specs.declared.call.RowCall.{RowCall}
 use Rattle.gl_registry.specs.declared.row.Row.{Row}

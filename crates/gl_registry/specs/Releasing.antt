@@ -9,11 +9,11 @@ use Rattle.gl_graph.specs.Graph.{Graph, is_live}
 use Rattle.gl_model.specs.declared.txn.TxnId.{TxnId}
 use Rattle.gl_model.specs.State.{State}
 use Rattle.gl_model.specs.Tellings.{Told}
-use Rattle.gl_catalog.specs.declared.command.Command.{Command}
-use Rattle.gl_catalog.specs.declared.command.Command.TheVariants as command
+use Rattle.gl_steps.specs.declared.command.Command.{Command}
+use Rattle.gl_steps.specs.declared.command.Command.TheVariants as command
 use Rattle.gl_catalog.specs.Manager.{ManagerView, state_of}
 use Rattle.gl_catalog.specs.Replies.{Says, doing}
-use Rattle.gl_catalog.specs.Tests.{refusal_of}
+use Rattle.gl_steps.specs.Tests.{refusal_of}
 use Rattle.gl_registry.specs.declared.answer.RowRefusal.{RowRefusal}
 use Rattle.gl_registry.specs.declared.answer.RowRefusal.TheVariants as row_no
 use Rattle.gl_registry.specs.declared.row.Row.{Row}

@@ -5,10 +5,10 @@ use Rattle.std.proofs.Common.{refl, sym, ap, subst, ◌∙◌, arith}
 use Rattle.std.proofs.lemmas.List.{length-append, map-append, take_more}
 use Rattle.gl_modes.proofs.Words.{and_both}
 use Rattle.gl_model.specs.Tellings.{Told}
-use Rattle.gl_catalog.specs.declared.command.Answer.{Answer}
-use Rattle.gl_catalog.specs.declared.command.Command.{Command}
+use Rattle.gl_steps.specs.declared.command.Answer.{Answer}
+use Rattle.gl_steps.specs.declared.command.Command.{Command}
 use Rattle.gl_catalog.specs.Manager.{state_of}
-use Rattle.gl_catalog.specs.Step.{Step}
+use Rattle.gl_steps.specs.Step.{Step}
 use Rattle.gl_shared.specs.Batches.{Serves, ServesEach, ServesOne, Stops, accepted_in, goes_on, one_if}
 use Rattle.gl_boxes.specs.Served.{accepts, leaves_waiting}
 use Rattle.gl_boxes.specs.Boxes.{Delivers, Slot, cleared}

@@ -5,11 +5,11 @@ use Rattle.gl_waits.specs.declared.board.Board.{Board}
 use Rattle.gl_table.specs.Table.{board_of}
 use Rattle.gl_model.specs.State.{State}
 use Rattle.gl_model.specs.Tellings.{Told}
-use Rattle.gl_catalog.specs.declared.command.Answer.{Answer}
-use Rattle.gl_catalog.specs.declared.command.Command.{Command}
+use Rattle.gl_steps.specs.declared.command.Answer.{Answer}
+use Rattle.gl_steps.specs.declared.command.Command.{Command}
 use Rattle.gl_catalog.specs.Manager.{IsLawfulManager, ManagerView, state_of}
-use Rattle.gl_catalog.specs.Promises.{NobodyWaits}
-use Rattle.gl_catalog.specs.Step.{Step}
+use Rattle.gl_steps.specs.Promises.{NobodyWaits}
+use Rattle.gl_steps.specs.Step.{Step}
 use Rattle.gl_boxes.specs.Boards.{EndsIdle}
 use Rattle.gl_waits.specs.Boards.{ShowsNobody}
 use Rattle.gl_boxes.specs.Served.{leaves_waiting}

@@ -31,11 +31,11 @@ use Rattle.gl_model.proofs.law.Takes.{condemned-lawful, restatus_is, without_wai
 use Rattle.gl_model.proofs.telling.Ways.{woken_up}
 use Rattle.gl_table.proofs.inside.Boards.{cycle_waits}
 use Rattle.gl_model.proofs.queues.Waiters.{granted_mode, last_mode}
-use Rattle.gl_catalog.specs.declared.command.Answer.{Answer}
-use Rattle.gl_catalog.specs.declared.command.Answer.TheVariants as answer
-use Rattle.gl_catalog.specs.declared.command.Command.TheVariants as command
-use Rattle.gl_catalog.specs.Step.{Goes, Step, Unchanged, lock_answer}
-use Rattle.gl_catalog.specs.Tests.{may_want_memory, refusal_of, worn}
+use Rattle.gl_steps.specs.declared.command.Answer.{Answer}
+use Rattle.gl_steps.specs.declared.command.Answer.TheVariants as answer
+use Rattle.gl_steps.specs.declared.command.Command.TheVariants as command
+use Rattle.gl_steps.specs.Step.{Goes, Step, Unchanged, lock_answer}
+use Rattle.gl_steps.specs.Tests.{may_want_memory, refusal_of, worn}
 
 -- who does not wait is on no cycle, so it is settled as it stands
 idle_done : (c : Victims) (k : ℕ) (s s' : State) (t : ℕ) → is_wait (status_of s t) ≡ false → SettledWithin c k s t s' → s' ≡ s

@@ -1,8 +1,8 @@
 -- What a lock does to a session's share, and what it gives.
 use Rattle.std.proofs.Common.{◌≡◌, ℕ, ◌+◌, ◌≤◌, Bool, true, false, Result, Ok, Err, MatchResult, MatchBool, arith, refl}
 use Rattle.gl_modes.specs.declared.refusal.Refusal.{Refusal}
-use Rattle.gl_catalog.specs.declared.command.Answer.{Answer}
-use Rattle.gl_catalog.specs.declared.command.Answer.TheVariants as answer
+use Rattle.gl_steps.specs.declared.command.Answer.{Answer}
+use Rattle.gl_steps.specs.declared.command.Answer.TheVariants as answer
 use Rattle.gl_boxes.specs.declared.grant.Grant.{Grant}
 use Rattle.gl_boxes.specs.declared.grant.Stop.{Stop}
 use Rattle.gl_modes.specs.declared.mode.Mode.{Mode}

@@ -8,11 +8,11 @@ use Rattle.gl_modes.specs.declared.mode.Mode.{Mode}
 use Rattle.gl_modes.specs.declared.node.NodeId.{NodeId}
 use Rattle.gl_model.specs.declared.txn.TxnId.{TxnId}
 use Rattle.gl_model.specs.Tellings.{Told}
-use Rattle.gl_catalog.specs.declared.command.Answer.{Answer}
-use Rattle.gl_catalog.specs.declared.command.Answer.TheVariants as answer
-use Rattle.gl_catalog.specs.declared.command.Command.{Command}
+use Rattle.gl_steps.specs.declared.command.Answer.{Answer}
+use Rattle.gl_steps.specs.declared.command.Answer.TheVariants as answer
+use Rattle.gl_steps.specs.declared.command.Command.{Command}
 use Rattle.gl_catalog.specs.Manager.{IsLawfulManager, ManagerView, state_of}
-use Rattle.gl_catalog.specs.Step.{Step}
+use Rattle.gl_steps.specs.Step.{Step}
 use Rattle.gl_boxes.specs.declared.grant.Grant.{Grant}
 use Rattle.gl_boxes.specs.declared.grant.Stop.{Stop}
 use Rattle.gl_boxes.specs.declared.grant.Stop.TheVariants as stop

@@ -3,7 +3,7 @@ use Rattle.std.specs.Prelude.{◌≡◌, ℕ, Bool, false, List, [], ◌∷◌, 
 use Rattle.gl_waits.specs.declared.board.Board.{Board}
 use Rattle.gl_model.specs.State.{State}
 use Rattle.gl_catalog.specs.Manager.{ManagerView}
-use Rattle.gl_catalog.specs.Promises.{NobodyWaits}
+use Rattle.gl_steps.specs.Promises.{NobodyWaits}
 use Rattle.gl_boxes.specs.Boards.{EndsIdle}
 use Rattle.gl_waits.specs.Boards.{ShowsNobody}
 use Rattle.gl_boxes.specs.Boxes.{Slot}

@@ -7,11 +7,11 @@ ghost use Rattle.gl_modes.specs.Modes.{is_at_least};
 ghost use Rattle.gl_table.specs.Table.{board_of};
 ghost use Rattle.gl_model.specs.declared.answers.Detect.TheVariants.{AtBlock};
 ghost use Rattle.gl_model.specs.State.{is_waiting_at, lives, HasNoCycle};
-ghost use Rattle.gl_catalog.specs.declared.command.Answer.TheVariants.{Granted};
-ghost use Rattle.gl_catalog.specs.declared.command.Command.TheVariants.{Lock};
+ghost use Rattle.gl_steps.specs.declared.command.Answer.TheVariants.{Granted};
+ghost use Rattle.gl_steps.specs.declared.command.Command.TheVariants.{Lock};
 ghost use Rattle.gl_catalog.specs.Manager.{IsLawfulManager, state_of};
-ghost use Rattle.gl_catalog.specs.Promises.{KeepsCaller};
-ghost use Rattle.gl_catalog.specs.Step.{Step};
+ghost use Rattle.gl_steps.specs.Promises.{KeepsCaller};
+ghost use Rattle.gl_steps.specs.Step.{Step};
 ghost use Rattle.gl_boxes.specs.Boxes.{Delivers, Slot, cleared, verdict_of};
 ghost use Rattle.gl_boxes.specs.Served.{RisingTo, accepts, is_refused, leaves_waiting};
 ghost use Rattle.gl_boxes.specs.Tellings.{is_due};
@@ -59,7 +59,7 @@ impl<N: Naming> Model for Guarded<N> {
     ghost use Rattle.std.specs.Prelude.{◌≡◌, ◌+◌, ◌≤◌};
     ghost use Rattle.std.specs.Prelude.{false};
     ghost use Rattle.gl_catalog.specs.Manager.{state_of};
-    ghost use Rattle.gl_catalog.specs.Promises.{NobodyWaits};
+    ghost use Rattle.gl_steps.specs.Promises.{NobodyWaits};
     ghost use Rattle.gl_boxes.specs.Boards.{EndsIdle, last_epoch};
     ghost use Rattle.gl_shared.specs.State.{GuardedView};
 

@@ -3,8 +3,8 @@
 ghost use Rattle.std.specs.Prelude.{◌≡◌, ◌+◌, ◌≤◌, ◌<◌, ◌⊎◌, [], true, false, IfSome, IfOk, MatchResult, MatchBool};
 ghost use Rattle.gl_modes.specs.Modes.{is_at_least};
 ghost use Rattle.gl_model.specs.Tellings.{Told as Notices};
-ghost use Rattle.gl_catalog.specs.declared.command.Answer.{Answer as AnAnswer};
-ghost use Rattle.gl_catalog.specs.declared.command.Command.TheVariants.{Lock};
+ghost use Rattle.gl_steps.specs.declared.command.Answer.{Answer as AnAnswer};
+ghost use Rattle.gl_steps.specs.declared.command.Command.TheVariants.{Lock};
 ghost use Rattle.gl_catalog.specs.Manager.{IsLawfulManager};
 ghost use Rattle.gl_boxes.specs.Boards.{last_epoch};
 ghost use Rattle.gl_boxes.specs.Served.{accepts, is_refused};

@@ -8,7 +8,7 @@ ghost use Rattle.gl_window.specs.Window.{GoesOn};
 use crate::watcher::Watcher;
 use crate::window::Window;
 use gl_boxes::{Head, Line};
-use gl_table::Detect;
+use gl_model::Detect;
 use gl_waits::Board;
 use std::alloc::{AllocError, Global};
 use std::marker::Model;

@@ -3,7 +3,7 @@
 ghost use Rattle.std.specs.Prelude.{◌≡◌};
 ghost use Rattle.gl_words.specs.Planned.{plain, plan_of};
 
-use gl_table::Detect;
+use gl_model::Detect;
 use gl_waits::Victims;
 
 /// How a script is answered: how deadlocks are found, whom they take, and whether it has the listings.

@@ -8,7 +8,7 @@ ghost use Rattle.gl_words.specs.declared.requests.Asked.{Asked as WhatIsAsked};
 use crate::requests::{Asked, Choices, Plan};
 use clap::error::ErrorKind;
 use clap::{Arg, ArgAction, Command};
-use gl_table::Detect;
+use gl_model::Detect;
 use gl_waits::Victims;
 use std::alloc::{AllocError, Global};
 use std::convert::AsStr;

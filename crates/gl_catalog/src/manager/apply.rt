@@ -5,11 +5,11 @@ ghost use Rattle.gl_catalog.specs.Deadlocks.{KeepsDeadlock};
 ghost use Rattle.gl_catalog.specs.Completes.{IsCarriedOut};
 ghost use Rattle.gl_catalog.specs.Counters.{counted};
 ghost use Rattle.gl_catalog.specs.Manager.{state_of};
-ghost use Rattle.gl_catalog.specs.Promises.{KeepsCaller, SettlesIdle, StepLeavesOthers};
-ghost use Rattle.gl_catalog.specs.Step.{Step};
+ghost use Rattle.gl_steps.specs.Promises.{KeepsCaller, SettlesIdle, StepLeavesOthers};
+ghost use Rattle.gl_steps.specs.Step.{Step};
 
 use super::Manager;
-use crate::command::{Answer, Command, Reply};
+use gl_steps::{Answer, Command, Reply};
 use crate::replies::{
     begun_answer, done_answer, effect_answer, escalate_answer, lock_answer, mode_answer,
     node_answer, try_answer,

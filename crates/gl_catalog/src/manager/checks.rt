@@ -8,7 +8,7 @@ ghost use Rattle.gl_model.specs.Calls.{commit_tests, first_not_ix};
 ghost use Rattle.gl_model.specs.State.{lives};
 ghost use Rattle.gl_catalog.specs.Adopting.{worn_twice};
 ghost use Rattle.gl_catalog.specs.Manager.{state_of};
-ghost use Rattle.gl_catalog.specs.Tests.{worn};
+ghost use Rattle.gl_steps.specs.Tests.{worn};
 
 use super::Manager;
 use gl_modes::{Mode, NodeId, Refusal, covers};

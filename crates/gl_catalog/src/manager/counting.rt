@@ -3,7 +3,7 @@
 ghost use Rattle.std.specs.Prelude.{◌≡◌, if◌then◌else◌, length};
 ghost use Rattle.gl_catalog.specs.Counters.{holds_already, lock_counted, waiting_in, waits};
 ghost use Rattle.gl_catalog.specs.Manager.{state_of};
-ghost use Rattle.gl_catalog.specs.Step.{answer_of_lock};
+ghost use Rattle.gl_steps.specs.Step.{answer_of_lock};
 
 use super::Manager;
 use crate::counters::Counters;

@@ -2,17 +2,17 @@
 
 ghost use Rattle.std.specs.Prelude.{◌≡◌, ◌+◌, ◌∷◌, [], IfOk, OnErr, OnOk};
 ghost use Rattle.gl_graph.specs.Refusals.{first_refusal, verdict};
-ghost use Rattle.gl_catalog.specs.declared.command.Command.TheVariants as command;
+ghost use Rattle.gl_steps.specs.declared.command.Command.TheVariants as command;
 ghost use Rattle.gl_catalog.specs.Completes.{Completes};
 ghost use Rattle.gl_catalog.specs.Deadlocks.{KeepsAccepted};
 ghost use Rattle.gl_catalog.specs.Counters.{counted};
 ghost use Rattle.gl_catalog.specs.Manager.{state_of};
-ghost use Rattle.gl_catalog.specs.Promises.{KeepsCaller, StepLeavesOthers};
+ghost use Rattle.gl_steps.specs.Promises.{KeepsCaller, StepLeavesOthers};
 ghost use Rattle.gl_catalog.specs.Replies.{CallSteps, rising, rose, said};
-ghost use Rattle.gl_catalog.specs.Tests.{escalate_asks, worn};
+ghost use Rattle.gl_steps.specs.Tests.{escalate_asks, worn};
 
 use super::Manager;
-use crate::command::Escalated;
+use gl_steps::Escalated;
 use gl_graph::Kind;
 use gl_modes::{Mode, NodeId, Refusal};
 use gl_table::{Told, TxnId};

@@ -7,14 +7,14 @@ ghost use Rattle.gl_graph.specs.Refusals.{bad_parents, first_refusal, verdict};
 ghost use Rattle.gl_graph.specs.Shapes.{is_index_of_shape, is_movable_shape, is_record_shape, least_parents};
 ghost use Rattle.gl_model.specs.Calls.{holds_x_on_all, need_exclusive, need_new_parents};
 ghost use Rattle.gl_model.specs.State.{lives};
-ghost use Rattle.gl_catalog.specs.declared.command.Command.TheVariants as command;
+ghost use Rattle.gl_steps.specs.declared.command.Command.TheVariants as command;
 ghost use Rattle.gl_catalog.specs.Completes.{Completes};
 ghost use Rattle.gl_catalog.specs.Deadlocks.{KeepsAccepted};
 ghost use Rattle.gl_catalog.specs.Counters.{counted};
 ghost use Rattle.gl_catalog.specs.Manager.{state_of};
-ghost use Rattle.gl_catalog.specs.Promises.{KeepsCaller, StepLeavesOthers};
+ghost use Rattle.gl_steps.specs.Promises.{KeepsCaller, StepLeavesOthers};
 ghost use Rattle.gl_catalog.specs.Replies.{CallSteps, doing, done, said};
-ghost use Rattle.gl_catalog.specs.Tests.{move_asks, refusal_of, worn};
+ghost use Rattle.gl_steps.specs.Tests.{move_asks, refusal_of, worn};
 
 use super::Manager;
 use arrayvec::ArrayVec;

@@ -1,7 +1,7 @@
 //! New nodes of the graph. Each call does what `apply` does for its command, and is refused as it is.
 
 ghost use Rattle.std.specs.Prelude.{◌≡◌, IfOk, OnErr};
-ghost use Rattle.gl_catalog.specs.declared.command.Command.TheVariants as command;
+ghost use Rattle.gl_steps.specs.declared.command.Command.TheVariants as command;
 ghost use Rattle.gl_catalog.specs.Completes.{Completes};
 ghost use Rattle.gl_catalog.specs.Manager.{state_of};
 ghost use Rattle.gl_catalog.specs.Replies.{CallSteps, made};

@@ -20,7 +20,7 @@ ghost use Rattle.gl_catalog.specs.Paths.{
   path_tests,
   reaching,
 };
-ghost use Rattle.gl_catalog.specs.Tests.{worn};
+ghost use Rattle.gl_steps.specs.Tests.{worn};
 
 use super::Manager;
 use arrayvec::ArrayVec;

@@ -4,15 +4,15 @@ ghost use Rattle.std.specs.Prelude.{◌≡◌, ◌+◌, [], IfOk, OnErr, OnOk};
 ghost use Rattle.gl_graph.specs.Graph.{record_parents};
 ghost use Rattle.gl_graph.specs.Refusals.{Refuses, first_refusal, record_refusal, verdict};
 ghost use Rattle.gl_model.specs.Calls.{RefusesOnly};
-ghost use Rattle.gl_catalog.specs.declared.command.Command.TheVariants as command;
+ghost use Rattle.gl_steps.specs.declared.command.Command.TheVariants as command;
 ghost use Rattle.gl_catalog.specs.Adopting.{AdoptsLocked, adopting_tests};
 ghost use Rattle.gl_catalog.specs.Completes.{Completes};
 ghost use Rattle.gl_catalog.specs.Deadlocks.{KeepsAccepted};
 ghost use Rattle.gl_catalog.specs.Counters.{counted};
 ghost use Rattle.gl_catalog.specs.Manager.{state_of};
-ghost use Rattle.gl_catalog.specs.Promises.{StepLeavesOthers};
+ghost use Rattle.gl_steps.specs.Promises.{StepLeavesOthers};
 ghost use Rattle.gl_catalog.specs.Replies.{CallSteps, doing, done, made, said};
-ghost use Rattle.gl_catalog.specs.Tests.{insert_tests, record_asks, refusal_of};
+ghost use Rattle.gl_steps.specs.Tests.{insert_tests, record_asks, refusal_of};
 
 use super::Manager;
 use arrayvec::ArrayVec;

@@ -6,7 +6,7 @@
 //! call changes nothing.
 
 ghost use Rattle.std.specs.Prelude.{◌≡◌, []};
-ghost use Rattle.gl_catalog.specs.declared.command.Command.TheVariants as command;
+ghost use Rattle.gl_steps.specs.declared.command.Command.TheVariants as command;
 ghost use Rattle.gl_catalog.specs.Replies.{doing, rising};
 ghost use Rattle.gl_registry.specs.Releasing.{EndsTxn, GivesBack, RekeysRow, UnlocksRow};
 

@@ -1,7 +1,7 @@
 use Rattle.std.specs.Prelude.{◌≡◌, length, take, vec_capacity, vec_len}
 use Rattle.gl_catalog.specs.Manager.{state_of}
 use Rattle.gl_catalog.specs.Replies.{said_in}
-use Rattle.gl_catalog.specs.Step.{Run}
+use Rattle.gl_steps.specs.Step.{Run}
 use Rattle.gl_catalog.proofs.run.run_commands.Given as goal
 
 -- the commands taken so far ran, each has its reply, and there is room for the others' replies

@@ -1,4 +1,4 @@
-use Rattle.gl_catalog.proofs.Detection.{steps_keep_detect}
+use Rattle.gl_steps.proofs.Detection.{steps_keep_detect}
 use Rattle.gl_crew.proofs.field.carry_out.Goals as goal
 
 pub returns-in-Refused : goal.returns-in-Refused

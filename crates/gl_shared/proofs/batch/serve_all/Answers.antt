@@ -1,9 +1,9 @@
 use Rattle.std.proofs.Common.{arith, ◌≡◌, ◌∙◌, true, ap, length, refl, subst, sym, List}
 use Rattle.std.specs.List.{list_all}
-use Rattle.gl_catalog.specs.declared.command.Answer.{Answer}
+use Rattle.gl_steps.specs.declared.command.Answer.{Answer}
 use Rattle.gl_shared.specs.Batches.{Serves, Stops, goes_on}
 use Rattle.gl_shared.proofs.Batches.{accepted_none, all_more, counted_if, one_longer, serves_next, serves_none, serves_one, share_more, stops_here, stops_whole}
-use Rattle.gl_catalog.proofs.StepsKeepLaw.{steps_keep_law}
+use Rattle.gl_steps.proofs.StepsKeepLaw.{steps_keep_law}
 use Rattle.gl_boxes.proofs.Waking.{ended_more, ended_none, wakes_told}
 use Rattle.gl_shared.proofs.batch.serve_all.Goals as goal
 

@@ -10,7 +10,7 @@ use Rattle.gl_table.specs.Table.{board_of}
 use Rattle.gl_model.specs.State.{State}
 use Rattle.gl_model.specs.Tellings.{Told}
 use Rattle.gl_catalog.specs.Manager.{state_of}
-use Rattle.gl_catalog.proofs.Detection.{steps_keep_detect}
+use Rattle.gl_steps.proofs.Detection.{steps_keep_detect}
 use Rattle.gl_registry.specs.Rows.{RegistryView}
 use Rattle.gl_registry.specs.Serving.{touches_rows}
 use Rattle.gl_boxes.specs.Boxes.{Delivers, Slot, emptied}

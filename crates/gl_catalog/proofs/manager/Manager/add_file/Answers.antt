@@ -4,8 +4,9 @@ use Rattle.gl_modes.specs.declared.node.NodeId.{NodeId}
 use Rattle.gl_modes.specs.declared.refusal.Refusal.{Refusal}
 use Rattle.gl_graph.specs.Refusals.{Refuses, file_refusal}
 use Rattle.gl_table.specs.Table.{state_of as table_state}
-use Rattle.gl_catalog.specs.declared.command.Command.TheVariants as command
-use Rattle.gl_catalog.specs.Manager.{ManagerView, counting}
+use Rattle.gl_steps.specs.declared.command.Command.TheVariants as command
+use Rattle.gl_model.specs.State.{counting}
+use Rattle.gl_catalog.specs.Manager.{ManagerView}
 use Rattle.gl_catalog.specs.Replies.{made}
 use Rattle.gl_graph.proofs.FirstOf.{alone}
 use Rattle.gl_catalog.proofs.Managed.{managed_ok}

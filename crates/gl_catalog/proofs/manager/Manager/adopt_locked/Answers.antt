@@ -5,10 +5,10 @@ use Rattle.gl_modes.specs.declared.node.NodeId.{NodeId}
 use Rattle.gl_modes.specs.declared.refusal.Refusal.{Refusal}
 use Rattle.gl_graph.specs.Changes.{IsAdopted}
 use Rattle.gl_graph.specs.Refusals.{Refuses}
-use Rattle.gl_model.specs.State.{State, with_grant, with_graph}
+use Rattle.gl_model.specs.State.{State, with_grant, with_graph, counting}
 use Rattle.gl_table.specs.Table.{state_of as table_state}
 use Rattle.gl_catalog.specs.Counters.{one_if, rises}
-use Rattle.gl_catalog.specs.Manager.{ManagerView, counting, state_of}
+use Rattle.gl_catalog.specs.Manager.{ManagerView, state_of}
 use Rattle.gl_catalog.proofs.Adopting.{adopts, counts_grant, locks, may_adopt, mid}
 use Rattle.gl_catalog.proofs.Insertions.{goes_none, refused_so}
 use Rattle.gl_catalog.proofs.manager.Manager.adopt_locked.Goals as goal

@@ -1,6 +1,6 @@
 use Rattle.gl_catalog.specs.Manager.{state_of}
 use Rattle.gl_catalog.proofs.Applied.{keeps_caller}
-use Rattle.gl_catalog.proofs.IdleSettle.{settles_idle}
+use Rattle.gl_steps.proofs.IdleSettle.{settles_idle}
 use Rattle.gl_catalog.proofs.RunsOn.{step_leaves_others}
 use Rattle.gl_catalog.proofs.manager.Manager.apply_telling.Goals as goal
 

@@ -1,9 +1,9 @@
 use Rattle.std.proofs.Common.{refl, subst}
-use Rattle.gl_catalog.specs.declared.command.Answer.TheVariants as answer
-use Rattle.gl_catalog.specs.declared.command.Command.TheVariants as command
+use Rattle.gl_steps.specs.declared.command.Answer.TheVariants as answer
+use Rattle.gl_steps.specs.declared.command.Command.TheVariants as command
 use Rattle.gl_catalog.specs.Manager.{ManagerView, state_of}
 use Rattle.gl_catalog.specs.Replies.{CallSteps, read_effect, read_mode}
-use Rattle.gl_catalog.specs.Step.{answer_of_lock}
+use Rattle.gl_steps.specs.Step.{answer_of_lock}
 use Rattle.gl_catalog.proofs.Applied.{answered_step, asked_step, carries_query, carries_quietly, carries_telling, insert_completes, keeps_locked}
 use Rattle.gl_catalog.proofs.Uncounted.{raised_by_none}
 use Rattle.gl_catalog.proofs.manager.Manager.carry_out.Goals as goal

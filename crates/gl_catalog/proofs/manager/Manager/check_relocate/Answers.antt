@@ -11,7 +11,7 @@ use Rattle.gl_graph.specs.Refusals.{first_refusal, verdict}
 use Rattle.gl_graph.specs.View.{View, graph_of}
 use Rattle.gl_model.specs.Calls.{need_exclusive, need_new_parents, some_given}
 use Rattle.gl_catalog.specs.Manager.{ManagerView, state_of}
-use Rattle.gl_catalog.specs.Tests.{move_asks, worn}
+use Rattle.gl_steps.specs.Tests.{move_asks, worn}
 use Rattle.gl_catalog.proofs.MoveChecks.{move_kinds, some_given-is}
 use Rattle.gl_catalog.proofs.manager.Manager.check_relocate.Goals.{After-can_lie_under, After-check_move, then-not-is_empty, else-not-is_empty}
 use Rattle.gl_catalog.proofs.manager.Manager.check_relocate.Goals as goal

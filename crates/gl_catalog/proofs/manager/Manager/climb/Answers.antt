@@ -5,7 +5,7 @@ use Rattle.gl_graph.specs.Graph.{node_count}
 use Rattle.gl_graph.specs.View.{graph_of}
 use Rattle.gl_catalog.specs.Manager.{state_of}
 use Rattle.gl_catalog.specs.Paths.{Ask, next_ask, parent_wanted}
-use Rattle.gl_catalog.specs.Tests.{worn}
+use Rattle.gl_steps.specs.Tests.{worn}
 use Rattle.gl_catalog.proofs.Climbing.{climb_ends}
 use Rattle.gl_catalog.proofs.KeptWays.{next_kept, way_kept}
 use Rattle.gl_catalog.proofs.PathSteps.{ClimbsIn, full_wants, one_up}

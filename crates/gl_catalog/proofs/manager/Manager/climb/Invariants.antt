@@ -1,7 +1,7 @@
 use Rattle.std.specs.Prelude.{◌≡◌, None}
 use Rattle.gl_catalog.specs.Manager.{state_of}
 use Rattle.gl_catalog.specs.Paths.{KeepsWay, next_ask}
-use Rattle.gl_catalog.specs.Tests.{worn}
+use Rattle.gl_steps.specs.Tests.{worn}
 use Rattle.gl_catalog.proofs.PathSteps.{ClimbsIn}
 use Rattle.gl_catalog.proofs.manager.Manager.climb.Given as goal
 

@@ -1,11 +1,12 @@
 use Rattle.std.proofs.Common.{◌+◌, ap, refl, ◌∙◌}
 use Rattle.gl_model.specs.Calls.{commit_tests}
 use Rattle.gl_table.specs.Table.{state_of as table_state}
-use Rattle.gl_catalog.specs.declared.command.Command.TheVariants as command
-use Rattle.gl_catalog.specs.Manager.{ManagerView, counting}
+use Rattle.gl_steps.specs.declared.command.Command.TheVariants as command
+use Rattle.gl_model.specs.State.{counting}
+use Rattle.gl_catalog.specs.Manager.{ManagerView}
 use Rattle.gl_catalog.specs.Replies.{doing}
 use Rattle.gl_catalog.proofs.Managed.{managed_ok_only}
-use Rattle.gl_catalog.specs.declared.command.Answer.TheVariants as answer
+use Rattle.gl_steps.specs.declared.command.Answer.TheVariants as answer
 use Rattle.gl_catalog.specs.Sound.{view_of}
 use Rattle.gl_catalog.proofs.Completed.{notices_counted, told_completed}
 use Rattle.gl_catalog.proofs.manager.Manager.commit_telling.Goals as goal

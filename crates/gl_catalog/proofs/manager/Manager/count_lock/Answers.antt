@@ -4,7 +4,7 @@ use Rattle.gl_catalog.specs.declared.counters.Counters.{Counters}
 use Rattle.gl_catalog.specs.Counters.{lock_counted, waiting_in, waits, with_notices}
 use Rattle.gl_catalog.specs.Manager.{ManagerView, state_of}
 use Rattle.gl_catalog.specs.Sound.{view_of}
-use Rattle.gl_catalog.specs.Step.{answer_of_lock}
+use Rattle.gl_steps.specs.Step.{answer_of_lock}
 use Rattle.gl_catalog.proofs.Completed.{lock_noted}
 use Rattle.gl_catalog.proofs.manager.Manager.count_lock.Goals as goal
 

@@ -4,13 +4,14 @@ use Rattle.gl_graph.specs.Refusals.{first_refusal}
 use Rattle.gl_model.specs.Calls.{asked_by_escalation}
 use Rattle.gl_table.specs.Table.{state_of as table_state}
 use Rattle.gl_table.proofs.calls.Calls.{test_passed}
-use Rattle.gl_catalog.specs.declared.command.Command.TheVariants as command
-use Rattle.gl_catalog.specs.declared.command.Escalated.{Escalated}
+use Rattle.gl_steps.specs.declared.command.Command.TheVariants as command
+use Rattle.gl_steps.specs.declared.command.Escalated.{Escalated}
 use Rattle.gl_catalog.specs.Counters.{rises, with_notices}
-use Rattle.gl_catalog.specs.Manager.{IsLawfulManager, ManagerView, counting, state_of}
+use Rattle.gl_model.specs.State.{counting}
+use Rattle.gl_catalog.specs.Manager.{IsLawfulManager, ManagerView, state_of}
 use Rattle.gl_catalog.specs.Replies.{CallSteps, rising}
 use Rattle.gl_catalog.specs.Sound.{view_of}
-use Rattle.gl_catalog.specs.Tests.{escalate_asks, worn}
+use Rattle.gl_steps.specs.Tests.{escalate_asks, worn}
 use Rattle.gl_catalog.proofs.Completed.{completed, escalation_counted}
 use Rattle.gl_catalog.proofs.Raising.{asked_is, asks_err, raised_active, raised_lives, reads, shed_step, tried_err}
 use Rattle.gl_catalog.proofs.manager.Manager.escalate_telling.Goals.{After-try_lock, then-writes_below, else-writes_below}

@@ -3,7 +3,7 @@ use Rattle.std.proofs.Common.{◌+◌, ap, refl, ◌∙◌}
 use Rattle.std.proofs.lemmas.Result.{err_from_is_err_and}
 use Rattle.gl_graph.proofs.Unrefused.{verdict_ok}
 use Rattle.gl_table.proofs.calls.Locking.{test_refused}
-use Rattle.gl_catalog.specs.declared.command.Command.TheVariants as command
+use Rattle.gl_steps.specs.declared.command.Command.TheVariants as command
 use Rattle.gl_catalog.specs.Manager.{ManagerView, state_of}
 use Rattle.gl_catalog.specs.Replies.{doing}
 use Rattle.gl_catalog.specs.Sound.{view_of}

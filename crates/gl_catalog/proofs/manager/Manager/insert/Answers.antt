@@ -8,12 +8,12 @@ use Rattle.gl_graph.proofs.Unrefused.{verdict_ok}
 use Rattle.arrayvec.specs.ArrayVec.{ArrayVec}
 use Rattle.gl_model.specs.Calls.{first_not_ix}
 use Rattle.gl_table.specs.Table.{state_of as table_state}
-use Rattle.gl_model.specs.State.{State}
+use Rattle.gl_model.specs.State.{State, counting}
 use Rattle.gl_table.proofs.calls.Locking.{unrefused}
-use Rattle.gl_catalog.specs.declared.command.Command.TheVariants as command
-use Rattle.gl_catalog.specs.Manager.{ManagerView, counting, state_of}
+use Rattle.gl_steps.specs.declared.command.Command.TheVariants as command
+use Rattle.gl_catalog.specs.Manager.{ManagerView, state_of}
 use Rattle.gl_catalog.specs.Replies.{CallSteps, made}
-use Rattle.gl_catalog.specs.Tests.{insert_tests}
+use Rattle.gl_steps.specs.Tests.{insert_tests}
 use Rattle.gl_catalog.proofs.Carried.{refused_step}
 use Rattle.gl_catalog.proofs.Insertions.{MayInsert, goes_none, may_insert, refused_so}
 use Rattle.gl_catalog.proofs.Managed.{managed_err_or_memory, managed_ok}

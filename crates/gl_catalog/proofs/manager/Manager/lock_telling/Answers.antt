@@ -9,13 +9,14 @@ use Rattle.gl_model.specs.Deadlocks.{LocksKeeping}
 use Rattle.gl_model.specs.Calls.{lock_tests}
 use Rattle.gl_table.specs.Table.{state_of as table_state}
 use Rattle.gl_table.proofs.calls.Locking.{refuses_err, refuses_ok}
-use Rattle.gl_catalog.specs.declared.command.Command.TheVariants as command
+use Rattle.gl_steps.specs.declared.command.Command.TheVariants as command
 use Rattle.gl_catalog.specs.Completes.{Completes}
 use Rattle.gl_catalog.specs.Counters.{holds_already, lock_counted}
-use Rattle.gl_catalog.specs.Manager.{IsLawfulManager, ManagerView, counting, state_of}
+use Rattle.gl_model.specs.State.{counting}
+use Rattle.gl_catalog.specs.Manager.{IsLawfulManager, ManagerView, state_of}
 use Rattle.gl_catalog.specs.Replies.{CallSteps, asking}
-use Rattle.gl_catalog.specs.Step.{answer_of_lock}
-use Rattle.gl_catalog.proofs.Counting.{locks_counting, locks_keeping_counting}
+use Rattle.gl_steps.specs.Step.{answer_of_lock}
+use Rattle.gl_steps.proofs.Counting.{locks_counting, locks_keeping_counting}
 use Rattle.gl_catalog.proofs.Managed.{managed_err_or_memory, managed_ok, not_both}
 use Rattle.gl_catalog.proofs.Completed.{completed, lock_converts, lock_counts}
 use Rattle.gl_catalog.proofs.manager.Manager.lock_telling.Goals.{After-count_lock}

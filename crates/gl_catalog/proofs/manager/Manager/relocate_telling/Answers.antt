@@ -3,13 +3,14 @@ use Rattle.std.proofs.Common.{subst, sym, rules, ap, refl, ◌∙◌}
 use Rattle.gl_modes.specs.declared.refusal.Refusal.{Refusal}
 use Rattle.gl_graph.specs.Refusals.{first_refusal, verdict}
 use Rattle.gl_table.specs.Table.{TableView, state_of as table_state}
-use Rattle.gl_catalog.specs.declared.command.Command.TheVariants as command
-use Rattle.gl_catalog.specs.Manager.{ManagerView, counting, state_of}
+use Rattle.gl_steps.specs.declared.command.Command.TheVariants as command
+use Rattle.gl_model.specs.State.{counting}
+use Rattle.gl_catalog.specs.Manager.{ManagerView, state_of}
 use Rattle.gl_catalog.specs.Replies.{CallSteps, doing}
 use Rattle.gl_catalog.specs.Sound.{view_of}
-use Rattle.gl_catalog.specs.Tests.{move_asks, worn}
+use Rattle.gl_steps.specs.Tests.{move_asks, worn}
 use Rattle.gl_catalog.proofs.Relocations.{MayRegraft, may_regraft, relocate_fails, relocate_refused, relocated}
-use Rattle.gl_catalog.specs.declared.command.Answer.TheVariants as answer
+use Rattle.gl_steps.specs.declared.command.Answer.TheVariants as answer
 use Rattle.gl_catalog.proofs.Completed.{notices_counted, told_completed}
 use Rattle.gl_catalog.proofs.manager.Manager.relocate_telling.Goals.{In_ok-check_relocate}
 use Rattle.gl_catalog.proofs.manager.Manager.relocate_telling.Goals as goal

@@ -5,10 +5,11 @@ use Rattle.gl_modes.specs.declared.mode.Mode.{Mode}
 use Rattle.gl_modes.specs.declared.refusal.Refusal.{Refusal}
 use Rattle.gl_model.specs.Calls.{try_tests}
 use Rattle.gl_table.specs.Table.{state_of as table_state}
-use Rattle.gl_catalog.specs.declared.command.Answer.TheVariants as answer
-use Rattle.gl_catalog.specs.declared.command.Command.TheVariants as command
+use Rattle.gl_steps.specs.declared.command.Answer.TheVariants as answer
+use Rattle.gl_steps.specs.declared.command.Command.TheVariants as command
 use Rattle.gl_catalog.specs.Counters.{one_if, rises}
-use Rattle.gl_catalog.specs.Manager.{IsLawfulManager, ManagerView, counting, state_of}
+use Rattle.gl_model.specs.State.{counting}
+use Rattle.gl_catalog.specs.Manager.{IsLawfulManager, ManagerView, state_of}
 use Rattle.gl_catalog.specs.Replies.{CallSteps, took}
 use Rattle.gl_catalog.proofs.Managed.{managed_err_or_memory, managed_ok, managed_worn, never_true}
 use Rattle.gl_catalog.proofs.Completed.{completed, try_counted}

@@ -3,11 +3,12 @@ use Rattle.std.proofs.Common.{◌+◌, ap, refl, rules, subst, sym, ◌≡◌, �
 use Rattle.gl_modes.specs.declared.refusal.Refusal.{Refusal}
 use Rattle.gl_model.specs.Calls.{unlock_tests}
 use Rattle.gl_table.specs.Table.{state_of as table_state}
-use Rattle.gl_catalog.specs.declared.command.Command.TheVariants as command
-use Rattle.gl_catalog.specs.Manager.{ManagerView, counting, state_of}
+use Rattle.gl_steps.specs.declared.command.Command.TheVariants as command
+use Rattle.gl_model.specs.State.{counting}
+use Rattle.gl_catalog.specs.Manager.{ManagerView, state_of}
 use Rattle.gl_catalog.specs.Replies.{CallSteps, doing}
 use Rattle.gl_catalog.proofs.Managed.{managed_err, managed_ok_only}
-use Rattle.gl_catalog.specs.declared.command.Answer.TheVariants as answer
+use Rattle.gl_steps.specs.declared.command.Answer.TheVariants as answer
 use Rattle.gl_catalog.specs.Sound.{view_of}
 use Rattle.gl_catalog.proofs.Completed.{notices_counted, told_completed}
 use Rattle.gl_catalog.proofs.manager.Manager.unlock_telling.Goals as goal

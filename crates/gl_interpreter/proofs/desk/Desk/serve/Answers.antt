@@ -1,7 +1,7 @@
 use Rattle.std.proofs.Common.{◌≡◌, refl, ap, ◌∙◌, subst}
 use Rattle.gl_catalog.specs.Deadlocks.{KeepsDeadlock}
 use Rattle.gl_catalog.specs.Manager.{ManagerView, state_of}
-use Rattle.gl_catalog.specs.Step.{Step}
+use Rattle.gl_steps.specs.Step.{Step}
 use Rattle.gl_script.specs.Views.{command_of}
 use Rattle.gl_interpreter.specs.declared.desk.Desk.{Desk}
 use Rattle.gl_interpreter.specs.Rooms.{HasRoomFor}

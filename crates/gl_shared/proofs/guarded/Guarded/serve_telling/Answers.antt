@@ -4,7 +4,7 @@ use Rattle.gl_model.specs.declared.answers.Notice.{Notice}
 use Rattle.gl_model.specs.declared.txn.TxnId.{TxnId}
 use Rattle.gl_boxes.specs.Served.{RisingTo, accepts}
 use Rattle.gl_model.specs.State.{State}
-use Rattle.gl_catalog.proofs.Detection.{steps_keep_detect}
+use Rattle.gl_steps.proofs.Detection.{steps_keep_detect}
 use Rattle.gl_boxes.specs.Boxes.{Delivers, Slot, cleared, emptied}
 use Rattle.gl_shared.specs.State.{GuardedView}
 use Rattle.gl_shared.proofs.Idle.{quiet_on}

@@ -1,7 +1,7 @@
 use Rattle.gl_slots.specs.Limit.{most_slots}
 use Rattle.std.proofs.Common.{arith, ◌∙◌, ap, refl, subst, sym}
 use Rattle.gl_model.specs.Tellings.{Told as Notices}
-use Rattle.gl_catalog.specs.declared.command.Command.TheVariants.{Lock}
+use Rattle.gl_steps.specs.declared.command.Command.TheVariants.{Lock}
 use Rattle.gl_catalog.specs.Manager.{IsLawfulManager}
 use Rattle.gl_boxes.specs.Served.{RisingTo}
 use Rattle.gl_shared.specs.Sessions.{AreWoken}

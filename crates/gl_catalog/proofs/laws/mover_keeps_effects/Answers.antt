@@ -1,6 +1,0 @@
-use Rattle.gl_catalog.proofs.MoverEffects.{rekey_keeps_mover, move_keeps_mover}
-use Rattle.gl_catalog.proofs.EscalateEffects.{escalate_lowers_none}
-use Rattle.gl_catalog.proofs.laws.mover_keeps_effects.Goals as goal
-
-pub returns : goal.returns
-returns c = record { rekeyed = rekey_keeps_mover; moved = move_keeps_mover; escalated = escalate_lowers_none }

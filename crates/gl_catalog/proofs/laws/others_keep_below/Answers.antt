@@ -1,5 +1,0 @@
-use Rattle.gl_catalog.proofs.OthersBelow.{others_keep_below, others_keep_file, others_leave_below}
-use Rattle.gl_catalog.proofs.laws.others_keep_below.Goals as goal
-
-pub returns : goal.returns
-returns c = record { rows = others_leave_below; file = others_keep_file; plain = others_keep_below }

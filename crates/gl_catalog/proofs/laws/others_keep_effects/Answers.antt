@@ -1,5 +1,0 @@
-use Rattle.gl_catalog.proofs.OthersKeep.{others_keep_effects}
-use Rattle.gl_catalog.proofs.laws.others_keep_effects.Goals as goal
-
-pub returns : goal.returns
-returns c = others_keep_effects

@@ -1,5 +1,0 @@
-use Rattle.gl_catalog.proofs.RowKeeps.{rows_come_and_go}
-use Rattle.gl_catalog.proofs.laws.rows_come_and_go.Goals as goal
-
-pub returns : goal.returns
-returns c = rows_come_and_go

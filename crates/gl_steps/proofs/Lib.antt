@@ -1,0 +1,48 @@
+-- the count of accepted commands, which nothing else asks for
+pub mod Counting
+-- steps
+pub mod EachStep
+pub mod Made
+pub mod NotRefused
+-- every command keeps the law
+pub mod KeepsLaw
+pub mod LockCommands
+pub mod MakeKeeps
+pub mod RowKeeps
+pub mod DeleteKeeps
+pub mod MoveCommands
+pub mod StepsKeepLaw
+-- no command makes a cycle of waits
+pub mod Detection
+pub mod StepNoCycle
+-- what others cannot do to a holder
+pub mod OtherChanges
+pub mod ToldGrants
+pub mod Keeps
+pub mod KeptKinds
+pub mod GrantCommands
+pub mod GraphChanges
+pub mod GraphCommands
+pub mod RowSteps
+pub mod OneStep
+pub mod OthersKeep
+pub mod RowNames
+pub mod StepBelow
+pub mod OthersBelow
+-- what a mover's own commands leave it
+pub mod MoverEffects
+pub mod EscalateEffects
+-- the model as a program, and rows that it computes
+pub mod OneOutcome
+pub mod IdleSettle
+pub mod LivesOn
+pub mod WaitsEnd
+pub mod WaitsBegin
+pub mod Play
+pub mod PlayIsStep
+pub mod RowWords
+mod LockRows
+mod RecordRows
+mod MoveRows
+mod RefusalRows
+mod Limits

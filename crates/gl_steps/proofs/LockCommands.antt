@@ -1,0 +1,68 @@
+-- Each command on locks and transactions keeps the law of a state.
+use Rattle.std.specs.Prelude.{◌≡◌, ◌∷◌, [], None}
+use Rattle.std.proofs.Common.{sym, arith, subst}
+use Rattle.gl_modes.specs.declared.mode.Mode.{Mode}
+use Rattle.gl_modes.specs.declared.node.NodeId.{NodeId}
+use Rattle.gl_modes.specs.declared.refusal.Refusal.TheVariants as no
+use Rattle.gl_model.specs.declared.txn.TxnId.{TxnId}
+use Rattle.gl_model.specs.declared.txn.Status.TheVariants.{Active}
+use Rattle.gl_steps.specs.declared.command.Command.TheVariants as command
+use Rattle.gl_graph.specs.Graph.{shape_of}
+use Rattle.gl_graph.specs.Shapes.{is_record_shape}
+use Rattle.gl_model.specs.State.{State}
+use Rattle.gl_model.specs.Lawful.{IsLawful}
+use Rattle.gl_model.specs.Calls.{raised, shed, would_block, not_held, held_child, escalation_blocks}
+use Rattle.gl_steps.specs.Tests.{refusal_of, worn}
+use Rattle.gl_graph.specs.Refusals.{where_true}
+use Rattle.gl_steps.proofs.KeepsLaw.{KeepsLaw}
+use Rattle.gl_model.proofs.law.Takes.{without_wait-lawful, released-lawful, settled-lawful}
+use Rattle.gl_model.proofs.law.Takes.{begun-lawful}
+use Rattle.gl_model.proofs.law.Tests.{raised-lawful, shed-lawful}
+use Rattle.gl_model.proofs.law.Lock.{granted-lawful, locks-lawful, may_lock, unlocked-lawful, free_slot}
+use Rattle.gl_model.proofs.law.Tests.{active_after}
+use Rattle.gl_graph.proofs.Unrefused.{not_refused, test_fails, not_false}
+
+-- raised, and then shed
+pub escalated-lawful : (s : State) → IsLawful s → (t : TxnId) (n : NodeId) → refusal_of s (command.Escalate t n) ≡ None
+    → IsLawful (shed (raised s t.slot n) t.slot n)
+escalated-lawful s law t n h =
+    let a = active_after s t n (worn s) _ h in
+    let b = not_refused (where_true (is_record_shape (shape_of s.graph n)) no.BadParents) _ a.2 in
+    let c = not_refused (not_held s t.slot n) _ b.1 in
+    let d = not_refused (escalation_blocks s t.slot n) [] c.1 in
+    shed-lawful (raised s t.slot n)
+    (raised-lawful s law t.slot n a.0 a.1 (test_fails _ _ b.0) (not_false _ (test_fails _ _ c.0)) (not_false _ (test_fails _ _ d.0))) t.slot n a.0
+
+pub begin_keeps : KeepsLaw command.Begin
+begin_keeps s s' a told law h acc =
+    let at = free_slot s acc.0 0 s.most acc.1 in let below = at.1 in
+    subst IsLawful (sym acc.4) (begun-lawful s law acc.0 at.0 (omega arith))
+
+pub lock_keeps : (t : TxnId) (n : NodeId) (m : Mode) → KeepsLaw (command.Lock t n m)
+lock_keeps t n m s s' a told law h acc = locks-lawful s s' law t n m (may_lock s t n m (worn s) [] h).0 acc.0
+
+pub try_keeps : (t : TxnId) (n : NodeId) (m : Mode) → KeepsLaw (command.Try t n m)
+try_keeps t n m s s' a told law h acc =
+    let may = may_lock s t n m (worn s) (would_block s t.slot n m ∷ []) h in
+    subst IsLawful (sym acc.2) (granted-lawful s law t n m may.0 (not_false _ (test_fails _ _ (not_refused (would_block s t.slot n m) [] may.1).0)))
+
+pub unlock_keeps : (t : TxnId) (n : NodeId) → KeepsLaw (command.Unlock t n)
+unlock_keeps t n s s' a told law h acc =
+    let a = active_after s t n (worn s) _ h in
+    let b = not_refused (not_held s t.slot n) _ a.2 in
+    subst IsLawful (sym acc.2) (unlocked-lawful s law t.slot n a.0 (not_refused (held_child s t.slot n) [] b.1).0)
+
+pub escalate_keeps : (t : TxnId) (n : NodeId) → KeepsLaw (command.Escalate t n)
+escalate_keeps t n s s' a told law h acc = subst IsLawful (sym acc.2) (escalated-lawful s law t n h)
+
+pub cancel_keeps : (t : TxnId) → KeepsLaw (command.Cancel t)
+cancel_keeps t s s' a told law h acc = subst IsLawful (sym acc.2) (without_wait-lawful s law t.slot Active (λ q m e. cc))
+
+pub commit_keeps : (t : TxnId) → KeepsLaw (command.Commit t)
+commit_keeps t s s' a told law h acc = subst IsLawful (sym acc.2) (released-lawful s law t.slot)
+
+pub abort_keeps : (t : TxnId) → KeepsLaw (command.Abort t)
+abort_keeps t s s' a told law h acc = subst IsLawful (sym acc.2) (released-lawful s law t.slot)
+
+pub settle_keeps : (t : TxnId) → KeepsLaw (command.Settle t)
+settle_keeps t s s' a told law h acc = settled-lawful s.victims s s' t.slot law acc.2

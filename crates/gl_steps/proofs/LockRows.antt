@@ -1,0 +1,130 @@
+-- Worked rows of one or two roots: conversions, queues, deadlocks, limits and cancels.
+use Rattle.std.specs.Prelude.{◌+◌, [], ◌∷◌, ◌++◌, map}
+use Rattle.std.specs.List.{range_with_len}
+use Rattle.std.proofs.Common.{refl}
+use Rattle.gl_modes.specs.declared.mode.Mode.TheVariants.{NL, IX, S, SIX, X}
+use Rattle.gl_modes.specs.declared.node.NodeId.{NodeId}
+use Rattle.gl_modes.specs.declared.refusal.Refusal.TheVariants as no
+use Rattle.gl_model.specs.declared.txn.TxnId.{TxnId}
+use Rattle.gl_model.specs.declared.answers.Detect.TheVariants.{AtBlock, ByWatcher}
+use Rattle.gl_model.specs.declared.answers.Notice.TheVariants as notice
+use Rattle.gl_steps.specs.declared.command.Answer.TheVariants as answer
+use Rattle.gl_steps.specs.declared.command.Command.TheVariants as command
+use Rattle.gl_steps.proofs.RowWords.{Rows, begins, computed, done, group, holds, id, locks, refuses, roots, says, tells, txn, waits}
+
+abbrev db : NodeId
+db = id 1
+
+abbrev a : TxnId
+a = txn 0 1
+
+abbrev b : TxnId
+b = txn 1 2
+
+abbrev c : TxnId
+c = txn 2 3
+
+-- a transaction's own grant does not stand in its way
+row_own_grant : Rows AtBlock 2 (
+    roots db ∷ begins a
+    ∷ says (command.Try a db IX) (answer.Granted IX)
+    ∷ says (command.Try a db S) (answer.Granted SIX)
+    ∷ group db SIX
+    ∷ done (command.Commit a)
+    ∷ group db NL ∷ [])
+row_own_grant = computed refl
+
+-- a release grants from the queue, and the group mode is lowered
+row_grant_on_commit : Rows AtBlock 2 (
+    roots db ∷ begins a ∷ begins b
+    ∷ locks a S db
+    ∷ waits b IX db
+    ∷ tells (command.Commit a) b (notice.Granted db IX)
+    ∷ group db IX ∷ [])
+row_grant_on_commit = computed refl
+
+-- a newcomer waits behind a queue though it goes with all that is granted
+row_newcomer_behind_queue : Rows AtBlock 3 (
+    roots db ∷ begins a ∷ begins b ∷ begins c
+    ∷ locks a S db
+    ∷ waits b X db
+    ∷ waits c S db
+    ∷ tells (command.Commit a) b (notice.Granted db X)
+    ∷ tells (command.Commit b) c (notice.Granted db S) ∷ [])
+row_newcomer_behind_queue = computed refl
+
+-- a conversion waits ahead of newcomers
+row_conversion_ahead : Rows AtBlock 3 (
+    roots db ∷ begins a ∷ begins b ∷ begins c
+    ∷ locks a S db
+    ∷ locks b S db
+    ∷ waits c X db
+    ∷ waits a X db
+    ∷ tells (command.Commit b) a (notice.Granted db X)
+    ∷ holds c db NL ∷ [])
+row_conversion_ahead = computed refl
+
+-- two conversions that wait for each other: the youngest is the victim, here the asker
+row_asker_is_victim : Rows AtBlock 2 (
+    roots db ∷ begins a ∷ begins b
+    ∷ locks a S db
+    ∷ locks b S db
+    ∷ waits a X db
+    ∷ says (command.Lock b db X) answer.Victim
+    ∷ refuses (command.Commit b) no.TxnCondemned
+    ∷ tells (command.Abort b) a (notice.Granted db X) ∷ [])
+row_asker_is_victim = computed refl
+
+-- and here the one that waited first
+row_other_is_victim : Rows AtBlock 2 (
+    roots db ∷ begins a ∷ begins b
+    ∷ locks a S db
+    ∷ locks b S db
+    ∷ waits b X db
+    ∷ (command.Lock a db X, answer.Waiting, (b, notice.Victim) ∷ [])
+    ∷ tells (command.Abort b) a (notice.Granted db X) ∷ [])
+row_other_is_victim = computed refl
+
+-- a cycle through a waiter that stands ahead
+row_cycle_through_waiter_ahead : Rows AtBlock 3 (
+    roots (id 1) ∷ roots (id 2) ∷ begins a ∷ begins b ∷ begins c
+    ∷ locks a S (id 1)
+    ∷ locks c X (id 2)
+    ∷ waits b X (id 1)
+    ∷ waits c S (id 1)
+    ∷ (command.Lock a (id 2) S, answer.Waiting, (c, notice.Victim) ∷ [])
+    ∷ tells (command.Abort c) a (notice.Granted (id 2) S) ∷ [])
+row_cycle_through_waiter_ahead = computed refl
+
+-- the lowest free slot is taken, and the limit is what the state says
+row_lowest_slot : Rows AtBlock 64 (
+    map (λ k. begins (txn k (k + 1))) (range_with_len 0 64)
+    ++ refuses command.Begin no.TooManyTxns
+    ∷ done (command.Commit (txn 5 6))
+    ∷ begins (txn 5 65) ∷ [])
+row_lowest_slot = computed refl
+
+-- a try does not wait, and a wait can be given up
+row_try_and_cancel : Rows AtBlock 2 (
+    roots db ∷ begins a ∷ begins b
+    ∷ locks a S db
+    ∷ refuses (command.Try b db IX) no.WouldBlock
+    ∷ holds b db NL
+    ∷ refuses (command.Cancel b) no.NotWaiting
+    ∷ waits b IX db
+    ∷ refuses (command.Commit b) no.TxnWaiting
+    ∷ done (command.Cancel b)
+    ∷ done (command.Commit b) ∷ [])
+row_try_and_cancel = computed refl
+
+-- with detection by a watcher a deadlock stays until someone asks to settle it
+row_by_watcher : Rows ByWatcher 2 (
+    roots db ∷ begins a ∷ begins b
+    ∷ locks a S db
+    ∷ locks b S db
+    ∷ waits a X db
+    ∷ waits b X db
+    ∷ tells (command.Settle a) b notice.Victim
+    ∷ done (command.Settle a)
+    ∷ tells (command.Abort b) a (notice.Granted db X) ∷ [])
+row_by_watcher = computed refl

@@ -1,0 +1,101 @@
+-- One step of a command that does not name t keeps t.
+use Rattle.std.specs.Prelude.{◌≡◌, ◌≢◌, Bool, true, false, List, [], ◌∷◌, Option, Some, None}
+use Rattle.std.proofs.Common.{refl, sym, subst, inl, inr}
+use Rattle.gl_modes.proofs.Words.{and_both}
+use Rattle.gl_modes.specs.declared.refusal.Refusal.{Refusal}
+use Rattle.gl_modes.specs.declared.refusal.Refusal.TheVariants as no
+use Rattle.gl_model.specs.declared.txn.TxnId.{TxnId}
+use Rattle.gl_steps.specs.declared.command.Answer.{Answer}
+use Rattle.gl_steps.specs.declared.command.Command.{Command}
+use Rattle.gl_steps.specs.declared.command.Command.TheVariants as command
+use Rattle.gl_model.specs.State.{State, lives}
+use Rattle.gl_model.specs.Lawful.{IsLawful}
+use Rattle.gl_steps.specs.Step.{Step, Goes, Answers, query_answer}
+use Rattle.gl_model.specs.Tellings.{Told}
+use Rattle.gl_model.specs.Calls.{accepted_once, no_txn}
+use Rattle.gl_graph.specs.Refusals.{first_refusal}
+use Rattle.gl_steps.specs.Tests.{tests_of, refusal_of}
+use Rattle.gl_steps.specs.Promises.{is_of_rows, names, same_txn}
+use Rattle.gl_steps.proofs.Keeps.{Keeps}
+use Rattle.gl_steps.proofs.Made.{adopted_is, made_is, indexed_is, inserted_is}
+use Rattle.gl_steps.proofs.NotRefused.{txn_lives, nodes_live, differ, exclusive}
+use Rattle.gl_steps.proofs.GrantCommands.{lock_keeps, try_keeps, unlock_keeps, escalate_keeps, cancel_keeps, release_keeps, settle_keeps}
+use Rattle.gl_steps.proofs.GrantCommands.{begin_keeps, same_keeps}
+use Rattle.gl_steps.proofs.GraphCommands.{inner_keeps, file_keeps, index_keeps, insert_keeps, delete_keeps, rekey_keeps, move_keeps}
+use Rattle.gl_steps.proofs.RowSteps.{adopt_keeps, forget_keeps}
+use Rattle.gl_graph.proofs.Unrefused.{test_fails, not_false, or_no}
+
+-- each of these passed
+abbrev pub AllNone : List (Option Refusal) → Type 0
+AllNone [] = Unit {0}
+AllNone (r ∷ rs) = (r ≡ None) × AllNone rs
+
+-- the tests that were passed, one by one
+pub all_none : (rs : List (Option Refusal)) → first_refusal rs ≡ None → AllNone rs
+all_none [] h = tt
+all_none (None ∷ rs) h = (refl, all_none rs h)
+all_none (Some r ∷ rs) h = absurd (some_none h)
+  where
+    some_none : {r : Refusal} → Some r ≡ None → ⊥
+    some_none e = cc
+
+module _ (s : State) (law : IsLawful s) (t : TxnId) (alive : lives s t ≡ true) (a : Answer) (told' : Told) (s' : State) (law' : IsLawful s') where
+  abbrev Kept : Bool → State → Type 0
+  Kept rows x = Keeps s x t told' rows
+
+  finish : {rows : Bool} (next : State) → s' ≡ accepted_once next → (IsLawful (accepted_once next) → Kept rows (accepted_once next)) → Kept rows s'
+  finish {rows} next is f = subst (Kept rows) (sym is) (f (subst IsLawful is law'))
+
+  other_slot : (u : TxnId) → same_txn t u ≡ false → no_txn s u ≡ None → u.slot ≢ t.slot
+  other_slot u apart h = differ s t u alive (txn_lives s u h) apart
+
+  accepted : (c : Command) → names t c ≡ false → AllNone (tests_of s c) → Answers s c (query_answer s c) a told' s' → Kept (is_of_rows c) s'
+  accepted (command.Inner ps) apart passed ans =
+      finish ans.0 ans.2 (λ l. inner_keeps s law t alive ans.0 l _ ans.1.0.key ps.now (made_is s ans.0 ans.1.1 ans.1.4))
+  accepted (command.File ps) apart passed ans =
+      finish ans.0 ans.2 (λ l. file_keeps s law t alive ans.0 l _ ans.1.0.key ps.now (made_is s ans.0 ans.1.1 ans.1.4))
+  accepted (command.Index ps f bs) apart passed ans =
+      finish ans.0 ans.2 (λ l. index_keeps s law t alive ans.0 l _ ans.1.0.key ps.now f bs.now ans.1.1.interval_keys (indexed_is s ans.0 ans.1.1 ans.1.4))
+  accepted command.Begin apart passed ans = finish ans.0 ans.2 (λ l. begin_keeps s law t alive ans.0 a told' ans.1)
+  accepted (command.Lock u n m) apart passed ans = finish ans.0 ans.2 (λ l. lock_keeps s law t alive ans.0 u n m a told' (other_slot u apart passed.1.0) ans.1)
+  accepted (command.Try u n m) apart passed ans = finish ans.0 ans.2 (λ l. try_keeps s law t alive ans.0 u n m a told' (other_slot u apart passed.1.0) ans.1)
+  accepted (command.Unlock u n) apart passed ans = finish ans.0 ans.2 (λ l. unlock_keeps s law t alive ans.0 u n a told' (other_slot u apart passed.1.0) ans.1)
+  accepted (command.Escalate u n) apart passed ans =
+      finish ans.0 ans.2 (λ l. escalate_keeps s law t alive ans.0 u n a told' (other_slot u apart passed.1.0) ans.1)
+  accepted (command.Cancel u) apart passed ans = finish ans.0 ans.2 (λ l. cancel_keeps s law t alive ans.0 u a told' (other_slot u apart passed.1.0) ans.1)
+  accepted (command.Commit u) apart passed ans =
+      finish ans.0 ans.2 (λ l. release_keeps s law t alive ans.0 u told' (other_slot u apart passed.1.0) ans.1.1 ans.1.2)
+  accepted (command.Abort u) apart passed ans =
+      finish ans.0 ans.2 (λ l. release_keeps s law t alive ans.0 u told' (other_slot u apart passed.1.0) ans.1.1 ans.1.2)
+  accepted (command.Settle u) apart passed ans = finish ans.0 ans.2 (λ l. settle_keeps s law t alive ans.0 u a told' ans.1)
+  accepted (command.Insert u f keys) apart passed ans =
+      finish ans.0 ans.2 (λ l. insert_keeps s law t alive ans.0 l _ u.slot ans.1.0.key keys.now _ (other_slot u apart passed.1.1.0)
+      (inserted_is s ans.0 u.slot ans.1.1 ans.1.4))
+  accepted (command.Delete u r) apart passed ans =
+      finish ans.0 ans.2 (λ l. delete_keeps s law t alive ans.0 l _ u.slot r (other_slot u apart passed.1.0)
+      (and_both _ _ (nodes_live s (r ∷ []) passed.1.1.1.1.0)).0
+      (not_false _ (test_fails _ no.NeedExclusive passed.1.1.1.1.1.1.0)) ans.1.2)
+  accepted (command.Rekey u r i key) apart passed ans =
+      finish ans.0 ans.2 (λ l. rekey_keeps s law t alive ans.0 l _ u.slot r i key (other_slot u apart passed.1.0)
+      (and_both _ _ (nodes_live s (r ∷ i ∷ []) passed.1.1.1.1.0)).0
+      (and_both _ _ (not_false _ (test_fails _ no.BadParents passed.1.1.1.1.1.0))).0 (exclusive s u.slot r true _ passed.1.1.1.1.1.1.0) ans.1.2)
+  accepted (command.Move u n ps) apart passed ans =
+      finish ans.0 ans.2 (λ l. move_keeps s law t alive ans.0 l _ u.slot n ps.now (other_slot u apart passed.1.0)
+      (and_both _ _ (nodes_live s (n ∷ ps.now) passed.1.1.1.1.0)).0
+      (not_false _ (or_no _ _ (test_fails _ no.BadParents passed.1.1.1.1.1.0)).0) (exclusive s u.slot n _ ps.now passed.1.1.1.1.1.1.0) ans.1.2)
+  accepted (command.Group n) apart passed ans = same_keeps s law t alive s' told' s' ans.same
+  accepted (command.Held u n) apart passed ans = same_keeps s law t alive s' told' s' ans.same
+  accepted (command.Effective u n) apart passed ans = same_keeps s law t alive s' told' s' ans.same
+  accepted (command.Adopt f keys) apart passed ans =
+      finish ans.0 ans.2 (λ l. adopt_keeps s law t alive ans.0 l _ ans.1.0.key f keys.now (adopted_is s ans.0 ans.1.1 ans.1.4))
+  accepted (command.Forget r) apart passed ans =
+      finish ans.0 ans.2 (λ l. forget_keeps s law t alive ans.0 l _ r (not_false _ (test_fails _ no.BadParents passed.1.1.0)) ans.1.2)
+
+  -- each command, and a step that changes nothing
+  pub step_keeps : (c : Command) → names t c ≡ false → Step s c a told' s' → Kept (is_of_rows c) s'
+  step_keeps c apart (inr want) = same_keeps s law t alive s' told' s' want.1.same
+  step_keeps c apart (inl goes) = by (refusal_of s c) refl goes
+    where
+      by : (o : Option Refusal) → refusal_of s c ≡ o → Goes s c o a told' s' → Kept (is_of_rows c) s'
+      by (Some r) e g = same_keeps s law t alive s' told' s' g.same
+      by None e g = accepted c apart (all_none (tests_of s c) e) g

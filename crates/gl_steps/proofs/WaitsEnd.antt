@@ -1,0 +1,189 @@
+-- A wait that a step ends is told, or its transaction is named by a cancel or an abort.
+use Rattle.std.specs.Prelude.{◌≡◌, ◌≢◌, ℕ, ◌+◌, Bool, true, false, not, ◌&&◌, ◌||◌, ◌==◌, Option, Some, None, if◌then◌else◌}
+use Rattle.std.specs.List.{filter}
+use Rattle.std.proofs.Common.{refl, sym, ap, ap₂, arith, subst, ◌∙◌}
+use Rattle.std.proofs.lemmas.Bool.Decides.{nat_tests}
+use mathlib.Core.Bool.{true≢false}
+use Rattle.gl_modes.proofs.Words.{and_both, both, none_some, or_left, or_right, split}
+use Rattle.gl_modes.specs.declared.mode.Mode.{Mode}
+use Rattle.gl_modes.specs.declared.mode.Mode.TheVariants.{NL}
+use Rattle.gl_modes.specs.declared.node.NodeId.{NodeId}
+use Rattle.gl_modes.specs.Modes.{same_mode}
+use Rattle.gl_modes.specs.Nodes.{same_node}
+use Rattle.gl_modes.proofs.NodeLemmas.{same_node-refl}
+use Rattle.gl_graph.specs.Graph.{is_live}
+use Rattle.gl_graph.specs.Changes.{rekeyed_parents}
+use Rattle.gl_header.specs.Header.{holds, is_among_waiters}
+use Rattle.gl_model.specs.declared.answers.Notice.{Notice}
+use Rattle.gl_model.specs.declared.answers.Notice.TheVariants as notice
+use Rattle.gl_model.specs.declared.txn.Status.{Status}
+use Rattle.gl_model.specs.declared.txn.Status.TheVariants.{Active, Waiting, Condemned}
+use Rattle.gl_model.specs.declared.txn.TxnId.{TxnId}
+use Rattle.gl_model.specs.Calls.{Locks, enqueued, enters_at, granted, raised, released, stays, wanted, is_covered, no_txn, waiting_test}
+use Rattle.gl_model.specs.Lawful.{IsLawful}
+use Rattle.gl_model.specs.State.{granted_at, is_waiting_at, waits_at, woken}
+use Rattle.gl_model.specs.State.{State, Txn, age_of, live_by, lives, members, restatus, status_in, status_of, with_grant}
+use Rattle.gl_model.specs.Tellings.{stripped, Told, addressed, notice_of, told, told_but, told_from}
+use Rattle.gl_model.proofs.law.Keeps.{waiting_is}
+use Rattle.gl_steps.specs.declared.command.Answer.{Answer}
+use Rattle.gl_steps.specs.declared.command.Command.{Command}
+use Rattle.gl_steps.specs.declared.command.Command.TheVariants as command
+use Rattle.gl_steps.specs.Promises.{EndsWaits, ends_wait_of, is_told, same_txn, waits_on}
+use Rattle.gl_steps.specs.Step.{Accepts}
+use Rattle.gl_steps.specs.Tests.{tests_of}
+use Rattle.gl_steps.proofs.EachStep.{each_step}
+use Rattle.gl_steps.proofs.GrantCommands.{free_differs}
+use Rattle.gl_steps.proofs.LivesOn.{GoesOn, LivesOn, freed_on, lives_on_same, lives_on_trans, over_goes_on, pumped_goes_on, settled_goes_on}
+use Rattle.gl_steps.proofs.LivesOn.{unless_on, wait_settles_goes_on, woken_on}
+use Rattle.gl_steps.proofs.NotRefused.{differ, txn_lives}
+use Rattle.gl_steps.proofs.OneStep.{AllNone, all_none}
+use Rattle.gl_steps.proofs.OtherChanges.{other}
+use Rattle.gl_steps.proofs.ToldGrants.{age_is, any_filtered, any_mapped, txn_there}
+
+-- t lives in s, and waits on n for m
+module _ (s : State) (law : IsLawful s) (t : TxnId) (alive : lives s t ≡ true) (n : NodeId) (m : Mode) (waits : status_of s t.slot ≡ Some (Waiting n m)) where
+  -- whoever lives on and waits no more is told something
+  some_notice : (now : State) (o : Option Status) → (o ≡ None → ⊥) → ((q : NodeId) (w : Mode) → o ≡ Some (Waiting q w) → ⊥) → (x : Notice)
+      × (notice_of now t.slot n m o ≡ Some x)
+  some_notice now None there quiet = absurd (there refl)
+  some_notice now (Some (Waiting q w)) there quiet = absurd (quiet q w refl)
+  some_notice now (Some Condemned) there quiet = (notice.Victim, refl)
+  some_notice now (Some Active) there quiet = by (is_live now.graph n) (same_mode (now.held t.slot n) m)
+    where
+      by : (a b : Bool) → (x : Notice) × ((if not a then Some notice.Gone else (if b then Some (notice.Granted n m) else Some notice.Moved)) ≡ Some x)
+      by false b = (notice.Gone, refl)
+      by true true = (notice.Granted n m, refl)
+      by true false = (notice.Moved, refl)
+
+  itself : same_txn t (record { slot = t.slot; age = age_of s t.slot }) ≡ true
+  itself = let a : (t.slot == t.slot) ≡ true = grind (arith, nat_tests) in ap₂ (λ x y. x && y) a (age_is t.age (s.txns t.slot) alive)
+
+  module _ (now : State) (on : GoesOn s now t.slot) (over : waits_on now t n ≡ false) where
+    alive_now : lives now t ≡ true
+    alive_now = on.lives t.age alive
+
+    there : status_of now t.slot ≡ None → ⊥
+    there e = by (now.txns t.slot) alive_now e
+      where
+        by : (x : Option Txn) → live_by t.age x ≡ true → status_in x ≡ None → ⊥
+        by None h k = true≢false (sym h)
+        by (Some x) h k = cc
+
+    quiet : (q : NodeId) (w : Mode) → status_of now t.slot ≡ Some (Waiting q w) → ⊥
+    quiet q w e =
+        let same : q ≡ n = let before : Some (Waiting n m) ≡ Some (Waiting q w) = sym waits ∙ on.waits q w e in cc in
+        let here : is_waiting_at now t.slot n ≡ true = ap (λ o. waits_at o n) e ∙ ap (λ p. same_node p n) same ∙ same_node-refl n in
+        true≢false (sym (both _ _ alive_now here) ∙ over)
+
+    pub told_over : is_told t (told s now) ≡ true
+    told_over =
+        let x = some_notice now (status_of now t.slot) there quiet in
+        any_mapped (λ y. same_txn t y.0) (λ u. addressed (record { slot = u; age = age_of s u }) (told_from now u (status_of s u))) t.slot
+        (record { slot = t.slot; age = age_of s t.slot }, x.0)
+        (ap (λ o. addressed (record { slot = t.slot; age = age_of s t.slot }) (told_from now t.slot o)) waits
+        ∙ ap (addressed (record { slot = t.slot; age = age_of s t.slot })) x.1)
+        itself 0 s.most (omega arith) (let below = law.slots_below t.slot (txn_there t.age (s.txns t.slot) alive) in omega arith)
+
+    other_told : (u : ℕ) → u ≢ t.slot → (x : TxnId × Notice) → same_txn t x.0 ≡ true → not (x.0.slot == u) ≡ true
+    other_told u ne x h =
+        let e : (t.slot == x.0.slot) ≡ true = (and_both _ _ h).0 in
+        split (x.0.slot == u) (λ k. absurd
+        (let a : t.slot ≡ x.0.slot = grind (arith, nat_tests) in let b : x.0.slot ≡ u = grind (arith, nat_tests) in ne (sym (a ∙ b)))) (λ k. ap not k)
+
+    pub told_but_over : (u : ℕ) → u ≢ t.slot → is_told t (told_but u s now) ≡ true
+    told_but_over u ne = any_filtered (λ x. same_txn t x.0) (λ x. not (x.0.slot == u)) (told s now) (other_told u ne) told_over
+
+  -- a slot that is as it was waits on
+  still : (now : State) → now.txns t.slot ≡ s.txns t.slot → waits_on now t n ≡ false → ⊥
+  still now same over =
+      let before : waits_on s t n ≡ true = both _ _ alive (ap (λ o. waits_at o n) waits ∙ same_node-refl n) in
+      true≢false (sym (ap (λ x. live_by t.age x && waits_at (status_in x) n) same ∙ before) ∙ over)
+
+  -- who is active has another slot
+  other_active : (u : TxnId) → waiting_test (status_of s u.slot) ≡ None → u.slot ≢ t.slot
+  other_active u passed e = none_some (sym passed ∙ ap (λ v. waiting_test (status_of s v)) e ∙ ap waiting_test waits)
+
+  module _ (a : Answer) (list : Told) (next : State) (over : waits_on next t n ≡ false) where
+    abbrev Ended : Command → Type 0
+    Ended c = (is_told t list || ends_wait_of t c) ≡ true
+
+    on_is : (made : State) → next ≡ made → GoesOn s made t.slot → GoesOn s next t.slot
+    on_is made e on = subst (λ (x : State). GoesOn s x t.slot) (sym e) on
+
+    unmoved : (made : State) → next ≡ made → made.txns t.slot ≡ s.txns t.slot → (c : Command) → Ended c
+    unmoved made e same c = absurd (still next (ap (λ (x : State). x.txns t.slot) e ∙ same) over)
+
+    all_told : (c : Command) → list ≡ told s next → GoesOn s next t.slot → Ended c
+    all_told c is on = or_left (is_told t list) (ends_wait_of t c) (ap (is_told t) is ∙ told_over next on over)
+
+    others_told : (c : Command) (u : ℕ) → u ≢ t.slot → list ≡ told_but u s next → GoesOn s next t.slot → Ended c
+    others_told c u ne is on = or_left (is_told t list) (ends_wait_of t c) (ap (is_told t) is ∙ told_but_over next on over u ne)
+
+    named : (c : Command) → ends_wait_of t c ≡ true → Ended c
+    named c h = or_right (is_told t list) (ends_wait_of t c) h
+
+    other_slot : (u : TxnId) → same_txn t u ≡ false → no_txn s u ≡ None → u.slot ≢ t.slot
+    other_slot u apart h = differ s t u alive (txn_lives s u h) apart
+
+    released_on : (u : ℕ) → u ≢ t.slot → GoesOn s (released s u) t.slot
+    released_on u ne =
+        let got = granted_at (stripped s u) (λ q. holds (members s q) u || is_waiting_at s u q) in
+        subst (λ b. LivesOn (s.txns t.slot) (woken got t.slot (if b then None else s.txns t.slot))) (sym (other u t.slot ne))
+        (woken_on got t.slot (s.txns t.slot))
+
+    locked_on : (u : TxnId) (q : NodeId) (w : Mode) → u.slot ≢ t.slot → Locks s u.slot q w next → GoesOn s next t.slot
+    locked_on u q w ne locks =
+        split (enters_at s u.slot q w)
+        (λ e. on_is (granted s u.slot q w) (locks.at_once e) (lives_on_same (s.txns t.slot) (s.txns t.slot) refl))
+        (λ e. let x : State = enqueued s u.slot q (wanted s u.slot q w) in
+        lives_on_trans (s.txns t.slot) (x.txns t.slot) (next.txns t.slot)
+        (lives_on_same (s.txns t.slot) (x.txns t.slot)
+        (ap (λ b. if b then restatus (Waiting q (wanted s u.slot q w)) (s.txns u.slot) else s.txns t.slot) (other u.slot t.slot ne)))
+        (wait_settles_goes_on s.detect s.victims x next u.slot t.slot (locks.waits e)))
+
+    accepted : (c : Command) → AllNone (tests_of s c) → Accepts s c a list next → Ended c
+    accepted (command.Inner ps) passed acc = unmoved _ acc.4 refl (command.Inner ps)
+    accepted (command.File ps) passed acc = unmoved _ acc.4 refl (command.File ps)
+    accepted (command.Index ps f bs) passed acc = unmoved _ acc.4 refl (command.Index ps f bs)
+    accepted (command.Insert u f ks) passed acc = unmoved _ acc.4 refl (command.Insert u f ks)
+    accepted command.Begin passed acc =
+        let ne = free_differs s t alive acc.0 acc.1 in
+        unmoved _ acc.4 (ap (λ b. if b then Some (record { age = s.begins + 1; status = Active }) else s.txns t.slot) (other acc.0 t.slot ne)) command.Begin
+    accepted (command.Lock u q w) passed acc =
+        let ne = other_active u passed.1.1.0 in others_told (command.Lock u q w) u.slot ne acc.2 (locked_on u q w ne acc.0)
+    accepted (command.Try u q w) passed acc = unmoved _ acc.2 refl (command.Try u q w)
+    accepted (command.Unlock u q) passed acc =
+        all_told (command.Unlock u q) acc.1 (on_is _ acc.2 (pumped_goes_on (with_grant s u.slot q NL) (same_node q) t.slot))
+    accepted (command.Escalate u q) passed acc =
+        let up : State = raised s u.slot q in
+        all_told (command.Escalate u q) acc.1
+        (on_is _ acc.2 (pumped_goes_on (record up { held = λ v c. if (v == u.slot) && is_covered up u.slot q c then NL else up.held v c })
+        (is_covered up u.slot q) t.slot))
+    accepted (command.Cancel u) passed acc =
+        split (same_txn t u) (λ e. named (command.Cancel u) e)
+        (λ e. others_told (command.Cancel u) u.slot (other_slot u e passed.1.0) acc.1 (on_is _ acc.2 (over_goes_on s u.slot Active (λ q w h. cc) t.slot)))
+    accepted (command.Commit u) passed acc = all_told (command.Commit u) acc.1 (on_is _ acc.2 (released_on u.slot (other_active u passed.1.1.0)))
+    accepted (command.Abort u) passed acc =
+        split (same_txn t u) (λ e. named (command.Abort u) e)
+        (λ e. all_told (command.Abort u) acc.1 (on_is _ acc.2 (released_on u.slot (other_slot u e passed.1.0))))
+    accepted (command.Settle u) passed acc = all_told (command.Settle u) acc.1 (settled_goes_on s.victims s next u.slot t.slot acc.2)
+    accepted (command.Delete u r) passed acc = all_told (command.Delete u r) acc.1 (on_is _ acc.2 (freed_on r (s.txns t.slot)))
+    accepted (command.Rekey u r i k) passed acc =
+        let ps = rekeyed_parents s.graph r i k in
+        all_told (command.Rekey u r i k) acc.1 (on_is _ acc.2 (unless_on (λ v. is_among_waiters v (filter (stays s ps) (s.queue r))) r t.slot (s.txns t.slot)))
+    accepted (command.Move u x ps) passed acc =
+        all_told (command.Move u x ps) acc.1
+        (on_is _ acc.2 (unless_on (λ v. is_among_waiters v (filter (stays s ps.now) (s.queue x))) x t.slot (s.txns t.slot)))
+    accepted (command.Group q) passed acc = absurd acc
+    accepted (command.Held u q) passed acc = absurd acc
+    accepted (command.Effective u q) passed acc = absurd acc
+    accepted (command.Adopt f ks) passed acc = unmoved _ acc.4 refl (command.Adopt f ks)
+    accepted (command.Forget r) passed acc = unmoved _ acc.2 refl (command.Forget r)
+
+pub ends_waits : EndsWaits
+ends_waits s s' c a list t n law step begin over =
+    let b = and_both _ _ begin in
+    let w = waiting_is (status_of s t.slot) n b.1 in
+    each_step (λ (x : State). waits_on x t n ≡ false → (is_told t list || ends_wait_of t c) ≡ true) s c a list s'
+    (λ h. absurd (still s law t b.0 n w.0 w.1 s refl h)) (λ next h. h)
+    (λ free next acc h. accepted s law t b.0 n w.0 w.1 a list next h c (all_none (tests_of s c) free) acc) step over

@@ -1,0 +1,5 @@
+use Rattle.gl_steps.proofs.PlayIsStep.{always_answers}
+use Rattle.gl_steps.proofs.laws.always_answers.Goals as goal
+
+pub returns : goal.returns
+returns c = always_answers
