@@ -4,9 +4,9 @@ use Rattle.std.proofs.Common.{refl, sym, subst, inl, inr, arith}
 use Rattle.gl_waits.specs.declared.board.Board.{Board}
 use Rattle.gl_modes.specs.declared.refusal.Refusal.TheVariants as no
 use Rattle.gl_model.specs.declared.answers.Detect.{Detect}
-use Rattle.gl_boxes.specs.Boards.{last_epoch}
-use Rattle.gl_boxes.specs.Strip.{Strip}
-use Rattle.gl_boxes.proofs.Fronts.{prefix_self}
+use Rattle.gl_window.specs.Boards.{last_epoch}
+use Rattle.gl_window.specs.Strip.{Strip}
+use Rattle.gl_window.proofs.Fronts.{prefix_self}
 use Rattle.gl_window.specs.Window.{GoesOn}
 use Rattle.gl_window.specs.declared.publisher.WatchFault.{WatchFault}
 use Rattle.gl_c.specs.declared.reply.Reply.{Reply}

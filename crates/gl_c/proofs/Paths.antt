@@ -34,12 +34,13 @@ use Rattle.gl_steps.proofs.EachStep.{each_step}
 use Rattle.gl_steps.proofs.StepsKeepLaw.{steps_keep_law}
 use Rattle.gl_steps.proofs.WaitsBegin.{nobody_waits_on}
 use Rattle.gl_steps.proofs.WaitsEnd.{ends_waits}
-use Rattle.gl_boxes.specs.Served.{Counts, RisingTo, is_refused}
-use Rattle.gl_boxes.specs.Wakes.{HasEnded}
-use Rattle.gl_boxes.proofs.Idle.{neither}
-use Rattle.gl_boxes.proofs.Rising.{step_rises}
-use Rattle.gl_boxes.proofs.Serving.{step_counts}
-use Rattle.gl_boxes.proofs.Waking.{wakes_ended}
+use Rattle.gl_steps.specs.Served.{Counts, is_refused}
+use Rattle.gl_wakes.specs.Notices.{RisingTo}
+use Rattle.gl_wakes.specs.Wakes.{HasEnded}
+use Rattle.gl_window.proofs.Idle.{neither}
+use Rattle.gl_wakes.proofs.Rising.{step_rises}
+use Rattle.gl_steps.proofs.Serving.{step_counts}
+use Rattle.gl_wakes.proofs.Waking.{wakes_ended}
 use Rattle.gl_c.specs.Paths.{ends_waiting, is_left_waiting}
 
 -- a lock leaves the limit of transactions

@@ -9,7 +9,7 @@ use Rattle.std.specs.Prelude.{Option}
 use Rattle.std.specs.declared.alloc.Global.{Global}
 use Rattle.std.specs.contracts.alloc.Global as heap
 use Rattle.std.proofs.alloc.Calls.{Fits}
-use Rattle.gl_boxes.specs.Strip.{Strip}
+use Rattle.gl_window.specs.Strip.{Strip}
 use Rattle.gl_c.specs.Posted.{owns_watcher}
 use Rattle.gl_c.specs.contracts.posted.Posted as held
 use Rattle.gl_c.proofs.PlaceWords.{plain_heap, place, apart, together}

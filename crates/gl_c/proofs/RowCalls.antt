@@ -40,13 +40,15 @@ use Rattle.gl_registry.specs.Locking.{LocksBy, LocksRow, Wish}
 use Rattle.gl_registry.specs.Releasing.{EndsTxn, GivesBack, RekeysBy, UnlocksBy, node_for}
 use Rattle.gl_registry.specs.Rows.{RegistryView, RowsView, name_of}
 use Rattle.gl_registry.proofs.Upkeep.{LeavesAll, upkeep_law, upkeep_leaves}
-use Rattle.gl_boxes.specs.Boxes.{Delivers, Slot, emptied}
-use Rattle.gl_boxes.specs.Served.{RisingTo, is_query, is_refused, leaves_waiting, names_slot}
-use Rattle.gl_boxes.specs.Wakes.{HasEnded}
-use Rattle.gl_boxes.proofs.Idle.{neither}
-use Rattle.gl_boxes.proofs.Rising.{step_rises}
-use Rattle.gl_boxes.proofs.Serving.{step_counts}
-use Rattle.gl_boxes.proofs.Waking.{wakes_ended}
+use Rattle.gl_wakes.specs.Boxes.{Delivers, Slot, emptied}
+use Rattle.gl_steps.specs.Served.{is_query, is_refused, leaves_waiting}
+use Rattle.gl_wakes.specs.Notices.{RisingTo}
+use Rattle.gl_wakes.specs.Wakes.{names_slot}
+use Rattle.gl_wakes.specs.Wakes.{HasEnded}
+use Rattle.gl_window.proofs.Idle.{neither}
+use Rattle.gl_wakes.proofs.Rising.{step_rises}
+use Rattle.gl_steps.proofs.Serving.{step_counts}
+use Rattle.gl_wakes.proofs.Waking.{wakes_ended}
 use Rattle.gl_c.specs.Guarded.{GuardedView, registry_in}
 use Rattle.gl_c.specs.Rows.{ServesRow, comes_to_nothing, is_waited_for}
 use Rattle.gl_c.specs.Serving.{ShowsOn}

@@ -16,11 +16,11 @@ use Rattle.gl_catalog.specs.Paths.{Ask, lock_of}
 use Rattle.gl_steps.specs.Promises.{NobodyWaits}
 use Rattle.gl_registry.specs.Rows.{RegistryView}
 use Rattle.gl_registry.specs.Serving.{Applies, LocksWay, ServesBy, touches_rows}
-use Rattle.gl_boxes.specs.Boxes.{Delivers, Slot, cleared, emptied}
-use Rattle.gl_boxes.specs.Served.{accepts, leaves_waiting}
-use Rattle.gl_boxes.specs.Strip.{Strip}
-use Rattle.gl_boxes.proofs.Clearing.{cleared_not}
-use Rattle.gl_boxes.proofs.Notices.{delivers_none}
+use Rattle.gl_wakes.specs.Boxes.{Delivers, Slot, cleared, emptied}
+use Rattle.gl_steps.specs.Served.{accepts, leaves_waiting}
+use Rattle.gl_window.specs.Strip.{Strip}
+use Rattle.gl_wakes.proofs.Clearing.{cleared_not}
+use Rattle.gl_wakes.proofs.Notices.{delivers_none}
 use Rattle.gl_c.specs.Guarded.{GuardedView, registry_in}
 use Rattle.gl_c.specs.Paths.{ServesPath, ends_waiting}
 use Rattle.gl_c.specs.Serving.{Serves, ServesUnless, ShowsNobodyLast, ShowsOn, Wakes}

@@ -5,12 +5,12 @@ use mathlib.Core.List.{IsPrefix}
 use Rattle.gl_waits.specs.declared.board.Board.{Board}
 use Rattle.gl_table.specs.Table.{board_of}
 use Rattle.gl_catalog.specs.Manager.{IsLawfulManager, ManagerView, state_of}
-use Rattle.gl_boxes.specs.Boards.{Ends, last_epoch}
+use Rattle.gl_window.specs.Boards.{Ends, last_epoch}
 use Rattle.gl_waits.specs.Boards.{ShowsNobody}
-use Rattle.gl_boxes.specs.Strip.{Strip}
-use Rattle.gl_boxes.proofs.Fronts.{prefix_self, prefix_trans}
-use Rattle.gl_boxes.proofs.Idle.{nobody_shown}
-use Rattle.gl_boxes.proofs.Lists.{told_epoch}
+use Rattle.gl_window.specs.Strip.{Strip}
+use Rattle.gl_window.proofs.Fronts.{prefix_self, prefix_trans}
+use Rattle.gl_window.proofs.Idle.{nobody_shown}
+use Rattle.gl_window.proofs.Lists.{told_epoch}
 use Rattle.gl_window.specs.Window.{GoesOn}
 use Rattle.gl_window.specs.declared.publisher.WatchFault.{WatchFault}
 use Rattle.gl_c.specs.Serving.{ShowsOn}

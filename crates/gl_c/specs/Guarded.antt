@@ -3,8 +3,8 @@ use Rattle.std.specs.Prelude.{Bool, List, Option}
 use Rattle.gl_slots.specs.declared.slots.Slots.{Slots}
 use Rattle.gl_catalog.specs.Manager.{ManagerView}
 use Rattle.gl_registry.specs.Rows.{RegistryView, RowsView}
-use Rattle.gl_boxes.specs.Boxes.{Slot}
-use Rattle.gl_boxes.specs.Strip.{Strip}
+use Rattle.gl_wakes.specs.Boxes.{Slot}
+use Rattle.gl_window.specs.Strip.{Strip}
 
 -- the manager, one notice box a slot, the slots whose wait the last accepted command may have ended, the boards that watchers were shown, if there
 -- ever was a watcher, whether somebody waited when the last was or a lock was left waiting since, and the files of rows with the rows that are locked

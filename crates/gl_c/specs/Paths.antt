@@ -14,7 +14,7 @@ use Rattle.gl_catalog.specs.Manager.{state_of}
 use Rattle.gl_catalog.specs.Paths.{Ask, lock_of}
 use Rattle.gl_steps.specs.Promises.{NobodyWaits}
 use Rattle.gl_registry.specs.Serving.{LocksWay}
-use Rattle.gl_boxes.specs.Boxes.{Delivers, Slot, emptied}
+use Rattle.gl_wakes.specs.Boxes.{Delivers, Slot, emptied}
 use Rattle.gl_c.specs.declared.notices.Notices.{Notices}
 use Rattle.gl_c.specs.declared.reply.Reply.{Reply}
 use Rattle.gl_c.specs.Carries.{Declines}

@@ -17,8 +17,8 @@ use Rattle.gl_registry.specs.declared.answer.RowAnswer.{RowAnswer}
 use Rattle.gl_registry.specs.declared.answer.RowAnswer.TheVariants as row_answer
 use Rattle.gl_registry.specs.declared.call.RowCall.{RowCall}
 use Rattle.gl_registry.specs.declared.row.Row.{Row}
-use Rattle.gl_boxes.specs.Boxes.{Delivers, Slot, emptied}
-use Rattle.gl_boxes.specs.Served.{is_refused, leaves_waiting}
+use Rattle.gl_wakes.specs.Boxes.{Delivers, Slot, emptied}
+use Rattle.gl_steps.specs.Served.{is_refused, leaves_waiting}
 use Rattle.gl_c.specs.declared.notices.Notices.{Notices}
 use Rattle.gl_c.specs.declared.reply.Reply.{Reply}
 use Rattle.gl_c.specs.Carries.{Declines}

@@ -12,11 +12,12 @@ use Rattle.gl_steps.specs.declared.command.Command.{Command}
 use Rattle.gl_catalog.specs.Manager.{ManagerView, state_of}
 use Rattle.gl_steps.specs.Promises.{NobodyWaits}
 use Rattle.gl_registry.specs.Serving.{Applies, touches_rows}
-use Rattle.gl_boxes.specs.Boards.{EndsIdle}
-use Rattle.gl_boxes.specs.Boxes.{Delivers, Slot, cleared}
-use Rattle.gl_boxes.specs.Served.{accepts, leaves_waiting, names_slot}
-use Rattle.gl_boxes.specs.Strip.{Strip}
-use Rattle.gl_boxes.specs.Wakes.{HasEnded}
+use Rattle.gl_window.specs.Boards.{EndsIdle}
+use Rattle.gl_wakes.specs.Boxes.{Delivers, Slot, cleared}
+use Rattle.gl_steps.specs.Served.{accepts, leaves_waiting}
+use Rattle.gl_wakes.specs.Wakes.{names_slot}
+use Rattle.gl_window.specs.Strip.{Strip}
+use Rattle.gl_wakes.specs.Wakes.{HasEnded}
 use Rattle.gl_c.specs.Guarded.{GuardedView, registry_in}
 
 -- nobody waits on the last board that was shown, if one was

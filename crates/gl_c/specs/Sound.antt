@@ -2,7 +2,7 @@
 use Rattle.std.specs.Prelude.{◌≡◌, ◌≤◌, false, IfSome}
 use Rattle.gl_catalog.specs.Manager.{state_of}
 use Rattle.gl_steps.specs.Promises.{NobodyWaits}
-use Rattle.gl_boxes.specs.Boards.{last_epoch}
+use Rattle.gl_window.specs.Boards.{last_epoch}
 use Rattle.gl_c.specs.declared.guarded.Guarded.TheInside.{Inside}
 use Rattle.gl_c.specs.Guarded.{GuardedView}
 use Rattle.gl_c.specs.Serving.{ShowsNobodyLast}

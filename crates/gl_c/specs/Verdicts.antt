@@ -5,10 +5,10 @@ use Rattle.gl_modes.specs.declared.node.NodeId.{NodeId}
 use Rattle.gl_model.specs.declared.txn.TxnId.{TxnId}
 use Rattle.gl_steps.specs.declared.command.Answer.TheVariants as answer
 use Rattle.gl_catalog.specs.Manager.{state_of}
-use Rattle.gl_boxes.specs.declared.grant.Grant.{Grant}
-use Rattle.gl_boxes.specs.declared.grant.Stop.{Stop}
-use Rattle.gl_boxes.specs.declared.grant.Stop.TheVariants as stop
-use Rattle.gl_boxes.specs.Boxes.{verdict_of}
+use Rattle.gl_wakes.specs.declared.grant.Grant.{Grant}
+use Rattle.gl_wakes.specs.declared.grant.Stop.{Stop}
+use Rattle.gl_wakes.specs.declared.grant.Stop.TheVariants as stop
+use Rattle.gl_wakes.specs.Boxes.{verdict_of}
 use Rattle.gl_c.specs.declared.reply.Reply.{Reply}
 use Rattle.gl_c.specs.Carries.{Declines}
 use Rattle.gl_c.specs.Guarded.{GuardedView}

@@ -4,8 +4,8 @@ use Rattle.gl_waits.specs.declared.board.Board.{Board as TheBoard}
 use Rattle.gl_modes.specs.declared.refusal.Refusal.TheVariants as no
 use Rattle.gl_table.specs.Table.{board_of}
 use Rattle.gl_catalog.specs.Manager.{state_of}
-use Rattle.gl_boxes.specs.Boards.{Ends, Fine, last_epoch}
-use Rattle.gl_boxes.specs.Strip.{Strip}
+use Rattle.gl_window.specs.Boards.{Ends, Fine, last_epoch}
+use Rattle.gl_window.specs.Strip.{Strip}
 use Rattle.gl_window.specs.Window.{GoesOn}
 use Rattle.gl_window.specs.declared.publisher.WatchFault.{WatchFault}
 use Rattle.gl_c.specs.declared.board.Board.{Board}

@@ -6,21 +6,20 @@ ghost use Rattle.gl_modes.specs.declared.refusal.Refusal.{Refusal as ARefusal};
 ghost use Rattle.gl_table.specs.Table.{board_of};
 ghost use Rattle.gl_catalog.specs.Manager.{IsLawfulManager, state_of};
 ghost use Rattle.gl_steps.specs.Promises.{NobodyWaits};
-ghost use Rattle.gl_boxes.specs.Boards.{Ends, Fine, last_epoch};
+ghost use Rattle.gl_window.specs.Boards.{Ends, Fine, last_epoch};
 ghost use Rattle.gl_waits.specs.Boards.{ShowsNobody};
 ghost use Rattle.gl_registry.specs.Applying.{answer_in};
 ghost use Rattle.gl_registry.specs.Rows.{name_of};
-ghost use Rattle.gl_boxes.specs.Boxes.{verdict_of};
+ghost use Rattle.gl_wakes.specs.Boxes.{verdict_of};
 ghost use Rattle.gl_c.specs.Managing.{IsNew};
 ghost use Rattle.gl_c.specs.Paths.{ServesPath, ends_waiting};
 ghost use Rattle.gl_c.specs.Rows.{ServesRow, comes_to_nothing, is_waited_for};
 ghost use Rattle.gl_c.specs.Serving.{HasShown, ServesNodes, ShowsNobodyLast, ShowsOn};
 ghost use Rattle.gl_c.specs.Watching.{OnlyShows};
 
-use gl_boxes::{
-    Boxes, Grant, Stop, Telling, board_now, ended_by, is_accepted, is_due, is_refused,
-    leaves_waiting, may_show_waits,
-};
+use gl_steps::{is_accepted, is_refused, leaves_waiting};
+use gl_wakes::{Boxes, Grant, Stop, ended_by};
+use gl_window::{Telling, board_now, is_due, may_show_waits};
 use gl_catalog::{Answer, Command, Manager, Reached};
 use gl_modes::{Mode, NodeId, Refusal};
 use gl_registry::{Registry, Row, RowAnswer, RowCall};

@@ -1,7 +1,7 @@
 //! A watcher behind a raw pointer.
 
 ghost use Rattle.std.specs.Prelude.{◌≡◌, Option, None, Some, is_some, true};
-ghost use Rattle.gl_boxes.specs.Strip.{Strip};
+ghost use Rattle.gl_window.specs.Strip.{Strip};
 ghost use Rattle.gl_c.specs.Posted.{owns_watcher};
 
 use crate::watcher::Watcher;

@@ -12,7 +12,7 @@ use crate::numbers::{
     DONE, GONE, MOVED, NOT_ROWS, ON_THE_WAY, OTHER_KEYS, ROWS_BY_NUMBER, VICTIM, WAITING,
     effect_number, mode_number,
 };
-use gl_boxes::{Grant, Stop};
+use gl_wakes::{Grant, Stop};
 use gl_catalog::{Answer, Reached};
 use gl_modes::{Mode, NodeId, Refusal};
 use gl_registry::RowAnswer;

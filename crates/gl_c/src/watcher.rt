@@ -13,7 +13,7 @@ pub(crate) struct Watcher {
 }
 
 impl Model for Watcher {
-    ghost use Rattle.gl_boxes.specs.Strip.{Strip};
+    ghost use Rattle.gl_window.specs.Strip.{Strip};
 
     ghost Value = { Strip };
 

@@ -1,7 +1,6 @@
 -- the manager over the table
 pub mod LawfulManager
 pub mod Counts
-pub mod Accepting
 pub mod Uncounted
 pub mod Carried
 pub mod Managed

@@ -5,7 +5,7 @@ use Rattle.gl_modes.specs.declared.mode.Mode.TheVariants.{IX, X}
 use Rattle.gl_modes.specs.declared.node.NodeId.{NodeId}
 use Rattle.gl_modes.specs.Modes.{is_at_least}
 use Rattle.gl_model.specs.declared.txn.TxnId.{TxnId}
-use Rattle.gl_boxes.specs.declared.grant.Grant.{Grant}
+use Rattle.gl_wakes.specs.declared.grant.Grant.{Grant}
 
 -- names no node
 abbrev pub no_node : NodeId

@@ -3,7 +3,7 @@
 ghost use Rattle.std.specs.Prelude.{◌≡◌, ◌↔◌, ◌+◌, ℕ, IsNone, IfNone, IfSome};
 ghost use Rattle.gl_model.specs.Tellings.{Told};
 ghost use Rattle.gl_steps.specs.declared.command.Command.TheVariants.{Settle as Settling};
-ghost use Rattle.gl_boxes.specs.Served.{accepts};
+ghost use Rattle.gl_steps.specs.Served.{accepts};
 ghost use Rattle.gl_shared.specs.Batches.{one_if};
 ghost use Rattle.gl_shared.specs.Sessions.{IsServed};
 ghost use Rattle.gl_waits.specs.Boards.{age_in, board_edge};

@@ -1,4 +1,5 @@
 -- What each change of the state keeps of the law.
+pub mod Orderly
 pub mod Keeps
 pub mod Takes
 pub mod Tests

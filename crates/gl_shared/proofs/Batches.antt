@@ -10,8 +10,8 @@ use Rattle.gl_steps.specs.declared.command.Command.{Command}
 use Rattle.gl_catalog.specs.Manager.{state_of}
 use Rattle.gl_steps.specs.Step.{Step}
 use Rattle.gl_shared.specs.Batches.{Serves, ServesEach, ServesOne, Stops, accepted_in, goes_on, one_if}
-use Rattle.gl_boxes.specs.Served.{accepts, leaves_waiting}
-use Rattle.gl_boxes.specs.Boxes.{Delivers, Slot, cleared}
+use Rattle.gl_steps.specs.Served.{accepts, leaves_waiting}
+use Rattle.gl_wakes.specs.Boxes.{Delivers, Slot, cleared}
 use Rattle.gl_shared.specs.State.{GuardedView}
 
 -- one answer more

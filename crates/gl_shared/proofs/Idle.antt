@@ -10,10 +10,10 @@ use Rattle.gl_steps.specs.declared.command.Command.{Command}
 use Rattle.gl_catalog.specs.Manager.{IsLawfulManager, ManagerView, state_of}
 use Rattle.gl_steps.specs.Promises.{NobodyWaits}
 use Rattle.gl_steps.specs.Step.{Step}
-use Rattle.gl_boxes.specs.Boards.{EndsIdle}
+use Rattle.gl_window.specs.Boards.{EndsIdle}
 use Rattle.gl_waits.specs.Boards.{ShowsNobody}
-use Rattle.gl_boxes.specs.Served.{leaves_waiting}
-use Rattle.gl_boxes.proofs.Idle.{neither, nobody_on, nobody_shown}
+use Rattle.gl_steps.specs.Served.{leaves_waiting}
+use Rattle.gl_window.proofs.Idle.{neither, nobody_on, nobody_shown}
 
 -- what is known where nobody waited when watchers were last told, or a lock was left waiting since
 abbrev pub IsQuiet : State → List Board → Bool → Type 0

@@ -3,14 +3,14 @@ use Rattle.std.proofs.Common.{◌≡◌, ℕ, ◌+◌, ◌≤◌, Bool, true, fa
 use Rattle.gl_modes.specs.declared.refusal.Refusal.{Refusal}
 use Rattle.gl_steps.specs.declared.command.Answer.{Answer}
 use Rattle.gl_steps.specs.declared.command.Answer.TheVariants as answer
-use Rattle.gl_boxes.specs.declared.grant.Grant.{Grant}
-use Rattle.gl_boxes.specs.declared.grant.Stop.{Stop}
+use Rattle.gl_wakes.specs.declared.grant.Grant.{Grant}
+use Rattle.gl_wakes.specs.declared.grant.Stop.{Stop}
 use Rattle.gl_modes.specs.declared.mode.Mode.{Mode}
 use Rattle.gl_modes.specs.declared.node.NodeId.{NodeId}
 use Rattle.gl_model.specs.declared.txn.TxnId.{TxnId}
-use Rattle.gl_boxes.specs.Served.{is_refused}
+use Rattle.gl_steps.specs.Served.{is_refused}
 use Rattle.gl_shared.specs.Sessions.{Gives, IsVerdict}
-use Rattle.gl_boxes.specs.Boxes.{is_refusal}
+use Rattle.gl_wakes.specs.Boxes.{is_refusal}
 
 -- an answer that is no refusal
 pub is_not_refused : (a : Answer) → ((r : Refusal) → a ≡ answer.Refused r → ⊥) → is_refused a ≡ false

@@ -4,7 +4,7 @@ use Rattle.std.specs.Arc.{arc_value}
 use Rattle.std.specs.List.{last_or}
 use Rattle.gl_modes.proofs.Words.{none_some, some_is}
 use Rattle.gl_waits.specs.declared.board.Board.{Board}
-use Rattle.gl_boxes.specs.Boards.{Ends}
+use Rattle.gl_window.specs.Boards.{Ends}
 use Rattle.gl_shared.specs.declared.shown.Next.{Next}
 use Rattle.gl_shared.specs.declared.shown.Turn.{Turn}
 use Rattle.gl_shared.specs.Ties.{turned}

@@ -6,8 +6,8 @@ use Rattle.gl_steps.specs.declared.command.Answer.TheVariants as answer
 use Rattle.gl_steps.specs.declared.command.Command.{Command}
 use Rattle.gl_catalog.specs.Manager.{state_of}
 use Rattle.gl_steps.specs.Step.{Step}
-use Rattle.gl_boxes.specs.Served.{accepts, leaves_waiting}
-use Rattle.gl_boxes.specs.Boxes.{Delivers, Slot, cleared}
+use Rattle.gl_steps.specs.Served.{accepts, leaves_waiting}
+use Rattle.gl_wakes.specs.Boxes.{Delivers, Slot, cleared}
 use Rattle.gl_shared.specs.State.{GuardedView}
 
 -- behind this answer the next command is served: none that refuses, leaves its asker waiting, or fells it

@@ -13,11 +13,11 @@ use Rattle.gl_steps.specs.declared.command.Answer.TheVariants as answer
 use Rattle.gl_steps.specs.declared.command.Command.{Command}
 use Rattle.gl_catalog.specs.Manager.{IsLawfulManager, ManagerView, state_of}
 use Rattle.gl_steps.specs.Step.{Step}
-use Rattle.gl_boxes.specs.declared.grant.Grant.{Grant}
-use Rattle.gl_boxes.specs.declared.grant.Stop.{Stop}
-use Rattle.gl_boxes.specs.declared.grant.Stop.TheVariants as stop
-use Rattle.gl_boxes.specs.Boxes.{verdict_of}
-use Rattle.gl_boxes.specs.Served.{names_slot}
+use Rattle.gl_wakes.specs.declared.grant.Grant.{Grant}
+use Rattle.gl_wakes.specs.declared.grant.Stop.{Stop}
+use Rattle.gl_wakes.specs.declared.grant.Stop.TheVariants as stop
+use Rattle.gl_wakes.specs.Boxes.{verdict_of}
+use Rattle.gl_wakes.specs.Wakes.{names_slot}
 use Rattle.gl_shared.specs.State.{GuardedView}
 
 -- the command was served: by a step from a lawful state, so answered and so told, behind which so many commands had been accepted

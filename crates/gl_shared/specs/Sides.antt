@@ -2,7 +2,7 @@
 use Rattle.std.specs.Prelude.{◌≡◌, [], drop}
 use Rattle.gl_shared.specs.declared.boards.Side.{Side}
 use Rattle.gl_shared.specs.declared.boards.Side.TheVariants.{Open, Closed}
-use Rattle.gl_boxes.specs.Strip.{Strip}
+use Rattle.gl_window.specs.Strip.{Strip}
 
 -- the list that is shown, its book and the way of detection
 abbrev pub shown_by : Side → Strip

@@ -4,11 +4,11 @@ use Rattle.gl_waits.specs.declared.board.Board.{Board}
 use Rattle.gl_model.specs.State.{State}
 use Rattle.gl_catalog.specs.Manager.{ManagerView}
 use Rattle.gl_steps.specs.Promises.{NobodyWaits}
-use Rattle.gl_boxes.specs.Boards.{EndsIdle}
+use Rattle.gl_window.specs.Boards.{EndsIdle}
 use Rattle.gl_waits.specs.Boards.{ShowsNobody}
-use Rattle.gl_boxes.specs.Boxes.{Slot}
-use Rattle.gl_boxes.specs.declared.telling.Telling.{Telling}
-use Rattle.gl_boxes.specs.declared.telling.Telling.TheVariants.{WhileWaiting}
+use Rattle.gl_wakes.specs.Boxes.{Slot}
+use Rattle.gl_window.specs.declared.telling.Telling.{Telling}
+use Rattle.gl_window.specs.declared.telling.Telling.TheVariants.{WhileWaiting}
 use Rattle.gl_shared.specs.declared.guarded.Tell.{Tell}
 use Rattle.gl_shared.specs.declared.guarded.Tell.TheVariants.{Published, NoMemory}
 

@@ -4,13 +4,13 @@ use Rattle.std.specs.Option.{option_map}
 use Rattle.std.specs.Arc.{arc_value}
 use mathlib.Core.Option.{some}
 use lib.ListN.{get_elem?}
-use Rattle.gl_boxes.specs.Strip.{Strip}
+use Rattle.gl_window.specs.Strip.{Strip}
 use Rattle.gl_shared.specs.declared.shown.Shown.{Shown}
 use Rattle.gl_shared.specs.declared.shown.Tie.{Tie}
 use Rattle.gl_shared.specs.declared.shown.Turn.{Turn}
 use Rattle.gl_shared.specs.declared.shown.Next.{Next}
-use Rattle.gl_boxes.specs.Rules.{head_of}
-use Rattle.gl_boxes.specs.Boards.{IsLawful}
+use Rattle.gl_window.specs.Rules.{head_of}
+use Rattle.gl_window.specs.Boards.{IsLawful}
 use Rattle.gl_waits.specs.declared.board.Board.{Board}
 use Rattle.gl_model.specs.declared.answers.Detect.{Detect}
 use Rattle.logbook.specs.Pages.{Book}

@@ -6,13 +6,13 @@ ghost use Rattle.gl_catalog.specs.Manager.{IsLawfulManager, state_of};
 ghost use Rattle.gl_shared.specs.Batches.{Serves, Stops, accepted_in, goes_on};
 ghost use Rattle.gl_shared.specs.Sessions.{IsVerdict};
 ghost use Rattle.gl_shared.specs.State.{GuardedView};
-ghost use Rattle.gl_boxes.specs.Wakes.{HasEnded};
+ghost use Rattle.gl_wakes.specs.Wakes.{HasEnded};
 
 use crate::guarded::Guarded;
 use crate::naming::Naming;
 use crate::session::{Session, await_verdict};
 use crate::share::Share;
-use gl_boxes::{Grant, Stop, ended_by};
+use gl_wakes::{Grant, Stop, ended_by};
 use gl_catalog::{Answer, Command};
 use gl_modes::{Mode, NodeId, Refusal};
 use gl_slots::Slots;

@@ -2,14 +2,14 @@
 ghost use Rattle.std.specs.Prelude.{◌≡◌, [], ◌∷◌, ◌++◌, ◌≤◌, ◌^◌, ◌<◌, drop, fold, IfOk, MatchBool, None, Some};
 ghost use Rattle.std.specs.Arc.{arc_value};
 ghost use Rattle.left_right.specs.Sides.{view};
-ghost use Rattle.gl_boxes.specs.Boards.{Fine, last_epoch};
-ghost use Rattle.gl_boxes.specs.Rules.{head_of};
+ghost use Rattle.gl_window.specs.Boards.{Fine, last_epoch};
+ghost use Rattle.gl_window.specs.Rules.{head_of};
 ghost use Rattle.gl_shared.specs.Sides.{IsIdle, shown_by};
 ghost use Rattle.gl_shared.specs.Ties.{tie_of, turn_of, turned};
 
 use crate::rule::{Publish, Published, Ties};
 use crate::shown::{Next, Shown, Tie};
-use gl_boxes::{Head, Line};
+use gl_window::{Head, Line};
 use gl_waits::Board;
 use left_right::reader::Reader;
 use left_right::writer::Writer;

@@ -12,20 +12,21 @@ ghost use Rattle.gl_steps.specs.declared.command.Command.TheVariants.{Lock};
 ghost use Rattle.gl_catalog.specs.Manager.{IsLawfulManager, state_of};
 ghost use Rattle.gl_steps.specs.Promises.{KeepsCaller};
 ghost use Rattle.gl_steps.specs.Step.{Step};
-ghost use Rattle.gl_boxes.specs.Boxes.{Delivers, Slot, cleared, verdict_of};
-ghost use Rattle.gl_boxes.specs.Served.{RisingTo, accepts, is_refused, leaves_waiting};
-ghost use Rattle.gl_boxes.specs.Tellings.{is_due};
-ghost use Rattle.gl_boxes.specs.declared.grant.Grant.{Grant};
-ghost use Rattle.gl_boxes.specs.Boards.{last_epoch, IsLawful};
+ghost use Rattle.gl_wakes.specs.Boxes.{Delivers, Slot, cleared, verdict_of};
+ghost use Rattle.gl_steps.specs.Served.{accepts, is_refused, leaves_waiting};
+ghost use Rattle.gl_wakes.specs.Notices.{RisingTo};
+ghost use Rattle.gl_window.specs.Tellings.{is_due};
+ghost use Rattle.gl_wakes.specs.declared.grant.Grant.{Grant};
+ghost use Rattle.gl_window.specs.Boards.{last_epoch, IsLawful};
 ghost use Rattle.gl_shared.specs.State.{Remembers, StaysUntold, Told};
 
 use crate::naming::Naming;
 use crate::note::Note;
 use crate::publisher::Publisher;
 use crate::share::Share;
-use gl_boxes::{
-    Boxes, Grant, Stop, Telling, board_now, is_accepted, is_due, leaves_waiting, may_show_waits,
-};
+use gl_steps::{is_accepted, leaves_waiting};
+use gl_wakes::{Boxes, Grant, Stop};
+use gl_window::{Telling, board_now, is_due, may_show_waits};
 use gl_catalog::{Answer, Command, Counters, Manager, Reply};
 use gl_modes::{Mode, NodeId};
 use gl_table::{Told, TxnId};
@@ -60,7 +61,7 @@ impl<N: Naming> Model for Guarded<N> {
     ghost use Rattle.std.specs.Prelude.{false};
     ghost use Rattle.gl_catalog.specs.Manager.{state_of};
     ghost use Rattle.gl_steps.specs.Promises.{NobodyWaits};
-    ghost use Rattle.gl_boxes.specs.Boards.{EndsIdle, last_epoch};
+    ghost use Rattle.gl_window.specs.Boards.{EndsIdle, last_epoch};
     ghost use Rattle.gl_shared.specs.State.{GuardedView};
 
     ghost Value = { GuardedView };

@@ -17,7 +17,9 @@ mod wakes;
 mod watcher;
 
 pub use boards::{BoardReader, BoardWriter};
-pub use gl_boxes::{Grant, Head, Line, Slot, Stop, Telling, board_now, is_accepted};
+pub use gl_steps::is_accepted;
+pub use gl_wakes::{Grant, Slot, Stop};
+pub use gl_window::{Head, Line, Telling, board_now};
 pub use guarded::{Guarded, Tell};
 pub use naming::Naming;
 pub use note::Note;

@@ -1,9 +1,9 @@
 //! What a session was told, and what a watcher knows.
 ghost use Rattle.std.specs.Prelude.{◌≡◌};
-ghost use Rattle.gl_boxes.specs.Boards.{IsLawful, Ends, last_epoch};
+ghost use Rattle.gl_window.specs.Boards.{IsLawful, Ends, last_epoch};
 
 use crate::naming::Naming;
-use gl_boxes::Line;
+use gl_window::Line;
 use gl_waits::Board;
 use std::marker::{Model, PhantomData};
 
@@ -17,7 +17,7 @@ pub struct Note<N: Naming> {
 impl<N: Naming> Model for Note<N> {
     ghost use Rattle.std.specs.Prelude.{◌≡◌, List};
     ghost use Rattle.gl_waits.specs.declared.board.Board.{Board};
-    ghost use Rattle.gl_boxes.specs.Boards.{IsLawful};
+    ghost use Rattle.gl_window.specs.Boards.{IsLawful};
 
     ghost Value = { List Board };
 

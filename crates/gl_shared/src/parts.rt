@@ -5,13 +5,13 @@ ghost use Rattle.std.specs.Arc.{arc_value};
 ghost use Rattle.gl_modes.specs.declared.refusal.Refusal.{Refusal as ARefusal};
 ghost use Rattle.gl_table.specs.Table.{board_of};
 ghost use Rattle.gl_catalog.specs.Manager.{state_of};
-ghost use Rattle.gl_boxes.specs.Boards.{Fine};
-ghost use Rattle.gl_boxes.specs.Rules.{head_of};
+ghost use Rattle.gl_window.specs.Boards.{Fine};
+ghost use Rattle.gl_window.specs.Rules.{head_of};
 ghost use Rattle.gl_shared.specs.Ties.{tie_of};
-ghost use Rattle.gl_boxes.specs.declared.telling.Telling.TheVariants.{Always};
+ghost use Rattle.gl_window.specs.declared.telling.Telling.TheVariants.{Always};
 
 use crate::boards::{BoardWriter, open};
-use gl_boxes::{Head, Line, Telling, board_now};
+use gl_window::{Head, Line, Telling, board_now};
 use gl_catalog::Manager;
 use gl_modes::Refusal;
 use std::alloc::Global;

@@ -2,14 +2,14 @@
 
 ghost use Rattle.std.specs.Prelude.{◌≡◌, ◌++◌, ◌∷◌, ◌≤◌, [], drop, MatchBool, Some};
 ghost use Rattle.std.specs.Arc.{arc_value};
-ghost use Rattle.gl_boxes.specs.Boards.{Fine, IsLawful, last_epoch};
-ghost use Rattle.gl_boxes.specs.Rules.{head_of};
+ghost use Rattle.gl_window.specs.Boards.{Fine, IsLawful, last_epoch};
+ghost use Rattle.gl_window.specs.Rules.{head_of};
 ghost use Rattle.gl_shared.specs.Ties.{IsOf};
 
 use crate::boards::{BoardWriter, Side, publish};
 use crate::naming::Naming;
 use crate::note::Note;
-use gl_boxes::{Head, Line};
+use gl_window::{Head, Line};
 use gl_waits::Board;
 use std::alloc::Global;
 use std::marker::{Model, PhantomData};
@@ -28,7 +28,7 @@ impl<N: Naming> Model for Publisher<N> {
     ghost use Rattle.std.specs.Prelude.{◌≡◌, List, IsSomeAnd};
     ghost use Rattle.std.specs.Arc.{arc_value};
     ghost use Rattle.gl_waits.specs.declared.board.Board.{Board};
-    ghost use Rattle.gl_boxes.specs.Rules.{head_of};
+    ghost use Rattle.gl_window.specs.Rules.{head_of};
     ghost use Rattle.gl_shared.specs.Sides.{IsIdle, shown_by};
     ghost use Rattle.gl_shared.specs.Ties.{IsOf};
     ghost use Rattle.gl_shared.specs.Lists.{list_in};

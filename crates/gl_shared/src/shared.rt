@@ -4,7 +4,7 @@ ghost use Rattle.std.specs.Prelude.{◌≡◌, ◌+◌, ◌≤◌, ◌<◌, ◌�
 ghost use Rattle.gl_modes.specs.declared.refusal.Refusal.{Refusal as ARefusal};
 ghost use Rattle.gl_table.specs.Table.{board_of};
 ghost use Rattle.gl_catalog.specs.Manager.{IsLawfulManager, state_of};
-ghost use Rattle.gl_boxes.specs.Rules.{head_of};
+ghost use Rattle.gl_window.specs.Rules.{head_of};
 ghost use Rattle.gl_shared.specs.State.{GuardedView};
 ghost use Rattle.gl_shared.specs.Ties.{IsOf, tie_of};
 
@@ -17,7 +17,7 @@ use crate::rule::Ties;
 use crate::share::Share;
 use crate::wakes::Wakes;
 use crate::watcher::Watcher;
-use gl_boxes::Line;
+use gl_window::Line;
 use gl_catalog::{Counters, Manager};
 use gl_modes::Refusal;
 use std::alloc::{AllocError, Global};

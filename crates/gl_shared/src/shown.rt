@@ -3,10 +3,10 @@ ghost use Rattle.std.specs.Prelude.{◌≡◌, ◌≤◌, None, true};
 ghost use Rattle.std.specs.List.{last_or};
 ghost use Rattle.std.specs.Option.{option_map};
 ghost use Rattle.std.specs.Arc.{arc_value};
-ghost use Rattle.gl_boxes.specs.Boards.{Fine, last_epoch};
-ghost use Rattle.gl_boxes.specs.Rules.{head_of};
+ghost use Rattle.gl_window.specs.Boards.{Fine, last_epoch};
+ghost use Rattle.gl_window.specs.Rules.{head_of};
 
-use gl_boxes::{Head, Line};
+use gl_window::{Head, Line};
 use gl_table::Detect;
 use gl_waits::Board;
 use std::sync::Arc;

@@ -3,10 +3,10 @@
 ghost use Rattle.gl_slots.specs.Limit.{most_slots};
 ghost use Rattle.std.specs.Prelude.{◌≡◌, ◌<◌};
 ghost use Rattle.gl_slots.specs.Slots.{no_slots};
-ghost use Rattle.gl_boxes.specs.Served.{RisingTo};
+ghost use Rattle.gl_wakes.specs.Notices.{RisingTo};
 ghost use Rattle.gl_shared.specs.Sessions.{AreWoken};
 
-use gl_boxes::ended_by;
+use gl_wakes::ended_by;
 use gl_catalog::Command;
 use gl_slots::{SLOTS, Slot, Slots};
 use gl_table::{Notice, TxnId};

@@ -1,15 +1,15 @@
 //! Watchers read boards with no lock, and learn notes.
 ghost use Rattle.std.specs.Prelude.{◌≡◌, ◌⊎◌, ◌≤◌, IfSome, IfNone, IfOk, Some};
 ghost use mathlib.Core.List.{IsPrefix};
-ghost use Rattle.gl_boxes.specs.Boards.{Ends, IsLawful, last_epoch};
-ghost use Rattle.gl_boxes.specs.Rules.{head_of};
+ghost use Rattle.gl_window.specs.Boards.{Ends, IsLawful, last_epoch};
+ghost use Rattle.gl_window.specs.Rules.{head_of};
 ghost use Rattle.gl_shared.specs.Ties.{IsOf};
 
 use crate::boards::{BoardReader, BoardWriter};
 use crate::naming::Naming;
 use crate::note::Note;
 use crate::rule::{Enter, Ties};
-use gl_boxes::Line;
+use gl_window::Line;
 use gl_waits::Board;
 use std::alloc::AllocError;
 use std::marker::{Model, PhantomData};
@@ -25,7 +25,7 @@ pub struct Watcher<N: Naming> {
 impl<N: Naming> Model for Watcher<N> {
     ghost use Rattle.std.specs.Prelude.{◌≡◌, List, Some, IsSomeAnd};
     ghost use Rattle.gl_waits.specs.declared.board.Board.{Board};
-    ghost use Rattle.gl_boxes.specs.Rules.{head_of};
+    ghost use Rattle.gl_window.specs.Rules.{head_of};
     ghost use Rattle.gl_shared.specs.Ties.{IsOf};
 
     ghost Value = { List Board };

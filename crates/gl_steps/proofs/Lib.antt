@@ -1,5 +1,6 @@
 -- the count of accepted commands, which nothing else asks for
 pub mod Counting
+pub mod Accepting
 -- steps
 pub mod EachStep
 pub mod Made
@@ -46,3 +47,5 @@ mod RecordRows
 mod MoveRows
 mod RefusalRows
 mod Limits
+-- which commands are counted
+pub mod Serving

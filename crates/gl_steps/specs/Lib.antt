@@ -1,3 +1,4 @@
 pub mod Tests
 pub mod Step
 pub mod Promises
+pub mod Served

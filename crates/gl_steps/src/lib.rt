@@ -2,7 +2,9 @@
 //! over every step and every run.
 #![tactic(auto)]
 
+mod accepted;
 mod command;
 pub mod laws;
 
+pub use accepted::{is_accepted, is_refused, leaves_waiting};
 pub use command::{Answer, Command, Escalated, Reply};

@@ -1,1 +1,6 @@
+pub mod Adding
+pub mod Fronts
+pub mod Idle
+pub mod Lists
+pub mod RealBoards
 pub mod SeatSteps

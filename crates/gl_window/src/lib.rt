@@ -1,10 +1,17 @@
-//! A window: one side shows boards, each whole, and up to eight watchers look at the last with no lock.
+//! Boards for watchers: the board of now, the list of those that were published, and when one is due; and a
+//! window, through which up to eight watchers look at the last with no lock, each board whole.
 #![tactic(auto)]
 
+mod history;
+mod now;
 mod publisher;
 mod seats;
+mod telling;
 mod watcher;
 mod window;
 
+pub use history::{Head, Line};
+pub use now::board_now;
 pub use publisher::{Publisher, WatchFault};
+pub use telling::{Telling, is_due, may_show_waits};
 pub use watcher::Watcher;

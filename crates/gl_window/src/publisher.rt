@@ -1,13 +1,13 @@
 //! The side that shows boards.
 
 ghost use Rattle.std.specs.Prelude.{◌≡◌, ◌≤◌, ◌⊎◌, ◌++◌, ◌∷◌, [], true, IfOk};
-ghost use Rattle.gl_boxes.specs.Boards.{Fine, last_epoch};
-ghost use Rattle.gl_boxes.specs.Rules.{head_of};
+ghost use Rattle.gl_window.specs.Boards.{Fine, last_epoch};
+ghost use Rattle.gl_window.specs.Rules.{head_of};
 ghost use Rattle.gl_window.specs.Window.{GoesOn};
 
 use crate::watcher::Watcher;
 use crate::window::Window;
-use gl_boxes::{Head, Line};
+use crate::history::{Head, Line};
 use gl_model::Detect;
 use gl_waits::Board;
 use std::alloc::{AllocError, Global};
@@ -35,8 +35,8 @@ pub struct Publisher {
 impl Model for Publisher {
     ghost use Rattle.std.specs.Prelude.{◌≡◌};
     ghost use Rattle.std.specs.Arc.{arc_value};
-    ghost use Rattle.gl_boxes.specs.Rules.{head_of};
-    ghost use Rattle.gl_boxes.specs.Strip.{Strip};
+    ghost use Rattle.gl_window.specs.Rules.{head_of};
+    ghost use Rattle.gl_window.specs.Strip.{Strip};
     ghost use Rattle.gl_window.specs.Window.{GoesOn};
 
     ghost Value = { Strip };

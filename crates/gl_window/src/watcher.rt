@@ -2,11 +2,11 @@
 
 ghost use Rattle.std.specs.Prelude.{◌≡◌, ◌≤◌};
 ghost use mathlib.Core.List.{IsPrefix};
-ghost use Rattle.gl_boxes.specs.Boards.{Ends, Fine, last_epoch};
+ghost use Rattle.gl_window.specs.Boards.{Ends, Fine, last_epoch};
 
 use crate::seats::Chair;
 use crate::window::Window;
-use gl_boxes::Line;
+use crate::history::Line;
 use gl_waits::Board;
 use std::marker::Model;
 use std::sync::Arc;
@@ -22,7 +22,7 @@ pub struct Watcher {
 impl Model for Watcher {
     ghost use Rattle.std.specs.Prelude.{◌≡◌};
     ghost use Rattle.std.specs.Arc.{arc_value};
-    ghost use Rattle.gl_boxes.specs.Strip.{Strip};
+    ghost use Rattle.gl_window.specs.Strip.{Strip};
     ghost use Rattle.gl_window.specs.Window.{GoesOn};
 
     ghost Value = { Strip };

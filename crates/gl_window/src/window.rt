@@ -6,7 +6,7 @@ ghost use Rattle.gl_window.specs.Window.{GoesOn};
 
 use crate::seats::Seats;
 use counted_slot::{Counted, Fits, MOST_READERS, ONE_READER, PRESENT, TAKEN};
-use gl_boxes::Line;
+use crate::history::Line;
 use std::alloc::{AllocError, Global};
 use std::sync::atomic::{AtomicU64, Ordering};
 

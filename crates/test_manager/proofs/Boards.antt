@@ -10,8 +10,8 @@ use Rattle.gl_slots.proofs.SlotLemmas.{no_bits-none}
 use Rattle.std.proofs.lemmas.Bool.{cases_lt}
 use Rattle.std.proofs.lemmas.List.{get_or_past, get_or-replicate, length-replicate}
 use Rattle.gl_model.specs.declared.answers.Detect.TheVariants.{AtBlock}
-use Rattle.gl_boxes.specs.Boards.{Fine, last_epoch}
-use Rattle.gl_boxes.proofs.Lists.{last_ends}
+use Rattle.gl_window.specs.Boards.{Fine, last_epoch}
+use Rattle.gl_window.proofs.Lists.{last_ends}
 
 empty_row : (s : ℕ) → get_or (replicate most_slots no_bits) s no_bits ≡ no_bits
 empty_row s = ⊎_elim

@@ -3,7 +3,7 @@
 
 ghost use Rattle.std.specs.Prelude.{◌≡◌, ◌≤◌};
 ghost use Rattle.gl_model.specs.declared.answers.Detect.TheVariants.{AtBlock};
-ghost use Rattle.gl_boxes.specs.Boards.{Fine, last_epoch};
+ghost use Rattle.gl_window.specs.Boards.{Fine, last_epoch};
 
 use crate::wanted::same;
 use gl_table::Detect;

@@ -10,7 +10,7 @@ use Rattle.gl_table.proofs.Words.{TxnId, txns_of, unlocked, verdict, Victims, vi
 use Rattle.gl_table.specs.declared.ledger.Ledger.{Ledger}
 use Rattle.gl_table.specs.declared.locks.Locks.{Locks}
 use Rattle.gl_table.specs.declared.table.Table.TheInside.{Inside}
-use Rattle.gl_table.proofs.calls.Stands.{lawful_orderly}
+use Rattle.gl_model.proofs.law.Orderly.{lawful_orderly}
 use Rattle.gl_table.proofs.calls.Queries.{none_found_counted}
 use Rattle.gl_model.proofs.law.Lock.{released-no_cycle, unlocked-lawful, unlocked-no_cycle}
 use Rattle.gl_model.proofs.law.Takes.{released-lawful}

@@ -9,7 +9,8 @@ use Rattle.gl_table.proofs.Words.{same_number, shape_of, slice_get, slot_limit, 
 use Rattle.gl_table.proofs.Words.{subst, sym, TableView, Told, told, told_to, true, unlisted, unlisted_by, View, view_of, with_parents, X, ℕ}
 use Rattle.gl_table.specs.declared.ledger.Ledger.{Ledger}
 use Rattle.gl_table.specs.declared.table.Table.TheInside.{Inside}
-use Rattle.gl_table.proofs.calls.Stands.{lawful_orderly, MayStand, stands, with_locks}
+use Rattle.gl_model.proofs.law.Orderly.{lawful_orderly}
+use Rattle.gl_table.proofs.calls.Stands.{MayStand, stands, with_locks}
 use Rattle.gl_table.proofs.inside.TurnedAway.{is_lost, moved_notice, moved_told}
 use Rattle.gl_model.proofs.law.Effects.{x_is}
 use Rattle.gl_model.proofs.law.Move.{changed_keeps, HoldsNode, HoldsParents, live_kept, may_be_moved, may_be_rekeyed, moved-no_cycle, moved_node, Moves}

@@ -16,7 +16,8 @@ use Rattle.gl_table.specs.declared.locks.Locks.{Locks}
 use Rattle.gl_table.specs.declared.table.Table.TheInside.{Inside}
 use Rattle.gl_model.specs.declared.answers.Notice.TheVariants as notice
 use Rattle.gl_table.proofs.calls.Calls.{table_way}
-use Rattle.gl_table.proofs.calls.Stands.{lawful_orderly, MayStand, stands, with_locks}
+use Rattle.gl_model.proofs.law.Orderly.{lawful_orderly}
+use Rattle.gl_table.proofs.calls.Stands.{MayStand, stands, with_locks}
 use Rattle.gl_table.proofs.calls.Law.{called, held-lives, Suits, suited-stands}
 use Rattle.gl_table.proofs.calls.Queries.{children_in}
 use Rattle.gl_table.proofs.inside.Asks.{state-same}

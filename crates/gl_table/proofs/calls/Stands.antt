@@ -1,18 +1,8 @@
 -- When a ledger over a graph may stand in a table. For the calls that write either.
 use Rattle.gl_table.proofs.Words.{Agrees, AreExact, AreSound, CountsHeld, Detect, IsLawful, IsOrderly, IsSafe, IsSound, State, state_in, Victims, View, ℕ}
+use Rattle.gl_model.proofs.law.Orderly.{lawful_orderly}
 use Rattle.gl_table.specs.declared.ledger.Ledger.{Ledger}
 use Rattle.gl_table.specs.declared.table.Table.TheInside.{Inside}
-
--- what a lawful state says of the steps within a call
-pub lawful_orderly : (s : State) → IsLawful s → IsOrderly s
-lawful_orderly s law = record {
-  holders = λ u q h. (law.grants_live u q h).0;
-  holders_live = λ u q h. (law.grants_live u q h).1;
-  waiters_live = law.waits_live;
-  waits_are = law.waits_are;
-  one_wait = λ u q m h. (law.one_wait u q m h, (law.waits_intend u q m h).1);
-  below = law.slots_below;
-}
 
 -- the state of a table with locks of this state
 abbrev pub with_locks : Inside → State → State

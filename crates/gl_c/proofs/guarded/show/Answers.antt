@@ -3,7 +3,7 @@ use Rattle.gl_waits.specs.declared.board.Board.{Board}
 use Rattle.gl_model.specs.declared.answers.Detect.{Detect}
 use Rattle.gl_table.specs.Table.{board_of}
 use Rattle.gl_catalog.specs.Manager.{state_of}
-use Rattle.gl_boxes.specs.Boards.{Fine}
+use Rattle.gl_window.specs.Boards.{Fine}
 use Rattle.gl_waits.specs.Boards.{ShowsNobody}
 use Rattle.gl_c.proofs.Showing.{either_board}
 use Rattle.gl_c.proofs.guarded.show.Goals as goal

@@ -1,6 +1,6 @@
 use Rattle.std.specs.Prelude.{Option, Some, Ok, Result}
 use Rattle.std.proofs.Common.{rules, ◌≡◌, inr, subst, sym}
-use Rattle.gl_boxes.specs.Strip.{Strip}
+use Rattle.gl_window.specs.Strip.{Strip}
 use Rattle.gl_window.specs.declared.publisher.WatchFault.{WatchFault}
 use Rattle.gl_c.specs.Handle.{guarded_in}
 use Rattle.gl_c.specs.Lookout.{watcher_in}

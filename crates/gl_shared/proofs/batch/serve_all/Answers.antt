@@ -4,7 +4,7 @@ use Rattle.gl_steps.specs.declared.command.Answer.{Answer}
 use Rattle.gl_shared.specs.Batches.{Serves, Stops, goes_on}
 use Rattle.gl_shared.proofs.Batches.{accepted_none, all_more, counted_if, one_longer, serves_next, serves_none, serves_one, share_more, stops_here, stops_whole}
 use Rattle.gl_steps.proofs.StepsKeepLaw.{steps_keep_law}
-use Rattle.gl_boxes.proofs.Waking.{ended_more, ended_none, wakes_told}
+use Rattle.gl_wakes.proofs.Waking.{ended_more, ended_none, wakes_told}
 use Rattle.gl_shared.proofs.batch.serve_all.Goals as goal
 
 pub loop-command-init : goal.loop-command-init

@@ -3,7 +3,7 @@ use Rattle.std.specs.List.{list_all}
 use Rattle.gl_model.specs.Lawful.{IsLawful}
 use Rattle.gl_catalog.specs.Manager.{state_of}
 use Rattle.gl_shared.specs.Batches.{Serves, accepted_in, goes_on}
-use Rattle.gl_boxes.specs.Wakes.{HasEnded}
+use Rattle.gl_wakes.specs.Wakes.{HasEnded}
 use Rattle.gl_shared.proofs.batch.serve_all.Given as goal
 
 -- the commands taken so far were served, and went on; each has its answer, there is room for the others', and whose wait they ended is known

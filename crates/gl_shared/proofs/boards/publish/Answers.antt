@@ -2,7 +2,7 @@ use Rattle.std.proofs.Common.{rules, ◌≡◌, ◌++◌, ◌∷◌, [], ◌∙�
 use Rattle.std.specs.Arc.{arc_value}
 use Rattle.std.specs.Option.{option_map}
 use Rattle.gl_waits.specs.declared.board.Board.{Board}
-use Rattle.gl_boxes.specs.Boards.{Ends}
+use Rattle.gl_window.specs.Boards.{Ends}
 use Rattle.gl_shared.specs.declared.shown.Shown.{Shown}
 use Rattle.gl_shared.specs.declared.shown.Turn.{Turn}
 use Rattle.gl_shared.proofs.Published.{last-ends, turned-once}

@@ -1,5 +1,5 @@
 use Rattle.std.proofs.Common.{rules, ◌≤◌, ◌∙◌}
-use Rattle.gl_boxes.specs.Boards.{last_epoch}
+use Rattle.gl_window.specs.Boards.{last_epoch}
 use Rattle.test_manager.proofs.Boards.{rises_on}
 use Rattle.test_manager.proofs.windows.shows.Goals as goal
 

@@ -13,14 +13,16 @@ use Rattle.gl_catalog.specs.Manager.{state_of}
 use Rattle.gl_steps.proofs.Detection.{steps_keep_detect}
 use Rattle.gl_registry.specs.Rows.{RegistryView}
 use Rattle.gl_registry.specs.Serving.{touches_rows}
-use Rattle.gl_boxes.specs.Boxes.{Delivers, Slot, emptied}
-use Rattle.gl_boxes.specs.Served.{RisingTo, accepts, names_slot}
-use Rattle.gl_boxes.specs.Strip.{Strip}
-use Rattle.gl_boxes.proofs.Clearing.{cleared_yes}
-use Rattle.gl_boxes.proofs.Idle.{neither, nobody_on}
-use Rattle.gl_boxes.proofs.Rising.{step_rises}
-use Rattle.gl_boxes.proofs.Serving.{step_counts}
-use Rattle.gl_boxes.proofs.Waking.{wakes_told}
+use Rattle.gl_wakes.specs.Boxes.{Delivers, Slot, emptied}
+use Rattle.gl_steps.specs.Served.{accepts}
+use Rattle.gl_wakes.specs.Notices.{RisingTo}
+use Rattle.gl_wakes.specs.Wakes.{names_slot}
+use Rattle.gl_window.specs.Strip.{Strip}
+use Rattle.gl_wakes.proofs.Clearing.{cleared_yes}
+use Rattle.gl_window.proofs.Idle.{neither, nobody_on}
+use Rattle.gl_wakes.proofs.Rising.{step_rises}
+use Rattle.gl_steps.proofs.Serving.{step_counts}
+use Rattle.gl_wakes.proofs.Waking.{wakes_told}
 use Rattle.gl_c.specs.Guarded.{GuardedView}
 use Rattle.gl_c.specs.Serving.{ServesNodes, ShowsOn}
 use Rattle.gl_c.specs.Sound.{IsSound, view_of}

@@ -11,10 +11,11 @@ use Rattle.gl_model.specs.Tellings.{Told}
 use Rattle.gl_catalog.specs.Manager.{state_of}
 use Rattle.gl_catalog.specs.Paths.{lock_of}
 use Rattle.gl_registry.specs.Rows.{RegistryView}
-use Rattle.gl_boxes.specs.Boxes.{Delivers, Slot, emptied}
-use Rattle.gl_boxes.specs.Served.{RisingTo, names_slot}
-use Rattle.gl_boxes.specs.Strip.{Strip}
-use Rattle.gl_boxes.proofs.Idle.{neither}
+use Rattle.gl_wakes.specs.Boxes.{Delivers, Slot, emptied}
+use Rattle.gl_wakes.specs.Notices.{RisingTo}
+use Rattle.gl_wakes.specs.Wakes.{names_slot}
+use Rattle.gl_window.specs.Strip.{Strip}
+use Rattle.gl_window.proofs.Idle.{neither}
 use Rattle.gl_c.specs.Guarded.{GuardedView}
 use Rattle.gl_c.specs.Paths.{ServesPath}
 use Rattle.gl_c.specs.Serving.{ShowsOn}

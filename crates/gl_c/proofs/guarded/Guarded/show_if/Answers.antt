@@ -3,8 +3,8 @@ use Rattle.std.specs.Prelude.{Option, Some, IfSome}
 use mathlib.Core.Bool.{true≢false}
 use Rattle.gl_table.specs.Table.{board_of}
 use Rattle.gl_catalog.specs.Manager.{ManagerView, state_of}
-use Rattle.gl_boxes.specs.Boards.{last_epoch}
-use Rattle.gl_boxes.specs.Strip.{Strip}
+use Rattle.gl_window.specs.Boards.{last_epoch}
+use Rattle.gl_window.specs.Strip.{Strip}
 use Rattle.gl_c.specs.Guarded.{GuardedView}
 use Rattle.gl_c.specs.Serving.{HasShown, ShowsOn}
 use Rattle.gl_c.proofs.Serving.{shows_same}

@@ -4,8 +4,8 @@ use mathlib.Core.Bool.{true≢false}
 use Rattle.gl_model.specs.declared.answers.Detect.{Detect}
 use Rattle.gl_table.specs.Table.{board_of}
 use Rattle.gl_catalog.specs.Manager.{ManagerView, state_of}
-use Rattle.gl_boxes.specs.Boards.{Fine}
-use Rattle.gl_boxes.specs.Strip.{Strip}
+use Rattle.gl_window.specs.Boards.{Fine}
+use Rattle.gl_window.specs.Strip.{Strip}
 use Rattle.gl_c.specs.Guarded.{GuardedView}
 use Rattle.gl_c.specs.Watching.{Continues, OnlyShows}
 use Rattle.gl_c.proofs.Opening.{IsOpened, opened_by, was_none}

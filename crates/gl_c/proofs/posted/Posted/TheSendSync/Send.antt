@@ -12,7 +12,7 @@ use Rattle.std.specs.contracts.impls.GlobalAllocator.TheImpl.{ghosts}
 use Rattle.std.specs.declared.alloc.Global.{Global}
 use Rattle.std.proofs.Crossing.{frees}
 use Rattle.std.proofs.alloc.Global.TheSendSync as heap_crosses
-use Rattle.gl_boxes.specs.Strip.{Strip}
+use Rattle.gl_window.specs.Strip.{Strip}
 use Rattle.gl_c.specs.Posted.{owns_watcher}
 use Rattle.gl_c.specs.contracts.posted.Posted.{the_row, the_type}
 use Rattle.gl_c.specs.contracts.watcher.Watcher as session

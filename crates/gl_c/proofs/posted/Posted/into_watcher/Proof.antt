@@ -36,7 +36,7 @@ use Rattle.std.proofs.impls.GlobalAllocator.TheImpl.Met.{passed}
 use Rattle.std.proofs.BoxSteps.Form as box
 use Rattle.std.proofs.lemmas.Bool.{false≢true}
 use Rattle.std.proofs.raw_atomic.Walks.{proved_at, leaves}
-use Rattle.gl_boxes.specs.Strip.{Strip}
+use Rattle.gl_window.specs.Strip.{Strip}
 use Rattle.gl_c.specs.Posted.{owns_watcher}
 use Rattle.gl_c.specs.contracts.posted.Posted as held
 use Rattle.gl_c.proofs.PostedCalls.{Sess, sess_laws, Heap, heap_laws_passed, no_drop, Boxing, box_tells}

@@ -18,7 +18,7 @@ use Rattle.std.specs.Prelude.{Option, None}
 use Rattle.std.specs.contracts.alloc.Global as heap
 use Rattle.std.proofs.alloc.Calls.{handle_tells}
 use Rattle.std.proofs.raw_atomic.Walks.{proved_at, leaves}
-use Rattle.gl_boxes.specs.Strip.{Strip}
+use Rattle.gl_window.specs.Strip.{Strip}
 use Rattle.gl_c.proofs.PlaceSteps.{begins, said, used_up}
 use Rattle.gl_c.proofs.PlaceWords.{plain_heap, place, place_typed}
 use Rattle.gl_c.proofs.PostedWords.{place_together}

@@ -2,7 +2,7 @@ use Rattle.std.specs.Prelude.{Some, IfOk}
 use Rattle.std.proofs.Common.{◌≡◌, subst}
 use Rattle.gl_table.specs.Table.{board_of}
 use Rattle.gl_catalog.specs.Manager.{state_of}
-use Rattle.gl_boxes.specs.Boards.{Ends}
+use Rattle.gl_window.specs.Boards.{Ends}
 use Rattle.gl_c.specs.Guarded.{GuardedView}
 use Rattle.gl_c.proofs.session.Session.watch.Goals as goal
 

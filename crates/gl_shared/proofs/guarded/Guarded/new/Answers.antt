@@ -1,6 +1,6 @@
 use Rattle.std.proofs.Common.{◌≤◌, arith, le_refl, subst, sym, List}
 use Rattle.gl_waits.specs.declared.board.Board.{Board}
-use Rattle.gl_boxes.specs.Boards.{last_epoch}
+use Rattle.gl_window.specs.Boards.{last_epoch}
 use Rattle.gl_shared.proofs.guarded.Guarded.new.Goals as goal
 
 pub invariant_of-result : goal.invariant_of-result

@@ -2,16 +2,17 @@ use Rattle.gl_slots.specs.Limit.{most_slots}
 use Rattle.std.proofs.Common.{rules, arith, ◌≡◌, ◌<◌, ◌^◌, ◌∙◌, true, false, ap, refl, subst, sym, List}
 use Rattle.gl_model.specs.declared.answers.Notice.{Notice}
 use Rattle.gl_model.specs.declared.txn.TxnId.{TxnId}
-use Rattle.gl_boxes.specs.Served.{RisingTo, accepts}
+use Rattle.gl_steps.specs.Served.{accepts}
+use Rattle.gl_wakes.specs.Notices.{RisingTo}
 use Rattle.gl_model.specs.State.{State}
 use Rattle.gl_steps.proofs.Detection.{steps_keep_detect}
-use Rattle.gl_boxes.specs.Boxes.{Delivers, Slot, cleared, emptied}
+use Rattle.gl_wakes.specs.Boxes.{Delivers, Slot, cleared, emptied}
 use Rattle.gl_shared.specs.State.{GuardedView}
 use Rattle.gl_shared.proofs.Idle.{quiet_on}
-use Rattle.gl_boxes.proofs.Clearing.{cleared_not, cleared_yes}
-use Rattle.gl_boxes.proofs.Notices.{delivers_none}
-use Rattle.gl_boxes.proofs.Rising.{step_rises}
-use Rattle.gl_boxes.proofs.Serving.{step_counts}
+use Rattle.gl_wakes.proofs.Clearing.{cleared_not, cleared_yes}
+use Rattle.gl_wakes.proofs.Notices.{delivers_none}
+use Rattle.gl_wakes.proofs.Rising.{step_rises}
+use Rattle.gl_steps.proofs.Serving.{step_counts}
 use Rattle.gl_shared.proofs.guarded.Guarded.serve_telling.Goals as goal
 
 pub overflow_add-self : goal.overflow_add-self

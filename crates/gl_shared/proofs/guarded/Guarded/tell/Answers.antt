@@ -3,11 +3,11 @@ use Rattle.gl_waits.specs.declared.board.Board.{Board}
 use Rattle.gl_model.specs.declared.answers.Detect.{Detect}
 use Rattle.gl_table.specs.Table.{board_of}
 use Rattle.gl_catalog.specs.Manager.{state_of}
-use Rattle.gl_boxes.specs.Boards.{Fine}
+use Rattle.gl_window.specs.Boards.{Fine}
 use Rattle.gl_waits.specs.Boards.{ShowsNobody}
 use Rattle.gl_shared.specs.State.{GuardedView}
 use Rattle.gl_shared.proofs.Idle.{IsQuiet, quiet_told}
-use Rattle.gl_boxes.proofs.Lists.{told_epoch}
+use Rattle.gl_window.proofs.Lists.{told_epoch}
 use Rattle.gl_shared.proofs.Tellings.{published, unpublished}
 use Rattle.gl_shared.proofs.guarded.Guarded.tell.Goals as goal
 

@@ -1,7 +1,7 @@
 use Rattle.std.proofs.Common.{rules, ◌≡◌, ◌∙◌, false, refl, subst, sym}
 use Rattle.gl_catalog.specs.Manager.{state_of}
 use Rattle.gl_shared.specs.State.{GuardedView, StaysUntold}
-use Rattle.gl_boxes.proofs.Idle.{not_due}
+use Rattle.gl_window.proofs.Idle.{not_due}
 use Rattle.gl_shared.proofs.guarded.Guarded.tell_if_due.Goals as goal
 
 pub returns-then-not-is_due-clause-untold : goal.returns-then-not-is_due-clause-untold

@@ -1,7 +1,7 @@
 use Rattle.std.proofs.Common.{rules, ◌∷◌, [], ◌∙◌, ap, subst, sym}
 use Rattle.gl_waits.specs.declared.board.Board.{Board}
 use Rattle.gl_model.specs.declared.answers.Detect.{Detect}
-use Rattle.gl_boxes.specs.Boards.{Fine}
+use Rattle.gl_window.specs.Boards.{Fine}
 use Rattle.gl_shared.proofs.parts.Parts.new.Goals as goal
 
 pub open-requires : goal.open-requires

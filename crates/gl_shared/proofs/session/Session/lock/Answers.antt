@@ -3,7 +3,7 @@ use Rattle.std.proofs.Common.{arith, ◌∙◌, ap, refl, subst, sym}
 use Rattle.gl_model.specs.Tellings.{Told as Notices}
 use Rattle.gl_steps.specs.declared.command.Command.TheVariants.{Lock}
 use Rattle.gl_catalog.specs.Manager.{IsLawfulManager}
-use Rattle.gl_boxes.specs.Served.{RisingTo}
+use Rattle.gl_wakes.specs.Notices.{RisingTo}
 use Rattle.gl_shared.specs.Sessions.{AreWoken}
 use Rattle.gl_shared.specs.State.{GuardedView}
 use Rattle.gl_shared.proofs.Locking.{gives_verdict, is_not_refused, shares_lock}

@@ -3,9 +3,9 @@ use Rattle.gl_waits.specs.declared.board.Board.{Board}
 use Rattle.gl_table.specs.Table.{board_of}
 use Rattle.gl_catalog.specs.Manager.{state_of}
 use Rattle.gl_shared.specs.declared.shown.Tie.{Tie}
-use Rattle.gl_boxes.specs.Boards.{IsLawful}
-use Rattle.gl_boxes.specs.Rules.{head_of}
-use Rattle.gl_boxes.proofs.Lists.{lawful_here}
+use Rattle.gl_window.specs.Boards.{IsLawful}
+use Rattle.gl_window.specs.Rules.{head_of}
+use Rattle.gl_window.proofs.Lists.{lawful_here}
 use Rattle.gl_shared.proofs.shared.Shared.new.Goals as goal
 
 pub watch_all-requires-clause-of : goal.watch_all-requires-clause-of

@@ -1,7 +1,7 @@
 use Rattle.std.proofs.Common.{rules, ◌≡◌, ◌≤◌, subst, sym, ℕ}
 use mathlib.Core.List.{IsPrefix}
-use Rattle.gl_boxes.specs.Boards.{Rising, last_epoch}
-use Rattle.gl_boxes.proofs.Lists.{prefix_up}
+use Rattle.gl_window.specs.Boards.{Rising, last_epoch}
+use Rattle.gl_window.proofs.Lists.{prefix_up}
 use Rattle.gl_shared.proofs.Steps.{looks}
 use Rattle.gl_shared.proofs.watcher.Watcher.look.Goals as goal
 

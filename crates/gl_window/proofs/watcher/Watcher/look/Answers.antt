@@ -1,7 +1,7 @@
 use Rattle.std.proofs.Common.{rules, ◌≡◌, ◌≤◌, subst, sym, ℕ}
 use mathlib.Core.List.{IsPrefix}
-use Rattle.gl_boxes.specs.Boards.{AllFine, Ends, Rising, last_epoch}
-use Rattle.gl_boxes.proofs.Lists.{fine_last, prefix_up}
+use Rattle.gl_window.specs.Boards.{AllFine, Ends, Rising, last_epoch}
+use Rattle.gl_window.proofs.Lists.{fine_last, prefix_up}
 use Rattle.gl_window.proofs.watcher.Watcher.look.Goals as goal
 
 pub returns-clause-epoch : goal.returns-clause-epoch

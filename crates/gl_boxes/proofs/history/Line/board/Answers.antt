@@ -1,9 +1,0 @@
-use Rattle.std.proofs.Common.{ap, sym, ◌∙◌}
-use Rattle.std.specs.Arc.{arc_value}
-use Rattle.gl_waits.specs.declared.board.Board.{Board}
-use Rattle.gl_boxes.proofs.Lists.{last_ends}
-use Rattle.gl_boxes.proofs.history.Line.board.Goals as goal
-
-pub returns-clause-epoch : goal.returns-clause-epoch
-returns-clause-epoch c = rw (← c.self.view_is) (ap (λ (b : Board). b.epoch) c.deref.ensures ∙
-    sym (last_ends c.self.inside.seen.log (arc_value c.self.inside.board) c.self.invariant.1))

@@ -1,0 +1,131 @@
+-- A step counts a command exactly where it accepts it.
+use Rattle.std.specs.Prelude.{◌≡◌, ◌+◌, Bool, true, false, not, ◌&&◌, Option, Some, None}
+use Rattle.std.proofs.Common.{refl, ap, ⊎_elim, ◌∙◌}
+use Rattle.gl_modes.specs.declared.mode.Mode.{Mode}
+use Rattle.gl_modes.specs.declared.refusal.Refusal.{Refusal}
+use Rattle.gl_modes.specs.declared.refusal.Refusal.TheVariants as no
+use Rattle.gl_model.specs.declared.txn.Status.{Status}
+use Rattle.gl_model.specs.declared.txn.Status.TheVariants.{Active, Waiting, Condemned}
+use Rattle.gl_model.specs.State.{State, status_of}
+use Rattle.gl_model.specs.Tellings.{Told}
+use Rattle.gl_steps.specs.declared.command.Answer.{Answer}
+use Rattle.gl_steps.specs.declared.command.Answer.TheVariants as answer
+use Rattle.gl_steps.specs.declared.command.Command.{Command}
+use Rattle.gl_steps.specs.declared.command.Command.TheVariants as command
+use Rattle.gl_steps.specs.Step.{Accepts, Answers, Goes, Step, Unchanged, lock_answer, query_answer}
+use Rattle.gl_steps.specs.Tests.{may_want_memory, refusal_of}
+use Rattle.gl_steps.proofs.Accepting.{accepting_keeps_count}
+use Rattle.gl_steps.specs.Served.{Counts, accepts, is_query, is_refused}
+
+lock_not_refused : (m : Mode) (o : Option Status) → is_refused (lock_answer m o) ≡ false
+lock_not_refused m None = refl
+lock_not_refused m (Some Active) = refl
+lock_not_refused m (Some (Waiting n w)) = refl
+lock_not_refused m (Some Condemned) = refl
+
+-- an accepted command is not answered with a refusal
+not_refused : (s : State) (c : Command) (a : Answer) (told : Told) (s' : State) → Accepts s c a told s' → is_refused a ≡ false
+not_refused s (command.Inner ps) a told s' acc = ap is_refused acc.2
+not_refused s (command.File ps) a told s' acc = ap is_refused acc.2
+not_refused s (command.Index ps f bs) a told s' acc = ap is_refused acc.2
+not_refused s (command.Insert t f keys) a told s' acc = ap is_refused acc.2
+not_refused s (command.Delete t r) a told s' acc = ap is_refused acc.0
+not_refused s (command.Rekey t r i key) a told s' acc = ap is_refused acc.0
+not_refused s (command.Move t n ps) a told s' acc = ap is_refused acc.0
+not_refused s command.Begin a told s' acc = ap is_refused acc.2
+not_refused s (command.Lock t n m) a told s' acc = ap is_refused acc.1 ∙ lock_not_refused (s'.held t.slot n) (status_of s' t.slot)
+not_refused s (command.Try t n m) a told s' acc = ap is_refused acc.0
+not_refused s (command.Unlock t n) a told s' acc = ap is_refused acc.0
+not_refused s (command.Escalate t n) a told s' acc = ap is_refused acc.0
+not_refused s (command.Cancel t) a told s' acc = ap is_refused acc.0
+not_refused s (command.Commit t) a told s' acc = ap is_refused acc.0
+not_refused s (command.Abort t) a told s' acc = ap is_refused acc.0
+not_refused s (command.Settle t) a told s' acc = ap is_refused acc.0
+not_refused s (command.Group n) a told s' acc = absurd acc
+not_refused s (command.Held t n) a told s' acc = absurd acc
+not_refused s (command.Effective t n) a told s' acc = absurd acc
+not_refused s (command.Adopt f keys) a told s' acc = ap is_refused acc.2
+not_refused s (command.Forget r) a told s' acc = ap is_refused acc.0
+
+-- exactly the queries have an answer of their own
+is_some_query : (s : State) (c : Command) (q : Answer) → query_answer s c ≡ Some q → is_query c ≡ true
+is_some_query s (command.Group n) q e = refl
+is_some_query s (command.Held t n) q e = refl
+is_some_query s (command.Effective t n) q e = refl
+is_some_query s (command.Inner ps) q e = absurd (cc e)
+is_some_query s (command.File ps) q e = absurd (cc e)
+is_some_query s (command.Index ps f bs) q e = absurd (cc e)
+is_some_query s (command.Insert t f keys) q e = absurd (cc e)
+is_some_query s (command.Delete t r) q e = absurd (cc e)
+is_some_query s (command.Rekey t r i key) q e = absurd (cc e)
+is_some_query s (command.Move t n ps) q e = absurd (cc e)
+is_some_query s command.Begin q e = absurd (cc e)
+is_some_query s (command.Lock t n m) q e = absurd (cc e)
+is_some_query s (command.Try t n m) q e = absurd (cc e)
+is_some_query s (command.Unlock t n) q e = absurd (cc e)
+is_some_query s (command.Escalate t n) q e = absurd (cc e)
+is_some_query s (command.Cancel t) q e = absurd (cc e)
+is_some_query s (command.Commit t) q e = absurd (cc e)
+is_some_query s (command.Abort t) q e = absurd (cc e)
+is_some_query s (command.Settle t) q e = absurd (cc e)
+is_some_query s (command.Adopt f keys) q e = absurd (cc e)
+is_some_query s (command.Forget r) q e = absurd (cc e)
+
+no_query : (s : State) (c : Command) → query_answer s c ≡ None → is_query c ≡ false
+no_query s (command.Group n) e = absurd (cc e)
+no_query s (command.Held t n) e = absurd (cc e)
+no_query s (command.Effective t n) e = absurd (cc e)
+no_query s (command.Inner ps) e = refl
+no_query s (command.File ps) e = refl
+no_query s (command.Index ps f bs) e = refl
+no_query s (command.Insert t f keys) e = refl
+no_query s (command.Delete t r) e = refl
+no_query s (command.Rekey t r i key) e = refl
+no_query s (command.Move t n ps) e = refl
+no_query s command.Begin e = refl
+no_query s (command.Lock t n m) e = refl
+no_query s (command.Try t n m) e = refl
+no_query s (command.Unlock t n) e = refl
+no_query s (command.Escalate t n) e = refl
+no_query s (command.Cancel t) e = refl
+no_query s (command.Commit t) e = refl
+no_query s (command.Abort t) e = refl
+no_query s (command.Settle t) e = refl
+no_query s (command.Adopt f keys) e = refl
+no_query s (command.Forget r) e = refl
+
+and_false : (a : Bool) → (a && false) ≡ false
+and_false true = refl
+and_false false = refl
+
+differ : {A : Type 0} (b : Bool) → b ≡ true → b ≡ false → A
+differ true e f = absurd (cc f)
+differ false e f = absurd (cc e)
+
+module _ (s : State) (c : Command) (a : Answer) (told : Told) (s' : State) where
+  -- nothing happens to a command that is not accepted
+  unchanged : (is : Answer) → accepts c is ≡ false → Unchanged s a told s' is → Counts s c a told s'
+  unchanged is out same = record {
+    not_accepted = λ _. (same.same, same.nobody_told);
+    accepted = λ h. differ (accepts c a) h (ap (accepts c) same.answer_is ∙ out);
+  }
+
+  answered : (q : Option Answer) → query_answer s c ≡ q → Answers s c q a told s' → Counts s c a told s'
+  answered (Some x) e same = unchanged x (ap (λ b. not b && not (is_refused x)) (is_some_query s c x e)) same
+  answered None e ends =
+      let kept = accepting_keeps_count s c a told ends.0 ends.1 in
+      let yes : accepts c a ≡ true = ap (λ b. not b && not (is_refused a)) (no_query s c e) ∙ ap not (not_refused s c a told ends.0 ends.1) in
+      record {
+        not_accepted = λ h. differ (accepts c a) yes h;
+        accepted = λ _. ap (λ z. z.accepted) ends.2 ∙ ap (λ k. k + 1) kept;
+      }
+
+  goes : (r : Option Refusal) → Goes s c r a told s' → Counts s c a told s'
+  goes (Some r) same = unchanged (answer.Refused r) (and_false (not (is_query c))) same
+  goes None ends = answered (query_answer s c) refl ends
+
+  pub step_counts : Step s c a told s' → Counts s c a told s'
+  step_counts step =
+      ⊎_elim (λ h. goes (refusal_of s c) h)
+      (λ (want : (may_want_memory s c ≡ true) × Unchanged s a told s' (answer.Refused no.NoMemory)).
+      unchanged (answer.Refused no.NoMemory) (and_false (not (is_query c))) want.1) step

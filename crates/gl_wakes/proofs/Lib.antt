@@ -1,0 +1,5 @@
+pub mod Clearing
+pub mod EachTold
+pub mod Notices
+pub mod Rising
+pub mod Waking

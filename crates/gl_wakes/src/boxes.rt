@@ -1,0 +1,147 @@
+//! The boxes of slots: what each transaction was told last, and what became of its wait.
+
+ghost use Rattle.gl_slots.specs.Limit.{most_slots};
+ghost use Rattle.std.specs.Prelude.{◌≡◌, [], true, false, None, Some, Ok, List, slice_set, replicate};
+ghost use Rattle.gl_modes.specs.Modes.{is_at_least};
+ghost use Rattle.gl_model.specs.State.{is_waiting_at, lives};
+ghost use Rattle.gl_catalog.specs.Manager.{state_of};
+ghost use Rattle.gl_wakes.specs.Boxes.{Delivers, Slot as ASlot, box_at, emptied, named, verdict_of};
+ghost use Rattle.gl_wakes.specs.Notices.{RisingTo};
+ghost use Rattle.gl_wakes.specs.declared.grant.Grant.{Grant};
+
+use crate::grant::{Grant, Stop};
+use gl_catalog::{Command, Manager};
+use gl_modes::{Mode, NodeId, Refusal, covers};
+use gl_slots::SLOTS;
+use gl_model::{Notice, TxnId};
+use std::marker::Model;
+
+/// A slot's last notice.
+pub type Slot = Option<(TxnId, Notice)>;
+
+/// A box for each slot, where its last notice lies. To a contract it is the list of what they have.
+#[derive(Drop)]
+pub struct Boxes {
+    slots: [Slot; SLOTS],
+}
+
+impl Model for Boxes {
+    ghost use Rattle.std.specs.Prelude.{List};
+    ghost use Rattle.gl_wakes.specs.Boxes.{Slot};
+
+    ghost Value = { List Slot };
+
+    ghost view = { λ b. b.slots };
+}
+
+impl Boxes {
+    /// Boxes that are empty.
+    pub fn new() -> Boxes
+        ensures { result ≡ replicate most_slots None }
+    {
+        Boxes {
+            slots: [None; SLOTS],
+        }
+    }
+
+    /// Puts the notices of an accepted command into their slots' boxes. Behind a lock its own slot's is
+    /// empty, so that what stands there later is its own verdict.
+    pub fn deliver(&mut self, command: &Command<'_>, told: &[(TxnId, Notice)])
+        requires { RisingTo 0 told.now most_slots }
+        ensures told { (mid : List ASlot) × Delivers self.old told.now mid × (self.new ≡ emptied command.now mid) }
+        ensures none { told.now ≡ [] → self.new ≡ emptied command.now self.old }
+    {
+        deliver(&mut self.slots, told);
+        if let Command::Lock { txn, .. } = command {
+            empty_box(&mut self.slots, txn.slot);
+        }
+    }
+
+    /// Whether the transaction has its answer on this node, and which. The first that applies:
+    /// refused with `NoSuchTxn` where it does not live; none yet where it waits on the node; what its
+    /// slot's box has for it, a grant only of a mode that it holds there and that covers the asked
+    /// one; else refused with `NotWaiting`.
+    pub fn verdict(
+        &self,
+        manager: &Manager,
+        txn: TxnId,
+        node: NodeId,
+        mode: Mode,
+    ) -> Option<Result<Grant, Stop>>
+        ensures verdict { result ≡ verdict_of (state_of manager.now) self.now txn node mode }
+        ensures waits { lives (state_of manager.now) txn ≡ true → is_waiting_at (state_of manager.now) txn.slot node ≡ true → result ≡ None }
+        ensures grant { (x : Grant) → result ≡ Some (Ok x) → (x.txn ≡ txn) × (x.node ≡ node) × (x.mode ≡ (state_of manager.now).held txn.slot node)
+            × (is_at_least x.mode mode ≡ true) × (is_waiting_at (state_of manager.now) txn.slot node ≡ false) }
+    {
+        let Some(held) = manager.mode_on(txn, node) else {
+            return Some(Err(Stop::Refused(Refusal::NoSuchTxn)));
+        };
+        if waits_on(manager, txn, node) {
+            return None;
+        }
+        Some(match notice_for(&self.slots, txn) {
+            Some(Notice::Victim) => Err(Stop::Victim),
+            Some(Notice::Moved) => Err(Stop::Moved),
+            Some(Notice::Gone) => Err(Stop::Gone),
+            Some(Notice::Granted(at, _)) => {
+                if at.key == node.key && at.birth == node.birth && covers(held, mode) {
+                    Ok(Grant {
+                        txn,
+                        node,
+                        mode: held,
+                    })
+                } else {
+                    Err(Stop::Refused(Refusal::NotWaiting))
+                }
+            }
+            None => Err(Stop::Refused(Refusal::NotWaiting)),
+        })
+    }
+}
+
+/// Puts each notice into its slot's box.
+fn deliver(boxes: &mut [Slot; SLOTS], told: &[(TxnId, Notice)])
+    requires { RisingTo 0 told.now most_slots }
+    ensures told { Delivers boxes.old told.now boxes.new }
+    ensures none { told.now ≡ [] → boxes.new ≡ boxes.old }
+{
+    for (txn, notice) in told {
+        boxes[txn.slot as usize] = Some((*txn, *notice));
+    }
+}
+
+/// Empties the box of a slot, where there is one.
+fn empty_box(boxes: &mut [Slot; SLOTS], slot: gl_slots::Slot)
+    ensures { boxes.new ≡ slice_set boxes.old slot None }
+{
+    if (slot as usize) < SLOTS {
+        boxes[slot as usize] = None;
+    }
+}
+
+/// What the box of a transaction's slot has for it.
+fn notice_for(boxes: &[Slot; SLOTS], txn: TxnId) -> Option<Notice>
+    ensures { result ≡ named txn (box_at boxes.now txn.slot) }
+{
+    match boxes.get(txn.slot as usize) {
+        Some(Some((to, notice))) => {
+            if to.slot == txn.slot && to.age == txn.age {
+                Some(*notice)
+            } else {
+                None
+            }
+        }
+        _ => None,
+    }
+}
+
+/// Whether a living transaction waits on the node.
+fn waits_on(manager: &Manager, txn: TxnId, node: NodeId) -> bool
+    requires { lives (state_of manager.now) txn ≡ true }
+    ensures { result ≡ is_waiting_at (state_of manager.now) txn.slot node }
+{
+    match manager.waiting(txn) {
+        Some((at, _)) => at.key == node.key && at.birth == node.birth,
+        None => false,
+    }
+}

@@ -1,0 +1,11 @@
+//! How waits end in a table that threads share: the notices that a command leaves in boxes, what became of a
+//! wait by them, and whom a command wakes.
+#![tactic(auto)]
+
+mod boxes;
+mod ended;
+mod grant;
+
+pub use boxes::{Boxes, Slot};
+pub use ended::ended_by;
+pub use grant::{Grant, Stop};

@@ -1,0 +1,54 @@
+-- A table where nobody waits, and its board: for when watchers need not be told.
+use Rattle.std.specs.Prelude.{◌≡◌, ◌||◌, ℕ, Bool, true, false, Option, Some, None}
+use Rattle.std.proofs.Common.{refl, sym, ap, ◌∙◌}
+use mathlib.Core.Bool.{true≢false}
+use Rattle.gl_model.specs.declared.txn.Status.{Status}
+use Rattle.gl_model.specs.declared.txn.Status.TheVariants.{Active, Waiting, Condemned}
+use Rattle.gl_table.specs.Table.{board_of}
+use Rattle.gl_model.specs.State.{State, status_of, is_wait}
+use Rattle.gl_model.specs.Tellings.{Told}
+use Rattle.gl_model.proofs.law.Settle.{waits_for_one}
+use Rattle.gl_steps.specs.declared.command.Answer.{Answer}
+use Rattle.gl_steps.specs.declared.command.Command.{Command}
+use Rattle.gl_catalog.specs.Manager.{IsLawfulManager, ManagerView, state_of}
+use Rattle.gl_steps.specs.Promises.{NobodyWaits}
+use Rattle.gl_steps.specs.Step.{Step}
+use Rattle.gl_steps.proofs.WaitsBegin.{nobody_waits_on}
+use Rattle.gl_waits.specs.Boards.{ShowsNobody}
+use Rattle.gl_steps.specs.Served.{leaves_waiting}
+use Rattle.gl_window.specs.Tellings.{is_due}
+use Rattle.gl_window.specs.declared.telling.Telling.{Telling}
+use Rattle.gl_window.specs.declared.telling.Telling.TheVariants.{Always, WhileWaiting}
+use Rattle.gl_window.proofs.RealBoards.{edges_are}
+
+-- whoever waits waits for somebody, so a board without steps is one of a table where nobody waits
+pub nobody_shown : (m : ManagerView) → IsLawfulManager m → ShowsNobody (board_of (state_of m)) → NobodyWaits (state_of m)
+nobody_shown m law none t = by (status_of s t) refl
+  where
+    s : State
+    s = state_of m
+
+    by : (o : Option Status) → status_of s t ≡ o → is_wait o ≡ false
+    by None e = refl
+    by (Some Active) e = refl
+    by (Some Condemned) e = refl
+    by (Some (Waiting n w)) e =
+        let one = waits_for_one s law.lawful t n w e in
+        absurd (true≢false (sym one.1 ∙ ap (λ (edge : ℕ → ℕ → Bool). edge t one.0) (sym (edges_are s law.lawful law.few)) ∙ none t one.0))
+
+-- where watchers are not told
+pub not_due : (t : Telling) (waited : Bool) → is_due t waited ≡ false → (t ≡ WhileWaiting) × (waited ≡ false)
+not_due Always waited e = absurd (cc e)
+not_due WhileWaiting waited e = (refl, e)
+
+-- neither of two
+pub neither : (a b : Bool) → (a || b) ≡ false → (a ≡ false) × (b ≡ false)
+neither false b e = (refl, e)
+neither true b e = absurd (true≢false e)
+
+-- a step keeps that nobody waits, where a lock that is left waiting is noted
+pub nobody_on : (s s' : State) (waited waits : Bool) (c : Command) (a : Answer) (told : Told) → waits ≡ leaves_waiting a → (waited ≡ false → NobodyWaits s)
+    → Step s c a told s' → (waited || waits) ≡ false → NobodyWaits s'
+nobody_on s s' waited waits c a told is_so quiet step e =
+    let both = neither waited waits e in
+    nobody_waits_on s s' c a told (quiet both.0) (λ is. absurd (true≢false (sym (is_so ∙ ap leaves_waiting is) ∙ both.1))) step
