@@ -256,9 +256,6 @@ module _ (s : State) (law : IsLawful s) (r : NodeId) (rec : is_record_shape (sha
         ∙ parent_plain s.graph law.graph q p c));
   }
 
-  pub held_there : (u : ℕ) (q : NodeId) → same_node q r ≡ false → (deleted s r).held u q ≡ s.held u q
-  held_there u q e = ap (λ b. if b then NL else s.held u q) e
-
   pub deleted_lawful : IsLawful (deleted s r)
   deleted_lawful = departed_lawful s law (λ q. same_node q r) (without_node s.graph r) record_goes
 
