@@ -34,3 +34,7 @@ pub mod SoundMarked
 pub mod RootPaths
 pub mod KindsOf
 pub mod Adopted
+pub mod Gone
+pub mod InUse
+pub mod Branch
+pub mod SoundBranch

@@ -16,7 +16,7 @@ use Rattle.gl_graph.specs.Shapes.{File, Index, Interval}
 use Rattle.gl_graph.specs.Graph.{Graph, Node, shape_in, shape_of, interval, indexes_of, node_count, IsFreeKey}
 use Rattle.gl_graph.specs.Lawful.{IsLawfulGraph}
 use Rattle.gl_graph.specs.Changes.{born_node, born_nodes, born_index, interval_nodes, are_apart, IsIndexBorn}
-use Rattle.gl_graph.specs.Refusals.{index_refusal}
+use Rattle.gl_graph.specs.Refusals.{reindex_refusal}
 use Rattle.gl_graph.specs.View.{View, graph_of, node_of, record_count, KeepsBeside, AgreesAt}
 use Rattle.gl_graph.specs.Seen.{Limits, shape_in_body, indexes_in_body, records_in_body, intervals_in_body, body_with_intervals, body_with_indexes}
 use Rattle.gl_graph.specs.Seen.{vertex_of, seen, AreSound, parent_list}
@@ -28,7 +28,7 @@ use Rattle.gl_graph.proofs.Counts.{count_grown, same_records}
 use Rattle.gl_graph.proofs.Slots.{stored_of, node_there, inserted, written_apart, unseen}
 use Rattle.gl_graph.proofs.Beside.{FileSlot, file_slot}
 use Rattle.gl_graph.proofs.Kept.{born_within, beside_kept}
-use Rattle.gl_graph.proofs.Unrefused.{IsRoomyIndex, index_births, index_unrefused}
+use Rattle.gl_graph.proofs.Unrefused.{IsRoomyIndex, index_births, reindex_unrefused}
 
 same_shape : (b : Body) (fresh : Vec NodeId Global) → shape_in_body (body_with_intervals b fresh) ≡ shape_in_body b
 same_shape body.Inner fresh = refl
@@ -82,10 +82,10 @@ vacant_free limits s births sound key e n h same = let x = stored_of limits s bi
 
 -- an index that no test refuses can be numbered, with its intervals
 pub births_left : (limits : Limits) (s : Slab Stored) (births : ℕ) (v : View) → AreSound limits s births → seen limits s births ≡ v
-    → (ps : List NodeId) (f : NodeId) (bs : List ℕ) → index_refusal (graph_of v) ps f bs ≡ None → births + 1 + (length bs + 1) < 2 ^ 64
+    → (ps : List NodeId) (f : NodeId) (bs : List ℕ) → reindex_refusal (graph_of v) ps f bs ≡ None → births + 1 + (length bs + 1) < 2 ^ 64
 births_left limits s births v sound is ps f bs free =
     let g = graph_of (seen limits s births) in
-    index_births g ps f bs (index_unrefused g ps f bs (ap (λ (w : View). index_refusal (graph_of w) ps f bs) is ∙ free)) sound.lawful.limit
+    index_births g ps f bs (reindex_unrefused g ps f bs (ap (λ (w : View). reindex_refusal (graph_of w) ps f bs) is ∙ free)) sound.lawful.limit
 
 count_ids_of : (birth : ℕ) (keys : List ℕ) → length (ids_of birth keys) ≡ length keys
 count_ids_of birth [] = refl

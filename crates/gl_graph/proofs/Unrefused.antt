@@ -14,7 +14,7 @@ use Rattle.gl_graph.specs.Shapes.{is_file_shape, is_adopted}
 use Rattle.gl_graph.specs.Routes.{is_at_or_below}
 use Rattle.gl_graph.specs.Lawful.{IsRising, are_inner, are_distinct, AreInnerParents}
 use Rattle.gl_graph.specs.Refusals.{first_refusal, where_true, max_count, worn_births, some_no_node, bad_parents, too_many_nodes, first_cycle}
-use Rattle.gl_graph.specs.Refusals.{is_rising, parents_refusal, record_refusal, index_refusal, bad_index_place, bad_bounds, has_records, Refuses}
+use Rattle.gl_graph.specs.Refusals.{is_rising, parents_refusal, record_refusal, index_refusal, reindex_refusal, bad_index_place, bad_bounds, has_records, Refuses}
 use Rattle.gl_graph.specs.Refusals.{verdict}
 
 pub not_refused : (x : Option Refusal) (xs : List (Option Refusal)) → first_refusal (x ∷ xs) ≡ None → (x ≡ None) × (first_refusal xs ≡ None)
@@ -112,35 +112,49 @@ pub record IsRoomyIndex (g : Graph) (ps : List NodeId) (f : NodeId) (bs : List �
   pub file : is_file_shape (shape_of g f) ≡ true
   pub indexes : length (indexes_of g f) + 1 ≤ 7
   pub unused : has_records g f ≡ false
-  pub unadopted : is_adopted (shape_of g f) ≡ false
   pub few : length bs ≤ g.most_bounds
   pub rise : IsRising (0 ∷ bs)
   pub room : node_count g + (2 + length bs) ≤ g.most
 
-pub index_unrefused : (g : Graph) (ps : List NodeId) (f : NodeId) (bs : List ℕ) → index_refusal g ps f bs ≡ None → IsRoomyIndex g ps f bs
-index_unrefused g ps f bs e =
+pub reindex_unrefused : (g : Graph) (ps : List NodeId) (f : NodeId) (bs : List ℕ) → reindex_refusal g ps f bs ≡ None → IsRoomyIndex g ps f bs
+reindex_unrefused g ps f bs e =
     let a = not_refused (worn_births g) _ e in
     let b = not_refused (some_no_node g (ps ++ f ∷ [])) _ a.1 in
     let c = not_refused (where_true (bad_index_place g ps f) refusal.BadParents) _ b.1 in
-    let d = not_refused (where_true (has_records g f || is_adopted (shape_of g f)) refusal.FileInUse) _ c.1 in
+    let d = not_refused (where_true (has_records g f) refusal.FileInUse) _ c.1 in
     let k = not_refused (where_true (bad_bounds g bs) refusal.BadKeys) _ d.1 in
     let r = not_refused (too_many_nodes g (2 + length bs)) [] k.1 in
     let place = or_no (bad_parents g 1 ps || not (is_file_shape (shape_of g f))) (nat_le 7 (length (indexes_of g f))) (test_fails _ _ c.0) in
     let kinds = or_no (bad_parents g 1 ps) (not (is_file_shape (shape_of g f))) place.0 in
     let bounds = or_no (nat_lt g.most_bounds (length bs)) (not (is_rising (0 ∷ bs))) (test_fails _ _ k.0) in
-    let in_use = or_no (has_records g f) (is_adopted (shape_of g f)) (test_fails _ _ d.0) in
     let seven = le_no 7 (length (indexes_of g f)) place.1 in
     record {
       births = lt_no (max_count - g.most) g.births (test_fails _ _ a.0);
       inner = inner_parents g 1 ps kinds.0;
       file = not_false _ kinds.1;
       indexes = omega arith;
-      unused = in_use.0;
-      unadopted = in_use.1;
+      unused = test_fails _ _ d.0;
       few = lt_no g.most_bounds (length bs) bounds.0;
       rise = rising (0 ∷ bs) (not_false _ bounds.1);
       room = enough_room g (2 + length bs) r.0;
     }
+
+-- where an index can be made, it can be made again
+pub index_again : (g : Graph) (ps : List NodeId) (f : NodeId) (bs : List ℕ) → index_refusal g ps f bs ≡ None → reindex_refusal g ps f bs ≡ None
+index_again g ps f bs e =
+    let a = not_refused (worn_births g) _ e in
+    let b = not_refused (some_no_node g (ps ++ f ∷ [])) _ a.1 in
+    let c = not_refused (where_true (bad_index_place g ps f) refusal.BadParents) _ b.1 in
+    let d = not_refused (where_true (has_records g f || is_adopted (shape_of g f)) refusal.FileInUse) _ c.1 in
+    passed _ _ a.0 (passed _ _ b.0 (passed _ _ c.0
+    (passed (where_true (has_records g f) refusal.FileInUse) _
+    (ap (λ x. where_true x refusal.FileInUse) (or_no (has_records g f) (is_adopted (shape_of g f)) (test_fails _ _ d.0)).0) d.1)))
+  where
+    passed : (x : Option Refusal) (xs : List (Option Refusal)) → x ≡ None → first_refusal xs ≡ None → first_refusal (x ∷ xs) ≡ None
+    passed x xs e rest = ap (λ o. first_refusal (o ∷ xs)) e ∙ rest
+
+pub index_unrefused : (g : Graph) (ps : List NodeId) (f : NodeId) (bs : List ℕ) → index_refusal g ps f bs ≡ None → IsRoomyIndex g ps f bs
+index_unrefused g ps f bs e = reindex_unrefused g ps f bs (index_again g ps f bs e)
 
 -- the births of the index and of its intervals can be counted
 pub index_births : (g : Graph) (ps : List NodeId) (f : NodeId) (bs : List ℕ) → IsRoomyIndex g ps f bs → g.most ≤ 2 ^ 31

@@ -1,10 +1,10 @@
 -- What each call makes of the graph.
-use Rattle.std.specs.Prelude.{◌≡◌, ℕ, ◌+◌, Bool, true, not, ◌&&◌, ◌==◌, List, [], ◌∷◌, length, Option, Some, None, if◌then◌else◌}
+use Rattle.std.specs.Prelude.{◌≡◌, ℕ, ◌+◌, Bool, true, not, ◌&&◌, ◌||◌, ◌==◌, List, [], ◌∷◌, length, Option, Some, None, if◌then◌else◌}
 use Rattle.std.specs.List.{list_any}
 use Rattle.gl_modes.specs.declared.node.NodeId.{NodeId}
 use Rattle.gl_modes.specs.Nodes.{same_node}
 use Rattle.gl_graph.specs.Shapes.{Shape, File, Index, Interval, Rec, keys_in}
-use Rattle.gl_graph.specs.Graph.{Graph, Node, shape_of, indexes_of, record_parents, first_parent, IsFreeKey}
+use Rattle.gl_graph.specs.Graph.{Graph, Node, parents_in, shape_of, indexes_of, record_parents, first_parent, IsFreeKey}
 
 -- the graph with another node of this birth
 abbrev pub with_node : Graph → ℕ → Node → Graph
@@ -58,6 +58,16 @@ pub record IsIndexBorn (g g' : Graph) (n : NodeId) (parents : List NodeId) (file
 -- the graph with one node less
 abbrev pub without_node : Graph → NodeId → Graph
 without_node g n = record { at = λ b. if b == n.birth then None else g.at b; births = g.births; most = g.most; most_bounds = g.most_bounds }
+
+-- the graph without a node and its children, which of an index are its intervals
+abbrev pub without_branch : Graph → NodeId → Graph
+without_branch g n = record {
+  at = λ b. if (b == n.birth) || list_any (same_node n) (parents_in (g.at b)) then None else g.at b;
+  births = g.births;
+  most = g.most;
+  most_bounds =
+      g.most_bounds;
+}
 
 -- the node with these parents
 abbrev pub reparented : List NodeId → Option Node → Option Node

@@ -1,5 +1,5 @@
--- Intervals come into a slab of nodes, one after the other.
-use Rattle.std.specs.Prelude.{◌≡◌, ◌⊎◌, ℕ, ◌+◌, true, ◌==◌, List, [], ◌∷◌, length, Some, None, is_some}
+-- Intervals come into a slab of nodes, one after the other, and go so.
+use Rattle.std.specs.Prelude.{◌≡◌, ◌≢◌, ◌⊎◌, ℕ, ◌+◌, ◌<◌, true, ◌==◌, List, [], ◌∷◌, length, Some, None, is_some, slice_get}
 use Rattle.std.specs.List.{list_any}
 use Rattle.gl_modes.specs.declared.node.NodeId.{NodeId}
 use Rattle.slab.specs.Slab.{Slab, get, slab_len}
@@ -33,3 +33,14 @@ pub record AreIntervalsBorn (old new : Slab Stored) (index : NodeId) (count : �
   pub many : length keys ≡ count
   pub grown : IsGrown old index.birth new (interval_nodes index 0 keys)
   pub ids_are : ids ≡ ids_of (index.birth + 1) keys
+
+-- the nodes with these names are stored, each under its own key
+pub record AreStored (nodes : Slab Stored) (ids : List NodeId) : Type 0 where
+  pub there : (place : ℕ) (n : NodeId) → slice_get ids place ≡ Some n → is_some (get nodes n.key) ≡ true
+  pub apart : (place other : ℕ) (m n : NodeId) → slice_get ids place ≡ Some m → slice_get ids other ≡ Some n → m.key ≡ n.key → place ≡ other
+
+-- the first so many of them are gone, and all other nodes are as they were
+pub record AreGone (old new : Slab Stored) (ids : List NodeId) (count : ℕ) : Type 0 where
+  pub gone : (place : ℕ) (n : NodeId) → place < count → slice_get ids place ≡ Some n → get new n.key ≡ None
+  pub stays : (key : ℕ) → ((place : ℕ) (n : NodeId) → place < count → slice_get ids place ≡ Some n → n.key ≢ key) → get new key ≡ get old key
+  pub len : slab_len new + count ≡ slab_len old

@@ -1,12 +1,12 @@
 -- Why the graph's own calls are refused: the first of their tests, in order, that finds a reason.
-use Rattle.std.specs.Prelude.{◌≡◌, ℕ, ◌+◌, ◌-◌, ◌^◌, Bool, true, not, ◌&&◌, ◌||◌, ◌==◌, nat_lt, nat_le, List, [], ◌∷◌, ◌++◌, length, Option, Some}
+use Rattle.std.specs.Prelude.{◌≡◌, ℕ, ◌+◌, ◌-◌, ◌^◌, Bool, true, false, not, ◌&&◌, ◌||◌, ◌==◌, nat_lt, nat_le, List, [], ◌∷◌, ◌++◌, length, Option, Some}
 use Rattle.std.specs.Prelude.{None, Result, Ok, Err, IfErr, if◌then◌else◌}
 use Rattle.std.specs.List.{list_all, list_any}
 use Rattle.gl_modes.specs.declared.node.NodeId.{NodeId}
 use Rattle.gl_modes.specs.declared.refusal.Refusal.{Refusal}
 use Rattle.gl_modes.specs.declared.refusal.Refusal.TheVariants as no
-use Rattle.gl_graph.specs.Shapes.{is_file_shape, is_adopted}
-use Rattle.gl_graph.specs.Graph.{Graph, nodes, node_count, is_live, shape_of, indexes_of, is_record_of}
+use Rattle.gl_graph.specs.Shapes.{Shape, Inner, File, Index, is_file_shape, is_adopted, is_movable_shape}
+use Rattle.gl_graph.specs.Graph.{Graph, nodes, node_count, is_live, shape_of, is_child, indexes_of, is_record_of}
 use Rattle.gl_graph.specs.Routes.{is_at_or_below}
 use Rattle.gl_graph.specs.Lawful.{are_inner, are_distinct}
 
@@ -74,14 +74,21 @@ file_refusal g ps = parents_refusal g 1 ps
 abbrev pub bad_index_place : Graph → List NodeId → NodeId → Bool
 bad_index_place g ps f = bad_parents g 1 ps || not (is_file_shape (shape_of g f)) || nat_le 7 (length (indexes_of g f))
 
--- why no index of this file can be made under these parents, with these bounds
-abbrev pub index_refusal : Graph → List NodeId → NodeId → List ℕ → Option Refusal
-index_refusal g ps f bs =
+-- why no index of this file can be made under these parents, with these bounds, where a test has said whether the file is in use
+abbrev pub index_refusal_where : Graph → Bool → List NodeId → NodeId → List ℕ → Option Refusal
+index_refusal_where g in_use ps f bs =
     first_refusal (
-    worn_births g ∷ some_no_node g (ps ++ f ∷ []) ∷ where_true (bad_index_place g ps f) no.BadParents
-    ∷ where_true (has_records g f || is_adopted (shape_of g f)) no.FileInUse
+    worn_births g ∷ some_no_node g (ps ++ f ∷ []) ∷ where_true (bad_index_place g ps f) no.BadParents ∷ where_true in_use no.FileInUse
     ∷ where_true (bad_bounds g bs) no.BadKeys ∷ too_many_nodes g (2 + length bs) ∷ []
     )
+
+-- why no index of this file can be made: it has records, or rows of it were adopted
+abbrev pub index_refusal : Graph → List NodeId → NodeId → List ℕ → Option Refusal
+index_refusal g ps f bs = index_refusal_where g (has_records g f || is_adopted (shape_of g f)) ps f bs
+
+-- why no index of this file can be made again: it has records
+abbrev pub reindex_refusal : Graph → List NodeId → NodeId → List ℕ → Option Refusal
+reindex_refusal g ps f bs = index_refusal_where g (has_records g f) ps f bs
 
 -- why no record of this file can be made, with these keys
 abbrev pub record_refusal : Graph → NodeId → List ℕ → Option Refusal
@@ -90,6 +97,25 @@ record_refusal g f keys =
     worn_births g ∷ some_no_node g (f ∷ []) ∷ where_true (not (is_file_shape (shape_of g f))) no.BadParents
     ∷ where_true (not (length keys == length (indexes_of g f))) no.BadKeys ∷ too_many_nodes g 1 ∷ []
     )
+
+-- the node has a child
+abbrev pub has_children : Graph → NodeId → Bool
+has_children g n = list_any (is_child g n) (nodes g)
+
+-- what stands against a drop: of an inner node a child, of a file a record or an index, of an index a record of its file
+abbrev pub is_shape_in_use : Graph → NodeId → Option Shape → Bool
+is_shape_in_use g n (Some Inner) = has_children g n
+is_shape_in_use g n (Some (File adopted)) = has_records g n || nat_lt 0 (length (indexes_of g n))
+is_shape_in_use g n (Some (Index file bounds)) = has_records g file
+is_shape_in_use g n s = false
+
+-- something stands against a drop of the node
+abbrev pub is_in_use : Graph → NodeId → Bool
+is_in_use g n = is_shape_in_use g n (shape_of g n)
+
+-- why a node can never be dropped: it names none, or an interval, which goes with its index, or a record
+abbrev pub undroppable : Graph → NodeId → Option Refusal
+undroppable g n = first_refusal (some_no_node g (n ∷ []) ∷ where_true (not (is_movable_shape (shape_of g n))) no.BadParents ∷ [])
 
 -- the first of these that is n or has a route to n
 abbrev pub first_cycle : Graph → NodeId → List NodeId → Option Refusal

@@ -1,6 +1,6 @@
 -- What a contract sees of a slab of nodes, and what holds of it always.
-use Rattle.std.specs.Prelude.{◌≡◌, ℕ, true, ◌==◌, List, [], ◌∷◌, ◌++◌, map, Option, Some, None, if◌then◌else◌, slice_set, ◌+◌, ◌≤◌, Vec}
-use Rattle.std.specs.List.{list_any}
+use Rattle.std.specs.Prelude.{◌≡◌, ℕ, true, not, ◌==◌, List, [], ◌∷◌, ◌++◌, map, Option, Some, None, if◌then◌else◌, slice_set, ◌+◌, ◌≤◌, Vec}
+use Rattle.std.specs.List.{filter, list_any}
 use Rattle.gl_modes.specs.declared.node.NodeId.{NodeId}
 use Rattle.gl_modes.specs.Nodes.{same_node}
 use Rattle.std.specs.declared.alloc.Global.{Global}
@@ -141,6 +141,13 @@ body_with_intervals b fresh = b
 abbrev pub body_with_indexes : Body → SmallVec NodeId → Body
 body_with_indexes (body.File kept) fresh = body.File (record kept { value = record kept.value { indexes = fresh } })
 body_with_indexes b fresh = b
+
+-- a file that does not list an index
+abbrev pub body_without_index : Body → NodeId → Body
+body_without_index (body.File kept) index = body.File (record kept {
+  value = record kept.value { indexes = record kept.value.indexes { items = filter (λ listed. not (same_node listed index)) kept.value.indexes.items } };
+})
+body_without_index b index = b
 
 -- a file of which rows were adopted
 abbrev pub body_adopted : Body → Body

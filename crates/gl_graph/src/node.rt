@@ -55,6 +55,7 @@ impl Body {
       body_with_intervals,
       body_with_key,
       body_with_records,
+      body_without_index,
       indexes_in_body,
       intervals_in_body,
       records_in_body,
@@ -197,6 +198,15 @@ impl Body {
     {
         if let Body::File(kept) = self {
             kept.indexes = fresh;
+        }
+    }
+
+    /// Takes an index out of those of a file; another body stays as it is.
+    pub(crate) fn unlist(&mut self, index: NodeId)
+        ensures { self.new ≡ body_without_index self.old index }
+    {
+        if let Body::File(kept) = self {
+            kept.indexes.retain(|listed| *listed != index);
         }
     }
 }

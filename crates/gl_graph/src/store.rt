@@ -22,12 +22,13 @@ ghost use Rattle.gl_graph.specs.Seen.{
   body_with_indexes,
   body_with_intervals,
   body_with_records,
+  body_without_index,
   named,
   parent_list,
   shape_in_body,
   with_key_at,
 };
-ghost use Rattle.gl_graph.specs.Grown.{AreIntervalsBorn};
+ghost use Rattle.gl_graph.specs.Grown.{AreGone, AreIntervalsBorn, AreStored};
 
 use crate::node::{Body, Node};
 use crate::parents::Parents;
@@ -110,6 +111,25 @@ pub(crate) fn write_indexes(nodes: &mut Slab<Node>, key: usize, indexes: SmallVe
     ensures len { slab_len nodes.new ≡ slab_len nodes.old }
 {
     nodes[key].body.set_indexes(indexes);
+}
+
+/// Takes an index out of those of a file.
+pub(crate) fn unlist_index(nodes: &mut Slab<Node>, key: usize, index: NodeId)
+    requires { ContainsKey nodes.old key }
+    ensures written { (x : Node) → get nodes.old key ≡ Some x → Updates nodes.old nodes.new key (Some (record x { body = body_without_index x.body index })) }
+    ensures len { slab_len nodes.new ≡ slab_len nodes.old }
+{
+    nodes[key].body.unlist(index);
+}
+
+/// Takes out the nodes with these names, which are stored apart.
+pub(crate) fn remove_all(nodes: &mut Slab<Node>, ids: &[NodeId])
+    requires { AreStored nodes.old ids.now }
+    ensures gone { AreGone nodes.old nodes.new ids.now (length ids.now) }
+{
+    for n in ids {
+        nodes.remove(n.key);
+    }
 }
 
 /// Stores so many intervals of an index, with the births behind the index's, and lists them.

@@ -5,6 +5,7 @@ pub mod Takes
 pub mod Tests
 pub mod Lock
 pub mod Edges
+pub mod Departures
 pub mod Records
 pub mod Rows
 pub mod Strays

@@ -101,30 +101,42 @@ released s t =
     })
     (λ n. holds (members s n) t || is_waiting_at s t n)
 
+-- a wait on one of these nodes is over
+abbrev pub none_among : (NodeId → Bool) → Status → Status
+none_among goes Active = Active
+none_among goes (Waiting q m) = if goes q then Active else Waiting q m
+none_among goes Condemned = Condemned
+
+-- the same in a slot
+abbrev pub freed_among : (NodeId → Bool) → Option Txn → Option Txn
+freed_among goes None = None
+freed_among goes (Some x) = Some (record { age = x.age; status = none_among goes x.status })
+
 -- a wait on this node is over
 abbrev pub none_but : Status → NodeId → Status
-none_but Active n = Active
-none_but (Waiting q m) n = if same_node q n then Active else Waiting q m
-none_but Condemned n = Condemned
+none_but st n = none_among (λ q. same_node q n) st
 
 -- the same in a slot
 abbrev pub freed : NodeId → Option Txn → Option Txn
-freed n None = None
-freed n (Some x) = Some (record { age = x.age; status = none_but x.status n })
+freed n x = freed_among (λ q. same_node q n) x
 
 -- nobody holds the node, and nobody waits for it
 abbrev pub is_idle : State → NodeId → Bool
 is_idle s n = nobody_holds s.most (members s n) && is_empty (s.queue n)
 
--- the node is gone with its grants and waits, and who waited there is active again
-abbrev pub deleted : State → NodeId → State
-deleted s r =
+-- these nodes are gone from the graph with their grants and waits, and who waited for one of them is active again
+abbrev pub departed : State → (NodeId → Bool) → Graph → State
+departed s goes g =
     record s {
-      graph = without_node s.graph r;
-      held = λ u n. if same_node n r then NL else s.held u n;
-      queue = λ n. if same_node n r then [] else s.queue n;
-      txns = λ u. freed r (s.txns u);
+      graph = g;
+      held = λ u n. if goes n then NL else s.held u n;
+      queue = λ n. if goes n then [] else s.queue n;
+      txns = λ u. freed_among goes (s.txns u);
     }
+
+-- the record is gone with its grants and waits
+abbrev pub deleted : State → NodeId → State
+deleted s r = departed s (λ n. same_node n r) (without_node s.graph r)
 
 -- a wait on n still meets the rule of the graph over these parents
 abbrev pub stays : State → List NodeId → Waiter → Bool

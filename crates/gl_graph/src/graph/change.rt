@@ -1,15 +1,23 @@
 //! Changes of nodes that live.
 
-ghost use Rattle.std.specs.Prelude.{◌≡◌, Some, true, position};
+ghost use Rattle.std.specs.Prelude.{◌≡◌, Some, false, true, position};
 ghost use Rattle.std.specs.List.{list_any};
 ghost use Rattle.gl_modes.specs.Nodes.{same_node};
-ghost use Rattle.gl_graph.specs.Shapes.{is_file_shape, is_index_of_shape, is_record_shape};
+ghost use Rattle.gl_graph.specs.Shapes.{
+  is_file_shape,
+  is_index_of_shape,
+  is_index_shape,
+  is_inner_shape,
+  is_record_shape,
+};
 ghost use Rattle.gl_graph.specs.Graph.{first_parent, indexes_of, shape_of};
-ghost use Rattle.gl_graph.specs.Changes.{marked, rekeyed, without_node};
+ghost use Rattle.gl_graph.specs.Changes.{marked, rekeyed, without_branch, without_node};
+ghost use Rattle.gl_graph.specs.Refusals.{is_in_use};
 ghost use Rattle.gl_graph.specs.View.{graph_of};
 
 use super::Graph;
-use crate::store::{write_adopted, write_key, write_records};
+use crate::node::Body;
+use crate::store::{find, remove_all, unlist_index, write_adopted, write_key, write_records};
 use gl_modes::NodeId;
 
 /// The place of the first of these that is the node.
@@ -20,6 +28,22 @@ fn place_among(ids: &[NodeId], n: NodeId) -> Option<usize>
 }
 
 impl Graph {
+    /// Whether something stands against a drop of a file or an index: a record or an index of the file,
+    /// a record of the file of the index.
+    pub fn is_in_use(&self, n: NodeId) -> bool
+        requires { is_inner_shape (shape_of (graph_of self.now) n) ≡ false }
+        ensures { result ≡ is_in_use (graph_of self.now) n }
+    {
+        let Some(node) = find(&self.nodes, n) else {
+            return false;
+        };
+        match &node.body {
+            Body::File(kept) => kept.records > 0 || kept.indexes.len() > 0,
+            Body::Index(kept) => self.has_records(kept.file),
+            _ => false,
+        }
+    }
+
     /// Takes a record out. Its key may be used again; its birth is not.
     pub fn remove_record(&mut self, rec: NodeId)
         requires { is_record_shape (shape_of (graph_of self.old) rec) ≡ true }
@@ -29,6 +53,29 @@ impl Graph {
         let records = self.records(file) - 1;
         self.nodes.remove(rec.key);
         write_records(&mut self.nodes, file.key, records);
+    }
+
+    /// Takes out a file without records and without indexes. It takes no memory.
+    pub fn remove_file(&mut self, file: NodeId)
+        requires file { is_file_shape (shape_of (graph_of self.old) file) ≡ true }
+        requires free { is_in_use (graph_of self.old) file ≡ false }
+        ensures removed { graph_of self.new ≡ without_branch (graph_of self.old) file }
+    {
+        self.nodes.remove(file.key);
+    }
+
+    /// Takes out an index with its intervals, where its file has no records. It takes no memory, and a
+    /// step for each interval.
+    pub fn remove_index(&mut self, index: NodeId)
+        requires index { is_index_shape (shape_of (graph_of self.old) index) ≡ true }
+        requires free { is_in_use (graph_of self.old) index ≡ false }
+        ensures removed { graph_of self.new ≡ without_branch (graph_of self.old) index }
+    {
+        let Body::Index(kept) = self.nodes.remove(index.key).body else {
+            unreachable!()
+        };
+        remove_all(&mut self.nodes, kept.intervals.as_slice());
+        unlist_index(&mut self.nodes, kept.file.key, index);
     }
 
     /// Keeps for ever that rows of the file were adopted: no index of it can be made from then on. It

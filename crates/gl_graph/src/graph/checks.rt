@@ -1,19 +1,22 @@
 //! The tests that a call makes before it changes anything, each with the refusal that it answers.
 
-ghost use Rattle.std.specs.Prelude.{◌≡◌, ◌+◌, ◌∷◌, nat_lt};
+ghost use Rattle.std.specs.Prelude.{◌≡◌, ◌+◌, ◌∷◌, ◌&&◌, ◌||◌, nat_lt};
 ghost use Rattle.std.specs.List.{list_all, list_any};
 ghost use Rattle.gl_modes.specs.Nodes.{same_node};
-ghost use Rattle.gl_graph.specs.Shapes.{is_file_shape, is_inner_shape};
+ghost use Rattle.gl_graph.specs.Shapes.{is_adopted, is_file_shape, is_inner_shape};
 ghost use Rattle.gl_graph.specs.Graph.{is_live, node_count, shape_of};
 ghost use Rattle.gl_graph.specs.Lawful.{are_distinct, are_inner};
 ghost use Rattle.gl_graph.specs.Refusals.{
   bad_bounds,
   bad_index_place,
   bad_parents,
+  has_records,
   index_refusal,
+  index_refusal_where,
   is_rising,
   parents_refusal,
   record_refusal,
+  reindex_refusal,
   verdict,
 };
 ghost use Rattle.gl_graph.specs.View.{graph_of};
@@ -151,7 +154,7 @@ impl Graph {
         }
     }
 
-    /// The tests for an index of a file.
+    /// The tests for an index of a file of which no rows were adopted.
     pub(super) fn check_index(
         &self,
         parents: &[NodeId],
@@ -160,13 +163,40 @@ impl Graph {
     ) -> Result<(), Refusal>
         ensures { result ≡ verdict (index_refusal (graph_of self.now) parents.now file bounds.now) }
     {
+        self.check_index_where(true, parents, file, bounds)
+    }
+
+    /// The tests for an index of a file of which rows may have been adopted.
+    pub(super) fn check_index_again(
+        &self,
+        parents: &[NodeId],
+        file: NodeId,
+        bounds: &[u64],
+    ) -> Result<(), Refusal>
+        ensures { result ≡ verdict (reindex_refusal (graph_of self.now) parents.now file bounds.now) }
+    {
+        self.check_index_where(false, parents, file, bounds)
+    }
+
+    /// The tests for an index of a file, which may also say that the file is in use where rows of it
+    /// were adopted.
+    fn check_index_where(
+        &self,
+        adopted_in_use: bool,
+        parents: &[NodeId],
+        file: NodeId,
+        bounds: &[u64],
+    ) -> Result<(), Refusal>
+        ensures { result ≡ verdict (index_refusal_where (graph_of self.now)
+            (has_records (graph_of self.now) file || adopted_in_use && is_adopted (shape_of (graph_of self.now) file)) parents.now file bounds.now) }
+    {
         if self.worn() {
             Err(Refusal::WornOut)
         } else if !self.all_live(parents) || !self.lives(file) {
             Err(Refusal::NoSuchNode)
         } else if self.is_bad_index_place(parents, file) {
             Err(Refusal::BadParents)
-        } else if self.has_records(file) || self.is_adopted(file) {
+        } else if self.has_records(file) || adopted_in_use && self.is_adopted(file) {
             Err(Refusal::FileInUse)
         } else if self.are_bad_bounds(bounds) {
             Err(Refusal::BadKeys)

@@ -6,7 +6,7 @@ ghost use Rattle.gl_graph.specs.Shapes.{File, Inner, Rec, is_file_shape};
 ghost use Rattle.gl_graph.specs.Graph.{IsFreeKey, indexes_of, record_parents, shape_of};
 ghost use Rattle.gl_graph.specs.Lawful.{IsLawfulGraph};
 ghost use Rattle.gl_graph.specs.Changes.{born_node, IsAdopted, IsBorn, IsIndexBorn};
-ghost use Rattle.gl_graph.specs.Refusals.{file_refusal, index_refusal, inner_refusal, record_refusal, Refuses};
+ghost use Rattle.gl_graph.specs.Refusals.{file_refusal, index_refusal, inner_refusal, record_refusal, reindex_refusal, Refuses};
 ghost use Rattle.gl_graph.specs.View.{graph_of};
 ghost use Rattle.gl_graph.specs.Seen.{shape_in_body, IsPlainBody};
 
@@ -118,6 +118,40 @@ impl Graph {
         ensures err { OnErr result (self.new ≡ self.old) }
     {
         self.check_index(parents, file, bounds)?;
+        self.add_index_unrefused(parents, file, bounds)
+    }
+
+    /// As `add_index`, also where rows of the file were adopted, but none of its records stands. The
+    /// file stays one of which rows were adopted.
+    ///
+    /// Refused as `add_index` is, with `FileInUse` where the file has records.
+    pub fn add_index_again(
+        &mut self,
+        parents: &[NodeId],
+        file: NodeId,
+        bounds: &[u64],
+    ) -> Result<NodeId, Refusal>
+        ensures made { IfOk result (λ n. IsIndexBorn (graph_of self.old) (graph_of self.new) n parents.now file bounds.now) }
+        ensures refuses { Refuses (reindex_refusal (graph_of self.old) parents.now file bounds.now) result }
+        ensures err { OnErr result (self.new ≡ self.old) }
+    {
+        self.check_index_again(parents, file, bounds)?;
+        self.add_index_unrefused(parents, file, bounds)
+    }
+
+    /// As `add_index_again`, where nothing stands against the index but memory. The only refusal is
+    /// `NoMemory`.
+    pub fn add_index_unrefused(
+        &mut self,
+        parents: &[NodeId],
+        file: NodeId,
+        bounds: &[u64],
+    ) -> Result<NodeId, Refusal>
+        requires { reindex_refusal (graph_of self.old) parents.now file bounds.now ≡ None }
+        ensures made { IfOk result (λ n. IsIndexBorn (graph_of self.old) (graph_of self.new) n parents.now file bounds.now) }
+        ensures memory { IfErr result (λ r. r ≡ Refusal.NoMemory) }
+        ensures err { OnErr result (self.new ≡ self.old) }
+    {
         let count = bounds.len() + 1;
         let Ok(()) = self.nodes.reserve(count + 1) else {
             return Err(Refusal::NoMemory);

@@ -12,7 +12,7 @@ use Rattle.gl_model.proofs.Words.{range-from_each, Rec, rec_not_plain, record_la
 use Rattle.gl_model.proofs.Words.{same_mode, same_node, same_node-differ, same_node-equal, same_node-other, shape_in, shape_of, Some, split, State, status_of}
 use Rattle.gl_model.proofs.Words.{stays_there, subst, sum_by-append, sym, true, Waiter, Waiting, waits_for, with_grant, with_graph, with_key, without_node, X}
 use Rattle.gl_model.proofs.Words.{ℕ}
-use Rattle.gl_model.proofs.law.Edges.{is_step, step_is}
+use Rattle.gl_model.proofs.law.Departures.{departed-no_cycle, departed_lawful, GoAway}
 use Rattle.gl_model.proofs.law.Keeps.{lawful-within, nl_is, rule_same, with_grant-lawful}
 use Rattle.gl_model.proofs.law.Tests.{all_ix}
 use Rattle.gl_model.proofs.queues.Edits.{age_freed, some_freed, still_waits, waits_still}
@@ -247,77 +247,17 @@ module _ (s : State) (law : IsLawful s) (r : NodeId) (rec : is_record_shape (sha
 -- A record goes with its grants and waits: the law of a state is kept, and no step of a wait is added.
 
 module _ (s : State) (law : IsLawful s) (r : NodeId) (rec : is_record_shape (shape_of s.graph r) ≡ true) where
-  abbrev after : State
-  after = deleted s r
-
-  pub held_there : (u : ℕ) (q : NodeId) → same_node q r ≡ false → after.held u q ≡ s.held u q
-  held_there u q e = ap (λ b. if b then NL else s.held u q) e
-
-  queue_there : (q : NodeId) → same_node q r ≡ false → after.queue q ≡ s.queue q
-  queue_there q e = ap (λ b. if b then [] else s.queue q) e
-
-  was_held : (u : ℕ) (q : NodeId) → holds (members after q) u ≡ true → (same_node q r ≡ false) × (holds (members s q) u ≡ true)
-  was_held u q h = grind (arith, nat_tests, same_node q r)
-
-  was_among : (u : ℕ) (q : NodeId) → is_among_waiters u (after.queue q) ≡ true → (same_node q r ≡ false) × (is_among_waiters u (s.queue q) ≡ true)
-  was_among u q h = grind (arith, nat_tests, same_node q r)
-
-  stands : (q : NodeId) → is_live s.graph q ≡ true → same_node q r ≡ false → is_live after.graph q ≡ true
-  stands q live e = ap is_some (stays_there s.graph law.graph r rec q live (same_node-other q r e)) ∙ live
-
-  kind_left : (q : NodeId) (m : Mode) → is_live s.graph q ≡ true → same_node q r ≡ false → ModeFitsKind s q m → ModeFitsKind after q m
-  kind_left q m live e k h = k (sym (ap (λ o. is_record_shape (shape_in o)) (stays_there s.graph law.graph r rec q live (same_node-other q r e))) ∙ h)
-
-  rule_left : (u : ℕ) (q : NodeId) (m : Mode) → is_live s.graph q ≡ true → same_node q r ≡ false → intends s u q m ≡ true → intends after u q m ≡ true
-  rule_left u q m live e h =
-      ap (λ o. intends_over (after.held u) (parents_in o) m) (stays_there s.graph law.graph r rec q live (same_node-other q r e))
-      ∙ rule_same (s.held u) (after.held u) m (parents_of s.graph q)
-      (λ p c. held_there u p (same_node-differ p r (λ is. rec_not_plain (shape_of s.graph r) rec (ap (λ x. is_plain (shape_of s.graph x)) (sym is)
-      ∙ parent_plain s.graph law.graph q p c)))) ∙ h
-
-  waited : (u : ℕ) (q : NodeId) (m : Mode) → status_of after u ≡ Some (Waiting q m) → (status_of s u ≡ Some (Waiting q m)) × (same_node q r ≡ false)
-  waited u q m st = still_waits r q m (s.txns u) st
-
-  pub deleted_lawful : IsLawful (deleted s r)
-  deleted_lawful = record {
-    graph = removed_lawful s.graph law.graph r rec;
-    grants_live = λ u q h.
-        let w = was_held u q h in
-        let old = law.grants_live u q w.1 in (
-          some_freed r (s.txns u) ∙ old.0,
-          stands q old.1 w.0,
-          subst (ModeFitsKind after q) (sym (held_there u q w.0)) (kind_left q (s.held u q) old.1 w.0 old.2),
-        );
-    waits_live = λ u q h. let w = was_among u q h in stands q (law.waits_live u q w.1) w.0;
-    compatible = λ u v q ne. grind (arith, nat_tests);
-    grants_intend = λ u q h.
-        let w = was_held u q h in
-        ap (intends after u q) (held_there u q w.0) ∙ rule_left u q (s.held u q) (law.grants_live u q w.1).1 w.0 (law.grants_intend u q w.1);
-    waits_intend = λ u q m st.
-        let w = waited u q m st in
-        let old = law.waits_intend u q m w.0 in
-        let live = law.waits_live u q (among_by_filter u (u, m) [] (s.queue q) (law.one_wait u q m w.0)) in
-        (rule_left u q m live w.1 old.0, old.1, ap (is_at_least m) (held_there u q w.1) ∙ old.2, kind_left q m live w.1 old.3);
-    one_wait = λ u q m st. let w = waited u q m st in ap (filter (is_waiter u)) (queue_there q w.1) ∙ law.one_wait u q m w.0;
-    waits_are = λ u q h. let w = was_among u q h in waits_still r q (s.txns u) (law.waits_are u q w.1) w.0;
-    holders_first = λ u v q h ahead.
-        let w = was_held u q h in
-        ap (λ m. not (same_mode m NL)) (held_there v q w.0) ∙ law.holders_first u v q w.1 (sym (ap (λ ws. is_ahead ws u v) (queue_there q w.0)) ∙ ahead);
-    front_waits = λ q. grind (arith, nat_tests);
-    slots_below = λ u h. law.slots_below u (sym (some_freed r (s.txns u)) ∙ h);
-    ages = λ u h. let old = law.ages u (sym (some_freed r (s.txns u)) ∙ h) in subst (λ a. (1 ≤ a) × (a ≤ s.begins)) (sym (age_freed r (s.txns u))) old;
-    ages_differ = λ u v h e. law.ages_differ u v (sym (some_freed r (s.txns u)) ∙ h) (sym (age_freed r (s.txns u)) ∙ e ∙ age_freed r (s.txns v));
+  -- a record is nobody's parent
+  record_goes : GoAway s.graph (λ q. same_node q r) (without_node s.graph r)
+  record_goes = record {
+    lawful = removed_lawful s.graph law.graph r rec;
+    stays = λ q live e. stays_there s.graph law.graph r rec q live (same_node-other q r e);
+    apart = λ q p live e c. same_node-differ p r (λ is. rec_not_plain (shape_of s.graph r) rec (ap (λ x. is_plain (shape_of s.graph x)) (sym is)
+        ∙ parent_plain s.graph law.graph q p c));
   }
 
-deleted_steps : (s : State) (r : NodeId) (x y : ℕ) → waits_for (deleted s r) x y ≡ true → waits_for s x y ≡ true
-deleted_steps s r x y h =
-    let st = step_is (deleted s r) x y h in let n = st.0 in let m = st.1 in
-    let was = still_waits r n m (s.txns x) st.2.waits in
-    is_step s x y n m (record {
-      differ = st.2.differ;
-      waits = was.0;
-      blocked = grind (arith, nat_tests, was.1, st.2.blocked);
-    })
+  pub deleted_lawful : IsLawful (deleted s r)
+  deleted_lawful = departed_lawful s law (λ q. same_node q r) (without_node s.graph r) record_goes
 
 pub deleted-no_cycle : (s : State) (r : NodeId) → HasNoCycle s → HasNoCycle (deleted s r)
-deleted-no_cycle s r none = less-no_cycle (waits_for s) (waits_for (deleted s r)) (deleted_steps s r) none
+deleted-no_cycle s r none = departed-no_cycle s (λ q. same_node q r) (without_node s.graph r) none

@@ -1,0 +1,748 @@
+-- A node goes with its children: what is left, and that it is lawful. For those above who read a graph after a drop.
+use Rattle.std.specs.Prelude.{◌≡◌, ◌≢◌, ℕ, zero, suc, ◌+◌, ◌-◌, ◌<◌, ◌≤◌, Bool, true, false, not, ◌&&◌, ◌||◌, ◌==◌, nat_lt, nat_le, List, [], ◌∷◌, ◌++◌, length}
+use Rattle.std.specs.Prelude.{Option, Some, None, is_some, if◌then◌else◌, cond, count_by}
+use Rattle.std.specs.List.{cons_option, filter, filter_map, list_all, list_any, range_with_len}
+use Rattle.std.proofs.Math.Path.{fun_ext}
+use Rattle.std.proofs.lemmas.Bool.Decides.{nat_tests}
+use Rattle.std.proofs.lemmas.List.Elements.{filter_map-append}
+use Rattle.std.proofs.lemmas.List.Sums.{count_by-le-length}
+use Rattle.std.proofs.lemmas.List.{length-append}
+use Rattle.std.proofs.Common.{refl, sym, ap, ap₂, ◌∙◌, subst, arith, inl, inr, zero-add}
+use Rattle.gl_modes.proofs.NodeLemmas.{node_is, same_node-equal, same_node-refl, same_node-differ, same_node-from_equal}
+use Rattle.gl_modes.proofs.Words.{split, cases_of, or_elim, or_left, or_right, and_both, both, clash, no, none_some, some_is, not_true, number_same, number_other, same_number, other_number}
+use Rattle.gl_modes.specs.declared.node.NodeId.{NodeId}
+use Rattle.gl_modes.specs.Nodes.{same_node}
+use Rattle.gl_graph.specs.Shapes.{Shape, Inner, File, Index, Interval, Rec, is_inner_shape, is_file_shape, is_index_shape, is_record_shape, is_index_of_shape}
+use Rattle.gl_graph.specs.Shapes.{is_movable_shape, bounds_in, place_in}
+use Rattle.gl_graph.specs.Graph.{Graph, Node, id_of, nodes, node_count, with_key, node_at, is_live, parents_in, parents_of, shape_in, shape_of, is_child}
+use Rattle.gl_graph.specs.Graph.{indexes_of, interval, interval_of, interval_place, intervals_of, record_parents, key_or_zero, is_record_of}
+use Rattle.gl_graph.specs.Lawful.{AreInnerParents, IsIndexNode, HasShape, IsWellFormed, IsLawfulGraph, are_inner}
+use Rattle.gl_graph.specs.Changes.{without_node, without_branch}
+use Rattle.gl_graph.specs.Refusals.{has_records, has_children, is_in_use, is_shape_in_use}
+use Rattle.gl_graph.proofs.Look.{all_at, all_filter, finds, found_at, live_node, child_live, child_node, shaped_node, there_is, one_birth}
+use Rattle.gl_graph.proofs.KindRules.{is_plain, inner_plain, file_plain, index_plain, plain_live, index_of, index_node, interval_is}
+use Rattle.gl_graph.proofs.Listings.{kept, filter_of_map, map_fewer, map_same, map_none, range_append}
+use Rattle.gl_graph.proofs.Routes.{acyclic_fewer}
+use Rattle.gl_graph.proofs.RouteLengths.{listed}
+use Rattle.gl_graph.proofs.Moved.{some_at}
+use Rattle.gl_graph.proofs.Distinct.{index_listed}
+use Rattle.gl_graph.proofs.Unrefused.{or_no}
+use Rattle.gl_graph.proofs.Counts.{count_cons, count_same, nodes_live}
+use Rattle.gl_graph.specs.View.{record_count}
+
+-- of an interval
+abbrev pub is_interval_shape : Option Shape → Bool
+is_interval_shape o = is_some (place_in o)
+
+-- how many intervals a node of this shape has
+abbrev pub interval_count : Option Shape → ℕ
+interval_count (Some (Index file bounds)) = length bounds + 1
+interval_count o = 0
+
+no_interval_inner : (o : Option Shape) → is_inner_shape o ≡ true → is_interval_shape o ≡ false
+no_interval_inner None h = refl
+no_interval_inner (Some Inner) h = refl
+no_interval_inner (Some (File adopted)) h = refl
+no_interval_inner (Some (Index f bs)) h = refl
+no_interval_inner (Some (Interval place)) h = absurd (no h)
+no_interval_inner (Some (Rec keys)) h = refl
+
+no_interval_file : (o : Option Shape) → is_file_shape o ≡ true → is_interval_shape o ≡ false
+no_interval_file None h = refl
+no_interval_file (Some Inner) h = refl
+no_interval_file (Some (File adopted)) h = refl
+no_interval_file (Some (Index f bs)) h = refl
+no_interval_file (Some (Interval place)) h = absurd (no h)
+no_interval_file (Some (Rec keys)) h = refl
+
+no_interval_index : (o : Option Shape) → is_index_shape o ≡ true → is_interval_shape o ≡ false
+no_interval_index None h = refl
+no_interval_index (Some Inner) h = refl
+no_interval_index (Some (File adopted)) h = refl
+no_interval_index (Some (Index f bs)) h = refl
+no_interval_index (Some (Interval place)) h = absurd (no h)
+no_interval_index (Some (Rec keys)) h = refl
+
+no_interval_record : (o : Option Shape) → is_record_shape o ≡ true → is_interval_shape o ≡ false
+no_interval_record None h = refl
+no_interval_record (Some Inner) h = refl
+no_interval_record (Some (File adopted)) h = refl
+no_interval_record (Some (Index f bs)) h = refl
+no_interval_record (Some (Interval place)) h = absurd (no h)
+no_interval_record (Some (Rec keys)) h = refl
+
+pub movable_no_interval : (o : Option Shape) → is_movable_shape o ≡ true → is_interval_shape o ≡ false
+movable_no_interval None h = refl
+movable_no_interval (Some Inner) h = refl
+movable_no_interval (Some (File adopted)) h = refl
+movable_no_interval (Some (Index f bs)) h = refl
+movable_no_interval (Some (Interval place)) h = absurd (no h)
+movable_no_interval (Some (Rec keys)) h = refl
+
+movable_no_record : (o : Option Shape) → is_movable_shape o ≡ true → is_record_shape o ≡ false
+movable_no_record None h = refl
+movable_no_record (Some Inner) h = refl
+movable_no_record (Some (File adopted)) h = refl
+movable_no_record (Some (Index f bs)) h = refl
+movable_no_record (Some (Interval place)) h = refl
+movable_no_record (Some (Rec keys)) h = absurd (no h)
+
+-- what can be a parent of a record is a file or an interval
+abbrev file_or_interval : Option Shape → Bool
+file_or_interval o = is_file_shape o || is_interval_shape o
+
+pub movable_live : (g : Graph) (n : NodeId) → is_movable_shape (shape_of g n) ≡ true → is_live g n ≡ true
+movable_live g n h = cases_of (node_at g n) (λ e. absurd (no (sym (ap (λ o. is_movable_shape (shape_in o)) e) ∙ h))) (λ x e. there_is (node_at g n) x e)
+
+-- a filter that each element passes
+filter_whole : (q p : NodeId → Bool) (xs : List NodeId) → list_all q xs ≡ true → ((x : NodeId) → q x ≡ true → p x ≡ true) → filter p xs ≡ xs
+filter_whole q p [] all each = refl
+filter_whole q p (x ∷ xs) all each =
+    let t = and_both (q x) (list_all q xs) all in
+    ap (λ b. if b then x ∷ filter p xs else filter p xs) (each x t.0) ∙ ap (λ ys. x ∷ ys) (filter_whole q p xs t.1 each)
+
+-- one filter and then another, and the other way round
+filter_twice : (q a b a' b' : NodeId → Bool) (xs : List NodeId) → list_all q xs ≡ true
+    → ((x : NodeId) → q x ≡ true → (a x && b x) ≡ (a' x && b' x)) → filter b (filter a xs) ≡ filter b' (filter a' xs)
+filter_twice q a b a' b' [] all each = refl
+filter_twice q a b a' b' (x ∷ xs) all each =
+    let t = and_both (q x) (list_all q xs) all in
+    once a b x xs ∙ ap₂ (λ t' (ys : List NodeId). if t' then x ∷ ys else ys) (each x t.0) (filter_twice q a b a' b' xs t.1 each) ∙ sym (once a' b' x xs)
+  where
+    once : (c d : NodeId → Bool) (y : NodeId) (ys : List NodeId)
+        → filter d (filter c (y ∷ ys)) ≡ (if c y && d y then y ∷ filter d (filter c ys) else filter d (filter c ys))
+    once c d y ys =
+        split (c y) (λ e. ap (λ b. filter d (if b then y ∷ filter c ys else filter c ys)) e
+        ∙ sym (ap (λ b. if b && d y then y ∷ filter d (filter c ys) else filter d (filter c ys)) e))
+        (λ e. ap (λ b. filter d (if b then y ∷ filter c ys else filter c ys)) e
+        ∙ sym (ap (λ b. if b && d y then y ∷ filter d (filter c ys) else filter d (filter c ys)) e))
+
+-- what is counted passes the filter
+count_filtered : (q keep p : NodeId → Bool) (xs : List NodeId) → list_all q xs ≡ true → ((x : NodeId) → q x ≡ true → p x ≡ true → keep x ≡ true)
+    → count_by p (filter keep xs) ≡ count_by p xs
+count_filtered q keep p [] all each = refl
+count_filtered q keep p (x ∷ xs) all each =
+    let t = and_both (q x) (list_all q xs) all in
+    split (keep x)
+    (λ e. ap (λ b. count_by p (if b then x ∷ filter keep xs else filter keep xs)) e ∙ count_cons p x (filter keep xs)
+    ∙ ap (λ k. cond (p x) 1 0 + k) (count_filtered q keep p xs t.1 each) ∙ sym (count_cons p x xs))
+    (λ e. ap (λ b. count_by p (if b then x ∷ filter keep xs else filter keep xs)) e ∙ count_filtered q keep p xs t.1 each
+    ∙ sym (count_cons p x xs ∙ ap (λ b. cond b 1 0 + count_by p xs) (not_true (p x) (λ h. no (sym e ∙ each x t.0 h)))
+    ∙ zero-add (count_by p xs)))
+
+-- a listing that gives a node for each birth
+map_full : (h : ℕ → Option NodeId) (a n : ℕ) → ((b : ℕ) → a ≤ b → b < a + n → is_some (h b) ≡ true) → length (filter_map h (range_with_len a n)) ≡ n
+map_full h a zero full = refl
+map_full h a (suc n) full =
+    by (h a) (full a (omega arith) (omega arith)) (map_full h (a + 1) n (λ b low high. full b (omega arith) (omega arith)))
+  where
+    by : (o : Option NodeId) → is_some o ≡ true → length (filter_map h (range_with_len (a + 1) n)) ≡ n
+        → length (cons_option o (filter_map h (range_with_len (a + 1) n))) ≡ suc n
+    by None e rest = absurd (no e)
+    by (Some x) e rest = ap suc rest
+
+module _ (g : Graph) (n : NodeId) where
+  -- what has this birth goes
+  abbrev pub gone : ℕ → Bool
+  gone b = (b == n.birth) || list_any (same_node n) (parents_in (g.at b))
+
+  abbrev pub left : Graph
+  left = without_branch g n
+
+  pub at_gone : (b : ℕ) → gone b ≡ true → left.at b ≡ None
+  at_gone b e = ap (λ x. if x then None else g.at b) e
+
+  pub at_beside : (b : ℕ) → gone b ≡ false → left.at b ≡ g.at b
+  at_beside b e = ap (λ x. if x then None else g.at b) e
+
+  pub left_same : (q : NodeId) → gone q.birth ≡ false → node_at left q ≡ node_at g q
+  left_same q e = ap (with_key q.key) (at_beside q.birth e)
+
+  -- what is left was there
+  pub left_birth : (q : NodeId) (x : Node) → node_at left q ≡ Some x → gone q.birth ≡ false
+  left_birth q x e = not_true (gone q.birth) (λ t. none_some (sym (ap (with_key q.key) (at_gone q.birth t)) ∙ e))
+
+  pub left_was : (q : NodeId) (x : Node) → node_at left q ≡ Some x → node_at g q ≡ Some x
+  left_was q x e = sym (left_same q (left_birth q x e)) ∙ e
+
+  pub left_was_live : (q : NodeId) → is_live left q ≡ true → is_live g q ≡ true
+  left_was_live q h = let x = live_node (node_at left q) h in ap is_some (left_was q x.0 x.1)
+
+  pub left_was_child : (p q : NodeId) → is_child left p q ≡ true → is_child g p q ≡ true
+  left_was_child p q h =
+      let x = live_node (node_at left q) (child_live left q p h) in
+      ap (λ o. list_any (same_node p) (parents_in o)) (left_was q x.0 x.1 ∙ sym x.1) ∙ h
+
+  -- a node that is left is what it was
+  pub left_is : (q : NodeId) → is_live left q ≡ true → node_at left q ≡ node_at g q
+  left_is q h = let x = live_node (node_at left q) h in left_same q (left_birth q x.0 x.1)
+
+  pub left_parents : (q : NodeId) → is_live left q ≡ true → parents_of left q ≡ parents_of g q
+  left_parents q h = ap parents_in (left_is q h)
+
+  pub left_shape : (q : NodeId) → is_live left q ≡ true → shape_of left q ≡ shape_of g q
+  left_shape q h = ap shape_in (left_is q h)
+
+  -- there are no more nodes than there were
+  pub left_fewer : node_count left ≤ node_count g
+  left_fewer =
+      map_fewer (λ b. id_of b (g.at b)) (λ b. id_of b (left.at b))
+      (λ b. split (gone b) (λ e. inr (ap (id_of b) (at_gone b e))) (λ e. inl (ap (id_of b) (at_beside b e)))) (range_with_len 1 g.births)
+
+  module _ (live : is_live g n ≡ true) where
+    -- of living nodes the node goes, and its children
+    pub gone_is : (q : NodeId) → is_live g q ≡ true → gone q.birth ≡ (same_node n q || is_child g n q)
+    gone_is q h =
+        let x = live_node (node_at g q) h in
+        let at = found_at g q x.0 x.1 in
+        ap₂ (λ a b. a || b) (birth q h) (ap (λ o. list_any (same_node n) (parents_in o)) (at.0 ∙ sym x.1))
+      where
+        birth : (q : NodeId) → is_live g q ≡ true → (q.birth == n.birth) ≡ same_node n q
+        birth q h =
+            split (same_node n q) (λ t. number_same q.birth n.birth (ap (λ m. m.birth) (sym (same_node-equal n q t))) ∙ sym t)
+            (λ t. number_other q.birth n.birth (λ e. no (sym t ∙ same_node-from_equal n q (sym (one_birth g q n h live e)))) ∙ sym t)
+
+    -- what is neither the node nor a child of it stays
+    pub stays_left : (q : NodeId) → is_live g q ≡ true → same_node n q ≡ false → is_child g n q ≡ false → node_at left q ≡ node_at g q
+    stays_left q h other apart = left_same q (gone_is q h ∙ ap₂ (λ a b. a || b) other apart)
+
+    -- a node lives then exactly if it lived, is not the one, and is no child of it
+    pub left_live : (q : NodeId) → is_live left q ≡ (is_live g q && not (same_node n q || is_child g n q))
+    left_live q =
+        split (is_live g q)
+        (λ h. split (same_node n q || is_child g n q)
+        (λ t. ap (λ o. is_some (with_key q.key o)) (at_gone q.birth (gone_is q h ∙ t)) ∙ sym (ap₂ (λ a b. a && not b) h t))
+        (λ t. ap is_some (left_same q (gone_is q h ∙ t)) ∙ h ∙ sym (ap₂ (λ a b. a && not b) h t)))
+        (λ h. not_true (is_live left q) (λ k. no (sym h ∙ left_was_live q k)) ∙ sym (ap (λ a. a && not (same_node n q || is_child g n q)) h))
+
+    -- the nodes that are left, in order of birth
+    pub nodes_left : nodes left ≡ filter (λ q. not (same_node n q || is_child g n q)) (nodes g)
+    nodes_left =
+        ap (λ (h : ℕ → Option NodeId). filter_map h (range_with_len 1 g.births)) (fun_ext each)
+        ∙ sym (filter_of_map (λ q. not (same_node n q || is_child g n q)) (λ b. id_of b (g.at b)) (range_with_len 1 g.births))
+      where
+        by : (b : ℕ) (o : Option Node) → g.at b ≡ o → id_of b (left.at b) ≡ kept (λ q. not (same_node n q || is_child g n q)) (id_of b o)
+        by b None e = split (gone b) (λ t. ap (id_of b) (at_gone b t)) (λ t. ap (id_of b) (at_beside b t ∙ e))
+        by b (Some x) e =
+            let q : NodeId = record { key = x.key; birth = b } in
+            let h : is_live g (record { key = x.key; birth = b }) ≡ true = ap is_some (finds x.key (g.at b) x e refl) in
+            let is = gone_is (record { key = x.key; birth = b }) h in
+            split (gone b)
+            (λ t. ap (id_of b) (at_gone b t)
+            ∙ sym (ap (λ c. if not c then Some (record { key = x.key; birth = b }) else None) (sym is ∙ t)))
+            (λ t. ap (id_of b) (at_beside b t ∙ e)
+            ∙ sym (ap (λ c. if not c then Some (record { key = x.key; birth = b }) else None) (sym is ∙ t)))
+
+        each : (b : ℕ) → id_of b (left.at b) ≡ kept (λ q. not (same_node n q || is_child g n q)) (id_of b (g.at b))
+        each b = by b (g.at b) refl
+
+  -- without children the node goes alone
+  pub alone_is : ((q : NodeId) → is_child g n q ≡ false) → without_branch g n ≡ without_node g n
+  alone_is none =
+      let same : left.at ≡ (without_node g n).at = fun_ext (λ b. ap (λ x. if (b == n.birth) || x then None else g.at b) (by b (g.at b) refl)
+      ∙ ap (λ x. if x then None else g.at b) (or_nothing (b == n.birth))) in
+      λ i. record { at = same i; births = g.births; most = g.most; most_bounds = g.most_bounds }
+    where
+      or_nothing : (b : Bool) → (b || false) ≡ b
+      or_nothing true = refl
+      or_nothing false = refl
+
+      by : (b : ℕ) (o : Option Node) → g.at b ≡ o → list_any (same_node n) (parents_in (g.at b)) ≡ false
+      by b None e = ap (λ o. list_any (same_node n) (parents_in o)) e
+      by b (Some x) e =
+          ap (λ o. list_any (same_node n) (parents_in o)) (e ∙ sym (finds x.key (g.at b) x e refl)) ∙ none (record { key = x.key; birth = b })
+
+-- the kind of a parent
+module _ (g : Graph) (law : IsLawfulGraph g) where
+  interval_among : (f p : NodeId) (is : List NodeId) (keys : List ℕ) → list_all (λ i. is_index_of_shape f (shape_of g i)) is ≡ true
+      → list_any (same_node p) (intervals_of g is keys) ≡ true → is_interval_shape (shape_of g p) ≡ true
+  interval_among f p [] keys h k = absurd (no k)
+  interval_among f p (i ∷ is) [] h k = absurd (no k)
+  interval_among f p (i ∷ is) (key ∷ keys) h k =
+      let t = and_both _ _ h in
+      or_elim _ _ k
+      (λ here. let it = interval_is g law f i key t.0 in
+      ap (λ q. is_interval_shape (shape_of g q)) (same_node-equal p _ here) ∙ ap (λ o. is_interval_shape (shape_in o)) it)
+      (λ there. interval_among f p is keys t.1 there)
+
+  parent_of_record : (f p : NodeId) (keys : List ℕ) → is_file_shape (shape_of g f) ≡ true → list_any (same_node p) (record_parents g f keys) ≡ true
+      → file_or_interval (shape_of g p) ≡ true
+  parent_of_record f p keys h k =
+      or_elim _ _ k
+      (λ here. or_left (is_file_shape (shape_of g p)) _ (ap (λ q. is_file_shape (shape_of g q)) (same_node-equal p f here) ∙ h))
+      (λ there. or_right (is_file_shape (shape_of g p)) _ (interval_among f p (indexes_of g f) keys
+      (all_filter (λ i. is_index_of_shape f (shape_of g i)) (nodes g)) there))
+
+  -- the kind of a node of which this one is a child
+  abbrev parent_kind : Shape → Option Shape → Bool
+  parent_kind (Interval place) o = is_index_shape o
+  parent_kind (Rec keys) o = file_or_interval o
+  parent_kind sh o = is_inner_shape o
+
+  parent_by : (sh : Shape) (ps : List NodeId) (q p : NodeId) → HasShape g q sh ps → list_any (same_node p) ps ≡ true → parent_kind sh (shape_of g p) ≡ true
+  parent_by Inner ps q p h k = all_at (λ x. is_inner_shape (shape_of g x)) ps p k h.inner
+  parent_by (File adopted) ps q p h k = all_at (λ x. is_inner_shape (shape_of g x)) ps p k h.inner
+  parent_by (Index f bs) ps q p h k = all_at (λ x. is_inner_shape (shape_of g x)) ps p k h.0.inner
+  parent_by (Interval place) ps q p h k =
+      or_elim _ _ (sym (ap (list_any (same_node p)) h.1) ∙ k)
+      (λ here. ap (λ x. is_index_shape (shape_of g x)) (same_node-equal p h.0 here) ∙ h.2) (λ none. absurd (no none))
+  parent_by (Rec keys) ps q p h k = parent_of_record h.0 p keys h.1.file_is (sym (ap (list_any (same_node p)) h.1.parents) ∙ k)
+
+  pub parent_is : (q p : NodeId) → is_child g p q ≡ true → (sh : Shape) × (shape_of g q ≡ Some sh) × (parent_kind sh (shape_of g p) ≡ true)
+  parent_is q p h =
+      let c = child_node g q p h in
+      (c.0.shape, ap shape_in c.1, parent_by c.0.shape c.0.parents q p (law.well_formed q c.0 c.1) c.2)
+
+-- the children of an index are its intervals
+module _ (g : Graph) (law : IsLawfulGraph g) (n f : NodeId) (bs : List ℕ) (shape : shape_of g n ≡ Some (Index f bs)) where
+  pub interval_child : (place : ℕ) → place ≤ length bs → is_child g n (interval g n place) ≡ true
+  interval_child place low =
+      ap (λ o. list_any (same_node n) (parents_in o)) ((index_node g law n f bs shape).intervals place low) ∙ or_left _ _ (same_node-refl n)
+
+  pub child_interval : (q : NodeId) → is_child g n q ≡ true → is_interval_shape (shape_of g q) ≡ true
+      → (place : ℕ) × (place ≤ length bs) × (q ≡ interval g n place)
+  child_interval q c kind =
+      let node = child_node g q n c in
+      by node.0.shape node.0.parents (sym (ap (λ o. is_interval_shape (shape_in o)) node.1) ∙ kind) (law.well_formed q node.0 node.1) node.2
+    where
+      by : (sh : Shape) (ps : List NodeId) → is_interval_shape (Some sh) ≡ true → HasShape g q sh ps → list_any (same_node n) ps ≡ true
+          → (place : ℕ) × (place ≤ length bs) × (q ≡ interval g n place)
+      by Inner ps i h l = absurd (no i)
+      by (File adopted) ps i h l = absurd (no i)
+      by (Index f' bs') ps i h l = absurd (no i)
+      by (Interval place) ps i h l =
+          or_elim (same_node n h.0) false (sym (ap (list_any (same_node n)) h.1) ∙ l)
+          (λ here.
+          let same : h.0 ≡ n = sym (same_node-equal n h.0 here) in (
+            place,
+            subst (λ (bounds : List ℕ). place ≤ length bounds) (ap (λ m. bounds_in (shape_of g m)) same ∙ ap bounds_in shape) h.3,
+            h.4 ∙ ap (λ m. interval g m place) same,
+          ))
+          (λ none. absurd (no none))
+      by (Rec keys) ps i h l = absurd (no i)
+
+-- what can be given other parents goes with its children, where nothing stands against it
+module _ (g : Graph) (law : IsLawfulGraph g) (n : NodeId) (movable : is_movable_shape (shape_of g n) ≡ true) (free : is_in_use g n ≡ false) where
+  pub live : is_live g n ≡ true
+  live = movable_live g n movable
+
+  -- a child of it is an interval, and it is an index
+  child_of : (o : Option Shape) → shape_of g n ≡ o → (q : NodeId) → is_child g n q ≡ true
+      → (is_index_shape o ≡ true) × (is_interval_shape (shape_of g q) ≡ true)
+  child_of None e q c = absurd (no (sym (ap is_movable_shape e) ∙ movable))
+  child_of (Some Inner) e q c =
+      absurd (clash (some_at (is_child g n) (nodes g) q (listed g law q (child_live g q n c)) c) (sym (ap (is_shape_in_use g n) e) ∙ free))
+  child_of (Some (File adopted)) e q c = let p = parent_is g law q n c in absurd (by p.0 p.1 (ap (parent_kind g law p.0) (sym e) ∙ p.2))
+    where
+      by : (sh : Shape) → shape_of g q ≡ Some sh → parent_kind g law sh (Some (File adopted)) ≡ true → ⊥
+      by Inner s h = no h
+      by (File adopted') s h = no h
+      by (Index f bs) s h = no h
+      by (Interval place) s h = no h
+      by (Rec keys) s h =
+          clash (some_at (is_record_of g n) (nodes g) q (listed g law q (child_live g q n c)) (both _ _ (ap is_record_shape s) c))
+          (or_no (has_records g n) _ (sym (ap (is_shape_in_use g n) e) ∙ free)).0
+  child_of (Some (Index f bs)) e q c = let p = parent_is g law q n c in by p.0 p.1 (ap (parent_kind g law p.0) (sym e) ∙ p.2)
+    where
+      by : (sh : Shape) → shape_of g q ≡ Some sh → parent_kind g law sh (Some (Index f bs)) ≡ true
+          → (true ≡ true) × (is_interval_shape (shape_of g q) ≡ true)
+      by Inner s h = absurd (no h)
+      by (File adopted') s h = absurd (no h)
+      by (Index f' bs') s h = absurd (no h)
+      by (Interval place) s h = (refl, ap is_interval_shape s)
+      by (Rec keys) s h = absurd (no h)
+  child_of (Some (Interval place)) e q c = absurd (no (sym (ap is_movable_shape e) ∙ movable))
+  child_of (Some (Rec keys)) e q c = absurd (no (sym (ap is_movable_shape e) ∙ movable))
+
+  -- the children are intervals
+  pub children_are : (q : NodeId) → is_child g n q ≡ true → (is_index_shape (shape_of g n) ≡ true) × (is_interval_shape (shape_of g q) ≡ true)
+  children_are q c = child_of (shape_of g n) refl q c
+
+  -- what is no index has no children
+  pub no_children : is_index_shape (shape_of g n) ≡ false → (q : NodeId) → is_child g n q ≡ false
+  no_children h q = not_true (is_child g n q) (λ c. no (sym h ∙ (children_are q c).0))
+
+  pub no_branch : is_index_shape (shape_of g n) ≡ false → without_branch g n ≡ without_node g n
+  no_branch h = alone_is g n (no_children h)
+
+  -- what is no interval stays, unless it is the node
+  other_stays : (q : NodeId) → is_live g q ≡ true → is_interval_shape (shape_of g q) ≡ false → same_node n q ≡ false → node_at (left g n) q ≡ node_at g q
+  other_stays q h kind other =
+      stays_left g n live q h other (not_true (is_child g n q) (λ c. no (sym kind ∙ (children_are q c).1)))
+
+  -- it is the file of no index
+  no_file : (i f : NodeId) (bs : List ℕ) → shape_of g i ≡ Some (Index f bs) → same_node n f ≡ false
+  no_file i f bs e =
+      not_true (same_node n f) (λ t.
+      let node = index_node g law i f bs e in
+      let same : n ≡ f = same_node-equal n f t in
+      let file : is_file_shape (shape_of g n) ≡ true = ap (λ q. is_file_shape (shape_of g q)) same ∙ node.file in
+      let listed_there = index_listed g law n i (plain_live g i (ap is_plain e))
+      (ap (is_index_of_shape n) e ∙ t) in
+      by (shape_of g n) file free (indexes_of g n) refl listed_there)
+    where
+      some_there : (k : ℕ) → nat_lt 0 (suc k) ≡ true
+      some_there k = grind (arith, nat_tests)
+
+      by : (o : Option Shape) → is_file_shape o ≡ true → is_shape_in_use g n o ≡ false → (is : List NodeId) → indexes_of g n ≡ is
+          → list_any (same_node i) is ≡ true → ⊥
+      by None h k is e' l = no h
+      by (Some Inner) h k is e' l = no h
+      by (Some (File adopted)) h k [] e' l = no l
+      by (Some (File adopted)) h k (x ∷ is) e' l =
+          no (sym (or_no (has_records g n) (nat_lt 0 (length (indexes_of g n))) k).1 ∙ ap (λ (xs : List NodeId). nat_lt 0 (length xs)) e'
+          ∙ some_there (length is))
+      by (Some (Index f' bs')) h k is e' l = no h
+      by (Some (Interval place)) h k is e' l = no h
+      by (Some (Rec keys)) h k is e' l = no h
+
+  -- and no index of the file of a record
+  no_index : (f r : NodeId) → is_record_shape (shape_of g r) ≡ true → is_child g f r ≡ true → is_index_of_shape f (shape_of g n) ≡ false
+  no_index f r rec child =
+      not_true (is_index_of_shape f (shape_of g n)) (λ t.
+      let index = index_of f (shape_of g n) t in
+      let same : f ≡ index.0 = same_node-equal f index.0 (sym (ap (is_index_of_shape f) index.2) ∙ t) in
+      let there = some_at (is_record_of g f) (nodes g) r (listed g law r (child_live g r f child)) (both _ _ rec child) in
+      clash (ap (has_records g) (sym same) ∙ there) (sym (ap (is_shape_in_use g n) index.2) ∙ free))
+
+  -- the indexes of a file are those that it had, without the node
+  pub indexes_left : (f : NodeId) → indexes_of (left g n) f ≡ filter (λ i. not (same_node n i)) (indexes_of g f)
+  indexes_left f =
+      ap (filter (λ i. is_index_of_shape f (shape_of (left g n) i))) (nodes_left g n live)
+      ∙ filter_twice (is_live g) (λ q. not (same_node n q || is_child g n q)) (λ i. is_index_of_shape f (shape_of (left g n) i))
+      (λ i. is_index_of_shape f (shape_of g i)) (λ i. not (same_node n i)) (nodes g) (nodes_live g) each
+    where
+      index_no_interval : (o : Option Shape) → is_interval_shape o ≡ true → is_index_of_shape f o ≡ false
+      index_no_interval None h = absurd (no h)
+      index_no_interval (Some Inner) h = absurd (no h)
+      index_no_interval (Some (File adopted)) h = absurd (no h)
+      index_no_interval (Some (Index f' bs)) h = absurd (no h)
+      index_no_interval (Some (Interval place)) h = refl
+      index_no_interval (Some (Rec keys)) h = absurd (no h)
+
+      nothing : (b : Bool) → (b && false) ≡ false
+      nothing true = refl
+      nothing false = refl
+
+      each : (x : NodeId) → is_live g x ≡ true
+          → (not (same_node n x || is_child g n x) && is_index_of_shape f (shape_of (left g n) x))
+          ≡ (is_index_of_shape f (shape_of g x) && not (same_node n x))
+      each x h =
+          split (same_node n x)
+          (λ t. ap (λ b. not (b || is_child g n x) && is_index_of_shape f (shape_of (left g n) x)) t
+          ∙ sym (ap (λ b. is_index_of_shape f (shape_of g x) && not b) t ∙ nothing (is_index_of_shape f (shape_of g x))))
+          (λ t. split (is_child g n x)
+          (λ c. ap₂ (λ a b. not (a || b) && is_index_of_shape f (shape_of (left g n) x)) t c
+          ∙ sym (ap (λ b. b && not (same_node n x)) (index_no_interval (shape_of g x) (children_are x c).1)))
+          (λ c. ap₂ (λ a b. not (a || b) && is_index_of_shape f (shape_of (left g n) x)) t c
+          ∙ ap (λ o. is_index_of_shape f (shape_in o)) (stays_left g n live x h t c)
+          ∙ sym (ap (λ b. is_index_of_shape f (shape_of g x) && not b) t ∙ whole (is_index_of_shape f (shape_of g x)))))
+        where
+          whole : (b : Bool) → (b && true) ≡ b
+          whole true = refl
+          whole false = refl
+
+  -- of another file they are as they were
+  pub other_indexes : (f : NodeId) → is_index_of_shape f (shape_of g n) ≡ false → indexes_of (left g n) f ≡ indexes_of g f
+  other_indexes f other =
+      indexes_left f
+      ∙ filter_whole (λ i. is_index_of_shape f (shape_of g i)) (λ i. not (same_node n i)) (indexes_of g f)
+      (all_filter (λ i. is_index_of_shape f (shape_of g i)) (nodes g))
+      (λ x h. ap not (not_true (same_node n x) (λ t. no (sym other ∙ ap (λ q. is_index_of_shape f (shape_of g q)) (same_node-equal n x t) ∙ h))))
+
+  -- an interval of another index stays
+  pub interval_stays : (i f : NodeId) (bs : List ℕ) → shape_of g i ≡ Some (Index f bs) → same_node n i ≡ false → (place : ℕ) → place ≤ length bs
+      → (node_at (left g n) (interval g i place) ≡ node_at g (interval g i place)) × (interval (left g n) i place ≡ interval g i place)
+  interval_stays i f bs e other place low =
+      let it = (index_node g law i f bs e).intervals place low in
+      let h : is_live g (interval g i place) ≡ true = ap is_some it in
+      let not_n : same_node n (interval g i place) ≡ false =
+      not_true _ (λ t. no (sym (movable_no_interval (shape_of g n) movable)
+      ∙ ap (λ q. is_interval_shape (shape_of g q)) (same_node-equal n (interval g i place) t) ∙ ap (λ o. is_interval_shape (shape_in o)) it)) in
+      let no_child : is_child g n (interval g i place) ≡ false = ap (λ o. list_any (same_node n) (parents_in o)) it ∙ ap (λ b. b || false) other in
+      (
+        stays_left g n live (interval g i place) h not_n no_child,
+        node_is (interval (left g n) i place) (interval g i place)
+            (ap key_or_zero (at_beside g n (interval g i place).birth (gone_is g n live (interval g i place) h ∙ ap₂ (λ a b. a || b) not_n no_child))) refl,
+      )
+
+  -- where a child of it is a parent of a record, it is an index of the file of the record
+  index_above : (f p : NodeId) (is : List NodeId) (keys : List ℕ) → list_all (λ i. is_index_of_shape f (shape_of g i)) is ≡ true
+      → list_any (same_node p) (intervals_of g is keys) ≡ true → is_child g n p ≡ true → is_index_of_shape f (shape_of g n) ≡ true
+  index_above f p [] keys h k c = absurd (no k)
+  index_above f p (i ∷ is) [] h k c = absurd (no k)
+  index_above f p (i ∷ is) (key ∷ keys) h k c =
+      let t = and_both (is_index_of_shape f (shape_of g i)) (list_all (λ i'. is_index_of_shape f (shape_of g i')) is) h in
+      or_elim (same_node p (interval_of g i key)) (list_any (same_node p) (intervals_of g is keys)) k
+      (λ here.
+      let it = interval_is g law f i key t.0 in
+      let one : (same_node n i || false) ≡ true =
+      sym (ap (λ o. list_any (same_node n) (parents_in o)) it) ∙ ap (is_child g n) (sym (same_node-equal p (interval_of g i key) here)) ∙ c in
+      or_elim (same_node n i) false one (λ e. ap (λ q. is_index_of_shape f (shape_of g q)) (same_node-equal n i e) ∙ t.0) (λ none. absurd (no none)))
+      (λ there. index_above f p is keys t.1 there c)
+
+  -- no child of it is a parent
+  apart_from : (q p : NodeId) → is_child g p q ≡ true → is_child g n p ≡ true → ⊥
+  apart_from q p h c = let node = child_node g q p h in by node.0.shape node.0.parents refl refl (law.well_formed q node.0 node.1) node.1 node.2
+    where
+      inner_only : (o : Option Shape) → is_inner_shape o ≡ true → is_interval_shape o ≡ true → ⊥
+      inner_only o i k = no (sym (no_interval_inner o i) ∙ k)
+
+      by : (sh : Shape) (ps : List NodeId) → (child_node g q p h).0.shape ≡ sh → (child_node g q p h).0.parents ≡ ps → HasShape g q sh ps
+          → node_at g q ≡ Some (child_node g q p h).0 → list_any (same_node p) ps ≡ true → ⊥
+      by Inner ps es ep k e l = inner_only (shape_of g p) (parent_by g law Inner ps q p k l) (children_are p c).1
+      by (File adopted) ps es ep k e l = inner_only (shape_of g p) (parent_by g law (File adopted) ps q p k l) (children_are p c).1
+      by (Index f bs) ps es ep k e l = inner_only (shape_of g p) (parent_by g law (Index f bs) ps q p k l) (children_are p c).1
+      by (Interval place) ps es ep k e l =
+          no (sym (no_interval_index (shape_of g p) (parent_by g law (Interval place) ps q p k l)) ∙ (children_are p c).1)
+      by (Rec keys) ps es ep k e l =
+          let rec : is_record_shape (shape_of g q) ≡ true = ap (λ o. is_record_shape (shape_in o)) e ∙ ap (λ x. is_record_shape (Some x)) es in
+          let child : is_child g k.0 q ≡ true =
+          ap (λ o. list_any (same_node k.0) (parents_in o)) e ∙ ap (list_any (same_node k.0)) (ep ∙ k.1.parents) ∙ or_left _ _ (same_node-refl k.0) in
+          or_elim (same_node p k.0) (list_any (same_node p) (intervals_of g (indexes_of g k.0) keys)) (sym (ap (list_any (same_node p)) k.1.parents) ∙ l)
+          (λ here. no (sym (no_interval_file (shape_of g p) (ap (λ m. is_file_shape (shape_of g m)) (same_node-equal p k.0 here) ∙ k.1.file_is))
+          ∙ (children_are p c).1))
+          (λ there. clash (index_above k.0 p (indexes_of g k.0) keys
+          (all_filter (λ i. is_index_of_shape k.0 (shape_of g i)) (nodes g)) there c) (no_index k.0 q rec child))
+
+  -- what is left of a list of parents
+  inner_left : (ps : List NodeId) → are_inner g ps ≡ true → list_any (same_node n) ps ≡ false → are_inner (left g n) ps ≡ true
+  inner_left [] h k = refl
+  inner_left (p ∷ ps) h k =
+      let t = and_both (is_inner_shape (shape_of g p)) (are_inner g ps) h in
+      let u = or_no (same_node n p) (list_any (same_node n) ps) k in
+      both _ _
+      (ap (λ o. is_inner_shape (shape_in o)) (other_stays p (plain_live g p (inner_plain _ t.0)) (no_interval_inner (shape_of g p) t.0) u.0) ∙ t.0)
+      (inner_left ps t.1 u.1)
+
+  parents_left : (least : ℕ) (ps : List NodeId) → AreInnerParents g least ps → list_any (same_node n) ps ≡ false → AreInnerParents (left g n) least ps
+  parents_left least ps a k = record { enough = a.enough; few = a.few; inner = inner_left ps a.inner k; distinct = a.distinct }
+
+  file_left : (f : NodeId) → is_file_shape (shape_of g f) ≡ true → same_node n f ≡ false → is_file_shape (shape_of (left g n) f) ≡ true
+  file_left f h other =
+      ap (λ o. is_file_shape (shape_in o)) (other_stays f (plain_live g f (file_plain _ h)) (no_interval_file (shape_of g f) h) other) ∙ h
+
+  intervals_left : (f : NodeId) (is : List NodeId) (keys : List ℕ) → list_all (λ i. is_index_of_shape f (shape_of g i)) is ≡ true
+      → is_index_of_shape f (shape_of g n) ≡ false → intervals_of (left g n) is keys ≡ intervals_of g is keys
+  intervals_left f [] keys h other = refl
+  intervals_left f (i ∷ is) [] h other = refl
+  intervals_left f (i ∷ is) (key ∷ keys) h other =
+      let t = and_both (is_index_of_shape f (shape_of g i)) (list_all (λ i'. is_index_of_shape f (shape_of g i')) is) h in
+      let index = index_of f (shape_of g i) t.0 in
+      let not_n : same_node n i ≡ false =
+      not_true _ (λ s. no (sym other ∙ ap (λ q. is_index_of_shape f (shape_of g q)) (same_node-equal n i s) ∙ t.0)) in
+      let stays = other_stays i (plain_live g i (ap is_plain index.2))
+      (ap is_interval_shape index.2) not_n in
+      let low : interval_place (bounds_in (shape_of g i)) key ≤ length (bounds_in (shape_of g i)) =
+      count_by-le-length (λ b. nat_le b key) (bounds_in (shape_of g i)) in
+      let few : length (bounds_in (shape_of g i)) ≡ length index.1 = ap (λ o. length (bounds_in o)) index.2 in
+      ap₂ (λ x xs. x ∷ xs)
+      (ap (λ o. interval (left g n) i (interval_place (bounds_in (shape_in o)) key)) stays
+      ∙ (interval_stays i index.0 index.1 index.2 not_n (interval_place (bounds_in (shape_of g i)) key) (omega arith)).1)
+      (intervals_left f is keys t.1 other)
+
+  -- what its kind asks of a node that is left
+  shape_asks : (sh : Shape) (ps : List NodeId) (q : NodeId) (node : Node) → node_at (left g n) q ≡ Some node → node.shape ≡ sh → node.parents ≡ ps
+      → list_any (same_node n) ps ≡ false → HasShape g q sh ps → HasShape (left g n) q sh ps
+  shape_asks Inner ps q node e es ep k h = parents_left 0 ps h k
+  shape_asks (File adopted) ps q node e es ep k h = parents_left 1 ps h k
+  shape_asks (Index f bs) ps q node e es ep k h =
+      let was = left_was g n q node e in
+      let shape : shape_of g q ≡ Some (Index f bs) = ap shape_in was ∙ ap Some es in
+      let other : same_node n q ≡ false =
+      (or_no (same_node n q) (is_child g n q) (sym (gone_is g n live q (ap is_some was)) ∙ left_birth g n q node e)).0 in (
+        parents_left 1 ps h.0 k,
+        record {
+          file = file_left f h.1.file (no_file q f bs shape);
+          few = h.1.few;
+          rising = h.1.rising;
+          intervals = λ place low.
+              let stays = interval_stays q f bs shape other place low in
+              subst (λ m. node_at (left g n) m ≡ Some (record { key = m.key; shape = Interval place; parents = q ∷ [] })) (sym stays.1)
+              (stays.0 ∙ h.1.intervals place low);
+        },
+      )
+  shape_asks (Interval place) ps q node e es ep k h =
+      let other : same_node n h.0 ≡ false = (or_no (same_node n h.0) false (sym (ap (list_any (same_node n)) h.1) ∙ k)).0 in
+      let stays = other_stays h.0 (plain_live g h.0 (index_plain _ h.2)) (no_interval_index (shape_of g h.0) h.2) other in
+      let here : (left g n).at q.birth ≡ g.at q.birth = at_beside g n q.birth (left_birth g n q node e) in (
+        h.0,
+        h.1,
+        ap (λ o. is_index_shape (shape_in o)) stays ∙ h.2,
+        subst (λ (o : Option Node). place ≤ length (bounds_in (shape_in o))) (sym stays) h.3,
+        h.4 ∙ sym (node_is (interval (left g n) h.0 place) (interval g h.0 place)
+            (ap key_or_zero (subst (λ (b : ℕ). (left g n).at b ≡ g.at b) (ap (λ m. m.birth) h.4) here)) refl),
+      )
+  shape_asks (Rec keys) ps q node e es ep k h =
+      let was = left_was g n q node e in
+      let other : same_node n h.0 ≡ false = (or_no (same_node n h.0) _ (sym (ap (list_any (same_node n)) h.1.parents) ∙ k)).0 in
+      let child : is_child g h.0 q ≡ true =
+      ap (λ o. list_any (same_node h.0) (parents_in o)) was ∙ ap (list_any (same_node h.0)) (ep ∙ h.1.parents) ∙ or_left _ _ (same_node-refl h.0) in
+      let rec : is_record_shape (shape_of g q) ≡ true = ap (λ o. is_record_shape (shape_in o)) was ∙ ap (λ x. is_record_shape (Some x)) es in
+      let apart = no_index h.0 q rec child in
+      let indexes = other_indexes h.0 apart in (
+        h.0,
+        record {
+          file_is = file_left h.0 h.1.file_is other;
+          a_key_each = h.1.a_key_each ∙ ap length (sym indexes);
+          parents = h.1.parents ∙ sym (ap (λ xs. h.0 ∷ xs) (ap (λ is. intervals_of (left g n) is keys) indexes
+              ∙ intervals_left h.0 (indexes_of g h.0) keys (all_filter (λ i. is_index_of_shape h.0 (shape_of g i)) (nodes g)) apart));
+        },
+      )
+
+  -- what is left is lawful
+  pub left_lawful : IsLawfulGraph (left g n)
+  left_lawful = record {
+    well_formed = λ q node e.
+        let was = left_was g n q node e in
+        let stays = or_no (same_node n q) (is_child g n q) (sym (gone_is g n live q (ap is_some was)) ∙ left_birth g n q node e) in
+        shape_asks node.shape node.parents q node e refl refl (sym (ap (λ o. list_any (same_node n) (parents_in o)) was) ∙ stays.1)
+        (law.well_formed q node was);
+    parents_live = parents_there;
+    acyclic = acyclic_fewer g (left g n) (left_was_child g n) law.acyclic;
+    keys_differ = λ a b h k e. law.keys_differ a b (left_was_live g n a h) (left_was_live g n b k) e;
+    born = λ b h. split (gone g n b) (λ e. absurd (no (sym (ap is_some (at_gone g n b e)) ∙ h))) (λ e. law.born b (sym (ap is_some (at_beside g n b e)) ∙ h));
+    seven_indexes = λ f. (let few = law.seven_indexes f in let less = filter_few (λ i. not (same_node n i)) (indexes_of g f) in
+        let same : length (indexes_of (left g n) f) ≡ length (filter (λ i. not (same_node n i)) (indexes_of g f)) = ap length (indexes_left f) in omega arith);
+    room = (let few = left_fewer g n in let room = law.room in omega arith);
+    limit = law.limit;
+  }
+    where
+      filter_few : (p : NodeId → Bool) (xs : List NodeId) → length (filter p xs) ≤ length xs
+      filter_few p [] = omega arith
+      filter_few p (x ∷ xs) =
+          let rest = filter_few p xs in
+          split (p x) (λ t. subst (λ b. length (if b then x ∷ filter p xs else filter p xs) ≤ suc (length xs)) (sym t) (omega arith))
+          (λ t. subst (λ b. length (if b then x ∷ filter p xs else filter p xs) ≤ suc (length xs)) (sym t) (omega arith))
+
+      parents_there : (q p : NodeId) → is_child (left g n) p q ≡ true → is_live (left g n) p ≡ true
+      parents_there q p h =
+          let c = left_was_child g n p q h in
+          let node = live_node (node_at (left g n) q) (child_live (left g n) q p h) in
+          let was = left_was g n q node.0 node.1 in
+          let stays = or_no (same_node n q) (is_child g n q) (sym (gone_is g n live q (ap is_some was)) ∙ left_birth g n q node.0 node.1) in
+          let alive = law.parents_live q p c in
+          let other : same_node n p ≡ false = not_true _ (λ t. no (sym stays.1 ∙ ap (λ m. is_child g m q) (same_node-equal n p t) ∙ c)) in
+          ap is_some (stays_left g n live p alive other (not_true (is_child g n p) (λ t. apart_from q p c t))) ∙ alive
+
+  -- the births that go are the node's own and those of its intervals, right behind it
+  abbrev span : ℕ
+  span = interval_count (shape_of g n)
+
+  within_span : (b : ℕ) → is_some (g.at b) ≡ true → gone g n b ≡ true → (n.birth ≤ b) × (b ≤ n.birth + span)
+  within_span b there e = by (shape_of g n) refl
+    where
+      by : (o : Option Shape) → shape_of g n ≡ o → (n.birth ≤ b) × (b ≤ n.birth + interval_count o)
+      by o s =
+          split (b == n.birth) (λ t. let same = same_number b n.birth t in (omega arith, omega arith))
+          (λ t.
+          let x = live_node (g.at b) there in
+          let id : NodeId = record { key = x.0.key; birth = b } in
+          let c : is_child g n (record { key = x.0.key; birth = b }) ≡ true =
+          ap (λ o'. list_any (same_node n) (parents_in o')) (finds x.0.key (g.at b) x.0 x.1 refl ∙ sym x.1)
+          ∙ or_elim (b == n.birth) (list_any (same_node n) (parents_in (g.at b))) e (λ h. absurd (no (sym t ∙ h))) (λ h. h) in
+          child o s (record { key = x.0.key; birth = b }) refl c)
+        where
+          child : (o' : Option Shape) → shape_of g n ≡ o' → (q : NodeId) → q.birth ≡ b → is_child g n q ≡ true
+              → (n.birth ≤ b) × (b ≤ n.birth + interval_count o')
+          child None s' q here c = absurd (no (sym (ap is_index_shape s') ∙ (children_are q c).0))
+          child (Some Inner) s' q here c = absurd (no (sym (ap is_index_shape s') ∙ (children_are q c).0))
+          child (Some (File adopted)) s' q here c = absurd (no (sym (ap is_index_shape s') ∙ (children_are q c).0))
+          child (Some (Index f bs)) s' q here c =
+              let it = child_interval g law n f bs s' q c (children_are q c).1 in
+              let low = it.1 in
+              let birth : q.birth ≡ n.birth + 1 + it.0 = ap (λ m. m.birth) it.2 in
+              (omega arith, omega arith)
+          child (Some (Interval place)) s' q here c = absurd (no (sym (ap is_index_shape s') ∙ (children_are q c).0))
+          child (Some (Rec keys)) s' q here c = absurd (no (sym (ap is_index_shape s') ∙ (children_are q c).0))
+
+  all_span : (b : ℕ) → n.birth ≤ b → b < n.birth + suc span → (is_some (g.at b) ≡ true) × (gone g n b ≡ true)
+  all_span b low high =
+      split (b == n.birth)
+      (λ t.
+      let node = live_node (node_at g n) live in
+      (there_is (g.at b) node.0 (ap g.at (same_number b n.birth t) ∙ (found_at g n node.0 node.1).0), or_left (b == n.birth) _ t))
+      (λ t. by (shape_of g n) refl (let ne = other_number b n.birth t in above (omega_less b n.birth low ne)) high)
+    where
+      omega_less : (a c : ℕ) → c ≤ a → a ≢ c → c < a
+      omega_less a c le ne = by_number (a == c) refl
+        where
+          by_number : (t : Bool) → (a == c) ≡ t → c < a
+          by_number true e = absurd (ne (same_number a c e))
+          by_number false e = grind (arith, nat_tests)
+
+      above : n.birth < b → n.birth + 1 + (b - n.birth - 1) ≡ b
+      above h = omega arith
+
+      by : (o : Option Shape) → shape_of g n ≡ o → n.birth + 1 + (b - n.birth - 1) ≡ b → b < n.birth + suc (interval_count o)
+          → (is_some (g.at b) ≡ true) × (gone g n b ≡ true)
+      by None s e h = absurd (omega arith)
+      by (Some Inner) s e h = absurd (omega arith)
+      by (Some (File adopted)) s e h = absurd (omega arith)
+      by (Some (Index f bs)) s e h =
+          let place : ℕ = b - n.birth - 1 in
+          let low' : b - n.birth - 1 ≤ length bs = omega arith in
+          let it = (index_node g law n f bs s).intervals (b - n.birth - 1) low' in
+          let at : g.at b ≡ Some _ = ap g.at (sym e) ∙ (found_at g (interval g n (b - n.birth - 1)) _ it).0 in
+          (
+            there_is (g.at b) _ at,
+            or_right (b == n.birth) _ (ap (λ o. list_any (same_node n) (parents_in o)) at ∙ or_left _ _ (same_node-refl n)),
+          )
+      by (Some (Interval place)) s e h = absurd (omega arith)
+      by (Some (Rec keys)) s e h = absurd (omega arith)
+
+  parts : (h : ℕ → Option NodeId)
+      → length (filter_map h (range_with_len 1 g.births)) ≡ length (filter_map h (range_with_len 1 (n.birth - 1)))
+      + (length (filter_map h (range_with_len n.birth (suc span))) + length (filter_map h (range_with_len (n.birth + suc span) (g.births - (n.birth + span)))))
+  parts h =
+      let first = law.born n.birth (all_span n.birth (omega arith) (omega arith)).0 in
+      let last = law.born (n.birth + span) (all_span (n.birth + span) (omega arith) (omega arith)).0 in
+      ap (λ bs. length (filter_map h bs))
+      (range_append 1 (n.birth - 1) (suc span + (g.births - (n.birth + span))) g.births n.birth (omega arith) (omega arith)
+      ∙ ap (λ bs. range_with_len 1 (n.birth - 1) ++ bs)
+      (range_append n.birth (suc span) (g.births - (n.birth + span)) (suc span + (g.births - (n.birth + span))) (n.birth + suc span) refl refl))
+      ∙ ap length (filter_map-append h (range_with_len 1 (n.birth - 1))
+      (range_with_len n.birth (suc span) ++ range_with_len (n.birth + suc span) (g.births - (n.birth + span))))
+      ∙ length-append (filter_map h (range_with_len 1 (n.birth - 1))) _
+      ∙ ap (λ k. length (filter_map h (range_with_len 1 (n.birth - 1))) + k)
+      (ap length (filter_map-append h (range_with_len n.birth (suc span)) (range_with_len (n.birth + suc span) (g.births - (n.birth + span))))
+      ∙ length-append (filter_map h (range_with_len n.birth (suc span))) _)
+
+  beside_span : (b : ℕ) → ((n.birth ≤ b) × (b ≤ n.birth + span) → ⊥) → (left g n).at b ≡ g.at b
+  beside_span b out =
+      cases_of (g.at b) (λ e. split (gone g n b) (λ t. at_gone g n b t ∙ sym e) (λ t. at_beside g n b t))
+      (λ x e. at_beside g n b (not_true (gone g n b) (λ t. out (within_span b (there_is (g.at b) x e) t))))
+
+  -- the node and its intervals are that many
+  pub count_left : node_count g ≡ node_count (left g n) + (1 + interval_count (shape_of g n))
+  count_left =
+      let h : ℕ → Option NodeId = λ b. id_of b (g.at b) in
+      let all = parts (λ b. id_of b (g.at b)) in
+      let rest = parts (λ b. id_of b ((left g n).at b)) in
+      let full : length (filter_map (λ b. id_of b (g.at b)) (range_with_len n.birth (suc span))) ≡ suc span =
+      map_full (λ b. id_of b (g.at b)) n.birth (suc span) (λ b low high. named b (g.at b) (all_span b low high).0) in
+      let none : length (filter_map (λ b. id_of b ((left g n).at b)) (range_with_len n.birth (suc span))) ≡ 0 =
+      ap length (map_none (λ b. id_of b ((left g n).at b)) n.birth (suc span)
+      (λ b low high. ap (id_of b) (at_gone g n b (all_span b low high).1))) in
+      let before = ap length (map_same (λ b. id_of b (g.at b)) (λ b. id_of b ((left g n).at b)) 1 (n.birth - 1)
+      (λ b low high. ap (id_of b) (beside_span b (λ t. let x = t.0 in absurd (omega arith))))) in
+      let after = ap length (map_same (λ b. id_of b (g.at b)) (λ b. id_of b ((left g n).at b)) (n.birth + suc span) (g.births - (n.birth + span))
+      (λ b low high. ap (id_of b) (beside_span b (λ t. let x = t.1 in absurd (omega arith))))) in
+      omega arith
+    where
+      named : (b : ℕ) (o : Option Node) → is_some o ≡ true → is_some (id_of b o) ≡ true
+      named b None h = h
+      named b (Some x) h = refl
+
+  -- no record goes
+  pub records_left : (f : NodeId) → record_count (left g n) f ≡ record_count g f
+  records_left f =
+      count_same (is_live (left g n)) (is_record_of g f) (is_record_of (left g n) f) (nodes (left g n)) (nodes_live (left g n))
+      (λ q h. ap (λ o. is_record_shape (shape_in o) && list_any (same_node f) (parents_in o)) (left_is g n q h))
+      ∙ ap (count_by (is_record_of g f)) (nodes_left g n live)
+      ∙ count_filtered (is_live g) (λ q. not (same_node n q || is_child g n q)) (is_record_of g f) (nodes g) (nodes_live g) (λ q h rec.
+      let r = (and_both (is_record_shape (shape_of g q)) (is_child g f q) rec).0 in
+      ap₂ (λ a b. not (a || b))
+      (not_true (same_node n q) (λ t. no (sym (movable_no_record (shape_of g n) movable)
+      ∙ ap (λ m. is_record_shape (shape_of g m)) (same_node-equal n q t) ∙ r)))
+      (not_true (is_child g n q) (λ c. no (sym (no_interval_record (shape_of g q) r) ∙ (children_are q c).1))))

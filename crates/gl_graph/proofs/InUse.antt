@@ -1,0 +1,60 @@
+-- What stands against a drop, read off what is kept beside the graph.
+use Rattle.std.specs.Prelude.{◌≡◌, ℕ, Bool, true, false, ◌||◌, nat_lt, List, length, Option, Some, None}
+use Rattle.std.proofs.Common.{refl, sym, ap, ap₂, ◌∙◌, subst}
+use Rattle.gl_modes.proofs.Words.{no}
+use Rattle.gl_modes.specs.declared.node.NodeId.{NodeId}
+use Rattle.slab.specs.Slab.{Slab}
+use Rattle.std.specs.Global.{Box}
+use Rattle.gl_graph.specs.declared.node.Body.{Body}
+use Rattle.gl_graph.specs.declared.node.Body.TheVariants as body
+use Rattle.gl_graph.specs.declared.node.FileBody.{FileBody}
+use Rattle.gl_graph.specs.declared.node.IndexBody.{IndexBody}
+use Rattle.gl_graph.specs.declared.node.Node.{Node as Stored}
+use Rattle.gl_graph.specs.Shapes.{Shape, Inner, File, Index, is_file_shape, is_inner_shape}
+use Rattle.gl_graph.specs.Graph.{shape_of, indexes_of, nodes, is_record_of}
+use Rattle.gl_graph.specs.Lawful.{IsLawfulGraph}
+use Rattle.gl_graph.specs.Refusals.{has_records, is_in_use, is_shape_in_use}
+use Rattle.gl_graph.specs.View.{View, graph_of}
+use Rattle.gl_graph.specs.Seen.{Limits, AreSound, seen, named, shape_in_body, records_in_body, indexes_in_body}
+use Rattle.gl_graph.proofs.Beside.{shape_found, records_found, indexes_found, any_counted}
+use Rattle.gl_graph.proofs.KindRules.{index_node}
+
+module _ (limits : Limits) (s : Slab Stored) (births : ℕ) (v : View) (sound : AreSound limits s births) (view : seen limits s births ≡ v) (n : NodeId)
+    (x : Stored) (e : named s n ≡ Some x) where
+  pub file_in_use : (kept : Box FileBody) → x.body ≡ body.File kept
+      → is_in_use (graph_of v) n ≡ (nat_lt 0 kept.value.records || nat_lt 0 (length kept.value.indexes.items))
+  file_in_use kept is =
+      let shape : shape_of (graph_of v) n ≡ Some (File kept.value.adopted) =
+      shape_found limits s births v sound view n x e ∙ ap (λ b. Some (shape_in_body b)) is in
+      let file : is_file_shape (shape_of (graph_of v) n) ≡ true = ap is_file_shape shape in
+      ap (is_shape_in_use (graph_of v) n) shape
+      ∙ ap₂ (λ a b. a || b)
+      (sym (any_counted (is_record_of (graph_of v) n) (nodes (graph_of v)))
+      ∙ ap (nat_lt 0) (sym (records_found limits s births v sound view n x e file) ∙ ap records_in_body is))
+      (ap (λ (is : List NodeId). nat_lt 0 (length is)) (sym (indexes_found limits s births v sound view n x e file) ∙ ap indexes_in_body is))
+
+  index_shape : (kept : Box IndexBody) → x.body ≡ body.Index kept → shape_of (graph_of v) n ≡ Some (Index kept.value.file kept.value.bounds.items)
+  index_shape kept is = shape_found limits s births v sound view n x e ∙ ap (λ b. Some (shape_in_body b)) is
+
+  pub index_file : (kept : Box IndexBody) → x.body ≡ body.Index kept → is_file_shape (shape_of (graph_of v) kept.value.file) ≡ true
+  index_file kept is =
+      (index_node (graph_of v) (subst (λ (w : View). IsLawfulGraph (graph_of w)) view sound.lawful) n kept.value.file kept.value.bounds.items
+      (index_shape kept is)).file
+
+  pub index_in_use : (kept : Box IndexBody) → x.body ≡ body.Index kept → is_in_use (graph_of v) n ≡ has_records (graph_of v) kept.value.file
+  index_in_use kept is = ap (is_shape_in_use (graph_of v) n) (index_shape kept is)
+
+  pub other_in_use : ((kept : Box FileBody) → x.body ≡ body.File kept → ⊥) → ((kept : Box IndexBody) → x.body ≡ body.Index kept → ⊥)
+      → is_inner_shape (shape_of (graph_of v) n) ≡ false → is_in_use (graph_of v) n ≡ false
+  other_in_use no_file no_index no_inner =
+      ap (is_shape_in_use (graph_of v) n) (shape_found limits s births v sound view n x e)
+      ∙ by x.body refl (sym (ap is_inner_shape (shape_found limits s births v sound view n x e)) ∙ no_inner)
+    where
+      by : (b : Body) → x.body ≡ b → is_inner_shape (Some (shape_in_body b)) ≡ false → is_shape_in_use (graph_of v) n (Some (shape_in_body b)) ≡ false
+      by body.Inner is h = absurd (no (sym h))
+      by (body.File kept) is h = absurd (no_file kept is)
+      by (body.Index kept) is h = absurd (no_index kept is)
+      by (body.Interval place) is h = refl
+      by body.Bare is h = refl
+      by (body.Keyed key) is h = refl
+      by (body.ManyKeyed keys) is h = refl

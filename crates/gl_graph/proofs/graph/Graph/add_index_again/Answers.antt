@@ -1,0 +1,23 @@
+use Rattle.std.proofs.Common.{Err, sym, ap, ◌∙◌, subst}
+use Rattle.std.proofs.lemmas.Result.{err_from_is_err_and}
+use Rattle.std.specs.Prelude.{Option}
+use Rattle.gl_modes.specs.declared.refusal.Refusal.{Refusal}
+use Rattle.gl_graph.specs.View.{graph_of}
+use Rattle.gl_graph.specs.Refusals.{reindex_refusal, Refuses}
+use Rattle.gl_graph.proofs.Unrefused.{refused_by, verdict_ok}
+use Rattle.gl_graph.proofs.graph.Graph.add_index_again.Goals as goal
+
+pub returns-in_err-check_index_again-clause-refuses : goal.returns-in_err-check_index_again-clause-refuses
+returns-in_err-check_index_again-clause-refuses c =
+    let p = err_from_is_err_and c.from_residual.result c.from_residual.ensures.1 in
+    refused_by (reindex_refusal (graph_of c.args.self.now) c.args.parents.now c.args.file c.args.bounds.now) c.in_err-check_index_again.field-0.0
+    c.from_residual.result c.in_err-check_index_again.ensures (p.1 ∙ ap Err p.2)
+
+pub add_index_unrefused-requires : goal.add_index_unrefused-requires
+add_index_unrefused-requires c = verdict_ok _ _ c.in_ok-check_index_again.ensures
+
+pub returns-clause-refuses : goal.returns-clause-refuses
+returns-clause-refuses c =
+    subst (λ (o : Option Refusal). Refuses o c.add_index_unrefused.result)
+    (sym (verdict_ok (reindex_refusal (graph_of c.args.self.now) c.args.parents.now c.args.file c.args.bounds.now) _ c.in_ok-check_index_again.ensures))
+    c.add_index_unrefused.ensures.memory

@@ -1,0 +1,57 @@
+use Rattle.std.specs.Prelude.{◌≡◌, ◌||◌, true, false, nat_lt, length}
+use Rattle.std.proofs.Common.{sym, ap, ◌∙◌, arith}
+use Rattle.std.proofs.lemmas.Bool.Decides.{nat_tests}
+use Rattle.gl_graph.specs.declared.node.FileBody.{FileBody}
+use Rattle.gl_graph.specs.declared.node.IndexBody.{IndexBody}
+use Rattle.gl_graph.specs.Shapes.{is_file_shape}
+use Rattle.gl_graph.specs.Graph.{shape_of}
+use Rattle.gl_graph.specs.Refusals.{has_records, is_shape_in_use}
+use Rattle.gl_graph.specs.View.{graph_of}
+use Rattle.gl_graph.specs.Sound.{limits_of}
+use Rattle.gl_graph.proofs.Beside.{shape_missed}
+use Rattle.gl_graph.proofs.InUse.{file_in_use, index_file, index_in_use, other_in_use}
+use Rattle.gl_graph.proofs.graph.Graph.is_in_use.Goals as goal
+
+pub returns-in_default : goal.returns-in_default
+returns-in_default c =
+    sym (ap (is_shape_in_use (graph_of c.args.self.now) c.args.n)
+    (shape_missed (limits_of c.self.inside) c.self.inside.nodes c.self.inside.births c.args.self.now c.self.invariant c.self.view_is c.args.n
+    (sym c.in_default.ensures)))
+
+pub has_records-requires : goal.has_records-requires
+has_records-requires c =
+    ap (λ (b : IndexBody). is_file_shape (shape_of (graph_of c.args.self.now) b.file)) c.deref-in-Index.ensures
+    ∙ index_file (limits_of c.self.inside) c.self.inside.nodes c.self.inside.births c.args.self.now c.self.invariant c.self.view_is c.args.n
+    c.in-Some.node.now (sym c.in-Some.ensures) c.in-Index.kept c.in-Index.is
+
+pub returns-then-deref-gt0 : goal.returns-then-deref-gt0
+returns-then-deref-gt0 c =
+    let is = ap (λ (b : FileBody). nat_lt 0 b.records) c.deref.ensures in
+    let more = c.if-deref-gt0.true in
+    let test : nat_lt 0 c.deref.result.now.records ≡ true = grind (arith, nat_tests) in
+    test
+    ∙ sym (file_in_use (limits_of c.self.inside) c.self.inside.nodes c.self.inside.births c.args.self.now c.self.invariant c.self.view_is c.args.n
+    c.in-Some.node.now (sym c.in-Some.ensures) c.in-File.kept c.in-File.is
+    ∙ ap (λ b. b || nat_lt 0 (length c.in-File.kept.value.indexes.items)) (sym is ∙ test))
+
+pub returns-else-deref-gt0 : goal.returns-else-deref-gt0
+returns-else-deref-gt0 c =
+    let is = ap (λ (b : FileBody). nat_lt 0 b.records) c.deref.ensures in
+    let none = c.if-deref-gt0.false in
+    let test : nat_lt 0 c.deref.result.now.records ≡ false = grind (arith, nat_tests) in
+    ap (nat_lt 0) (c.len.ensures.value ∙ ap (λ (b : FileBody). length b.indexes.items) c.deref-else-deref-gt0.ensures)
+    ∙ sym (file_in_use (limits_of c.self.inside) c.self.inside.nodes c.self.inside.births c.args.self.now c.self.invariant c.self.view_is c.args.n
+    c.in-Some.node.now (sym c.in-Some.ensures) c.in-File.kept c.in-File.is
+    ∙ ap (λ b. b || nat_lt 0 (length c.in-File.kept.value.indexes.items)) (sym is ∙ test))
+
+pub returns-in-Index : goal.returns-in-Index
+returns-in-Index c =
+    c.has_records.ensures
+    ∙ ap (λ (b : IndexBody). has_records (graph_of c.args.self.now) b.file) c.deref-in-Index.ensures
+    ∙ sym (index_in_use (limits_of c.self.inside) c.self.inside.nodes c.self.inside.births c.args.self.now c.self.invariant c.self.view_is c.args.n
+    c.in-Some.node.now (sym c.in-Some.ensures) c.in-Index.kept c.in-Index.is)
+
+pub returns-in_default-body : goal.returns-in_default-body
+returns-in_default-body c =
+    sym (other_in_use (limits_of c.self.inside) c.self.inside.nodes c.self.inside.births c.args.self.now c.self.invariant c.self.view_is c.args.n
+    c.in-Some.node.now (sym c.in-Some.ensures) c.in_default-body.not-File c.in_default-body.not-Index c.requires)
