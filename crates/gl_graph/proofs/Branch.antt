@@ -8,18 +8,18 @@ use Rattle.std.proofs.lemmas.List.Elements.{filter_map-append}
 use Rattle.std.proofs.lemmas.List.Sums.{count_by-le-length}
 use Rattle.std.proofs.lemmas.List.{length-append}
 use Rattle.std.proofs.Common.{refl, sym, ap, ap₂, ◌∙◌, subst, arith, inl, inr, zero-add}
-use Rattle.gl_modes.proofs.NodeLemmas.{node_is, same_node-equal, same_node-refl, same_node-differ, same_node-from_equal}
+use Rattle.gl_modes.proofs.NodeLemmas.{node_is, same_node-equal, same_node-refl, same_node-from_equal}
 use Rattle.gl_modes.proofs.Words.{split, cases_of, or_elim, or_left, or_right, and_both, both, clash, no, none_some, some_is, not_true, number_same, number_other, same_number, other_number}
 use Rattle.gl_modes.specs.declared.node.NodeId.{NodeId}
 use Rattle.gl_modes.specs.Nodes.{same_node}
 use Rattle.gl_graph.specs.Shapes.{Shape, Inner, File, Index, Interval, Rec, is_inner_shape, is_file_shape, is_index_shape, is_record_shape, is_index_of_shape}
 use Rattle.gl_graph.specs.Shapes.{is_movable_shape, bounds_in, place_in}
 use Rattle.gl_graph.specs.Graph.{Graph, Node, id_of, nodes, node_count, with_key, node_at, is_live, parents_in, parents_of, shape_in, shape_of, is_child}
-use Rattle.gl_graph.specs.Graph.{indexes_of, interval, interval_of, interval_place, intervals_of, record_parents, key_or_zero, is_record_of}
-use Rattle.gl_graph.specs.Lawful.{AreInnerParents, IsIndexNode, HasShape, IsWellFormed, IsLawfulGraph, are_inner}
+use Rattle.gl_graph.specs.Graph.{indexes_of, interval, interval_at, interval_of, interval_place, intervals_of, record_parents, key_or_zero, is_record_of}
+use Rattle.gl_graph.specs.Lawful.{AreInnerParents, HasShape, IsLawfulGraph, are_inner}
 use Rattle.gl_graph.specs.Changes.{without_node, without_branch}
-use Rattle.gl_graph.specs.Refusals.{has_records, has_children, is_in_use, is_shape_in_use}
-use Rattle.gl_graph.proofs.Look.{all_at, all_filter, finds, found_at, live_node, child_live, child_node, shaped_node, there_is, one_birth}
+use Rattle.gl_graph.specs.Refusals.{has_records, is_in_use, is_shape_in_use}
+use Rattle.gl_graph.proofs.Look.{all_at, all_filter, finds, found_at, live_node, child_live, child_node, there_is, one_birth}
 use Rattle.gl_graph.proofs.KindRules.{is_plain, inner_plain, file_plain, index_plain, plain_live, index_of, index_node, interval_is}
 use Rattle.gl_graph.proofs.Listings.{kept, filter_of_map, map_fewer, map_same, map_none, range_append}
 use Rattle.gl_graph.proofs.Routes.{acyclic_fewer}
@@ -47,7 +47,7 @@ no_interval_inner (Some (Index f bs)) h = refl
 no_interval_inner (Some (Interval place)) h = absurd (no h)
 no_interval_inner (Some (Rec keys)) h = refl
 
-no_interval_file : (o : Option Shape) → is_file_shape o ≡ true → is_interval_shape o ≡ false
+pub no_interval_file : (o : Option Shape) → is_file_shape o ≡ true → is_interval_shape o ≡ false
 no_interval_file None h = refl
 no_interval_file (Some Inner) h = refl
 no_interval_file (Some (File adopted)) h = refl
@@ -357,6 +357,43 @@ module _ (g : Graph) (law : IsLawfulGraph g) (n : NodeId) (movable : is_movable_
   -- the children are intervals
   pub children_are : (q : NodeId) → is_child g n q ≡ true → (is_index_shape (shape_of g n) ≡ true) × (is_interval_shape (shape_of g q) ≡ true)
   children_are q c = child_of (shape_of g n) refl q c
+
+  -- each is the interval of a place, and each interval is a child
+  pub child_at : (q : NodeId) → is_child g n q ≡ true → (place : ℕ) × (interval_at g n place ≡ Some q)
+  child_at q c = let kinds = children_are q c in by (shape_of g n) refl kinds.0 kinds.1
+    where
+      by : (o : Option Shape) → shape_of g n ≡ o → is_index_shape o ≡ true → is_interval_shape (shape_of g q) ≡ true
+          → (place : ℕ) × (interval_at g n place ≡ Some q)
+      by None s h k = absurd (no h)
+      by (Some Inner) s h k = absurd (no h)
+      by (Some (File adopted)) s h k = absurd (no h)
+      by (Some (Index f bs)) s h k =
+          let it = child_interval g law n f bs s q c k in
+          let low : nat_le it.0 (length bs) ≡ true = (let l = it.1 in grind (arith, nat_tests)) in (
+            it.0,
+            ap (λ o. if is_index_shape o && nat_le it.0 (length (bounds_in o)) then Some (interval g n it.0) else None) s
+                ∙ ap (λ b. if b then Some (interval g n it.0) else None) low ∙ ap Some (sym it.2),
+          )
+      by (Some (Interval place)) s h k = absurd (no h)
+      by (Some (Rec keys)) s h k = absurd (no h)
+
+  pub at_child : (place : ℕ) (q : NodeId) → interval_at g n place ≡ Some q → is_child g n q ≡ true
+  at_child place q e = by (shape_of g n) refl e
+    where
+      by : (o : Option Shape) → shape_of g n ≡ o
+          → (if is_index_shape o && nat_le place (length (bounds_in o)) then Some (interval g n place) else None) ≡ Some q → is_child g n q ≡ true
+      by None s h = absurd (none_some h)
+      by (Some Inner) s h = absurd (none_some h)
+      by (Some (File adopted)) s h = absurd (none_some h)
+      by (Some (Index f bs)) s h =
+          split (nat_le place (length bs))
+          (λ t.
+          let low : place ≤ length bs = grind (arith, nat_tests) in
+          let same : interval g n place ≡ q = some_is (sym (ap (λ b. if b then Some (interval g n place) else None) t) ∙ h) in
+          ap (is_child g n) (sym same) ∙ interval_child g law n f bs s place low)
+          (λ t. absurd (none_some (sym (ap (λ b. if b then Some (interval g n place) else None) t) ∙ h)))
+      by (Some (Interval place')) s h = absurd (none_some h)
+      by (Some (Rec keys)) s h = absurd (none_some h)
 
   -- what is no index has no children
   pub no_children : is_index_shape (shape_of g n) ≡ false → (q : NodeId) → is_child g n q ≡ false

@@ -1,31 +1,33 @@
 -- A node goes with its children: what is kept beside the graph agrees with what is left.
-use Rattle.std.specs.Prelude.{◌≡◌, ◌≢◌, ℕ, suc, ◌+◌, ◌<◌, ◌≤◌, Bool, true, false, ◌==◌, ◌||◌, not, List, length, Option, Some, None, is_some}
+use Rattle.std.specs.Prelude.{◌≡◌, ◌≢◌, ℕ, ◌+◌, ◌≤◌, Bool, true, false, ◌==◌, ◌||◌, not, List, length, Option, Some, None, is_some}
 use Rattle.std.specs.Prelude.{if◌then◌else◌, slice_get}
-use Rattle.std.specs.List.{filter, list_any}
+use Rattle.std.specs.List.{filter}
 use Rattle.std.proofs.Math.Path.{fun_ext}
 use Rattle.std.proofs.lemmas.Option.{slice_get_within}
-use Rattle.std.proofs.Common.{refl, sym, ap, ap₂, ◌∙◌, subst, arith}
-use Rattle.gl_modes.proofs.NodeLemmas.{node_is, same_node-equal, same_node-differ, same_node-sym}
-use Rattle.gl_modes.proofs.Words.{split, cases_of, no, none_some, some_is, not_true, or_left, or_elim, number_same, same_number, other_number}
+use Rattle.std.proofs.Common.{refl, sym, ap, ap₂, ◌∙◌, subst, arith, rules}
+use Rattle.gl_modes.proofs.NodeLemmas.{node_is, same_node-differ, same_node-sym}
+use Rattle.gl_modes.proofs.Words.{split, cases_of, no, none_some, some_is, not_true, or_left, number_same, same_number, other_number}
 use Rattle.gl_modes.specs.declared.node.NodeId.{NodeId}
 use Rattle.gl_modes.specs.Nodes.{same_node}
 use Rattle.slab.specs.Slab.{Slab, get, slab_len, ContainsKey, Updates}
 use Rattle.gl_graph.specs.declared.node.Body.{Body}
 use Rattle.gl_graph.specs.declared.node.Body.TheVariants as body
+use Rattle.gl_graph.specs.declared.node.IndexBody.{IndexBody}
 use Rattle.gl_graph.specs.declared.node.Node.{Node as Stored}
+use Rattle.std.specs.Global.{Box}
 use Rattle.gl_graph.specs.Shapes.{Shape, Inner, File, Index, Interval, Rec, is_file_shape, is_index_shape, is_movable_shape, is_index_of_shape}
-use Rattle.gl_graph.specs.Graph.{Graph, Node, node_at, is_live, parents_in, shape_in, shape_of, is_child, indexes_of, interval, node_count}
+use Rattle.gl_graph.specs.Graph.{Graph, node_at, is_live, shape_in, shape_of, is_child, indexes_of, interval, node_count}
 use Rattle.gl_graph.specs.Lawful.{IsLawfulGraph}
 use Rattle.gl_graph.specs.Changes.{without_branch}
 use Rattle.gl_graph.specs.Refusals.{is_in_use}
-use Rattle.gl_graph.specs.View.{Vertex, graph_of, node_of, record_count, KeepsBeside, AgreesAt}
-use Rattle.gl_graph.specs.Seen.{Limits, shape_in_body, indexes_in_body, records_in_body, body_without_index, vertex_of, seen, AreBornApart, AreSound, parent_list}
+use Rattle.gl_graph.specs.View.{graph_of, node_of, KeepsBeside, AgreesAt}
+use Rattle.gl_graph.specs.Seen.{Limits, shape_in_body, indexes_in_body, records_in_body, intervals_in_body, body_without_index, vertex_of, seen, AreBornApart, AreSound, parent_list}
 use Rattle.gl_graph.specs.Grown.{AreStored, AreGone}
 use Rattle.gl_graph.proofs.KindRules.{index_node, plain_live, file_plain}
 use Rattle.gl_graph.proofs.Slots.{at_birth, at_slot, slot_at, stored_of, node_there, written_apart, unseen}
 use Rattle.gl_graph.proofs.Beside.{FileSlot, file_slot}
-use Rattle.gl_graph.proofs.Branch.{left, gone, gone_is, live, interval_count, is_interval_shape, movable_no_interval, no_children, left_lawful, count_left}
-use Rattle.gl_graph.proofs.Branch.{left_is, left_was, left_birth, other_indexes, indexes_left, records_left, interval_stays, children_are, child_interval, interval_child}
+use Rattle.gl_graph.proofs.Branch.{left, gone, gone_is, live, interval_count, is_interval_shape, movable_no_interval, no_interval_file, no_children, left_lawful, count_left}
+use Rattle.gl_graph.proofs.Branch.{other_indexes, indexes_left, records_left, interval_stays, children_are, child_interval, interval_child}
 use Rattle.gl_graph.proofs.Unrefused.{or_no}
 
 -- what is left of a slot
@@ -163,3 +165,243 @@ module _ (limits : Limits) (old new : Slab Stored) (births : ℕ) (sound : AreSo
 
     pub lone_sound : slab_len new + 1 ≡ slab_len old → AreSound limits new births
     lone_sound len = branch_sound limits old new births sound n movable free lone no_index len
+
+-- a file that lists an index no more
+unlisted : (b : Body) (n : NodeId) (adopted : Bool) → shape_in_body b ≡ File adopted → (shape_in_body (body_without_index b n) ≡ File adopted)
+    × (indexes_in_body (body_without_index b n) ≡ filter (λ listed. not (same_node listed n)) (indexes_in_body b))
+    × (records_in_body (body_without_index b n) ≡ records_in_body b)
+unlisted body.Inner n adopted e = cc
+unlisted (body.File kept) n adopted e = (e, refl, refl)
+unlisted (body.Index kept) n adopted e = cc
+unlisted (body.Interval place) n adopted e = cc
+unlisted body.Bare n adopted e = cc
+unlisted (body.Keyed one) n adopted e = cc
+unlisted (body.ManyKeyed keys) n adopted e = cc
+
+-- an index goes with its intervals, and its file lists it no more
+module _ (limits : Limits) (old mid : Slab Stored) (births : ℕ) (sound : AreSound limits old births) (n : NodeId)
+    (index : is_index_shape (shape_of (graph_of (seen limits old births)) n) ≡ true) (free : is_in_use (graph_of (seen limits old births)) n ≡ false)
+    (x : Stored) (there : get old n.key ≡ Some x) (f : NodeId) (bs : List ℕ) (shape : shape_in_body x.body ≡ Index f bs)
+    (u : Updates old mid n.key None) (len : slab_len mid + 1 ≡ slab_len old) where
+  abbrev s : Graph
+  s = graph_of (seen limits old births)
+
+  abbrev pub intervals : List NodeId
+  intervals = intervals_in_body x.body
+
+  movable : is_movable_shape (shape_of s n) ≡ true
+  movable = by (shape_of s n) index
+    where
+      by : (o : Option Shape) → is_index_shape o ≡ true → is_movable_shape o ≡ true
+      by o h = search rules
+
+  alive : is_live s n ≡ true
+  alive = live s sound.lawful n movable free
+
+  born : x.birth ≡ n.birth
+  born = let y = stored_of limits old births sound.apart n alive in ap (λ z. z.birth) (some_is (sym there ∙ y.1)) ∙ y.2
+
+  shape_is : shape_of s n ≡ Some (Index f bs)
+  shape_is =
+      let is_n : record { key = n.key; birth = x.birth } ≡ n = node_is (record { key = n.key; birth = x.birth }) n refl born in
+      ap (shape_of s) (sym is_n) ∙ ap shape_in (node_there limits old births sound.apart n.key x there) ∙ ap Some shape
+
+  beside : KeepsBeside s n (vertex_of x) (Index f bs)
+  beside =
+      subst (λ (b : ℕ). KeepsBeside s (record { key = n.key; birth = b }) (vertex_of x) (Index f bs)) born
+      (subst (KeepsBeside s (record { key = n.key; birth = x.birth }) (vertex_of x)) shape (sound.agree n.key x there))
+
+  at_place : (place : ℕ) (m : NodeId) → slice_get intervals place ≡ Some m → (place ≤ length bs) × (m ≡ interval s n place)
+  at_place place m e =
+      let within = slice_get_within intervals place m e in
+      let many = beside.0 in
+      let low : place ≤ length bs = omega arith in
+      (low, some_is (sym e ∙ beside.1 place low))
+
+  interval_is : (place : ℕ) (m : NodeId) → slice_get intervals place ≡ Some m
+      → (is_live s m ≡ true) × (is_interval_shape (shape_of s m) ≡ true) × (is_child s n m ≡ true)
+  interval_is place m e =
+      let at = at_place place m e in
+      let node = (index_node s sound.lawful n f bs shape_is).intervals place at.0 in
+      let there' : node_at s m ≡ _ = ap (node_at s) at.1 ∙ node in
+      (
+        ap is_some there',
+        ap (λ o. is_interval_shape (shape_in o)) there',
+        ap (is_child s n) at.1 ∙ interval_child s sound.lawful n f bs shape_is place at.0,
+      )
+
+  not_index : (m : NodeId) → is_interval_shape (shape_of s m) ≡ true → m ≢ n
+  not_index m h same = no (sym (movable_no_interval (shape_of s n) movable) ∙ ap (λ q. is_interval_shape (shape_of s q)) (sym same) ∙ h)
+
+  key_apart : (place : ℕ) (m : NodeId) → slice_get intervals place ≡ Some m → m.key ≢ n.key
+  key_apart place m e same = let it = interval_is place m e in not_index m it.1 (sound.lawful.keys_differ m n it.0 alive same)
+
+  pub are_stored : AreStored mid intervals
+  are_stored = record {
+    there = λ place m e.
+        let y = stored_of limits old births sound.apart m (interval_is place m e).0 in
+        ap is_some (u.others m.key (key_apart place m e) ∙ y.1);
+    apart = λ place other m m' e e' same.
+        let one = at_place place m e in
+        let two = at_place other m' e' in
+        let equal = sound.lawful.keys_differ m m' (interval_is place m e).0 (interval_is other m' e').0 same in
+        let births' : n.birth + 1 + place ≡ n.birth + 1 + other = ap (λ q. q.birth) (sym one.1 ∙ equal ∙ two.1) in
+        omega arith;
+  }
+
+  module _ (third : Slab Stored) (taken : AreGone mid third intervals (length intervals)) where
+    gone_for : (k : ℕ) (y : Stored) → k ≢ n.key → get old k ≡ Some y → gone s n y.birth ≡ is_child s n (record { key = k; birth = y.birth })
+    gone_for k y ne e =
+        gone_is s n alive (record { key = k; birth = y.birth }) (ap is_some (node_there limits old births sound.apart k y e))
+        ∙ ap (λ b. b || is_child s n (record { key = k; birth = y.birth }))
+        (same_node-differ n (record { key = k; birth = y.birth }) (λ same. ne (ap (λ m. m.key) (sym same))))
+
+    slots : (k : ℕ) → get third k ≡ left_in s n (get old k)
+    slots k =
+        split (k == n.key)
+        (λ t.
+        let same : k ≡ n.key = same_number k n.key t in
+        taken.stays k (λ place m low e. λ (key : m.key ≡ k). key_apart place m e (key ∙ same))
+        ∙ ap (get mid) same ∙ u.changed
+        ∙ sym (ap (λ j. left_in s n (get old j)) same ∙ ap (left_in s n) there
+        ∙ ap (λ b. if b then None else Some x) (or_left (x.birth == n.birth) _ (number_same x.birth n.birth born))))
+        (λ t. by (other_number k n.key t) (get old k) refl)
+      where
+        by : k ≢ n.key → (o : Option Stored) → get old k ≡ o → get third k ≡ left_in s n o
+        by ne None e =
+            taken.stays k (λ place m low at. λ (key : m.key ≡ k).
+            let y = stored_of limits old births sound.apart m (interval_is place m at).0 in
+            none_some (sym e ∙ ap (get old) (sym key) ∙ y.1))
+            ∙ u.others k ne ∙ e
+        by ne (Some y) e =
+            split (is_child s n (record { key = k; birth = y.birth }))
+            (λ c.
+            let it = child_interval s sound.lawful n f bs shape_is (record { key = k; birth = y.birth }) c
+            (children_are s sound.lawful n movable free (record { key = k; birth = y.birth }) c).1 in
+            let at = beside.1 it.0 it.1 in
+            let within = slice_get_within intervals it.0 _ at in
+            ap (λ (q : NodeId). get third q.key) it.2 ∙ taken.gone it.0 (interval s n it.0) within at
+            ∙ sym (ap (λ b. if b then None else Some y) (gone_for k y ne e ∙ c)))
+            (λ c. taken.stays k (λ place m low at. λ (key : m.key ≡ k).
+            let found = interval_is place m at in
+            let z = stored_of limits old births sound.apart m found.0 in
+            let same : y ≡ z.0 = some_is (sym e ∙ ap (get old) (sym key) ∙ z.1) in
+            let is_m : record { key = k; birth = y.birth } ≡ m = node_is (record { key = k; birth = y.birth }) m (sym key) (ap (λ w. w.birth) same ∙ z.2) in
+            no (sym c ∙ ap (is_child s n) is_m ∙ found.2))
+            ∙ u.others k ne ∙ e ∙ sym (ap (λ b. if b then None else Some y) (gone_for k y ne e ∙ c)))
+
+    file_is : is_file_shape (shape_of s f) ≡ true
+    file_is = (index_node s sound.lawful n f bs shape_is).file
+
+    slot : FileSlot old f
+    slot = file_slot limits old births sound f file_is
+
+    file_there : get third f.key ≡ Some slot.stored
+    file_there =
+        let id : NodeId = record { key = f.key; birth = slot.stored.birth } in
+        let is_f : record { key = f.key; birth = slot.stored.birth } ≡ f = node_is (record { key = f.key; birth = slot.stored.birth }) f refl slot.born in
+        let there' = node_there limits old births sound.apart f.key slot.stored slot.there in
+        let ne : f.key ≢ n.key = (λ (same : f.key ≡ n.key). no (sym (by (shape_of s n) index)
+        ∙ ap (λ q. is_file_shape (shape_of s q)) (sym (sound.lawful.keys_differ f n (plain_live s f (file_plain _ file_is)) alive same)) ∙ file_is)) in
+        let c : is_child s n (record { key = f.key; birth = slot.stored.birth }) ≡ false =
+        not_true _ (λ t. no (sym (no_interval_file (shape_of s f) file_is)
+        ∙ ap (λ q. is_interval_shape (shape_of s q)) (sym is_f)
+        ∙ (children_are s sound.lawful n movable free (record { key = f.key; birth = slot.stored.birth }) t).1)) in
+        slots f.key ∙ ap (left_in s n) slot.there
+        ∙ ap (λ b. if b then None else Some slot.stored) (gone_for f.key slot.stored ne slot.there ∙ c)
+      where
+        by : (o : Option Shape) → is_index_shape o ≡ true → is_file_shape o ≡ false
+        by o h = search rules
+
+    pub file_contained : ContainsKey third f.key
+    file_contained = ap is_some file_there
+
+    module _ (fourth : Slab Stored)
+        (write : (y : Stored) → get third f.key ≡ Some y → Updates third fourth f.key (Some (record y { body = body_without_index y.body n })))
+        (len4 : slab_len fourth ≡ slab_len third) where
+      abbrev f4 : Stored
+      f4 = record slot.stored { body = body_without_index slot.stored.body n }
+
+      kept : (shape_in_body f4.body ≡ File slot.adopted)
+          × (indexes_in_body f4.body ≡ filter (λ listed. not (same_node listed n)) (indexes_in_body slot.stored.body))
+          × (records_in_body f4.body ≡ records_in_body slot.stored.body)
+      kept = unlisted slot.stored.body n slot.adopted slot.shape
+
+      alike : node_of f.key (vertex_of f4) ≡ node_of f.key (vertex_of slot.stored)
+      alike = let same = kept.0 ∙ sym slot.shape in λ i. record { key = f.key; shape = same i; parents = parent_list slot.stored.parents }
+
+      apart : AreBornApart third
+      apart = branch_apart limits old third births sound n movable free slots
+
+      pub index_left_graph : graph_of (seen limits fourth births) ≡ without_branch s n
+      index_left_graph =
+          unseen limits third fourth births f.key slot.stored f4 apart file_there (write slot.stored file_there) refl alike
+          ∙ branch_graph limits old third births sound n movable free slots
+
+      file_agrees : AgreesAt (left s n) f.key (vertex_of f4)
+      file_agrees =
+          let id : NodeId = record { key = f.key; birth = slot.stored.birth } in
+          let was = subst (KeepsBeside s (record { key = f.key; birth = slot.stored.birth }) (vertex_of slot.stored)) slot.shape
+          (sound.agree f.key slot.stored slot.there) in
+          subst (KeepsBeside (left s n) (record { key = f.key; birth = slot.stored.birth }) (vertex_of f4)) (sym kept.0) (
+            kept.1 ∙ ap (filter (λ listed. not (same_node listed n))) was.0
+                ∙ ap (λ (p : NodeId → Bool). filter p (indexes_of s (record { key = f.key; birth = slot.stored.birth })))
+                (fun_ext (λ listed. ap not (same_node-sym listed n)))
+                ∙ sym (indexes_left s sound.lawful n movable free (record { key = f.key; birth = slot.stored.birth })),
+            kept.2 ∙ was.1 ∙ sym (records_left s sound.lawful n movable free (record { key = f.key; birth = slot.stored.birth })),
+          )
+
+      pub index_left_sound : AreSound limits fourth births
+      index_left_sound = record {
+        lawful = subst IsLawfulGraph (sym index_left_graph) (left_lawful s sound.lawful n movable free);
+        apart = written_apart limits third fourth births f.key slot.stored f4 apart file_there (write slot.stored file_there) refl;
+        counted =
+            (let span : interval_count (shape_of s n) ≡ length bs + 1 = ap interval_count shape_is in
+            let many = beside.0 in
+            let less = taken.len in
+            let all : slab_len third ≡ node_count (left s n) = branch_counted limits old third births sound n movable free slots (omega arith) in
+            len4 ∙ all)
+            ∙ ap node_count (sym index_left_graph);
+        agree = λ k y e. subst (λ h. AgreesAt h k (vertex_of y)) (sym index_left_graph) (split (k == f.key)
+            (λ t.
+            let here : k ≡ f.key = same_number k f.key t in
+            let same : f4 ≡ y = some_is (sym (write slot.stored file_there).changed ∙ ap (get fourth) (sym here) ∙ e) in
+            subst (λ c. AgreesAt (left s n) c (vertex_of y)) (sym here) (subst (λ z. AgreesAt (left s n) f.key (vertex_of z)) same file_agrees))
+            (λ t.
+            let ne : k ≢ f.key = other_number k f.key t in
+            branch_agrees limits old third births sound n movable free slots k y (sym ((write slot.stored file_there).others k ne) ∙ e)
+            (ap (is_index_of_shape (record { key = k; birth = y.birth })) shape_is
+            ∙ same_node-differ (record { key = k; birth = y.birth }) f (λ same. ne (ap (λ m. m.key) same)))));
+      }
+
+-- an index is stored as one
+module _ (limits : Limits) (old : Slab Stored) (births : ℕ) (sound : AreSound limits old births) (n : NodeId)
+    (index : is_index_shape (shape_of (graph_of (seen limits old births)) n) ≡ true) (free : is_in_use (graph_of (seen limits old births)) n ≡ false) where
+  abbrev i : Graph
+  i = graph_of (seen limits old births)
+
+  stored_index : (x : Stored) × (get old n.key ≡ Some x) × (x.birth ≡ n.birth)
+  stored_index = stored_of limits old births sound.apart n (live i sound.lawful n (by (shape_of i n) index) free)
+    where
+      by : (o : Option Shape) → is_index_shape o ≡ true → is_movable_shape o ≡ true
+      by o h = search rules
+
+  pub index_contained : ContainsKey old n.key
+  index_contained = ap is_some stored_index.1
+
+  pub is_stored_index : (x : Stored) → get old n.key ≡ Some x → ((boxed : Box IndexBody) → x.body ≡ body.Index boxed → ⊥) → ⊥
+  is_stored_index x at none =
+      let same : stored_index.0 ≡ x = some_is (sym stored_index.1 ∙ at) in
+      let birth : x.birth ≡ n.birth = ap (λ y. y.birth) (sym same) ∙ stored_index.2 in
+      let is_n : record { key = n.key; birth = x.birth } ≡ n = node_is (record { key = n.key; birth = x.birth }) n refl birth in
+      by x.body none (sym (ap (λ o. is_index_shape (shape_in o)) (node_there limits old births sound.apart n.key x at))
+      ∙ ap (λ q. is_index_shape (shape_of i q)) is_n ∙ index)
+    where
+      by : (b : Body) → ((boxed : Box IndexBody) → b ≡ body.Index boxed → ⊥) → is_index_shape (Some (shape_in_body b)) ≡ true → ⊥
+      by body.Inner none k = no k
+      by (body.File boxed) none k = no k
+      by (body.Index boxed) none k = none boxed refl
+      by (body.Interval place) none k = no k
+      by body.Bare none k = no k
+      by (body.Keyed one) none k = no k
+      by (body.ManyKeyed keys) none k = no k

@@ -16,7 +16,7 @@ ghost use Rattle.gl_graph.specs.Refusals.{is_in_use};
 ghost use Rattle.gl_graph.specs.View.{graph_of};
 
 use super::Graph;
-use crate::node::Body;
+use crate::node::{Body, Node};
 use crate::store::{find, remove_all, unlist_index, write_adopted, write_key, write_records};
 use gl_modes::NodeId;
 
@@ -71,15 +71,16 @@ impl Graph {
         requires free { is_in_use (graph_of self.old) index ≡ false }
         ensures removed { graph_of self.new ≡ without_branch (graph_of self.old) index }
     {
-        let Body::Index(kept) = self.nodes.remove(index.key).body else {
+        let Node { body, .. } = self.nodes.remove(index.key);
+        let Body::Index(kept) = body else {
             unreachable!()
         };
         remove_all(&mut self.nodes, kept.intervals.as_slice());
         unlist_index(&mut self.nodes, kept.file.key, index);
     }
 
-    /// Keeps for ever that rows of the file were adopted: no index of it can be made from then on. It
-    /// takes no memory.
+    /// Keeps for ever that rows of the file were adopted: an index of it is made by `add_index_again`
+    /// alone from then on. It takes no memory.
     pub fn mark_adopted(&mut self, file: NodeId)
         requires { is_file_shape (shape_of (graph_of self.old) file) ≡ true }
         ensures marked { graph_of self.new ≡ marked (graph_of self.old) file }

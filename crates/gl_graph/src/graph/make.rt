@@ -232,8 +232,8 @@ impl Graph {
         Ok(NodeId { key, birth })
     }
 
-    /// As `add_record`, and the file is one of which rows were adopted from then on, so that no index
-    /// of it is made any more. Refused as `add_record` is.
+    /// As `add_record`, and the file is one of which rows were adopted from then on, so that an index
+    /// of it is made by `add_index_again` alone. Refused as `add_record` is.
     pub fn adopt_record(&mut self, file: NodeId, keys: &[u64]) -> Result<NodeId, Refusal>
         ensures made { IfOk result (λ n. IsAdopted (graph_of self.old) (graph_of self.new) n file keys.now) }
         ensures refuses { Refuses (record_refusal (graph_of self.old) file keys.now) result }
