@@ -7,6 +7,7 @@ pub mod Lock
 pub mod Edges
 pub mod Departures
 pub mod Records
+pub mod Schema
 pub mod Rows
 pub mod Strays
 pub mod Move

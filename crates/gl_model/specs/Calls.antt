@@ -1,5 +1,5 @@
 -- What each call of the table leaves, why it is refused, and what it answers.
-use Rattle.std.specs.Prelude.{ℕ, Bool, not, ◌&&◌, ◌||◌, ◌≡◌, ◌+◌, true, false, ◌==◌, List, [], Option, Some, None, if◌then◌else◌, is_none, ◌∷◌, ◌++◌, is_some}
+use Rattle.std.specs.Prelude.{ℕ, Bool, not, ◌&&◌, ◌||◌, ◌≡◌, ◌+◌, true, false, ◌==◌, List, [], Option, Some, None, if◌then◌else◌, is_none, ◌∷◌, ◌++◌, is_some, length}
 use Rattle.std.specs.Prelude.{IsOk, Result, Ok, Err}
 use Rattle.std.specs.List.{list_any, list_all, count_by, filter, find}
 use Rattle.gl_modes.specs.declared.node.NodeId.{NodeId}
@@ -9,9 +9,9 @@ use Rattle.gl_modes.specs.declared.mode.Mode.{Mode}
 use Rattle.gl_modes.specs.Nodes.{same_node}
 use Rattle.gl_modes.specs.declared.refusal.Refusal.{Refusal}
 use Rattle.gl_graph.specs.Graph.{is_child, nodes, parents_of, Graph, is_live, shape_of}
-use Rattle.gl_graph.specs.Changes.{without_node}
-use Rattle.gl_graph.specs.Refusals.{max_count, some_no_node, where_true}
-use Rattle.gl_graph.specs.Shapes.{is_record_shape}
+use Rattle.gl_graph.specs.Changes.{without_branch, without_node}
+use Rattle.gl_graph.specs.Refusals.{bad_bounds, bad_index_place, has_records, is_in_use, max_count, some_no_node, too_many_nodes, where_true, worn_births}
+use Rattle.gl_graph.specs.Shapes.{Index, Inner, Shape, is_movable_shape, is_record_shape}
 use Rattle.gl_header.specs.Header.{holds, Waiter, enters, is_among_waiters, is_empty, placed, without_waiter, fits}
 use Rattle.gl_header.specs.State.{nobody_holds}
 use Rattle.gl_header.specs.declared.header.Asked.{Asked}
@@ -137,6 +137,14 @@ departed s goes g =
 -- the record is gone with its grants and waits
 abbrev pub deleted : State → NodeId → State
 deleted s r = departed s (λ n. same_node n r) (without_node s.graph r)
+
+-- the node goes, or with its parent n
+abbrev pub goes_with : Graph → NodeId → NodeId → Bool
+goes_with g n q = same_node n q || is_child g n q
+
+-- n is gone with its children, which of an index are its intervals, and with all grants and waits on them
+abbrev pub dropped : State → NodeId → State
+dropped s n = departed s (goes_with s.graph n) (without_branch s.graph n)
 
 -- a wait on n still meets the rule of the graph over these parents
 abbrev pub stays : State → List NodeId → Waiter → Bool
@@ -306,6 +314,30 @@ living_tests s t = no_txn s t ∷ []
 -- what a transaction holds on a node, by itself or by effect
 abbrev pub held_tests : State → TxnId → NodeId → List (Option Refusal)
 held_tests s t n = no_txn s t ∷ no_node s n ∷ []
+
+-- nodes that must be held in X to drop the node: it and, of an index, its file
+abbrev pub locked_to_drop : NodeId → Option Shape → List NodeId
+locked_to_drop n (Some (Index file bounds)) = n ∷ file ∷ []
+locked_to_drop n o = n ∷ []
+
+-- what stands against a drop, where something does: below an inner node a child, else a record of the file or an index of it
+abbrev pub use_reason : Option Shape → Refusal
+use_reason (Some Inner) = no.HasChildren
+use_reason o = no.FileInUse
+
+-- drop takes an inner node, a file or an index, below which nothing stands, and asks X on it, and for an index on its file too
+abbrev pub drop_tests : State → TxnId → NodeId → List (Option Refusal)
+drop_tests s t n =
+    active_on s t (n ∷ []) ++ where_true (not (is_movable_shape (shape_of s.graph n))) no.BadParents
+    ∷ where_true (not (holds_x_on_all s t.slot (locked_to_drop n (shape_of s.graph n)))) no.NeedExclusive
+    ∷ where_true (is_in_use s.graph n) (use_reason (shape_of s.graph n)) ∷ []
+
+-- an index made by a transaction asks X on its file and IX or greater on each of its parents, and that no record of its file stands
+abbrev pub index_by_tests : State → TxnId → List NodeId → NodeId → List ℕ → List (Option Refusal)
+index_by_tests s t ps f bs =
+    worn_births s.graph ∷ active_on s t (ps ++ f ∷ []) ++ where_true (bad_index_place s.graph ps f) no.BadParents
+    ∷ where_true (not (holds_x s t.slot f)) no.NeedExclusive ∷ first_not_ix (s.held t.slot) ps ∷ where_true (has_records s.graph f) no.FileInUse
+    ∷ where_true (bad_bounds s.graph bs) no.BadKeys ∷ too_many_nodes s.graph (2 + length bs) ∷ []
 
 -- forget takes a record that nobody holds or waits for
 abbrev pub forget_tests : State → NodeId → List (Option Refusal)

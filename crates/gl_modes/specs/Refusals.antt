@@ -24,6 +24,7 @@ use Rattle.gl_modes.specs.declared.refusal.Refusal.TheVariants.{
   BadLine,
   Cycle,
   RecordInUse,
+  HasChildren,
 }
 
 -- the number of a refusal, by which scripts tell it
@@ -50,6 +51,7 @@ refusal_number WornOut = 19
 refusal_number BadLine = 20
 refusal_number (Cycle _) = 21
 refusal_number RecordInUse = 22
+refusal_number HasChildren = 23
 
 -- its name, as scripts print it
 abbrev pub refusal_name : Refusal → List ℕ
@@ -75,3 +77,4 @@ refusal_name WornOut = codes "WornOut"
 refusal_name BadLine = codes "BadLine"
 refusal_name (Cycle _) = codes "Cycle"
 refusal_name RecordInUse = codes "RecordInUse"
+refusal_name HasChildren = codes "HasChildren"

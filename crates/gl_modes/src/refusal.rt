@@ -41,7 +41,8 @@ pub enum Refusal {
     NotWaiting,
     /// The name is in use.
     NameTaken,
-    /// An index cannot be added to a file that has records.
+    /// An index cannot be added to a file that has records, nor can a file that has records or indexes be taken
+    /// away, nor an index of a file that has records.
     FileInUse,
     /// Bounds that do not rise from above 0, too many of them, or not one key for each index.
     BadKeys,
@@ -53,10 +54,12 @@ pub enum Refusal {
     Cycle { node: NodeId },
     /// Some transaction holds the record or waits for it.
     RecordInUse,
+    /// The inner node has children.
+    HasChildren,
 }
 
 impl Refusal {
-    /// The refusal's number, from 1 to 22.
+    /// The refusal's number, from 1 to 23.
     pub fn number(self) -> u8
         ensures { result ≡ refusal_number self }
     {
@@ -83,6 +86,7 @@ impl Refusal {
             Refusal::BadLine => 20,
             Refusal::Cycle { .. } => 21,
             Refusal::RecordInUse => 22,
+            Refusal::HasChildren => 23,
         }
     }
 
@@ -113,6 +117,7 @@ impl Refusal {
             Refusal::BadLine => "BadLine",
             Refusal::Cycle { .. } => "Cycle",
             Refusal::RecordInUse => "RecordInUse",
+            Refusal::HasChildren => "HasChildren",
         }
     }
 }

@@ -43,6 +43,8 @@ names t (command.Insert u f ks) = same_txn t u
 names t (command.Delete u r) = same_txn t u
 names t (command.Rekey u r i k) = same_txn t u
 names t (command.Move u n ps) = same_txn t u
+names t (command.Drop u n) = same_txn t u
+names t (command.IndexBy u ps f bs) = same_txn t u
 names t c = false
 
 -- the notice tells t of a grant
@@ -196,6 +198,7 @@ makes_node (command.File ps) = true
 makes_node (command.Index ps f bs) = true
 makes_node (command.Insert t f keys) = true
 makes_node (command.Adopt f keys) = true
+makes_node (command.IndexBy t ps f bs) = true
 makes_node c = false
 
 -- in a lawful state a command that makes no node has one answer, one list of notices and one state, want of memory aside

@@ -18,7 +18,7 @@ use Rattle.gl_graph.specs.Changes.{IsAdopted, IsBorn, IsIndexBorn, rekeyed, reke
 use Rattle.gl_graph.specs.Graph.{record_parents}
 use Rattle.gl_graph.specs.Shapes.{File, Inner, Rec}
 use Rattle.gl_header.specs.Header.{group_of}
-use Rattle.gl_model.specs.Calls.{Locks, accepted_once, begun, cancelled, deleted, free_slot, granted, moved_to, raised, released, shed, unlocked, wanted}
+use Rattle.gl_model.specs.Calls.{Locks, accepted_once, begun, cancelled, deleted, dropped, free_slot, granted, moved_to, raised, released, shed, unlocked, wanted}
 use Rattle.gl_model.specs.Calls.{covered_children, held_children}
 use Rattle.gl_model.specs.Lawful.{effective}
 use Rattle.gl_model.specs.State.{State, members, status_of, with_grant, with_graph, Settled}
@@ -69,6 +69,10 @@ Accepts s (command.Effective t n) a told' s' = ⊥
 Accepts s (command.Adopt f keys) a told' s' =
     (n : NodeId) × IsAdopted s.graph s'.graph n f keys.now × (a ≡ answer.Node n) × (told' ≡ []) × (s' ≡ with_graph s s'.graph)
 Accepts s (command.Forget r) a told' s' = (a ≡ answer.Done) × (told' ≡ []) × (s' ≡ with_graph s (without_node s.graph r))
+Accepts s (command.Drop t n) a told' s' = (a ≡ answer.Done) × (told' ≡ told s s') × (s' ≡ dropped s n)
+Accepts s (command.IndexBy t ps f bs) a told' s' =
+    (n : NodeId) × IsIndexBorn s.graph s'.graph n ps.now f bs.now × (a ≡ answer.Node n) × (told' ≡ [])
+    × (s' ≡ with_grant (with_graph s s'.graph) t.slot n X)
 
 -- what a query answers; no other command is one
 abbrev pub query_answer : State → Command → Option Answer

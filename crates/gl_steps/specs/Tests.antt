@@ -13,7 +13,7 @@ use Rattle.gl_graph.specs.Refusals.{too_many_nodes, where_true, worn_births}
 use Rattle.gl_graph.specs.Shapes.{is_file_shape, is_index_of_shape, is_movable_shape, is_record_shape, least_parents}
 use Rattle.gl_header.specs.Header.{holds}
 use Rattle.gl_model.specs.Calls.{enters_at}
-use Rattle.gl_model.specs.Calls.{active_on, begin_tests, cancel_tests, commit_tests, escalation_blocks, first_not_ix, forget_tests, group_tests}
+use Rattle.gl_model.specs.Calls.{active_on, begin_tests, cancel_tests, commit_tests, drop_tests, index_by_tests, escalation_blocks, first_not_ix, forget_tests, group_tests}
 use Rattle.gl_model.specs.Calls.{held_tests, holds_x, living_tests, lock_tests, need_exclusive, need_new_parents, not_held, some_given, try_tests}
 use Rattle.gl_model.specs.Calls.{unlock_tests}
 use Rattle.gl_model.specs.State.{State, members}
@@ -89,6 +89,8 @@ tests_of s (command.Held t n) = held_tests s t n
 tests_of s (command.Effective t n) = held_tests s t n
 tests_of s (command.Adopt f keys) = worn s ∷ record_refusal s.graph f keys.now ∷ []
 tests_of s (command.Forget r) = worn s ∷ forget_tests s r
+tests_of s (command.Drop t n) = worn s ∷ drop_tests s t n
+tests_of s (command.IndexBy t ps f bs) = worn s ∷ index_by_tests s t ps.now f bs.now
 
 -- why the command is refused, if it is: the first test that finds a reason
 abbrev pub refusal_of : State → Command → Option Refusal
@@ -115,6 +117,7 @@ lists_memory s (command.Insert t f keys) = true
 lists_memory s (command.Move t n ps) = true
 lists_memory s (command.Effective t n) = true
 lists_memory s (command.Adopt f keys) = true
+lists_memory s (command.IndexBy t ps f bs) = true
 lists_memory s c = false
 
 -- memory is a permitted reason where nothing else is; for a move also in place of a path that closes, since the search for it may want memory

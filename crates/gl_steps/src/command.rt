@@ -51,7 +51,7 @@ pub struct Reply {
 
 /// One command. `Group`, `Held` and `Effective` are queries, which change nothing; every other
 /// command that is not refused is counted. `Adopt` and `Forget` are our own: by them a record need
-/// not stand for as long as its row does.
+/// not stand for as long as its row does. So are `Drop` and `IndexBy`, by which a schema changes.
 #[derive(Clone, Copy)]
 pub enum Command<'a> {
     /// A new inner node, under 0 to 8 inner nodes.
@@ -156,5 +156,19 @@ pub enum Command<'a> {
     /// Take a record away that nobody holds or waits for.
     Forget {
         rec: NodeId,
+    },
+    /// Take an inner node without children away, a file without records and indexes, or an index with its
+    /// intervals, where no record of its file stands. It is held in X, and for an index its file too.
+    Drop {
+        txn: TxnId,
+        node: NodeId,
+    },
+    /// A new index of a file that may have had records, but has none now, held in X. The file is held in X, and
+    /// each parent in IX or greater.
+    IndexBy {
+        txn: TxnId,
+        parents: &'a [NodeId],
+        file: NodeId,
+        bounds: &'a [u64],
     },
 }

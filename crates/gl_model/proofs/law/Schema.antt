@@ -1,0 +1,78 @@
+-- A schema changes under the lock of a transaction: nodes are dropped, and an index is made that its maker holds. The law of a state is kept.
+use Rattle.gl_model.proofs.Words.{[], ◌+◌, ◌∙◌, ◌∷◌, ◌≡◌, ◌≤◌, Active, and_both, ap, are_compatible, arith, false, first_not_ix, fits-from_all, Graph, HasNoCycle}
+use Rattle.gl_model.proofs.Words.{Index, intends_over, interval_nodes, is_at_least, is_live, is_movable_shape, is_some, IsIndexBorn, IsLawful, IsLawfulGraph, List}
+use Rattle.gl_model.proofs.Words.{list_any, members, new_id, new_node, NL, Node, node_at, node_is, NodeId, None, not, old_below, or_no, parents_in, refl, same_node, shape_of, Some}
+use Rattle.gl_model.proofs.Words.{State, status_of, sym, true, with_grant, with_graph, X, ℕ}
+use Rattle.std.proofs.lemmas.Bool.{not-true}
+use Rattle.gl_graph.proofs.Branch.{left_lawful, left_live, live, stays_left}
+use Rattle.gl_graph.proofs.NewIndex.{index_lawful}
+use Rattle.gl_graph.proofs.Unrefused.{IsRoomyIndex}
+use Rattle.gl_graph.specs.Changes.{without_branch}
+use Rattle.gl_graph.specs.Refusals.{is_in_use}
+use Rattle.gl_model.specs.Calls.{dropped, goes_with}
+use Rattle.gl_model.proofs.law.Departures.{departed-no_cycle, departed_lawful, GoAway}
+use Rattle.gl_model.proofs.law.Keeps.{with_grant-lawful}
+use Rattle.gl_model.proofs.law.Records.{grown-lawful, Grows, no_queue, nobody_holds}
+use Rattle.gl_model.proofs.law.Tests.{all_ix}
+
+-- what goes with a node that is in no use goes alone
+module _ (g : Graph) (law : IsLawfulGraph g) (n : NodeId) (movable : is_movable_shape (shape_of g n) ≡ true) (free : is_in_use g n ≡ false) where
+  pub branch_goes : GoAway g (goes_with g n) (without_branch g n)
+  branch_goes = record {
+    lawful = left_lawful g law n movable free;
+    stays = stays;
+    apart = λ q p h e c.
+        let up = (left_lawful g law n movable free).parents_live q p (ap (λ o. list_any (same_node p) (parents_in o)) (stays q h e) ∙ c) in
+        not-true _ (and_both _ _ (sym (left_live g n (live g law n movable free) p) ∙ up)).1;
+  }
+    where
+      stays : (q : NodeId) → is_live g q ≡ true → goes_with g n q ≡ false → node_at (without_branch g n) q ≡ node_at g q
+      stays q h e = let both = or_no _ _ e in stays_left g n (live g law n movable free) q h both.0 both.1
+
+pub dropped_lawful : (s : State) → IsLawful s → (n : NodeId) → is_movable_shape (shape_of s.graph n) ≡ true → is_in_use s.graph n ≡ false
+    → IsLawful (dropped s n)
+dropped_lawful s law n movable free =
+    departed_lawful s law (goes_with s.graph n) (without_branch s.graph n) (branch_goes s.graph law.graph n movable free)
+
+pub dropped-no_cycle : (s : State) (n : NodeId) → HasNoCycle s → HasNoCycle (dropped s n)
+dropped-no_cycle s n none = departed-no_cycle s (goes_with s.graph n) (without_branch s.graph n) none
+
+-- an index is made of a file, and a transaction comes to hold it
+module _ (s : State) (law : IsLawful s) (ps : List NodeId) (f : NodeId) (bs : List ℕ) (room : IsRoomyIndex s.graph ps f bs)
+    (g' : Graph) (n : NodeId) (born : IsIndexBorn s.graph g' n ps f bs) where
+  abbrev node : Node
+  node = record { key = n.key; shape = Index f bs; parents = ps }
+
+  abbrev pub index_nodes : List Node
+  index_nodes = node ∷ interval_nodes (record { key = n.key; birth = s.graph.births + 1 }) 0 born.interval_keys
+
+  pub roomy_index-grows : Grows s.graph g'
+  roomy_index-grows = record {
+    ns = index_nodes;
+    lawful = index_lawful s.graph law.graph n.key ps f bs born.interval_keys room.inner room.file room.few room.rise room.unused room.indexes
+        born.intervals born.keys_apart born.keys_free room.room;
+    after = born.after;
+  }
+
+  not_old : is_live s.graph n ≡ true → ⊥
+  not_old h = let low = old_below s.graph law.graph index_nodes n h in let birth = born.birth in absurd (omega arith)
+
+  pub index-unheld : (u : ℕ) → s.held u n ≡ NL
+  index-unheld u = nobody_holds s law u n not_old
+
+  pub index-unawaited : s.queue n ≡ []
+  index-unawaited = no_queue (s.queue n) (λ u h. not_old (law.waits_live u n h))
+
+  there : node_at g' n ≡ Some node
+  there =
+      let birth : n.birth ≡ s.graph.births + 1 + 0 = omega (arith, born.birth) in
+      (λ i. node_at (born.after i) (node_is n (new_id s.graph law.graph index_nodes node 0) refl birth i)) ∙ new_node s.graph law.graph index_nodes 0 node refl
+
+  pub index-live : is_live g' n ≡ true
+  index-live = ap is_some there
+
+  pub indexed_lawful : (t : ℕ) → status_of s t ≡ Some Active → first_not_ix (s.held t) ps ≡ None → IsLawful (with_grant (with_graph s g') t n X)
+  indexed_lawful t active rule =
+      with_grant-lawful (with_graph s g') (grown-lawful s law g' roomy_index-grows) t n X active index-live (λ is. refl)
+      (ap (λ o. intends_over (s.held t) (parents_in o) X) there ∙ all_ix (s.held t) ps rule) (ap (is_at_least X) (index-unheld t))
+      (fits-from_all s.most (members s n) t X (λ u other. ap (are_compatible X) (index-unheld u)))
