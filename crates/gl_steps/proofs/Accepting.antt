@@ -46,3 +46,5 @@ accepting_keeps_count s (command.Held t n) a told s' acc = absurd acc
 accepting_keeps_count s (command.Effective t n) a told s' acc = absurd acc
 accepting_keeps_count s (command.Adopt f keys) a told s' acc = ap (λ z. z.accepted) acc.4
 accepting_keeps_count s (command.Forget r) a told s' acc = ap (λ z. z.accepted) acc.2
+accepting_keeps_count s (command.Drop t n) a told s' acc = ap (λ z. z.accepted) acc.2
+accepting_keeps_count s (command.IndexBy t ps f bs) a told s' acc = ap (λ z. z.accepted) acc.4

@@ -47,6 +47,8 @@ accepts_detect s (command.Held t n) a told' s' acc = absurd acc
 accepts_detect s (command.Effective t n) a told' s' acc = absurd acc
 accepts_detect s (command.Adopt f keys) a told' s' acc = ap (λ z. z.detect) acc.4
 accepts_detect s (command.Forget r) a told' s' acc = ap (λ z. z.detect) acc.2
+accepts_detect s (command.Drop t n) a told' s' acc = ap (λ z. z.detect) acc.2
+accepts_detect s (command.IndexBy t ps f bs) a told' s' acc = ap (λ z. z.detect) acc.4
 
 pub steps_keep_detect : (s s' : State) (c : Command) (a : Answer) (told' : Told) → Step s c a told' s' → s'.detect ≡ s.detect
 steps_keep_detect s s' c a told' step =

@@ -48,7 +48,7 @@ pub has_parents_lives : (o : Option Node) → not (no_parents (parents_in o)) �
 has_parents_lives None h = h
 has_parents_lives (Some n) h = refl
 
-plain_intervals : (index : NodeId) (place : ℕ) (keys : List ℕ) → no_records (interval_nodes index place keys) ≡ true
+pub plain_intervals : (index : NodeId) (place : ℕ) (keys : List ℕ) → no_records (interval_nodes index place keys) ≡ true
 plain_intervals index place [] = refl
 plain_intervals index place (k ∷ ks) = plain_intervals index (place + 1) ks
 

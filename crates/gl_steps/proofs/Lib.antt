@@ -12,6 +12,7 @@ pub mod MakeKeeps
 pub mod RowKeeps
 pub mod DeleteKeeps
 pub mod MoveCommands
+pub mod SchemaKeeps
 pub mod StepsKeepLaw
 -- no command makes a cycle of waits
 pub mod Detection
@@ -25,6 +26,7 @@ pub mod GrantCommands
 pub mod GraphChanges
 pub mod GraphCommands
 pub mod RowSteps
+pub mod SchemaSteps
 pub mod OneStep
 pub mod OthersKeep
 pub mod RowNames

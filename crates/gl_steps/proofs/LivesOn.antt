@@ -11,7 +11,7 @@ use Rattle.gl_model.specs.declared.answers.Detect.{Detect}
 use Rattle.gl_model.specs.declared.answers.Detect.TheVariants.{AtBlock, ByWatcher}
 use Rattle.gl_model.specs.declared.txn.Status.{Status}
 use Rattle.gl_model.specs.declared.txn.Status.TheVariants.{Active, Waiting, Condemned}
-use Rattle.gl_model.specs.Calls.{WaitSettles, freed, freed_unless, none_but}
+use Rattle.gl_model.specs.Calls.{WaitSettles, freed, freed_unless, none_among, freed_among}
 use Rattle.gl_model.specs.State.{condemned, granted_at, is_waiting_at, pumped, without_wait, woken, State, Txn, live_by, restatus, status_in}
 use Rattle.gl_model.specs.State.{Settled, SettledWithin}
 use Rattle.gl_model.proofs.law.Keeps.{woken_waits}
@@ -42,23 +42,26 @@ woken_on g u x = record { lives = λ age h. by age x h; waits = λ n m h. (woken
     by age None h = h
     by age (Some y) h = h
 
-pub freed_on : (n : NodeId) (x : Option Txn) → LivesOn x (freed n x)
-freed_on n x = record { lives = λ age h. by age x h; waits = λ q m h. still q m x h }
+pub freed_among_on : (goes : NodeId → Bool) (x : Option Txn) → LivesOn x (freed_among goes x)
+freed_among_on goes x = record { lives = λ age h. by age x h; waits = λ q m h. still q m x h }
   where
-    by : (age : ℕ) (o : Option Txn) → live_by age o ≡ true → live_by age (freed n o) ≡ true
+    by : (age : ℕ) (o : Option Txn) → live_by age o ≡ true → live_by age (freed_among goes o) ≡ true
     by age None h = h
     by age (Some y) h = h
 
-    kept : (q : NodeId) (m : Mode) (st : Status) → Some (none_but st n) ≡ Some (Waiting q m) → Some st ≡ Some (Waiting q m)
+    kept : (q : NodeId) (m : Mode) (st : Status) → Some (none_among goes st) ≡ Some (Waiting q m) → Some st ≡ Some (Waiting q m)
     kept q m Active h = absurd (cc h)
     kept q m Condemned h = absurd (cc h)
-    kept q m (Waiting p w) h = split (same_node p n)
+    kept q m (Waiting p w) h = split (goes p)
         (λ e. absurd (cc (sym (ap (λ b. Some (if b then Active else Waiting p w)) e) ∙ h)))
         (λ e. sym (ap (λ b. Some (if b then Active else Waiting p w)) e) ∙ h)
 
-    still : (q : NodeId) (m : Mode) (o : Option Txn) → status_in (freed n o) ≡ Some (Waiting q m) → status_in o ≡ Some (Waiting q m)
+    still : (q : NodeId) (m : Mode) (o : Option Txn) → status_in (freed_among goes o) ≡ Some (Waiting q m) → status_in o ≡ Some (Waiting q m)
     still q m None h = absurd (cc h)
     still q m (Some y) h = kept q m y.status h
+
+pub freed_on : (n : NodeId) (x : Option Txn) → LivesOn x (freed n x)
+freed_on n x = freed_among_on (λ q. same_node q n) x
 
 pub unless_on : (keeps : ℕ → Bool) (n : NodeId) (u : ℕ) (x : Option Txn) → LivesOn x (freed_unless keeps n u x)
 unless_on keeps n u x = by (keeps u)

@@ -62,6 +62,7 @@ same_accepted s law (command.Group n) s₁ s₂ a₁ a₂ told₁ told₂ none f
 same_accepted s law (command.Held t n) s₁ s₂ a₁ a₂ told₁ told₂ none free x y = absurd x
 same_accepted s law (command.Effective t n) s₁ s₂ a₁ a₂ told₁ told₂ none free x y = absurd x
 same_accepted s law (command.Forget r) s₁ s₂ a₁ a₂ told₁ told₂ none free x y = (x.0 ∙ sym y.0, x.1 ∙ sym y.1, x.2 ∙ sym y.2)
+same_accepted s law (command.Drop t n) s₁ s₂ a₁ a₂ told₁ told₂ none free x y = by_told s s₁ s₂ a₁ a₂ told₁ told₂ (told s) x.0 y.0 x.1 y.1 (x.2 ∙ sym y.2)
 same_accepted s law c s₁ s₂ a₁ a₂ told₁ told₂ none free x y = absurd (true≢false none)
 
 pub one_outcome : OneOutcome

@@ -17,11 +17,14 @@ use Rattle.gl_graph.specs.Refusals.{first_refusal}
 use Rattle.gl_steps.specs.Tests.{tests_of, refusal_of}
 use Rattle.gl_steps.specs.Promises.{is_of_rows, names, same_txn}
 use Rattle.gl_steps.proofs.Keeps.{Keeps}
-use Rattle.gl_steps.proofs.Made.{adopted_is, made_is, indexed_is, inserted_is}
+use Rattle.gl_steps.proofs.Made.{adopted_is, made_is, indexed_is, inserted_is, indexed_by_is}
 use Rattle.gl_steps.proofs.NotRefused.{txn_lives, nodes_live, differ, exclusive}
 use Rattle.gl_steps.proofs.GrantCommands.{lock_keeps, try_keeps, unlock_keeps, escalate_keeps, cancel_keeps, release_keeps, settle_keeps}
 use Rattle.gl_steps.proofs.GrantCommands.{begin_keeps, same_keeps}
 use Rattle.gl_steps.proofs.GraphCommands.{inner_keeps, file_keeps, index_keeps, insert_keeps, delete_keeps, rekey_keeps, move_keeps}
+use Rattle.gl_graph.specs.Graph.{shape_of}
+use Rattle.gl_steps.proofs.SchemaKeeps.{itself_locked}
+use Rattle.gl_steps.proofs.SchemaSteps.{drop_keeps, index_by_keeps}
 use Rattle.gl_steps.proofs.RowSteps.{adopt_keeps, forget_keeps}
 use Rattle.gl_graph.proofs.Unrefused.{test_fails, not_false, or_no}
 
@@ -90,6 +93,14 @@ module _ (s : State) (law : IsLawful s) (t : TxnId) (alive : lives s t ≡ true)
       finish ans.0 ans.2 (λ l. adopt_keeps s law t alive ans.0 l _ ans.1.0.key f keys.now (adopted_is s ans.0 ans.1.1 ans.1.4))
   accepted (command.Forget r) apart passed ans =
       finish ans.0 ans.2 (λ l. forget_keeps s law t alive ans.0 l _ r (not_false _ (test_fails _ no.BadParents passed.1.1.0)) ans.1.2)
+
+  accepted (command.Drop u n) apart passed ans =
+      finish ans.0 ans.2 (λ l. drop_keeps s law t alive ans.0 l _ u.slot n (other_slot u apart passed.1.0)
+      (not_false _ (test_fails _ no.BadParents passed.1.1.1.1.1.0)) (test_fails _ _ passed.1.1.1.1.1.1.1.0)
+      (itself_locked s u.slot n (shape_of s.graph n) (not_false _ (test_fails _ no.NeedExclusive passed.1.1.1.1.1.1.0))) ans.1.2)
+  accepted (command.IndexBy u ps f bs) apart passed ans =
+      finish ans.0 ans.2 (λ l. index_by_keeps s law t alive ans.0 l _ u.slot ans.1.0.key ps.now f bs.now ans.1.1.interval_keys
+      (other_slot u apart passed.1.1.0) (indexed_by_is s ans.0 u.slot ans.1.1 ans.1.4))
 
   -- each command, and a step that changes nothing
   pub step_keeps : (c : Command) → names t c ≡ false → Step s c a told' s' → Kept (is_of_rows c) s'

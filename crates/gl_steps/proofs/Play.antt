@@ -13,7 +13,7 @@ use Rattle.gl_graph.specs.Shapes.{Shape, Inner, File, Rec}
 use Rattle.gl_graph.specs.Graph.{Node, record_parents}
 use Rattle.gl_graph.specs.Changes.{born_index, rekeyed, rekeyed_parents, with_parents, without_node}
 use Rattle.gl_model.specs.State.{State, status_of, with_grant, with_graph}
-use Rattle.gl_model.specs.Calls.{accepted_once, begun, cancelled, deleted, free_slot, granted, unlocked, moved_to, raised, released, shed, wanted}
+use Rattle.gl_model.specs.Calls.{accepted_once, begun, cancelled, deleted, free_slot, granted, unlocked, moved_to, raised, released, shed, wanted, dropped}
 use Rattle.gl_model.specs.Calls.{covered_children, held_children}
 use Rattle.gl_model.specs.Tellings.{Told, told, told_but}
 use Rattle.gl_steps.specs.Tests.{refusal_of}
@@ -100,6 +100,12 @@ go s (command.Rekey t r i key) = done s (moved_to s r (rekeyed_parents s.graph r
 go s (command.Move t n ps) = done s (moved_to s n ps.now (with_parents s.graph n ps.now))
 go s (command.Adopt f keys) = (answer.Node (next_id s (free_key s)), [], adopted s (free_key s) f keys.now)
 go s (command.Forget r) = (answer.Done, [], with_graph s (without_node s.graph r))
+go s (command.Drop t n) = done s (dropped s n)
+go s (command.IndexBy t ps f bs) = (
+  answer.Node (next_id s (free_key s)),
+  [],
+  with_grant (with_graph s (born_index s.graph (free_key s) ps.now f bs.now (interval_keys s bs.now))) t.slot (next_id s (free_key s)) X,
+)
 go s c = (answer.Done, [], s)
 
 -- the command is counted

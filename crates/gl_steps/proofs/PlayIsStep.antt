@@ -12,7 +12,9 @@ use Rattle.gl_modes.specs.declared.refusal.Refusal.TheVariants as no
 use Rattle.gl_steps.specs.declared.command.Command.{Command}
 use Rattle.gl_steps.specs.declared.command.Command.TheVariants as command
 use Rattle.gl_graph.specs.Graph.{Graph, Node, IsFreeKey, node_at}
-use Rattle.gl_graph.specs.Changes.{are_apart}
+use Rattle.gl_modes.specs.declared.node.NodeId.{NodeId}
+use Rattle.gl_graph.specs.Changes.{are_apart, born_index, IsIndexBorn}
+use Rattle.gl_steps.proofs.Made.{next_id}
 use Rattle.gl_graph.specs.Lawful.{IsLawfulGraph}
 use Rattle.gl_model.specs.State.{State, Txn, slots}
 use Rattle.gl_model.specs.Lawful.{IsLawful}
@@ -100,29 +102,22 @@ module _ (s : State) (law : IsLawful s) where
       (or_elim (free_key s == k) _ e (λ y. let same = same_number (free_key s) k y in omega arith)
       (λ y. let low = in_range k (free_key s + 1) (length bs + 1) y in omega arith))
 
+  index_is_born : (ps : List NodeId) (f : NodeId) (bs : List ℕ)
+      → IsIndexBorn s.graph (born_index s.graph (free_key s) ps f bs (interval_keys s bs)) (next_id s (free_key s)) ps f bs
+  index_is_born ps f bs = record {
+    interval_keys = interval_keys s bs;
+    intervals = length-range_with_len (free_key s + 1) (length bs + 1);
+    keys_apart = keys_apart bs;
+    keys_free = keys_free bs;
+    birth = refl;
+    after = refl;
+  }
+
   goes : (c : Command) (r : Option Refusal) → refusal_of s c ≡ r → Goes s c r (tested s c r).0 (tested s c r).1 (tested s c r).2
   goes c (Some r) e = record { answer_is = refl; nobody_told = refl; same = refl }
   goes (command.Inner ps) None e = (_, (_, record { key_free = key_free; birth = refl; after = refl }, refl, refl, refl), refl)
   goes (command.File ps) None e = (_, (_, record { key_free = key_free; birth = refl; after = refl }, refl, refl, refl), refl)
-  goes (command.Index ps f bs) None e = (
-    _,
-    (
-      _,
-      record {
-        interval_keys = interval_keys s bs.now;
-        intervals = length-range_with_len (free_key s + 1) (length bs.now + 1);
-        keys_apart =
-            keys_apart bs.now;
-        keys_free = keys_free bs.now;
-        birth = refl;
-        after = refl;
-      },
-      refl,
-      refl,
-      refl,
-    ),
-    refl,
-  )
+  goes (command.Index ps f bs) None e = (_, (_, index_is_born ps.now f bs.now, refl, refl, refl), refl)
   goes command.Begin None e = (_, (_, begins e, refl, refl, refl), refl)
   goes (command.Lock t n m) None e = (_, (locks_some s law t n m (may_lock s t n m (worn s) [] e).0, refl, refl), refl)
   goes (command.Try t n m) None e = (_, (refl, refl, refl), refl)
@@ -141,6 +136,8 @@ module _ (s : State) (law : IsLawful s) where
   goes (command.Effective t n) None e = record { answer_is = refl; nobody_told = refl; same = refl }
   goes (command.Adopt f keys) None e = (_, (_, record { key_free = key_free; birth = refl; after = refl }, refl, refl, refl), refl)
   goes (command.Forget r) None e = (_, (refl, refl, refl), refl)
+  goes (command.Drop t n) None e = (_, (refl, refl, refl), refl)
+  goes (command.IndexBy t ps f bs) None e = (_, (_, index_is_born ps.now f bs.now, refl, refl, refl), refl)
 
   -- whatever the command
   pub play_steps : (c : Command) → Step s c (play s c).0 (play s c).1 (play s c).2

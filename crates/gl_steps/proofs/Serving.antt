@@ -46,6 +46,8 @@ not_refused s (command.Held t n) a told s' acc = absurd acc
 not_refused s (command.Effective t n) a told s' acc = absurd acc
 not_refused s (command.Adopt f keys) a told s' acc = ap is_refused acc.2
 not_refused s (command.Forget r) a told s' acc = ap is_refused acc.0
+not_refused s (command.Drop t n) a told s' acc = ap is_refused acc.0
+not_refused s (command.IndexBy t ps f bs) a told s' acc = ap is_refused acc.2
 
 -- exactly the queries have an answer of their own
 is_some_query : (s : State) (c : Command) (q : Answer) → query_answer s c ≡ Some q → is_query c ≡ true
@@ -70,6 +72,8 @@ is_some_query s (command.Abort t) q e = absurd (cc e)
 is_some_query s (command.Settle t) q e = absurd (cc e)
 is_some_query s (command.Adopt f keys) q e = absurd (cc e)
 is_some_query s (command.Forget r) q e = absurd (cc e)
+is_some_query s (command.Drop t n) q e = absurd (cc e)
+is_some_query s (command.IndexBy t ps f bs) q e = absurd (cc e)
 
 no_query : (s : State) (c : Command) → query_answer s c ≡ None → is_query c ≡ false
 no_query s (command.Group n) e = absurd (cc e)
@@ -93,6 +97,8 @@ no_query s (command.Abort t) e = refl
 no_query s (command.Settle t) e = refl
 no_query s (command.Adopt f keys) e = refl
 no_query s (command.Forget r) e = refl
+no_query s (command.Drop t n) e = refl
+no_query s (command.IndexBy t ps f bs) e = refl
 
 and_false : (a : Bool) → (a && false) ≡ false
 and_false true = refl

@@ -29,6 +29,8 @@ use Rattle.gl_model.proofs.law.Records.{deleted-no_cycle}
 use Rattle.gl_model.proofs.law.Lock.{may_lock}
 use Rattle.gl_model.proofs.law.Lock.{begun-no_cycle, granted-no_cycle, locks-no_cycle, unlocked-no_cycle, shed-no_cycle, given_up-no_cycle}
 use Rattle.gl_model.proofs.law.Lock.{released-no_cycle, settled-no_cycle}
+use Rattle.gl_model.proofs.law.Schema.{dropped-no_cycle}
+use Rattle.gl_steps.proofs.SchemaKeeps.{may_index}
 use Rattle.gl_steps.proofs.EachStep.{each_step}
 use Rattle.gl_steps.proofs.Detection.{steps_keep_detect}
 use Rattle.gl_steps.proofs.StepsKeepLaw.{steps_keep_law}
@@ -76,6 +78,9 @@ accepts-no_cycle s (command.Held t n) a told' s' at law none h acc = absurd acc
 accepts-no_cycle s (command.Effective t n) a told' s' at law none h acc = absurd acc
 accepts-no_cycle s (command.Adopt f keys) a told' s' at law none h acc = subst HasNoCycle (sym acc.4) none
 accepts-no_cycle s (command.Forget r) a told' s' at law none h acc = subst HasNoCycle (sym acc.2) none
+accepts-no_cycle s (command.Drop t n) a told' s' at law none h acc = subst HasNoCycle (sym acc.2) (dropped-no_cycle s n none)
+accepts-no_cycle s (command.IndexBy t ps f bs) a told' s' at law none h acc =
+    subst HasNoCycle (sym acc.4) (granted-no_cycle (with_graph s s'.graph) t.slot acc.0 X (may_index s t ps f bs h).active none)
 
 -- no cycle after each step, of any command
 pub steps_keep_no_cycle : (s s' : State) (c : Command) (a : Answer) (told' : Told) → s.detect ≡ AtBlock → IsLawful s → HasNoCycle s

@@ -13,6 +13,7 @@ use Rattle.gl_steps.proofs.LockCommands.{settle_keeps}
 use Rattle.gl_steps.proofs.MakeKeeps.{inner_keeps, file_keeps, index_keeps, insert_keeps}
 use Rattle.gl_steps.proofs.DeleteKeeps.{delete_keeps}
 use Rattle.gl_steps.proofs.MoveCommands.{move_keeps, rekey_keeps}
+use Rattle.gl_steps.proofs.SchemaKeeps.{drop_keeps_law, index_by_keeps_law}
 use Rattle.gl_steps.proofs.RowKeeps.{adopt_keeps, forget_keeps}
 
 -- no query is ever accepted: it is answered
@@ -38,6 +39,8 @@ accepted_keeps (command.Held t n) = λ s s' a told law free acc. absurd acc
 accepted_keeps (command.Effective t n) = λ s s' a told law free acc. absurd acc
 accepted_keeps (command.Adopt f keys) = adopt_keeps f keys
 accepted_keeps (command.Forget r) = forget_keeps r
+accepted_keeps (command.Drop t n) = drop_keeps_law t n
+accepted_keeps (command.IndexBy t ps f bs) = index_by_keeps_law t ps f bs
 
 pub steps_keep_law : StepsKeepLaw
 steps_keep_law s s' c a told law step =

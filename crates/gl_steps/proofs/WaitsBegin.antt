@@ -23,7 +23,8 @@ use Rattle.gl_steps.specs.declared.command.Command.TheVariants as command
 use Rattle.gl_steps.specs.Promises.{BeginsWaits, NobodyWaits}
 use Rattle.gl_steps.specs.Step.{Accepts, Step, lock_answer}
 use Rattle.gl_steps.proofs.EachStep.{each_step}
-use Rattle.gl_steps.proofs.LivesOn.{GoesOn, freed_on, over_goes_on, pumped_goes_on, settled_goes_on, unless_on, wait_settles_goes_on, woken_on}
+use Rattle.gl_model.specs.Calls.{goes_with}
+use Rattle.gl_steps.proofs.LivesOn.{GoesOn, freed_on, over_goes_on, pumped_goes_on, settled_goes_on, unless_on, wait_settles_goes_on, woken_on, freed_among_on}
 
 -- after the step, t waits on n for m
 module _ (s : State) (t : ℕ) (n : NodeId) (m : Mode) (a : Answer) where
@@ -93,6 +94,8 @@ module _ (s : State) (t : ℕ) (n : NodeId) (m : Mode) (a : Answer) where
     accepted (command.Effective u q) acc = absurd acc
     accepted (command.Adopt f ks) acc = same _ acc.4 refl
     accepted (command.Forget r) acc = same _ acc.2 refl
+    accepted (command.Drop u x) acc = on _ acc.2 (freed_among_on (goes_with s.graph x) (s.txns t))
+    accepted (command.IndexBy u ps f bs) acc = same _ acc.4 refl
 
 pub begins_waits : BeginsWaits
 begins_waits s s' c a list t n m step =

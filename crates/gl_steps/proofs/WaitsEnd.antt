@@ -33,7 +33,8 @@ use Rattle.gl_steps.specs.Step.{Accepts}
 use Rattle.gl_steps.specs.Tests.{tests_of}
 use Rattle.gl_steps.proofs.EachStep.{each_step}
 use Rattle.gl_steps.proofs.GrantCommands.{free_differs}
-use Rattle.gl_steps.proofs.LivesOn.{GoesOn, LivesOn, freed_on, lives_on_same, lives_on_trans, over_goes_on, pumped_goes_on, settled_goes_on}
+use Rattle.gl_model.specs.Calls.{goes_with}
+use Rattle.gl_steps.proofs.LivesOn.{GoesOn, LivesOn, freed_on, lives_on_same, lives_on_trans, over_goes_on, pumped_goes_on, settled_goes_on, freed_among_on}
 use Rattle.gl_steps.proofs.LivesOn.{unless_on, wait_settles_goes_on, woken_on}
 use Rattle.gl_steps.proofs.NotRefused.{differ, txn_lives}
 use Rattle.gl_steps.proofs.OneStep.{AllNone, all_none}
@@ -179,6 +180,9 @@ module _ (s : State) (law : IsLawful s) (t : TxnId) (alive : lives s t ≡ true)
     accepted (command.Effective u q) passed acc = absurd acc
     accepted (command.Adopt f ks) passed acc = unmoved _ acc.4 refl (command.Adopt f ks)
     accepted (command.Forget r) passed acc = unmoved _ acc.2 refl (command.Forget r)
+    accepted (command.Drop u x) passed acc =
+        all_told (command.Drop u x) acc.1 (on_is _ acc.2 (freed_among_on (goes_with s.graph x) (s.txns t.slot)))
+    accepted (command.IndexBy u ps f bs) passed acc = unmoved _ acc.4 refl (command.IndexBy u ps f bs)
 
 pub ends_waits : EndsWaits
 ends_waits s s' c a list t n law step begin over =

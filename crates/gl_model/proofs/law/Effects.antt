@@ -161,7 +161,7 @@ module _ (g : Graph) (ht hu : NodeId → Mode) (fit : (n : NodeId) → are_compa
     (rule_t : (n : NodeId) → is_at_least (ht n) IS ≡ true → intends_over ht (parents_of g n) (ht n) ≡ true)
     (rule_u : (n : NodeId) → is_at_least (hu n) IS ≡ true → intends_over hu (parents_of g n) (hu n) ≡ true) where
   -- under an effective X of t, u holds nothing
-  none_held : (k : ℕ) (n : NodeId) → eff_x k g ht n ≡ true → is_at_least (hu n) IS ≡ true → ⊥
+  pub none_held : (k : ℕ) (n : NodeId) → eff_x k g ht n ≡ true → is_at_least (hu n) IS ≡ true → ⊥
   none_held zero n x held = x_blocks _ _ x held (fit n)
   none_held (suc k) n x held =
       or_elim _ _ x (λ here. x_blocks _ _ here held (fit n)) (λ up.

@@ -1,0 +1,163 @@
+-- A schema changes under the lock of another: nodes are dropped, and an index is made that its maker holds. What it leaves to a holder t.
+use Rattle.std.specs.Prelude.{◌≡◌, ◌≢◌, ℕ, ◌≤◌, Bool, true, false, not, ◌&&◌, ◌||◌, List, [], ◌∷◌, Option, Some, None, is_some, if◌then◌else◌}
+use Rattle.std.specs.List.{list_all, list_any}
+use Rattle.std.proofs.Common.{refl, sym, ap, ap₂, subst, ◌∙◌, arith, rules}
+use Rattle.std.proofs.Math.Path.{fun_ext}
+use Rattle.gl_modes.proofs.Words.{and_both, clash, no, not_true, or_elim, split}
+use Rattle.gl_modes.proofs.NodeLemmas.{same_node-equal}
+use Rattle.gl_modes.specs.declared.mode.Mode.{Mode}
+use Rattle.gl_modes.specs.declared.mode.Mode.TheVariants.{IS, NL, X}
+use Rattle.gl_modes.specs.declared.node.NodeId.{NodeId}
+use Rattle.gl_modes.specs.Modes.{is_at_least, same_mode}
+use Rattle.gl_modes.specs.Nodes.{same_node}
+use Rattle.gl_graph.specs.Changes.{IsIndexBorn, born_index, interval_nodes, without_branch}
+use Rattle.gl_graph.specs.Graph.{Graph, Node, is_child, is_live, node_at, node_count, parents_in, parents_of, shape_in, shape_of, with_key}
+use Rattle.gl_graph.specs.Lawful.{HasShape, IsLawfulGraph}
+use Rattle.gl_graph.specs.Refusals.{is_in_use}
+use Rattle.gl_graph.specs.Routes.{IsRoute}
+use Rattle.gl_graph.specs.Shapes.{File, Index, Inner, Interval, Rec, Shape, is_movable_shape}
+use Rattle.gl_graph.proofs.Branch.{at_beside, at_gone, children_are, gone, is_interval_shape, left_is, left_live, left_was_live, live}
+use Rattle.gl_model.specs.declared.txn.TxnId.{TxnId}
+use Rattle.gl_model.specs.Calls.{accepted_once, dropped, freed_among, goes_with}
+use Rattle.gl_model.specs.Lawful.{EffX, IsLawful, eff_x, is_read}
+use Rattle.gl_model.specs.State.{State, Txn, live_by, lives, no_parents, with_grant, with_graph}
+use Rattle.gl_model.specs.Tellings.{Told}
+use Rattle.gl_model.proofs.law.Effects.{ReadOn, none_held}
+use Rattle.gl_model.proofs.law.Searches.{GraphStep}
+use Rattle.gl_model.proofs.telling.Follows.{SameGrants}
+use Rattle.gl_steps.proofs.GraphChanges.{beside_x, born_births, born_kinds, born_old, born_step, is_new, quiet_under, x_here, x_on_parents}
+use Rattle.gl_steps.proofs.GraphCommands.{plain_intervals}
+use Rattle.gl_steps.proofs.Keeps.{Keeps, keeps_graph}
+use Rattle.gl_steps.proofs.KeptKinds.{kind_same}
+use Rattle.gl_steps.proofs.Made.{next_id}
+use Rattle.gl_steps.proofs.OtherChanges.{with_grant_same}
+
+-- who waits for what goes lives on
+freed_among_lives : (goes : NodeId → Bool) (age : ℕ) (x : Option Txn) → live_by age (freed_among goes x) ≡ live_by age x
+freed_among_lives goes age None = refl
+freed_among_lives goes age (Some x) = refl
+
+-- a mode that is held is IS or greater
+at_least_is : (m : Mode) → not (same_mode m NL) ≡ true → is_at_least m IS ≡ true
+at_least_is m h = search rules
+
+unheld_is : (m : Mode) → not (same_mode m NL) ≡ false → m ≡ NL
+unheld_is m h = search rules
+
+-- the one parent of what goes with a node
+module _ (g : Graph) (law : IsLawfulGraph g) (n : NodeId) (movable : is_movable_shape (shape_of g n) ≡ true) (free : is_in_use g n ≡ false) where
+  only_parent : (q : NodeId) → is_child g n q ≡ true → parents_of g q ≡ n ∷ []
+  only_parent q c = by (node_at g q) refl (children_are g law n movable free q c).1 c
+    where
+      shaped : (sh : Shape) (ps : List NodeId) → HasShape g q sh ps → is_interval_shape (Some sh) ≡ true → list_any (same_node n) ps ≡ true → ps ≡ n ∷ []
+      shaped Inner ps h i l = absurd (no i)
+      shaped (File adopted) ps h i l = absurd (no i)
+      shaped (Index f bs) ps h i l = absurd (no i)
+      shaped (Interval place) ps h i l =
+          or_elim (same_node n h.0) false (sym (ap (list_any (same_node n)) h.1) ∙ l)
+          (λ here. h.1 ∙ ap (λ p. p ∷ []) (sym (same_node-equal n h.0 here))) (λ none. absurd (no none))
+      shaped (Rec keys) ps h i l = absurd (no i)
+
+      by : (o : Option Node) → node_at g q ≡ o → is_interval_shape (shape_in o) ≡ true → list_any (same_node n) (parents_in o) ≡ true
+          → parents_in o ≡ n ∷ []
+      by None e i l = absurd (no l)
+      by (Some x) e i l = shaped x.shape x.parents (law.well_formed q x e) i l
+
+module _ (s : State) (law : IsLawful s) (t : TxnId) (alive : lives s t ≡ true) (next : State) (law' : IsLawful (accepted_once next)) (told' : Told) where
+  abbrev Kept : Type 0
+  Kept = Keeps s (accepted_once next) t told' false
+
+  -- another holds X on what is dropped, so t has nothing there and reads nothing there
+  module _ (u : ℕ) (x : NodeId) (ne : u ≢ t.slot) (movable : is_movable_shape (shape_of s.graph x) ≡ true) (free : is_in_use s.graph x ≡ false)
+      (holds : same_mode (s.held u x) X ≡ true) (is : next ≡ dropped s x) where
+    graph : next.graph ≡ without_branch s.graph x
+    graph = ap (λ (y : State). y.graph) is
+
+    writes : (q : NodeId) → goes_with s.graph x q ≡ true → EffX s u q
+    writes q e =
+        or_elim (same_node x q) (is_child s.graph x q) e
+        (λ here. subst (EffX s u) (same_node-equal x q here) (x_here s u x holds))
+        (λ below.
+        let one = only_parent s.graph law.graph x movable free q below in
+        x_on_parents s law u q (child_lives (node_at s.graph q) below) (ap (λ ps. not (no_parents ps)) one)
+        (ap (list_all (λ p. same_mode (s.held u p) X)) one ∙ ap (λ b. b && true) holds))
+      where
+        child_lives : (o : Option Node) → list_any (same_node x) (parents_in o) ≡ true → is_some o ≡ true
+        child_lives None h = h
+        child_lives (Some n) h = refl
+
+    nothing : (q : NodeId) → goes_with s.graph x q ≡ true → s.held t.slot q ≡ NL
+    nothing q e =
+        unheld_is (s.held t.slot q) (not_true _ (λ h. none_held s.graph (s.held u) (s.held t.slot) (λ n. law.compatible u t.slot n ne)
+        (λ n k. law.grants_intend u n (held_is (s.held u n) k)) (λ n k. law.grants_intend t.slot n (held_is (s.held t.slot n) k))
+        (node_count s.graph) q (writes q e) (at_least_is (s.held t.slot q) h)))
+      where
+        held_is : (m : Mode) → is_at_least m IS ≡ true → not (same_mode m NL) ≡ true
+        held_is m h = search rules
+
+    same_grants : SameGrants s next t.slot
+    same_grants q =
+        ap (λ (y : State). y.held t.slot q) is
+        ∙ split (goes_with s.graph x q) (λ e. ap (λ b. if b then NL else s.held t.slot q) e ∙ sym (nothing q e))
+        (λ e. ap (λ b. if b then NL else s.held t.slot q) e)
+
+    stays : (c : NodeId) → goes_with s.graph x c ≡ false → node_at next.graph c ≡ node_at s.graph c
+    stays c e =
+        ap (λ g. node_at g c) graph
+        ∙ split (is_live (without_branch s.graph x) c) (λ on. left_is s.graph x c on)
+        (λ off. dead (node_at (without_branch s.graph x) c) off ∙ sym (dead (node_at s.graph c) (not_true (is_live s.graph c) (λ on.
+        clash (left_live s.graph x (live s.graph law.graph x movable free) c ∙ ap₂ (λ a b. a && not b) on e) off))))
+      where
+        dead : (o : Option Node) → is_some o ≡ false → o ≡ None
+        dead None h = refl
+        dead (Some n) h = absurd (no (sym h))
+
+    off_graph : (c : NodeId) → goes_with s.graph x c ≡ true → is_live next.graph c ≡ false
+    off_graph c e =
+        ap (λ g. is_live g c) graph ∙ left_live s.graph x (live s.graph law.graph x movable free) c
+        ∙ ap (λ b. is_live s.graph c && not b) e ∙ none (is_live s.graph c)
+      where
+        none : (b : Bool) → (b && false) ≡ false
+        none true = refl
+        none false = refl
+
+    unread : (c : NodeId) → goes_with s.graph x c ≡ true → ReadOn next.graph (s.held t.slot) c → ⊥
+    unread c e r = by r.1 r.2 r.3
+      where
+        by : (way : List NodeId) → IsRoute next.graph c way r.0 → is_read (s.held t.slot r.0) ≡ true → ⊥
+        by [] route read = no (sym (sym read ∙ ap (λ y. is_read (s.held t.slot y)) (sym route) ∙ ap is_read (nothing c e)))
+        by (p ∷ way) route read = clash (parent_there (node_at next.graph c) route.0) (off_graph c e)
+          where
+            parent_there : (o : Option Node) → list_any (same_node p) (parents_in o) ≡ true → is_some o ≡ true
+            parent_there None h = h
+            parent_there (Some n) h = refl
+
+    step : GraphStep s.graph next.graph (s.held t.slot) (goes_with s.graph x)
+    step = record {
+      same = stays;
+      before = λ c e r. quiet_under s law u t.slot ne c (writes c e) r;
+      after = λ c e _ r. unread c e r;
+      after_record = λ c e _ r. unread c e r;
+    }
+
+    pub drop_keeps : Kept
+    drop_keeps =
+        keeps_graph s (accepted_once next) t told' (goes_with s.graph x) law law'
+        (ap (λ (y : State). live_by t.age (y.txns t.slot)) is ∙ freed_among_lives (goes_with s.graph x) t.age (s.txns t.slot) ∙ alive)
+        (let e : next.graph.births ≡ s.graph.births = ap (λ (g : Graph). g.births) graph in omega arith)
+        (λ n _ on. left_was_live s.graph x n (sym (ap (λ g. is_live g n) graph) ∙ on))
+        (λ n _ on. kind_same (node_at s.graph n) (node_at next.graph n) (ap (λ g. node_at g n) graph
+        ∙ left_is s.graph x n (sym (ap (λ g. is_live g n) graph) ∙ on)))
+        same_grants step
+
+  -- a new index, which another holds in X
+  pub index_by_keeps : (u key : ℕ) (ps : List NodeId) (f : NodeId) (bs keys : List ℕ) → u ≢ t.slot
+      → next ≡ with_grant (with_graph s (born_index s.graph key ps f bs keys)) u (next_id s key) X → Kept
+  index_by_keeps u key ps f bs keys ne is =
+      let ns : List Node = record { key = key; shape = Index f bs; parents = ps } ∷ interval_nodes (next_id s key) 0 keys in
+      let graph = ap (λ (y : State). y.graph) is in
+      keeps_graph s (accepted_once next) t told' (is_new s.graph) law law' (ap (λ (y : State). live_by t.age (y.txns t.slot)) is ∙ alive)
+      (born_births s (accepted_once next) law ns graph) (born_old s (accepted_once next) law ns graph)
+      (born_kinds s (accepted_once next) law ns graph)
+      (λ q. ap (λ (y : State). y.held t.slot q) is ∙ with_grant_same (with_graph s (born_index s.graph key ps f bs keys)) u t.slot (next_id s key) X ne q)
+      (born_step s (accepted_once next) law ns graph t.slot (plain_intervals (next_id s key) 0 keys))
