@@ -149,6 +149,7 @@ impl Graph {
     ) -> Result<NodeId, Refusal>
         requires { reindex_refusal (graph_of self.old) parents.now file bounds.now ≡ None }
         ensures made { IfOk result (λ n. IsIndexBorn (graph_of self.old) (graph_of self.new) n parents.now file bounds.now) }
+        ensures key { IfOk result (λ n. n.key ≡ self.old.next_key) }
         ensures memory { IfErr result (λ r. r ≡ Refusal.NoMemory) }
         ensures err { OnErr result (self.new ≡ self.old) }
     {
