@@ -71,7 +71,7 @@ pub use Rattle.gl_waits.specs.Victims.{IsCandidate}
 pub use Rattle.gl_waits.specs.Waits.{IsLowestYoungest, IsOnCycleOf, IsOnNoCycle, IsWalk, IsYoungest, Reaches}
 pub use Rattle.gl_waits.specs.declared.board.Board.{Board}
 pub use Rattle.gl_waits.specs.declared.victims.Victims.{Victims}
-pub use Rattle.gl_model.specs.Calls.{answered, asked_at, bad_mode, begin_tests, begun, cancelled, child_held, commit_tests, covered_children, deleted}
+pub use Rattle.gl_model.specs.Calls.{answered, asked_at, bad_mode, begin_tests, begun, cancelled, child_held, commit_tests, covered_children, deleted, departed}
 pub use Rattle.gl_model.specs.Calls.{enqueued, enters_at, first_not_ix, first_of_all, free_slot, freed, freed_unless, granted, held_child, held_children}
 pub use Rattle.gl_model.specs.Calls.{holds_child, is_covered, is_idle, lock_tests, locked_as, moved_to, need_exclusive, need_new_parents, need_parents}
 pub use Rattle.gl_model.specs.Calls.{none_but, not_held, RefusesOnly, released, rule_refusal, shed, some_given, stays, too_many_txns, try_tests, unlock_tests}

@@ -1,7 +1,7 @@
--- A record goes with its locks: the lists agree. For removed records.
+-- The locks on a node go: the lists agree. For nodes that are taken away.
 use Rattle.gl_slots.specs.Limit.{most_slots}
 use Rattle.gl_table.proofs.Words.{[], ◌&&◌, ◌+◌, ◌<◌, ◌==◌, ◌||◌, ◌∙◌, ◌≡◌, ◌≤◌, Active, Agrees, and-false, and_both, ap, ap₂, arith, as_left, Bool, CanEnd}
-use Rattle.gl_table.proofs.Words.{CanStrike, children_that, clash, cond, count_by, count_none, count_same, count_there, counted_by, CountsHeld, deleted, false}
+use Rattle.gl_table.proofs.Words.{CanStrike, children_that, clash, cond, count_by, count_none, count_same, count_there, counted_by, CountsHeld, departed, false}
 use Rattle.gl_table.proofs.Words.{freed, fun_ext, Graph, held_children, holds, if◌then◌else◌, is_among_waiters, is_child, is_live, is_record_shape, is_wait}
 use Rattle.gl_table.proofs.Words.{is_waiting_at, IsBySlot, IsLawfulGraph, IsOrderly, IsWritten, length, List, list_any, live_node, LockList, members, Mode}
 use Rattle.gl_table.proofs.Words.{nat_tests, NL, node_at, NodeId, nodes, nodes_live, None, not, not_true, notices_in, number_same, Option, parent_plain}
@@ -39,12 +39,13 @@ freed_here : (r : NodeId) (x : Option Txn) → waits_at (status_in x) r ≡ true
 freed_here r None h = clash h refl
 freed_here r (Some x) h = grind (arith, nat_tests)
 
--- the slot alone holds the record, and the lists say what the state says
+-- the slot alone holds the node, nobody holds a child of it, and the lists say what the state says
 pub record MayVacate (s : State) (t : ℕ) (r : NodeId) (ls : List LockList) : Type 0 where
   pub orderly : IsOrderly s
   pub law : IsLawfulGraph s.graph
   pub active : status_of s t ≡ Some Active
-  pub rec : is_record_shape (shape_of s.graph r) ≡ true
+  pub live : is_live s.graph r ≡ true
+  pub childless : (u : ℕ) → held_children s u r ≡ 0
   pub holding : holds (members s r) t ≡ true
   pub alone : (u : ℕ) → (u == t) ≡ false → s.held u r ≡ NL
   pub agree : (u : ℕ) → Agrees s ls u
@@ -52,32 +53,30 @@ pub record MayVacate (s : State) (t : ℕ) (r : NodeId) (ls : List LockList) : T
 
 module _ {s : State} {t : ℕ} {r : NodeId} {ls : List LockList} (may : MayVacate s t r ls) where
   abbrev after : State
-  after = deleted s r
+  after = departed s (λ q. same_node q r) s.graph
 
   held_other : (u : ℕ) (q : NodeId) → same_node q r ≡ false → after.held u q ≡ s.held u q
   held_other u q e = ap (λ b. if b then NL else s.held u q) e
 
-  -- nobody holds the record any more
+  -- nobody holds the node any more
   gone : (u : ℕ) → holds (members after r) u ≡ false
   gone u = ap (λ b. not (same_mode (if b then NL else s.held u r) NL)) (same_node-refl r)
 
   -- each parent has one child less that the slot holds
   less : (p : NodeId) → held_children after t p + count_by (same_node p) (parents_of s.graph r) ≡ held_children s t p
-  less p = ap (λ (k : ℕ). k + count_by (same_node p) (parents_of s.graph r))
-      (children-left s.graph may.law r may.rec (λ c. holds (members after c) t) (gone t) p)
-      ∙ children_down s.graph may.law (λ c. holds (members s c) t) (λ c. holds (members after c) t) r (rec_live s.graph may.law r may.rec) may.holding (gone t)
+  less p =
+      children_down s.graph may.law (λ c. holds (members s c) t) (λ c. holds (members after c) t) r may.live may.holding (gone t)
       (λ q e. ap (λ m. not (same_mode m NL)) (held_other t q e)) p
 
   -- and the children that others hold are those that they held
   others : (u : ℕ) → (u == t) ≡ false → (p : NodeId) → held_children after u p ≡ held_children s u p
-  others u e p = children-left s.graph may.law r may.rec (λ c. holds (members after c) u) (gone u) p
-      ∙ ap (λ f. children_that s.graph f p) (fun_ext (λ q. ap (λ m. not (same_mode m NL)) (split (same_node q r)
+  others u e p = ap (λ f. children_that s.graph f p) (fun_ext (λ q. ap (λ m. not (same_mode m NL)) (split (same_node q r)
       (λ k. if-true _ k ∙ sym (ap (s.held u) (same_node-equal q r k) ∙ may.alone u e)) (λ k. held_other u q k))))
 
   pub can_strike : t < length ls → CanStrike ls t r (parents_of s.graph r)
   can_strike lt = record {
     slot = lt;
-    childless = may.count t r ∙ record-childless s.graph may.law r may.rec (λ c. holds (members s c) t);
+    childless = may.count t r ∙ may.childless t;
     some = λ q. subst (λ (k : ℕ). count_by (same_node q) (parents_of s.graph r) ≤ k) (sym (may.count t q)) (let l = less q in omega arith);
   }
 
@@ -100,7 +99,7 @@ module _ {s : State} {t : ℕ} {r : NodeId} {ls : List LockList} (may : MayVacat
 
     pub waiter_childless : (u : ℕ) → is_among_waiters u (s.queue r) ≡ true → counted_by mid u r ≡ 0
     waiter_childless u h = none_more (counted_by mid u r) ∙ ap (λ b. counted_by mid u r + (if b then count_by (same_node r) (parents_of s.graph r) else 0))
-        (sym (waiter_other u h)) ∙ struck.counts u r ∙ may.count u r ∙ record-childless s.graph may.law r may.rec (λ c. holds (members s c) u)
+        (sym (waiter_other u h)) ∙ struck.counts u r ∙ may.count u r ∙ may.childless u
 
     -- once it is struck from its holder's list nobody's list holds it
     struck_agrees : (u : ℕ) → Agrees (with_grant s t r NL) mid u

@@ -2,17 +2,16 @@
 
 ghost use Rattle.gl_slots.specs.Limit.{most_slots};
 ghost use Rattle.std.specs.Prelude.{◌≡◌, ◌≢◌, ◌<◌, ◌==◌, ℕ, [], IfErr, IfOk, None, OnOk, Some, false, length, true};
+ghost use Rattle.gl_modes.specs.Nodes.{same_node};
 ghost use Rattle.gl_modes.specs.declared.mode.Mode.TheVariants.{NL};
 ghost use Rattle.gl_modes.specs.declared.refusal.Refusal.{Refusal as ARefusal};
-ghost use Rattle.gl_graph.specs.Changes.{without_node};
-ghost use Rattle.gl_graph.specs.Graph.{is_live, shape_of};
-ghost use Rattle.gl_graph.specs.Shapes.{is_record_shape};
+ghost use Rattle.gl_graph.specs.Graph.{is_live};
 ghost use Rattle.gl_graph.specs.View.{graph_of};
 ghost use Rattle.gl_header.specs.Header.{holds, is_among_waiters};
-ghost use Rattle.gl_model.specs.Calls.{deleted};
+ghost use Rattle.gl_model.specs.Calls.{departed, held_children};
 ghost use Rattle.gl_table.specs.inside.Slots.{CanEnd, CanTell, HasRoomAt, WaitsEnd, as_left, books_of, counted_by};
 ghost use Rattle.gl_model.specs.Tellings.{IsTold};
-ghost use Rattle.gl_table.specs.inside.Ledger.{Agrees, AreExact, AreSound, CountsHeld, KeepsLocks, state_in, state_on};
+ghost use Rattle.gl_table.specs.inside.Ledger.{Agrees, AreExact, AreSound, CountsHeld, KeepsLocks, state_in};
 ghost use Rattle.gl_model.specs.Lawful.{IsOrderly};
 ghost use Rattle.gl_header.specs.Headers.{IsOneHolder};
 ghost use Rattle.gl_model.specs.State.{members, status_of, with_grant};
@@ -51,29 +50,30 @@ fn free(
 }
 
 impl Ledger {
-    /// Takes all locks on a record away that an active slot holds and nobody else. Those who wait for
-    /// it are active again, and are told that it is gone.
-    pub(crate) fn vacate(&mut self, graph: &Graph, slot: Slot, rec: NodeId, told: &mut Told)
+    /// Takes all locks on a node away that an active slot holds and nobody else, and of which nobody holds a
+    /// child. Those who wait for it are active again, and are told that it is gone.
+    pub(crate) fn vacate(&mut self, graph: &Graph, slot: Slot, node: NodeId, told: &mut Told)
         requires exact { AreExact graph.now self.old }
         requires orderly { IsOrderly (state_in graph.now self.old) }
         requires active { status_of (state_in graph.now self.old) slot ≡ Some Active }
-        requires record { is_record_shape (shape_of (graph_of graph.now) rec) ≡ true }
-        requires holds { holds (members (state_in graph.now self.old) rec) slot ≡ true }
-        requires alone { (u : ℕ) → (u == slot) ≡ false → (state_in graph.now self.old).held u rec ≡ NL }
-        requires tell { CanTell told.old.items (λ u. is_among_waiters u ((state_in graph.now self.old).queue rec)) }
+        requires live { is_live (graph_of graph.now) node ≡ true }
+        requires childless { (u : ℕ) → held_children (state_in graph.now self.old) u node ≡ 0 }
+        requires holds { holds (members (state_in graph.now self.old) node) slot ≡ true }
+        requires alone { (u : ℕ) → (u == slot) ≡ false → (state_in graph.now self.old).held u node ≡ NL }
+        requires tell { CanTell told.old.items (λ u. is_among_waiters u ((state_in graph.now self.old).queue node)) }
+        ensures state { state_in graph.now self.new ≡ departed (state_in graph.now self.old) (λ q. same_node q node) (graph_of graph.now) }
         ensures sound { AreSound self.new }
-        ensures state { state_on (without_node (graph_of graph.now) rec) self.new ≡ deleted (state_in graph.now self.old) rec }
-        ensures agree { (u : ℕ) → Agrees (deleted (state_in graph.now self.old) rec) self.new.lists.items u }
-        ensures count { (u : ℕ) → CountsHeld (deleted (state_in graph.now self.old) rec) self.new.lists.items u }
-        ensures tells { IsTold (state_in graph.now self.old).txns (λ u. is_among_waiters u ((state_in graph.now self.old).queue rec))
+        ensures agree { (u : ℕ) → Agrees (departed (state_in graph.now self.old) (λ q. same_node q node) (graph_of graph.now)) self.new.lists.items u }
+        ensures count { (u : ℕ) → CountsHeld (departed (state_in graph.now self.old) (λ q. same_node q node) (graph_of graph.now)) self.new.lists.items u }
+        ensures tells { IsTold (state_in graph.now self.old).txns (λ u. is_among_waiters u ((state_in graph.now self.old).queue node))
             (λ u. notice.Gone) told.old.items told.new.items }
     {
         graph.law();
-        strike(&mut self.lists, slot, rec, graph.parents(rec));
-        let Some(header) = self.headers.take(rec) else {
+        strike(&mut self.lists, slot, node, graph.parents(node));
+        let Some(header) = self.headers.take(node) else {
             unreachable!()
         };
-        free(&mut self.seats, &mut self.lists, told, rec, header.queue());
+        free(&mut self.seats, &mut self.lists, told, node, header.queue());
     }
 
     /// Makes room for a node with this key that a slot comes to hold, and for the counts of its parents.

@@ -1,17 +1,18 @@
-use Rattle.gl_table.proofs.Words.{◌<◌, ◌∙◌, ◌≡◌, ap, as_left, books_of, CanEnd, CanStrike, deleted, fun_ext, graph_of, header_or_new, is_among_waiters, length}
-use Rattle.gl_table.proofs.Words.{List, NodeId, parents_of, queue_of, refl, State, state_in, Strikes, subst, sym, Waiter, WaitsEnd, ℕ}
+use Rattle.gl_table.proofs.Words.{◌<◌, ◌∙◌, ◌≡◌, ap, as_left, books_of, CanEnd, CanStrike, departed, fun_ext, graph_of, header_or_new, is_among_waiters, length}
+use Rattle.gl_table.proofs.Words.{List, NodeId, parents_of, same_node, queue_of, refl, State, state_in, Strikes, subst, sym, Waiter, WaitsEnd, ℕ}
 use Rattle.gl_model.specs.declared.answers.Notice.TheVariants as notice
 use Rattle.gl_table.proofs.inside.Vacated.{agrees_vacated, can_free, can_strike, counts_vacated, MayVacate, txns_freed, waiter_childless}
 use Rattle.gl_model.proofs.law.Keeps.{txn_there}
 use Rattle.gl_table.proofs.ledger.Ledger.vacate.Goals.{After-parents, After-queue, After-strike, Joined-header}
 use Rattle.gl_table.proofs.ledger.Ledger.vacate.Goals as goal
 
-may : (c : After-parents) → MayVacate (state_in c.args.graph.now c.args.self.now) c.args.slot c.args.rec c.args.self.now.lists.items
+may : (c : After-parents) → MayVacate (state_in c.args.graph.now c.args.self.now) c.args.slot c.args.node c.args.self.now.lists.items
 may c = record {
   orderly = c.requires.orderly;
   law = c.law.ensures.lawful;
   active = c.requires.active;
-  rec = c.requires.record;
+  live = c.requires.live;
+  childless = c.requires.childless;
   holding = c.requires.holds;
   alone = c.requires.alone;
   agree = c.requires.exact.agree;
@@ -27,17 +28,17 @@ pub strike-requires : goal.strike-requires
 strike-requires c =
     record {
       can =
-          subst (λ (ps : List NodeId). CanStrike c.args.self.now.lists.items c.args.slot c.args.rec ps) (sym c.parents.ensures) (can_strike
+          subst (λ (ps : List NodeId). CanStrike c.args.self.now.lists.items c.args.slot c.args.node ps) (sym c.parents.ensures) (can_strike
           (may (goal.at.strike-requires c).After-parents) (listed (goal.at.strike-requires c).After-parents));
     }
 
-struck : (c : After-strike) → Strikes c.args.self.now.lists.items c.strike.new.lists.items c.args.slot c.args.rec
-    (parents_of (graph_of c.args.graph.now) c.args.rec)
-struck c = subst (λ (ps : List NodeId). Strikes c.args.self.now.lists.items c.strike.new.lists.items c.args.slot c.args.rec ps) c.parents.ensures
+struck : (c : After-strike) → Strikes c.args.self.now.lists.items c.strike.new.lists.items c.args.slot c.args.node
+    (parents_of (graph_of c.args.graph.now) c.args.node)
+struck c = subst (λ (ps : List NodeId). Strikes c.args.self.now.lists.items c.strike.new.lists.items c.args.slot c.args.node ps) c.parents.ensures
     c.strike.ensures
 
 -- the waiters of the header that was taken are those of the record
-waiters : (c : After-queue) → c.queue.result.now ≡ queue_of c.args.self.now.headers.entries c.args.rec
+waiters : (c : After-queue) → c.queue.result.now ≡ queue_of c.args.self.now.headers.entries c.args.node
 waiters c = c.queue.ensures ∙ ap (λ o. (header_or_new o).queue) (sym c.in-Some.is ∙ c.take.ensures.taken)
 
 pub free-requires-clause-can : goal.free-requires-clause-can
@@ -53,12 +54,12 @@ free-requires-clause-childless c =
     let at = goal.at.free-requires-clause-childless c in
     λ u h. waiter_childless (may at.After-parents) (struck at.After-strike) u (ap (is_among_waiters u) (sym (waiters at.After-queue)) ∙ h)
 
-freed : (c : Joined-header) → c.queue.result.now ≡ queue_of c.args.self.now.headers.entries c.args.rec
-    → WaitsEnd (books_of c.args.self.now.seats c.strike.new.lists.items c.args.told.now.items) c.args.rec
-    (λ u. is_among_waiters u (queue_of c.args.self.now.headers.entries c.args.rec)) as_left (λ u. notice.Gone)
+freed : (c : Joined-header) → c.queue.result.now ≡ queue_of c.args.self.now.headers.entries c.args.node
+    → WaitsEnd (books_of c.args.self.now.seats c.strike.new.lists.items c.args.told.now.items) c.args.node
+    (λ u. is_among_waiters u (queue_of c.args.self.now.headers.entries c.args.node)) as_left (λ u. notice.Gone)
     (books_of c.free.new.seats c.free.new.lists.items c.free.new.told.items)
 freed c is =
-    subst (λ (ws : List Waiter). WaitsEnd (books_of c.args.self.now.seats c.strike.new.lists.items c.args.told.now.items) c.args.rec
+    subst (λ (ws : List Waiter). WaitsEnd (books_of c.args.self.now.seats c.strike.new.lists.items c.args.told.now.items) c.args.node
     (λ u. is_among_waiters u ws) as_left (λ u. notice.Gone) (books_of c.free.new.seats c.free.new.lists.items c.free.new.told.items)) is c.free.ensures
 
 pub returns-clause-state : goal.returns-clause-state
@@ -66,7 +67,7 @@ returns-clause-state c =
     let at = goal.at.returns-clause-state c in
     let s : State = state_in c.args.graph.now c.args.self.now in
     let all = freed c (waiters at.After-queue) in
-    λ i. record (deleted s c.args.rec) {
+    λ i. record (departed s (λ q. same_node q c.args.node) s.graph) {
       txns = fun_ext (λ u. all.txns u ∙ txns_freed (may at.After-parents) u) i;
       held = c.take.ensures.held i;
       queue = c.take.ensures.queue i;
