@@ -6,7 +6,7 @@ ghost use Rattle.gl_modes.specs.declared.mode.Mode.TheVariants.{NL};
 ghost use Rattle.gl_modes.specs.Modes.{are_compatible};
 ghost use Rattle.gl_slots.specs.Slots.{has_slot};
 ghost use Rattle.gl_header.specs.Answers.{asked, asked_members, asked_queue, tried};
-ghost use Rattle.gl_header.specs.Groups.{group_mode};
+ghost use Rattle.gl_header.specs.Groups.{mode_of_all};
 ghost use Rattle.gl_header.specs.Header.{
   enters,
   front,
@@ -105,7 +105,7 @@ impl Header {
 
     /// The group mode: the supremum of the members' modes, `NL` where nobody holds the node.
     pub fn group(&self) -> Mode
-        ensures kept { result ≡ group_mode self.now.granted }
+        ensures kept { result ≡ mode_of_all self.now.granted }
         ensures supremum { result ≡ group_of slot_limit (members_of self.now) }
     {
         self.granted.supremum()

@@ -12,7 +12,7 @@ use Rattle.gl_header.proofs.header.Header.ask_first.Goals as goal
 -- nobody used the header
 module _ (c : goal.After-self-1) where
   law : IsLawfulHeader (state_of c.self.inside)
-  law = lawful (state_of c.self.inside) c.self.invariant.group c.self.invariant.lawful
+  law = lawful c.self.inside.granted c.self.inside.queue.items c.self.invariant.group c.self.invariant.lawful
 
   unused : is_unused (state_of c.self.inside) ≡ true
   unused = ap is_unused c.self.view_is ∙ c.requires.unused
@@ -41,4 +41,4 @@ returns-clause-queue c =
     first-queue _ (law c) (unused c) c.args.slot c.args.mode ∙ ap (λ (h : HeaderState). asked_queue h c.args.slot c.args.mode) c.self.view_is
 
 pub returns-clause-lawful : goal.returns-clause-lawful
-returns-clause-lawful c = lawful _ c.of-self-inside.ensures.group (stays_lawful c)
+returns-clause-lawful c = lawful _ _ c.of-self-inside.ensures.group (stays_lawful c)
