@@ -7,7 +7,6 @@ use Rattle.gl_modes.specs.declared.mode.Mode.{Mode}
 use Rattle.gl_modes.specs.declared.mode.Mode.TheVariants.{NL}
 use Rattle.gl_modes.proofs.ModeLemmas.{supremum-above, supremum-not_NL, not_NL}
 use Rattle.gl_header.specs.Header.{Members, Waiter, fits, holds, is_among_waiters, is_empty, placed, with_mode}
-use Rattle.gl_header.specs.Groups.{held_by}
 use Rattle.gl_header.specs.State.{HeaderState, is_granted, members_of, slot_limit, wanted}
 use Rattle.gl_header.specs.Answers.{asked_queue}
 use Rattle.gl_header.specs.Sound.{IsOrderly, IsLawful, is_entry, placed_in}
