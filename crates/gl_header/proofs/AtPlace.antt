@@ -11,7 +11,8 @@ use Rattle.gl_modes.specs.Nodes.{same_node}
 use Rattle.gl_modes.proofs.NodeLemmas.{same_node-equal, same_node-sym}
 use Rattle.gl_modes.proofs.Words.{cases_of, no, none_some, number_same, some_is}
 use Rattle.gl_header.specs.Header.{Members, Waiter, holds, is_among_waiters}
-use Rattle.gl_header.specs.Headers.{HasItsKey, HeadersState, Entries, IsFreeKey, header_at, header_or_new, held_of, members_at, queue_of, with_members, with_waiters}
+use Rattle.gl_header.specs.Headers.{Entries, HasItsKey, HeadersState, IsFreeKey, header_at, header_or_new, held_of, members_at, queue_of}
+use Rattle.gl_header.specs.Headers.{IsFreeKey, header_at, header_or_new, held_of, members_at, queue_of, with_members, with_waiters}
 use Rattle.gl_header.specs.Places.{ArePlaces, IsAskedPlace, IsOf, IsPlace, entries_in, header_in, header_of, members_by, place_at, queue_by, stands}
 use Rattle.gl_header.specs.State.{HeaderState, IsLawfulHeader, is_unused, members_of, unused_header}
 use Rattle.gl_header.specs.declared.places.Place.{Place}

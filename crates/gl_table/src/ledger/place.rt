@@ -70,10 +70,12 @@ impl Ledger {
     {
         graph.law();
         strike(&mut self.lists, slot, rec, graph.parents(rec));
-        let Some(header) = self.headers.take(rec) else {
-            unreachable!()
+        let taken = self.headers.take(rec);
+        let waiters = match &taken {
+            Some(header) => header.queue(),
+            None => &[],
         };
-        free(&mut self.seats, &mut self.lists, told, rec, header.queue());
+        free(&mut self.seats, &mut self.lists, told, rec, waiters);
     }
 
     /// Makes room for a node with this key that a slot comes to hold, and for the counts of its parents.
