@@ -1,5 +1,5 @@
 -- What a change of one node's header does to all of them. For the headers, and for the crates above.
-use Rattle.std.proofs.Common.{◌≡◌, ◌≢◌, ℕ, Bool, true, false, ◌&&◌, not, cond, List, [], ◌∷◌, ◌++◌, ◌∙◌, refl, sym, ap, ap₂, arith}
+use Rattle.std.proofs.Common.{◌≡◌, ◌≢◌, ℕ, Bool, true, false, ◌&&◌, not, cond, List, [], ◌∷◌, ◌++◌, ◌∙◌, refl, sym, ap, arith}
 use Rattle.std.proofs.Math.Path.{fun_ext}
 use Rattle.std.proofs.lemmas.Bool.Decides.{nat_tests}
 use Rattle.std.specs.List.{filter}
@@ -7,17 +7,16 @@ use Rattle.std.specs.Prelude.{Option, Some, Result, Ok, Err, OnOk, OnErr, if◌t
 use Rattle.gl_modes.specs.declared.mode.Mode.{Mode}
 use Rattle.gl_modes.specs.declared.mode.Mode.TheVariants.{NL}
 use Rattle.gl_modes.specs.declared.node.NodeId.{NodeId}
-use Rattle.gl_modes.specs.Modes.{same_mode, supremum}
+use Rattle.gl_modes.specs.Modes.{same_mode}
 use Rattle.gl_modes.specs.Nodes.{same_node}
 use Rattle.gl_modes.proofs.ModeLemmas.{NL-compatible, not_NL, supremum-not_NL}
 use Rattle.gl_modes.proofs.NodeLemmas.{same_node-equal, same_node-sym}
 use Rattle.gl_modes.proofs.Words.{cases_of, clash, not_true, split}
-use Rattle.gl_header.specs.Answers.{asked, asked_members, asked_queue}
-use Rattle.gl_header.specs.declared.header.Asked.TheVariants.{Granted, Waiting}
+use Rattle.gl_header.specs.Answers.{asked_members, asked_queue}
 use Rattle.gl_header.specs.Header.{Members, Waiter, enters, group_of, holds, is_among_waiters, is_empty, placed, with_mode}
-use Rattle.gl_header.specs.Headers.{Entries, HasItsKey, IsFreeKey, IsOneHolder, header_at, header_or_new, held_of, members_at, queue_of, with_members}
+use Rattle.gl_header.specs.Headers.{Entries, header_at, header_or_new, held_of, members_at, queue_of, with_members}
 use Rattle.gl_header.specs.Headers.{with_waiters}
-use Rattle.gl_header.specs.State.{HeaderState, IsLawfulHeader, is_granted, is_unused, members_of, slot_limit, unused_header, wanted}
+use Rattle.gl_header.specs.State.{HeaderState, IsLawfulHeader, is_granted, is_unused, members_of, unused_header, wanted}
 use Rattle.gl_header.proofs.Fits.{fits-from_all}
 use Rattle.gl_header.proofs.GroupOf.{group_of-unique}
 use Rattle.gl_header.proofs.Unused.{unused-nobody, unused-true}
@@ -88,18 +87,6 @@ pub asked-is : (h k : HeaderState) (t : ℕ) (m : Mode) (w : HeaderState) → h 
 asked-is h k t m w same e f = record {
   members = e ∙ ap (λ x. asked_members x t m) same;
   queue = f ∙ ap (λ x. asked_queue x t m) same;
-}
-
--- an answer is the same at headers that say the same
-pub asked-alike : (h k : HeaderState) (t : ℕ) (m : Mode) → members_of h ≡ members_of k → h.queue ≡ k.queue → asked h t m ≡ asked k t m
-asked-alike h k t m e f =
-    ap₂ (λ (g : Members) q. if enters slot_limit g q t (supremum (g t) m) then Granted (supremum (g t) m) else Waiting) e f
-
-pub alike-asked : (h k : HeaderState) (t : ℕ) (m : Mode) (w : HeaderState) → members_of h ≡ members_of k → h.queue ≡ k.queue → IsAsked h t m w → IsAsked k t m w
-alike-asked h k t m w e f a = record {
-  members = a.members
-      ∙ ap₂ (λ (g : Members) q. if enters slot_limit g q t (supremum (g t) m) then with_mode g t (supremum (g t) m) else g) e f;
-  queue = a.queue ∙ ap₂ (λ (g : Members) q. if enters slot_limit g q t (supremum (g t) m) then q else placed g q t (supremum (g t) m)) e f;
 }
 
 -- what follows from either answer
@@ -176,18 +163,3 @@ nobody-group most = group_of-unique most (λ _. NL) NL (λ u h. refl) (λ u. ref
 -- whoever comes is granted
 pub nobody-enters : (most t : ℕ) (m : Mode) → enters most (λ _. NL) [] t m ≡ true
 nobody-enters most t m = ap (λ b. b && true) (fits-from_all most (λ _. NL) t m (λ u ne. NL-compatible m))
-
--- what an ask leaves of a header that nobody uses: one slot holds
-pub one_holder : (w : HeaderState) (t : ℕ) (m : Mode) → IsLawfulHeader w → IsAsked unused_header t m w → IsOneHolder w t m
-one_holder w t m lawful a = record {
-  lawful = lawful;
-  members = a.members
-      ∙ ap (λ g. if enters slot_limit g [] t (supremum (g t) m) then with_mode g t (supremum (g t) m) else g) unused-nobody
-      ∙ ap (λ b. if b then with_mode (λ _. NL) t m else (λ _. NL)) (nobody-enters slot_limit t m);
-  queue = a.queue ∙ ap (λ g. if enters slot_limit g [] t (supremum (g t) m) then [] else placed g [] t (supremum (g t) m))
-      unused-nobody ∙ ap (λ b. if b then [] else placed (λ _. NL) [] t m) (nobody-enters slot_limit t m);
-}
-
--- a key that is free has each node of it alone
-pub free-alone : (hs : Entries) (n : NodeId) → IsFreeKey hs n.key → HasItsKey hs n
-free-alone hs n free = record { others = λ q ne k. free.none q k }

@@ -8,9 +8,10 @@ use Rattle.gl_modes.proofs.Words.{and_both, split}
 use Rattle.gl_modes.specs.declared.mode.Mode.{Mode}
 use Rattle.gl_modes.specs.declared.mode.Mode.TheVariants.{NL}
 use Rattle.gl_modes.specs.Modes.{same_mode, is_at_least}
-use Rattle.gl_header.specs.Header.{Members, Waiter, AreBelow, IsWithin, holds, is_waiter, is_among_waiters, wanted_by, is_ahead}
-use Rattle.gl_header.specs.Groups.{IsGroup, held_by}
-use Rattle.gl_header.specs.State.{HeaderState, IsLawfulHeader, slot_limit}
+use Rattle.gl_header.specs.Header.{Members, Waiter, AreBelow, IsWithin, group_of, holds, is_waiter, is_among_waiters, wanted_by, is_ahead}
+use Rattle.gl_header.specs.Groups.{Grants, Grouped, HoldsTwoModes, IsGroup, held_by, is_listed, members_in, mode_of_all}
+use Rattle.gl_header.specs.declared.group.Group.{Group}
+use Rattle.gl_header.specs.State.{HeaderState, IsLawfulHeader, members_of, slot_limit}
 use Rattle.gl_header.specs.Sound.{is_distinct, is_entry, all_new, is_ordered, all_rise, IsLawful}
 use Rattle.gl_header.proofs.Fits.{slot_limit-is}
 use Rattle.gl_header.proofs.Groups.{group_mode-is, listed, two-modes}
@@ -92,19 +93,28 @@ holders-first g (w ∷ q) t u o h a =
 limit-within : (g : Members) → IsWithin slot_limit g → IsWithin most_slots g
 limit-within g w u le = w u (rw slot_limit-is le)
 
-pub lawful : (h : HeaderState) → IsGroup h.granted → IsLawful (held_by h.granted) h.queue → IsLawfulHeader h
-lawful h k l =
+-- what holds of all that is granted
+pub record AreGrants (g : Grants) : Type 0 where
+  pub two_modes : HoldsTwoModes (members_in g)
+  pub listed : (t : ℕ) → is_listed g t ≡ holds (members_in g) t
+  pub group_is : mode_of_all g ≡ group_of slot_limit (members_in g)
+
+pub lawful-of : (h : HeaderState) → AreGrants h.granted → IsLawful (members_of h) h.queue → IsLawfulHeader h
+lawful-of h k l =
     let o = l.orderly in
-    let g : Members = held_by h.granted in
     record {
       compatible = o.compatible;
-      two_modes = two-modes h.granted;
-      listed = listed h.granted k;
-      members_below = limit-within (held_by h.granted) o.within;
+      two_modes = k.two_modes;
+      listed = k.listed;
+      members_below = limit-within (members_of h) o.within;
       waiters_below = waiters-below h.queue o.valid;
       one_wait = λ t m e. one-wait h.queue t m o.distinct e;
-      wanted_rises = λ t m e. let r = wanted-rises (held_by h.granted) h.queue t m o.valid o.rise e in (not-NL m r.0, r.1);
-      holders_first = λ t u e a. holders-first (held_by h.granted) h.queue t u o.ordered e a;
-      front_waits = stuck-front (held_by h.granted) h.queue l.stuck;
-      group_is = group_mode-is h.granted k;
+      wanted_rises = λ t m e. let r = wanted-rises (members_of h) h.queue t m o.valid o.rise e in (not-NL m r.0, r.1);
+      holders_first = λ t u e a. holders-first (members_of h) h.queue t u o.ordered e a;
+      front_waits = stuck-front (members_of h) h.queue l.stuck;
+      group_is = k.group_is;
     }
+
+-- a group, and a queue
+pub lawful : (g : Group) (q : List Waiter) → IsGroup g → IsLawful (held_by g) q → IsLawfulHeader (record { granted = Grouped g; queue = q })
+lawful g q k l = lawful-of _ (record { two_modes = two-modes g; listed = listed g k; group_is = group_mode-is g k }) l

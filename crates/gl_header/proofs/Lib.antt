@@ -17,3 +17,4 @@ mod Steps
 pub mod Changed
 pub mod ByKey
 mod AtPlace
+mod Alone

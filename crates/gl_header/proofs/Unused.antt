@@ -9,6 +9,7 @@ use Rattle.gl_modes.specs.declared.mode.Mode.{Mode}
 use Rattle.gl_modes.specs.declared.mode.Mode.TheVariants.{NL, IS}
 use Rattle.gl_modes.specs.Modes.{same_mode}
 use Rattle.gl_modes.proofs.ModeLemmas.{same_mode-equal}
+use Rattle.gl_header.specs.Groups.{held_by, no_group, nobody}
 use Rattle.gl_header.specs.Header.{Members, Waiter, IsWithin, holds, is_empty}
 use Rattle.gl_header.specs.State.{HeaderState, IsLawfulHeader, members_of, nobody_holds, is_unused, slot_limit, unused_header}
 use Rattle.gl_header.proofs.Ranges.{below_or_not, range-each, range-fails, range-from_each}
@@ -55,9 +56,13 @@ unused-false h u =
     first true b h k = absurd (clash h k)
     first false b h k = refl
 
+-- nobody holds in the group without members
+pub no_group-nobody : held_by no_group ≡ nobody
+no_group-nobody = fun_ext (λ t. ap₂ (λ a b. cond a NL (cond b IS NL)) (no_slots-none t) (no_slots-none t))
+
 -- nobody holds an unused header
 pub unused-nobody : members_of unused_header ≡ (λ _. NL)
-unused-nobody = fun_ext (λ t. ap₂ (λ a b. cond a NL (cond b IS NL)) (no_slots-none t) (no_slots-none t))
+unused-nobody = no_group-nobody
 
 -- an unused header is not needed
 pub unused-unused : is_unused unused_header ≡ true

@@ -1,13 +1,13 @@
 -- The granted group: by two sets of slots, who holds which mode.
 use Rattle.gl_slots.specs.Limit.{most_slots}
-use Rattle.std.specs.Prelude.{◌≡◌, ◌≢◌, ℕ, ◌≤◌, true, false, cond, ◌⊎◌}
+use Rattle.std.specs.Prelude.{◌≡◌, ◌≢◌, ℕ, ◌≤◌, Bool, true, false, cond, ◌⊎◌, ◌||◌, ◌==◌}
 use Rattle.gl_modes.specs.declared.mode.Mode.{Mode}
 use Rattle.gl_modes.specs.declared.mode.Mode.TheVariants.{NL, IS}
 use Rattle.gl_modes.specs.Modes.{are_compatible, same_mode, supremum}
 use Rattle.gl_slots.specs.declared.slots.Slots.{Slots}
 use Rattle.gl_slots.specs.Slots.{HasNoSlot, has_none, has_slot, no_slots}
 use Rattle.gl_header.specs.declared.group.Group.{Group}
-use Rattle.gl_header.specs.Header.{Members}
+use Rattle.gl_header.specs.Header.{Members, with_mode}
 
 -- who holds what: the holders hold the group's mode, the others with an intent hold IS
 abbrev pub held_by : Group → Members
@@ -28,6 +28,26 @@ no_group = record { mode = NL; holders = no_slots; intents = no_slots }
 -- nobody but s is in the set, or the mode goes with what they hold
 abbrev pub GoesBeside : Slots → Mode → ℕ → Mode → Type 0
 GoesBeside set held s m = (u : ℕ) → u ≢ s → has_slot set u ≡ true → are_compatible m held ≡ true
+
+-- who holds a node: one slot in one mode, or a group
+pub data Grants : Type 0 where
+  Alone : (slot : ℕ) → (mode : Mode) → Grants
+  Grouped : (group : Group) → Grants
+
+-- who holds what
+abbrev pub members_in : Grants → Members
+members_in (Alone t m) = with_mode nobody t m
+members_in (Grouped g) = held_by g
+
+-- the slot stands among those that hold
+abbrev pub is_listed : Grants → ℕ → Bool
+is_listed (Alone t m) u = u == t
+is_listed (Grouped g) u = has_slot g.holders u || has_slot g.intents u
+
+-- the group mode of who holds
+abbrev pub mode_of_all : Grants → Mode
+mode_of_all (Alone t m) = m
+mode_of_all (Grouped g) = group_mode g
 
 -- what holds of every granted group
 pub record IsGroup (g : Group) : Type 0 where

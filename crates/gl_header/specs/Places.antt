@@ -1,72 +1,105 @@
--- Inside the crate: the headers as they are kept, each in a box at the place that the key of its node names.
-use Rattle.std.specs.Prelude.{◌≡◌, ℕ, true, false, cond, List, length, Option, Some, None, slice_index_or}
+-- Inside the crate: what stands at the keys of nodes, in place or in a box.
+use Rattle.std.specs.Prelude.{◌≡◌, ℕ, ◌+◌, ◌==◌, false, true, cond, List, [], ◌∷◌, length, Option, Some, None, slice_index_or}
 use Rattle.std.specs.Global.{Global}
 use Rattle.std.specs.declared.boxed.Box.{Box}
-use Rattle.std.specs.List.{All, filter_map}
-use Rattle.gl_modes.specs.declared.node.NodeId.{NodeId}
-use Rattle.gl_modes.specs.Nodes.{same_node}
-use Rattle.gl_header.specs.Headers.{Entries, HeadersState}
+use Rattle.std.specs.List.{All}
 use Rattle.gl_modes.specs.declared.mode.Mode.{Mode}
 use Rattle.gl_header.specs.Answers.{asked_members, asked_queue}
-use Rattle.gl_header.specs.State.{HeaderState, IsLawfulHeader, is_unused, members_of, unused_header}
+use Rattle.gl_header.specs.Groups.{nobody}
+use Rattle.gl_header.specs.Header.{Members, Waiter, with_mode}
+use Rattle.gl_header.specs.Headers.{Entries, HeadersState}
+use Rattle.gl_header.specs.State.{HeaderState, IsLawfulHeader, held_by_one, is_unused, members_of, unused_header}
 use Rattle.gl_header.specs.declared.places.Place.{Place}
+use Rattle.gl_header.specs.declared.places.Place.TheVariants.{Free, Held, Shared}
+use Rattle.gl_header.specs.declared.places.Shared.{Shared as SharedBox}
+use Rattle.gl_header.specs.declared.places.Seen.{Seen}
+use Rattle.gl_header.specs.declared.places.Seen.TheVariants.{Nobody, One, Shared as SharedSeen}
 use Rattle.gl_header.specs.declared.headers.Headers.TheInside.{Inside}
 use Rattle.gl_header.specs.declared.headers.Prepared.TheInside.{Inside as InsidePrepared}
 
--- a node with its header in a box, or none
-abbrev pub Boxed : Type 0
-Boxed = Option (Box Place Global)
+-- the birth of the node that stands in a place, with its header
+abbrev pub stands : Place → Option (ℕ × HeaderState)
+stands Free = None
+stands (Held t m b) = Some (b, held_by_one t m)
+stands (Shared x) = Some (x.value.birth, x.value.header)
 
--- the node at a place, with its header
-abbrev pub entry_in : Boxed → Option (NodeId × HeaderState)
-entry_in None = None
-entry_in (Some b) = Some (b.value.node, b.value.header)
+-- the node of this key with its header, ahead of others
+abbrev pub entered : ℕ → Option (ℕ × HeaderState) → Entries → Entries
+entered k None es = es
+entered k (Some s) es = (record { key = k; birth = s.0 }, s.1) ∷ es
+
+-- the nodes at the places from a key on, with their headers
+abbrev pub entries_from : ℕ → List Place → Entries
+entries_from k [] = []
+entries_from k (p ∷ ps) = entered k (stands p) (entries_from (k + 1) ps)
 
 -- the nodes at all places, with their headers
-abbrev pub entries_in : List Boxed → Entries
-entries_in ps = filter_map entry_in ps
+abbrev pub entries_in : List Place → Entries
+entries_in ps = entries_from 0 ps
 
--- what stands at the place of a key
-abbrev pub place_at : List Boxed → ℕ → Boxed
-place_at ps k = slice_index_or ps k None
-
--- each node stands at the place that its key names, with a header that is needed
-pub record ArePlaces (ps : List Boxed) : Type 0 where
-  pub keyed : (k : ℕ) (b : Box Place Global) → place_at ps k ≡ Some b → b.value.node.key ≡ k
-  pub lawful : (k : ℕ) (b : Box Place Global) → place_at ps k ≡ Some b → IsLawfulHeader b.value.header
-  pub used : (k : ℕ) (b : Box Place Global) → place_at ps k ≡ Some b → is_unused b.value.header ≡ false
-
--- nobody holds or waits by this header
-pub record IsIdle (b : Box Place Global) : Type 0 where
-  pub lawful : IsLawfulHeader b.value.header
-  pub unused : is_unused b.value.header ≡ true
-
--- the header of the node, where it stands there
-abbrev pub header_in : NodeId → Boxed → Option HeaderState
-header_in n None = None
-header_in n (Some b) = cond (same_node n b.value.node) (Some b.value.header) None
+-- the place of a key
+abbrev pub place_at : List Place → ℕ → Place
+place_at ps k = slice_index_or ps k Free
 
 -- the header that stands there, else one that nobody uses
-abbrev pub header_of : Boxed → HeaderState
+abbrev pub header_of : Option (ℕ × HeaderState) → HeaderState
 header_of None = unused_header
-header_of (Some b) = b.value.header
+header_of (Some s) = s.1
 
--- the node that stands there, else this one
-abbrev pub node_of : Boxed → NodeId → NodeId
-node_of None n = n
-node_of (Some b) n = b.value.node
+-- who holds the node of a place, and who waits for it
+abbrev pub members_by : Place → Members
+members_by p = members_of (header_of (stands p))
 
--- the box has what an ask of t for m leaves of the header that stood there
-pub record IsAskedBox (x : Boxed) (n : NodeId) (t : ℕ) (m : Mode) (b : Box Place Global) : Type 0 where
-  pub node : b.value.node ≡ node_of x n
-  pub lawful : IsLawfulHeader b.value.header
-  pub members : members_of b.value.header ≡ asked_members (header_of x) t m
-  pub queue : b.value.header.queue ≡ asked_queue (header_of x) t m
+abbrev pub queue_by : Place → List Waiter
+queue_by p = (header_of (stands p)).queue
 
--- a place whose header is not needed is cleared
-abbrev pub swept : Boxed → Boxed
-swept None = None
-swept (Some b) = cond (is_unused b.value.header) None (Some b)
+-- the header of the node of this birth, where it stands there
+abbrev pub header_in : ℕ → Option (ℕ × HeaderState) → Option HeaderState
+header_in b None = None
+header_in b (Some s) = cond (b == s.0) (Some s.1) None
+
+-- what is seen of a node, as its header
+abbrev pub seen_header : Seen → Option HeaderState
+seen_header Nobody = None
+seen_header (One t m) = Some (held_by_one t m)
+seen_header (SharedSeen h) = Some h.now
+
+-- a place has no header, or one that is lawful and needed
+pub record IsPlace (p : Place) : Type 0 where
+  pub lawful : (s : ℕ × HeaderState) → stands p ≡ Some s → IsLawfulHeader s.1
+  pub used : (s : ℕ × HeaderState) → stands p ≡ Some s → is_unused s.1 ≡ false
+
+-- so has each
+pub record ArePlaces (ps : List Place) : Type 0 where
+  pub each : (k : ℕ) → IsPlace (place_at ps k)
+
+-- a place has the node of this birth, or none
+pub record IsOf (b : ℕ) (p : Place) : Type 0 where
+  pub birth : (s : ℕ × HeaderState) → stands p ≡ Some s → s.0 ≡ b
+
+-- another node does not come
+pub record KeepsBirth (p p' : Place) : Type 0 where
+  pub kept : (b : ℕ) → IsOf b p → IsOf b p'
+
+-- nobody holds or waits by this header
+pub record IsIdle (x : Box SharedBox Global) : Type 0 where
+  pub lawful : IsLawfulHeader x.value.header
+  pub unused : is_unused x.value.header ≡ true
+
+-- by this header t alone holds, in the mode m, and nobody waits
+pub record IsHeldBox (b t : ℕ) (m : Mode) (x : Box SharedBox Global) : Type 0 where
+  pub birth : x.value.birth ≡ b
+  pub lawful : IsLawfulHeader x.value.header
+  pub members : members_of x.value.header ≡ with_mode nobody t m
+  pub queue : x.value.header.queue ≡ []
+
+-- the place p' has what an ask of t for m leaves of p, for the node of this birth
+pub record IsAskedPlace (p : Place) (b t : ℕ) (m : Mode) (p' : Place) : Type 0 where
+  pub header : HeaderState
+  pub there : stands p' ≡ Some (b, header)
+  pub lawful : IsLawfulHeader header
+  pub members : members_of header ≡ asked_members (header_of (stands p)) t m
+  pub queue : header.queue ≡ asked_queue (header_of (stands p)) t m
 
 -- what a contract sees of the fields
 abbrev pub headers_of : Inside → HeadersState
@@ -77,10 +110,9 @@ pub record AreKept (h : Inside) : Type 0 where
   pub places : ArePlaces h.places.items
   pub spare : All IsIdle h.spare.items
 
--- a prepared header is lawful, and somebody holds or waits by it
+-- a prepared header has one holder, and nobody waits
 abbrev pub prepared_header : InsidePrepared → HeaderState
-prepared_header p = p.place.value.header
+prepared_header p = held_by_one p.slot p.mode
 
 pub record IsNeeded (p : InsidePrepared) : Type 0 where
   pub lawful : IsLawfulHeader (prepared_header p)
-  pub used : is_unused (prepared_header p) ≡ false

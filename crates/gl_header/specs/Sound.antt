@@ -13,7 +13,7 @@ use Rattle.gl_header.specs.Header.{
   holds,
   is_among_waiters,
 }
-use Rattle.gl_header.specs.Groups.{IsGroup, held_by}
+use Rattle.gl_header.specs.Groups.{Grouped, IsGroup, held_by}
 use Rattle.gl_header.specs.State.{HeaderState, slot_limit}
 use Rattle.gl_header.specs.declared.header.Header.TheInside.{Inside}
 
@@ -65,7 +65,7 @@ placed_in g (w ∷ ws) e = cond (holds g e.0 && not (holds g w.0)) (e ∷ w ∷ 
 
 -- what a contract sees of the fields
 abbrev pub state_of : Inside → HeaderState
-state_of h = record { granted = h.granted; queue = h.queue.items }
+state_of h = record { granted = Grouped h.granted; queue = h.queue.items }
 
 -- what holds of the fields
 pub record IsSound (h : Inside) : Type 0 where

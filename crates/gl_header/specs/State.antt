@@ -1,6 +1,6 @@
 -- What a contract sees of a header, and the law of every header.
 use Rattle.gl_slots.specs.Limit.{most_slots}
-use Rattle.std.specs.Prelude.{◌≡◌, ◌≢◌, ℕ, Bool, true, not, ◌&&◌, ◌||◌, List, [], ◌∷◌, Some}
+use Rattle.std.specs.Prelude.{◌≡◌, ◌≢◌, ℕ, Bool, true, not, ◌&&◌, List, [], ◌∷◌, Some}
 use Rattle.std.specs.List.{filter, list_all, range_with_len}
 use Rattle.gl_modes.specs.declared.mode.Mode.{Mode}
 use Rattle.gl_modes.specs.declared.mode.Mode.TheVariants.{NL}
@@ -20,23 +20,25 @@ use Rattle.gl_header.specs.Header.{
   enters,
   front,
 }
-use Rattle.gl_header.specs.declared.group.Group.{Group}
-use Rattle.gl_header.specs.Groups.{group_mode, held_by, no_group, HoldsTwoModes}
-use Rattle.gl_slots.specs.Slots.{has_slot}
+use Rattle.gl_header.specs.Groups.{Grants, Alone, Grouped, HoldsTwoModes, is_listed, members_in, mode_of_all, no_group}
 unfoldable pub use Rattle.gl_slots.specs.Slots.{slot_limit}
 
--- the granted group, and the waiters from the front on
+-- who holds, and the waiters from the front on
 pub record HeaderState : Type 0 where
-  pub granted : Group
+  pub granted : Grants
   pub queue : List Waiter
 
 -- nobody holds, and nobody waits
 abbrev pub unused_header : HeaderState
-unused_header = record { granted = no_group; queue = [] }
+unused_header = record { granted = Grouped no_group; queue = [] }
+
+-- one slot holds in this mode, and nobody waits
+abbrev pub held_by_one : ℕ → Mode → HeaderState
+held_by_one t m = record { granted = Alone t m; queue = [] }
 
 -- who holds what
 abbrev pub members_of : HeaderState → Members
-members_of h = held_by h.granted
+members_of h = members_in h.granted
 
 -- the wanted mode: the held one raised by the asked one
 abbrev pub wanted : HeaderState → ℕ → Mode → Mode
@@ -60,8 +62,8 @@ pub record IsLawfulHeader (h : HeaderState) : Type 0 where
   pub compatible : IsCompatible (members_of h)
   -- so beside IS one mode at most is held
   pub two_modes : HoldsTwoModes (members_of h)
-  -- the two sets have each member and nobody else
-  pub listed : (t : ℕ) → (has_slot h.granted.holders t || has_slot h.granted.intents t) ≡ holds (members_of h) t
+  -- each member stands among those that hold, and nobody else does
+  pub listed : (t : ℕ) → is_listed h.granted t ≡ holds (members_of h) t
   -- slots are below the limit
   pub members_below : IsWithin most_slots (members_of h)
   pub waiters_below : AreBelow most_slots h.queue
@@ -74,4 +76,4 @@ pub record IsLawfulHeader (h : HeaderState) : Type 0 where
   -- the first waiter does not fit
   pub front_waits : front slot_limit (members_of h) h.queue ≡ []
   -- the group mode is the supremum of the members' modes
-  pub group_is : group_mode h.granted ≡ group_of slot_limit (members_of h)
+  pub group_is : mode_of_all h.granted ≡ group_of slot_limit (members_of h)

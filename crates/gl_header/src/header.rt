@@ -6,7 +6,7 @@ ghost use Rattle.gl_modes.specs.declared.mode.Mode.TheVariants.{NL};
 ghost use Rattle.gl_modes.specs.Modes.{are_compatible};
 ghost use Rattle.gl_slots.specs.Slots.{has_slot};
 ghost use Rattle.gl_header.specs.Answers.{asked, asked_members, asked_queue, tried};
-ghost use Rattle.gl_header.specs.Groups.{group_mode};
+ghost use Rattle.gl_header.specs.Groups.{mode_of_all, nobody};
 ghost use Rattle.gl_header.specs.Header.{
   enters,
   front,
@@ -105,7 +105,7 @@ impl Header {
 
     /// The group mode: the supremum of the members' modes, `NL` where nobody holds the node.
     pub fn group(&self) -> Mode
-        ensures kept { result ≡ group_mode self.now.granted }
+        ensures kept { result ≡ mode_of_all self.now.granted }
         ensures supremum { result ≡ group_of slot_limit (members_of self.now) }
     {
         self.granted.supremum()
@@ -212,19 +212,16 @@ impl Header {
         }
     }
 
-    /// As `ask`, where nobody holds and nobody waits: the mode is granted. It takes no memory.
-    #[inline]
-    pub(crate) fn ask_first(&mut self, slot: Slot, mode: Mode) -> Asked
+    /// Gives a slot this mode, where nobody holds and nobody waits. It takes no memory.
+    pub(crate) fn hold_first(&mut self, slot: Slot, mode: Mode)
         requires below { slot < most_slots }
         requires lock { mode ≢ Mode.NL }
         requires unused { is_unused self.old ≡ true }
-        ensures answer { result ≡ asked self.old slot mode }
-        ensures members { members_of self.new ≡ asked_members self.old slot mode }
-        ensures queue { self.new.queue ≡ asked_queue self.old slot mode }
+        ensures members { members_of self.new ≡ with_mode nobody slot mode }
+        ensures queue { self.new.queue ≡ [] }
         ensures lawful { IsLawfulHeader self.new }
     {
         self.granted = Group::of(slot, mode);
-        Asked::Granted(mode)
     }
 
     /// Asks for a mode that is granted at once, or not at all. It takes no memory.

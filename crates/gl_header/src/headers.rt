@@ -1,7 +1,31 @@
 //! The headers of all nodes: one for each node that somebody holds or waits for, and no other.
 
 ghost use Rattle.gl_slots.specs.Limit.{most_slots};
-ghost use Rattle.std.specs.Prelude.{◌≡◌, ◌≢◌, ◌<◌, ◌≤◌, ◌==◌, ◌&&◌, ◌||◌, ◌↔◌, ℕ, [], IfErr, IfOk, IsOk, IsTrue, OnErr, OnOk, false, not, option_copied, true};
+ghost use Rattle.std.specs.Prelude.{
+  ◌≡◌,
+  ◌≢◌,
+  ◌<◌,
+  ◌≤◌,
+  ◌==◌,
+  ◌&&◌,
+  ◌||◌,
+  ◌↔◌,
+  ℕ,
+  [],
+  IfErr,
+  IfNone,
+  IfOk,
+  IfSome,
+  IsOk,
+  IsTrue,
+  OnErr,
+  OnOk,
+  Some,
+  false,
+  is_some,
+  not,
+  true,
+};
 ghost use Rattle.gl_modes.specs.declared.mode.Mode.TheVariants.{NL};
 ghost use Rattle.gl_modes.specs.declared.refusal.Refusal.{Refusal as ARefusal};
 ghost use Rattle.gl_modes.specs.Modes.{are_compatible};
@@ -19,7 +43,8 @@ ghost use Rattle.gl_header.specs.Header.{
   with_mode,
   without_waiter,
 };
-ghost use Rattle.gl_header.specs.State.{members_of, slot_limit};
+ghost use Rattle.gl_header.specs.State.{HeaderState, IsLawfulHeader, members_of, slot_limit};
+ghost use Rattle.gl_header.specs.Places.{seen_header};
 ghost use Rattle.gl_header.specs.Headers.{
   AreByKey,
   AreDistinct,
@@ -40,27 +65,31 @@ ghost use Rattle.gl_header.specs.Headers.{
 
 use crate::changes::GrantList;
 use crate::header::{Asked, Header};
-use crate::places::{Place, ask_at, grow, header_in, put_back, take_box};
-use gl_modes::{Mode, NodeId, Refusal};
+use crate::places::{
+    Place, Seen, Shared, ask_at, dismiss_at, drop_grant_at, drop_wait_at, grow, seen_in,
+};
+use gl_modes::{Mode, NodeId, Refusal, compatible};
 use gl_slots::{Slot, Slots};
 use std::alloc::{AllocError, Global};
 use std::marker::Model;
+use std::mem;
 
 /// How many boxes wait for a node at most: to free one takes as long as to release its node.
 const SPARE: usize = 1024;
 
 /// A header for each node that somebody holds or waits for. It is found by the node's key, with no
-/// hash: so a key that nobody locks costs the room of a pointer, and two nodes of one key are not
-/// locked at one time.
+/// hash: so a key that nobody locks costs 16 bytes, and two nodes of one key are not locked at one
+/// time.
 ///
-/// A lock on a node that nobody holds takes a box that an earlier node left, where one waits.
+/// A node with one holder and no queue has its header in place. The second to ask takes a box that an
+/// earlier node left, where one waits.
 #[derive(Drop)]
 pub struct Headers {
     alloc: Global,
     /// By key the header of the node that somebody holds or waits for.
-    places: Vec<Option<Box<Place>>>,
+    places: Vec<Place>,
     /// Boxes whose header nobody uses.
-    spare: Vec<Box<Place>>,
+    spare: Vec<Box<Shared>>,
 }
 
 impl Model for Headers {
@@ -75,10 +104,11 @@ impl Model for Headers {
     ghost invariant = { AreKept };
 }
 
-/// The header of a node that is not yet there, with the grants that it comes to have.
+/// The header of a node that is not yet there: the one grant that it comes to have.
 #[derive(Drop)]
 pub struct Prepared {
-    place: Box<Place>,
+    slot: Slot,
+    mode: Mode,
 }
 
 impl Model for Prepared {
@@ -120,18 +150,37 @@ impl Headers {
         ensures { IsTrue result ↔ IsFreeKey self.now.entries key }
     {
         match self.places.get(key) {
-            Some(place) => place.is_none(),
+            Some(place) => matches!(place, Place::Free),
             None => true,
         }
     }
 
-    /// The header of a node, `None` where nobody holds or waits for it.
-    pub fn get(&self, node: NodeId) -> Option<&Header>
-        ensures { option_copied result ≡ header_at self.now.entries node }
+    /// What is seen of a node.
+    fn seen(&self, node: NodeId) -> Seen<'_>
+        ensures is { seen_header result ≡ header_at self.now.entries node }
+        ensures lawful { (header : HeaderState) → header_at self.now.entries node ≡ Some header → IsLawfulHeader header }
     {
         match self.places.get(node.key) {
-            Some(place) => header_in(place, node),
-            None => None,
+            Some(place) => seen_in(place, node.birth),
+            None => Seen::Nobody,
+        }
+    }
+
+    /// Whether nobody holds a node or waits for it.
+    pub fn is_idle(&self, node: NodeId) -> bool
+        ensures { result ≡ not (is_some (header_at self.now.entries node)) }
+    {
+        matches!(self.seen(node), Seen::Nobody)
+    }
+
+    /// The header of a node that several hold or somebody waits for. `None` says that nobody waits.
+    pub fn shared(&self, node: NodeId) -> Option<&Header>
+        ensures some { IfSome result (λ header. header_at self.now.entries node ≡ Some header.now) }
+        ensures none { IfNone result (queue_of self.now.entries node ≡ []) }
+    {
+        match self.seen(node) {
+            Seen::Shared(header) => Some(header),
+            _ => None,
         }
     }
 
@@ -139,9 +188,10 @@ impl Headers {
     pub fn group(&self, node: NodeId) -> Mode
         ensures { result ≡ group_of slot_limit (members_at self.now.entries node) }
     {
-        match self.get(node) {
-            Some(header) => header.group(),
-            None => Mode::NL,
+        match self.seen(node) {
+            Seen::Nobody => Mode::NL,
+            Seen::One(_, mode) => mode,
+            Seen::Shared(header) => header.group(),
         }
     }
 
@@ -149,9 +199,10 @@ impl Headers {
     pub fn holders(&self, node: NodeId) -> Slots
         ensures { (u : ℕ) → has_slot result u ≡ holds (members_at self.now.entries node) u }
     {
-        match self.get(node) {
-            Some(header) => header.opposed(Mode::X), // With X nothing goes.
-            None => Slots::empty(),
+        match self.seen(node) {
+            Seen::Nobody => Slots::empty(),
+            Seen::One(holder, _) => only(holder),
+            Seen::Shared(header) => header.opposed(Mode::X), // With X nothing goes.
         }
     }
 
@@ -159,9 +210,9 @@ impl Headers {
     pub fn queue(&self, node: NodeId) -> &[(Slot, Mode)]
         ensures { result.now ≡ queue_of self.now.entries node }
     {
-        match self.get(node) {
-            Some(header) => header.queue(),
-            None => &[],
+        match self.seen(node) {
+            Seen::Shared(header) => header.queue(),
+            _ => &[],
         }
     }
 
@@ -172,9 +223,10 @@ impl Headers {
         ensures { (u : ℕ) → has_slot result u ≡ (not (slot == u)
             && (not (are_compatible wanted (held_of self.now.entries u node)) || is_ahead (queue_of self.now.entries node) slot u)) }
     {
-        match self.get(node) {
-            Some(header) => header.waits_for(slot, wanted),
-            None => Slots::empty(),
+        match self.seen(node) {
+            Seen::Shared(header) => header.waits_for(slot, wanted),
+            Seen::One(holder, mode) if holder != slot && !compatible(wanted, mode) => only(holder),
+            _ => Slots::empty(),
         }
     }
 
@@ -182,9 +234,10 @@ impl Headers {
     pub fn would_grant(&self, slot: Slot, node: NodeId, mode: Mode) -> bool
         ensures { result ≡ is_granted_at self.now.entries slot node mode }
     {
-        match self.get(node) {
-            Some(header) => header.would_grant(slot, mode),
-            None => true,
+        match self.seen(node) {
+            Seen::Nobody => true,
+            Seen::One(holder, held) => holder == slot || compatible(mode, held),
+            Seen::Shared(header) => header.would_grant(slot, mode),
         }
     }
 
@@ -218,7 +271,7 @@ impl Headers {
             &mut self.places[node.key],
             self.alloc,
             &mut self.spare,
-            node,
+            node.birth,
             slot,
             mode,
         )
@@ -237,11 +290,7 @@ impl Headers {
         ensures room { self.new.room ≡ self.old.room }
     {
         let place = &mut self.places[node.key];
-        let Some(mut here) = place.take() else {
-            unreachable!()
-        };
-        here.header.drop_grant(slot, granted);
-        put_back(place, &mut self.spare, here);
+        drop_grant_at(place, &mut self.spare, slot, granted);
     }
 
     /// Takes a wait away, and grants from the front of the node's queue. The list is filled anew with
@@ -256,11 +305,7 @@ impl Headers {
         ensures room { self.new.room ≡ self.old.room }
     {
         let place = &mut self.places[node.key];
-        let Some(mut here) = place.take() else {
-            unreachable!()
-        };
-        here.header.drop_wait(slot, granted);
-        put_back(place, &mut self.spare, here);
+        drop_wait_at(place, &mut self.spare, slot, granted);
     }
 
     /// Takes a wait away and grants nobody, where nobody at the front of what is left can be granted.
@@ -272,24 +317,25 @@ impl Headers {
         ensures queue { queue_of self.new.entries ≡ with_waiters (queue_of self.old.entries) node (without_waiter slot (queue_of self.old.entries node)) }
         ensures room { self.new.room ≡ self.old.room }
     {
-        let place = &mut self.places[node.key];
-        let Some(mut here) = place.take() else {
-            unreachable!()
-        };
-        here.header.dismiss(slot);
-        put_back(place, &mut self.spare, here);
+        dismiss_at(&mut self.places[node.key], &mut self.spare, slot);
     }
 
-    /// Takes the header of a node out with all that it says.
+    /// Takes all grants and waits of a node away. Answers its header where several held the node or
+    /// somebody waited; `None` says that nobody waited.
     pub fn take(&mut self, node: NodeId) -> Option<Header>
         ensures held { held_of self.new.entries ≡ with_members (held_of self.old.entries) node (λ _. NL) }
         ensures queue { queue_of self.new.entries ≡ with_waiters (queue_of self.old.entries) node [] }
-        ensures taken { result ≡ header_at self.old.entries node }
+        ensures taken { IfSome result (λ header. header_at self.old.entries node ≡ Some header) }
+        ensures none { IfNone result (queue_of self.old.entries node ≡ []) }
         ensures room { self.new.room ≡ self.old.room }
     {
-        self.get(node)?;
-        let here = self.places[node.key].take()?;
-        Some(Box::into_inner(here).header)
+        if self.is_idle(node) {
+            return None;
+        }
+        match mem::replace(&mut self.places[node.key], Place::Free) {
+            Place::Shared(here) => Some(Box::into_inner(here).header),
+            _ => None,
+        }
     }
 
     /// Makes room for a node with this key, and a header with one grant, by which a slot comes to hold
@@ -304,9 +350,7 @@ impl Headers {
         ensures no_memory { IfErr result (λ refusal. refusal ≡ ARefusal.NoMemory) }
     {
         grow(&mut self.places, key)?;
-        let mut place = take_box(self.alloc, &mut self.spare, NodeId::NONE)?;
-        place.header.ask_first(slot, mode);
-        Ok(Prepared { place })
+        Ok(Prepared { slot, mode })
     }
 
     /// Gives a node the header that was prepared. It takes no memory.
@@ -317,8 +361,21 @@ impl Headers {
         ensures queue { queue_of self.new.entries ≡ with_waiters (queue_of self.old.entries) node prepared.queue }
         ensures room { self.new.room ≡ self.old.room }
     {
-        let Prepared { mut place } = prepared;
-        place.node = node;
-        self.places[node.key] = Some(place);
+        let Prepared { slot, mode } = prepared;
+        self.places[node.key] = Place::Held {
+            slot,
+            mode,
+            birth: node.birth,
+        };
     }
+}
+
+/// The set of one slot.
+fn only(slot: Slot) -> Slots
+    requires { slot < most_slots }
+    ensures { (u : ℕ) → has_slot result u ≡ (u == slot) }
+{
+    let mut slots = Slots::empty();
+    slots.insert(slot);
+    slots
 }

@@ -1,39 +1,96 @@
-//! One place: the header of a node in a box, and the boxes that wait for a node.
+//! One place: what stands at the key of a node, and the boxes that wait for a node.
 
 ghost use Rattle.gl_slots.specs.Limit.{most_slots};
-ghost use Rattle.std.specs.Prelude.{◌≡◌, ◌≢◌, ◌<◌, ◌≤◌, ℕ, IfErr, IfOk, IsOk, IsSomeAnd, None, OnErr, OnOk, Some, false, is_some, length, option_copied, true};
+ghost use Rattle.std.specs.Prelude.{◌≡◌, ◌≢◌, ◌<◌, ◌≤◌, ℕ, [], IfErr, IfOk, IsOk, OnErr, OnOk, false, length, true};
 ghost use Rattle.std.specs.List.{All};
+ghost use Rattle.gl_modes.specs.declared.mode.Mode.TheVariants.{NL};
 ghost use Rattle.gl_modes.specs.declared.refusal.Refusal.{Refusal as ARefusal};
 ghost use Rattle.gl_header.specs.Answers.{asked};
-ghost use Rattle.gl_header.specs.Header.{is_among_waiters};
-ghost use Rattle.gl_header.specs.State.{is_granted};
-ghost use Rattle.gl_header.specs.Places.{IsAskedBox, IsIdle, entries_in, header_in, header_of, place_at, swept};
+ghost use Rattle.gl_header.specs.Header.{
+  front,
+  holds,
+  is_among_waiters,
+  pumped_members,
+  pumped_queue,
+  with_mode,
+  without_waiter,
+};
+ghost use Rattle.gl_header.specs.State.{is_granted, members_of, slot_limit};
+ghost use Rattle.gl_header.specs.Places.{
+  IsAskedPlace,
+  IsHeldBox,
+  IsIdle,
+  IsOf,
+  IsPlace,
+  KeepsBirth,
+  entries_in,
+  header_in,
+  header_of,
+  members_by,
+  place_at,
+  queue_by,
+  seen_header,
+  stands,
+};
+ghost use Rattle.gl_header.specs.declared.places.Place.TheVariants.{Free};
 
+use crate::changes::GrantList;
 use crate::header::{Asked, Header};
-use gl_modes::{Mode, NodeId, Refusal};
+use gl_modes::{Mode, Refusal, sup};
 use gl_slots::Slot;
 use std::alloc::Global;
+use std::mem;
 
-/// The header of a node, with the node whose header it is.
+/// What stands at the key of a node, in 16 bytes.
 #[derive(Drop)]
-pub(crate) struct Place {
-    pub(crate) node: NodeId,
+pub(crate) enum Place {
+    /// Nobody holds or waits for a node with this key.
+    Free,
+    /// One slot holds the node of this birth, and nobody waits.
+    Held { slot: Slot, mode: Mode, birth: u64 },
+    /// Several hold the node or somebody waits, or did since it was last free: a node that has now
+    /// one and now two holders keeps its box.
+    Shared(Box<Shared>),
+}
+
+const _: () = prove!(size_of::<Place>() == 16);
+
+/// The header of a node, with the node's birth.
+#[derive(Drop)]
+pub(crate) struct Shared {
+    pub(crate) birth: u64,
     pub(crate) header: Header,
 }
 
-/// The header of a node, where it stands in this place.
-pub(crate) fn header_in(place: &Option<Box<Place>>, node: NodeId) -> Option<&Header>
-    ensures { option_copied result ≡ header_in node place.now }
+/// What is seen of a node.
+#[derive(Clone, Copy)]
+pub(crate) enum Seen<'a> {
+    /// Nobody holds it, and nobody waits.
+    Nobody,
+    /// This slot alone holds it, in this mode, and nobody waits.
+    One(Slot, Mode),
+    /// The header says who holds it, and who waits.
+    Shared(&'a Header),
+}
+
+/// What a place says of the node of this birth.
+pub(crate) fn seen_in(place: &Place, birth: u64) -> Seen<'_>
+    ensures { seen_header result ≡ header_in birth (stands place.now) }
 {
     match place {
-        Some(here) if here.node == node => Some(&here.header),
-        _ => None,
+        Place::Held {
+            slot,
+            mode,
+            birth: own,
+        } if *own == birth => Seen::One(*slot, *mode),
+        Place::Shared(here) if here.birth == birth => Seen::Shared(&here.header),
+        _ => Seen::Nobody,
     }
 }
 
 /// Makes places up to that of a key. It takes memory before it changes anything.
 #[inline]
-pub(crate) fn grow(places: &mut Vec<Option<Box<Place>>>, key: usize) -> Result<(), Refusal>
+pub(crate) fn grow(places: &mut Vec<Place>, key: usize) -> Result<(), Refusal>
     ensures kept { (k : ℕ) → place_at places.new.items k ≡ place_at places.old.items k }
     ensures entries { entries_in places.new.items ≡ entries_in places.old.items }
     ensures room { OnOk result (key < length places.new.items) }
@@ -50,7 +107,7 @@ pub(crate) fn grow(places: &mut Vec<Option<Box<Place>>>, key: usize) -> Result<(
 /// Makes places up to that of a key, which has none yet.
 #[cold]
 #[inline(never)]
-fn add_places(places: &mut Vec<Option<Box<Place>>>, key: usize) -> Result<(), Refusal>
+fn add_places(places: &mut Vec<Place>, key: usize) -> Result<(), Refusal>
     requires { length places.old.items ≤ key }
     ensures kept { (k : ℕ) → place_at places.new.items k ≡ place_at places.old.items k }
     ensures entries { entries_in places.new.items ≡ entries_in places.old.items }
@@ -61,83 +118,189 @@ fn add_places(places: &mut Vec<Option<Box<Place>>>, key: usize) -> Result<(), Re
     let Some(len) = key.checked_add(1) else {
         return Err(Refusal::NoMemory);
     };
-    match places.resize_with(len, || None) {
+    match places.resize_with(len, || Place::Free) {
         Ok(()) => Ok(()),
         Err(_) => Err(Refusal::NoMemory),
     }
 }
 
-/// A box whose header nobody uses yet, for a node: one that waits, or else a new one.
-pub(crate) fn take_box(
-    alloc: Global,
-    spare: &mut Vec<Box<Place>>,
-    node: NodeId,
-) -> Result<Box<Place>, Refusal>
+/// A box whose header nobody uses yet, for a node of this birth: one that waits, or else a new one.
+fn take_box(alloc: Global, spare: &mut Vec<Box<Shared>>, birth: u64) -> Result<Box<Shared>, Refusal>
     requires { All IsIdle spare.old.items }
     ensures spare { All IsIdle spare.new.items }
     ensures idle { IfOk result IsIdle }
-    ensures node { IfOk result (λ b. b.value.node ≡ node) }
+    ensures birth { IfOk result (λ b. b.value.birth ≡ birth) }
     ensures no_memory { IfErr result (λ refusal. refusal ≡ ARefusal.NoMemory) }
 {
-    if let Some(mut place) = spare.pop() {
-        place.node = node;
-        return Ok(place);
+    if let Some(mut here) = spare.pop() {
+        here.birth = birth;
+        return Ok(here);
     }
     let header = Header::new(alloc);
     header.law();
-    match Box::new(alloc, Place { node, header }) {
-        Ok(place) => Ok(place),
+    match Box::new(alloc, Shared { birth, header }) {
+        Ok(here) => Ok(here),
         Err(_) => Err(Refusal::NoMemory),
     }
 }
 
-/// Asks at the place of a node: in the header that stands there, or in a box that comes to stand there.
-/// The only refusal is `NoMemory`, and then the place stays as it is.
-pub(crate) fn ask_at(
-    place: &mut Option<Box<Place>>,
+/// A box for a node of this birth that one slot holds in this mode, and nobody waits for.
+fn share(
     alloc: Global,
-    spare: &mut Vec<Box<Place>>,
-    node: NodeId,
+    spare: &mut Vec<Box<Shared>>,
+    birth: u64,
+    slot: Slot,
+    mode: Mode,
+) -> Result<Box<Shared>, Refusal>
+    requires spare { All IsIdle spare.old.items }
+    requires below { slot < most_slots }
+    requires lock { mode ≢ NL }
+    ensures spare { All IsIdle spare.new.items }
+    ensures held { IfOk result (IsHeldBox birth slot mode) }
+    ensures no_memory { IfErr result (λ refusal. refusal ≡ ARefusal.NoMemory) }
+{
+    let mut here = take_box(alloc, spare, birth)?;
+    here.header.hold_first(slot, mode);
+    Ok(here)
+}
+
+/// Asks at a place that has the node of this birth, or none: a first holder and its conversions stand
+/// there in place, a second slot takes a box. The only refusal is `NoMemory`, and then the place stays
+/// as it is.
+pub(crate) fn ask_at(
+    place: &mut Place,
+    alloc: Global,
+    spare: &mut Vec<Box<Shared>>,
+    birth: u64,
     slot: Slot,
     mode: Mode,
 ) -> Result<Asked, Refusal>
+    requires place { IsPlace place.old }
+    requires own { IsOf birth place.old }
     requires spare { All IsIdle spare.old.items }
     requires below { slot < most_slots }
-    requires not_waiting { is_among_waiters slot (header_of place.old).queue ≡ false }
-    requires lock { mode ≢ Mode.NL }
+    requires not_waiting { is_among_waiters slot (queue_by place.old) ≡ false }
+    requires lock { mode ≢ NL }
     ensures spare { All IsIdle spare.new.items }
-    ensures answer { IfOk result (λ answer. answer ≡ asked (header_of place.old) slot mode) }
-    ensures stands { OnOk result (IsSomeAnd place.new (λ b. IsAskedBox place.old node slot mode b)) }
+    ensures answer { IfOk result (λ answer. answer ≡ asked (header_of (stands place.old)) slot mode) }
+    ensures stands { OnOk result (IsAskedPlace place.old birth slot mode place.new) }
     ensures err { OnErr result (place.new ≡ place.old) }
     ensures no_memory { IfErr result (λ refusal. refusal ≡ ARefusal.NoMemory) }
-    ensures there { is_some place.old ≡ true → is_granted (header_of place.old) slot mode ≡ true → IsOk result }
+    ensures member { holds (members_by place.old) slot ≡ true → is_granted (header_of (stands place.old)) slot mode ≡ true → IsOk result }
 {
-    if let Some(here) = place {
-        return here.header.ask(slot, mode);
+    match place {
+        Place::Free => {
+            *place = Place::Held { slot, mode, birth };
+            Ok(Asked::Granted(mode))
+        }
+        Place::Held {
+            slot: holder,
+            mode: held,
+            ..
+        } if *holder == slot => {
+            let wanted = sup(*held, mode);
+            *held = wanted;
+            Ok(Asked::Granted(wanted))
+        }
+        Place::Held {
+            slot: holder,
+            mode: held,
+            ..
+        } => {
+            let mut here = share(alloc, spare, birth, *holder, *held)?;
+            let asked = here.header.ask(slot, mode)?;
+            *place = Place::Shared(here);
+            Ok(asked)
+        }
+        Place::Shared(here) => here.header.ask(slot, mode),
     }
-    let mut fresh = take_box(alloc, spare, node)?;
-    let asked = fresh.header.ask_first(slot, mode);
-    *place = Some(fresh);
-    Ok(asked)
+}
+
+/// Takes a grant away at a place, and grants from the front of the queue there. It takes no memory.
+#[inline]
+pub(crate) fn drop_grant_at(
+    place: &mut Place,
+    spare: &mut Vec<Box<Shared>>,
+    slot: Slot,
+    granted: &mut GrantList,
+)
+    requires place { IsPlace place.old }
+    requires spare { All IsIdle spare.old.items }
+    requires holds { holds (members_by place.old) slot ≡ true }
+    requires not_waiting { is_among_waiters slot (queue_by place.old) ≡ false }
+    ensures granted { granted.new.items ≡ front slot_limit (with_mode (members_by place.old) slot NL) (queue_by place.old) }
+    ensures members { members_by place.new ≡ pumped_members slot_limit (with_mode (members_by place.old) slot NL) (queue_by place.old) }
+    ensures queue { queue_by place.new ≡ pumped_queue slot_limit (with_mode (members_by place.old) slot NL) (queue_by place.old) }
+    ensures place { IsPlace place.new }
+    ensures birth { KeepsBirth place.old place.new }
+    ensures spare { All IsIdle spare.new.items }
+{
+    match mem::replace(place, Place::Free) {
+        Place::Shared(mut here) => {
+            here.header.drop_grant(slot, granted);
+            put_back(place, spare, here);
+        }
+        _ => granted.clear(), // The slot held it alone.
+    }
+}
+
+/// Takes a wait away at a place, and grants from the front of the queue there. It takes no memory.
+pub(crate) fn drop_wait_at(
+    place: &mut Place,
+    spare: &mut Vec<Box<Shared>>,
+    slot: Slot,
+    granted: &mut GrantList,
+)
+    requires spare { All IsIdle spare.old.items }
+    requires waits { is_among_waiters slot (queue_by place.old) ≡ true }
+    ensures granted { granted.new.items ≡ front slot_limit (members_by place.old) (without_waiter slot (queue_by place.old)) }
+    ensures members { members_by place.new ≡ pumped_members slot_limit (members_by place.old) (without_waiter slot (queue_by place.old)) }
+    ensures queue { queue_by place.new ≡ pumped_queue slot_limit (members_by place.old) (without_waiter slot (queue_by place.old)) }
+    ensures place { IsPlace place.new }
+    ensures birth { KeepsBirth place.old place.new }
+    ensures spare { All IsIdle spare.new.items }
+{
+    let Place::Shared(mut here) = mem::replace(place, Place::Free) else {
+        unreachable!()
+    };
+    here.header.drop_wait(slot, granted);
+    put_back(place, spare, here);
+}
+
+/// Takes a wait away at a place where nobody at the front of what is left can be granted.
+pub(crate) fn dismiss_at(place: &mut Place, spare: &mut Vec<Box<Shared>>, slot: Slot)
+    requires spare { All IsIdle spare.old.items }
+    requires waits { is_among_waiters slot (queue_by place.old) ≡ true }
+    requires front_waits { front slot_limit (members_by place.old) (without_waiter slot (queue_by place.old)) ≡ [] }
+    ensures members { members_by place.new ≡ members_by place.old }
+    ensures queue { queue_by place.new ≡ without_waiter slot (queue_by place.old) }
+    ensures place { IsPlace place.new }
+    ensures birth { KeepsBirth place.old place.new }
+    ensures spare { All IsIdle spare.new.items }
+{
+    let Place::Shared(mut here) = mem::replace(place, Place::Free) else {
+        unreachable!()
+    };
+    here.header.dismiss(slot);
+    put_back(place, spare, here);
 }
 
 /// Puts a box back into its place, or aside where nobody holds or waits any more: there it waits for
 /// another node where there is room for it, so that this takes no memory.
 #[inline]
-pub(crate) fn put_back(
-    place: &mut Option<Box<Place>>,
-    spare: &mut Vec<Box<Place>>,
-    here: Box<Place>,
-)
+fn put_back(place: &mut Place, spare: &mut Vec<Box<Shared>>, here: Box<Shared>)
     requires spare { All IsIdle spare.old.items }
-    requires empty { place.old ≡ None }
-    ensures place { place.new ≡ swept (Some here) }
+    requires empty { place.old ≡ Free }
+    ensures members { members_by place.new ≡ members_of here.value.header }
+    ensures queue { queue_by place.new ≡ here.value.header.queue }
+    ensures place { IsPlace place.new }
+    ensures birth { IsOf here.value.birth place.new }
     ensures spare { All IsIdle spare.new.items }
 {
+    here.header.law();
     if !here.header.is_empty() {
-        *place = Some(here);
+        *place = Place::Shared(here);
     } else if spare.len() < spare.capacity() {
-        here.header.law();
         spare.push_reserved(here);
     }
 }

@@ -105,7 +105,7 @@ fn show_queue(headers: &Headers, seats: &[Option<Seat>], node: NodeId, rows: &mu
     ensures rows { (t : ℕ) → (get_or rows.new t no_bits ≡ get_or rows.old t no_bits)
         ⊎ (get_or rows.new t no_bits ≡ bits_of (waits_for (shown headers.now.entries seats.now 0) t)) }
 {
-    let Some(header) = headers.get(node) else {
+    let Some(header) = headers.shared(node) else {
         return;
     };
     header.law();

@@ -5,14 +5,13 @@ use Rattle.gl_table.proofs.Words.{first_refusal, get_or, Graph, group_of, group_
 use Rattle.gl_table.proofs.Words.{held_children, held_of, holds, if◌then◌else◌, IS, is_at_least, is_child, is_empty, is_idle, is_row_of, is_some, is_write}
 use Rattle.gl_table.proofs.Words.{IsDistinct, IsSound, IX, keys, keys_of, length, length-map, List, list_all, list_any, ListsAgree, LockList, LockRow, lookup}
 use Rattle.gl_table.proofs.Words.{lookup_from_place, map, Members, members, members_at, members_of, Mode, mode_in, mode_of, nat_tests, NL, no, no_parents}
-use Rattle.gl_table.proofs.Words.{node_equivalence, NodeId, nodes, None, none_some, not, not_false, not_held, not_true, Ok, Option, option_copied, option_map}
+use Rattle.gl_table.proofs.Words.{node_equivalence, NodeId, nodes, None, none_some, not, not_held, not_true, Ok, Option, option_map}
 use Rattle.gl_table.proofs.Words.{option_map_or, queue_of, range-from_each, refl, Refusal, Refuses, RefusesOnly, Result, row_of, rows_of, rule_refusal}
 use Rattle.gl_table.proofs.Words.{same_mode, same_node, shown, slice_get, slice_get-get_or, slice_get-map, slot_limit, Some, split, StandOnce, State, state_of}
 use Rattle.gl_table.proofs.Words.{subst, suc, sum_by-cons, sym, TableView, true, txns_of, unused-nobody, verdict, view_of, where_true, zero, ℕ}
 use Rattle.gl_model.proofs.queues.Walks.{same}
 use Rattle.gl_model.proofs.telling.Lists.{place}
 use Rattle.gl_table.specs.declared.table.Table.TheInside.{Inside}
-use denote.Bor.{Bor}
 use Rattle.std.specs.List.{All}
 use Rattle.gl_modes.specs.declared.refusal.Refusal.TheVariants as no
 use Rattle.gl_model.proofs.law.Keeps.{lawful-within}
@@ -92,23 +91,19 @@ past_end (l ∷ ls) (suc t) h = past_end ls t (omega arith)
 -- What is asked of a table: what its lists and headers say is what its state says.
 
 -- a node without header is idle, and no other is
-pub idle-seen : (i : Inside) → IsSound i → AreHeaders i.locks.ledger.headers.entries → (n : NodeId) (o : Option (Bor HeaderState)) (b : Bool)
-    → option_copied o ≡ header_at i.locks.ledger.headers.entries n → is_some o ≡ not b → b ≡ is_idle (state_of (view_of i)) n
-idle-seen i sound headers n None b is none =
-    not_false b (sym none)
-    ∙ sym (free-idle (state_of (view_of i)) n (λ u. ap (λ o. members_of (header_or_new o) u) (sym is) ∙ ap (λ (g : Members). g u) unused-nobody)
+pub idle-seen : (i : Inside) → IsSound i → AreHeaders i.locks.ledger.headers.entries → (n : NodeId) (o : Option HeaderState)
+    → o ≡ header_at i.locks.ledger.headers.entries n → not (is_some o) ≡ is_idle (state_of (view_of i)) n
+idle-seen i sound headers n None is =
+    sym (free-idle (state_of (view_of i)) n (λ u. ap (λ o. members_of (header_or_new o) u) (sym is) ∙ ap (λ (g : Members). g u) unused-nobody)
     (ap (λ o. (header_or_new o).queue) (sym is)))
-idle-seen i sound headers n (Some h) b is some = off b some ∙ sym (not_true (is_idle (state_of (view_of i)) n) busy)
+idle-seen i sound headers n (Some h) is = sym (not_true (is_idle (state_of (view_of i)) n) busy)
   where
-    off : (b : Bool) → true ≡ not b → b ≡ false
-    off b h1 = grind (arith, nat_tests)
-
     busy : is_idle (state_of (view_of i)) n ≡ true → ⊥
     busy idle =
         let free = idle-free (state_of (view_of i)) sound.lawful n idle in
-        clash (both _ _ (range-from_each (λ t. not (holds (members_of h.now) t)) 0 slot_limit
+        clash (both _ _ (range-from_each (λ t. not (holds (members_of h) t)) 0 slot_limit
         (λ u low high. ap (λ m. not (not (same_mode m NL))) (ap (λ o. members_of (header_or_new o) u) is ∙ free.0 u)))
-        (ap is_empty (ap (λ o. (header_or_new o).queue) is ∙ free.1))) (headers.used n h.now (sym is))
+        (ap is_empty (ap (λ o. (header_or_new o).queue) is ∙ free.1))) (headers.used n h (sym is))
 
 -- where no test refuses, a call answers the value
 pub answers : {A : Type 0} (o : Option Refusal) (x y : A) → o ≡ None → x ≡ y → Ok x ≡ answered o y

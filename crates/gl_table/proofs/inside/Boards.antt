@@ -1,19 +1,19 @@
 -- The board of a moment, written slot by slot, and who is a victim. For boards and detection.
 use Rattle.gl_slots.specs.Limit.{most_slots}
-use Rattle.gl_table.proofs.Words.{[], ⊎_elim, ◌&&◌, ◌<◌, ◌==◌, ◌||◌, ◌∙◌, ◌∷◌, ◌≡◌, ◌≢◌, ◌≤◌, ◌⊎◌, age_in, age_of, and-false, and-true, ap, are_compatible}
-use Rattle.gl_table.proofs.Words.{AreHeaders, arith, blocks, Board, board_of, Bool, candidate-on_cycle, cases_eq, cases_lt, clash, cond, Entries}
-use Rattle.gl_table.proofs.Words.{false, fill_by_all, front, get_or, get_or-map-range_with_len, get_or-replicate, get_or-set_other, get_or-set_same}
+use Rattle.gl_table.proofs.Words.{[], ⊎_elim, ◌&&◌, ◌<◌, ◌==◌, ◌||◌, ◌∙◌, ◌∷◌, ◌≡◌, ◌≢◌, ◌⊎◌, age_in, and-false, and-true, ap, are_compatible}
+use Rattle.gl_table.proofs.Words.{arith, blocks, Board, board_of, Bool, candidate-on_cycle, cases_eq, cases_lt, clash, cond, Entries}
+use Rattle.gl_table.proofs.Words.{false, fill_by_all, front, get_or, get_or-replicate, get_or-set_other, get_or-set_same}
 use Rattle.gl_table.proofs.Words.{get_or_past, HasNoSlot, header_at, header_or_new, HeaderState, inl, inr, is_ahead, is_among_waiters, is_wait}
-use Rattle.gl_table.proofs.Words.{IsCandidate, IsLawfulHeader, IsOnCycleOf, IsVictim, IsWalk, length, length-replicate, List, map}
-use Rattle.gl_table.proofs.Words.{members_of, Mode, nat_tests, NL-compatible, NodeId, None, none_some, not, not-true, number_other, number_same, Option}
-use Rattle.gl_table.proofs.Words.{or_elim, range_with_len, Reaches, refl, replicate, Seat, set, shown, slice_get_past}
-use Rattle.gl_table.proofs.Words.{Slots, Some, split, State, status_in, status_of, subst, sym, take, true, txn_in, txns_of, Victims, Waiter}
+use Rattle.gl_table.proofs.Words.{IsOnCycleOf, IsVictim, IsWalk, length, length-replicate, List, map}
+use Rattle.gl_table.proofs.Words.{members_of, Mode, nat_tests, NodeId, not, number_other, number_same, Option}
+use Rattle.gl_table.proofs.Words.{range_with_len, Reaches, refl, replicate, Seat, set, shown}
+use Rattle.gl_table.proofs.Words.{Slots, Some, split, State, status_in, status_of, subst, sym, take, true, txns_of, Victims, Waiter}
 use Rattle.gl_table.proofs.Words.{Waiting, waits_for, ℕ}
 use Rattle.gl_slots.specs.Slots.{Bits, HasNoBit, bits_of, has_bit, has_slot, no_bits}
 use Rattle.gl_slots.proofs.SlotLemmas.{bits_of-none, has_bit-bits_of, no_bits-none}
 use Rattle.gl_table.specs.inside.Seats.{lives_at}
 use Rattle.gl_model.proofs.law.Edges.{idle_no_step, step_is}
-use Rattle.gl_model.proofs.queues.Waiters.{ahead-first, ahead_is, ahead_second}
+use Rattle.gl_model.proofs.queues.Waiters.{ahead-first}
 
 -- The board of a moment, written slot by slot.
 

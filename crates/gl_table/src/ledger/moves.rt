@@ -150,11 +150,8 @@ impl Ledger {
         ensures { (u : ℕ) → has_slot result u ≡ is_among_waiters u
             (filter (λ w. not (stays (state_in graph.now self.now) (parents_of (graph_of graph.now) node) w)) (queue_of self.now.headers.entries node)) }
     {
-        let Some(header) = self.headers.get(node) else {
-            return Slots::empty();
-        };
         let mut strays = Slots::empty();
-        for &(slot, wanted) in header.queue() {
+        for &(slot, wanted) in self.headers.queue(node) {
             let list = &self.lists[slot as usize];
             if !is_allowed(list, graph.parents(node), wanted) {
                 strays.insert(slot);

@@ -70,10 +70,12 @@ impl Ledger {
     {
         graph.law();
         strike(&mut self.lists, slot, node, graph.parents(node));
-        let Some(header) = self.headers.take(node) else {
-            unreachable!()
+        let taken = self.headers.take(node);
+        let waiters = match &taken {
+            Some(header) => header.queue(),
+            None => &[],
         };
-        free(&mut self.seats, &mut self.lists, told, node, header.queue());
+        free(&mut self.seats, &mut self.lists, told, node, waiters);
     }
 
     /// Makes room for a node with this key that a slot comes to hold, and for the counts of its parents.

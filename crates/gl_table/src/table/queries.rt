@@ -52,7 +52,7 @@ impl Table {
         ensures { result ≡ is_idle (state_of self.now) n }
     {
         self.locks.ledger.headers.law();
-        self.locks.ledger.headers.get(n).is_none()
+        self.locks.ledger.headers.is_idle(n)
     }
 
     /// How many children of a node a transaction holds; `None` where it does not live or does not

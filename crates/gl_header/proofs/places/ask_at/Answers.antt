@@ -1,50 +1,81 @@
-use Rattle.std.proofs.Common.{◌≡◌, ◌∙◌, [], ap, sym}
+use Rattle.std.proofs.Common.{◌≡◌, ◌≢◌, ◌∙◌, ap, refl, sym}
 use Rattle.std.proofs.lemmas.Result.{on_err_weaker}
 use Rattle.std.specs.Box.{with_value}
 use Rattle.std.specs.Prelude.{Some}
+use Rattle.gl_modes.specs.declared.mode.Mode.TheVariants.{NL}
+use Rattle.gl_modes.specs.Modes.{same_mode}
+use Rattle.gl_modes.proofs.ModeLemmas.{not_NL, supremum-not_NL}
+use Rattle.gl_modes.proofs.Words.{clash}
 use Rattle.gl_header.specs.Answers.{asked, asked_members, asked_queue}
-use Rattle.gl_header.specs.Places.{header_of, node_of}
-use Rattle.gl_header.specs.State.{HeaderState, is_unused, members_of, unused_header}
-use Rattle.gl_header.specs.declared.places.Place.{Place}
-use Rattle.gl_header.proofs.AtPlace.{idle-is}
-use Rattle.gl_header.proofs.Changed.{alike-asked, asked-alike}
-use Rattle.gl_header.proofs.places.ask_at.Goals.{After-ask_first-asked}
+use Rattle.gl_header.specs.Groups.{nobody}
+use Rattle.gl_header.specs.Header.{with_mode}
+use Rattle.gl_header.specs.Places.{header_of, stands}
+use Rattle.gl_header.specs.State.{IsLawfulHeader, held_by_one}
+use Rattle.gl_header.specs.declared.header.Asked.TheVariants.{Granted}
+use Rattle.gl_header.specs.declared.places.Place.TheVariants.{Held, Shared}
+use Rattle.gl_header.specs.declared.places.Shared.{Shared as SharedBox}
+use Rattle.gl_header.proofs.Alone.{alone-below, alone-lawful, alone-lock, free-answer, free-members, free-queue, own-answer, own-members, own-queue}
 use Rattle.gl_header.proofs.places.ask_at.Goals as goal
 
-pub returns-in-Some-clause-err : goal.returns-in-Some-clause-err
-returns-in-Some-clause-err c =
-    on_err_weaker c.ask.result
-    (λ h. ap (λ w. Some (with_value c.in-Some.here record { node = c.deref_mut.result.now.node; header = w })) h
-    ∙ (ap (λ (p : Place). Some (with_value c.in-Some.here p)) c.deref_mut.ensures.value ∙ sym c.in-Some.is))
-    c.ask.ensures.err
+-- nobody holds
 
--- a fresh box says what an empty place says
+pub returns-in-Free-clause-answer : goal.returns-in-Free-clause-answer
+returns-in-Free-clause-answer c =
+    free-answer c.args.slot c.args.mode ∙ ap (λ p. asked (header_of (stands p)) c.args.slot c.args.mode) (sym c.in-Free.is)
 
-alike : (c : After-ask_first-asked) → (members_of c.deref_mut-2.result.now.header ≡ members_of unused_header) × (c.deref_mut-2.result.now.header.queue ≡ [])
-alike c =
-    let is = ap (λ (p : Place). p.header) c.deref_mut-2.ensures.value in
-    let idle = idle-is c.in_ok-fresh.fresh.value.header c.in_ok-fresh.ensures.idle.lawful c.in_ok-fresh.ensures.idle.unused in
-    (ap members_of is ∙ idle.0, ap (λ (h : HeaderState). h.queue) is ∙ idle.1)
+pub returns-in-Free-clause-stands : goal.returns-in-Free-clause-stands
+returns-in-Free-clause-stands c = record {
+  header = held_by_one c.args.slot c.args.mode;
+  there = refl;
+  lawful = alone-lawful c.args.slot c.args.mode c.requires.below c.requires.lock;
+  members = free-members c.args.slot c.args.mode ∙ ap (λ p. asked_members (header_of (stands p)) c.args.slot c.args.mode) (sym c.in-Free.is);
+  queue = free-queue c.args.slot c.args.mode ∙ ap (λ p. asked_queue (header_of (stands p)) c.args.slot c.args.mode) (sym c.in-Free.is);
+}
 
-pub ask_first-asked-requires-clause-unused : goal.ask_first-asked-requires-clause-unused
-ask_first-asked-requires-clause-unused c =
-    ap (λ (p : Place). is_unused p.header) c.deref_mut-2.ensures.value ∙ c.in_ok-fresh.ensures.idle.unused
+-- the one holder asks
 
-pub returns-clause-answer : goal.returns-clause-answer
-returns-clause-answer c =
-    let a = alike (goal.at.returns-clause-answer c).After-ask_first-asked in
-    c.ask_first-asked.ensures.answer
-    ∙ (asked-alike c.deref_mut-2.result.now.header unused_header c.args.slot c.args.mode a.0 a.1
-    ∙ ap (λ x. asked (header_of x) c.args.slot c.args.mode) (sym c.in_default.is))
+is : (c : goal.After-sup-wanted) → c.args.place.now ≡ Held c.args.slot c.in-Held.held c.in-Held.birth
+is c = c.in-Held.is ∙ ap (λ t. Held t c.in-Held.held c.in-Held.birth) c.if-holder-slot.true
 
-pub returns-clause-stands : goal.returns-clause-stands
-returns-clause-stands c =
-    let a = alike (goal.at.returns-clause-stands c).After-ask_first-asked in
-    let b = alike-asked c.deref_mut-2.result.now.header unused_header c.args.slot c.args.mode c.ask_first-asked.new.self a.0 a.1
-    (record { members = c.ask_first-asked.ensures.members; queue = c.ask_first-asked.ensures.queue }) in
-    record {
-      node = ap (λ (p : Place). p.node) c.deref_mut-2.ensures.value ∙ (c.in_ok-fresh.ensures.node ∙ ap (λ x. node_of x c.args.node) (sym c.in_default.is));
-      lawful = c.ask_first-asked.ensures.lawful;
-      members = b.members ∙ ap (λ x. asked_members (header_of x) c.args.slot c.args.mode) (sym c.in_default.is);
-      queue = b.queue ∙ ap (λ x. asked_queue (header_of x) c.args.slot c.args.mode) (sym c.in_default.is);
-    }
+lawful : (c : goal.After-sup-wanted) → IsLawfulHeader (held_by_one c.in-Held.holder c.in-Held.held)
+lawful c = c.requires.place.lawful (c.in-Held.birth, held_by_one c.in-Held.holder c.in-Held.held) (ap stands c.in-Held.is)
+
+raised : (c : goal.After-sup-wanted) → c.sup-wanted.result ≢ NL
+raised c e = clash (ap (λ k. same_mode k NL) e)
+    (ap (λ k. same_mode k NL) c.sup-wanted.ensures ∙ supremum-not_NL c.in-Held.held c.args.mode (not_NL c.args.mode c.requires.lock))
+
+pub returns-in-Held-clause-answer : goal.returns-in-Held-clause-answer
+returns-in-Held-clause-answer c =
+    ap Granted c.sup-wanted.ensures
+    ∙ (own-answer c.args.slot c.in-Held.held c.args.mode ∙ ap (λ p. asked (header_of (stands p)) c.args.slot c.args.mode) (sym (is c)))
+
+pub returns-in-Held-clause-stands : goal.returns-in-Held-clause-stands
+returns-in-Held-clause-stands c = record {
+  header = held_by_one c.in-Held.holder c.sup-wanted.result;
+  there = ap (λ b. Some (b, held_by_one c.in-Held.holder c.sup-wanted.result))
+      (c.requires.own.birth (c.in-Held.birth, held_by_one c.in-Held.holder c.in-Held.held) (ap stands c.in-Held.is));
+  lawful = alone-lawful c.in-Held.holder c.sup-wanted.result (alone-below c.in-Held.holder c.in-Held.held (lawful c)) (raised c);
+  members = ap (λ t. with_mode nobody t c.sup-wanted.result) c.if-holder-slot.true
+      ∙ (ap (with_mode nobody c.args.slot) c.sup-wanted.ensures
+      ∙ (own-members c.args.slot c.in-Held.held c.args.mode
+      ∙ ap (λ p. asked_members (header_of (stands p)) c.args.slot c.args.mode) (sym (is c))));
+  queue = own-queue c.args.slot c.in-Held.held c.args.mode ∙ ap (λ p. asked_queue (header_of (stands p)) c.args.slot c.args.mode) (sym (is c));
+}
+
+-- another slot asks
+
+pub share-requires-clause-below : goal.share-requires-clause-below
+share-requires-clause-below c = alone-below c.in-Held.holder c.in-Held.held
+    (c.requires.place.lawful (c.in-Held.birth, held_by_one c.in-Held.holder c.in-Held.held) (ap stands c.in-Held.is))
+
+pub share-requires-clause-lock : goal.share-requires-clause-lock
+share-requires-clause-lock c = alone-lock c.in-Held.holder c.in-Held.held
+    (c.requires.place.lawful (c.in-Held.birth, held_by_one c.in-Held.holder c.in-Held.held) (ap stands c.in-Held.is))
+
+-- a refusal in a box leaves it as it was
+pub returns-in-Shared-clause-err : goal.returns-in-Shared-clause-err
+returns-in-Shared-clause-err c =
+    on_err_weaker c.ask-in-Shared.result
+    (λ h. ap (λ w. Shared (with_value c.in-Shared.here record { birth = c.deref_mut-in-Shared.result.now.birth; header = w })) h
+    ∙ (ap (λ (x : SharedBox). Shared (with_value c.in-Shared.here x)) c.deref_mut-in-Shared.ensures.value ∙ sym c.in-Shared.is))
+    c.ask-in-Shared.ensures.err

@@ -1,12 +1,12 @@
 use Rattle.std.proofs.Common.{◌∙◌, ap, subst, sym}
 use Rattle.gl_header.specs.State.{IsLawfulHeader, is_unused}
-use Rattle.gl_header.specs.declared.places.Place.{Place}
+use Rattle.gl_header.specs.declared.places.Shared.{Shared}
 use Rattle.gl_header.proofs.Unused.{unused-unused}
 use Rattle.gl_header.proofs.places.take_box.Goals as goal
 
 pub returns-in-Ok-clause-idle : goal.returns-in-Ok-clause-idle
 returns-in-Ok-clause-idle c =
-    let is = ap (λ (p : Place). p.header) c.in-Ok.ensures.ok in
+    let is = ap (λ (x : Shared). x.header) c.in-Ok.ensures.ok in
     record {
       lawful = subst IsLawfulHeader (sym is) c.law.ensures.lawful;
       unused = ap is_unused (is ∙ c.new-header.ensures) ∙ unused-unused;

@@ -33,7 +33,7 @@ loop-slot-preserved c =
             (w.bits.ensures.is ∙ bits_of-same _ _
             (λ u low. reached-row c.args.headers.now.entries c.args.seats.now c.args.node h q t i w.in-Some-wanted_on.wanted c.loop-slot.passed
             w.row_behind.result
-            (0, NL) (ap header_or_new c.in-Some.ensures) c.queue-slot-items.ensures w.in-Some-wanted_on.ensures c.loop-slot-test.true refl so.passed
+            (0, NL) (ap header_or_new (sym c.in-Some.ensures.some)) c.queue-slot-items.ensures w.in-Some-wanted_on.ensures c.loop-slot-test.true refl so.passed
             (sym w.contains.ensures ∙ w.if-not-contains.true) w.row_behind.ensures u)) so.rows),
       )
       | in-Some-wanted_on+else-not-contains w ↦ (ap length w.rows-is ∙ so.len, subst (AreRowsShown edge c.args.rows.now) (sym w.rows-is) so.rows)

@@ -1,6 +1,6 @@
 use Rattle.gl_slots.specs.Slots.{Bits, bits_of, has_bit, has_slot, no_bits}
 use Rattle.gl_slots.proofs.SlotLemmas.{bits_of-same, no_bits-none}
-use Rattle.gl_table.proofs.Words.{⊎_elim, ◌&&◌, ◌<◌, ◌==◌, ◌∙◌, ◌≡◌, ap, arith, blocks, Entries, false, get_or, get_or-set_same, inl, length, List}
+use Rattle.gl_table.proofs.Words.{⊎_elim, ◌&&◌, ◌==◌, ◌∙◌, ◌≡◌, ap, arith, blocks, Entries, false, get_or-set_same, inl, List}
 use Rattle.gl_table.proofs.Words.{Mode, NodeId, not, Option, refl, Seat}
 use Rattle.gl_table.proofs.Words.{shown, Slots, Some, status_in, subst, sym, txns_of, Waiting, waits_for, ℕ}
 use Rattle.gl_table.proofs.inside.Boards.{AreRowsShown, rows-idle, rows-shown}

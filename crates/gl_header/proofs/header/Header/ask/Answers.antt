@@ -29,13 +29,13 @@ pub invariant_of-self : goal.invariant_of-self
 invariant_of-self c = record { group = c.hold.ensures.group; lawful = granted c }
 
 pub returns-then-enters-clause-lawful : goal.returns-then-enters-clause-lawful
-returns-then-enters-clause-lawful c = lawful _ c.hold.ensures.group (granted c)
+returns-then-enters-clause-lawful c = lawful _ _ c.hold.ensures.group (granted c)
 
 -- a wait
 
 pub returns-in_default-clause-lawful : goal.returns-in_default-clause-lawful
 returns-in_default-clause-lawful c =
-    lawful _ c.self.invariant.group
+    lawful c.self.inside.granted _ c.self.invariant.group
     (lawful-by (held_by c.self.inside.granted)
     (held_by c.self.inside.granted) c.enqueue.new.queue.items c.self.inside.queue.items refl c.in_default.ensures.err c.self.invariant.lawful)
 
@@ -70,4 +70,4 @@ returns-in-Ok-clause-queue c =
 
 pub returns-in-Ok-clause-lawful : goal.returns-in-Ok-clause-lawful
 returns-in-Ok-clause-lawful c =
-    let s = invariant_of-self-else-enters c in lawful _ s.group s.lawful
+    let s = invariant_of-self-else-enters c in lawful _ _ s.group s.lawful

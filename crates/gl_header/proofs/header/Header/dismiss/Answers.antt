@@ -1,5 +1,5 @@
 use Rattle.std.proofs.Common.{◌≡◌, [], refl, sym, subst, ap, ◌∙◌}
-use Rattle.gl_header.specs.Groups.{held_by}
+use Rattle.gl_header.specs.Groups.{Grouped, held_by}
 use Rattle.gl_header.specs.Header.{front, without_waiter}
 use Rattle.gl_header.specs.Entries.{without}
 use Rattle.gl_header.specs.Sound.{IsLawful}
@@ -31,11 +31,11 @@ invariant_of-self c = record { group = c.self.invariant.group; lawful = after c 
 
 pub returns-clause-after : goal.returns-clause-after
 returns-clause-after c =
-    subst (λ (x : HeaderState). record { granted = c.self.inside.granted; queue = c.take_out.new.queue.items } ≡ record x {
+    subst (λ (x : HeaderState). record { granted = Grouped c.self.inside.granted; queue = c.take_out.new.queue.items } ≡ record x {
       queue =
           without_waiter c.args.slot x.queue;
     }) c.self.view_is
-    (ap (λ q. record { granted = c.self.inside.granted; queue = q }) (gone c))
+    (ap (λ q. record { granted = Grouped c.self.inside.granted; queue = q }) (gone c))
 
 pub returns-clause-lawful : goal.returns-clause-lawful
-returns-clause-lawful c = lawful _ c.self.invariant.group (after c)
+returns-clause-lawful c = lawful c.self.inside.granted _ c.self.invariant.group (after c)

@@ -44,4 +44,4 @@ pub invariant_of-self : goal.invariant_of-self
 invariant_of-self c = record { group = c.pump.ensures.group; lawful = after c }
 
 pub returns-clause-lawful : goal.returns-clause-lawful
-returns-clause-lawful c = lawful _ c.pump.ensures.group (after c)
+returns-clause-lawful c = lawful _ _ c.pump.ensures.group (after c)

@@ -53,4 +53,4 @@ returns-clause-queue c =
     (c.pump.ensures.queue ∙ ap (pumped_queue slot_limit (held_by c.self.inside.granted)) (gone c))
 
 pub returns-clause-lawful : goal.returns-clause-lawful
-returns-clause-lawful c = lawful _ c.pump.ensures.group (after c)
+returns-clause-lawful c = lawful _ _ c.pump.ensures.group (after c)

@@ -24,10 +24,11 @@ granted c =
 
 pub returns-then-not-enters-clause-lawful : goal.returns-then-not-enters-clause-lawful
 returns-then-not-enters-clause-lawful c =
-    subst (λ (x : HeaderState). IsLawfulHeader x) c.self.view_is (lawful (state_of c.self.inside) c.self.invariant.group c.self.invariant.lawful)
+    subst (λ (x : HeaderState). IsLawfulHeader x) c.self.view_is
+    (lawful c.self.inside.granted c.self.inside.queue.items c.self.invariant.group c.self.invariant.lawful)
 
 pub invariant_of-self : goal.invariant_of-self
 invariant_of-self c = record { group = c.hold.ensures.group; lawful = granted c }
 
 pub returns-clause-lawful : goal.returns-clause-lawful
-returns-clause-lawful c = lawful _ c.hold.ensures.group (granted c)
+returns-clause-lawful c = lawful _ _ c.hold.ensures.group (granted c)

@@ -1,67 +1,53 @@
-use Rattle.std.proofs.Common.{◌≡◌, ◌∙◌, ap, arith, sym}
+use Rattle.std.proofs.Common.{◌∙◌, ap, arith, refl}
 use Rattle.gl_header.specs.Header.{front, is_among_waiters, without_waiter}
-use Rattle.gl_header.specs.Headers.{HeadersState, header_at, header_or_new, held_of, queue_of, with_waiters}
+use Rattle.gl_header.specs.Headers.{held_of}
+use Rattle.gl_header.specs.Places.{members_by}
 use Rattle.gl_header.specs.State.{HeaderState, members_of, slot_limit}
-use Rattle.gl_header.specs.declared.places.Place.{Place}
-use Rattle.gl_header.proofs.AtPlace.{IsAt, has_place, is_at, not_empty, swept-held, swept-places, swept-queue}
-use Rattle.gl_header.proofs.Changed.{has_waiter, with_members-same}
-use Rattle.gl_header.proofs.headers.Headers.dismiss.Goals.{After-deref_mut}
+use Rattle.gl_header.proofs.AtPlace.{IsAt, awaited_at, awaited_place, entries_are, write-held, write-places, write-queue}
+use Rattle.gl_header.proofs.Changed.{with_members-same}
+use Rattle.gl_header.proofs.headers.Headers.dismiss.Goals.{After-index_mut}
 use Rattle.gl_header.proofs.headers.Headers.dismiss.Goals as goal
 
--- the node has a header, which stands in the box at its place
+-- the node has a header, which stands at its place
 
-pub index_mut-place-requires : goal.index_mut-place-requires
-index_mut-place-requires c =
-    let has = has_waiter c.args.self.now.entries c.args.node c.args.slot c.requires.waits in
-    let there = has_place c.self.inside.places.items c.self.invariant.places c.args.self.now.entries (ap (λ
-    (v : HeadersState). v.entries) c.self.view_is) c.args.node has.0 has.1 in
+pub index_mut-requires : goal.index_mut-requires
+index_mut-requires c =
+    let there = awaited_place c.self.inside.places.items c.self.invariant.places c.args.self.now.entries
+    (entries_are c.self.view_is) c.args.node c.args.slot c.requires.waits in
     omega (arith, there)
 
-pub unreachable-requires : goal.unreachable-requires
-unreachable-requires c =
-    let has = has_waiter c.args.self.now.entries c.args.node c.args.slot c.requires.waits in
-    not_empty c.self.inside.places.items c.self.invariant.places c.args.self.now.entries (ap (λ
-    (v : HeadersState). v.entries) c.self.view_is) c.args.node has.0 has.1
-    c.index_mut-place.result.now c.index_mut-place.ensures.value (sym c.take.ensures.value ∙ c.in_default.is)
+here : (c : After-index_mut) → IsAt c.self.inside.places.items c.args.self.now.entries c.args.node c.index_mut.result.now
+here c = awaited_at c.self.inside.places.items c.self.invariant.places c.args.self.now.entries
+    (entries_are c.self.view_is) c.args.node c.args.slot c.requires.waits
+    c.index_mut.result.now c.index_mut.ensures.value
 
-here : (c : After-deref_mut) → IsAt c.self.inside.places.items c.args.self.now.entries c.args.node c.in-Some.here
-here c =
-    let has = has_waiter c.args.self.now.entries c.args.node c.args.slot c.requires.waits in
-    is_at c.self.inside.places.items c.self.invariant.places c.args.self.now.entries (ap (λ
-    (v : HeadersState). v.entries) c.self.view_is) c.args.node has.0 has.1
-    c.index_mut-place.result.now c.index_mut-place.ensures.value c.in-Some.here (sym c.take.ensures.value ∙ c.in-Some.is)
+pub dismiss_at-requires-clause-waits : goal.dismiss_at-requires-clause-waits
+dismiss_at-requires-clause-waits c = ap (λ (h : HeaderState). is_among_waiters c.args.slot h.queue)
+    (here (goal.at.dismiss_at-requires-clause-waits c).After-index_mut).header ∙ c.requires.waits
 
-was : (c : After-deref_mut) → c.deref_mut.result.now.header ≡ header_or_new (header_at c.args.self.now.entries c.args.node)
-was c = ap (λ (p : Place). p.header) c.deref_mut.ensures.value ∙ (here c).header
-
-pub dismiss-requires-clause-waits : goal.dismiss-requires-clause-waits
-dismiss-requires-clause-waits c = ap (λ (h : HeaderState). is_among_waiters c.args.slot h.queue) (was
-    (goal.at.dismiss-requires-clause-waits c).After-deref_mut) ∙ c.requires.waits
-
-pub dismiss-requires-clause-front_waits : goal.dismiss-requires-clause-front_waits
-dismiss-requires-clause-front_waits c = ap (λ (h : HeaderState). front slot_limit (members_of h) (without_waiter c.args.slot h.queue)) (was
-    (goal.at.dismiss-requires-clause-front_waits c).After-deref_mut) ∙ c.requires.front_waits
+pub dismiss_at-requires-clause-front_waits : goal.dismiss_at-requires-clause-front_waits
+dismiss_at-requires-clause-front_waits c = ap (λ (h : HeaderState). front slot_limit (members_of h) (without_waiter c.args.slot h.queue))
+    (here (goal.at.dismiss_at-requires-clause-front_waits c).After-index_mut).header ∙ c.requires.front_waits
 
 -- the write there
 
 pub invariant_of-self : goal.invariant_of-self
-invariant_of-self c = record {
-  places = swept-places c.self.inside.places.items c.args.self.now.entries c.args.node c.in-Some.here (here (goal.at.invariant_of-self c).After-deref_mut)
-      _ (ap (λ (p : Place). p.node) c.deref_mut.ensures.value) c.dismiss.ensures.lawful c.put_back.new.place c.put_back.ensures.place;
-  spare = c.put_back.ensures.spare;
+invariant_of-self c = let i = here (goal.at.invariant_of-self c).After-index_mut in record {
+  places = write-places c.self.inside.places.items c.self.invariant.places c.args.self.now.entries (entries_are c.self.view_is) c.args.node i.within i.before
+      c.dismiss_at.new.place c.dismiss_at.ensures.place (c.dismiss_at.ensures.birth.kept c.args.node.birth i.own);
+  spare = c.dismiss_at.ensures.spare;
 }
 
 pub returns-clause-held : goal.returns-clause-held
-returns-clause-held c =
-    swept-held c.self.inside.places.items c.args.self.now.entries c.args.node c.in-Some.here (here (goal.at.returns-clause-held c).After-deref_mut)
-    _ (ap (λ (p : Place). p.node) c.deref_mut.ensures.value) c.dismiss.ensures.lawful c.put_back.new.place c.put_back.ensures.place
+returns-clause-held c = let i = here (goal.at.returns-clause-held c).After-index_mut in
+    write-held c.self.inside.places.items c.self.invariant.places c.args.self.now.entries (entries_are c.self.view_is) c.args.node i.within i.before
+    c.dismiss_at.new.place c.dismiss_at.ensures.place (c.dismiss_at.ensures.birth.kept c.args.node.birth i.own)
+    (members_by c.dismiss_at.new.place) refl
     ∙ with_members-same (held_of c.args.self.now.entries) c.args.node _
-    (λ u. ap (λ (h : HeaderState). members_of h u) (c.dismiss.ensures.after)
-    ∙ ap (λ (h : HeaderState). members_of h u) (was (goal.at.returns-clause-held c).After-deref_mut))
+    (λ u. ap (λ g. g u) c.dismiss_at.ensures.members ∙ ap (λ (h : HeaderState). members_of h u) i.header)
 
 pub returns-clause-queue : goal.returns-clause-queue
-returns-clause-queue c =
-    swept-queue c.self.inside.places.items c.args.self.now.entries c.args.node c.in-Some.here (here (goal.at.returns-clause-queue c).After-deref_mut)
-    _ (ap (λ (p : Place). p.node) c.deref_mut.ensures.value) c.dismiss.ensures.lawful c.put_back.new.place c.put_back.ensures.place
-    ∙ ap (with_waiters (queue_of c.args.self.now.entries) c.args.node) (ap (λ (h : HeaderState). h.queue) c.dismiss.ensures.after
-    ∙ ap (λ (h : HeaderState). without_waiter c.args.slot h.queue) (was (goal.at.returns-clause-queue c).After-deref_mut))
+returns-clause-queue c = let i = here (goal.at.returns-clause-queue c).After-index_mut in
+    write-queue c.self.inside.places.items c.self.invariant.places c.args.self.now.entries (entries_are c.self.view_is) c.args.node i.within i.before
+    c.dismiss_at.new.place c.dismiss_at.ensures.place (c.dismiss_at.ensures.birth.kept c.args.node.birth i.own) _
+    (c.dismiss_at.ensures.queue ∙ ap (λ (h : HeaderState). without_waiter c.args.slot h.queue) i.header)

@@ -1,71 +1,65 @@
-use Rattle.std.proofs.Common.{◌∙◌, ap, arith, subst, sym}
-use Rattle.std.specs.Prelude.{Some, slice_set}
+use Rattle.std.proofs.Common.{◌≡◌, ◌∙◌, [], ap, arith, refl, subst, sym}
+use Rattle.std.specs.Prelude.{IfNone, IfSome, Some, slice_set}
 use Rattle.gl_modes.specs.declared.mode.Mode.TheVariants.{NL}
-use Rattle.gl_header.specs.Headers.{HeadersState, header_or_new, held_of, queue_of}
-use Rattle.gl_header.specs.Places.{ArePlaces, entries_in}
-use Rattle.gl_header.specs.State.{HeaderState, members_of}
-use Rattle.gl_header.specs.declared.places.Place.{Place}
-use Rattle.gl_header.proofs.AtPlace.{IsAt, has_place, is_at, not_empty, taken-held, taken-places, taken-queue}
-use Rattle.gl_header.proofs.Changed.{with_members-same}
+use Rattle.gl_header.specs.Headers.{header_at, header_or_new, held_of, queue_of}
+use Rattle.gl_header.specs.Places.{ArePlaces, entries_in, header_of, stands}
+use Rattle.gl_header.specs.State.{HeaderState}
+use Rattle.gl_header.specs.declared.places.Shared.{Shared}
+use Rattle.gl_header.proofs.AtPlace.{IsAt, entries_are, free-of, free-place, has_header_at, has_place, is_at, no_box-no_queue}
+use Rattle.gl_header.proofs.AtPlace.{write-held, write-places, write-queue}
 use Rattle.gl_header.proofs.Unused.{unused-nobody}
+use Rattle.gl_header.proofs.headers.Headers.take.Goals.{in-Shared, in_default}
 use Rattle.gl_header.proofs.headers.Headers.take.Goals as goal
 
--- no header
-
-pub returns-in_err-get-clause-held : goal.returns-in_err-get-clause-held
-returns-in_err-get-clause-held c =
-    sym (with_members-same (held_of c.args.self.now.entries) c.args.node (λ _. NL)
-    (λ u. sym (ap (λ o. members_of (header_or_new o) u) (sym c.in_err-get.ensures) ∙ ap (λ g. g u) unused-nobody)))
-
--- a header: it stands in the box at the node's place
+-- the node has a header, which stands at its place
 
 pub index_mut-requires : goal.index_mut-requires
 index_mut-requires c =
-    let there = has_place c.self.inside.places.items c.self.invariant.places c.args.self.now.entries (ap (λ
-    (v : HeadersState). v.entries) c.self.view_is) c.args.node _ (sym c.in_ok-get.ensures) in
+    let has = has_header_at (header_at c.args.self.now.entries c.args.node) (sym c.is_idle.ensures ∙ c.if-is_idle.false) in
+    let there = has_place c.self.inside.places.items c.self.invariant.places c.args.self.now.entries (entries_are c.self.view_is) c.args.node has.0 has.1 in
     omega (arith, there)
 
-pub returns-in_err-here-clause-held : goal.returns-in_err-here-clause-held
-returns-in_err-here-clause-held c =
-    absurd (not_empty c.self.inside.places.items c.self.invariant.places c.args.self.now.entries (ap (λ
-    (v : HeadersState). v.entries) c.self.view_is) c.args.node _ (sym c.in_ok-get.ensures)
-    c.index_mut.result.now c.index_mut.ensures.value (sym c.in_err-here.ensures.value))
+module _ (c : goal.Joined-replace) where
+  has : (h : HeaderState) × (header_at c.args.self.now.entries c.args.node ≡ Some h)
+  has = has_header_at (header_at c.args.self.now.entries c.args.node) (sym c.is_idle.ensures ∙ c.if-is_idle.false)
 
-pub returns-in_err-here-clause-queue : goal.returns-in_err-here-clause-queue
-returns-in_err-here-clause-queue c =
-    absurd (not_empty c.self.inside.places.items c.self.invariant.places c.args.self.now.entries (ap (λ
-    (v : HeadersState). v.entries) c.self.view_is) c.args.node _ (sym c.in_ok-get.ensures)
-    c.index_mut.result.now c.index_mut.ensures.value (sym c.in_err-here.ensures.value))
+  here : IsAt c.self.inside.places.items c.args.self.now.entries c.args.node c.index_mut.result.now
+  here = is_at c.self.inside.places.items c.self.invariant.places c.args.self.now.entries (entries_are c.self.view_is) c.args.node has.0 has.1
+      c.index_mut.result.now c.index_mut.ensures.value
 
-pub returns-in_err-here-clause-taken : goal.returns-in_err-here-clause-taken
-returns-in_err-here-clause-taken c =
-    absurd (not_empty c.self.inside.places.items c.self.invariant.places c.args.self.now.entries (ap (λ
-    (v : HeadersState). v.entries) c.self.view_is) c.args.node _ (sym c.in_ok-get.ensures)
-    c.index_mut.result.now c.index_mut.ensures.value (sym c.in_err-here.ensures.value))
-
-here : (c : goal.After-into_inner) → IsAt c.self.inside.places.items c.args.self.now.entries c.args.node c.in_ok-here.here
-here c = is_at c.self.inside.places.items c.self.invariant.places c.args.self.now.entries (ap (λ
-    (v : HeadersState). v.entries) c.self.view_is) c.args.node _ (sym c.in_ok-get.ensures)
-    c.index_mut.result.now c.index_mut.ensures.value c.in_ok-here.here (sym c.in_ok-here.ensures.value)
-
-pub invariant_of-self-2 : goal.invariant_of-self-2
-invariant_of-self-2 c = record {
-  places = subst (λ x. ArePlaces (slice_set c.self.inside.places.items c.args.node.key x)) (sym c.take.ensures.after)
-      (taken-places c.self.inside.places.items c.args.self.now.entries c.args.node c.in_ok-here.here (here c));
+pub invariant_of-self : goal.invariant_of-self
+invariant_of-self c = record {
+  places = subst (λ x. ArePlaces (slice_set c.self.inside.places.items c.args.node.key x)) (sym c.replace.ensures.after)
+      (write-places c.self.inside.places.items c.self.invariant.places c.args.self.now.entries (entries_are c.self.view_is) c.args.node (here c).within
+      (here c).before _ free-place (free-of c.args.node.birth));
   spare = c.self.invariant.spare;
 }
 
 pub returns-clause-held : goal.returns-clause-held
 returns-clause-held c =
-    ap (λ x. held_of (entries_in (slice_set c.self.inside.places.items c.args.node.key x))) c.take.ensures.after
-    ∙ taken-held c.self.inside.places.items c.args.self.now.entries c.args.node c.in_ok-here.here (here c)
+    ap (λ x. held_of (entries_in (slice_set c.self.inside.places.items c.args.node.key x))) c.replace.ensures.after
+    ∙ write-held c.self.inside.places.items c.self.invariant.places c.args.self.now.entries (entries_are c.self.view_is) c.args.node (here c).within
+    (here c).before _ free-place (free-of c.args.node.birth) (λ _. NL) unused-nobody
 
 pub returns-clause-queue : goal.returns-clause-queue
 returns-clause-queue c =
-    ap (λ x. queue_of (entries_in (slice_set c.self.inside.places.items c.args.node.key x))) c.take.ensures.after
-    ∙ taken-queue c.self.inside.places.items c.args.self.now.entries c.args.node c.in_ok-here.here (here c)
+    ap (λ x. queue_of (entries_in (slice_set c.self.inside.places.items c.args.node.key x))) c.replace.ensures.after
+    ∙ write-queue c.self.inside.places.items c.self.invariant.places c.args.self.now.entries (entries_are c.self.view_is) c.args.node (here c).within
+    (here c).before _ free-place (free-of c.args.node.birth) [] refl
 
 pub returns-clause-taken : goal.returns-clause-taken
-returns-clause-taken c =
-    ap (λ (p : Place). Some p.header) c.into_inner.ensures
-    ∙ (ap (λ (h : HeaderState). Some h) ((here c).header ∙ ap header_or_new (sym c.in_ok-get.ensures)) ∙ c.in_ok-get.ensures)
+returns-clause-taken c = elim c.match-replace.branch [
+  | in-Shared w ↦ subst (λ o. IfSome o (λ h. header_at c.args.self.now.entries c.args.node ≡ Some h)) (sym w.result-is)
+      ((has c).1 ∙ ap Some (ap header_or_new (sym (has c).1)
+      ∙ (sym (here c).header ∙ (ap (λ p. header_of (stands p)) (sym c.replace.ensures.value ∙ w.in-Shared.is)
+      ∙ ap (λ (x : Shared). x.header) (sym w.into_inner.ensures)))))
+  | in_default w ↦ subst (λ o. IfSome o (λ h. header_at c.args.self.now.entries c.args.node ≡ Some h)) (sym w.result-is) tt
+]
+
+pub returns-clause-none : goal.returns-clause-none
+returns-clause-none c = elim c.match-replace.branch [
+  | in-Shared w ↦ subst (λ o. IfNone o (queue_of c.args.self.now.entries c.args.node ≡ [])) (sym w.result-is) tt
+  | in_default w ↦ subst (λ o. IfNone o (queue_of c.args.self.now.entries c.args.node ≡ [])) (sym w.result-is)
+      (ap (λ (h : HeaderState). h.queue) (sym (here c).header)
+      ∙ no_box-no_queue c.index_mut.result.now (λ x e. w.in_default.not-Shared x (c.replace.ensures.value ∙ e)))
+]

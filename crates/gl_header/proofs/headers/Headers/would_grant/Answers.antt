@@ -1,14 +1,30 @@
 use Rattle.std.proofs.Common.{[], ◌∙◌, ap, sym}
 use Rattle.gl_modes.specs.Modes.{supremum}
-use Rattle.gl_header.specs.Header.{enters}
+use Rattle.gl_modes.proofs.Words.{number_same}
+use Rattle.gl_header.specs.Header.{Members, enters}
 use Rattle.gl_header.specs.Headers.{header_or_new}
-use Rattle.gl_header.specs.State.{is_granted, slot_limit}
+use Rattle.gl_header.specs.State.{held_by_one, is_granted, slot_limit}
+use Rattle.gl_header.proofs.Alone.{alone-below, other-granted, own-granted}
 use Rattle.gl_header.proofs.Changed.{nobody-enters}
 use Rattle.gl_header.proofs.Unused.{unused-nobody}
 use Rattle.gl_header.proofs.headers.Headers.would_grant.Goals as goal
 
-pub returns-in-None : goal.returns-in-None
-returns-in-None c =
+pub returns-in-Nobody : goal.returns-in-Nobody
+returns-in-Nobody c =
     sym (nobody-enters slot_limit c.args.slot c.args.mode)
-    ∙ ap (λ g. enters slot_limit g [] c.args.slot (supremum (g c.args.slot) c.args.mode)) (sym unused-nobody)
-    ∙ ap (λ o. is_granted (header_or_new o) c.args.slot c.args.mode) c.in-None.ensures
+    ∙ ap (λ (g : Members). enters slot_limit g [] c.args.slot (supremum (g c.args.slot) c.args.mode)) (sym unused-nobody)
+    ∙ ap (λ o. is_granted (header_or_new o) c.args.slot c.args.mode) c.in-Nobody.ensures.is
+
+pub returns-then-holder-slot : goal.returns-then-holder-slot
+returns-then-holder-slot c =
+    number_same c.in-One.holder c.args.slot c.if-holder-slot.true
+    ∙ sym (own-granted c.args.slot c.in-One.held c.args.mode)
+    ∙ ap (λ t. is_granted (held_by_one t c.in-One.held) c.args.slot c.args.mode) (sym c.if-holder-slot.true)
+    ∙ ap (λ o. is_granted (header_or_new o) c.args.slot c.args.mode) c.in-One.ensures.is
+
+pub returns-else-holder-slot : goal.returns-else-holder-slot
+returns-else-holder-slot c =
+    c.compatible.ensures
+    ∙ other-granted c.in-One.holder c.in-One.held c.args.slot c.args.mode
+    (alone-below _ _ (c.in-One.ensures.lawful _ (sym c.in-One.ensures.is))) (λ e. c.if-holder-slot.false (sym e))
+    ∙ ap (λ o. is_granted (header_or_new o) c.args.slot c.args.mode) c.in-One.ensures.is

@@ -1,4 +1,4 @@
-use Rattle.gl_table.proofs.Words.{◌↔◌, IsOnCycleOf, IsTrue, List, Option, Seat, shown, subst, waits_for, ℕ}
+use Rattle.gl_table.proofs.Words.{◌↔◌, IsOnCycleOf, IsTrue, List, Option, Seat, shown, subst, waits_for}
 use Rattle.gl_slots.specs.Slots.{has_slot}
 use Rattle.gl_table.proofs.ledger.Ledger.cycle.Goals as goal
 

@@ -1,4 +1,4 @@
-use Rattle.gl_table.proofs.Words.{◌+◌, ◌<◌, ◌∙◌, ◌≡◌, ap, arith, Bool, graph_of, header_or_new, HeaderState, intends_over, length, List, mode_of, NL, NodeId}
+use Rattle.gl_table.proofs.Words.{◌+◌, ◌<◌, ◌∙◌, ◌≡◌, ap, arith, Bool, graph_of, intends_over, length, List, mode_of, NL, NodeId}
 use Rattle.gl_table.proofs.Words.{not, parents_of, queue_of, refl, slice_index_or, State, state_in, stays, subst, sym, take, Waiter, ℕ}
 use Rattle.gl_table.proofs.inside.TurnedAway.{allowed_stays}
 use Rattle.gl_model.proofs.law.Strays.{among_at, IsSetOf, set-with, set-without}
@@ -9,7 +9,7 @@ use Rattle.gl_table.proofs.ledger.Ledger.strays.Goals as goal
 pub index-list-requires : goal.index-list-requires
 index-list-requires c =
     let s : State = state_in c.args.graph.now c.args.self.now in
-    let queue = c.queue-slot-items.ensures ∙ ap (λ (h : HeaderState). h.queue) (ap header_or_new c.in-Some.ensures) in
+    let queue = c.queue-slot-items.ensures in
     let low = waiters_below s c.requires.orderly c.args.node _
     (among_at _ (queue_of c.args.self.now.headers.entries c.args.node) c.loop-slot.slot-index (0, NL) queue c.loop-slot-test.true) in
     omega (arith, c.requires.sound.lists, c.args.self.now.lists.ok.0)
@@ -17,7 +17,7 @@ index-list-requires c =
 pub insert-requires : goal.insert-requires
 insert-requires c =
     let s : State = state_in c.args.graph.now c.args.self.now in
-    let queue = c.queue-slot-items.ensures ∙ ap (λ (h : HeaderState). h.queue) (ap header_or_new c.in-Some.ensures) in
+    let queue = c.queue-slot-items.ensures in
     let low = waiters_below s c.requires.orderly c.args.node _
     (among_at _ (queue_of c.args.self.now.headers.entries c.args.node) c.loop-slot.slot-index (0, NL) queue c.loop-slot-test.true) in
     omega (arith, c.requires.sound.few)
@@ -30,7 +30,7 @@ loop-slot-preserved c =
     let q = c.queue-slot-items.result.now in
     let i = c.loop-slot.slot-index in
     let w : Waiter = slice_index_or q i (0, NL) in
-    let queue = c.queue-slot-items.ensures ∙ ap (λ (h : HeaderState). h.queue) (ap header_or_new c.in-Some.ensures) in
+    let queue = c.queue-slot-items.ensures in
     let low = waiters_below s c.requires.orderly c.args.node _
     (among_at _ (queue_of c.args.self.now.headers.entries c.args.node) i (0, NL) queue c.loop-slot-test.true) in
     let within : w.0 < length c.args.self.now.lists.items = subst (λ (k : ℕ). w.0 < k) (sym c.requires.sound.lists) low in

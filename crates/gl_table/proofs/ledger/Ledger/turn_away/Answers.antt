@@ -1,4 +1,4 @@
-use Rattle.gl_table.proofs.Words.{◌∙◌, ◌≡◌, ap, AreKept, books_of, Bool, false, graph_of, parents_of, state_in, stays, Waiter, ℕ}
+use Rattle.gl_table.proofs.Words.{◌∙◌, AreKept, books_of, Bool, graph_of, parents_of, state_in, stays, Waiter}
 use Rattle.gl_table.proofs.inside.Slots.{none_if}
 use Rattle.gl_table.proofs.inside.TurnedAway.{turned_agrees, turned_below, turned_front, turned_over, turned_room, turned_untold, turned_waits, turning_begins}
 use Rattle.gl_table.proofs.inside.TurnedAway.{turning_ends, turning_one}

@@ -1,18 +1,18 @@
 use Rattle.std.proofs.Common.{◌≡◌, ◌∙◌, true, ap, sym}
-use Rattle.gl_header.specs.Answers.{asked, asked_members, asked_queue}
 use Rattle.gl_header.specs.Groups.{held_by}
 use Rattle.gl_header.specs.Header.{with_mode}
 use Rattle.gl_header.specs.Sound.{IsLawful, state_of}
-use Rattle.gl_header.specs.State.{HeaderState, IsLawfulHeader, is_unused}
+use Rattle.gl_header.specs.State.{IsLawfulHeader, is_unused}
 use Rattle.gl_header.proofs.Lawful.{lawful}
 use Rattle.gl_header.proofs.Asks.{lawful-granted}
-use Rattle.gl_header.proofs.First.{first-answer, first-free, first-granted, first-members, first-nobody, first-queue, first-wanted}
-use Rattle.gl_header.proofs.header.Header.ask_first.Goals as goal
+use Rattle.gl_header.proofs.First.{first-free, first-granted, first-nobody, first-wanted}
+use Rattle.gl_header.proofs.Unused.{unused-true}
+use Rattle.gl_header.proofs.header.Header.hold_first.Goals as goal
 
 -- nobody used the header
 module _ (c : goal.After-self-1) where
   law : IsLawfulHeader (state_of c.self.inside)
-  law = lawful (state_of c.self.inside) c.self.invariant.group c.self.invariant.lawful
+  law = lawful c.self.inside.granted c.self.inside.queue.items c.self.invariant.group c.self.invariant.lawful
 
   unused : is_unused (state_of c.self.inside) ≡ true
   unused = ap is_unused c.self.view_is ∙ c.requires.unused
@@ -27,18 +27,8 @@ module _ (c : goal.After-self-1) where
 pub invariant_of-self : goal.invariant_of-self
 invariant_of-self c = record { group = c.of-self-inside.ensures.group; lawful = stays_lawful c }
 
-pub returns-clause-answer : goal.returns-clause-answer
-returns-clause-answer c =
-    first-answer _ (law c) (unused c) c.args.slot c.args.mode ∙ ap (λ (h : HeaderState). asked h c.args.slot c.args.mode) c.self.view_is
-
-pub returns-clause-members : goal.returns-clause-members
-returns-clause-members c =
-    c.of-self-inside.ensures.held ∙ first-members _ (law c) (unused c) c.args.slot c.args.mode
-    ∙ ap (λ (h : HeaderState). asked_members h c.args.slot c.args.mode) c.self.view_is
-
 pub returns-clause-queue : goal.returns-clause-queue
-returns-clause-queue c =
-    first-queue _ (law c) (unused c) c.args.slot c.args.mode ∙ ap (λ (h : HeaderState). asked_queue h c.args.slot c.args.mode) c.self.view_is
+returns-clause-queue c = (unused-true _ (law c) (unused c)).1
 
 pub returns-clause-lawful : goal.returns-clause-lawful
-returns-clause-lawful c = lawful _ c.of-self-inside.ensures.group (stays_lawful c)
+returns-clause-lawful c = lawful _ _ c.of-self-inside.ensures.group (stays_lawful c)
