@@ -23,6 +23,7 @@ use Rattle.gl_model.specs.Lawful.{EffX, IsLawful, eff_x, is_read}
 use Rattle.gl_model.specs.State.{State, Txn, live_by, lives, no_parents, with_grant, with_graph}
 use Rattle.gl_model.specs.Tellings.{Told}
 use Rattle.gl_model.proofs.law.Effects.{ReadOn, none_held}
+use Rattle.gl_model.proofs.law.Schema.{only_parent}
 use Rattle.gl_model.proofs.law.Searches.{GraphStep}
 use Rattle.gl_model.proofs.telling.Follows.{SameGrants}
 use Rattle.gl_steps.proofs.GraphChanges.{beside_x, born_births, born_kinds, born_old, born_step, is_new, quiet_under, x_here, x_on_parents}
@@ -43,25 +44,6 @@ at_least_is m h = search rules
 
 unheld_is : (m : Mode) → not (same_mode m NL) ≡ false → m ≡ NL
 unheld_is m h = search rules
-
--- the one parent of what goes with a node
-module _ (g : Graph) (law : IsLawfulGraph g) (n : NodeId) (movable : is_movable_shape (shape_of g n) ≡ true) (free : is_in_use g n ≡ false) where
-  only_parent : (q : NodeId) → is_child g n q ≡ true → parents_of g q ≡ n ∷ []
-  only_parent q c = by (node_at g q) refl (children_are g law n movable free q c).1 c
-    where
-      shaped : (sh : Shape) (ps : List NodeId) → HasShape g q sh ps → is_interval_shape (Some sh) ≡ true → list_any (same_node n) ps ≡ true → ps ≡ n ∷ []
-      shaped Inner ps h i l = absurd (no i)
-      shaped (File adopted) ps h i l = absurd (no i)
-      shaped (Index f bs) ps h i l = absurd (no i)
-      shaped (Interval place) ps h i l =
-          or_elim (same_node n h.0) false (sym (ap (list_any (same_node n)) h.1) ∙ l)
-          (λ here. h.1 ∙ ap (λ p. p ∷ []) (sym (same_node-equal n h.0 here))) (λ none. absurd (no none))
-      shaped (Rec keys) ps h i l = absurd (no i)
-
-      by : (o : Option Node) → node_at g q ≡ o → is_interval_shape (shape_in o) ≡ true → list_any (same_node n) (parents_in o) ≡ true
-          → parents_in o ≡ n ∷ []
-      by None e i l = absurd (no l)
-      by (Some x) e i l = shaped x.shape x.parents (law.well_formed q x e) i l
 
 module _ (s : State) (law : IsLawful s) (t : TxnId) (alive : lives s t ≡ true) (next : State) (law' : IsLawful (accepted_once next)) (told' : Told) where
   abbrev Kept : Type 0

@@ -6,5 +6,6 @@ pub mod Calls
 pub mod Locking
 pub mod Ends
 pub mod Moves
+pub mod Departing
 pub mod Records
 pub mod Adopting

@@ -248,7 +248,7 @@ module _ (s : State) (law : IsLawful s) (r : NodeId) (rec : is_record_shape (sha
 
 module _ (s : State) (law : IsLawful s) (r : NodeId) (rec : is_record_shape (shape_of s.graph r) ≡ true) where
   -- a record is nobody's parent
-  record_goes : GoAway s.graph (λ q. same_node q r) (without_node s.graph r)
+  pub record_goes : GoAway s.graph (λ q. same_node q r) (without_node s.graph r)
   record_goes = record {
     lawful = removed_lawful s.graph law.graph r rec;
     stays = λ q live e. stays_there s.graph law.graph r rec q live (same_node-other q r e);

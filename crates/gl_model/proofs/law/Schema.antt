@@ -1,14 +1,17 @@
 -- A schema changes under the lock of a transaction: nodes are dropped, and an index is made that its maker holds. The law of a state is kept.
-use Rattle.gl_model.proofs.Words.{[], ◌+◌, ◌∙◌, ◌∷◌, ◌≡◌, ◌≤◌, Active, and_both, ap, are_compatible, arith, false, first_not_ix, fits-from_all, Graph, HasNoCycle}
+use Rattle.gl_model.proofs.Words.{[], ◌+◌, ◌∙◌, ◌∷◌, ◌≡◌, ◌≤◌, Active, and_both, ap, are_compatible, arith, Bool, false, first_not_ix, fits-from_all, Graph, HasNoCycle}
 use Rattle.gl_model.proofs.Words.{Index, intends_over, interval_nodes, is_at_least, is_live, is_movable_shape, is_some, IsIndexBorn, IsLawful, IsLawfulGraph, List}
-use Rattle.gl_model.proofs.Words.{list_any, members, new_id, new_node, NL, Node, node_at, node_is, NodeId, None, not, old_below, or_no, parents_in, refl, same_node, shape_of, Some}
+use Rattle.gl_model.proofs.Words.{list_any, members, new_id, new_node, NL, Node, node_at, node_is, NodeId, None, not, old_below, Option, is_child, or_no, parents_in, parents_of, refl, same_node, same_node-equal, shape_in, shape_of, Some}
 use Rattle.gl_model.proofs.Words.{State, status_of, sym, true, with_grant, with_graph, X, ℕ}
 use Rattle.std.proofs.lemmas.Bool.{not-true}
-use Rattle.gl_graph.proofs.Branch.{left_lawful, left_live, live, stays_left}
+use Rattle.gl_modes.proofs.Words.{no, or_elim}
+use Rattle.gl_graph.proofs.Branch.{children_are, is_interval_shape, left_lawful, left_live, live, stays_left}
 use Rattle.gl_graph.proofs.NewIndex.{index_lawful}
 use Rattle.gl_graph.proofs.Unrefused.{IsRoomyIndex}
 use Rattle.gl_graph.specs.Changes.{without_branch}
+use Rattle.gl_graph.specs.Lawful.{HasShape}
 use Rattle.gl_graph.specs.Refusals.{is_in_use}
+use Rattle.gl_graph.specs.Shapes.{File, Inner, Interval, Rec, Shape}
 use Rattle.gl_model.specs.Calls.{dropped, goes_with}
 use Rattle.gl_model.proofs.law.Departures.{departed-no_cycle, departed_lawful, GoAway}
 use Rattle.gl_model.proofs.law.Keeps.{with_grant-lawful}
@@ -28,6 +31,25 @@ module _ (g : Graph) (law : IsLawfulGraph g) (n : NodeId) (movable : is_movable_
     where
       stays : (q : NodeId) → is_live g q ≡ true → goes_with g n q ≡ false → node_at (without_branch g n) q ≡ node_at g q
       stays q h e = let both = or_no _ _ e in stays_left g n (live g law n movable free) q h both.0 both.1
+
+-- the one parent of what goes with a node
+module _ (g : Graph) (law : IsLawfulGraph g) (n : NodeId) (movable : is_movable_shape (shape_of g n) ≡ true) (free : is_in_use g n ≡ false) where
+  pub only_parent : (q : NodeId) → is_child g n q ≡ true → parents_of g q ≡ n ∷ []
+  only_parent q c = by (node_at g q) refl (children_are g law n movable free q c).1 c
+    where
+      shaped : (sh : Shape) (ps : List NodeId) → HasShape g q sh ps → is_interval_shape (Some sh) ≡ true → list_any (same_node n) ps ≡ true → ps ≡ n ∷ []
+      shaped Inner ps h i l = absurd (no i)
+      shaped (File adopted) ps h i l = absurd (no i)
+      shaped (Index f bs) ps h i l = absurd (no i)
+      shaped (Interval place) ps h i l =
+          or_elim (same_node n h.0) false (sym (ap (list_any (same_node n)) h.1) ∙ l)
+          (λ here. h.1 ∙ ap (λ p. p ∷ []) (sym (same_node-equal n h.0 here))) (λ none. absurd (no none))
+      shaped (Rec keys) ps h i l = absurd (no i)
+
+      by : (o : Option Node) → node_at g q ≡ o → is_interval_shape (shape_in o) ≡ true → list_any (same_node n) (parents_in o) ≡ true
+          → parents_in o ≡ n ∷ []
+      by None e i l = absurd (no l)
+      by (Some x) e i l = shaped x.shape x.parents (law.well_formed q x e) i l
 
 pub dropped_lawful : (s : State) → IsLawful s → (n : NodeId) → is_movable_shape (shape_of s.graph n) ≡ true → is_in_use s.graph n ≡ false
     → IsLawful (dropped s n)

@@ -16,6 +16,7 @@ use Rattle.gl_table.specs.declared.locks.Locks.{Locks}
 use Rattle.gl_table.specs.declared.table.Table.TheInside.{Inside}
 use Rattle.gl_model.specs.declared.answers.Notice.TheVariants as notice
 use Rattle.gl_table.proofs.calls.Calls.{table_way}
+use Rattle.gl_table.proofs.calls.Departing.{AreGone}
 use Rattle.gl_model.proofs.law.Orderly.{lawful_orderly}
 use Rattle.gl_table.proofs.calls.Stands.{MayStand, stands, with_locks}
 use Rattle.gl_table.proofs.calls.Law.{called, held-lives, Suits, suited-stands}
@@ -24,8 +25,10 @@ use Rattle.gl_table.proofs.inside.Asks.{state-same}
 use Rattle.gl_table.proofs.inside.Slots.{keeps-agrees, keeps-counts}
 use Rattle.gl_model.proofs.law.Lock.{granted-no_cycle, shed-no_cycle}
 use Rattle.gl_table.proofs.inside.Vacated.{children-left}
-use Rattle.gl_model.proofs.law.Records.{adopted-children, adopted-lawful, born-live, born-unawaited, born-unheld, deleted-no_cycle, deleted_lawful}
-use Rattle.gl_model.proofs.law.Records.{forgotten-lawful, placed-lawful, record-grows, unheld-there}
+use Rattle.gl_model.proofs.law.Records.{adopted-children, adopted-lawful, born-live, born-unawaited, born-unheld}
+use Rattle.gl_model.proofs.law.Records.{forgotten-lawful, placed-lawful, record-grows, record_goes, unheld-there}
+use Rattle.gl_modes.specs.Nodes.{same_node}
+use Rattle.gl_modes.proofs.NodeLemmas.{same_node-equal}
 use Rattle.gl_model.proofs.law.Tests.{shed-lawful}
 use Rattle.gl_listed.proofs.Children.{one_found}
 use Rattle.gl_model.proofs.queues.Edits.{freed_other}
@@ -50,61 +53,16 @@ held_alone s law t n x u e =
 out_of_graph : (g : Graph) (n : NodeId) → is_live (without_node g n) n ≡ false
 out_of_graph g n = ap (λ b. is_some (with_key n.key (if b then None else g.at n.birth))) (number_same n.birth n.birth refl)
 
--- who waited for it is active
-active_again : (n : NodeId) (m : Mode) (x : Option Txn) → status_in x ≡ Some (Waiting n m) → status_in (freed n x) ≡ Some Active
-active_again n m None h = absurd (cc)
-active_again n m (Some x) h = let is : x.status ≡ Waiting n m = cc in ap (λ st. Some (none_but st n)) is
-    ∙ ap (λ b. Some (if b then Active else Waiting n m)) (same_node-refl n)
-
--- and is told that it is gone; all others, who do what they did, are told nothing
-deleted_tells : (s : State) (o : IsOrderly s) (r : NodeId) (u : ℕ)
-    → (if is_among_waiters u (s.queue r) then Some (record { slot = u; age = age_in (s.txns u) }, notice.Gone) else None) ≡ told_to s (deleted s r) u
-deleted_tells s o r u = split (is_among_waiters u (s.queue r)) (λ e.
-    let wait = waits_there s o u r e in
-    if-true _ e ∙ ap (λ b. addressed name (if not b then Some notice.Gone
-    else (if same_mode (now.held u r) wait.0 then Some (notice.Granted r wait.0) else Some notice.Moved))) (sym (out_of_graph s.graph r))
-    ∙ sym (ap (λ x. addressed name (told_from now u x)) wait.1
-    ∙ ap (λ x. addressed name (notice_of now u r wait.0 x)) (active_again r wait.0 (s.txns u) wait.1))) (λ e.
-    let same = freed_other r (s.txns u) (not_true (is_waiting_at s u r) (λ w. clash (stands_there s o u r w) e)) in
-    if-false _ e ∙ sym (ap (λ x. addressed (record { slot = u; age = age_in x }) (told_from now u (status_in x))) (sym same) ∙ nobody_told now u))
-  where
-    name : TxnId
-    name = record { slot = u; age = age_of s u }
-
-    now : State
-    now = deleted s r
-
-module _ (i : Inside) (sound : IsSound i) (r : NodeId) (rec : is_record_shape (shape_of (graph_of i.locks.graph) r) ≡ true)
-    (ledger : Ledger) (v : View) (removed : graph_of v ≡ without_node (graph_of i.locks.graph) r)
-    (is : state_on (without_node (graph_of i.locks.graph) r) ledger ≡ deleted (state_at i.locks) r) where
-  abbrev s : State
-  s = state_of (view_of i)
-
-  abbrev l : State
-  l = state_at i.locks
-
-  on_locks : state_in v ledger ≡ deleted l r
-  on_locks = ap (λ g. state_on g ledger) removed ∙ is
-
-  pub state_deleted : with_locks i (state_in v ledger) ≡ deleted s r
-  state_deleted = ap {A = State} (with_locks i) on_locks
-
-  pub stands_deleted : AreSound ledger → ((u : ℕ) → Agrees (deleted l r) ledger.lists.items u)
-      → ((u : ℕ) → CountsHeld (deleted l r) ledger.lists.items u) → MayStand i v ledger
-  stands_deleted are agrees counts = stands i v ledger (record {
-    lawful = subst IsLawful (sym state_deleted) (deleted_lawful s sound.lawful r rec);
-    no_cycle = λ at. subst HasNoCycle (sym state_deleted) (deleted-no_cycle s r (sound.no_cycle at));
-  }) (record {
-    sound = are;
-    agree = λ u. subst (λ x. Agrees x ledger.lists.items u) (sym on_locks) (agrees u);
-    count = λ u. subst (λ x. CountsHeld x ledger.lists.items u) (sym on_locks) (counts u);
-  })
-
-  pub told_deleted : (list : Told) → IsTold l.txns (λ u. is_among_waiters u (s.queue r)) (λ u. notice.Gone) [] list
-      → list ≡ told s (with_locks i (state_in v ledger))
-  told_deleted list tells =
-      told_is s (with_locks i (state_in v ledger)) list sound.lawful i.locks.sound.few tells.by_slot
-      (λ u. tells.notices u ∙ deleted_tells s (lawful_orderly s sound.lawful) r u ∙ sym (ap (λ x. told_to s x u) state_deleted))
+-- a record goes alone
+pub record_gone : (s : State) (law : IsLawful s) (r : NodeId) → is_record_shape (shape_of s.graph r) ≡ true → (g' : Graph) → g' ≡ without_node s.graph r
+    → AreGone s (λ q. same_node q r) g' r
+record_gone s law r rec g' is = subst (λ g. AreGone s (λ q. same_node q r) g r) (sym is) (record {
+  away = record_goes s law r rec;
+  itself = same_node-refl r;
+  off = out_of_graph s.graph r;
+  only = λ u q e h. same_node-equal q r e;
+  children = λ f none p. children-left s.graph law.graph r rec f (none r (same_node-refl r)) p;
+})
 
 -- A record is made in a table, and one transaction holds it in X: what holds of the fields still does.
 
