@@ -519,7 +519,7 @@ module _ (g : Graph) (law : IsLawfulGraph g) (n : NodeId) (movable : is_movable_
       (λ there. index_above f p is keys t.1 there c)
 
   -- no child of it is a parent
-  apart_from : (q p : NodeId) → is_child g p q ≡ true → is_child g n p ≡ true → ⊥
+  pub apart_from : (q p : NodeId) → is_child g p q ≡ true → is_child g n p ≡ true → ⊥
   apart_from q p h c = let node = child_node g q p h in by node.0.shape node.0.parents refl refl (law.well_formed q node.0 node.1) node.1 node.2
     where
       inner_only : (o : Option Shape) → is_inner_shape o ≡ true → is_interval_shape o ≡ true → ⊥

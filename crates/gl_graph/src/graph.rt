@@ -1,6 +1,6 @@
 //! The nodes of a lock graph, under keys that are used again, with births that are not.
 
-ghost use Rattle.std.specs.Prelude.{◌≡◌, ◌≢◌, ◌≤◌, ◌^◌, ℕ, true, Option, None};
+ghost use Rattle.std.specs.Prelude.{◌≡◌, ◌≢◌, ◌≤◌, ◌^◌, ℕ, true, Option, None, slice_get};
 ghost use Rattle.gl_graph.specs.Shapes.{
   is_adopted,
   is_file_shape,
@@ -217,6 +217,16 @@ impl Graph {
         match find(&self.nodes, index) {
             Some(node) => node.body.intervals().get(place).copied(),
             None => None,
+        }
+    }
+
+    /// The intervals of an index, in order; none where the id names no index.
+    pub fn intervals(&self, index: NodeId) -> &[NodeId]
+        ensures { (place : ℕ) → slice_get result.now place ≡ interval_at (graph_of self.now) index place }
+    {
+        match find(&self.nodes, index) {
+            Some(node) => node.body.intervals(),
+            None => &[],
         }
     }
 
