@@ -13,4 +13,5 @@ pub mod Asks
 pub mod Enqueues
 pub mod TurnedAway
 pub mod Vacated
+pub mod Branches
 pub mod Says

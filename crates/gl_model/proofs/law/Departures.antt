@@ -3,7 +3,8 @@ use Rattle.gl_model.proofs.Words.{[], ◌&&◌, ◌∙◌, ◌∷◌, ◌≡◌,
 use Rattle.gl_model.proofs.Words.{intends_over, is_ahead, is_among_waiters, is_at_least, is_child, is_live, is_record_shape, is_some, is_waiter, IsLawful}
 use Rattle.gl_model.proofs.Words.{IsLawfulGraph, less-no_cycle, members, Mode, ModeFitsKind, nat_tests, NL, node_at, NodeId, not, not_true, Option, parents_in, parents_of}
 use Rattle.gl_model.proofs.Words.{same_mode, shape_in, shape_of, Some, split, State, status_in, status_of, subst, sym, true, Txn, Waiting, waits_at, waits_for, ℕ}
-use Rattle.gl_model.specs.Calls.{departed, freed_among}
+use Rattle.gl_model.proofs.Words.{◌||◌, Active, Condemned, fun_ext, IsOrderly, None, or-true, refl, Status}
+use Rattle.gl_model.specs.Calls.{departed, freed_among, none_among}
 use Rattle.gl_model.proofs.law.Edges.{is_step, step_is}
 use Rattle.gl_model.proofs.law.Keeps.{rule_same}
 use Rattle.gl_model.proofs.queues.Waiters.{among_by_filter}
@@ -105,3 +106,60 @@ module _ (s : State) (goes : NodeId → Bool) (g' : Graph) where
 
   pub departed-no_cycle : HasNoCycle s → HasNoCycle (departed s goes g')
   departed-no_cycle none = less-no_cycle (waits_for s) (waits_for (departed s goes g')) departed_steps none
+
+-- What holds of a state between the steps of a call holds without these locks too.
+
+module _ (s : State) (o : IsOrderly s) (goes : NodeId → Bool) where
+  abbrev cleared : State
+  cleared = departed s goes s.graph
+
+  still_held : (u : ℕ) (q : NodeId) → holds (members cleared q) u ≡ true → holds (members s q) u ≡ true
+  still_held u q h = grind (arith, nat_tests, goes q)
+
+  still_among : (u : ℕ) (q : NodeId) → is_among_waiters u (cleared.queue q) ≡ true → (goes q ≡ false) × (is_among_waiters u (s.queue q) ≡ true)
+  still_among u q h = grind (arith, nat_tests, goes q)
+
+  still_on : (q : NodeId) (x : Option Txn) → waits_at (status_in x) q ≡ true → goes q ≡ false → waits_at (status_in (freed_among goes x)) q ≡ true
+  still_on q x h e = grind (arith, nat_tests)
+
+  pub cleared_orderly : IsOrderly cleared
+  cleared_orderly = record {
+    holders = λ u q h. some_freed_among goes (s.txns u) ∙ o.holders u q (still_held u q h);
+    holders_live = λ u q h. o.holders_live u q (still_held u q h);
+    waiters_live = λ u q h. o.waiters_live u q (still_among u q h).1;
+    waits_are = λ u q h. let w = still_among u q h in still_on q (s.txns u) (o.waits_are u q w.1) w.0;
+    one_wait = λ u q m st.
+        let w = still_waits_among goes q m (s.txns u) st in
+        let one = o.one_wait u q m w.0 in
+        (ap (λ b. filter (is_waiter u) (if b then [] else s.queue q)) w.1 ∙ one.0, one.1);
+    below = λ u h. o.below u (sym (some_freed_among goes (s.txns u)) ∙ h);
+  }
+
+-- the locks on nodes go, and then those on others
+pub departed_twice : (s : State) (a b : NodeId → Bool) → departed (departed s a s.graph) b s.graph ≡ departed s (λ q. b q || a q) s.graph
+departed_twice s a b = λ i. record s {
+  held = fun_ext (λ u. fun_ext (λ q. twice (b q) (a q) NL (s.held u q))) i;
+  queue = fun_ext (λ q. twice (b q) (a q) [] (s.queue q)) i;
+  txns = fun_ext (λ u. freed_twice (s.txns u)) i;
+}
+  where
+    twice : {A : Type 0} (x y : Bool) (none some : A) → (if x then none else (if y then none else some)) ≡ (if x || y then none else some)
+    twice true y none some = refl
+    twice false y none some = refl
+
+    status_twice : (st : Status) → none_among b (none_among a st) ≡ none_among (λ q. b q || a q) st
+    status_twice Active = refl
+    status_twice Condemned = refl
+    status_twice (Waiting q m) = by (a q) (b q)
+      where
+        by : (x y : Bool) → none_among b (if x then Active else Waiting q m) ≡ (if b q || x then Active else Waiting q m)
+        by true y = sym (ap (λ z. if z then Active else Waiting q m) (or-true (b q)))
+        by false y = ap (λ z. if z then Active else Waiting q m) (sym (or_false (b q)))
+          where
+            or_false : (z : Bool) → (z || false) ≡ z
+            or_false true = refl
+            or_false false = refl
+
+    freed_twice : (x : Option Txn) → freed_among b (freed_among a x) ≡ freed_among (λ q. b q || a q) x
+    freed_twice None = refl
+    freed_twice (Some x) = ap (λ st. Some (record { age = x.age; status = st })) (status_twice x.status)

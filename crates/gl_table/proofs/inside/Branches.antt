@@ -1,0 +1,240 @@
+-- The locks on a node that is in no use go, and those on its children, one by one: what is left. For nodes that are dropped.
+use Rattle.gl_table.proofs.Words.{[], ◌&&◌, ◌+◌, ◌++◌, ◌<◌, ◌==◌, ◌||◌, ◌∙◌, ◌∷◌, ◌≡◌, Active, age_in, and_both, ap, ap₂, AreExact, arith, Bool, CanTell, clash, departed}
+use Rattle.gl_table.proofs.Words.{false, fun_ext, Graph, graph_of, held_children, holds, if◌then◌else◌, is_among_waiters, is_child, is_live, IsBySlot, IsLawfulGraph}
+use Rattle.gl_table.proofs.Words.{IsOrderly, IsTold, length, List, list_any, members, Mode, nat_tests, NL, NodeId, nodes, nodes_live, None, not, not_true, notices_in}
+use Rattle.gl_table.proofs.Words.{number_same, Option, parents_in, refl, same_mode, same_node, same_node-equal, same_node-refl, same_node-sym, same_number, is_some, shape_of, Some, split, State}
+use Rattle.gl_table.proofs.Words.{state_in, status_in, status_of, subst, sym, take, Told, true, Txn, View, Waiting, ℕ, slice_get, slice_index_or, count_none, suc, zero, get_or, ◌≤◌}
+use Rattle.gl_modes.proofs.Words.{no, or_elim, or_left, or_right, some_is}
+use Rattle.std.proofs.lemmas.List.{take_more}
+use Rattle.std.proofs.lemmas.List.Folds.{list_any-append}
+use Rattle.gl_graph.specs.Graph.{interval_at, Node, node_at}
+use Rattle.gl_graph.specs.Refusals.{is_in_use}
+use Rattle.gl_graph.specs.Shapes.{is_movable_shape}
+use Rattle.gl_graph.proofs.Branch.{apart_from, at_child, child_at, children_are, live, movable_no_interval}
+use Rattle.gl_model.specs.Calls.{freed_among, goes_with, none_among}
+use Rattle.gl_model.specs.State.{waits_at}
+use Rattle.gl_model.specs.declared.answers.Notice.TheVariants as notice
+use Rattle.gl_model.specs.declared.txn.Status.{Status}
+use Rattle.gl_model.specs.declared.txn.Status.TheVariants.{Condemned}
+use Rattle.gl_model.proofs.law.Departures.{age_freed_among, cleared_orderly, departed_twice}
+use Rattle.gl_model.proofs.queues.Waiters.{if-false, if-true}
+use Rattle.gl_model.proofs.telling.Fronts.{stands_there}
+use Rattle.gl_table.specs.declared.ledger.Ledger.{Ledger}
+
+-- an item of a list is among it, and what is among it is an item
+item_among : (xs : List NodeId) (p : ℕ) (x : NodeId) → slice_get xs p ≡ Some x → list_any (same_node x) xs ≡ true
+item_among [] p x e = absurd (cc e)
+item_among (y ∷ ys) zero x e = or_left _ _ (ap (same_node x) (some_is e) ∙ same_node-refl x)
+item_among (y ∷ ys) (suc p) x e = or_right _ _ (item_among ys p x e)
+
+among_item : (xs : List NodeId) (q : NodeId) → list_any (same_node q) xs ≡ true → (p : ℕ) × (slice_get xs p ≡ Some q)
+among_item [] q h = absurd (no h)
+among_item (y ∷ ys) q h =
+    or_elim (same_node q y) (list_any (same_node q) ys) h (λ here. (zero, ap Some (sym (same_node-equal q y here))))
+    (λ there. let it = among_item ys q there in (suc it.0, it.1))
+
+-- where nobody holds a node or waits for it, nothing goes
+pub departed_nothing : (s : State) → IsOrderly s → (x : NodeId) → ((u : ℕ) → s.held u x ≡ NL) → s.queue x ≡ [] → departed s (λ q. same_node q x) s.graph ≡ s
+departed_nothing s o x unheld unawaited = λ i. record s {
+  held = fun_ext (λ u. fun_ext (λ q. held_is u q)) i;
+  queue = fun_ext queue_is i;
+  txns = fun_ext (λ u. freed_none u (s.txns u) refl) i;
+}
+  where
+    held_is : (u : ℕ) (q : NodeId) → (if same_node q x then NL else s.held u q) ≡ s.held u q
+    held_is u q = split (same_node q x)
+        (λ e. ap (λ b. if b then NL else s.held u q) e ∙ sym (ap (s.held u) (same_node-equal q x e) ∙ unheld u))
+        (λ e. ap (λ b. if b then NL else s.held u q) e)
+
+    queue_is : (q : NodeId) → (if same_node q x then [] else s.queue q) ≡ s.queue q
+    queue_is q = split (same_node q x)
+        (λ e. ap (λ b. if b then [] else s.queue q) e ∙ sym (ap s.queue (same_node-equal q x e) ∙ unawaited))
+        (λ e. ap (λ b. if b then [] else s.queue q) e)
+
+    waits_there : (u : ℕ) (q : NodeId) (m : Mode) → status_of s u ≡ Some (Waiting q m) → same_node q x ≡ false
+    waits_there u q m st = not_true (same_node q x) (λ e.
+        let here = stands_there s o u q (ap (λ y. waits_at y q) st ∙ same_node-refl q) in
+        no (sym (ap (λ p. is_among_waiters u (s.queue p)) (same_node-equal q x e) ∙ ap (is_among_waiters u) unawaited) ∙ here))
+
+    freed_none : (u : ℕ) (t : Option Txn) → s.txns u ≡ t → freed_among (λ q. same_node q x) t ≡ t
+    freed_none u None e = refl
+    freed_none u (Some t) e = ap (λ st. Some (record { age = t.age; status = st })) (by t.status (ap status_in e))
+      where
+        by : (st : Status) → status_of s u ≡ Some st → none_among (λ q. same_node q x) st ≡ st
+        by Active h = refl
+        by Condemned h = refl
+        by (Waiting q m) h = ap (λ b. if b then Active else Waiting q m) (waits_there u q m h)
+
+-- the slot holds the node, and nobody else the node or a child of it; nobody waits for a child
+pub record MayClear (s : State) (t : ℕ) (n : NodeId) (xs : List NodeId) : Type 0 where
+  pub law : IsLawfulGraph s.graph
+  pub orderly : IsOrderly s
+  pub active : status_of s t ≡ Some Active
+  pub movable : is_movable_shape (shape_of s.graph n) ≡ true
+  pub free : is_in_use s.graph n ≡ false
+  pub holding : holds (members s n) t ≡ true
+  pub alone : (u : ℕ) (q : NodeId) → (u == t) ≡ false → goes_with s.graph n q ≡ true → s.held u q ≡ NL
+  pub unawaited : (q : NodeId) → is_child s.graph n q ≡ true → s.queue q ≡ []
+  pub each : (place : ℕ) → slice_get xs place ≡ interval_at s.graph n place
+
+module _ {s : State} {t : ℕ} {n : NodeId} {xs : List NodeId} (may : MayClear s t n xs) where
+  -- the state once those before this place were cleared
+  abbrev pub before : ℕ → State
+  before k = departed s (λ q. list_any (same_node q) (take k xs)) s.graph
+
+  child_is : (q : NodeId) → list_any (same_node q) xs ≡ true → is_child s.graph n q ≡ true
+  child_is q h = let it = among_item xs q h in at_child s.graph may.law n may.movable may.free it.0 q (sym (may.each it.0) ∙ it.1)
+
+  is_listed_child : (q : NodeId) → is_child s.graph n q ≡ true → list_any (same_node q) xs ≡ true
+  is_listed_child q c = let it = child_at s.graph may.law n may.movable may.free q c in item_among xs it.0 q (may.each it.0 ∙ it.1)
+
+  -- the node is no child of its own
+  not_itself : list_any (same_node n) xs ≡ false
+  not_itself = not_true _ (λ h. no (sym (movable_no_interval (shape_of s.graph n) may.movable)
+      ∙ (children_are s.graph may.law n may.movable may.free n (child_is n h)).1))
+
+  whole : (q : NodeId) → (same_node q n || list_any (same_node q) xs) ≡ goes_with s.graph n q
+  whole q = ap₂ (λ a b. a || b) (same_node-sym q n)
+      (split (list_any (same_node q) xs) (λ e. e ∙ sym (child_is q e))
+      (λ e. e ∙ sym (not_true (is_child s.graph n q) (λ c. clash (is_listed_child q c) e))))
+
+  module _ (k : ℕ) where
+    taken_among : (q : NodeId) → list_any (same_node q) (take k xs) ≡ true → list_any (same_node q) xs ≡ true
+    taken_among q h = by k xs h
+      where
+        by : (j : ℕ) (ys : List NodeId) → list_any (same_node q) (take j ys) ≡ true → list_any (same_node q) ys ≡ true
+        by zero ys h' = absurd (no h')
+        by (suc j) [] h' = absurd (no h')
+        by (suc j) (y ∷ ys) h' =
+            or_elim (same_node q y) (list_any (same_node q) (take j ys)) h' (λ here. or_left _ _ here) (λ there. or_right _ _ (by j ys there))
+
+    pub before_orderly : IsOrderly (before k)
+    before_orderly = cleared_orderly s may.orderly (λ q. list_any (same_node q) (take k xs))
+
+    pub before_active : status_of (before k) t ≡ Some Active
+    before_active = by (s.txns t) may.active
+      where
+        by : (x : Option Txn) → status_in x ≡ Some Active → status_in (freed_among (λ q. list_any (same_node q) (take k xs)) x) ≡ Some Active
+        by None h = absurd (cc h)
+        by (Some x) h = let is : x.status ≡ Active = cc in ap (λ st. Some (none_among (λ q. list_any (same_node q) (take k xs)) st)) is
+
+    pub before_alone : (u : ℕ) (q : NodeId) → (u == t) ≡ false → goes_with s.graph n q ≡ true → (before k).held u q ≡ NL
+    before_alone u q e g = split (list_any (same_node q) (take k xs)) (λ h. if-true _ h) (λ h. if-false _ h ∙ may.alone u q e g)
+
+    pub before_unawaited : (q : NodeId) → is_child s.graph n q ≡ true → (before k).queue q ≡ []
+    before_unawaited q c = split (list_any (same_node q) (take k xs)) (λ h. if-true _ h) (λ h. if-false _ h ∙ may.unawaited q c)
+
+    -- one of the children
+    module _ (x : NodeId) (at : slice_get xs k ≡ Some x) where
+      pub child_here : is_child s.graph n x ≡ true
+      child_here = child_is x (item_among xs k x at)
+
+      pub child_live : is_live s.graph x ≡ true
+      child_live = by child_here
+        where
+          by : is_child s.graph n x ≡ true → is_live s.graph x ≡ true
+          by c = there (node_at s.graph x) c
+            where
+              there : (o : Option Node) → list_any (same_node n) (parents_in o) ≡ true → is_some o ≡ true
+              there None h = h
+              there (Some y) h = refl
+
+      pub childless : (u : ℕ) → held_children (before k) u x ≡ 0
+      childless u = count_none (is_live s.graph) (λ c. is_child s.graph x c && holds (members (before k) c) u) (nodes s.graph) (nodes_live s.graph)
+          (λ c on. ap (λ b. b && holds (members (before k) c) u) (not_true (is_child s.graph x c)
+          (λ h. apart_from s.graph may.law n may.movable may.free c x h child_here)))
+
+      low : k < length xs
+      low = by k xs at
+        where
+          by : (j : ℕ) (ys : List NodeId) → slice_get ys j ≡ Some x → j < length ys
+          by j [] e = absurd (cc e)
+          by zero (y ∷ ys) e = omega arith
+          by (suc j) (y ∷ ys) e = let rest = by j ys e in omega arith
+
+      item : get_or xs k x ≡ x
+      item = by k xs at
+        where
+          by : (j : ℕ) (ys : List NodeId) → slice_get ys j ≡ Some x → get_or ys j x ≡ x
+          by j [] e = refl
+          by zero (y ∷ ys) e = some_is e
+          by (suc j) (y ∷ ys) e = by j ys e
+
+      more : (q : NodeId) → (same_node q x || list_any (same_node q) (take k xs)) ≡ list_any (same_node q) (take (k + 1) xs)
+      more q =
+          turn (same_node q x) (list_any (same_node q) (take k xs))
+          ∙ sym (ap (list_any (same_node q)) (take_more xs k x low ∙ ap (λ y. take k xs ++ y ∷ []) item)
+          ∙ list_any-append (same_node q) (take k xs) (x ∷ []))
+        where
+          turn : (a b : Bool) → (a || b) ≡ (b || (a || false))
+          turn true true = refl
+          turn true false = refl
+          turn false true = refl
+          turn false false = refl
+
+      -- its locks go
+      pub one_more : departed (before k) (λ q. same_node q x) s.graph ≡ before (k + 1)
+      one_more = departed_twice s (λ q. list_any (same_node q) (take k xs)) (λ q. same_node q x)
+          ∙ ap (λ (goes : NodeId → Bool). departed s goes s.graph) (fun_ext more)
+
+  -- in the end nobody holds a child
+  module _ (k : ℕ) (all : take k xs ≡ xs) where
+    pub end_held : (before k).held t n ≡ s.held t n
+    end_held = if-false _ (ap (list_any (same_node n)) all ∙ not_itself)
+
+    pub end_queue : (before k).queue n ≡ s.queue n
+    end_queue = if-false _ (ap (list_any (same_node n)) all ∙ not_itself)
+
+    pub end_childless : (u : ℕ) → held_children (before k) u n ≡ 0
+    end_childless u = count_none (is_live s.graph) (λ c. is_child s.graph n c && holds (members (before k) c) u) (nodes s.graph) (nodes_live s.graph)
+        (λ c on. split (is_child s.graph n c)
+        (λ h. ap₂ (λ a b. a && b) h (ap (λ b. not (same_mode (if b then NL else s.held u c) NL)) (ap (list_any (same_node c)) all ∙ is_listed_child c h)))
+        (λ h. ap (λ b. b && holds (members (before k) c) u) h))
+
+    pub end_whole : departed (before k) (λ q. same_node q n) s.graph ≡ departed s (goes_with s.graph n) s.graph
+    end_whole = departed_twice s (λ q. list_any (same_node q) (take k xs)) (λ q. same_node q n)
+        ∙ ap (λ (goes : NodeId → Bool). departed s goes s.graph)
+        (fun_ext (λ q. ap (λ (ys : List NodeId). same_node q n || list_any (same_node q) ys) all ∙ whole q))
+
+-- the ledger and the told list while the children are cleared
+pub record IsClearing (g : View) (s : State) (xs : List NodeId) (k : ℕ) (l : Ledger) (first list : Told) : Type 0 where
+  pub exact : AreExact g l
+  pub state : state_in g l ≡ departed s (λ q. list_any (same_node q) (take k xs)) s.graph
+  pub by_slot : IsBySlot list
+  pub same : (u : ℕ) → notices_in list u ≡ notices_in first u
+
+-- in the end those who waited for the node are told
+pub told_after : (s now : State) (n : NodeId) (first mid list : Told) → now.queue n ≡ s.queue n → ((u : ℕ) → age_in (now.txns u) ≡ age_in (s.txns u))
+    → ((u : ℕ) → notices_in mid u ≡ notices_in first u) → IsTold now.txns (λ u. is_among_waiters u (now.queue n)) (λ u. notice.Gone) mid list
+    → IsTold s.txns (λ u. is_among_waiters u (s.queue n)) (λ u. notice.Gone) first list
+told_after s now n first mid list queue ages same tells = record {
+  by_slot = tells.by_slot;
+  notices = λ u. tells.notices u ∙ ap₂ (λ b x. if b then Some (record { slot = u; age = age_in (now.txns u) }, notice.Gone) else x)
+      (ap (is_among_waiters u) queue) (same u)
+      ∙ ap (λ a. if is_among_waiters u (s.queue n) then Some (record { slot = u; age = a }, notice.Gone) else notices_in first u) (ages u);
+}
+
+-- an item by its place
+pub item_at : (xs : List NodeId) (k : ℕ) (d : NodeId) → k < length xs → slice_get xs k ≡ Some (slice_index_or xs k d)
+item_at [] k d low = absurd (omega arith)
+item_at (x ∷ xs) zero d low = refl
+item_at (x ∷ xs) (suc k) d low = item_at xs k d (omega arith)
+
+pub take_all : (xs : List NodeId) (k : ℕ) → length xs ≤ k → take k xs ≡ xs
+take_all [] zero h = refl
+take_all [] (suc k) h = refl
+take_all (x ∷ xs) zero h = absurd (omega arith)
+take_all (x ∷ xs) (suc k) h = ap (λ ys. x ∷ ys) (take_all xs k (omega arith))
+
+-- where nothing goes all stays
+pub departed_none : (s : State) → departed s (λ q. false) s.graph ≡ s
+departed_none s = λ i. record s { txns = fun_ext (λ u. freed_never (s.txns u)) i }
+  where
+    freed_never : (x : Option Txn) → freed_among (λ q. false) x ≡ x
+    freed_never None = refl
+    freed_never (Some x) = ap (λ st. Some (record { age = x.age; status = st })) (by x.status)
+      where
+        by : (st : Status) → none_among (λ q. false) st ≡ st
+        by Active = refl
+        by (Waiting q m) = refl
+        by Condemned = refl
