@@ -1,5 +1,5 @@
 -- What stands against a drop, read off what is kept beside the graph.
-use Rattle.std.specs.Prelude.{◌≡◌, ℕ, Bool, true, false, ◌||◌, nat_lt, List, length, Option, Some, None}
+use Rattle.std.specs.Prelude.{◌≡◌, ℕ, true, false, ◌||◌, nat_lt, List, length, Some}
 use Rattle.std.proofs.Common.{refl, sym, ap, ap₂, ◌∙◌, subst}
 use Rattle.gl_modes.proofs.Words.{no}
 use Rattle.gl_modes.specs.declared.node.NodeId.{NodeId}
@@ -10,8 +10,8 @@ use Rattle.gl_graph.specs.declared.node.Body.TheVariants as body
 use Rattle.gl_graph.specs.declared.node.FileBody.{FileBody}
 use Rattle.gl_graph.specs.declared.node.IndexBody.{IndexBody}
 use Rattle.gl_graph.specs.declared.node.Node.{Node as Stored}
-use Rattle.gl_graph.specs.Shapes.{Shape, Inner, File, Index, is_file_shape, is_inner_shape}
-use Rattle.gl_graph.specs.Graph.{shape_of, indexes_of, nodes, is_record_of}
+use Rattle.gl_graph.specs.Shapes.{File, Index, is_file_shape, is_inner_shape}
+use Rattle.gl_graph.specs.Graph.{shape_of, nodes, is_record_of}
 use Rattle.gl_graph.specs.Lawful.{IsLawfulGraph}
 use Rattle.gl_graph.specs.Refusals.{has_records, is_in_use, is_shape_in_use}
 use Rattle.gl_graph.specs.View.{View, graph_of}

@@ -21,12 +21,14 @@ use Rattle.gl_graph.specs.Lawful.{IsLawfulGraph}
 use Rattle.gl_graph.specs.Changes.{without_branch}
 use Rattle.gl_graph.specs.Refusals.{is_in_use}
 use Rattle.gl_graph.specs.View.{graph_of, node_of, KeepsBeside, AgreesAt}
-use Rattle.gl_graph.specs.Seen.{Limits, shape_in_body, indexes_in_body, records_in_body, intervals_in_body, body_without_index, vertex_of, seen, AreBornApart, AreSound, parent_list}
+use Rattle.gl_graph.specs.Seen.{Limits, shape_in_body, indexes_in_body, records_in_body, intervals_in_body, body_without_index, vertex_of, seen}
+use Rattle.gl_graph.specs.Seen.{AreBornApart, AreSound, parent_list}
 use Rattle.gl_graph.specs.Grown.{AreStored, AreGone}
 use Rattle.gl_graph.proofs.KindRules.{index_node, plain_live, file_plain}
 use Rattle.gl_graph.proofs.Slots.{at_birth, at_slot, slot_at, stored_of, node_there, written_apart, unseen}
 use Rattle.gl_graph.proofs.Beside.{FileSlot, file_slot}
-use Rattle.gl_graph.proofs.Branch.{left, gone, gone_is, live, interval_count, is_interval_shape, movable_no_interval, no_interval_file, no_children, left_lawful, count_left}
+use Rattle.gl_graph.proofs.Branch.{left, gone, gone_is, live, interval_count, is_interval_shape, movable_no_interval, no_interval_file, no_children}
+use Rattle.gl_graph.proofs.Branch.{left_lawful, count_left}
 use Rattle.gl_graph.proofs.Branch.{other_indexes, indexes_left, records_left, interval_stays, children_are, child_interval, interval_child}
 use Rattle.gl_graph.proofs.Unrefused.{or_no}
 
@@ -108,7 +110,8 @@ module _ (limits : Limits) (old new : Slab Stored) (births : ℕ) (sound : AreSo
     lawful = subst IsLawfulGraph (sym branch_graph) (left_lawful g sound.lawful n movable free);
     apart = branch_apart;
     counted = branch_counted (by (shape_of g n) no_index) ∙ ap node_count (sym branch_graph);
-    agree = λ k y e. subst (λ h. AgreesAt h k (vertex_of y)) (sym branch_graph) (branch_agrees k y e (not_of (shape_of g n) no_index (record { key = k; birth = y.birth })));
+    agree = λ k y e. subst (λ h. AgreesAt h k (vertex_of y)) (sym branch_graph)
+        (branch_agrees k y e (not_of (shape_of g n) no_index (record { key = k; birth = y.birth })));
   }
     where
       by : (o : Option Shape) → is_index_shape o ≡ false → slab_len new + (1 + interval_count o) ≡ slab_len old
@@ -223,8 +226,7 @@ module _ (limits : Limits) (old mid : Slab Stored) (births : ℕ) (sound : AreSo
   interval_is place m e =
       let at = at_place place m e in
       let node = (index_node s sound.lawful n f bs shape_is).intervals place at.0 in
-      let there' : node_at s m ≡ _ = ap (node_at s) at.1 ∙ node in
-      (
+      let there' : node_at s m ≡ _ = ap (node_at s) at.1 ∙ node in (
         ap is_some there',
         ap (λ o. is_interval_shape (shape_in o)) there',
         ap (is_child s n) at.1 ∙ interval_child s sound.lawful n f bs shape_is place at.0,

@@ -1,4 +1,4 @@
-use Rattle.std.proofs.Common.{◌≡◌, ◌+◌, ◌++◌, ◌∷◌, [], List, length, Err, is_some, refl, sym, ap, ap₂, ◌∙◌, subst, arith}
+use Rattle.std.proofs.Common.{◌≡◌, ◌+◌, ◌++◌, ◌∷◌, [], List, length, is_some, refl, sym, ap, ap₂, ◌∙◌, subst, arith}
 use Rattle.gl_modes.specs.declared.node.NodeId.{NodeId}
 use Rattle.slab.specs.Slab.{Slab}
 use Rattle.gl_graph.specs.declared.node.Body.TheVariants as body

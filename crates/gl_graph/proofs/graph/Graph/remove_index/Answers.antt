@@ -1,5 +1,5 @@
 use Rattle.std.specs.Prelude.{List, length}
-use Rattle.std.proofs.Common.{◌≡◌, Some, true, false, is_some, sym, ap, ap₂, ◌∙◌, subst}
+use Rattle.std.proofs.Common.{◌≡◌, Some, true, false, is_some, sym, ap, ◌∙◌, subst}
 use Rattle.gl_modes.specs.declared.node.NodeId.{NodeId}
 use Rattle.slab.specs.Slab.{get, Updates}
 use Rattle.gl_graph.specs.declared.node.IndexBody.{IndexBody}
