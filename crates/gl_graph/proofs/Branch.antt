@@ -80,7 +80,7 @@ movable_no_interval (Some (Index f bs)) h = refl
 movable_no_interval (Some (Interval place)) h = absurd (no h)
 movable_no_interval (Some (Rec keys)) h = refl
 
-movable_no_record : (o : Option Shape) → is_movable_shape o ≡ true → is_record_shape o ≡ false
+pub movable_no_record : (o : Option Shape) → is_movable_shape o ≡ true → is_record_shape o ≡ false
 movable_no_record None h = refl
 movable_no_record (Some Inner) h = refl
 movable_no_record (Some (File adopted)) h = refl
@@ -275,7 +275,7 @@ module _ (g : Graph) (law : IsLawfulGraph g) where
       (all_filter (λ i. is_index_of_shape f (shape_of g i)) (nodes g)) there))
 
   -- the kind of a node of which this one is a child
-  abbrev parent_kind : Shape → Option Shape → Bool
+  abbrev pub parent_kind : Shape → Option Shape → Bool
   parent_kind (Interval place) o = is_index_shape o
   parent_kind (Rec keys) o = file_or_interval o
   parent_kind sh o = is_inner_shape o
@@ -543,7 +543,7 @@ module _ (g : Graph) (law : IsLawfulGraph g) (n : NodeId) (movable : is_movable_
           (all_filter (λ i. is_index_of_shape k.0 (shape_of g i)) (nodes g)) there c) (no_index k.0 q rec child))
 
   -- what is left of a list of parents
-  inner_left : (ps : List NodeId) → are_inner g ps ≡ true → list_any (same_node n) ps ≡ false → are_inner (left g n) ps ≡ true
+  pub inner_left : (ps : List NodeId) → are_inner g ps ≡ true → list_any (same_node n) ps ≡ false → are_inner (left g n) ps ≡ true
   inner_left [] h k = refl
   inner_left (p ∷ ps) h k =
       let t = and_both (is_inner_shape (shape_of g p)) (are_inner g ps) h in
