@@ -129,7 +129,7 @@ file_slot limits s births sound n h =
 
 -- what is no index has no intervals
 pub no_intervals : (b : Body) → is_index_shape (Some (shape_in_body b)) ≡ false → intervals_in_body b ≡ []
-no_intervals body.Inner h = refl
+no_intervals (body.Inner children) h = refl
 no_intervals (body.File kept) h = refl
 no_intervals (body.Index kept) h = absurd (no (sym h))
 no_intervals (body.Interval place) h = refl

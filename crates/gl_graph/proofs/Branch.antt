@@ -9,7 +9,8 @@ use Rattle.std.proofs.lemmas.List.Sums.{count_by-le-length}
 use Rattle.std.proofs.lemmas.List.{length-append}
 use Rattle.std.proofs.Common.{refl, sym, ap, ap₂, ◌∙◌, subst, arith, inl, inr, zero-add}
 use Rattle.gl_modes.proofs.NodeLemmas.{node_is, same_node-equal, same_node-refl, same_node-from_equal}
-use Rattle.gl_modes.proofs.Words.{split, cases_of, or_elim, or_left, or_right, and_both, both, clash, no, none_some, some_is, not_true, number_same, number_other, same_number, other_number}
+use Rattle.gl_modes.proofs.Words.{split, cases_of, or_elim, or_left, or_right, and_both, both, clash, no, none_some, some_is, not_true}
+use Rattle.gl_modes.proofs.Words.{number_same, number_other, same_number, other_number}
 use Rattle.gl_modes.specs.declared.node.NodeId.{NodeId}
 use Rattle.gl_modes.specs.Nodes.{same_node}
 use Rattle.gl_graph.specs.Shapes.{Shape, Inner, File, Index, Interval, Rec, is_inner_shape, is_file_shape, is_index_shape, is_record_shape, is_index_of_shape}
@@ -79,7 +80,7 @@ movable_no_interval (Some (Index f bs)) h = refl
 movable_no_interval (Some (Interval place)) h = absurd (no h)
 movable_no_interval (Some (Rec keys)) h = refl
 
-movable_no_record : (o : Option Shape) → is_movable_shape o ≡ true → is_record_shape o ≡ false
+pub movable_no_record : (o : Option Shape) → is_movable_shape o ≡ true → is_record_shape o ≡ false
 movable_no_record None h = refl
 movable_no_record (Some Inner) h = refl
 movable_no_record (Some (File adopted)) h = refl
@@ -274,7 +275,7 @@ module _ (g : Graph) (law : IsLawfulGraph g) where
       (all_filter (λ i. is_index_of_shape f (shape_of g i)) (nodes g)) there))
 
   -- the kind of a node of which this one is a child
-  abbrev parent_kind : Shape → Option Shape → Bool
+  abbrev pub parent_kind : Shape → Option Shape → Bool
   parent_kind (Interval place) o = is_index_shape o
   parent_kind (Rec keys) o = file_or_interval o
   parent_kind sh o = is_inner_shape o
@@ -496,8 +497,7 @@ module _ (g : Graph) (law : IsLawfulGraph g) (n : NodeId) (movable : is_movable_
       let not_n : same_node n (interval g i place) ≡ false =
       not_true _ (λ t. no (sym (movable_no_interval (shape_of g n) movable)
       ∙ ap (λ q. is_interval_shape (shape_of g q)) (same_node-equal n (interval g i place) t) ∙ ap (λ o. is_interval_shape (shape_in o)) it)) in
-      let no_child : is_child g n (interval g i place) ≡ false = ap (λ o. list_any (same_node n) (parents_in o)) it ∙ ap (λ b. b || false) other in
-      (
+      let no_child : is_child g n (interval g i place) ≡ false = ap (λ o. list_any (same_node n) (parents_in o)) it ∙ ap (λ b. b || false) other in (
         stays_left g n live (interval g i place) h not_n no_child,
         node_is (interval (left g n) i place) (interval g i place)
             (ap key_or_zero (at_beside g n (interval g i place).birth (gone_is g n live (interval g i place) h ∙ ap₂ (λ a b. a || b) not_n no_child))) refl,
@@ -543,7 +543,7 @@ module _ (g : Graph) (law : IsLawfulGraph g) (n : NodeId) (movable : is_movable_
           (all_filter (λ i. is_index_of_shape k.0 (shape_of g i)) (nodes g)) there c) (no_index k.0 q rec child))
 
   -- what is left of a list of parents
-  inner_left : (ps : List NodeId) → are_inner g ps ≡ true → list_any (same_node n) ps ≡ false → are_inner (left g n) ps ≡ true
+  pub inner_left : (ps : List NodeId) → are_inner g ps ≡ true → list_any (same_node n) ps ≡ false → are_inner (left g n) ps ≡ true
   inner_left [] h k = refl
   inner_left (p ∷ ps) h k =
       let t = and_both (is_inner_shape (shape_of g p)) (are_inner g ps) h in
@@ -720,8 +720,7 @@ module _ (g : Graph) (law : IsLawfulGraph g) (n : NodeId) (movable : is_movable_
           let place : ℕ = b - n.birth - 1 in
           let low' : b - n.birth - 1 ≤ length bs = omega arith in
           let it = (index_node g law n f bs s).intervals (b - n.birth - 1) low' in
-          let at : g.at b ≡ Some _ = ap g.at (sym e) ∙ (found_at g (interval g n (b - n.birth - 1)) _ it).0 in
-          (
+          let at : g.at b ≡ Some _ = ap g.at (sym e) ∙ (found_at g (interval g n (b - n.birth - 1)) _ it).0 in (
             there_is (g.at b) _ at,
             or_right (b == n.birth) _ (ap (λ o. list_any (same_node n) (parents_in o)) at ∙ or_left _ _ (same_node-refl n)),
           )

@@ -1,5 +1,5 @@
 -- Nodes are taken out of a slab, one after the other.
-use Rattle.std.specs.Prelude.{◌≡◌, ◌≢◌, ℕ, ◌+◌, ◌<◌, true, false, ◌==◌, List, length, Some, None, is_some, slice_get}
+use Rattle.std.specs.Prelude.{◌≡◌, ℕ, ◌+◌, true, ◌==◌, List, Some, None, is_some, slice_get}
 use Rattle.std.proofs.Common.{refl, sym, ap, ◌∙◌, arith}
 use Rattle.gl_modes.proofs.Words.{split, some_is, no, number_same, same_number, other_number}
 use Rattle.gl_modes.specs.declared.node.NodeId.{NodeId}

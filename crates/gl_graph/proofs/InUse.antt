@@ -1,7 +1,6 @@
 -- What stands against a drop, read off what is kept beside the graph.
-use Rattle.std.specs.Prelude.{◌≡◌, ℕ, Bool, true, false, ◌||◌, nat_lt, List, length, Option, Some, None}
+use Rattle.std.specs.Prelude.{◌≡◌, ℕ, true, false, ◌||◌, nat_lt, List, length, Some}
 use Rattle.std.proofs.Common.{refl, sym, ap, ap₂, ◌∙◌, subst}
-use Rattle.gl_modes.proofs.Words.{no}
 use Rattle.gl_modes.specs.declared.node.NodeId.{NodeId}
 use Rattle.slab.specs.Slab.{Slab}
 use Rattle.std.specs.Global.{Box}
@@ -10,13 +9,14 @@ use Rattle.gl_graph.specs.declared.node.Body.TheVariants as body
 use Rattle.gl_graph.specs.declared.node.FileBody.{FileBody}
 use Rattle.gl_graph.specs.declared.node.IndexBody.{IndexBody}
 use Rattle.gl_graph.specs.declared.node.Node.{Node as Stored}
-use Rattle.gl_graph.specs.Shapes.{Shape, Inner, File, Index, is_file_shape, is_inner_shape}
-use Rattle.gl_graph.specs.Graph.{shape_of, indexes_of, nodes, is_record_of}
+use Rattle.gl_graph.specs.Shapes.{Inner, File, Index, is_file_shape}
+use Rattle.gl_graph.specs.Graph.{shape_of, nodes, is_record_of}
 use Rattle.gl_graph.specs.Lawful.{IsLawfulGraph}
-use Rattle.gl_graph.specs.Refusals.{has_records, is_in_use, is_shape_in_use}
+use Rattle.gl_graph.specs.Refusals.{has_children, has_records, is_in_use, is_shape_in_use}
 use Rattle.gl_graph.specs.View.{View, graph_of}
-use Rattle.gl_graph.specs.Seen.{Limits, AreSound, seen, named, shape_in_body, records_in_body, indexes_in_body}
-use Rattle.gl_graph.proofs.Beside.{shape_found, records_found, indexes_found, any_counted}
+use Rattle.gl_graph.specs.Seen.{KeepChildren, child_count, children_in_body, Limits, AreSound, seen, named, shape_in_body, records_in_body, indexes_in_body}
+use Rattle.gl_graph.proofs.Beside.{named_slot, shape_found, records_found, indexes_found, any_counted}
+use Rattle.gl_graph.proofs.Children.{has_child}
 use Rattle.gl_graph.proofs.KindRules.{index_node}
 
 module _ (limits : Limits) (s : Slab Stored) (births : ℕ) (v : View) (sound : AreSound limits s births) (view : seen limits s births ≡ v) (n : NodeId)
@@ -44,17 +44,27 @@ module _ (limits : Limits) (s : Slab Stored) (births : ℕ) (v : View) (sound : 
   pub index_in_use : (kept : Box IndexBody) → x.body ≡ body.Index kept → is_in_use (graph_of v) n ≡ has_records (graph_of v) kept.value.file
   index_in_use kept is = ap (is_shape_in_use (graph_of v) n) (index_shape kept is)
 
-  pub other_in_use : ((kept : Box FileBody) → x.body ≡ body.File kept → ⊥) → ((kept : Box IndexBody) → x.body ≡ body.Index kept → ⊥)
-      → is_inner_shape (shape_of (graph_of v) n) ≡ false → is_in_use (graph_of v) n ≡ false
-  other_in_use no_file no_index no_inner =
-      ap (is_shape_in_use (graph_of v) n) (shape_found limits s births v sound view n x e)
-      ∙ by x.body refl (sym (ap is_inner_shape (shape_found limits s births v sound view n x e)) ∙ no_inner)
+  pub inner_in_use : KeepChildren s (child_count s) → (children : ℕ) → x.body ≡ body.Inner children → is_in_use (graph_of v) n ≡ nat_lt 0 children
+  inner_in_use keep children is =
+      let shape : shape_of (graph_of v) n ≡ Some Inner = shape_found limits s births v sound view n x e ∙ ap (λ b. Some (shape_in_body b)) is in
+      let slot = named_slot s n x e in
+      ap (is_shape_in_use (graph_of v) n) shape
+      ∙ ap (λ (w : View). has_children (graph_of w) n) (sym view)
+      ∙ sym (has_child limits s births sound n)
+      ∙ ap (nat_lt 0) (sym (sym (ap children_in_body is) ∙ keep n.key x slot.0 (ap shape_in_body is)
+      ∙ ap (λ b. child_count s (record { key = n.key; birth = b })) slot.1))
+
+  pub other_in_use : ((children : ℕ) → x.body ≡ body.Inner children → ⊥) → ((kept : Box FileBody) → x.body ≡ body.File kept → ⊥)
+      → ((kept : Box IndexBody) → x.body ≡ body.Index kept → ⊥)
+      → is_in_use (graph_of v) n ≡ false
+  other_in_use no_inner no_file no_index =
+      ap (is_shape_in_use (graph_of v) n) (shape_found limits s births v sound view n x e) ∙ by x.body refl
     where
-      by : (b : Body) → x.body ≡ b → is_inner_shape (Some (shape_in_body b)) ≡ false → is_shape_in_use (graph_of v) n (Some (shape_in_body b)) ≡ false
-      by body.Inner is h = absurd (no (sym h))
-      by (body.File kept) is h = absurd (no_file kept is)
-      by (body.Index kept) is h = absurd (no_index kept is)
-      by (body.Interval place) is h = refl
-      by body.Bare is h = refl
-      by (body.Keyed key) is h = refl
-      by (body.ManyKeyed keys) is h = refl
+      by : (b : Body) → x.body ≡ b → is_shape_in_use (graph_of v) n (Some (shape_in_body b)) ≡ false
+      by (body.Inner children) is = absurd (no_inner children is)
+      by (body.File kept) is = absurd (no_file kept is)
+      by (body.Index kept) is = absurd (no_index kept is)
+      by (body.Interval place) is = refl
+      by body.Bare is = refl
+      by (body.Keyed key) is = refl
+      by (body.ManyKeyed keys) is = refl

@@ -42,7 +42,7 @@ born_within limits s births sound k x e = (sound.lawful.born x.birth (ap is_some
 
 -- an inner node, a file: no index, no record
 plain_no_index : (b : Body) → IsPlainBody b → (f : NodeId) → is_index_of_shape f (Some (shape_in_body b)) ≡ false
-plain_no_index body.Inner p f = refl
+plain_no_index (body.Inner children) p f = refl
 plain_no_index (body.File kept) p f = refl
 plain_no_index (body.Index kept) p f = absurd p
 plain_no_index (body.Interval place) p f = absurd p
@@ -51,7 +51,7 @@ plain_no_index (body.Keyed one) p f = absurd p
 plain_no_index (body.ManyKeyed keys) p f = absurd p
 
 plain_no_record : (b : Body) → IsPlainBody b → is_record_shape (Some (shape_in_body b)) ≡ false
-plain_no_record body.Inner p = refl
+plain_no_record (body.Inner children) p = refl
 plain_no_record (body.File kept) p = refl
 plain_no_record (body.Index kept) p = absurd p
 plain_no_record (body.Interval place) p = absurd p
@@ -120,7 +120,7 @@ module _ (limits : Limits) (old new : Slab Stored) (births key : ℕ) (x : Store
         ∙ ap (λ b. b && is_child (born_node g node) f id) (plain_no_record x.body plain)
 
     new_kept : (b : Body) → x.body ≡ b → IsPlainBody b → KeepsBeside (born_node g node) id (vertex_of (record x { body = b })) (shape_in_body b)
-    new_kept body.Inner e p = tt
+    new_kept (body.Inner children) e p = tt
     new_kept (body.File kept) e p = (
       p.0 ∙ sym (one_indexes g sound.lawful node (plain_no_index x.body plain) id ∙ dead_indexes g sound.lawful id not_there),
       p.1

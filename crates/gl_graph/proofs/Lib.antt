@@ -34,7 +34,11 @@ pub mod SoundMarked
 pub mod RootPaths
 pub mod KindsOf
 pub mod Adopted
+pub mod Recount
+pub mod Children
 pub mod Gone
 pub mod InUse
 pub mod Branch
 pub mod SoundBranch
+pub mod SoundDrop
+pub mod SoundChildren

@@ -1,7 +1,7 @@
 -- A node goes with its children: what is kept beside the graph agrees with what is left.
-use Rattle.std.specs.Prelude.{◌≡◌, ◌≢◌, ℕ, ◌+◌, ◌≤◌, Bool, true, false, ◌==◌, ◌||◌, not, List, length, Option, Some, None, is_some}
+use Rattle.std.specs.Prelude.{◌≡◌, ◌≢◌, ℕ, ◌+◌, ◌-◌, ◌≤◌, Bool, true, false, ◌==◌, ◌||◌, not, List, length, Option, Some, None, is_some}
 use Rattle.std.specs.Prelude.{if◌then◌else◌, slice_get}
-use Rattle.std.specs.List.{filter}
+use Rattle.std.specs.List.{filter, list_any}
 use Rattle.std.proofs.Math.Path.{fun_ext}
 use Rattle.std.proofs.lemmas.Option.{slice_get_within}
 use Rattle.std.proofs.Common.{refl, sym, ap, ap₂, ◌∙◌, subst, arith, rules}
@@ -15,18 +15,28 @@ use Rattle.gl_graph.specs.declared.node.Body.TheVariants as body
 use Rattle.gl_graph.specs.declared.node.IndexBody.{IndexBody}
 use Rattle.gl_graph.specs.declared.node.Node.{Node as Stored}
 use Rattle.std.specs.Global.{Box}
-use Rattle.gl_graph.specs.Shapes.{Shape, Inner, File, Index, Interval, Rec, is_file_shape, is_index_shape, is_movable_shape, is_index_of_shape}
-use Rattle.gl_graph.specs.Graph.{Graph, node_at, is_live, shape_in, shape_of, is_child, indexes_of, interval, node_count}
+use Rattle.gl_graph.specs.Shapes.{Shape, Inner, File, Index, Interval, Rec, is_inner_shape, is_file_shape, is_index_shape, is_movable_shape}
+use Rattle.gl_graph.specs.Shapes.{is_index_of_shape}
+use Rattle.gl_graph.specs.Graph.{Graph, parents_of, node_at, is_live, shape_in, shape_of, is_child, indexes_of, interval, node_count}
 use Rattle.gl_graph.specs.Lawful.{IsLawfulGraph}
 use Rattle.gl_graph.specs.Changes.{without_branch}
 use Rattle.gl_graph.specs.Refusals.{is_in_use}
 use Rattle.gl_graph.specs.View.{graph_of, node_of, KeepsBeside, AgreesAt}
-use Rattle.gl_graph.specs.Seen.{Limits, shape_in_body, indexes_in_body, records_in_body, intervals_in_body, body_without_index, vertex_of, seen, AreBornApart, AreSound, parent_list}
-use Rattle.gl_graph.specs.Grown.{AreStored, AreGone}
+use Rattle.gl_graph.specs.Seen.{Limits, shape_in_body, indexes_in_body, records_in_body, intervals_in_body, body_without_index, vertex_of, seen}
+use Rattle.gl_graph.specs.Seen.{AreBornApart, AreSound, parent_list}
+use Rattle.gl_graph.specs.Seen.{KeepChildren, child_count, is_child_slot}
+use Rattle.gl_graph.specs.Grown.{AreStored, AreGone, AreRecounted, EachKeeps}
+use Rattle.gl_graph.specs.Lawful.{are_inner, are_distinct}
+use Rattle.gl_graph.proofs.Branch.{inner_left, left_shape}
+use Rattle.gl_graph.proofs.Children.{WasInner, count_updated, count_alike, no_inner_parent, stored_parents, its_inner_parents, not_its_own}
+use Rattle.gl_graph.proofs.Children.{down_stored, down_some, down_keeps, down_sound, down_graph}
+use Rattle.gl_graph.proofs.KindRules.{inner_plain}
+use Rattle.gl_graph.proofs.Recount.{ones}
 use Rattle.gl_graph.proofs.KindRules.{index_node, plain_live, file_plain}
 use Rattle.gl_graph.proofs.Slots.{at_birth, at_slot, slot_at, stored_of, node_there, written_apart, unseen}
 use Rattle.gl_graph.proofs.Beside.{FileSlot, file_slot}
-use Rattle.gl_graph.proofs.Branch.{left, gone, gone_is, live, interval_count, is_interval_shape, movable_no_interval, no_interval_file, no_children, left_lawful, count_left}
+use Rattle.gl_graph.proofs.Branch.{left, gone, gone_is, live, interval_count, is_interval_shape, movable_no_interval, no_interval_file, no_children}
+use Rattle.gl_graph.proofs.Branch.{left_lawful, count_left}
 use Rattle.gl_graph.proofs.Branch.{other_indexes, indexes_left, records_left, interval_stays, children_are, child_interval, interval_child}
 use Rattle.gl_graph.proofs.Unrefused.{or_no}
 
@@ -42,7 +52,7 @@ module _ (limits : Limits) (old new : Slab Stored) (births : ℕ) (sound : AreSo
   g = graph_of (seen limits old births)
 
   -- what stands was there, and its birth does not go
-  stood : (k : ℕ) (x : Stored) → get new k ≡ Some x → (get old k ≡ Some x) × (gone g n x.birth ≡ false)
+  pub stood : (k : ℕ) (x : Stored) → get new k ≡ Some x → (get old k ≡ Some x) × (gone g n x.birth ≡ false)
   stood k x e = by (get old k) refl
     where
       by : (o : Option Stored) → get old k ≡ o → (o ≡ Some x) × (gone g n x.birth ≡ false)
@@ -108,7 +118,8 @@ module _ (limits : Limits) (old new : Slab Stored) (births : ℕ) (sound : AreSo
     lawful = subst IsLawfulGraph (sym branch_graph) (left_lawful g sound.lawful n movable free);
     apart = branch_apart;
     counted = branch_counted (by (shape_of g n) no_index) ∙ ap node_count (sym branch_graph);
-    agree = λ k y e. subst (λ h. AgreesAt h k (vertex_of y)) (sym branch_graph) (branch_agrees k y e (not_of (shape_of g n) no_index (record { key = k; birth = y.birth })));
+    agree = λ k y e. subst (λ h. AgreesAt h k (vertex_of y)) (sym branch_graph)
+        (branch_agrees k y e (not_of (shape_of g n) no_index (record { key = k; birth = y.birth })));
   }
     where
       by : (o : Option Shape) → is_index_shape o ≡ false → slab_len new + (1 + interval_count o) ≡ slab_len old
@@ -170,7 +181,7 @@ module _ (limits : Limits) (old new : Slab Stored) (births : ℕ) (sound : AreSo
 unlisted : (b : Body) (n : NodeId) (adopted : Bool) → shape_in_body b ≡ File adopted → (shape_in_body (body_without_index b n) ≡ File adopted)
     × (indexes_in_body (body_without_index b n) ≡ filter (λ listed. not (same_node listed n)) (indexes_in_body b))
     × (records_in_body (body_without_index b n) ≡ records_in_body b)
-unlisted body.Inner n adopted e = cc
+unlisted (body.Inner children) n adopted e = cc
 unlisted (body.File kept) n adopted e = (e, refl, refl)
 unlisted (body.Index kept) n adopted e = cc
 unlisted (body.Interval place) n adopted e = cc
@@ -223,8 +234,7 @@ module _ (limits : Limits) (old mid : Slab Stored) (births : ℕ) (sound : AreSo
   interval_is place m e =
       let at = at_place place m e in
       let node = (index_node s sound.lawful n f bs shape_is).intervals place at.0 in
-      let there' : node_at s m ≡ _ = ap (node_at s) at.1 ∙ node in
-      (
+      let there' : node_at s m ≡ _ = ap (node_at s) at.1 ∙ node in (
         ap is_some there',
         ap (λ o. is_interval_shape (shape_in o)) there',
         ap (is_child s n) at.1 ∙ interval_child s sound.lawful n f bs shape_is place at.0,
@@ -374,6 +384,115 @@ module _ (limits : Limits) (old mid : Slab Stored) (births : ℕ) (sound : AreSo
             ∙ same_node-differ (record { key = k; birth = y.birth }) f (λ same. ne (ap (λ m. m.key) same)))));
       }
 
+      -- the parents of the index have a child less each
+      module _ (keep : KeepChildren old (child_count old)) where
+        abbrev pub parents : List NodeId
+        parents = parent_list x.parents
+
+        parents_are : parents_of s n ≡ parents
+        parents_are = stored_parents limits old births sound n x there born
+
+        distinct_parents : are_distinct parents ≡ true
+        distinct_parents = ap are_distinct (sym parents_are) ∙ (its_inner_parents s sound.lawful n movable).1
+
+        inner_parents : are_inner (graph_of (seen limits fourth births)) parents ≡ true
+        inner_parents =
+            ap (λ g'. are_inner g' parents) index_left_graph ∙ ap (are_inner (left s n)) (sym parents_are)
+            ∙ inner_left s sound.lawful n movable free (parents_of s n) (its_inner_parents s sound.lawful n movable).0 (not_its_own s sound.lawful n movable)
+
+        fourth_was : (k : ℕ) (y : Stored) → get fourth k ≡ Some y → shape_in_body y.body ≡ Inner → WasInner old k y
+        fourth_was k y e is =
+            split (k == f.key)
+            (λ t.
+            let same : f4 ≡ y = some_is (sym (write slot.stored file_there).changed ∙ ap (get fourth) (sym (same_number k f.key t)) ∙ e) in
+            absurd (no_file (shape_in_body f4.body) slot.adopted kept.0 (ap (λ z. shape_in_body z.body) same ∙ is)))
+            (λ t.
+            let at : get third k ≡ Some y = sym ((write slot.stored file_there).others k (other_number k f.key t)) ∙ e in
+            (y, (stood limits old third births sound n movable free slots k y at).0, refl, is, refl))
+          where
+            no_file : (sh : Shape) (adopted : Bool) → sh ≡ File adopted → sh ≡ Inner → ⊥
+            no_file sh adopted a b = cc
+
+        third_slot : (m : NodeId) → is_inner_shape (shape_of s m) ≡ true → (k : ℕ) → is_child_slot m (get third k) ≡ is_child_slot m (get mid k)
+        third_slot m h' k =
+            split (k == n.key)
+            (λ t.
+            let same : k ≡ n.key = same_number k n.key t in
+            ap (is_child_slot m) (taken.stays k (λ place q low e. λ (key : q.key ≡ k). key_apart place q e (key ∙ same))))
+            (λ t. by (other_number k n.key t) (get old k) refl)
+          where
+            by : k ≢ n.key → (o : Option Stored) → get old k ≡ o → is_child_slot m (get third k) ≡ is_child_slot m (get mid k)
+            by ne None e = ap (is_child_slot m) (slots k ∙ ap (left_in s n) e ∙ sym (u.others k ne ∙ e))
+            by ne (Some y) e =
+                split (gone s n y.birth)
+                (λ t.
+                let id : NodeId = record { key = k; birth = y.birth } in
+                let c : is_child s n (record { key = k; birth = y.birth }) ≡ true = sym (gone_for k y ne e) ∙ t in
+                let kind = (children_are s sound.lawful n movable free (record { key = k; birth = y.birth }) c).1 in
+                let shape_y : is_interval_shape (Some (shape_in_body y.body)) ≡ true =
+                sym (ap (λ o. is_interval_shape (shape_in o)) (node_there limits old births sound.apart k y e)) ∙ kind in
+                ap (is_child_slot m) (slots k ∙ ap (left_in s n) e ∙ ap (λ b. if b then None else Some y) t)
+                ∙ sym (ap (is_child_slot m) (u.others k ne ∙ e)
+                ∙ no_inner_parent limits old births sound k y e (not_inner (Some (shape_in_body y.body)) shape_y)
+                (not_file (Some (shape_in_body y.body)) shape_y) (not_index' (Some (shape_in_body y.body)) shape_y) m h'))
+                (λ t. ap (is_child_slot m) (slots k ∙ ap (left_in s n) e ∙ ap (λ b. if b then None else Some y) t ∙ sym (u.others k ne ∙ e)))
+              where
+                not_inner : (o : Option Shape) → is_interval_shape o ≡ true → is_inner_shape o ≡ false
+                not_inner None i = refl
+                not_inner (Some Inner) i = absurd (no i)
+                not_inner (Some (File adopted)) i = refl
+                not_inner (Some (Index f' bs')) i = refl
+                not_inner (Some (Interval place)) i = refl
+                not_inner (Some (Rec keys)) i = refl
+
+                not_file : (o : Option Shape) → is_interval_shape o ≡ true → is_file_shape o ≡ false
+                not_file None i = refl
+                not_file (Some Inner) i = refl
+                not_file (Some (File adopted)) i = absurd (no i)
+                not_file (Some (Index f' bs')) i = refl
+                not_file (Some (Interval place)) i = refl
+                not_file (Some (Rec keys)) i = refl
+
+                not_index' : (o : Option Shape) → is_interval_shape o ≡ true → is_index_shape o ≡ false
+                not_index' None i = refl
+                not_index' (Some Inner) i = refl
+                not_index' (Some (File adopted)) i = refl
+                not_index' (Some (Index f' bs')) i = absurd (no i)
+                not_index' (Some (Interval place)) i = refl
+                not_index' (Some (Rec keys)) i = refl
+
+        fourth_counts : (m : NodeId) → is_inner_shape (shape_of (graph_of (seen limits fourth births)) m) ≡ true
+            → child_count fourth m + ones (list_any (same_node m) parents) ≡ child_count old m
+        fourth_counts m h' =
+            let here : is_inner_shape (shape_of (left s n) m) ≡ true = ap (λ g'. is_inner_shape (shape_of g' m)) (sym index_left_graph) ∙ h' in
+            let was : is_inner_shape (shape_of s m) ≡ true =
+            ap is_inner_shape (sym (left_shape s n m (plain_live (left s n) m (inner_plain _ here)))) ∙ here in
+            let c4 = count_updated third fourth f.key (Some f4) (write slot.stored file_there) m in
+            let p4 : ones (is_child_slot m (get third f.key)) ≡ ones (is_child_slot m (Some f4)) = ap (λ o. ones (is_child_slot m o)) file_there in
+            let c3 = count_alike mid third m (third_slot m was) in
+            let c2 = count_updated old mid n.key None u m in
+            let p2 : ones (is_child_slot m (get old n.key)) ≡ ones (list_any (same_node m) parents) = ap (λ o. ones (is_child_slot m o)) there in
+            let nothing : ones (is_child_slot m None) ≡ 0 = refl in
+            omega arith
+
+        pub index_down_stored : AreStored fourth parents
+        index_down_stored = down_stored limits old fourth births index_left_sound keep parents inner_parents distinct_parents fourth_was fourth_counts
+
+        pub index_down_some : EachKeeps (λ children. 1 ≤ children) fourth parents
+        index_down_some = down_some limits old fourth births index_left_sound keep parents inner_parents distinct_parents fourth_was fourth_counts
+
+        module _ (last : Slab Stored) (re : AreRecounted (λ children. children - 1) fourth last parents (length parents)) where
+          pub index_down_keeps : KeepChildren last (child_count last)
+          index_down_keeps = down_keeps limits old fourth births index_left_sound keep parents inner_parents distinct_parents fourth_was fourth_counts last re
+
+          pub index_down_sound : AreSound limits last births
+          index_down_sound = down_sound limits old fourth births index_left_sound keep parents inner_parents distinct_parents fourth_was fourth_counts last re
+
+          pub index_down_graph : graph_of (seen limits last births) ≡ without_branch s n
+          index_down_graph =
+              down_graph limits old fourth births index_left_sound keep parents inner_parents distinct_parents fourth_was fourth_counts last re
+              ∙ index_left_graph
+
 -- an index is stored as one
 module _ (limits : Limits) (old : Slab Stored) (births : ℕ) (sound : AreSound limits old births) (n : NodeId)
     (index : is_index_shape (shape_of (graph_of (seen limits old births)) n) ≡ true) (free : is_in_use (graph_of (seen limits old births)) n ≡ false) where
@@ -398,7 +517,7 @@ module _ (limits : Limits) (old : Slab Stored) (births : ℕ) (sound : AreSound 
       ∙ ap (λ q. is_index_shape (shape_of i q)) is_n ∙ index)
     where
       by : (b : Body) → ((boxed : Box IndexBody) → b ≡ body.Index boxed → ⊥) → is_index_shape (Some (shape_in_body b)) ≡ true → ⊥
-      by body.Inner none k = no k
+      by (body.Inner children) none k = no k
       by (body.File boxed) none k = no k
       by (body.Index boxed) none k = none boxed refl
       by (body.Interval place) none k = no k

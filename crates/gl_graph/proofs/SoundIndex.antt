@@ -12,15 +12,20 @@ use Rattle.slab.specs.Slab.{Slab, get, slab_len, Updates}
 use Rattle.gl_graph.specs.declared.node.Body.{Body}
 use Rattle.gl_graph.specs.declared.node.Body.TheVariants as body
 use Rattle.gl_graph.specs.declared.node.Node.{Node as Stored}
-use Rattle.gl_graph.specs.Shapes.{File, Index, Interval}
+use Rattle.gl_graph.specs.Shapes.{Shape, Inner, File, Index, Interval, is_inner_shape, is_file_shape, is_index_shape}
 use Rattle.gl_graph.specs.Graph.{Graph, Node, shape_in, shape_of, interval, indexes_of, node_count, IsFreeKey}
-use Rattle.gl_graph.specs.Lawful.{IsLawfulGraph}
+use Rattle.gl_graph.specs.Lawful.{IsLawfulGraph, are_inner}
 use Rattle.gl_graph.specs.Changes.{born_node, born_nodes, born_index, interval_nodes, are_apart, IsIndexBorn}
 use Rattle.gl_graph.specs.Refusals.{reindex_refusal}
 use Rattle.gl_graph.specs.View.{View, graph_of, node_of, record_count, KeepsBeside, AgreesAt}
 use Rattle.gl_graph.specs.Seen.{Limits, shape_in_body, indexes_in_body, records_in_body, intervals_in_body, body_with_intervals, body_with_indexes}
 use Rattle.gl_graph.specs.Seen.{vertex_of, seen, AreSound, parent_list}
-use Rattle.gl_graph.specs.Grown.{ids_of, AreIntervalsBorn}
+use Rattle.gl_graph.specs.Seen.{KeepChildren, child_count, is_child_slot}
+use Rattle.gl_graph.specs.Grown.{ids_of, AreIntervalsBorn, AreStored, AreRecounted, EachKeeps}
+use Rattle.gl_graph.proofs.Children.{WasInner, keeps_as, count_updated, count_alike, no_inner_parent, up_stored, up_room, up_keeps, up_sound, up_graph}
+use Rattle.gl_graph.proofs.KindRules.{parents_kept}
+use Rattle.gl_graph.proofs.Recount.{ones}
+use Rattle.gl_modes.specs.Nodes.{same_node}
 use Rattle.gl_graph.proofs.Born.{place_in}
 use Rattle.gl_graph.proofs.NewNodes.{place_there}
 use Rattle.gl_graph.proofs.NewIndex.{keys_of_intervals, count_intervals, others, interval_there, file_index, no_record_born, frames, index_lawful}
@@ -31,7 +36,7 @@ use Rattle.gl_graph.proofs.Kept.{born_within, beside_kept}
 use Rattle.gl_graph.proofs.Unrefused.{IsRoomyIndex, index_births, reindex_unrefused}
 
 same_shape : (b : Body) (fresh : Vec NodeId Global) → shape_in_body (body_with_intervals b fresh) ≡ shape_in_body b
-same_shape body.Inner fresh = refl
+same_shape (body.Inner children) fresh = refl
 same_shape (body.File kept) fresh = refl
 same_shape (body.Index kept) fresh = refl
 same_shape (body.Interval place) fresh = refl
@@ -41,7 +46,7 @@ same_shape (body.ManyKeyed keys) fresh = refl
 
 has_intervals : (b : Body) (fresh : Vec NodeId Global) (f : NodeId) (bs : List ℕ) → shape_in_body b ≡ Index f bs
     → intervals_in_body (body_with_intervals b fresh) ≡ fresh.items
-has_intervals body.Inner fresh f bs e = cc
+has_intervals (body.Inner children) fresh f bs e = cc
 has_intervals (body.File kept) fresh f bs e = cc
 has_intervals (body.Index kept) fresh f bs e = refl
 has_intervals (body.Interval place) fresh f bs e = cc
@@ -50,7 +55,7 @@ has_intervals (body.Keyed one) fresh f bs e = cc
 has_intervals (body.ManyKeyed keys) fresh f bs e = cc
 
 file_same_shape : (b : Body) (fresh : SmallVec NodeId) → shape_in_body (body_with_indexes b fresh) ≡ shape_in_body b
-file_same_shape body.Inner fresh = refl
+file_same_shape (body.Inner children) fresh = refl
 file_same_shape (body.File kept) fresh = refl
 file_same_shape (body.Index kept) fresh = refl
 file_same_shape (body.Interval place) fresh = refl
@@ -60,7 +65,7 @@ file_same_shape (body.ManyKeyed keys) fresh = refl
 
 has_indexes : (b : Body) (fresh : SmallVec NodeId) (adopted : Bool) → shape_in_body b ≡ File adopted
     → (indexes_in_body (body_with_indexes b fresh) ≡ fresh.items) × (records_in_body (body_with_indexes b fresh) ≡ records_in_body b)
-has_indexes body.Inner fresh adopted e = cc
+has_indexes (body.Inner children) fresh adopted e = cc
 has_indexes (body.File kept) fresh adopted e = (refl, refl)
 has_indexes (body.Index kept) fresh adopted e = cc
 has_indexes (body.Interval place) fresh adopted e = cc
@@ -280,6 +285,92 @@ module _ (limits : Limits) (old mid grown : Slab Stored) (births key : ℕ) (x :
 
     pub index_made : IsIndexBorn g (graph_of (seen limits fourth total)) id ps file bounds
     index_made = record { interval_keys = keys; intervals = born.many; keys_apart = apart_keys; keys_free = free_keys; birth = refl; after = index_graph }
+
+    -- the parents of the index have a child more each
+    module _ (keep : KeepChildren old (child_count old)) where
+      fourth_was : (k : ℕ) (y : Stored) → get fourth k ≡ Some y → shape_in_body y.body ≡ Inner → WasInner old k y
+      fourth_was k y e is =
+          split (k == file.key)
+          (λ t.
+          let same : f4 ≡ y = some_is (sym u4.changed ∙ ap (get fourth) (sym (same_number k file.key t)) ∙ e) in
+          absurd (no_file (shape_in_body f4.body) slot.adopted (file_same_shape slot.stored.body list ∙ slot.shape) (ap (λ z. shape_in_body z.body) same ∙ is)))
+          (λ t.
+          let at3 : get third k ≡ Some y = sym (u4.others k (other_number k file.key t)) ∙ e in
+          split (k == key)
+          (λ w.
+          let same : x3 ≡ y = some_is (sym u3.changed ∙ ap (get third) (sym (same_number k key w)) ∙ at3) in
+          absurd (no_index (shape_in_body x3.body) (same_shape x.body fresh ∙ shape) (ap (λ z. shape_in_body z.body) same ∙ is)))
+          (λ w.
+          let ne = other_number k key w in
+          ⊎_elim (λ (was : get mid k ≡ Some y). (y, sym (u.others k ne) ∙ was, refl, is, refl))
+          (λ (new : (place : ℕ) × (shape_in_body y.body ≡ Interval place)). absurd (no_interval (shape_in_body y.body) new.0 new.1 is))
+          (born.grown.came k y (sym (u3.others k ne) ∙ at3))))
+        where
+          no_file : (sh : Shape) (adopted : Bool) → sh ≡ File adopted → sh ≡ Inner → ⊥
+          no_file sh adopted a b = cc
+
+          no_index : (sh : Shape) → sh ≡ Index file bounds → sh ≡ Inner → ⊥
+          no_index sh a b = cc
+
+          no_interval : (sh : Shape) (place : ℕ) → sh ≡ Interval place → sh ≡ Inner → ⊥
+          no_interval sh place a b = cc
+
+      fourth_keep : KeepChildren fourth (child_count old)
+      fourth_keep = keeps_as old fourth (child_count old) keep fourth_was
+
+      fourth_inner : are_inner (graph_of (seen limits fourth total)) ps ≡ true
+      fourth_inner =
+          ap (λ h. are_inner h ps) index_graph
+          ∙ (parents_kept g after sound.lawful (frames g sound.lawful key ps file bounds keys may.inner may.file may.few may.rise may.unused may.indexes
+          born.many apart_keys free_keys may.room) 1 ps may.inner).inner
+
+      grown_slot : (n : NodeId) → is_inner_shape (shape_of (graph_of (seen limits fourth total)) n) ≡ true → (k : ℕ)
+          → is_child_slot n (get grown k) ≡ is_child_slot n (get mid k)
+      grown_slot n h k = by (get mid k) refl (get grown k) refl
+        where
+          by : (o : Option Stored) → get mid k ≡ o → (o' : Option Stored) → get grown k ≡ o' → is_child_slot n (get grown k) ≡ is_child_slot n (get mid k)
+          by (Some y) e o' e' = ap (is_child_slot n) (born.grown.stays k y e ∙ sym e)
+          by None e None e' = ap (is_child_slot n) (e' ∙ sym e)
+          by None e (Some z) e' =
+              let ne : k ≢ key = λ same. none_some (sym e ∙ ap (get mid) same ∙ u.changed) in
+              let ne' : k ≢ file.key = λ same. none_some (sym e ∙ ap (get mid) same ∙ u.others file.key file_apart ∙ slot.there) in
+              let at4 : get fourth k ≡ Some z = u4.others k ne' ∙ u3.others k ne ∙ e' in
+              ap (is_child_slot n) e'
+              ∙ ⊎_elim (λ (was : get mid k ≡ Some z). absurd (none_some (sym e ∙ was)))
+              (λ (new : (place : ℕ) × (shape_in_body z.body ≡ Interval place)).
+              no_inner_parent limits fourth total index_sound k z at4 (ap (λ sh. is_inner_shape (Some sh)) new.1)
+              (ap (λ sh. is_file_shape (Some sh)) new.1) (ap (λ sh. is_index_shape (Some sh)) new.1) n h)
+              (born.grown.came k z e')
+              ∙ sym (ap (is_child_slot n) e)
+
+      fourth_counts : (n : NodeId) → is_inner_shape (shape_of (graph_of (seen limits fourth total)) n) ≡ true
+          → child_count fourth n ≡ child_count old n + ones (list_any (same_node n) ps)
+      fourth_counts n h =
+          let c4 = count_updated third fourth file.key (Some f4) u4 n in
+          let p4 : ones (is_child_slot n (get third file.key)) ≡ ones (is_child_slot n (Some f4)) = ap (λ o. ones (is_child_slot n o)) file_third in
+          let c3 = count_updated grown third key (Some x3) u3 n in
+          let p3 : ones (is_child_slot n (get grown key)) ≡ ones (is_child_slot n (Some x3)) = ap (λ o. ones (is_child_slot n o)) index_there in
+          let c2 = count_alike mid grown n (grown_slot n h) in
+          let c1 = count_updated old mid key (Some x) u n in
+          let p1 : ones (is_child_slot n (get old key)) ≡ 0 = ap (λ o. ones (is_child_slot n o)) free in
+          let p1' : ones (is_child_slot n (Some x)) ≡ ones (list_any (same_node n) ps) = ap (λ qs. ones (list_any (same_node n) qs)) parents in
+          omega arith
+
+      pub index_stored : AreStored fourth ps
+      index_stored = up_stored limits fourth total index_sound (child_count old) fourth_keep ps fourth_inner may.inner.distinct fourth_counts
+
+      pub index_room : EachKeeps (λ children. children + 1 < 2 ^ 64) fourth ps
+      index_room = up_room limits fourth total index_sound (child_count old) fourth_keep ps fourth_inner may.inner.distinct fourth_counts
+
+      module _ (last : Slab Stored) (re : AreRecounted (λ children. children + 1) fourth last ps (length ps)) where
+        pub index_keeps : KeepChildren last (child_count last)
+        index_keeps = up_keeps limits fourth total index_sound (child_count old) fourth_keep ps fourth_inner may.inner.distinct fourth_counts last re
+
+        pub index_still_sound : AreSound limits last total
+        index_still_sound = up_sound limits fourth total index_sound (child_count old) fourth_keep ps fourth_inner may.inner.distinct fourth_counts last re
+
+        pub index_same_graph : graph_of (seen limits last total) ≡ graph_of (seen limits fourth total)
+        index_same_graph = up_graph limits fourth total index_sound (child_count old) fourth_keep ps fourth_inner may.inner.distinct fourth_counts last re
 
 -- the capacity is not seen
 pub sound_capacity : (limits : Limits) (s : Slab Stored) (births capacity : ℕ) → AreSound limits s births

@@ -18,7 +18,7 @@ use Rattle.gl_graph.proofs.SoundChanged.{node_was, changed, changed_graph, chang
 use Rattle.gl_graph.proofs.Marked.{marked_is, marked_lawful, marked_record_of}
 
 adopted_shape : (b : Body) → shape_in_body (body_adopted b) ≡ marked_shape (shape_in_body b)
-adopted_shape body.Inner = refl
+adopted_shape (body.Inner children) = refl
 adopted_shape (body.File kept) = refl
 adopted_shape (body.Index kept) = refl
 adopted_shape (body.Interval place) = refl
@@ -29,7 +29,7 @@ adopted_shape (body.ManyKeyed keys) = refl
 -- what is kept beside a node does not depend on the mark
 same_beside : (g : Graph) (n : NodeId) (was : Stored) (b : Body) → KeepsBeside g n (vertex_of (record was { body = b })) (shape_in_body b)
     → KeepsBeside g n (vertex_of (record was { body = body_adopted b })) (shape_in_body (body_adopted b))
-same_beside g n was body.Inner k = k
+same_beside g n was (body.Inner children) k = k
 same_beside g n was (body.File kept) k = k
 same_beside g n was (body.Index kept) k = k
 same_beside g n was (body.Interval place) k = k

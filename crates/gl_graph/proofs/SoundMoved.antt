@@ -2,13 +2,13 @@
 use Rattle.std.specs.Prelude.{◌≡◌, ℕ, true, false, ◌&&◌, List, [], ◌∷◌, Option, Some, None, is_some}
 use Rattle.std.specs.List.{list_all}
 use Rattle.std.proofs.Common.{refl, sym, ap, ◌∙◌, subst}
-use Rattle.gl_modes.proofs.Words.{no, both, and_both}
+use Rattle.gl_modes.proofs.Words.{both, and_both}
 use Rattle.gl_modes.specs.declared.node.NodeId.{NodeId}
 use Rattle.slab.specs.Slab.{Slab, get, slab_len, ContainsKey, Updates}
 use Rattle.gl_graph.specs.declared.node.Node.{Node as Stored}
 use Rattle.gl_graph.specs.declared.parents.Parents.{Parents}
 use Rattle.gl_graph.specs.Shapes.{Shape, Inner, File, Index, Interval, Rec, is_movable_shape, is_record_shape, least_parents}
-use Rattle.gl_graph.specs.Graph.{Graph, Node, node_at, is_live, is_child, shape_in, shape_of}
+use Rattle.gl_graph.specs.Graph.{Graph, node_at, is_live, is_child, shape_in, shape_of}
 use Rattle.gl_graph.specs.Lawful.{IsLawfulGraph, AreInnerParents, are_inner}
 use Rattle.gl_graph.specs.Changes.{with_node, with_parents}
 use Rattle.gl_graph.specs.Refusals.{first_cycle}
@@ -16,6 +16,7 @@ use Rattle.gl_graph.specs.View.{graph_of, node_of, KeepsBeside}
 use Rattle.gl_graph.specs.Seen.{Limits, shape_in_body, parent_list, vertex_of, seen, AreSound}
 use Rattle.gl_graph.proofs.KindRules.{inner_plain, plain_live}
 use Rattle.gl_graph.proofs.Changed.{at_here}
+use Rattle.gl_graph.proofs.Branch.{movable_live, movable_no_record}
 use Rattle.gl_graph.proofs.Moved.{movable_alike, move_lawful, with_parents_is}
 use Rattle.gl_graph.proofs.Unrefused.{no_cycle}
 use Rattle.gl_graph.proofs.Slots.{stored_of}
@@ -24,21 +25,6 @@ use Rattle.gl_graph.proofs.SoundChanged.{node_was, changed, changed_graph, chang
 pub inner_live : (g : Graph) (ps : List NodeId) → are_inner g ps ≡ true → list_all (is_live g) ps ≡ true
 inner_live g [] h = refl
 inner_live g (p ∷ ps) h = let t = and_both _ (are_inner g ps) h in both _ _ (plain_live g p (inner_plain _ t.0)) (inner_live g ps t.1)
-
-movable_no_record : (o : Option Shape) → is_movable_shape o ≡ true → is_record_shape o ≡ false
-movable_no_record None h = refl
-movable_no_record (Some Inner) h = refl
-movable_no_record (Some (File adopted)) h = refl
-movable_no_record (Some (Index f bs)) h = refl
-movable_no_record (Some (Interval place)) h = refl
-movable_no_record (Some (Rec keys)) h = absurd (no h)
-
-movable_live : (g : Graph) (n : NodeId) → is_movable_shape (shape_of g n) ≡ true → is_live g n ≡ true
-movable_live g n h = by (node_at g n) h
-  where
-    by : (o : Option Node) → is_movable_shape (shape_in o) ≡ true → is_some o ≡ true
-    by None k = absurd (no k)
-    by (Some x) k = refl
 
 -- what is kept beside a node does not depend on its parents
 same_beside : (g : Graph) (n : NodeId) (was : Stored) (fresh : Parents) (sh : Shape) → KeepsBeside g n (vertex_of was) sh

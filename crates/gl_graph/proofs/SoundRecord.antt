@@ -30,7 +30,7 @@ module _ (x : Stored) (adopted : Bool) (file : shape_in_body x.body ≡ File ado
 
   by_body : (b : Body) → shape_in_body b ≡ File adopted → (shape_in_body (body_with_records b records) ≡ File adopted)
       × (indexes_in_body (body_with_records b records) ≡ indexes_in_body b)
-  by_body body.Inner e = cc
+  by_body (body.Inner children) e = cc
   by_body (body.File kept) e = (e, refl)
   by_body (body.Index kept) e = cc
   by_body (body.Interval place) e = cc
@@ -39,7 +39,7 @@ module _ (x : Stored) (adopted : Bool) (file : shape_in_body x.body ≡ File ado
   by_body (body.ManyKeyed keys) e = cc
 
   count_written : (b : Body) → shape_in_body b ≡ File adopted → (vertex_of (record x { body = body_with_records b records })).records ≡ records
-  count_written body.Inner e = cc
+  count_written (body.Inner children) e = cc
   count_written (body.File kept) e = refl
   count_written (body.Index kept) e = cc
   count_written (body.Interval place) e = cc

@@ -14,8 +14,8 @@ use Rattle.gl_graph.specs.Shapes.{is_file_shape, is_adopted}
 use Rattle.gl_graph.specs.Routes.{is_at_or_below}
 use Rattle.gl_graph.specs.Lawful.{IsRising, are_inner, are_distinct, AreInnerParents}
 use Rattle.gl_graph.specs.Refusals.{first_refusal, where_true, max_count, worn_births, some_no_node, bad_parents, too_many_nodes, first_cycle}
-use Rattle.gl_graph.specs.Refusals.{is_rising, parents_refusal, record_refusal, index_refusal, reindex_refusal, bad_index_place, bad_bounds, has_records, Refuses}
-use Rattle.gl_graph.specs.Refusals.{verdict}
+use Rattle.gl_graph.specs.Refusals.{is_rising, parents_refusal, record_refusal, index_refusal, reindex_refusal, bad_index_place, bad_bounds, has_records}
+use Rattle.gl_graph.specs.Refusals.{verdict, Refuses}
 
 pub not_refused : (x : Option Refusal) (xs : List (Option Refusal)) → first_refusal (x ∷ xs) ≡ None → (x ≡ None) × (first_refusal xs ≡ None)
 not_refused None xs h = (refl, h)

@@ -8,7 +8,7 @@ use Rattle.gl_graph.specs.Shapes.{Interval}
 use Rattle.gl_graph.specs.Graph.{Node}
 use Rattle.gl_graph.specs.Changes.{born_nodes, interval_nodes, keys_of, are_apart}
 use Rattle.gl_graph.specs.View.{graph_of}
-use Rattle.gl_graph.specs.Seen.{shape_in_body, Limits, seen, AreBornApart, AreBornWithin}
+use Rattle.gl_graph.specs.Seen.{shape_in_body, children_in_body, body_with_children, Limits, seen, AreBornApart, AreBornWithin}
 
 -- these nodes were born, in this order, and all others are as they were
 pub record IsGrown (old : Slab Stored) (births : ℕ) (new : Slab Stored) (ns : List Node) : Type 0 where
@@ -38,6 +38,17 @@ pub record AreIntervalsBorn (old new : Slab Stored) (index : NodeId) (count : �
 pub record AreStored (nodes : Slab Stored) (ids : List NodeId) : Type 0 where
   pub there : (place : ℕ) (n : NodeId) → slice_get ids place ≡ Some n → is_some (get nodes n.key) ≡ true
   pub apart : (place other : ℕ) (m n : NodeId) → slice_get ids place ≡ Some m → slice_get ids other ≡ Some n → m.key ≡ n.key → place ≡ other
+
+-- each of these keeps such a number of children
+abbrev pub EachKeeps : (ℕ → Type 0) → Slab Stored → List NodeId → Type 0
+EachKeeps Such nodes ids = (place : ℕ) (n : NodeId) (x : Stored) → slice_get ids place ≡ Some n → get nodes n.key ≡ Some x → Such (children_in_body x.body)
+
+-- the first so many of them keep another number of children, and all else is as it was
+pub record AreRecounted (fresh : ℕ → ℕ) (old new : Slab Stored) (ids : List NodeId) (count : ℕ) : Type 0 where
+  pub counted : (place : ℕ) (n : NodeId) (x : Stored) → place < count → slice_get ids place ≡ Some n → get old n.key ≡ Some x
+      → get new n.key ≡ Some (record x { body = body_with_children x.body (fresh (children_in_body x.body)) })
+  pub stays : (key : ℕ) → ((place : ℕ) (n : NodeId) → place < count → slice_get ids place ≡ Some n → n.key ≢ key) → get new key ≡ get old key
+  pub len : slab_len new ≡ slab_len old
 
 -- the first so many of them are gone, and all other nodes are as they were
 pub record AreGone (old new : Slab Stored) (ids : List NodeId) (count : ℕ) : Type 0 where

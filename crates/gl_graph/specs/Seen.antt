@@ -1,5 +1,6 @@
 -- What a contract sees of a slab of nodes, and what holds of it always.
-use Rattle.std.specs.Prelude.{◌≡◌, ℕ, true, not, ◌==◌, List, [], ◌∷◌, ◌++◌, map, Option, Some, None, if◌then◌else◌, slice_set, ◌+◌, ◌≤◌, Vec}
+use Rattle.std.specs.Prelude.{◌≡◌, ℕ, Bool, true, false, not, count_by, ◌==◌, List, [], ◌∷◌, ◌++◌, map, Option, Some, None, if◌then◌else◌, slice_set}
+use Rattle.std.specs.Prelude.{◌+◌, ◌≤◌, Vec}
 use Rattle.std.specs.List.{filter, list_any}
 use Rattle.gl_modes.specs.declared.node.NodeId.{NodeId}
 use Rattle.gl_modes.specs.Nodes.{same_node}
@@ -18,7 +19,7 @@ use Rattle.gl_graph.specs.View.{Vertex, View, graph_of, AgreesAt}
 
 -- what a body says of the shape
 abbrev pub shape_in_body : Body → Shape
-shape_in_body body.Inner = Inner
+shape_in_body (body.Inner children) = Inner
 shape_in_body (body.File kept) = File kept.value.adopted
 shape_in_body (body.Index kept) = Index kept.value.file kept.value.bounds.items
 shape_in_body (body.Interval place) = Interval place
@@ -42,6 +43,11 @@ indexes_in_body b = []
 abbrev pub records_in_body : Body → ℕ
 records_in_body (body.File kept) = kept.value.records
 records_in_body b = 0
+
+-- the number of an inner node's children, as it is kept
+abbrev pub children_in_body : Body → ℕ
+children_in_body (body.Inner children) = children
+children_in_body b = 0
 
 -- an index's intervals, as they are kept
 abbrev pub intervals_in_body : Body → List NodeId
@@ -104,11 +110,30 @@ pub record AreSound (limits : Limits) (nodes : Slab Node) (births : ℕ) : Type 
   pub counted : slab_len nodes ≡ node_count (graph_of (seen limits nodes births))
   pub agree : (key : ℕ) (x : Node) → get nodes key ≡ Some x → AgreesAt (graph_of (seen limits nodes births)) key (vertex_of x)
 
--- of an inner node or of a file with nothing kept beside it
+-- what a slot has is a child of n
+abbrev pub is_child_slot : NodeId → Option Node → Bool
+is_child_slot n None = false
+is_child_slot n (Some x) = list_any (same_node n) (parent_list x.parents)
+
+-- how many of the stored nodes are children of n
+abbrev pub child_count : Slab Node → NodeId → ℕ
+child_count nodes n = count_by (is_child_slot n) nodes.slots
+
+-- each inner node keeps this number of children
+abbrev pub KeepChildren : Slab Node → (NodeId → ℕ) → Type 0
+KeepChildren nodes count = (key : ℕ) (x : Node) → get nodes key ≡ Some x → shape_in_body x.body ≡ Inner
+    → children_in_body x.body ≡ count (record { key = key; birth = x.birth })
+
+-- of an inner node without children, or of a file with nothing kept beside it
 abbrev pub IsPlainBody : Body → Type 0
-IsPlainBody body.Inner = Unit {0}
+IsPlainBody (body.Inner children) = children ≡ 0
 IsPlainBody (body.File kept) = (kept.value.indexes.items ≡ []) × (kept.value.records ≡ 0)
 IsPlainBody b = ⊥
+
+-- an inner node with this number of children
+abbrev pub body_with_children : Body → ℕ → Body
+body_with_children (body.Inner children) fresh = body.Inner fresh
+body_with_children b fresh = b
 
 -- a file with this number of records
 abbrev pub body_with_records : Body → ℕ → Body

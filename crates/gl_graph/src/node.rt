@@ -10,7 +10,9 @@ use std::alloc::{AllocError, Global};
 /// key or none: what takes more room than a key is in boxes.
 #[derive(Drop)]
 pub(crate) enum Body {
-    Inner,
+    /// An inner node. How many nodes have it as a parent could be found by a search; it is kept so that
+    /// nothing is searched.
+    Inner { children: usize },
     File(Box<FileBody>),
     Index(Box<IndexBody>),
     Interval { place: usize },
@@ -51,11 +53,13 @@ impl Body {
     ghost use Rattle.gl_graph.specs.Shapes.{Rec, bounds_in, is_adopted, keys_in, kind_in, place_in};
     ghost use Rattle.gl_graph.specs.Seen.{
       body_adopted,
+      body_with_children,
       body_with_indexes,
       body_with_intervals,
       body_with_key,
       body_with_records,
       body_without_index,
+      children_in_body,
       indexes_in_body,
       intervals_in_body,
       records_in_body,
@@ -81,7 +85,7 @@ impl Body {
         ensures { Some result ≡ kind_in (Some (shape_in_body self.now)) }
     {
         match self {
-            Body::Inner => Kind::Inner,
+            Body::Inner { .. } => Kind::Inner,
             Body::File(_) => Kind::File,
             Body::Index(_) => Kind::Index,
             Body::Interval { .. } => Kind::Interval,
@@ -103,6 +107,15 @@ impl Body {
     {
         match self {
             Body::File(kept) => kept.records,
+            _ => 0,
+        }
+    }
+
+    pub(crate) fn children(&self) -> usize
+        ensures { result ≡ children_in_body self.now }
+    {
+        match self {
+            Body::Inner { children } => *children,
             _ => 0,
         }
     }
@@ -150,6 +163,15 @@ impl Body {
             Body::Keyed { key } => key.as_slice(),
             Body::ManyKeyed { keys } => keys.as_slice(),
             _ => &[],
+        }
+    }
+
+    /// Writes how many children an inner node has; another body stays as it is.
+    pub(crate) fn set_children(&mut self, fresh: usize)
+        ensures { self.new ≡ body_with_children self.old fresh }
+    {
+        if let Body::Inner { children } = self {
+            *children = fresh;
         }
     }
 

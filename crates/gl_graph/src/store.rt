@@ -6,6 +6,7 @@ ghost use Rattle.std.specs.Prelude.{
   ◌≡◌,
   ◌≤◌,
   ◌^◌,
+  ◌-◌,
   Some,
   [],
   length,
@@ -19,6 +20,7 @@ ghost use Rattle.gl_graph.specs.Seen.{
   AreBornApart,
   AreBornWithin,
   body_adopted,
+  body_with_children,
   body_with_indexes,
   body_with_intervals,
   body_with_records,
@@ -28,13 +30,14 @@ ghost use Rattle.gl_graph.specs.Seen.{
   shape_in_body,
   with_key_at,
 };
-ghost use Rattle.gl_graph.specs.Grown.{AreGone, AreIntervalsBorn, AreStored};
+ghost use Rattle.gl_graph.specs.Grown.{AreGone, AreIntervalsBorn, AreRecounted, AreStored, EachKeeps};
 
 use crate::node::{Body, Node};
 use crate::parents::Parents;
 use gl_modes::NodeId;
 use slab::Slab;
 use smallvec::SmallVec;
+use std::mem;
 
 /// The node that the id names.
 pub(crate) fn find(nodes: &Slab<Node>, n: NodeId) -> Option<&Node>
@@ -55,6 +58,16 @@ pub(crate) fn write_records(nodes: &mut Slab<Node>, key: usize, records: usize)
     nodes[key].body.set_records(records);
 }
 
+/// Writes how many children an inner node has.
+fn write_children(nodes: &mut Slab<Node>, key: usize, children: usize)
+    requires { ContainsKey nodes.old key }
+    ensures written { (x : Node) → get nodes.old key ≡ Some x
+        → Updates nodes.old nodes.new key (Some (record x { body = body_with_children x.body children })) }
+    ensures len { slab_len nodes.new ≡ slab_len nodes.old }
+{
+    nodes[key].body.set_children(children);
+}
+
 /// Writes that rows of a file were adopted.
 pub(crate) fn write_adopted(nodes: &mut Slab<Node>, key: usize)
     requires { ContainsKey nodes.old key }
@@ -65,13 +78,38 @@ pub(crate) fn write_adopted(nodes: &mut Slab<Node>, key: usize)
     nodes[key].body.adopt();
 }
 
-/// Writes the parents of a node.
-pub(crate) fn write_parents(nodes: &mut Slab<Node>, key: usize, fresh: Parents)
+/// Writes the parents of a node, and gives those that it had.
+pub(crate) fn write_parents(nodes: &mut Slab<Node>, key: usize, fresh: Parents) -> Parents
     requires { ContainsKey nodes.old key }
     ensures written { (x : Node) → get nodes.old key ≡ Some x → Updates nodes.old nodes.new key (Some (record x { parents = fresh })) }
+    ensures old { (x : Node) → get nodes.old key ≡ Some x → result ≡ x.parents }
     ensures len { slab_len nodes.new ≡ slab_len nodes.old }
 {
-    nodes[key].parents = fresh;
+    mem::replace(&mut nodes[key].parents, fresh)
+}
+
+/// Each of these, which are stored apart, has a child more.
+pub(crate) fn count_up(nodes: &mut Slab<Node>, ids: &[NodeId])
+    requires stored { AreStored nodes.old ids.now }
+    requires room { EachKeeps (λ children. children + 1 < 2 ^ 64) nodes.old ids.now }
+    ensures counted { AreRecounted (λ children. children + 1) nodes.old nodes.new ids.now (length ids.now) }
+{
+    for n in ids {
+        let children = nodes[n.key].body.children();
+        write_children(nodes, n.key, children + 1);
+    }
+}
+
+/// Each of these, which are stored apart, has a child less.
+pub(crate) fn count_down(nodes: &mut Slab<Node>, ids: &[NodeId])
+    requires stored { AreStored nodes.old ids.now }
+    requires some { EachKeeps (λ children. 1 ≤ children) nodes.old ids.now }
+    ensures counted { AreRecounted (λ children. children - 1) nodes.old nodes.new ids.now (length ids.now) }
+{
+    for n in ids {
+        let children = nodes[n.key].body.children();
+        write_children(nodes, n.key, children - 1);
+    }
 }
 
 /// Writes one key of a record, and the interval in which it lies.

@@ -7,7 +7,7 @@ ghost use Rattle.gl_graph.specs.Shapes.{
   is_file_shape,
   is_index_of_shape,
   is_index_shape,
-  is_inner_shape,
+  is_movable_shape,
   is_record_shape,
 };
 ghost use Rattle.gl_graph.specs.Graph.{first_parent, indexes_of, shape_of};
@@ -16,8 +16,11 @@ ghost use Rattle.gl_graph.specs.Refusals.{is_in_use};
 ghost use Rattle.gl_graph.specs.View.{graph_of};
 
 use super::Graph;
+use crate::kind::Kind;
 use crate::node::{Body, Node};
-use crate::store::{find, remove_all, unlist_index, write_adopted, write_key, write_records};
+use crate::store::{
+    count_down, find, remove_all, unlist_index, write_adopted, write_key, write_records,
+};
 use gl_modes::NodeId;
 
 /// The place of the first of these that is the node.
@@ -28,17 +31,17 @@ fn place_among(ids: &[NodeId], n: NodeId) -> Option<usize>
 }
 
 impl Graph {
-    /// Whether something stands against a drop of a file or an index: a record or an index of the file,
-    /// a record of the file of the index.
+    /// Whether something stands against a drop: of an inner node a child, of a file a record or an
+    /// index, of an index a record of its file.
     pub fn is_in_use(&self, n: NodeId) -> bool
-        requires { is_inner_shape (shape_of (graph_of self.now) n) ≡ false }
         ensures { result ≡ is_in_use (graph_of self.now) n }
     {
         let Some(node) = find(&self.nodes, n) else {
             return false;
         };
         match &node.body {
-            Body::File(kept) => kept.records > 0 || kept.indexes.len() > 0,
+            Body::Inner { children } => *children > 0,
+            Body::File(kept) => kept.records > 0 || !kept.indexes.is_empty(),
             Body::Index(kept) => self.has_records(kept.file),
             _ => false,
         }
@@ -55,28 +58,44 @@ impl Graph {
         write_records(&mut self.nodes, file.key, records);
     }
 
-    /// Takes out a file without records and without indexes. It takes no memory.
-    pub fn remove_file(&mut self, file: NodeId)
-        requires file { is_file_shape (shape_of (graph_of self.old) file) ≡ true }
-        requires free { is_in_use (graph_of self.old) file ≡ false }
-        ensures removed { graph_of self.new ≡ without_branch (graph_of self.old) file }
+    /// Takes out an inner node without children, a file without records and without indexes, or an
+    /// index with its intervals, where its file has no records. It takes no memory, and of an index a
+    /// step for each interval.
+    pub fn remove_node(&mut self, n: NodeId)
+        requires movable { is_movable_shape (shape_of (graph_of self.old) n) ≡ true }
+        requires free { is_in_use (graph_of self.old) n ≡ false }
+        ensures removed { graph_of self.new ≡ without_branch (graph_of self.old) n }
     {
-        self.nodes.remove(file.key);
+        match self.kind(n) {
+            Some(Kind::Index) => self.remove_index(n),
+            _ => self.remove_alone(n),
+        }
     }
 
-    /// Takes out an index with its intervals, where its file has no records. It takes no memory, and a
-    /// step for each interval.
-    pub fn remove_index(&mut self, index: NodeId)
+    /// Takes out an inner node or a file.
+    fn remove_alone(&mut self, n: NodeId)
+        requires movable { is_movable_shape (shape_of (graph_of self.old) n) ≡ true }
+        requires alone { is_index_shape (shape_of (graph_of self.old) n) ≡ false }
+        requires free { is_in_use (graph_of self.old) n ≡ false }
+        ensures removed { graph_of self.new ≡ without_branch (graph_of self.old) n }
+    {
+        let Node { parents, .. } = self.nodes.remove(n.key);
+        count_down(&mut self.nodes, parents.as_slice());
+    }
+
+    /// Takes out an index with its intervals.
+    fn remove_index(&mut self, index: NodeId)
         requires index { is_index_shape (shape_of (graph_of self.old) index) ≡ true }
         requires free { is_in_use (graph_of self.old) index ≡ false }
         ensures removed { graph_of self.new ≡ without_branch (graph_of self.old) index }
     {
-        let Node { body, .. } = self.nodes.remove(index.key);
+        let Node { parents, body, .. } = self.nodes.remove(index.key);
         let Body::Index(kept) = body else {
             unreachable!()
         };
         remove_all(&mut self.nodes, kept.intervals.as_slice());
         unlist_index(&mut self.nodes, kept.file.key, index);
+        count_down(&mut self.nodes, parents.as_slice());
     }
 
     /// Keeps for ever that rows of the file were adopted: an index of it is made by `add_index_again`

@@ -4,7 +4,7 @@ ghost use Rattle.std.specs.Prelude.{◌≡◌, ◌+◌, ◌<◌, ◌^◌, ℕ, N
 ghost use Rattle.gl_modes.specs.declared.refusal.Refusal.{Refusal};
 ghost use Rattle.gl_graph.specs.Shapes.{File, Inner, Rec, is_file_shape};
 ghost use Rattle.gl_graph.specs.Graph.{IsFreeKey, indexes_of, record_parents, shape_of};
-ghost use Rattle.gl_graph.specs.Lawful.{IsLawfulGraph};
+ghost use Rattle.gl_graph.specs.Lawful.{AreInnerParents, IsLawfulGraph};
 ghost use Rattle.gl_graph.specs.Changes.{born_node, IsAdopted, IsBorn, IsIndexBorn};
 ghost use Rattle.gl_graph.specs.Refusals.{file_refusal, index_refusal, inner_refusal, record_refusal, reindex_refusal, Refuses};
 ghost use Rattle.gl_graph.specs.View.{graph_of};
@@ -13,7 +13,7 @@ ghost use Rattle.gl_graph.specs.Seen.{shape_in_body, IsPlainBody};
 use super::Graph;
 use crate::node::{Body, FileBody, IndexBody, Node};
 use crate::parents::Parents;
-use crate::store::{insert_intervals, write_indexes, write_intervals, write_records};
+use crate::store::{count_up, insert_intervals, write_indexes, write_intervals, write_records};
 use arrayvec::ArrayVec;
 use gl_modes::{NodeId, Refusal};
 use smallvec::SmallVec;
@@ -74,7 +74,7 @@ impl Graph {
         ensures err { OnErr result (self.new ≡ self.old) }
     {
         self.check_parents(0, parents)?;
-        self.insert(parents, Body::Inner)
+        self.insert(parents, Body::Inner { children: 0 })
     }
 
     /// Makes a file under 1 to 8 different inner nodes. It has no indexes and no records, and no rows
@@ -162,7 +162,7 @@ impl Graph {
             return Err(Refusal::NoMemory);
         };
         let IndexParts {
-            parents,
+            parents: kept,
             body,
             mut intervals,
             mut indexes,
@@ -170,7 +170,7 @@ impl Graph {
         let birth = self.births + 1;
         let key = self.nodes.insert_reserved(Node {
             birth,
-            parents,
+            parents: kept,
             body: Body::Index(body),
         });
         let index = NodeId { key, birth };
@@ -178,6 +178,7 @@ impl Graph {
         indexes.push_reserved(index);
         write_intervals(&mut self.nodes, key, intervals);
         write_indexes(&mut self.nodes, file.key, indexes);
+        count_up(&mut self.nodes, parents);
         self.births = birth + count as u64;
         Ok(index)
     }
@@ -262,28 +263,30 @@ impl Graph {
         parents
     }
 
-    /// Stores a node with the next birth.
+    /// Stores a node with the next birth, under different inner nodes.
     fn insert(&mut self, parents: &[NodeId], body: Body) -> Result<NodeId, Refusal>
         requires births { self.old.births + 1 < 2 ^ 64 }
         requires plain { IsPlainBody body }
+        requires parents { AreInnerParents (graph_of self.old) 0 parents.now }
         requires lawful { (key : ℕ) → IsLawfulGraph (graph_of self.old) → IsFreeKey (graph_of self.old) key
             → IsLawfulGraph (born_node (graph_of self.old) (record { key = key; shape = shape_in_body body; parents = parents.now })) }
         ensures made { IfOk result (λ n. IsBorn (graph_of self.old) (graph_of self.new) n (shape_in_body body) parents.now) }
         ensures memory { IfErr result (λ r. r ≡ Refusal.NoMemory) }
         ensures err { OnErr result (self.new ≡ self.old) }
     {
-        let Ok(parents) = Parents::from_slice(self.alloc, parents) else {
+        let Ok(kept) = Parents::from_slice(self.alloc, parents) else {
             return Err(Refusal::NoMemory);
         };
         let birth = self.births + 1;
         let node = Node {
             birth,
-            parents,
+            parents: kept,
             body,
         };
         let Ok(key) = self.nodes.insert(node) else {
             return Err(Refusal::NoMemory);
         };
+        count_up(&mut self.nodes, parents);
         self.births = birth;
         Ok(NodeId { key, birth })
     }

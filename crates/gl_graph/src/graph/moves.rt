@@ -14,7 +14,7 @@ ghost use Rattle.gl_graph.specs.View.{graph_of};
 use super::Graph;
 use crate::found::add_missing;
 use crate::parents::Parents;
-use crate::store::write_parents;
+use crate::store::{count_down, count_up, write_parents};
 use gl_modes::{NodeId, Refusal};
 use indexmap::IndexSet;
 use std::alloc::AllocError;
@@ -37,7 +37,9 @@ impl Graph {
         let Ok(fresh) = Parents::from_slice(self.alloc, parents) else {
             return Err(Refusal::NoMemory);
         };
-        write_parents(&mut self.nodes, n.key, fresh);
+        let old = write_parents(&mut self.nodes, n.key, fresh);
+        count_down(&mut self.nodes, old.as_slice());
+        count_up(&mut self.nodes, parents);
         Ok(())
     }
 

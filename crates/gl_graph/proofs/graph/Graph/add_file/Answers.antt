@@ -1,4 +1,4 @@
-use Rattle.std.proofs.Common.{◌≡◌, false, sym, ap, subst}
+use Rattle.std.proofs.Common.{◌≡◌, false, sym, ap, subst, arith}
 use Rattle.gl_graph.specs.Shapes.{File}
 use Rattle.gl_graph.specs.Lawful.{IsLawfulGraph}
 use Rattle.gl_graph.specs.Changes.{born_node}
@@ -14,3 +14,8 @@ insert-requires-clause-lawful c = λ key law free.
     subst (λ adopted. IsLawfulGraph (born_node (graph_of c.args.self.now)
     (record { key = key; shape = File adopted; parents = c.args.parents.now }))) (sym unadopted)
     (file_lawful (graph_of c.args.self.now) law key c.args.parents.now may.inner free may.room)
+
+pub insert-requires-clause-parents : goal.insert-requires-clause-parents
+insert-requires-clause-parents c =
+    let may = parents_unrefused (graph_of c.args.self.now) 1 c.args.parents.now (verdict_ok _ _ c.in_ok-check_parents.ensures) in
+    record { enough = omega arith; few = may.inner.few; inner = may.inner.inner; distinct = may.inner.distinct }

@@ -1,3 +1,4 @@
+use Rattle.std.proofs.Common.{arith}
 use Rattle.gl_graph.specs.View.{graph_of}
 use Rattle.gl_graph.proofs.Unrefused.{verdict_ok, parents_unrefused}
 use Rattle.gl_graph.proofs.NewNodes.{inner_lawful}
@@ -7,3 +8,8 @@ pub insert-requires-clause-lawful : goal.insert-requires-clause-lawful
 insert-requires-clause-lawful c = λ key law free.
     let may = parents_unrefused (graph_of c.args.self.now) 0 c.args.parents.now (verdict_ok _ _ c.in_ok-check_parents.ensures) in
     inner_lawful (graph_of c.args.self.now) law key c.args.parents.now may.inner free may.room
+
+pub insert-requires-clause-parents : goal.insert-requires-clause-parents
+insert-requires-clause-parents c =
+    let may = parents_unrefused (graph_of c.args.self.now) 0 c.args.parents.now (verdict_ok _ _ c.in_ok-check_parents.ensures) in
+    record { enough = omega arith; few = may.inner.few; inner = may.inner.inner; distinct = may.inner.distinct }

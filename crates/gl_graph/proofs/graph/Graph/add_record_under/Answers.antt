@@ -6,6 +6,7 @@ use Rattle.gl_graph.specs.Changes.{IsBorn}
 use Rattle.gl_graph.specs.View.{View, graph_of, record_count}
 use Rattle.gl_graph.specs.Seen.{seen}
 use Rattle.gl_graph.proofs.Unrefused.{IsRoomyRecord, record_unrefused}
+use Rattle.gl_graph.proofs.SoundChildren.{record_keeps}
 use Rattle.gl_graph.proofs.SoundRecord.{file_contained, record_sound, record_born}
 use Rattle.gl_graph.specs.Sound.{limits_of}
 use Rattle.gl_graph.proofs.graph.Graph.add_record_under.Goals as goal
@@ -16,7 +17,7 @@ write_records-requires c =
     let may = subst (λ (v : View). IsRoomyRecord (graph_of v) c.args.file c.args.keys.now) (sym c.self.view_is)
     (record_unrefused (graph_of c.args.self.now) c.args.file c.args.keys.now c.requires.free) in
     file_contained (limits_of c.self.inside) c.self.inside.nodes c.insert.new.self c.insert.new.self c.self.inside.births c.in-Ok-insert.key x
-    c.self.invariant c.in-Ok-insert.ensures.was_vacant c.in-Ok-insert.ensures.updates refl c.in-Ok-insert.ensures.len
+    c.self.invariant.sound c.in-Ok-insert.ensures.was_vacant c.in-Ok-insert.ensures.updates refl c.in-Ok-insert.ensures.len
     c.args.file c.args.keys.now may.file c.in-Ok-of_record.ensures
     (c.in-Ok.ensures ∙ c.requires.parents ∙ ap (λ (v : View). record_parents (graph_of v) c.args.file c.args.keys.now) (sym c.self.view_is))
 
@@ -25,13 +26,19 @@ invariant_of-self-2 c =
     let x : Stored = record { birth = c.self.inside.births + 1; parents = c.in-Ok.parents; body = c.in-Ok-of_record.body } in
     let may = subst (λ (v : View). IsRoomyRecord (graph_of v) c.args.file c.args.keys.now) (sym c.self.view_is)
     (record_unrefused (graph_of c.args.self.now) c.args.file c.args.keys.now c.requires.free) in
-    record_sound (limits_of c.self.inside) c.self.inside.nodes c.insert.new.self c.write_records.new.nodes c.self.inside.births c.in-Ok-insert.key x
-    c.self.invariant c.in-Ok-insert.ensures.was_vacant c.in-Ok-insert.ensures.updates refl c.in-Ok-insert.ensures.len
+    let sound = record_sound (limits_of c.self.inside) c.self.inside.nodes c.insert.new.self c.write_records.new.nodes c.self.inside.births c.in-Ok-insert.key x
+    c.self.invariant.sound c.in-Ok-insert.ensures.was_vacant c.in-Ok-insert.ensures.updates refl c.in-Ok-insert.ensures.len
     c.args.file c.args.keys.now may.file c.in-Ok-of_record.ensures
     (c.in-Ok.ensures ∙ c.requires.parents ∙ ap (λ (v : View). record_parents (graph_of v) c.args.file c.args.keys.now) (sym c.self.view_is))
     may.each may.room (c.records-records.result + 1)
     (ap (λ n. n + 1) (c.records-records.ensures
-    ∙ ap (λ (v : View). record_count (graph_of v) c.args.file) (sym c.self.view_is))) c.write_records.ensures.written c.write_records.ensures.len
+    ∙ ap (λ (v : View). record_count (graph_of v) c.args.file) (sym c.self.view_is))) c.write_records.ensures.written c.write_records.ensures.len in
+    record {
+      sound = sound;
+      children = record_keeps (limits_of c.self.inside) c.self.inside.nodes c.insert.new.self c.write_records.new.nodes c.self.inside.births
+          c.in-Ok-insert.key x c.self.invariant.sound sound c.self.invariant.children c.in-Ok-insert.ensures.was_vacant c.in-Ok-insert.ensures.updates
+          c.args.file c.args.keys.now may.file c.in-Ok-of_record.ensures (c.records-records.result + 1) c.write_records.ensures.written;
+    }
 
 pub returns-clause-made : goal.returns-clause-made
 returns-clause-made c =
@@ -42,7 +49,7 @@ returns-clause-made c =
     (record { key = c.in-Ok-insert.key; birth = c.self.inside.births + 1 }) (Rec c.args.keys.now)
     (record_parents (graph_of v) c.args.file c.args.keys.now)) c.self.view_is
     (record_born (limits_of c.self.inside) c.self.inside.nodes c.insert.new.self c.write_records.new.nodes c.self.inside.births c.in-Ok-insert.key x
-    c.self.invariant c.in-Ok-insert.ensures.was_vacant c.in-Ok-insert.ensures.updates refl c.in-Ok-insert.ensures.len
+    c.self.invariant.sound c.in-Ok-insert.ensures.was_vacant c.in-Ok-insert.ensures.updates refl c.in-Ok-insert.ensures.len
     c.args.file c.args.keys.now may.file c.in-Ok-of_record.ensures
     (c.in-Ok.ensures ∙ c.requires.parents ∙ ap (λ (v : View). record_parents (graph_of v) c.args.file c.args.keys.now) (sym c.self.view_is))
     may.each may.room (c.records-records.result + 1)

@@ -20,5 +20,5 @@ returns c =
     let lent = lent_at found c.as_slice.result.now c.loop-node.at c.get.result c.as_slice.ensures.keys c.get.ensures.lookup in
     c.contains.ensures
     ∙ finds_routes (graph_of c.args.self.now)
-    (subst (λ (v : View). IsLawfulGraph (graph_of v)) c.self.view_is c.self.invariant.lawful) c.args.from c.args.target found c.loop-node.at c.requires
+    (subst (λ (v : View). IsLawfulGraph (graph_of v)) c.self.view_is c.self.invariant.sound.lawful) c.args.from c.args.target found c.loop-node.at c.requires
     (lent ∙ ap option_copied c.in_default.is) c.loop-node.invariant

@@ -9,18 +9,18 @@ use Rattle.gl_graph.proofs.graph.Graph.interval_of.Goals as goal
 
 pub unreachable-requires : goal.unreachable-requires
 unreachable-requires c = index_not_missed
-    (limits_of c.self.inside) c.self.inside.nodes c.self.inside.births c.args.self.now c.self.invariant c.self.view_is c.args.index
+    (limits_of c.self.inside) c.self.inside.nodes c.self.inside.births c.args.self.now c.self.invariant.sound c.self.view_is c.args.index
     (sym c.in_default.ensures) c.requires
 
 pub interval_place-requires : goal.interval_place-requires
 interval_place-requires c =
-    let kept = index_kept (limits_of c.self.inside) c.self.inside.nodes c.self.inside.births c.args.self.now c.self.invariant c.self.view_is
+    let kept = index_kept (limits_of c.self.inside) c.self.inside.nodes c.self.inside.births c.args.self.now c.self.invariant.sound c.self.view_is
     c.args.index c.in-Some.node.now (sym c.in-Some.ensures) c.requires in
     subst IsRising (sym c.bounds.ensures) kept.rising
 
 pub bounds-intervals-interval_place : goal.bounds-intervals-interval_place
 bounds-intervals-interval_place c =
-    let kept = index_kept (limits_of c.self.inside) c.self.inside.nodes c.self.inside.births c.args.self.now c.self.invariant c.self.view_is
+    let kept = index_kept (limits_of c.self.inside) c.self.inside.nodes c.self.inside.births c.args.self.now c.self.invariant.sound c.self.view_is
     c.args.index c.in-Some.node.now (sym c.in-Some.ensures) c.requires in
     let count = kept.count in
     let is = ap length c.intervals.ensures in
@@ -30,7 +30,7 @@ bounds-intervals-interval_place c =
 
 pub returns : goal.returns
 returns c =
-    let kept = index_kept (limits_of c.self.inside) c.self.inside.nodes c.self.inside.births c.args.self.now c.self.invariant c.self.view_is
+    let kept = index_kept (limits_of c.self.inside) c.self.inside.nodes c.self.inside.births c.args.self.now c.self.invariant.sound c.self.view_is
     c.args.index c.in-Some.node.now (sym c.in-Some.ensures) c.requires in
     let bs = ap length c.bounds.ensures in
     let low = c.interval_place.ensures.within in
@@ -41,5 +41,5 @@ returns c =
     (c.interval_place.ensures.place
     ∙ ap (λ xs. interval_place xs c.args.key)
     (c.bounds.ensures ∙ sym (bounds_found
-    (limits_of c.self.inside) c.self.inside.nodes c.self.inside.births c.args.self.now c.self.invariant c.self.view_is c.args.index
+    (limits_of c.self.inside) c.self.inside.nodes c.self.inside.births c.args.self.now c.self.invariant.sound c.self.view_is c.args.index
     c.in-Some.node.now (sym c.in-Some.ensures))))

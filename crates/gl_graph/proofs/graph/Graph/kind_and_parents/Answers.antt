@@ -7,16 +7,18 @@ use Rattle.gl_graph.proofs.graph.Graph.kind_and_parents.Goals as goal
 pub returns-in-Some-clause-kind : goal.returns-in-Some-clause-kind
 returns-in-Some-clause-kind c =
     c.kind.ensures
-    ∙ sym (ap kind_in (shape_found (limits_of c.self.inside) c.self.inside.nodes c.self.inside.births c.args.self.now c.self.invariant c.self.view_is c.args.n
+    ∙ sym (ap kind_in (shape_found (limits_of c.self.inside) c.self.inside.nodes c.self.inside.births c.args.self.now c.self.invariant.sound c.self.view_is
+    c.args.n
     c.in-Some.node.now (sym c.in-Some.ensures)))
 
 pub returns-in-Some-clause-parents : goal.returns-in-Some-clause-parents
 returns-in-Some-clause-parents c =
     c.as_slice.ensures
-    ∙ sym (parents_found (limits_of c.self.inside) c.self.inside.nodes c.self.inside.births c.args.self.now c.self.invariant c.self.view_is c.args.n
+    ∙ sym (parents_found (limits_of c.self.inside) c.self.inside.nodes c.self.inside.births c.args.self.now c.self.invariant.sound c.self.view_is c.args.n
     c.in-Some.node.now (sym c.in-Some.ensures))
 
 pub returns-in-None-clause-kind : goal.returns-in-None-clause-kind
 returns-in-None-clause-kind c =
-    sym (ap kind_in (shape_missed (limits_of c.self.inside) c.self.inside.nodes c.self.inside.births c.args.self.now c.self.invariant c.self.view_is c.args.n
+    sym (ap kind_in (shape_missed (limits_of c.self.inside) c.self.inside.nodes c.self.inside.births c.args.self.now c.self.invariant.sound c.self.view_is
+    c.args.n
     (sym c.in-None.ensures)))

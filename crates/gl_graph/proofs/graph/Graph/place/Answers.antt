@@ -6,9 +6,9 @@ use Rattle.gl_graph.proofs.graph.Graph.place.Goals as goal
 
 pub returns-in-Some : goal.returns-in-Some
 returns-in-Some c = c.place.ensures ∙ sym
-    (ap place_in (shape_found (limits_of c.self.inside) c.self.inside.nodes c.self.inside.births c.args.self.now c.self.invariant c.self.view_is
+    (ap place_in (shape_found (limits_of c.self.inside) c.self.inside.nodes c.self.inside.births c.args.self.now c.self.invariant.sound c.self.view_is
     c.args.n c.in-Some.node.now (sym c.in-Some.ensures)))
 
 pub returns-in-None : goal.returns-in-None
 returns-in-None c = sym (ap place_in (shape_missed
-    (limits_of c.self.inside) c.self.inside.nodes c.self.inside.births c.args.self.now c.self.invariant c.self.view_is c.args.n (sym c.in-None.ensures)))
+    (limits_of c.self.inside) c.self.inside.nodes c.self.inside.births c.args.self.now c.self.invariant.sound c.self.view_is c.args.n (sym c.in-None.ensures)))

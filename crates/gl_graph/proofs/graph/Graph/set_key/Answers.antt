@@ -10,6 +10,7 @@ use Rattle.gl_graph.specs.Changes.{rekeyed}
 use Rattle.gl_graph.specs.View.{View, graph_of}
 use Rattle.gl_graph.specs.Seen.{seen, with_key_at}
 use Rattle.gl_graph.proofs.RecordParents.{its_file}
+use Rattle.gl_graph.proofs.SoundChildren.{rekeyed_keeps, record_with_key, stored_record}
 use Rattle.gl_graph.proofs.Rekey.{index_among, contained, key_there, parent_there, place_fits, rekeyed_graph, rekeyed_sound}
 use Rattle.gl_graph.specs.Sound.{limits_of}
 use Rattle.gl_graph.proofs.graph.Graph.set_key.Goals as goal
@@ -19,7 +20,7 @@ index_place-place-requires-clause-file c =
     let rec = subst (λ (v : View). is_record_shape (shape_of (graph_of v) c.args.rec) ≡ true) (sym c.self.view_is) c.requires.«record» in
     let file : is_file_shape (shape_of (graph_of c.args.self.now) (first_parent (graph_of c.args.self.now) c.args.rec)) ≡ true
     = subst (λ (v : View). is_file_shape (shape_of (graph_of v) (first_parent (graph_of v) c.args.rec)) ≡ true) c.self.view_is
-    (its_file (graph_of (seen (limits_of c.self.inside) c.self.inside.nodes c.self.inside.births)) c.self.invariant.lawful c.args.rec rec) in
+    (its_file (graph_of (seen (limits_of c.self.inside) c.self.inside.nodes c.self.inside.births)) c.self.invariant.sound.lawful c.args.rec rec) in
     ap (λ n. is_file_shape (shape_of (graph_of c.args.self.now) n)) c.file_of.ensures ∙ file
 
 pub index_place-place-requires-clause-listed : goal.index_place-place-requires-clause-listed
@@ -30,7 +31,7 @@ index_place-place-requires-clause-listed c =
     (indexes_of (graph_of c.args.self.now) (first_parent (graph_of c.args.self.now) c.args.rec)) ≡ true
     = subst (λ (v : View). list_any (λ listed. same_node listed c.args.index)
     (indexes_of (graph_of v) (first_parent (graph_of v) c.args.rec)) ≡ true) c.self.view_is
-    (index_among (graph_of (seen (limits_of c.self.inside) c.self.inside.nodes c.self.inside.births)) c.self.invariant.lawful
+    (index_among (graph_of (seen (limits_of c.self.inside) c.self.inside.nodes c.self.inside.births)) c.self.invariant.sound.lawful
     (first_parent (graph_of (seen (limits_of c.self.inside) c.self.inside.nodes c.self.inside.births)) c.args.rec) c.args.index index) in
     ap (λ f. list_any (λ listed. same_node listed c.args.index) (indexes_of (graph_of c.args.self.now) f)) c.file_of.ensures ∙ among
 
@@ -44,7 +45,7 @@ write_key-requires-clause-there c =
     (indexes_of (graph_of v) (first_parent (graph_of v) c.args.rec))) c.self.view_is
     ∙ ap (λ f. position (λ listed. same_node listed c.args.index) (indexes_of (graph_of c.args.self.now) f)) (sym c.file_of.ensures)
     ∙ c.index_place-place.ensures in
-    contained (limits_of c.self.inside) c.self.inside.nodes c.self.inside.nodes c.self.inside.births c.self.invariant c.args.rec c.args.index
+    contained (limits_of c.self.inside) c.self.inside.nodes c.self.inside.nodes c.self.inside.births c.self.invariant.sound c.args.rec c.args.index
     c.args.key c.index_place-place.result rec at
 
 pub write_key-requires-clause-keys : goal.write_key-requires-clause-keys
@@ -57,7 +58,7 @@ write_key-requires-clause-keys c =
     (indexes_of (graph_of v) (first_parent (graph_of v) c.args.rec))) c.self.view_is
     ∙ ap (λ f. position (λ listed. same_node listed c.args.index) (indexes_of (graph_of c.args.self.now) f)) (sym c.file_of.ensures)
     ∙ c.index_place-place.ensures in
-    key_there (limits_of c.self.inside) c.self.inside.nodes c.self.inside.nodes c.self.inside.births c.self.invariant c.args.rec c.args.index
+    key_there (limits_of c.self.inside) c.self.inside.nodes c.self.inside.nodes c.self.inside.births c.self.invariant.sound c.args.rec c.args.index
     c.args.key c.index_place-place.result rec at
 
 pub write_key-requires-clause-parents : goal.write_key-requires-clause-parents
@@ -70,7 +71,7 @@ write_key-requires-clause-parents c =
     (indexes_of (graph_of v) (first_parent (graph_of v) c.args.rec))) c.self.view_is
     ∙ ap (λ f. position (λ listed. same_node listed c.args.index) (indexes_of (graph_of c.args.self.now) f)) (sym c.file_of.ensures)
     ∙ c.index_place-place.ensures in
-    parent_there (limits_of c.self.inside) c.self.inside.nodes c.self.inside.nodes c.self.inside.births c.self.invariant c.args.rec c.args.index
+    parent_there (limits_of c.self.inside) c.self.inside.nodes c.self.inside.nodes c.self.inside.births c.self.invariant.sound c.args.rec c.args.index
     c.args.key c.index_place-place.result rec at
 
 pub write_key-requires-clause-place : goal.write_key-requires-clause-place
@@ -83,7 +84,7 @@ write_key-requires-clause-place c =
     (indexes_of (graph_of v) (first_parent (graph_of v) c.args.rec))) c.self.view_is
     ∙ ap (λ f. position (λ listed. same_node listed c.args.index) (indexes_of (graph_of c.args.self.now) f)) (sym c.file_of.ensures)
     ∙ c.index_place-place.ensures in
-    place_fits (limits_of c.self.inside) c.self.inside.nodes c.self.inside.nodes c.self.inside.births c.self.invariant c.args.rec c.args.index
+    place_fits (limits_of c.self.inside) c.self.inside.nodes c.self.inside.nodes c.self.inside.births c.self.invariant.sound c.args.rec c.args.index
     c.args.key c.index_place-place.result rec at
 
 pub invariant_of-self : goal.invariant_of-self
@@ -99,8 +100,19 @@ invariant_of-self c =
     let written = subst (λ (n : NodeId). (x : Stored) → get c.self.inside.nodes c.args.rec.key ≡ Some x
     → Updates c.self.inside.nodes c.write_key.new.nodes c.args.rec.key (Some (with_key_at x c.index_place-place.result c.args.key n)))
     (c.interval_of-interval.ensures ∙ ap (λ (v : View). interval_of (graph_of v) c.args.index c.args.key) (sym c.self.view_is)) c.write_key.ensures.written in
-    rekeyed_sound (limits_of c.self.inside) c.self.inside.nodes c.write_key.new.nodes c.self.inside.births c.self.invariant c.args.rec c.args.index
-    c.args.key c.index_place-place.result rec at written c.write_key.ensures.len
+    let sound = rekeyed_sound (limits_of c.self.inside) c.self.inside.nodes c.write_key.new.nodes c.self.inside.births c.self.invariant.sound c.args.rec
+    c.args.index
+    c.args.key c.index_place-place.result rec at written c.write_key.ensures.len in
+    let x = stored_record (limits_of c.self.inside) c.self.inside.nodes c.self.inside.births c.self.invariant.sound c.args.rec rec in
+    let shape = record_with_key x.0 x.2 x.3 c.index_place-place.result c.args.key
+    (interval_of (graph_of (seen (limits_of c.self.inside) c.self.inside.nodes c.self.inside.births)) c.args.index c.args.key) in
+    record {
+      sound = sound;
+      children = rekeyed_keeps (limits_of c.self.inside) c.self.inside.nodes c.write_key.new.nodes c.self.inside.births c.args.rec.key x.0
+          (with_key_at x.0 c.index_place-place.result c.args.key
+          (interval_of (graph_of (seen (limits_of c.self.inside) c.self.inside.nodes c.self.inside.births)) c.args.index c.args.key))
+          c.self.invariant.sound sound c.self.invariant.children x.1 (written x.0 x.1) x.2 shape.0 x.3 shape.1;
+    }
 
 pub returns : goal.returns
 returns c =
@@ -115,6 +127,6 @@ returns c =
     let written = subst (λ (n : NodeId). (x : Stored) → get c.self.inside.nodes c.args.rec.key ≡ Some x
     → Updates c.self.inside.nodes c.write_key.new.nodes c.args.rec.key (Some (with_key_at x c.index_place-place.result c.args.key n)))
     (c.interval_of-interval.ensures ∙ ap (λ (v : View). interval_of (graph_of v) c.args.index c.args.key) (sym c.self.view_is)) c.write_key.ensures.written in
-    let made = rekeyed_graph (limits_of c.self.inside) c.self.inside.nodes c.write_key.new.nodes c.self.inside.births c.self.invariant c.args.rec
+    let made = rekeyed_graph (limits_of c.self.inside) c.self.inside.nodes c.write_key.new.nodes c.self.inside.births c.self.invariant.sound c.args.rec
     c.args.index c.args.key c.index_place-place.result rec at written c.write_key.ensures.len in
     record { rekeyed = made ∙ ap (λ (v : View). rekeyed (graph_of v) c.args.rec c.args.index c.args.key) c.self.view_is }
