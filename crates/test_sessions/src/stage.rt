@@ -8,7 +8,7 @@ use crate::story::Story;
 use crate::wanted::{allowed, same};
 use gl_catalog::{Answer, Command, Manager};
 use gl_modes::{Mode, NodeId};
-use gl_shared::{Closed, Naming, NotAll, Parts, Session, Share, Shared, Watcher, gather};
+use gl_shared::{Closed, Naming, NotAll, Parts, Session, Share, Shared, Telling, Watcher, gather};
 use gl_table::{Detect, Notice, TxnId};
 use gl_waits::{Board, SLOTS, suspects, youngest};
 use std::alloc::Global;
@@ -45,6 +45,25 @@ fn enact_under_name<N: Naming + Send + Sync, R: Threads + Wait + Abort + Clock +
     }
 }
 
+/// Plays a story on a table over this manager, whose sessions tell when this says, and closes it.
+pub fn play_on<R: Threads + Wait + Abort + Clock + Sync>(
+    rt: &R,
+    alloc: Global,
+    manager: Manager,
+    telling: Telling,
+    shares: u64,
+    watchers: usize,
+    story: &Story,
+) -> Result<Closed, Fail>
+    requires counts { (0 < shares) × (shares < 130) × (0 < watchers) × (watchers < 9) }
+{
+    let Ok(parts) = Parts::new(rt, alloc, manager, shares, watchers) else {
+        return Err(Fail::from("no memory"));
+    };
+    let parts = parts.with_telling(telling);
+    enact_under_name::<Brand, R>(rt, alloc, parts, story)
+}
+
 /// Plays a story on a table over this manager, and closes it. Nobody lives then.
 pub fn enact<R: Threads + Wait + Abort + Clock + Sync>(
     rt: &R,
@@ -56,10 +75,7 @@ pub fn enact<R: Threads + Wait + Abort + Clock + Sync>(
 ) -> Result<Closed, Fail>
     requires counts { (0 < shares) × (shares < 130) × (0 < watchers) × (watchers < 9) }
 {
-    let Ok(parts) = Parts::new(rt, alloc, manager, shares, watchers) else {
-        return Err(Fail::from("no memory"));
-    };
-    let closed = enact_under_name::<Brand, R>(rt, alloc, parts, story)?;
+    let closed = play_on(rt, alloc, manager, Telling::Always, shares, watchers, story)?;
     let board = closed.manager.board();
     assert!(rt; board.ages == [0; SLOTS] && board.rows == [0; SLOTS]);
     Ok(closed)
