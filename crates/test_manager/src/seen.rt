@@ -6,7 +6,7 @@ use gl_modes::Refusal;
 use gl_table::Notice;
 
 /// What was answered and told.
-#[derive(Clone, Copy, PartialEq, Eq, Debug, Default)]
+#[derive(Clone, Copy)]
 pub struct Seen {
     waits: bool,
     elsewhere: bool,
@@ -18,19 +18,34 @@ pub struct Seen {
     moves: bool,
 }
 
-/// All of it.
-pub const ALL: Seen = Seen {
-    waits: true,
-    elsewhere: true,
-    rekeys: true,
-    escalates: true,
-    keeps_children: true,
-    grants: true,
-    condemns: true,
-    moves: true,
-};
-
 impl Seen {
+    pub fn nothing() -> Seen {
+        Seen {
+            waits: false,
+            elsewhere: false,
+            rekeys: false,
+            escalates: false,
+            keeps_children: false,
+            grants: false,
+            condemns: false,
+            moves: false,
+        }
+    }
+
+    /// Each of these.
+    pub fn all(&self) -> [bool; 8] {
+        [
+            self.waits,
+            self.elsewhere,
+            self.rekeys,
+            self.escalates,
+            self.keeps_children,
+            self.grants,
+            self.condemns,
+            self.moves,
+        ]
+    }
+
     pub fn answer(&mut self, act: &Act, answer: Answer) {
         match (act, answer) {
             (_, Answer::Waiting) => self.waits = true,

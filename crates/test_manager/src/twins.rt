@@ -49,7 +49,7 @@ impl Twins {
             standing: Standing::open(alloc, detect)?,
             named: Named::open(alloc, detect)?,
             keys,
-            seen: Seen::default(),
+            seen: Seen::nothing(),
         })
     }
 

@@ -3,7 +3,6 @@
 ghost use Rattle.std.specs.Prelude.{◌<◌};
 
 use crate::act::Act;
-use crate::seen::ALL;
 use crate::site::{KEYS, Line, Site, interval, with_key};
 use crate::twins::Twins;
 use crate::wanted::same;
@@ -204,7 +203,7 @@ fn play(rt: &impl Abort, alloc: Global, detect: Detect, seed: u64) -> Result<(),
         work.goes_on(rt);
     }
     work.ends_all(rt);
-    same(rt, work.twins.seen, ALL);
+    same(rt, work.twins.seen.all(), [true; 8]);
     Ok(())
 }
 

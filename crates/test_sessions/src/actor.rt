@@ -189,7 +189,7 @@ impl<N: Naming, R: Wait + Abort> Actor<'_, '_, N, R> {
         } else {
             RECORDS + self.draw(NODES - RECORDS)
         };
-        let mode = if rank_of(place) == Rank::Record {
+        let mode = if matches!(rank_of(place), Rank::Record) {
             if self.draw(2) == 0 { S } else { X }
         } else {
             self.mode()

@@ -23,7 +23,7 @@ const INTERVALS: usize = 14;
 pub const RECORDS: usize = 26;
 
 /// What stands in a place.
-#[derive(Clone, Copy, PartialEq, Eq)]
+#[derive(Clone, Copy)]
 pub enum Rank {
     Root,
     Area,
@@ -72,15 +72,12 @@ pub fn part(place: usize) -> usize
 
 /// Whether one place may come to stand above another, whatever is moved and rekeyed.
 pub fn may_be_above(upper: usize, place: usize) -> bool {
-    let is_of_part = part(upper) == part(place);
     match (rank_of(upper), rank_of(place)) {
-        (_, Rank::Root) => false,
-        (Rank::Root, _) => true,
-        (Rank::Area, under) => under != Rank::Area,
-        (Rank::File, under) => under == Rank::Record && is_of_part,
-        (Rank::Index, under) => (under == Rank::Interval || under == Rank::Record) && is_of_part,
-        (Rank::Interval, under) => under == Rank::Record && is_of_part,
-        (Rank::Record, _) => false,
+        (_, Rank::Root) | (Rank::Record, _) | (Rank::Area, Rank::Area) => false,
+        (Rank::Root | Rank::Area, _) => true,
+        (Rank::File | Rank::Interval, Rank::Record) => part(upper) == part(place),
+        (Rank::Index, Rank::Interval | Rank::Record) => part(upper) == part(place),
+        _ => false,
     }
 }
 

@@ -13,7 +13,6 @@ use std::alloc::Global;
 use std::process::Abort;
 use std::rt::Clock;
 use std::sync::Wait;
-use std::test::Fail;
 use std::thread::Threads;
 
 /// A root with a file, and two transactions.
@@ -138,7 +137,7 @@ impl Scene {
 }
 
 /// Both: the share has what was accepted.
-fn serve<R: Threads + Wait + Abort + Clock + Sync>(rt: &R, alloc: Global) -> Result<(), Fail> {
+fn serve<R: Threads + Wait + Abort + Clock + Sync>(rt: &R, alloc: Global) {
     let mut manager = new_manager(rt, alloc, Detect::AtBlock);
     let scene = set(rt, &mut manager);
     let closed = play_on(
@@ -149,12 +148,11 @@ fn serve<R: Threads + Wait + Abort + Clock + Sync>(rt: &R, alloc: Global) -> Res
         1,
         1,
         &Story::Lists(scene),
-    )?;
+    );
     same(rt, closed.book, 5);
-    Ok(())
 }
 
 #[test]
-fn a_list_is_served_up_to_the_first_that_stops(rt: HostRuntime) -> Result<(), Fail> {
+fn a_list_is_served_up_to_the_first_that_stops(rt: HostRuntime) {
     serve(&rt, rt.alloc())
 }

@@ -11,7 +11,6 @@ use std::alloc::Global;
 use std::process::Abort;
 use std::rt::Clock;
 use std::sync::Wait;
-use std::test::Fail;
 use std::thread::Threads;
 
 /// Steps that are put to a session and to a manager beside it, which must answer alike: what is done first, and
@@ -107,7 +106,7 @@ pub fn answers_alike<R: Threads + Wait + Abort + Clock + Sync>(
     rt: &R,
     alloc: Global,
     story: Alike,
-) -> Result<(), Fail> {
+) {
     let mut beside = new_manager(rt, alloc, story.detect);
     let mut made = Made::new();
     prepare(&mut beside, &mut made, story.first);
@@ -121,8 +120,7 @@ pub fn answers_alike<R: Threads + Wait + Abort + Clock + Sync>(
         1,
         1,
         &Story::Alike(story),
-    )?;
+    );
     same(rt, closed.book, beside.accepted());
     assert!(rt; closed.manager.board() == beside.board());
-    Ok(())
 }

@@ -7,7 +7,7 @@ use gl_shared::is_accepted;
 use std::process::Abort;
 
 /// What was done at least once.
-#[derive(Clone, Copy, PartialEq, Eq, Debug, Default)]
+#[derive(Clone, Copy)]
 struct Done {
     victim: bool,
     escalation: bool,
@@ -18,18 +18,32 @@ struct Done {
     wait: bool,
 }
 
-/// Each of these.
-const ALL: Done = Done {
-    victim: true,
-    escalation: true,
-    insert: true,
-    delete: true,
-    rekey: true,
-    moved: true,
-    wait: true,
-};
-
 impl Done {
+    fn nothing() -> Done {
+        Done {
+            victim: false,
+            escalation: false,
+            insert: false,
+            delete: false,
+            rekey: false,
+            moved: false,
+            wait: false,
+        }
+    }
+
+    /// Which of these were done: a victim fell, an escalation, an insertion, a deletion, a rekey, a move, a wait.
+    fn all(&self) -> [bool; 7] {
+        [
+            self.victim,
+            self.escalation,
+            self.insert,
+            self.delete,
+            self.rekey,
+            self.moved,
+            self.wait,
+        ]
+    }
+
     /// Adds what an entry shows.
     fn add(&mut self, entry: &Entry) {
         match (entry.act.command(), entry.answer) {
@@ -60,12 +74,12 @@ fn put_in_order(diary: &mut [Entry]) {
 /// and each kind of command was done.
 pub fn replays<R: Abort>(rt: &R, manager: &mut Manager, mut diary: Vec<Entry>) {
     put_in_order(diary.as_mut_slice());
-    let mut done = Done::default();
+    let mut done = Done::nothing();
     for entry in diary.as_slice() {
         let answer = manager.apply(entry.act.command()).answer;
         same(rt, answer, entry.answer);
         same(rt, manager.accepted(), entry.at);
         done.add(entry);
     }
-    same(rt, done, ALL);
+    same(rt, done.all(), [true; 7]);
 }

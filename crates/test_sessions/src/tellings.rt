@@ -15,7 +15,6 @@ use std::alloc::Global;
 use std::process::Abort;
 use std::rt::Clock;
 use std::sync::Wait;
-use std::test::Fail;
 use std::thread::Threads;
 
 /// A step, and what a look shows behind it: the epoch, and whether slot 1 waits.
@@ -192,22 +191,21 @@ fn look_by<R: Threads + Wait + Abort + Clock + Sync>(
     detect: Detect,
     telling: Telling,
     looks: Looks,
-) -> Result<(), Fail> {
+) {
     let manager = new_manager(rt, alloc, detect);
-    let closed = play_on(rt, alloc, manager, telling, 1, 2, &Story::Looks(looks))?;
+    let closed = play_on(rt, alloc, manager, telling, 1, 2, &Story::Looks(looks));
     same(rt, closed.book, closed.manager.accepted());
-    Ok(())
 }
 
 #[test]
-fn waits_and_their_ends_are_told(rt: HostRuntime) -> Result<(), Fail> {
+fn waits_and_their_ends_are_told(rt: HostRuntime) {
     let (telling, looks) = (Telling::WhileWaiting, Looks::BehindEach);
-    look_by(&rt, rt.alloc(), Detect::AtBlock, telling, looks)?;
+    look_by(&rt, rt.alloc(), Detect::AtBlock, telling, looks);
     look_by(&rt, rt.alloc(), Detect::ByWatcher, telling, looks)
 }
 
 #[test]
-fn notes_are_seen(rt: HostRuntime) -> Result<(), Fail> {
+fn notes_are_seen(rt: HostRuntime) {
     let (telling, looks) = (Telling::Always, Looks::Notes);
     look_by(&rt, rt.alloc(), Detect::AtBlock, telling, looks)
 }

@@ -17,7 +17,6 @@ use std::alloc::Global;
 use std::process::Abort;
 use std::rt::Clock;
 use std::sync::Wait;
-use std::test::Fail;
 use std::thread::{Threads, join, yield_now};
 
 /// A wait and its end. Transactions and nodes stand in it by their places.
@@ -241,7 +240,7 @@ fn tell_by<R: Threads + Wait + Abort + Clock + Sync>(
     detect: Detect,
     telling: Telling,
     tale: Tale,
-) -> Result<(), Fail> {
+) {
     let mut manager = new_manager(rt, alloc, detect);
     let mut made = Made::new();
     for steps in tale.before {
@@ -249,27 +248,21 @@ fn tell_by<R: Threads + Wait + Abort + Clock + Sync>(
     }
     let before = manager.accepted();
     let story = Story::Staged(Staged { tale, made });
-    let closed = play_on(rt, alloc, manager, telling, 2, 1, &story)?;
+    let closed = play_on(rt, alloc, manager, telling, 2, 1, &story);
     let accepted = closed.manager.accepted();
     same(rt, accepted.checked_sub(before), Some(closed.book));
-    Ok(())
 }
 
 /// The tale with deadlocks found and watchers told either way.
-fn tell<R: Threads + Wait + Abort + Clock + Sync>(
-    rt: &R,
-    alloc: Global,
-    tale: Tale,
-) -> Result<(), Fail> {
+fn tell<R: Threads + Wait + Abort + Clock + Sync>(rt: &R, alloc: Global, tale: Tale) {
     for telling in [Telling::Always, Telling::WhileWaiting] {
-        tell_by(rt, alloc, Detect::AtBlock, telling, tale)?;
-        tell_by(rt, alloc, Detect::ByWatcher, telling, tale)?;
+        tell_by(rt, alloc, Detect::AtBlock, telling, tale);
+        tell_by(rt, alloc, Detect::ByWatcher, telling, tale);
     }
-    Ok(())
 }
 
 #[test]
-fn a_record_moves(rt: HostRuntime) -> Result<(), Fail> {
+fn a_record_moves(rt: HostRuntime) {
     let tale = Tale {
         before: &[
             PRELUDE,
@@ -297,7 +290,7 @@ fn a_record_moves(rt: HostRuntime) -> Result<(), Fail> {
 }
 
 #[test]
-fn a_record_goes(rt: HostRuntime) -> Result<(), Fail> {
+fn a_record_goes(rt: HostRuntime) {
     let tale = Tale {
         before: &[
             PRELUDE,
@@ -322,7 +315,7 @@ fn a_record_goes(rt: HostRuntime) -> Result<(), Fail> {
 }
 
 #[test]
-fn a_file_moves(rt: HostRuntime) -> Result<(), Fail> {
+fn a_file_moves(rt: HostRuntime) {
     let tale = Tale {
         before: &[&[
             Step::Root,
@@ -347,7 +340,7 @@ fn a_file_moves(rt: HostRuntime) -> Result<(), Fail> {
 }
 
 #[test]
-fn it_is_aborted(rt: HostRuntime) -> Result<(), Fail> {
+fn it_is_aborted(rt: HostRuntime) {
     let came = Some(Stop::Refused(Refusal::NoSuchTxn));
     let ends: [&'static [Step]; 3] = [
         &[Step::Abort(1)],
@@ -368,13 +361,12 @@ fn it_is_aborted(rt: HostRuntime) -> Result<(), Fail> {
                 came,
                 ..PLAIN
             },
-        )?;
+        );
     }
-    Ok(())
 }
 
 #[test]
-fn it_is_cancelled(rt: HostRuntime) -> Result<(), Fail> {
+fn it_is_cancelled(rt: HostRuntime) {
     let tale = Tale {
         done: &[Step::Cancel(1)],
         came: Some(Stop::Refused(Refusal::NotWaiting)),
@@ -384,7 +376,7 @@ fn it_is_cancelled(rt: HostRuntime) -> Result<(), Fail> {
 }
 
 #[test]
-fn others_end_nothing_in_its_name(rt: HostRuntime) -> Result<(), Fail> {
+fn others_end_nothing_in_its_name(rt: HostRuntime) {
     let tale = Tale {
         refused: &[
             Step::Commit(1),
@@ -399,7 +391,7 @@ fn others_end_nothing_in_its_name(rt: HostRuntime) -> Result<(), Fail> {
 }
 
 #[test]
-fn it_is_granted_after_much_else(rt: HostRuntime) -> Result<(), Fail> {
+fn it_is_granted_after_much_else(rt: HostRuntime) {
     let tale = Tale {
         elsewhere: 1000,
         done: &[Step::Commit(0)],
@@ -409,7 +401,7 @@ fn it_is_granted_after_much_else(rt: HostRuntime) -> Result<(), Fail> {
 }
 
 #[test]
-fn a_waiter_is_granted(rt: HostRuntime) -> Result<(), Fail> {
+fn a_waiter_is_granted(rt: HostRuntime) {
     let tale = Tale {
         before: &[&[Step::Root, Step::Begin, Step::Begin, Step::Lock(0, S, 0)]],
         done: &[Step::Commit(0)],
@@ -419,7 +411,7 @@ fn a_waiter_is_granted(rt: HostRuntime) -> Result<(), Fail> {
 }
 
 #[test]
-fn a_waiter_is_the_victim(rt: HostRuntime) -> Result<(), Fail> {
+fn a_waiter_is_the_victim(rt: HostRuntime) {
     let condemned = Tale {
         before: &[BOTH_READ],
         came: Some(Stop::Victim),
@@ -435,6 +427,6 @@ fn a_waiter_is_the_victim(rt: HostRuntime) -> Result<(), Fail> {
         ..condemned
     };
     let always = Telling::Always;
-    tell_by(&rt, rt.alloc(), Detect::AtBlock, always, by_lock)?;
+    tell_by(&rt, rt.alloc(), Detect::AtBlock, always, by_lock);
     tell_by(&rt, rt.alloc(), Detect::ByWatcher, always, by_settle)
 }
