@@ -8,7 +8,7 @@ ghost use Rattle.gl_graph.specs.Shapes.{is_index_of_shape, is_record_shape};
 ghost use Rattle.gl_graph.specs.View.{graph_of};
 
 use crate::story::{A, B, N1, N2, N3, N4, N5, N6};
-use crate::table::{Ask, Came, Part, hear, tell};
+use crate::table::{Ask, Came, Part, Story, hear, tell_all};
 use gl_graph::{Graph, Kind};
 use gl_modes::Mode::{IS, IX, NL, S, X};
 use gl_modes::{Mode, NodeId, Refusal};
@@ -101,27 +101,24 @@ const OPEN: Part = &[
     (Ask::Inner(&[]), Came::Node(DB)),
 ];
 
-#[test]
-fn who_waits_for_a_removed_record_is_told(rt: HostRuntime) {
-    const FILE: NodeId = N2;
-    const REC: NodeId = N3;
-    const GOES: Part = &[
-        (Ask::File(DB), Came::Node(FILE)),
-        (Ask::Adopt(FILE, &[]), Came::Node(REC)),
-        (Ask::Lock(A, IX, DB), Came::Granted(IX)),
-        (Ask::Lock(A, IX, FILE), Came::Granted(IX)),
-        (Ask::Remove(A, REC), Came::Unasked),
-        (Ask::Lock(A, X, REC), Came::Granted(X)),
-        (Ask::Lock(B, IS, DB), Came::Granted(IS)),
-        (Ask::Lock(B, IS, FILE), Came::Granted(IS)),
-        (Ask::Lock(B, S, REC), Came::Waits),
-        (Ask::Remove(A, REC), Came::Tells(B, Notice::Gone)),
-        (Ask::Status(B), Came::Status(Some(Status::Active))),
-        (Ask::Held(A, REC), Came::Refused(Refusal::NoSuchNode)),
-    ];
-    const PARTS: &[Part] = &[OPEN, GOES];
-    tell(&rt, rt.alloc(), Detect::AtBlock, 2, PARTS);
-}
+const FILE: NodeId = N2;
+
+const REC: NodeId = N3;
+
+const GOES: Part = &[
+    (Ask::File(DB), Came::Node(FILE)),
+    (Ask::Adopt(FILE, &[]), Came::Node(REC)),
+    (Ask::Lock(A, IX, DB), Came::Granted(IX)),
+    (Ask::Lock(A, IX, FILE), Came::Granted(IX)),
+    (Ask::Remove(A, REC), Came::Unasked),
+    (Ask::Lock(A, X, REC), Came::Granted(X)),
+    (Ask::Lock(B, IS, DB), Came::Granted(IS)),
+    (Ask::Lock(B, IS, FILE), Came::Granted(IS)),
+    (Ask::Lock(B, S, REC), Came::Waits),
+    (Ask::Remove(A, REC), Came::Tells(B, Notice::Gone)),
+    (Ask::Status(B), Came::Status(Some(Status::Active))),
+    (Ask::Held(A, REC), Came::Refused(Refusal::NoSuchNode)),
+];
 
 /// Two inner nodes under the root, and one under the first of these.
 const LEFT: NodeId = N2;
@@ -140,95 +137,119 @@ const TREE: Part = &[
     (Ask::Lock(A, IX, RIGHT), Came::Granted(IX)),
 ];
 
-#[test]
-fn who_waits_for_a_moved_node_is_told(rt: HostRuntime) {
-    const MOVES: Part = &[
-        (Ask::Lock(B, IX, DB), Came::Granted(IX)),
-        (Ask::Lock(B, IX, LEFT), Came::Waits),
-        (
-            Ask::MoveUnder(A, LEFT, RIGHT),
-            Came::Tells(B, Notice::Moved),
-        ),
-        (Ask::Children(A, RIGHT), Came::Children(Some(1))),
-        (
-            Ask::Unlock(A, RIGHT),
-            Came::Refused(Refusal::HeldChild { node: LEFT }),
-        ),
-        (Ask::MoveUnder(B, LEFT, RIGHT), Came::Unasked),
-    ];
-    const PARTS: &[Part] = &[OPEN, TREE, MOVES];
-    tell(&rt, rt.alloc(), Detect::AtBlock, 2, PARTS);
-}
+const MOVES_A_NODE: Part = &[
+    (Ask::Lock(B, IX, DB), Came::Granted(IX)),
+    (Ask::Lock(B, IX, LEFT), Came::Waits),
+    (
+        Ask::MoveUnder(A, LEFT, RIGHT),
+        Came::Tells(B, Notice::Moved),
+    ),
+    (Ask::Children(A, RIGHT), Came::Children(Some(1))),
+    (
+        Ask::Unlock(A, RIGHT),
+        Came::Refused(Refusal::HeldChild { node: LEFT }),
+    ),
+    (Ask::MoveUnder(B, LEFT, RIGHT), Came::Unasked),
+];
+
+const INDEX: NodeId = N3;
+
+const LOW: NodeId = N4;
+
+const HIGH: NodeId = N5;
+
+const MOVER: NodeId = N6;
+
+// A file with one index of two intervals, in the lower of which both may write.
+const KEYED: Part = &[
+    (Ask::File(DB), Came::Node(FILE)),
+    (Ask::Index(DB, FILE, 100), Came::Node(INDEX)),
+    (Ask::Lock(A, IX, DB), Came::Granted(IX)),
+    (Ask::Lock(A, IX, FILE), Came::Granted(IX)),
+    (Ask::Lock(A, IX, INDEX), Came::Granted(IX)),
+    (Ask::Lock(A, IX, LOW), Came::Granted(IX)),
+    (Ask::Lock(B, IX, DB), Came::Granted(IX)),
+    (Ask::Lock(B, IX, FILE), Came::Granted(IX)),
+    (Ask::Lock(B, IX, INDEX), Came::Granted(IX)),
+    (Ask::Lock(B, IX, LOW), Came::Granted(IX)),
+];
+
+const MOVES_A_RECORD: Part = &[
+    (Ask::Adopt(FILE, &[50]), Came::Node(MOVER)),
+    (Ask::Lock(A, X, MOVER), Came::Granted(X)),
+    (Ask::Lock(B, X, MOVER), Came::Waits),
+    (Ask::GiveKey(A, MOVER, INDEX, 150), Came::Unasked),
+    (Ask::Lock(A, IX, HIGH), Came::Granted(IX)),
+    (
+        Ask::GiveKey(A, MOVER, INDEX, 150),
+        Came::Tells(B, Notice::Moved),
+    ),
+    (Ask::Children(A, LOW), Came::Children(Some(0))),
+    (Ask::Children(A, HIGH), Came::Children(Some(1))),
+];
+
+const CLOSES: Part = &[
+    (Ask::Lock(A, IX, BELOW), Came::Granted(IX)),
+    (
+        Ask::MoveUnder(A, LEFT, BELOW),
+        Came::Refused(Refusal::Cycle { node: BELOW }),
+    ),
+    (Ask::Unlock(A, BELOW), Came::Done),
+];
+
+const OTHER: NodeId = N2;
+
+const CHILD: NodeId = N3;
+
+const GRANT: (TxnId, Notice) = (B, Notice::Granted(CHILD, S));
+
+const SHEDS: Part = &[
+    (Ask::Inner(&[]), Came::Node(OTHER)),
+    (Ask::Inner(&[DB, OTHER]), Came::Node(CHILD)),
+    (Ask::Lock(A, X, DB), Came::Granted(X)),
+    (Ask::Lock(A, IX, OTHER), Came::Granted(IX)),
+    (Ask::Lock(A, IX, CHILD), Came::Granted(IX)),
+    (Ask::Lock(B, IS, OTHER), Came::Granted(IS)),
+    (Ask::Lock(B, S, CHILD), Came::Waits),
+    (Ask::Shed(B, OTHER), Came::Unasked),
+    (Ask::Shed(A, DB), Came::Shed(1, 0, Some(GRANT))),
+    (Ask::Held(A, CHILD), Came::Mode(NL)),
+    (Ask::Shed(A, DB), Came::Shed(0, 0, None)),
+];
 
 #[test]
-fn who_waits_for_a_record_that_moves_is_told(rt: HostRuntime) {
-    const FILE: NodeId = N2;
-    const INDEX: NodeId = N3;
-    const LOW: NodeId = N4;
-    const HIGH: NodeId = N5;
-    const REC: NodeId = N6;
-    // A file with one index of two intervals, in the lower of which both may write.
-    const KEYED: Part = &[
-        (Ask::File(DB), Came::Node(FILE)),
-        (Ask::Index(DB, FILE, 100), Came::Node(INDEX)),
-        (Ask::Lock(A, IX, DB), Came::Granted(IX)),
-        (Ask::Lock(A, IX, FILE), Came::Granted(IX)),
-        (Ask::Lock(A, IX, INDEX), Came::Granted(IX)),
-        (Ask::Lock(A, IX, LOW), Came::Granted(IX)),
-        (Ask::Lock(B, IX, DB), Came::Granted(IX)),
-        (Ask::Lock(B, IX, FILE), Came::Granted(IX)),
-        (Ask::Lock(B, IX, INDEX), Came::Granted(IX)),
-        (Ask::Lock(B, IX, LOW), Came::Granted(IX)),
-    ];
-    const MOVES: Part = &[
-        (Ask::Adopt(FILE, &[50]), Came::Node(REC)),
-        (Ask::Lock(A, X, REC), Came::Granted(X)),
-        (Ask::Lock(B, X, REC), Came::Waits),
-        (Ask::GiveKey(A, REC, INDEX, 150), Came::Unasked),
-        (Ask::Lock(A, IX, HIGH), Came::Granted(IX)),
+fn whoever_waits_for_what_goes_is_told(rt: HostRuntime) {
+    const STORIES: &[Story] = &[
         (
-            Ask::GiveKey(A, REC, INDEX, 150),
-            Came::Tells(B, Notice::Moved),
+            "who waits for a removed record is told",
+            Detect::AtBlock,
+            2,
+            &[OPEN, GOES],
         ),
-        (Ask::Children(A, LOW), Came::Children(Some(0))),
-        (Ask::Children(A, HIGH), Came::Children(Some(1))),
-    ];
-    const PARTS: &[Part] = &[OPEN, KEYED, MOVES];
-    tell(&rt, rt.alloc(), Detect::AtBlock, 2, PARTS);
-}
-
-#[test]
-fn a_move_that_closes_a_path_is_refused(rt: HostRuntime) {
-    const CLOSES: Part = &[
-        (Ask::Lock(A, IX, BELOW), Came::Granted(IX)),
         (
-            Ask::MoveUnder(A, LEFT, BELOW),
-            Came::Refused(Refusal::Cycle { node: BELOW }),
+            "who waits for a moved node is told",
+            Detect::AtBlock,
+            2,
+            &[OPEN, TREE, MOVES_A_NODE],
         ),
-        (Ask::Unlock(A, BELOW), Came::Done),
+        (
+            "who waits for a record that moves is told",
+            Detect::AtBlock,
+            2,
+            &[OPEN, KEYED, MOVES_A_RECORD],
+        ),
+        (
+            "a move that closes a path is refused",
+            Detect::AtBlock,
+            2,
+            &[OPEN, TREE, CLOSES],
+        ),
+        (
+            "who waits for a shed child is granted",
+            Detect::AtBlock,
+            2,
+            &[OPEN, SHEDS],
+        ),
     ];
-    const PARTS: &[Part] = &[OPEN, TREE, CLOSES];
-    tell(&rt, rt.alloc(), Detect::AtBlock, 2, PARTS);
-}
-
-#[test]
-fn who_waits_for_a_shed_child_is_granted(rt: HostRuntime) {
-    const OTHER: NodeId = N2;
-    const CHILD: NodeId = N3;
-    const GRANT: (TxnId, Notice) = (B, Notice::Granted(CHILD, S));
-    const SHEDS: Part = &[
-        (Ask::Inner(&[]), Came::Node(OTHER)),
-        (Ask::Inner(&[DB, OTHER]), Came::Node(CHILD)),
-        (Ask::Lock(A, X, DB), Came::Granted(X)),
-        (Ask::Lock(A, IX, OTHER), Came::Granted(IX)),
-        (Ask::Lock(A, IX, CHILD), Came::Granted(IX)),
-        (Ask::Lock(B, IS, OTHER), Came::Granted(IS)),
-        (Ask::Lock(B, S, CHILD), Came::Waits),
-        (Ask::Shed(B, OTHER), Came::Unasked),
-        (Ask::Shed(A, DB), Came::Shed(1, 0, Some(GRANT))),
-        (Ask::Held(A, CHILD), Came::Mode(NL)),
-        (Ask::Shed(A, DB), Came::Shed(0, 0, None)),
-    ];
-    const PARTS: &[Part] = &[OPEN, SHEDS];
-    tell(&rt, rt.alloc(), Detect::AtBlock, 2, PARTS);
+    tell_all(&rt, rt.alloc(), STORIES);
 }

@@ -26,13 +26,14 @@ const LAST: TxnId = TxnId {
 
 #[test]
 fn one_transaction_holds_many_nodes(rt: HostRuntime) {
+    const NAME: &str = "one transaction holds many nodes";
     const ENDS: Part = &[
         (Ask::Group(LAST_NODE), Came::Mode(X)),
         (Ask::Commit(FIRST), Came::Done),
         (Ask::Group(LAST_NODE), Came::Mode(NL)),
     ];
     let mut table = allowed(&rt, Table::new(rt.alloc(), Detect::AtBlock, 1));
-    ask_each(&rt, &mut table, &[(Ask::Begin, Came::Txn(FIRST))]);
+    ask_each(&rt, &mut table, NAME, &[(Ask::Begin, Came::Txn(FIRST))]);
     for number in 0..MANY {
         let node = NodeId {
             key: number as usize,
@@ -40,19 +41,20 @@ fn one_transaction_holds_many_nodes(rt: HostRuntime) {
         };
         let makes = (Ask::Inner(&[]), Came::Node(node));
         let locks = (Ask::Lock(FIRST, X, node), Came::Granted(X));
-        ask_each(&rt, &mut table, &[makes, locks]);
+        ask_each(&rt, &mut table, NAME, &[makes, locks]);
     }
-    ask_each(&rt, &mut table, ENDS);
+    ask_each(&rt, &mut table, NAME, ENDS);
 }
 
 #[test]
 fn all_others_wait_for_one_node(rt: HostRuntime) {
+    const NAME: &str = "all others wait for one node";
     const ENDS: Part = &[
         (Ask::Commit(FIRST), Came::TellsMany(127)),
         (Ask::Held(LAST, N1), Came::Mode(S)),
     ];
     let mut table = allowed(&rt, Table::new(rt.alloc(), Detect::AtBlock, 128));
-    ask_each(&rt, &mut table, &[(Ask::Inner(&[]), Came::Node(N1))]);
+    ask_each(&rt, &mut table, NAME, &[(Ask::Inner(&[]), Came::Node(N1))]);
     for slot in 0..128u8 {
         let age = u64::from(slot) + 1;
         let txn = TxnId { slot, age };
@@ -61,7 +63,7 @@ fn all_others_wait_for_one_node(rt: HostRuntime) {
         } else {
             (Ask::Lock(txn, S, N1), Came::Waits)
         };
-        ask_each(&rt, &mut table, &[(Ask::Begin, Came::Txn(txn)), lock]);
+        ask_each(&rt, &mut table, NAME, &[(Ask::Begin, Came::Txn(txn)), lock]);
     }
-    ask_each(&rt, &mut table, ENDS);
+    ask_each(&rt, &mut table, NAME, ENDS);
 }

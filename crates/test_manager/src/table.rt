@@ -2,9 +2,8 @@
 //! ask is to come to. So a test is data, and what plays it is proved once. The names are those that a
 //! table gives: nodes are born and transactions begin in the order of their numbers.
 
-ghost use Rattle.std.specs.Prelude.{◌≤◌};
-
 use crate::answering::{give_key, move_under, remove, shed};
+use crate::story::Place;
 use crate::wanted::{allowed, same};
 use gl_modes::{Mode, NodeId, Refusal};
 use gl_table::{Detect, Effect, Locked, Notice, Status, Table, Told, TxnId};
@@ -197,35 +196,43 @@ fn query(table: &Table, ask: Ask) -> Came {
     }
 }
 
+/// What a story is called, how deadlocks are found in it, how many transactions may live, and its parts.
+pub type Story = (&'static str, Detect, usize, &'static [Part]);
+
 /// An ask that comes to this, in a place of a story.
-fn asks(rt: &impl Abort, table: &mut Table, place: usize, step: (Ask, Came)) {
+fn asks(rt: &impl Abort, table: &mut Table, place: Place, step: (Ask, Came)) {
     let (asked, wanted) = step;
     same(rt, (place, answer(table, asked)), (place, wanted));
 }
 
 /// Asks that come to these, one after the other.
-pub fn ask_each(rt: &impl Abort, table: &mut Table, steps: &[(Ask, Came)]) {
+pub fn ask_each(rt: &impl Abort, table: &mut Table, name: &'static str, steps: &[(Ask, Came)]) {
     for (place, step) in steps.iter().enumerate() {
-        asks(rt, table, place, *step);
+        asks(rt, table, (name, place), *step);
     }
 }
 
-/// A table of which a story was told, in parts.
-pub fn told(rt: &impl Abort, alloc: Global, detect: Detect, most: usize, parts: &[Part]) -> Table
-    requires some { 1 ≤ most }
-    requires few { most ≤ 128 }
-{
-    let mut table = allowed(rt, Table::new(alloc, detect, most));
+/// A table for so many transactions.
+fn open(alloc: Global, detect: Detect, most: usize) -> Result<Table, Refusal> {
+    if most == 0 || most > 128 {
+        return Err(Refusal::TooManyTxns);
+    }
+    Table::new(alloc, detect, most)
+}
+
+/// A table of which a story was told.
+pub fn told(rt: &impl Abort, alloc: Global, story: Story) -> Table {
+    let (name, detect, most, parts) = story;
+    let mut table = allowed(rt, open(alloc, detect, most));
     for steps in parts {
-        ask_each(rt, &mut table, steps);
+        ask_each(rt, &mut table, name, steps);
     }
     table
 }
 
-/// Tells a story, in parts, of a new table.
-pub fn tell(rt: &impl Abort, alloc: Global, detect: Detect, most: usize, parts: &[Part])
-    requires some { 1 ≤ most }
-    requires few { most ≤ 128 }
-{
-    told(rt, alloc, detect, most, parts);
+/// Tells each story of a new table.
+pub fn tell_all(rt: &impl Abort, alloc: Global, stories: &[Story]) {
+    for story in stories {
+        told(rt, alloc, *story);
+    }
 }
