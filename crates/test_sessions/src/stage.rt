@@ -44,7 +44,29 @@ fn enact_under_name<N: Naming + Send + Sync, R: Threads + Wait + Abort + Clock +
     }
 }
 
-/// Plays a story on a table over this manager, whose sessions tell when this says, and closes it.
+/// Plays a story on a table over this manager, whose sessions tell when this says, and closes it, where there is
+/// memory.
+fn try_on<R: Threads + Wait + Abort + Clock + Sync>(
+    rt: &R,
+    alloc: Global,
+    manager: Manager,
+    telling: Telling,
+    shares: u64,
+    watchers: usize,
+    story: &Story,
+) -> Option<Closed>
+    requires counts { (0 < shares) × (shares < 130) × (0 < watchers) × (watchers < 9) }
+{
+    match Parts::new(rt, alloc, manager, shares, watchers) {
+        Ok(parts) => {
+            let parts = parts.with_telling(telling);
+            enact_under_name::<Brand, R>(rt, alloc, parts, story)
+        }
+        Err(_) => None,
+    }
+}
+
+/// The same, for which there must be memory.
 pub fn play_on<R: Threads + Wait + Abort + Clock + Sync>(
     rt: &R,
     alloc: Global,
@@ -56,10 +78,7 @@ pub fn play_on<R: Threads + Wait + Abort + Clock + Sync>(
 ) -> Closed
     requires counts { (0 < shares) × (shares < 130) × (0 < watchers) × (watchers < 9) }
 {
-    let closed = match Parts::new(rt, alloc, manager, shares, watchers) {
-        Ok(parts) => { enact_under_name::<Brand, R>(rt, alloc, parts.with_telling(telling), story) }
-        Err(_) => None,
-    };
+    let closed = try_on(rt, alloc, manager, telling, shares, watchers, story);
     closed.expect(rt, "no memory, or a share is missing")
 }
 

@@ -1,6 +1,6 @@
 use Rattle.gl_table.specs.Table.{board_of}
 use Rattle.gl_catalog.specs.Manager.{state_of}
-use Rattle.test_sessions.proofs.stage.play_on.Given as goal
+use Rattle.test_sessions.proofs.stage.try_on.Given as goal
 
 -- the name that the parts get
 abbrev pub ghosts-enact_under_name-N-Naming : goal.ghosts-enact_under_name-N-Naming
