@@ -25,7 +25,7 @@ fn is_alone(headers: &Headers, node: NodeId) -> bool
     ensures { result ≡ true → HasItsKey headers.now.entries node }
 {
     headers.law();
-    headers.get(node).is_some() || headers.is_free(node.key)
+    !headers.is_idle(node) || headers.is_free(node.key)
 }
 
 /// Whether a slot may ask for a mode on a node.
@@ -114,9 +114,14 @@ fn lets_in(rt: &impl Abort, granted: Option<GrantList>, wanted: &[(u8, Mode)]) {
     same(rt, granted.as_slice(), wanted);
 }
 
-/// Whether a node has no header, and whether its key is free.
+/// Whether nobody holds or waits for a node, and whether its key is free.
 fn is_gone(headers: &Headers, node: NodeId) -> (bool, bool) {
-    (headers.get(node).is_none(), headers.is_free(node.key))
+    (headers.is_idle(node), headers.is_free(node.key))
+}
+
+/// Whether nobody holds or waits for a node, and whether it has a header of its own.
+fn has_box(headers: &Headers, node: NodeId) -> (bool, bool) {
+    (headers.is_idle(node), headers.shared(node).is_some())
 }
 
 /// Whether two slots hold a node.
@@ -206,4 +211,20 @@ fn a_header_is_prepared_and_taken(rt: HostRuntime) {
     same(&rt, header.queue(), [(3, Mode::S)].as_slice());
     same(&rt, headers.is_free(40), true);
     same(&rt, headers.take(node).is_none(), true);
+}
+
+#[test]
+fn one_holder_has_no_box(rt: HostRuntime) {
+    let mut headers = new_headers(&rt, rt.alloc());
+    let node = node_of(5, 1);
+    gets(&rt, &mut headers, 2, node, Mode::IS);
+    gets(&rt, &mut headers, 2, node, Mode::X);
+    same(&rt, has_box(&headers, node), (false, false));
+    asks(&rt, &mut headers, 3, node, Mode::S, Some(Asked::Waiting));
+    same(&rt, has_box(&headers, node), (false, true));
+    lets_in(&rt, drop_grant(&mut headers, 2, node), &[(3, Mode::S)]);
+    lets_in(&rt, drop_grant(&mut headers, 3, node), &[]);
+    same(&rt, is_gone(&headers, node), (true, true));
+    gets(&rt, &mut headers, 4, node, Mode::S);
+    same(&rt, has_box(&headers, node), (false, false));
 }
