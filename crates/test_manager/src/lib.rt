@@ -26,6 +26,8 @@ mod registry;
 #[cfg(test)]
 mod rows;
 #[cfg(test)]
+mod schemas;
+#[cfg(test)]
 mod seen;
 #[cfg(test)]
 mod site;
