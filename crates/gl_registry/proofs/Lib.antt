@@ -17,6 +17,7 @@ pub mod Upkeep
 mod CarriedOut
 -- indexes stay
 pub mod KeptIndexes
+pub mod DroppedIndexes
 pub mod RunsKeepIndexes
 -- effective modes on rows
 pub mod RowEffects

@@ -5,7 +5,7 @@ use Rattle.gl_modes.specs.declared.mode.Mode.TheVariants.{NL}
 use Rattle.gl_modes.specs.declared.node.NodeId.{NodeId}
 use Rattle.gl_modes.specs.declared.refusal.Refusal.{Refusal}
 use Rattle.gl_graph.specs.Graph.{Graph, first_parent, indexes_of, record_parents, shape_of}
-use Rattle.gl_graph.specs.Shapes.{is_file_shape, is_record_shape, keys_in}
+use Rattle.gl_graph.specs.Shapes.{is_file_shape, is_index_of_shape, is_record_shape, keys_in}
 use Rattle.gl_model.specs.declared.answers.Effect.{Effect}
 use Rattle.gl_model.specs.declared.answers.Effect.TheVariants as effect
 use Rattle.gl_model.specs.declared.txn.TxnId.{TxnId}
@@ -14,6 +14,7 @@ use Rattle.gl_model.specs.State.{State, lives}
 use Rattle.gl_model.specs.Tellings.{Told}
 use Rattle.gl_steps.specs.declared.command.Answer.{Answer}
 use Rattle.gl_steps.specs.declared.command.Command.{Command}
+use Rattle.gl_steps.specs.declared.command.Command.TheVariants as command
 use Rattle.gl_catalog.specs.declared.manager.paths.Reached.{Reached}
 use Rattle.gl_steps.specs.Promises.{is_grant_to, names, same_txn, told_granted}
 use Rattle.gl_catalog.specs.Manager.{state_of}
@@ -96,16 +97,22 @@ RecordsHaveRowEffects =
 abbrev pub IsRowInBoth : State → State → NodeId → List ℕ → Type 0
 IsRowInBoth s s' f keys = IsRow s.graph f keys × IsRow s'.graph f keys
 
--- t's effective mode on every such row is the same, or the same or greater where t was told of a grant
-pub record KeepsRowEffects (s s' : State) (t : TxnId) (granted : Bool) : Type 0 where
-  pub same : granted ≡ false → (f : NodeId) (keys : List ℕ) → IsRowInBoth s s' f keys → row_effect s' t.slot f keys ≡ row_effect s t.slot f keys
-  pub greater : (f : NodeId) (keys : List ℕ) → IsRowInBoth s s' f keys → is_at_least_effect (row_effect s' t.slot f keys) (row_effect s t.slot f keys) ≡ true
+-- t's effective mode on every such row of f is the same, or the same or greater where t was told of a grant
+pub record KeepsRowEffects (s s' : State) (t : TxnId) (f : NodeId) (granted : Bool) : Type 0 where
+  pub same : granted ≡ false → (keys : List ℕ) → IsRowInBoth s s' f keys → row_effect s' t.slot f keys ≡ row_effect s t.slot f keys
+  pub greater : (keys : List ℕ) → IsRowInBoth s s' f keys → is_at_least_effect (row_effect s' t.slot f keys) (row_effect s t.slot f keys) ≡ true
 
--- over a run that does not name t, its effective modes on rows stay, or grow where it was told of a grant (own)
+-- the command drops one of the indexes of the file f in g
+abbrev pub drops_index_of : Graph → NodeId → Command → Bool
+drops_index_of g f (command.Drop t n) = is_index_of_shape f (shape_of g n)
+drops_index_of g f c = false
+
+-- over a run that does not name t, and in which no index that the file has is dropped, its effective modes on rows of the file stay, or grow where it was
+-- told of a grant (own); over one step they do so whatever goes, since a file that has lost an index has no row that it had
 abbrev pub OthersKeepRowEffects : Type 0
 OthersKeepRowEffects =
-    (s s' : State) (cs : List Command) (rs : List (Answer × Told)) (t : TxnId) → IsLawful s → Run s cs rs s' → lives s t ≡ true → list_any (names t) cs ≡ false
-    → KeepsRowEffects s s' t (told_granted t rs)
+    (s s' : State) (cs : List Command) (rs : List (Answer × Told)) (t : TxnId) (f : NodeId) → IsLawful s → Run s cs rs s' → lives s t ≡ true
+    → list_any (names t) cs ≡ false → list_any (drops_index_of s.graph f) cs ≡ false → KeepsRowEffects s s' t f (told_granted t rs)
 
 -- The same of rows of a registry, with the locks on their own nodes.
 
