@@ -11,6 +11,7 @@ mod RowLocks
 mod RowNames
 mod SlotSets
 mod Touched
+pub mod Dropped
 mod Forgets
 -- what they are to those who wait: their own commands, among records that come and go
 pub mod Upkeep
