@@ -61,7 +61,7 @@ module _ (m : Graph) (law : IsLawfulGraph m) (n : NodeId) (movable : is_movable_
   no_interval o h = absurd (no h)
 
   -- the intervals of another index
-  others_stay : (f i : NodeId) (key : ℕ) → is_index_of_shape f (shape_of m i) ≡ true → same_node n i ≡ false → interval_of left i key ≡ interval_of m i key
+  pub others_stay : (f i : NodeId) (key : ℕ) → is_index_of_shape f (shape_of m i) ≡ true → same_node n i ≡ false → interval_of left i key ≡ interval_of m i key
   others_stay f i key h other =
       let it = index_of f (shape_of m i) h in
       let on = plain_live m i (index_plain (shape_of m i) (index_of_index f (shape_of m i) h)) in

@@ -24,6 +24,7 @@ pub mod RunsKeepIndexes
 pub mod RowEffects
 pub mod StandingRows
 pub mod KeptRows
+pub mod StandingIndexes
 pub mod NodeRows
 -- what others leave of them, whatever a registry serves
 mod NamesStay

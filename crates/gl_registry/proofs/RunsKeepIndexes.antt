@@ -70,7 +70,7 @@ is_drop (command.Drop t n) = true
 is_drop c = false
 
 -- each command that is accepted, but a drop
-accepted_keeps : (s : State) → IsLawful s → (c : Command) (a : Answer) (told : Told) (s' : State) → is_drop c ≡ false → refusal_of s c ≡ None
+pub accepted_keeps : (s : State) → IsLawful s → (c : Command) (a : Answer) (told : Told) (s' : State) → is_drop c ≡ false → refusal_of s c ≡ None
     → Accepts s c a told s' → KeepsAll s.graph s'.graph
 accepted_keeps s law (command.Inner ps) a told s' stays free acc = one_keeps s.graph s'.graph law.graph acc.1
 accepted_keeps s law (command.File ps) a told s' stays free acc = one_keeps s.graph s'.graph law.graph acc.1
