@@ -22,6 +22,7 @@ use Rattle.gl_steps.specs.declared.command.Answer.{Answer}
 use Rattle.gl_steps.specs.declared.command.Answer.TheVariants as answer
 use Rattle.gl_steps.specs.declared.command.Command.{Command}
 use Rattle.gl_steps.specs.declared.command.Command.TheVariants as command
+use Rattle.gl_steps.specs.Served.{accepts}
 use Rattle.gl_steps.specs.Step.{Step}
 use Rattle.gl_catalog.specs.Manager.{state_of}
 use Rattle.gl_registry.specs.Names.{NamesHold}
@@ -35,6 +36,11 @@ use Rattle.gl_registry.proofs.Touched.{untouched_keeps}
 pub left_names : (o : Option NodeId) (v v' : RowsView) → LeavesRows o v v' → v'.names ≡ v.names
 left_names None v v' same = ap (λ (x : RowsView). x.names) same
 left_names (Some n) v v' forgets = forgets.names
+
+-- a command that is not accepted drops nothing
+pub unaccepted_leaves : (c : Command) (a : Answer) (v v' : RowsView) → accepts c a ≡ false → LeavesRows (dropped_by c a) v v' → v' ≡ v
+unaccepted_leaves (command.Drop t n) answer.Done v v' not_so forgets = absurd (never (sym not_so))
+unaccepted_leaves c a v v' not_so same = same
 
 -- no record has a file that does not live
 module _ (v v' : RowsView) (n : NodeId) (forgets : ForgetsFile v n v') (g : Graph) (law : IsLawfulGraph g) (dead : is_live g n ≡ false)

@@ -78,10 +78,10 @@ module _ (m : Graph) (law : IsLawfulGraph m) (n : NodeId) (movable : is_movable_
     indexes = (
       filter (λ i. not (same_node n i)) kept.indexes.0,
       indexes_left m law n movable free f ∙ ap (filter (λ i. not (same_node n i))) kept.indexes.1
-      ∙ filter-append (λ i. not (same_node n i)) (indexes_of g f) kept.indexes.0
-      ∙ ap (λ xs. xs ++ filter (λ i. not (same_node n i)) kept.indexes.0)
-      (all_pass (λ i. is_index_of_shape f (shape_of g i)) (λ i. not (same_node n i)) (indexes_of g f)
-      (all_filter (λ i. is_index_of_shape f (shape_of g i)) (nodes g)) (λ x h. ap not (other x h))),
+          ∙ filter-append (λ i. not (same_node n i)) (indexes_of g f) kept.indexes.0
+          ∙ ap (λ xs. xs ++ filter (λ i. not (same_node n i)) kept.indexes.0)
+          (all_pass (λ i. is_index_of_shape f (shape_of g i)) (λ i. not (same_node n i)) (indexes_of g f)
+          (all_filter (λ i. is_index_of_shape f (shape_of g i)) (nodes g)) (λ x h. ap not (other x h))),
     );
     intervals = λ i key h. others_stay f i key (index_still g m f law' kept i h) (other i h) ∙ kept.intervals i key h;
   }

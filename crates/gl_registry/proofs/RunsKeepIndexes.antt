@@ -107,7 +107,6 @@ accepted_keeps s law (command.Settle t) a told s' stays free acc =
 accepted_keeps s law (command.Group n) a told s' stays free acc = absurd acc
 accepted_keeps s law (command.Held t n) a told s' stays free acc = absurd acc
 accepted_keeps s law (command.Effective t n) a told s' stays free acc = absurd acc
-
 accepted_keeps s law (command.IndexBy t ps f bs) a told s' stays free acc = index_keeps s.graph s'.graph law.graph acc.1
 accepted_keeps s law (command.Drop t n) a told s' stays free acc = absurd (no (sym stays))
 
