@@ -19,10 +19,11 @@ pub fn records_have_row_effects()
 
 /// What does not name a transaction leaves its effective modes on rows as they are, or greater where
 /// it was told of a grant: over a run those by locks further up, whether or not a record stands for the
-/// row, where no index that its file has is dropped; and whatever is dropped and made, those by locks on
-/// the file and on the intervals of indexes that stand before and after; and over a command by its node, a path, and a call about rows, each as a registry serves it,
-/// those by any locks, those on the row's own node included, where the keys are the row's own before
-/// and after, whether or not the row gets a node by it, or loses it, or gets another.
+/// row, where no index is dropped that its file has; whatever a run drops and makes, those by locks on
+/// the file and on the intervals of its indexes that stand before and after; and over a command by its
+/// node, a path, and a call about rows, each as a registry serves it, those by any locks, those on the
+/// row's own node included, where the keys are the row's own before and after, whether or not the row
+/// gets a node by it, or loses it, or gets another.
 pub fn others_keep_row_effects()
     ensures above { OthersKeepRowEffects }
     ensures standing { OthersKeepByIndexes }
