@@ -107,8 +107,8 @@ abbrev pub drops_index_of : Graph → NodeId → Command → Bool
 drops_index_of g f (command.Drop t n) = is_index_of_shape f (shape_of g n)
 drops_index_of g f c = false
 
--- over a run that does not name t, and in which no index that the file has is dropped, its effective modes on rows of the file stay, or grow where it was
--- told of a grant (own); over one step they do so whatever goes, since a file that has lost an index has no row that it had
+-- over a run that does not name t, and in which no index is dropped that the file has, its effective modes on rows of the file stay, or grow where it was
+-- told of a grant (own)
 abbrev pub OthersKeepRowEffects : Type 0
 OthersKeepRowEffects =
     (s s' : State) (cs : List Command) (rs : List (Answer × Told)) (t : TxnId) (f : NodeId) → IsLawful s → Run s cs rs s' → lives s t ≡ true
