@@ -30,7 +30,7 @@ pub fn parse(language: Language, line: &[u8], lists: &mut Lists) -> Option<Line>
     let first = fields.next()?;
     match read_verb(first) {
         Some(verb) => {
-            Some(Line::Order(read_command(language.version, verb, &mut fields, lists)?))
+            Some(Line::Order(read_command(language, verb, &mut fields, lists)?))
         }
         None => {
             let topic = read_topic(first)?;
