@@ -95,21 +95,16 @@ fits-both g s m a b =
 
 -- nobody holds
 
-pub nobody-both : (g : Group) → IsGroup g → nobody_holds slot_limit (held_by g) ≡ true → (u : ℕ) → (has_slot g.holders u || has_slot g.intents u) ≡ false
-nobody-both g k n u =
-    let e : held_by g u ≡ NL = nobody_holds-all slot_limit (held_by g) (within-group g k) n u in
-    ap₂ (λ a b. a || b) (no-holder g u k e) (no-intent g u k e)
+pub nobody-mode : (g : Group) → IsGroup g → nobody_holds slot_limit (held_by g) ≡ true → g.mode ≡ NL
+nobody-mode g k n = k.idle (λ u. no-holder g u k (nobody_holds-all slot_limit (held_by g) (within-group g k) n u))
 
-pub nobody-from_both : (g : Group) → ((u : ℕ) → (has_slot g.holders u || has_slot g.intents u) ≡ false) → nobody_holds slot_limit (held_by g) ≡ true
-nobody-from_both g n =
+pub nobody-intents : (g : Group) → IsGroup g → nobody_holds slot_limit (held_by g) ≡ true → HasNoSlot g.intents
+nobody-intents g k n u = no-intent g u k (nobody_holds-all slot_limit (held_by g) (within-group g k) n u)
+
+pub nobody-from_both : (g : Group) → IsGroup g → g.mode ≡ NL → HasNoSlot g.intents → nobody_holds slot_limit (held_by g) ≡ true
+nobody-from_both g k is none =
     range-from_each (λ t. not (holds (held_by g) t)) 0 slot_limit
-    (λ u l m. ap (λ x. not (not (same_mode x NL))) (other-mode g u (first _ _ (n u)) (second _ _ (n u))))
-  where
-    first : (a b : Bool) → (a || b) ≡ false → a ≡ false
-    first a b h = grind arith
-
-    second : (a b : Bool) → (a || b) ≡ false → b ≡ false
-    second a b h = grind arith
+    (λ u l m. ap (λ x. not (not (same_mode x NL))) (other-mode g u (k.free is u) (none u)))
 
 -- the supremum of what is held
 
@@ -297,3 +292,25 @@ released-held g s m h i wh wi same = fun_ext (λ u.
     (λ a. ap₂ (λ x y. cond x m (cond y IS NL)) (left-other _ _ _ (wh u) t ∙ a) (left-other _ _ _ (wi u) t)
     ∙ sym (ap (λ b. cond b g.mode (cond (has_slot g.intents u) IS NL)) a)
     ∙ sym (there (held_by g) s NL u t))))
+
+-- a set without s is what it is
+
+pub absent-without : (i : Slots) (s : ℕ) → has_slot i s ≡ false → IsWithoutSlot i s i
+absent-without i s none u = split (u == s)
+    (λ t. let out : has_slot i u ≡ false = ap (has_slot i) (same-slot u s t) ∙ none in out ∙ sym (ap (λ b. b && not (u == s)) out))
+    (λ t. stays (has_slot i u) (u == s) t)
+  where
+    stays : (a t : Bool) → t ≡ false → a ≡ (a && not t)
+    stays a t h = grind arith
+
+-- IS is released: who holds the group's mode stays
+pub released-intent : (g : Group) (s : ℕ) (i : Slots) → IsGroup g → IsWithoutSlot g.intents s i
+    → IsGroup (record { mode = g.mode; holders = g.holders; intents = i })
+released-intent g s i k w = record {
+  apart = λ u x. left-none _ _ _ (w u) (k.apart u x);
+  not_IS = k.not_IS;
+  idle = k.idle;
+  free = k.free;
+  holders_below = k.holders_below;
+  intents_below = λ u le. left-none _ _ _ (w u) (k.intents_below u le);
+}

@@ -75,7 +75,7 @@ impl Group {
         requires { IsGroup self.now }
         ensures { result ≡ nobody_holds slot_limit (held_by self.now) }
     {
-        self.holders.union(self.intents).is_empty()
+        self.mode == Mode::NL && self.intents.is_empty()
     }
 
     /// The supremum of what is held.
@@ -131,7 +131,10 @@ impl Group {
         ensures group { IsGroup self.new }
         ensures held { held_by self.new ≡ with_mode (held_by self.old) slot NL }
     {
-        self.intents.remove(slot);
+        if self.intents.contains(slot) {
+            self.intents.remove(slot);
+            return; // Who holds the mode stays.
+        }
         self.holders.remove(slot);
         if self.holders.is_empty() {
             self.mode = Mode::NL;

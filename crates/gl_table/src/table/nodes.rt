@@ -1,14 +1,22 @@
 //! New nodes of the graph.
 
-ghost use Rattle.std.specs.Prelude.{◌≡◌, IfOk, OnErr, OnOk, false};
+ghost use Rattle.std.specs.Prelude.{◌≡◌, [], IfErr, IfOk, None, OnErr, OnOk, Some, false, true};
+ghost use Rattle.gl_modes.specs.Modes.{same_mode};
+ghost use Rattle.gl_modes.specs.declared.mode.Mode.TheVariants.{X};
+ghost use Rattle.gl_modes.specs.declared.refusal.Refusal.{Refusal as ARefusal};
 ghost use Rattle.gl_graph.specs.Changes.{IsBorn, IsIndexBorn};
-ghost use Rattle.gl_graph.specs.Refusals.{Refuses, file_refusal, index_refusal, inner_refusal};
-ghost use Rattle.gl_graph.specs.Shapes.{File, Inner};
-ghost use Rattle.gl_model.specs.State.{with_graph};
+ghost use Rattle.gl_graph.specs.Graph.{shape_of};
+ghost use Rattle.gl_graph.specs.Refusals.{Refuses, file_refusal, index_refusal, inner_refusal, is_in_use, reindex_refusal};
+ghost use Rattle.gl_graph.specs.Shapes.{File, Inner, is_movable_shape};
+ghost use Rattle.gl_model.specs.Calls.{dropped, first_not_ix};
+ghost use Rattle.gl_model.specs.State.{lives, status_of, with_grant, with_graph};
+ghost use Rattle.gl_model.specs.Tellings.{told};
+ghost use Rattle.gl_model.specs.declared.txn.Status.TheVariants.{Active};
 ghost use Rattle.gl_table.specs.Table.{state_of};
 
 use super::Table;
-use gl_modes::{NodeId, Refusal};
+use gl_model::{Told, TxnId};
+use gl_modes::{Mode, NodeId, Refusal};
 
 impl Table {
     /// Makes an inner node under 0 to 8 different inner nodes; without parents it is a root. Nobody
@@ -63,5 +71,65 @@ impl Table {
         ensures err { OnErr result (self.new ≡ self.old) }
     {
         self.locks.graph.add_index(parents, file, bounds)
+    }
+
+    /// Makes an index of a file of which no record stands, and gives it in X to an active transaction that
+    /// holds each of its parents in IX or greater. Nothing stands against it but memory: the only refusal is
+    /// `NoMemory`. All room is made before anything changes.
+    pub fn add_index_held(
+        &mut self,
+        t: TxnId,
+        parents: &[NodeId],
+        file: NodeId,
+        bounds: &[u64],
+    ) -> Result<NodeId, Refusal>
+        requires txn { lives (state_of self.old) t ≡ true }
+        requires active { status_of (state_of self.old) t.slot ≡ Some Active }
+        requires free { reindex_refusal (state_of self.old).graph parents.now file bounds.now ≡ None }
+        requires writable { first_not_ix ((state_of self.old).held t.slot) parents.now ≡ None }
+        ensures made { IfOk result (λ n. IsIndexBorn (state_of self.old).graph (state_of self.new).graph n parents.now file bounds.now) }
+        ensures state { IfOk result (λ n. state_of self.new ≡ with_grant (with_graph (state_of self.old) (state_of self.new).graph) t.slot n X) }
+        ensures deadlock { self.new.deadlock ≡ self.old.deadlock }
+        ensures memory { IfErr result (λ r. r ≡ ARefusal.NoMemory) }
+        ensures err { OnErr result (self.new ≡ self.old) }
+    {
+        let locks = &mut self.locks;
+        let prepared = locks
+            .ledger
+            .prepare(t.slot, locks.graph.next_key(), Mode::X)?;
+        let index = locks.graph.add_index_unrefused(parents, file, bounds)?;
+        locks
+            .ledger
+            .place(&locks.graph, t.slot, index, Mode::X, prepared);
+        Ok(index)
+    }
+
+    /// Whether something stands against a drop of a node: of an inner node a child, of a file a record or an
+    /// index, of an index a record of its file; `false` of all else.
+    pub fn is_in_use(&self, n: NodeId) -> bool
+        ensures { result ≡ is_in_use (state_of self.now).graph n }
+    {
+        self.locks.graph.is_in_use(n)
+    }
+
+    /// Takes away an inner node, a file or an index with its intervals, below which nothing stands, and which
+    /// an active transaction holds in X; with it go all locks on it. Those who wait for it are told that it is
+    /// gone, in an empty list. It takes no memory.
+    pub fn drop_telling(&mut self, t: TxnId, n: NodeId, notices: &mut Told)
+        requires empty { notices.old.items ≡ [] }
+        requires txn { lives (state_of self.old) t ≡ true }
+        requires active { status_of (state_of self.old) t.slot ≡ Some Active }
+        requires movable { is_movable_shape (shape_of (state_of self.old).graph n) ≡ true }
+        requires free { is_in_use (state_of self.old).graph n ≡ false }
+        requires exclusive { same_mode ((state_of self.old).held t.slot n) X ≡ true }
+        ensures state { state_of self.new ≡ dropped (state_of self.old) n }
+        ensures deadlock { self.new.deadlock ≡ self.old.deadlock }
+        ensures told { notices.new.items ≡ told (state_of self.old) (state_of self.new) }
+    {
+        let locks = &mut self.locks;
+        locks
+            .ledger
+            .vacate_branch(&locks.graph, t.slot, n, notices);
+        locks.graph.remove_node(n);
     }
 }

@@ -7,11 +7,11 @@ use Rattle.gl_graph.proofs.graph.Graph.intervals.Goals as goal
 pub returns-in-Some : goal.returns-in-Some
 returns-in-Some c =
     λ place. ap (λ is. slice_get is place) c.intervals.ensures
-    ∙ interval_found (limits_of c.self.inside) c.self.inside.nodes c.self.inside.births c.args.self.now c.self.invariant c.self.view_is c.args.index
+    ∙ interval_found (limits_of c.self.inside) c.self.inside.nodes c.self.inside.births c.args.self.now c.self.invariant.sound c.self.view_is c.args.index
     c.in-Some.node.now (sym c.in-Some.ensures) place
 
 pub returns-in-None : goal.returns-in-None
 returns-in-None c =
     λ place. sym (interval_missed
-        (limits_of c.self.inside) c.self.inside.nodes c.self.inside.births c.args.self.now c.self.invariant c.self.view_is c.args.index
+        (limits_of c.self.inside) c.self.inside.nodes c.self.inside.births c.args.self.now c.self.invariant.sound c.self.view_is c.args.index
         (sym c.in-None.ensures) place)

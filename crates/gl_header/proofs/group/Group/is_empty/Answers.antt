@@ -1,10 +1,27 @@
-use Rattle.std.proofs.Common.{sym, ◌∙◌}
+use Rattle.std.proofs.Common.{◌≡◌, ◌∙◌, true, ap, refl, sym}
+use denote.Enum.Bare.{sameb}
+use Rattle.gl_modes.specs.contracts.mode.Mode.{the_type}
+use Rattle.gl_modes.specs.declared.mode.Mode.{Mode}
+use Rattle.gl_modes.specs.declared.mode.Mode.TheVariants.{NL, IS, IX, S, SIX, X}
+use Rattle.gl_modes.proofs.Words.{clash, not_true}
 use Rattle.gl_header.proofs.Ranges.{equal_tests}
-use Rattle.gl_header.proofs.Groups.{nobody-both, nobody-from_both}
+use Rattle.gl_header.proofs.Groups.{nobody-from_both, nobody-intents, nobody-mode}
 use Rattle.gl_header.proofs.group.Group.is_empty.Goals as goal
 
-pub returns : goal.returns
-returns c =
+is-NL : (m : Mode) → sameb the_type m NL ≡ true → m ≡ NL
+is-NL NL h = refl
+is-NL IS h = cc
+is-NL IX h = cc
+is-NL S h = cc
+is-NL SIX h = cc
+is-NL X h = cc
+
+pub returns-then-eq : goal.returns-then-eq
+returns-then-eq c =
     equal_tests _ _
-    (λ h. nobody-from_both c.args.self.now (λ u. sym (c.union.ensures u) ∙ c.is_empty.ensures.0 h u))
-    (λ h. c.is_empty.ensures.1 (λ u. c.union.ensures u ∙ nobody-both c.args.self.now c.requires h u))
+    (λ h. nobody-from_both c.args.self.now c.requires (is-NL c.args.self.now.mode (sym c.eq.ensures ∙ c.if-eq.true)) (c.is_empty.ensures.0 h))
+    (λ h. c.is_empty.ensures.1 (nobody-intents c.args.self.now c.requires h))
+
+pub returns-else-eq : goal.returns-else-eq
+returns-else-eq c =
+    c.if-eq.false ∙ sym (not_true _ (λ h. clash (ap (λ m. sameb the_type m NL) (nobody-mode c.args.self.now c.requires h)) (sym c.eq.ensures ∙ c.if-eq.false)))
