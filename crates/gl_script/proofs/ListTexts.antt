@@ -49,12 +49,10 @@ on_parts (p ∷ ps) (q ∷ qs) x y h k e =
     let more = on_parts_nodes (p ∷ ps) (q ∷ qs) x y h.0 k.0 (cc) in
     (ap (λ fs. codes ":" ∷ fs) more.0, more.1)
 
--- so what follows it behind a name and parents is known
-pub behind_on : (name : Text) (rest : List Text) (read : List Node) (after : List Text) (n : Text) (ps : List Node) (more : List Text)
-    → rest ≡ parents read ++ codes "on" ∷ after → AreSomeNodes read → AreSomeNodes ps → name ∷ rest ≡ n ∷ (parents ps ++ codes "on" ∷ more) → after ≡ more
-behind_on name rest read after n ps more was had some e =
-    let tail : rest ≡ parents ps ++ codes "on" ∷ more = cc in
-    (on_parts read ps after more had some (sym was ∙ tail)).1
+-- so what follows it behind parents is known
+pub behind_on : (rest : List Text) (read : List Node) (after : List Text) (ps : List Node) (more : List Text)
+    → rest ≡ parents read ++ codes "on" ∷ after → AreSomeNodes read → AreSomeNodes ps → rest ≡ parents ps ++ codes "on" ∷ more → after ≡ more
+behind_on rest read after ps more was had some e = (on_parts read ps after more had some (sym was ∙ e)).1
 
 -- before the word `on` stands a field that is no node
 pub none_before_on : (done : List Node) (field : Text) (rest : List Text) (ns : List Node) (more : List Text)
