@@ -10,7 +10,8 @@ use Rattle.gl_modes.specs.Modes.{mode_text}
 use Rattle.gl_modes.proofs.Spellings.{mode_text-injective}
 use Rattle.gl_script.specs.declared.form.Language.{Language}
 use Rattle.gl_script.specs.Grammar.{Text, Command, Inner, File, Index, Begin, Lock, Try, Unlock, Cancel, Commit, Abort, Settle, Insert, Delete, Rekey}
-use Rattle.gl_script.specs.Grammar.{Escalate, Move, Group, Held, Effective, Drop, IndexBy, Listing, Holders, Queue, Locks, Waits, Txns, Cycle, Line, Orders, Lists}
+use Rattle.gl_script.specs.Grammar.{Escalate, Move, Group, Held, Effective, Drop, IndexBy, Listing, Holders, Queue, Locks, Waits, Txns, Cycle}
+use Rattle.gl_script.specs.Grammar.{Line, Orders, Lists}
 use Rattle.gl_script.specs.Grammar.{Node, Plain, Interval, IsNode, IsNumber, AreSomeNodes, node_text, parents, fields, listing_fields, SaysFields}
 use Rattle.gl_script.specs.Grammar.{ListsFields, LineFields, LineSaysOneCommand}
 use Rattle.gl_script.proofs.Splitting.{cut_once, has_byte}

@@ -64,10 +64,7 @@ pub(crate) fn txn_mode_node<F: FnOnce(Name, Mode, Used) -> Form>(
 }
 
 /// A transaction and the name of a node.
-pub(crate) fn txn_name<F: FnOnce(Name, Name) -> Form>(
-    fields: &mut Fields,
-    form: F,
-) -> Option<Form>
+pub(crate) fn txn_name<F: FnOnce(Name, Name) -> Form>(fields: &mut Fields, form: F) -> Option<Form>
     requires form { F.IsAlwaysCallable form }
     ensures found { IfSome result (λ r. (txn : _) × (name : _) × F.post form txn name r × IsName txn.items × IsName name.items
         × (left fields.old ≡ txn.items ∷ name.items ∷ [])) }

@@ -253,7 +253,12 @@ fn nodes_go_and_come_again(rt: HostRuntime) -> Result<(), Fail> {
 
 #[test]
 fn schema_lines_are_refused_in_order(rt: HostRuntime) -> Result<(), Fail> {
-    for lines in [DROP_NEEDS_THE_FILE_TOO, DROP_REFUSED, INDEX_REFUSED, SPELT_BADLY] {
+    for lines in [
+        DROP_NEEDS_THE_FILE_TOO,
+        DROP_REFUSED,
+        INDEX_REFUSED,
+        SPELT_BADLY,
+    ] {
         try_out(&rt, rt.alloc(), SCHEMA, &[lines])?;
     }
     Ok(())

@@ -49,7 +49,8 @@ returns-in-Err g c =
     (c.in-Err.ensures.kinds (ap is_simple_and_free app_is ∙ is_free_tool))
 
 -- the values of the options, as the words hold them
-module _ (words : List Text) (way choice : Option Text) (listings schema : Bool) (crew rounds : Option Text) (way_is : way ≡ first_of (codes "detect") (rows_in words))
+module _ (words : List Text) (way choice : Option Text) (listings schema : Bool) (crew rounds : Option Text)
+    (way_is : way ≡ first_of (codes "detect") (rows_in words))
     (choice_is : choice ≡ first_of (codes "victims") (rows_in words)) (listings_is : listings ≡ is_set (first_of (codes "listings") (rows_in words)))
     (schema_is : schema ≡ is_set (first_of (codes "schema") (rows_in words)))
     (crew_is : crew ≡ first_of (codes "crew") (rows_in words)) (rounds_is : rounds ≡ first_of (codes "rounds") (rows_in words)) where
