@@ -13,15 +13,15 @@ returns-then-not-put_unused g c =
     let node = node_of c.in-Move.node in
     let in_use = sym c.put_unused.ensures.is ∙ c.if-not-put_unused.true in
     let nothing = rw (none_unused s (node ∷ []) (head_used s node [] in_use).1) at c.put_unused.ensures.text in
-    rw c.in-Move.is (rw (head_used s node nodes in_use).0 (Hands-then _ _ _ _ _ _ _ _ nothing c.put_unused_listed-then-not-put_unused.ensures.text))
+    rw c.in-Move.is (rw (head_used s node nodes in_use).0 (Hands-then _ _ _ _ _ _ _ _ nothing c.put_unused_listed.ensures.text))
 
 pub returns-then-not-put_unused_name : goal.returns-then-not-put_unused_name
 returns-then-not-put_unused_name g c =
     let s = script_of c.args.desk.now in
     let rec = Plain c.in-Rekey.rec.items in
     let index = Plain c.in-Rekey.index.items in
-    let in_use = sym c.put_unused_name-in-Rekey.ensures.is ∙ c.if-not-put_unused_name.true in
-    let nothing = rw (none_unused s (rec ∷ []) (head_used s rec [] in_use).1) at c.put_unused_name-in-Rekey.ensures.text in
+    let in_use = sym c.put_unused_name.ensures.is ∙ c.if-not-put_unused_name.true in
+    let nothing = rw (none_unused s (rec ∷ []) (head_used s rec [] in_use).1) at c.put_unused_name.ensures.text in
     rw c.in-Rekey.is (rw (head_used s rec (index ∷ []) in_use).0 (Hands-then _ _ _ _ _ _ _ _ nothing c.put_unused_name-then-not-put_unused_name.ensures.text))
 
 pub returns-in-Begin : goal.returns-in-Begin
