@@ -22,7 +22,7 @@ use gl_table::{Locked, TxnId};
 #[repr(C)]
 #[derive(Clone, Copy)]
 pub struct Reply {
-    /// Zero where it was done, a refusal's number from 1 to 22, or one of the numbers above.
+    /// Zero where it was done, a refusal's number from 1 to 23, or one of the numbers above.
     pub status: u32,
     /// A mode's number.
     pub mode: u32,
