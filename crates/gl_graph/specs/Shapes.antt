@@ -70,6 +70,11 @@ abbrev pub least_parents : Option Shape → ℕ
 least_parents (Some Inner) = 0
 least_parents o = 1
 
+-- the file of an index
+abbrev pub file_in : Option Shape → Option NodeId
+file_in (Some (Index file bounds)) = Some file
+file_in s = None
+
 -- the bounds of an index
 abbrev pub bounds_in : Option Shape → List ℕ
 bounds_in (Some (Index file bounds)) = bounds

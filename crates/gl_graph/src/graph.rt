@@ -2,6 +2,7 @@
 
 ghost use Rattle.std.specs.Prelude.{◌≡◌, ◌≢◌, ◌≤◌, ◌^◌, ℕ, true, Option, None, slice_get};
 ghost use Rattle.gl_graph.specs.Shapes.{
+  file_in,
   is_adopted,
   is_file_shape,
   is_index_shape,
@@ -216,6 +217,16 @@ impl Graph {
     {
         match find(&self.nodes, index) {
             Some(node) => node.body.intervals().get(place).copied(),
+            None => None,
+        }
+    }
+
+    /// The file of an index; `None` where the id names no index.
+    pub fn file_of_index(&self, index: NodeId) -> Option<NodeId>
+        ensures { result ≡ file_in (shape_of (graph_of self.now) index) }
+    {
+        match find(&self.nodes, index) {
+            Some(node) => node.body.file(),
             None => None,
         }
     }

@@ -50,7 +50,7 @@ pub(crate) struct Node {
 
 impl Body {
     ghost use Rattle.std.specs.Prelude.{◌≡◌, ◌<◌, IfOk, Some, length};
-    ghost use Rattle.gl_graph.specs.Shapes.{Rec, bounds_in, is_adopted, keys_in, kind_in, place_in};
+    ghost use Rattle.gl_graph.specs.Shapes.{Rec, bounds_in, file_in, is_adopted, keys_in, kind_in, place_in};
     ghost use Rattle.gl_graph.specs.Seen.{
       body_adopted,
       body_with_children,
@@ -126,6 +126,15 @@ impl Body {
         match self {
             Body::File(kept) => kept.adopted,
             _ => false,
+        }
+    }
+
+    pub(crate) fn file(&self) -> Option<NodeId>
+        ensures { result ≡ file_in (Some (shape_in_body self.now)) }
+    {
+        match self {
+            Body::Index(kept) => Some(kept.file),
+            _ => None,
         }
     }
 

@@ -8,4 +8,5 @@ pub mod Ends
 pub mod Moves
 pub mod Departing
 pub mod Records
+pub mod Dropping
 pub mod Adopting

@@ -118,6 +118,13 @@ impl Manager {
             Command::Effective { txn, node } => effect_answer(self.table.effective(txn, node)),
             Command::Adopt { file, keys } => node_answer(self.adopt(file, keys)),
             Command::Forget { rec } => done_answer(self.forget(rec)),
+            Command::Drop { txn, node } => done_answer(self.drop_telling(txn, node, told)),
+            Command::IndexBy {
+                txn,
+                parents,
+                file,
+                bounds,
+            } => node_answer(self.index_by(txn, parents, file, bounds)),
         }
     }
 }

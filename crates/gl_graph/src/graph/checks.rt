@@ -1,6 +1,6 @@
 //! The tests that a call makes before it changes anything, each with the refusal that it answers.
 
-ghost use Rattle.std.specs.Prelude.{◌≡◌, ◌+◌, ◌∷◌, ◌&&◌, ◌||◌, nat_lt};
+ghost use Rattle.std.specs.Prelude.{◌≡◌, ◌+◌, ◌∷◌, ◌++◌, [], ◌&&◌, ◌||◌, length, nat_lt};
 ghost use Rattle.std.specs.List.{list_all, list_any};
 ghost use Rattle.gl_modes.specs.Nodes.{same_node};
 ghost use Rattle.gl_graph.specs.Shapes.{is_adopted, is_file_shape, is_inner_shape};
@@ -10,6 +10,7 @@ ghost use Rattle.gl_graph.specs.Refusals.{
   bad_bounds,
   bad_index_place,
   bad_parents,
+  first_refusal,
   has_records,
   index_refusal,
   index_refusal_where,
@@ -17,8 +18,12 @@ ghost use Rattle.gl_graph.specs.Refusals.{
   parents_refusal,
   record_refusal,
   reindex_refusal,
+  some_no_node,
+  too_many_nodes,
   verdict,
+  where_true,
 };
+ghost use Rattle.gl_modes.specs.declared.refusal.Refusal.{Refusal as ARefusal};
 ghost use Rattle.gl_graph.specs.View.{graph_of};
 
 use super::Graph;
@@ -221,5 +226,35 @@ impl Graph {
         self.are_bad_parents(1, parents)
             || !self.is_file(file)
             || self.indexes(file).len() >= MOST_INDEXES
+    }
+
+    /// Whether an index of this file could be made under these parents, whatever its bounds. Refused, in this
+    /// order, with `NoSuchNode` and `BadParents`.
+    pub fn check_index_place(&self, parents: &[NodeId], file: NodeId) -> Result<(), Refusal>
+        ensures { result ≡ verdict (first_refusal (some_no_node (graph_of self.now) (parents.now ++ file ∷ [])
+            ∷ where_true (bad_index_place (graph_of self.now) parents.now file) ARefusal.BadParents ∷ [])) }
+    {
+        if !self.all_live(parents) || !self.lives(file) {
+            Err(Refusal::NoSuchNode)
+        } else if self.is_bad_index_place(parents, file) {
+            Err(Refusal::BadParents)
+        } else {
+            Ok(())
+        }
+    }
+
+    /// Whether an index could have these bounds, and there is room for its intervals. Refused, in this order,
+    /// with `BadKeys` and `TooManyNodes`.
+    pub fn check_index_bounds(&self, bounds: &[u64]) -> Result<(), Refusal>
+        ensures { result ≡ verdict (first_refusal (where_true (bad_bounds (graph_of self.now) bounds.now) ARefusal.BadKeys
+            ∷ too_many_nodes (graph_of self.now) (2 + length bounds.now) ∷ [])) }
+    {
+        if self.are_bad_bounds(bounds) {
+            Err(Refusal::BadKeys)
+        } else if self.too_many(bounds.len() + 2) {
+            Err(Refusal::TooManyNodes)
+        } else {
+            Ok(())
+        }
     }
 }

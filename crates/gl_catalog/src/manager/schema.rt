@@ -1,0 +1,128 @@
+//! A schema changes: nodes are dropped, and indexes made, under the locks of a transaction.
+
+ghost use Rattle.std.specs.Prelude.{◌≡◌, [], IfOk, OnErr, true};
+ghost use Rattle.gl_graph.specs.Graph.{is_live, shape_of};
+ghost use Rattle.gl_graph.specs.Refusals.{first_refusal, verdict};
+ghost use Rattle.gl_model.specs.Calls.{holds_x_on_all, index_by_tests, locked_to_drop};
+ghost use Rattle.gl_model.specs.State.{lives};
+ghost use Rattle.gl_steps.specs.declared.command.Command.TheVariants as command;
+ghost use Rattle.gl_steps.specs.Tests.{refusal_of};
+ghost use Rattle.gl_catalog.specs.Completes.{Completes};
+ghost use Rattle.gl_catalog.specs.Manager.{state_of};
+ghost use Rattle.gl_catalog.specs.Replies.{CallSteps, doing, made};
+
+use super::Manager;
+use gl_graph::Kind;
+use gl_modes::{Mode, NodeId, Refusal};
+use gl_table::{Told, TxnId};
+
+impl Manager {
+    /// Takes away an inner node without children, a file without records and without indexes, or an index
+    /// with its intervals where no record of its file stands. The transaction holds it in X, and of an index
+    /// its file too. All locks on it go; who waits for it is active again, and is told that it is gone, in an
+    /// empty list. Others are left what `apply` leaves them.
+    ///
+    /// Refused, in this order, with `WornOut`, `NoSuchTxn`, `TxnWaiting`, `TxnCondemned`, `NoSuchNode`,
+    /// `BadParents` (an interval or a record), `NeedExclusive`, and `HasChildren` of an inner node, else
+    /// `FileInUse`. It takes no memory.
+    pub fn drop_telling(&mut self, t: TxnId, n: NodeId, told: &mut Told) -> Result<(), Refusal>
+        requires empty { told.old.items ≡ [] }
+        ensures step { CallSteps (state_of self.old) (command.Drop t n) (doing told.new.items) result (state_of self.new) }
+        ensures completes { IfOk result (λ x. Completes (command.Drop t n) self.old (doing told.new.items x) self.new) }
+        ensures untold { OnErr result (told.new ≡ told.old) }
+        ensures err { OnErr result (self.new ≡ self.old) }
+    {
+        self.check_drop(t, n)?;
+        self.table.drop_telling(t, n, told);
+        self.table.law();
+        self.accepted += 1;
+        self.counters.add_notices(told.as_slice());
+        Ok(())
+    }
+
+    /// Makes an index of a file that may have had records, but has none now, and gives it to the transaction
+    /// in X, which holds the file in X and each parent in IX or greater. Nobody is told, and others are left
+    /// what `apply` leaves them.
+    ///
+    /// Refused, in this order, with `WornOut`, `NoSuchTxn`, `TxnWaiting`, `TxnCondemned`, `NoSuchNode`,
+    /// `BadParents`, `NeedExclusive` (the file is not held in X), `NeedParents`, `FileInUse`, `BadKeys` (the
+    /// bounds), `TooManyNodes` and `NoMemory`.
+    pub fn index_by(
+        &mut self,
+        t: TxnId,
+        parents: &[NodeId],
+        file: NodeId,
+        bounds: &[u64],
+    ) -> Result<NodeId, Refusal>
+        ensures step { CallSteps (state_of self.old) (command.IndexBy t parents.entry file bounds.entry) made result (state_of self.new) }
+        ensures completes { IfOk result (λ x. Completes (command.IndexBy t parents.entry file bounds.entry) self.old (made x) self.new) }
+        ensures err { OnErr result (self.new ≡ self.old) }
+    {
+        self.check_count()?;
+        self.check_index_by(t, parents, file, bounds)?;
+        let index = self.table.add_index_held(t, parents, file, bounds)?;
+        self.table.law();
+        self.accepted += 1;
+        Ok(index)
+    }
+
+    /// The tests of a drop.
+    fn check_drop(&self, t: TxnId, n: NodeId) -> Result<(), Refusal>
+        ensures { result ≡ verdict (refusal_of (state_of self.now) (command.Drop t n)) }
+    {
+        self.check_count()?;
+        self.check_active(t)?;
+        let in_use = match self.table.graph().kind(n) {
+            Some(Kind::Inner) => Refusal::HasChildren,
+            Some(Kind::File | Kind::Index) => Refusal::FileInUse,
+            Some(Kind::Interval | Kind::Rec) => return Err(Refusal::BadParents),
+            None => return Err(Refusal::NoSuchNode),
+        };
+        if !self.may_drop(t, n) {
+            Err(Refusal::NeedExclusive)
+        } else if self.table.is_in_use(n) {
+            Err(in_use)
+        } else {
+            Ok(())
+        }
+    }
+
+    /// Whether a living transaction holds a node in X and, of an index, its file too.
+    fn may_drop(&self, t: TxnId, n: NodeId) -> bool
+        requires txn { lives (state_of self.now) t ≡ true }
+        ensures { result ≡ holds_x_on_all (state_of self.now) t.slot (locked_to_drop n (shape_of (state_of self.now).graph n)) }
+    {
+        if self.mode(t, n) != Mode::X {
+            return false;
+        }
+        match self.table.graph().file_of_index(n) {
+            Some(file) => self.mode(t, file) == Mode::X,
+            None => true,
+        }
+    }
+
+    /// The tests of an index that a transaction makes, but for the count and memory.
+    fn check_index_by(
+        &self,
+        t: TxnId,
+        parents: &[NodeId],
+        file: NodeId,
+        bounds: &[u64],
+    ) -> Result<(), Refusal>
+        ensures { result ≡ verdict (first_refusal (index_by_tests (state_of self.now) t parents.now file bounds.now)) }
+    {
+        if self.table.graph().worn() {
+            return Err(Refusal::WornOut);
+        }
+        self.check_active(t)?;
+        self.table.graph().check_index_place(parents, file)?;
+        if self.mode(t, file) != Mode::X {
+            return Err(Refusal::NeedExclusive);
+        }
+        self.check_writable(t, parents)?;
+        if self.table.graph().has_records(file) {
+            return Err(Refusal::FileInUse);
+        }
+        self.table.graph().check_index_bounds(bounds)
+    }
+}

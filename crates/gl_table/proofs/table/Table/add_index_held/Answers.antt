@@ -1,0 +1,91 @@
+use Rattle.gl_table.proofs.Words.{◌∙◌, ◌≡◌, Active, ap, AreExact, first_not_ix, graph_of, IsIndexBorn, NodeId, None, Option}
+use Rattle.gl_table.proofs.Words.{Refusal, Refuses, Some, State, state_in, state_of, status_of, subst, sym, TableView, view_of, with_grant, with_graph, X}
+use Rattle.gl_table.specs.declared.ledger.Ledger.{Ledger}
+use Rattle.gl_table.specs.declared.table.Table.TheInside.{Inside}
+use Rattle.gl_table.proofs.calls.Dropping.{index_lives, index_unawaited, index_unheld, stands_indexed, stands_placed_index, state_indexed}
+use Rattle.gl_table.proofs.calls.Records.{same_state, stands_roomy}
+use Rattle.gl_graph.specs.Refusals.{reindex_refusal}
+use Rattle.gl_table.proofs.calls.Stands.{MayStand, put}
+use Rattle.gl_table.proofs.table.Table.add_index_held.Goals.{After-add_index_unrefused, After-prepare}
+use Rattle.gl_table.proofs.table.Table.add_index_held.Goals as goal
+
+-- room was made
+
+then : (c : After-prepare) → MayStand c.self.inside c.self.inside.locks.graph c.prepare.new.self
+then c = stands_roomy c.self.inside c.self.invariant c.prepare.new.self c.prepare.ensures.kept
+
+pub invariant_of-self : goal.invariant_of-self
+invariant_of-self c = (then (goal.at.invariant_of-self c).After-prepare).safe
+
+pub invariant_of-locks : goal.invariant_of-locks
+invariant_of-locks c = (then (goal.at.invariant_of-locks c).After-prepare).law
+
+ready : (c : After-add_index_unrefused) → MayStand c.self.inside c.self.inside.locks.graph c.prepare.new.self
+ready c = stands_roomy c.self.inside c.self.invariant c.prepare.new.self c.prepare.ensures.kept
+
+abbrev roomy : After-add_index_unrefused → Inside
+roomy c = put c.self.inside c.self.inside.locks.graph c.prepare.new.self (ready c).law
+
+same : (c : After-add_index_unrefused) → state_of (view_of (roomy c)) ≡ state_of c.args.self.now
+same c = same_state c.self.inside c.self.invariant c.prepare.new.self c.prepare.ensures.kept ∙ ap (λ (v : TableView). state_of v) c.self.view_is
+
+-- memory alone stands against the record
+free : (c : After-add_index_unrefused) → reindex_refusal (graph_of c.self.inside.locks.graph) c.args.parents.now c.args.file c.args.bounds.now ≡ None
+free c = subst (λ (v : TableView). reindex_refusal (state_of v).graph c.args.parents.now c.args.file c.args.bounds.now ≡ None) (sym c.self.view_is) c.requires.free
+
+-- the graph was asked for the record
+asked : (c : After-add_index_unrefused) → MayStand (roomy c) c.add_index_unrefused.new.self c.prepare.new.self
+asked c =
+    stands_indexed (roomy c) (ready c).safe c.args.parents.now c.args.file c.args.bounds.now (free c) c.add_index_unrefused.new.self c.add_index_unrefused.result
+    (subst (λ (o : Option Refusal). Refuses o c.add_index_unrefused.result) (sym (free c)) c.add_index_unrefused.ensures.memory) c.add_index_unrefused.ensures.made
+    c.add_index_unrefused.ensures.err
+
+pub invariant_of-locks-in-Break-branch-2 : goal.invariant_of-locks-in-Break-branch-2
+invariant_of-locks-in-Break-branch-2 c = (asked (goal.at.invariant_of-locks-in-Break-branch-2 c).After-add_index_unrefused).law
+
+pub invariant_of-self-in_err-index : goal.invariant_of-self-in_err-index
+invariant_of-self-in_err-index c = (asked (goal.at.invariant_of-self-in_err-index c).After-add_index_unrefused).safe
+
+pub place-requires-clause-orderly : goal.place-requires-clause-orderly
+place-requires-clause-orderly c = (asked (goal.at.place-requires-clause-orderly c).After-add_index_unrefused).law.orderly
+
+pub place-requires-clause-exact : goal.place-requires-clause-exact
+place-requires-clause-exact c = let law = (asked (goal.at.place-requires-clause-exact c).After-add_index_unrefused).law in
+    record { sound = law.sound; agree = law.agree; count = law.count }
+
+pub place-requires-clause-live : goal.place-requires-clause-live
+place-requires-clause-live c = let at = (goal.at.place-requires-clause-live c).After-add_index_unrefused in
+    index_lives (roomy at) (ready at).safe c.args.parents.now c.args.file c.args.bounds.now (free at) c.add_index_unrefused.new.self c.in_ok-index.index c.in_ok-index.ensures.made
+
+pub place-requires-clause-unheld : goal.place-requires-clause-unheld
+place-requires-clause-unheld c = let at = (goal.at.place-requires-clause-unheld c).After-add_index_unrefused in
+    index_unheld (roomy at) (ready at).safe c.args.parents.now c.args.file c.args.bounds.now (free at) c.add_index_unrefused.new.self c.in_ok-index.index c.in_ok-index.ensures.made
+
+pub place-requires-clause-unawaited : goal.place-requires-clause-unawaited
+place-requires-clause-unawaited c = let at = (goal.at.place-requires-clause-unawaited c).After-add_index_unrefused in
+    index_unawaited (roomy at) (ready at).safe c.args.parents.now c.args.file c.args.bounds.now (free at) c.add_index_unrefused.new.self c.in_ok-index.index c.in_ok-index.ensures.made
+
+-- the slot holds it
+placed : (c : After-add_index_unrefused) (n : NodeId)
+    → IsIndexBorn (graph_of c.self.inside.locks.graph) (graph_of c.add_index_unrefused.new.self) n c.args.parents.now c.args.file c.args.bounds.now → (l : Ledger)
+    → state_in c.add_index_unrefused.new.self l ≡ with_grant (state_in c.add_index_unrefused.new.self c.prepare.new.self) c.args.t.slot n X
+    → AreExact c.add_index_unrefused.new.self l → MayStand (roomy c) c.add_index_unrefused.new.self l
+placed c n born l is exact =
+    stands_placed_index (roomy c) (ready c).safe c.args.parents.now c.args.file c.args.bounds.now (free c) c.add_index_unrefused.new.self n born
+    c.args.t.slot l is
+    (subst (λ (s : State). status_of s c.args.t.slot ≡ Some Active) (sym (same c)) c.requires.active)
+    (subst (λ (s : State). first_not_ix (s.held c.args.t.slot) c.args.parents.now ≡ None) (sym (same c)) c.requires.writable) exact
+
+pub invariant_of-self-2 : goal.invariant_of-self-2
+invariant_of-self-2 c = (placed (goal.at.invariant_of-self-2 c).After-add_index_unrefused c.in_ok-index.index c.in_ok-index.ensures.made c.place.new.self
+    c.place.ensures.state c.place.ensures.exact).safe
+
+pub invariant_of-locks-2 : goal.invariant_of-locks-2
+invariant_of-locks-2 c = (placed (goal.at.invariant_of-locks-2 c).After-add_index_unrefused c.in_ok-index.index c.in_ok-index.ensures.made c.place.new.self
+    c.place.ensures.state c.place.ensures.exact).law
+
+pub returns-clause-state : goal.returns-clause-state
+returns-clause-state c = let at = (goal.at.returns-clause-state c).After-add_index_unrefused in
+    state_indexed (roomy at) (ready at).safe c.args.parents.now c.args.file c.args.bounds.now (free at) c.add_index_unrefused.new.self c.in_ok-index.index c.in_ok-index.ensures.made
+    c.args.t.slot c.place.new.self c.place.ensures.state
+    ∙ ap (λ (s : State). with_grant (with_graph s (graph_of c.add_index_unrefused.new.self)) c.args.t.slot c.in_ok-index.index X) (same at)
