@@ -9,6 +9,7 @@ pub mod Completed
 pub mod Insertions
 pub mod Adopting
 pub mod Deletions
+pub mod Schemas
 pub mod Raising
 pub mod RunsOn
 pub mod MoveChecks

@@ -19,8 +19,7 @@ use Rattle.gl_catalog.specs.Manager.{state_of}
 use Rattle.gl_registry.specs.declared.row.Row.{Row}
 use Rattle.gl_registry.specs.Promises.{IsOwnInBoth, IsRegistry, KeepsOnRows, OwnKeys, effect_of, effect_on, of_node, reads_row, row_effect, writes_row}
 use Rattle.gl_registry.specs.Rows.{RegistryView, name_of}
-use Rattle.gl_registry.proofs.KeptIndexes.{KeepsIndexes}
-use Rattle.gl_registry.proofs.KeptRows.{row_more, row_same}
+use Rattle.gl_registry.proofs.KeptRows.{SameParents, row_more, row_same}
 use Rattle.gl_registry.proofs.NameChanges.{KeepsNames, record_live}
 use Rattle.gl_registry.proofs.NodeRows.{node_effect, or_off}
 use Rattle.gl_registry.proofs.RowEffects.{as_great, reads_at, writes_at}
@@ -88,9 +87,9 @@ module _ (v : RegistryView) (is : IsRegistry v) (t : ℕ) (row : Row) (keys : Li
     named_lives : is_live st.graph n ≡ true
     named_lives = record_live st.graph n (is.names.well.stands row n named).0
 
--- two registries: t keeps its locks, what stands its effective modes, a file its indexes, and a node that lives before and after the row that it names
+-- two registries: t keeps its locks, what stands its effective modes, a row its parents, and a node that lives before and after the row that it names
 module _ (v v' : RegistryView) (t : TxnId) (granted : Bool) (is : IsRegistry v) (is' : IsRegistry v')
-    (over : KeepsOver (state_of v.manager) (state_of v'.manager) t granted) (indexes : KeepsIndexes (state_of v.manager).graph (state_of v'.manager).graph)
+    (over : KeepsOver (state_of v.manager) (state_of v'.manager) t granted) (parents : (f : NodeId) → SameParents (state_of v.manager) (state_of v'.manager) f)
     (names : KeepsNames (name_of v.rows) (name_of v'.rows) (state_of v.manager).graph (state_of v'.manager).graph) where
   abbrev s : State
   s = state_of v.manager
@@ -178,7 +177,7 @@ module _ (v v' : RegistryView) (t : TxnId) (granted : Bool) (is : IsRegistry v) 
             on_node v' is' t.slot row keys own.still_own k.node k.behind
             ∙ over.same quiet k.node (lives_before k.node k.before) (lives_behind k.node k.behind)
             ∙ sym (on_node v is t.slot row keys own.own k.node k.before)
-        by (inr c) = behind_row quiet c ∙ row_same s s' is.law is'.law indexes row.file keys own.rows t.slot (over.same quiet) ∙ sym (before_row c)
+        by (inr c) = behind_row quiet c ∙ row_same s s' is.law is'.law row.file (parents row.file) keys own.rows t.slot (over.same quiet) ∙ sym (before_row c)
 
     more_on : is_at_least_effect on_v' on_v ≡ true
     more_on = by found
@@ -189,7 +188,7 @@ module _ (v v' : RegistryView) (t : TxnId) (granted : Bool) (is : IsRegistry v) 
             ∙ over.greater k.node (lives_before k.node k.before) (lives_behind k.node k.behind)
         by (inr c) =
             as_great on_v' by_s' on_v behind_more
-            (ap (is_at_least_effect by_s') (before_row c) ∙ row_more s s' is.law is'.law indexes row.file keys own.rows t.slot over.greater)
+            (ap (is_at_least_effect by_s') (before_row c) ∙ row_more s s' is.law is'.law row.file (parents row.file) keys own.rows t.slot over.greater)
 
   pub keeps_on_rows : KeepsOnRows v v' t granted
   keeps_on_rows = record { same = λ quiet row keys own. same_on row keys own quiet; greater = more_on }

@@ -7,18 +7,22 @@ use Rattle.gl_model.specs.Lawful.{IsLawful, effective, is_at_least_effect}
 use Rattle.gl_model.specs.State.{State}
 use Rattle.gl_steps.proofs.OthersKeep.{run_keeps}
 use Rattle.gl_steps.proofs.StepsKeepLaw.{runs_keep_law}
-use Rattle.gl_registry.proofs.KeptIndexes.{KeepsIndexes, same_parents}
+use Rattle.gl_registry.proofs.KeptIndexes.{same_parents}
 use Rattle.gl_registry.proofs.RowEffects.{OfEach, effect_under, row_parents_live, under_more, under_same}
 use Rattle.gl_registry.proofs.RunsKeepIndexes.{run_keeps as run_keeps_indexes}
-use Rattle.gl_registry.specs.Promises.{IsRowInBoth, OthersKeepRowEffects, row_effect}
+use Rattle.gl_registry.specs.Promises.{IsRow, IsRowInBoth, OthersKeepRowEffects, row_effect}
 
-module _ (s s' : State) (law : IsLawful s) (law' : IsLawful s') (kept : KeepsIndexes s.graph s'.graph)
-    (f : NodeId) (keys : List ℕ) (rows : IsRowInBoth s s' f keys) where
+-- in both a file and its keys that are a row lie below the same nodes
+abbrev pub SameParents : State → State → NodeId → Type 0
+SameParents s s' f = (keys : List ℕ) → IsRow s.graph f keys → IsRow s'.graph f keys → record_parents s'.graph f keys ≡ record_parents s.graph f keys
+
+module _ (s s' : State) (law : IsLawful s) (law' : IsLawful s') (f : NodeId) (kept : SameParents s s' f)
+    (keys : List ℕ) (rows : IsRowInBoth s s' f keys) where
   abbrev parents : List NodeId
   parents = record_parents s.graph f keys
 
   parents_same : record_parents s'.graph f keys ≡ parents
-  parents_same = same_parents s.graph s'.graph kept f keys rows.0 rows.1
+  parents_same = kept keys rows.0 rows.1
 
   live_before : OfEach parents (λ p. is_live s.graph p ≡ true)
   live_before = row_parents_live s.graph law.graph f keys rows.0
@@ -40,11 +44,11 @@ module _ (s s' : State) (law : IsLawful s) (law' : IsLawful s') (kept : KeepsInd
       ∙ under_more (effective s' t) (effective s t) parents (λ p on. more p (live_before p on) (live_after p on))
 
 pub others_keep_row_effects : OthersKeepRowEffects
-others_keep_row_effects s s' cs rs t law run alive apart =
+others_keep_row_effects s s' cs rs t f law run alive apart stays =
     let law' = runs_keep_law s s' cs rs law run in
-    let stay = run_keeps cs rs s s' t law run alive apart in
-    let indexes = run_keeps_indexes cs rs s s' law run in
+    let keeps = run_keeps cs rs s s' t law run alive apart in
+    let parents = same_parents s.graph s'.graph f (run_keeps_indexes cs rs s s' f law stays run) in
     record {
-      same = λ quiet f keys rows. row_same s s' law law' indexes f keys rows t.slot (stay.same quiet);
-      greater = λ f keys rows. row_more s s' law law' indexes f keys rows t.slot stay.greater;
+      same = λ quiet keys rows. row_same s s' law law' f parents keys rows t.slot (keeps.same quiet);
+      greater = λ keys rows. row_more s s' law law' f parents keys rows t.slot keeps.greater;
     }

@@ -11,17 +11,20 @@ mod RowLocks
 mod RowNames
 mod SlotSets
 mod Touched
+pub mod Dropped
 mod Forgets
 -- what they are to those who wait: their own commands, among records that come and go
 pub mod Upkeep
 mod CarriedOut
 -- indexes stay
 pub mod KeptIndexes
+pub mod DroppedIndexes
 pub mod RunsKeepIndexes
 -- effective modes on rows
 pub mod RowEffects
 pub mod StandingRows
 pub mod KeptRows
+pub mod StandingIndexes
 pub mod NodeRows
 -- what others leave of them, whatever a registry serves
 mod NamesStay

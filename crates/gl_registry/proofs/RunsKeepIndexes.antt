@@ -1,7 +1,8 @@
--- Each step of each command keeps indexes and their intervals, and so does each run.
-use Rattle.std.specs.Prelude.{◌≡◌, ◌≢◌, ℕ, suc, List, [], ◌∷◌, None}
-use Rattle.std.proofs.Common.{sym, ap, ◌∙◌, subst, arith}
-use Rattle.gl_modes.proofs.Words.{split}
+-- Each step keeps the indexes of a file and their intervals, and so does each run, where no index that the file has is dropped.
+use Rattle.std.specs.Prelude.{◌≡◌, ◌≢◌, ℕ, suc, Bool, true, false, List, [], ◌∷◌, None}
+use Rattle.std.specs.List.{list_any}
+use Rattle.std.proofs.Common.{refl, sym, ap, ◌∙◌, subst, arith}
+use Rattle.gl_modes.proofs.Words.{no, split}
 use Rattle.gl_modes.specs.declared.mode.Mode.{Mode}
 use Rattle.gl_modes.specs.declared.node.NodeId.{NodeId}
 use Rattle.gl_graph.specs.Changes.{IsBorn, IsIndexBorn, born_node}
@@ -9,7 +10,7 @@ use Rattle.gl_graph.specs.Graph.{Graph, Node, record_parents}
 use Rattle.gl_graph.specs.Lawful.{IsLawfulGraph}
 use Rattle.gl_graph.specs.Shapes.{Rec, Shape}
 use Rattle.gl_graph.proofs.NewIndex.{ns}
-use Rattle.gl_graph.proofs.Unrefused.{not_false, test_fails}
+use Rattle.gl_graph.proofs.Unrefused.{not_false, or_no, test_fails}
 use Rattle.gl_model.specs.Calls.{WaitSettles, enqueued, enters_at, wanted}
 use Rattle.gl_model.specs.Lawful.{IsLawful}
 use Rattle.gl_model.specs.State.{State}
@@ -26,26 +27,33 @@ use Rattle.gl_steps.proofs.MoveCommands.{move_moves, rekey_moves}
 use Rattle.gl_steps.proofs.OneStep.{all_none}
 use Rattle.gl_steps.proofs.OtherChanges.{enqueued_follows, settled_follows, wait_settles_follows}
 use Rattle.gl_steps.proofs.RowKeeps.{may_forget}
+use Rattle.gl_steps.proofs.SchemaKeeps.{may_drop}
 use Rattle.gl_steps.proofs.StepsKeepLaw.{steps_keep_law}
-use Rattle.gl_registry.proofs.KeptIndexes.{KeepsIndexes, born_keeps, changed_keeps, keeps_itself, keeps_trans, marked_keeps, removed_keeps}
+use Rattle.gl_registry.specs.Promises.{IsRow, drops_index_of}
+use Rattle.gl_registry.proofs.DroppedIndexes.{dropped_keeps, dropped_parents}
+use Rattle.gl_registry.proofs.KeptIndexes.{KeepsIndexes, born_keeps, changed_keeps, keeps_itself, keeps_trans, marked_keeps, removed_keeps, same_parents}
+
+-- so it is of each file
+abbrev pub KeepsAll : Graph → Graph → Type 0
+KeepsAll g g' = (f : NodeId) → KeepsIndexes g g' f
 
 -- the same graph
-same_keeps : (g g' : Graph) → g' ≡ g → KeepsIndexes g g'
-same_keeps g g' e = subst (KeepsIndexes g) (sym e) (keeps_itself g)
+same_keeps : (g g' : Graph) → g' ≡ g → KeepsAll g g'
+same_keeps g g' e f = subst (λ x. KeepsIndexes g x f) (sym e) (keeps_itself g f)
 
 -- a node is born
-one_keeps : (g g' : Graph) → IsLawfulGraph g → {n : NodeId} {shape : Shape} {ps : List NodeId} → IsBorn g g' n shape ps → KeepsIndexes g g'
+one_keeps : (g g' : Graph) → IsLawfulGraph g → {n : NodeId} {shape : Shape} {ps : List NodeId} → IsBorn g g' n shape ps → KeepsAll g g'
 one_keeps g g' law {n = n} {shape = shape} {ps = ps} born =
-    subst (KeepsIndexes g) (sym born.after) (born_keeps g law (record { key = n.key; shape = shape; parents = ps } ∷ []))
+    subst (KeepsAll g) (sym born.after) (born_keeps g law (record { key = n.key; shape = shape; parents = ps } ∷ []))
 
 -- an index is born, and its intervals
-index_keeps : (g g' : Graph) → IsLawfulGraph g → {n : NodeId} {ps : List NodeId} {f : NodeId} {bs : List ℕ} → IsIndexBorn g g' n ps f bs → KeepsIndexes g g'
+index_keeps : (g g' : Graph) → IsLawfulGraph g → {n : NodeId} {ps : List NodeId} {f : NodeId} {bs : List ℕ} → IsIndexBorn g g' n ps f bs → KeepsAll g g'
 index_keeps g g' law {n = n} {ps = ps} {f = f} {bs = bs} born =
-    subst (KeepsIndexes g) (sym born.after) (born_keeps g law (ns g law n.key ps f bs born.interval_keys))
+    subst (KeepsAll g) (sym born.after) (born_keeps g law (ns g law n.key ps f bs born.interval_keys))
 
 -- a node moves, or a record has another key
-moves_keeps : (s : State) → IsLawful s → (t : ℕ) (n : NodeId) (was is : Node) (g' : Graph) → Moves s t n was is g' → KeepsIndexes s.graph g'
-moves_keeps s law t n was is g' m = subst (KeepsIndexes s.graph) m.graph (changed_keeps s.graph law.graph n was is m.there m.key m.alike)
+moves_keeps : (s : State) → IsLawful s → (t : ℕ) (n : NodeId) (was is : Node) (g' : Graph) → Moves s t n was is g' → KeepsAll s.graph g'
+moves_keeps s law t n was is g' m = subst (KeepsAll s.graph) m.graph (changed_keeps s.graph law.graph n was is m.there m.key m.alike)
 
 another : (t : ℕ) → t ≢ suc t
 another t e = absurd (omega arith)
@@ -56,55 +64,92 @@ wait_graph s s' law t n m settles =
     let queued = enqueued_follows s t (suc t) n m (another t) (lawful_waits s law (suc t)) in
     (wait_settles_follows s.detect s.victims (enqueued s t n m) t s' (suc t) settles queued.well).graph ∙ queued.graph
 
--- each command that is accepted
-accepted_keeps : (s : State) → IsLawful s → (c : Command) (a : Answer) (told : Told) (s' : State) → refusal_of s c ≡ None → Accepts s c a told s'
-    → KeepsIndexes s.graph s'.graph
-accepted_keeps s law (command.Inner ps) a told s' free acc = one_keeps s.graph s'.graph law.graph acc.1
-accepted_keeps s law (command.File ps) a told s' free acc = one_keeps s.graph s'.graph law.graph acc.1
-accepted_keeps s law (command.Index ps f bs) a told s' free acc = index_keeps s.graph s'.graph law.graph acc.1
-accepted_keeps s law (command.Insert t f keys) a told s' free acc = one_keeps s.graph s'.graph law.graph acc.1
-accepted_keeps s law (command.Adopt f keys) a told s' free acc =
+-- the command drops a node
+abbrev pub is_drop : Command → Bool
+is_drop (command.Drop t n) = true
+is_drop c = false
+
+-- each command that is accepted, but a drop
+pub accepted_keeps : (s : State) → IsLawful s → (c : Command) (a : Answer) (told : Told) (s' : State) → is_drop c ≡ false → refusal_of s c ≡ None
+    → Accepts s c a told s' → KeepsAll s.graph s'.graph
+accepted_keeps s law (command.Inner ps) a told s' stays free acc = one_keeps s.graph s'.graph law.graph acc.1
+accepted_keeps s law (command.File ps) a told s' stays free acc = one_keeps s.graph s'.graph law.graph acc.1
+accepted_keeps s law (command.Index ps f bs) a told s' stays free acc = index_keeps s.graph s'.graph law.graph acc.1
+accepted_keeps s law (command.Insert t f keys) a told s' stays free acc = one_keeps s.graph s'.graph law.graph acc.1
+accepted_keeps s law (command.Adopt f keys) a told s' stays free acc =
     let row : Node = record { key = acc.0.key; shape = Rec keys.now; parents = record_parents s.graph f keys.now } in
-    subst (KeepsIndexes s.graph) (sym acc.1.after)
-    (keeps_trans s.graph (born_node s.graph row) _ (born_keeps s.graph law.graph (row ∷ [])) (marked_keeps (born_node s.graph row) f))
-accepted_keeps s law (command.Forget r) a told s' free acc =
-    subst (KeepsIndexes s.graph) (sym (ap (λ z. z.graph) acc.2)) (removed_keeps s.graph law.graph r (may_forget s r free).rec)
-accepted_keeps s law (command.Delete t r) a told s' free acc =
+    subst (KeepsAll s.graph) (sym acc.1.after)
+    (λ x. keeps_trans s.graph (born_node s.graph row) _ x law.graph (born_keeps s.graph law.graph (row ∷ []) x) (marked_keeps (born_node s.graph row) f x))
+accepted_keeps s law (command.Forget r) a told s' stays free acc =
+    subst (KeepsAll s.graph) (sym (ap (λ z. z.graph) acc.2)) (removed_keeps s.graph law.graph r (may_forget s r free).rec)
+accepted_keeps s law (command.Delete t r) a told s' stays free acc =
     let passed = all_none (tests_of s (command.Delete t r)) free in
-    subst (KeepsIndexes s.graph) (sym (ap (λ z. z.graph) acc.2))
+    subst (KeepsAll s.graph) (sym (ap (λ z. z.graph) acc.2))
     (removed_keeps s.graph law.graph r (not_false _ (test_fails _ _ passed.1.1.1.1.1.0)))
-accepted_keeps s law (command.Rekey t r i key) a told s' free acc =
+accepted_keeps s law (command.Rekey t r i key) a told s' stays free acc =
     let m = rekey_moves s law t r i key free in
-    subst (KeepsIndexes s.graph) (sym (ap (λ z. z.graph) acc.2)) (moves_keeps s law t.slot r m.0 _ _ m.1)
-accepted_keeps s law (command.Move t n ps) a told s' free acc =
+    subst (KeepsAll s.graph) (sym (ap (λ z. z.graph) acc.2)) (moves_keeps s law t.slot r m.0 _ _ m.1)
+accepted_keeps s law (command.Move t n ps) a told s' stays free acc =
     let m = move_moves s law t n ps free in
-    subst (KeepsIndexes s.graph) (sym (ap (λ z. z.graph) acc.2)) (moves_keeps s law t.slot n m.0 _ _ m.1)
-accepted_keeps s law command.Begin a told s' free acc = same_keeps s.graph s'.graph (ap (λ z. z.graph) acc.4)
-accepted_keeps s law (command.Lock t n m) a told s' free acc =
+    subst (KeepsAll s.graph) (sym (ap (λ z. z.graph) acc.2)) (moves_keeps s law t.slot n m.0 _ _ m.1)
+accepted_keeps s law command.Begin a told s' stays free acc = same_keeps s.graph s'.graph (ap (λ z. z.graph) acc.4)
+accepted_keeps s law (command.Lock t n m) a told s' stays free acc =
     same_keeps s.graph s'.graph (split (enters_at s t.slot n m) (λ e. ap (λ z. z.graph) (acc.0.at_once e))
     (λ e. wait_graph s s' law t.slot n (wanted s t.slot n m) (acc.0.waits e)))
-accepted_keeps s law (command.Try t n m) a told s' free acc = same_keeps s.graph s'.graph (ap (λ z. z.graph) acc.2)
-accepted_keeps s law (command.Unlock t n) a told s' free acc = same_keeps s.graph s'.graph (ap (λ z. z.graph) acc.2)
-accepted_keeps s law (command.Escalate t n) a told s' free acc = same_keeps s.graph s'.graph (ap (λ z. z.graph) acc.2)
-accepted_keeps s law (command.Cancel t) a told s' free acc = same_keeps s.graph s'.graph (ap (λ z. z.graph) acc.2)
-accepted_keeps s law (command.Commit t) a told s' free acc = same_keeps s.graph s'.graph (ap (λ z. z.graph) acc.2)
-accepted_keeps s law (command.Abort t) a told s' free acc = same_keeps s.graph s'.graph (ap (λ z. z.graph) acc.2)
-accepted_keeps s law (command.Settle t) a told s' free acc =
+accepted_keeps s law (command.Try t n m) a told s' stays free acc = same_keeps s.graph s'.graph (ap (λ z. z.graph) acc.2)
+accepted_keeps s law (command.Unlock t n) a told s' stays free acc = same_keeps s.graph s'.graph (ap (λ z. z.graph) acc.2)
+accepted_keeps s law (command.Escalate t n) a told s' stays free acc = same_keeps s.graph s'.graph (ap (λ z. z.graph) acc.2)
+accepted_keeps s law (command.Cancel t) a told s' stays free acc = same_keeps s.graph s'.graph (ap (λ z. z.graph) acc.2)
+accepted_keeps s law (command.Commit t) a told s' stays free acc = same_keeps s.graph s'.graph (ap (λ z. z.graph) acc.2)
+accepted_keeps s law (command.Abort t) a told s' stays free acc = same_keeps s.graph s'.graph (ap (λ z. z.graph) acc.2)
+accepted_keeps s law (command.Settle t) a told s' stays free acc =
     same_keeps s.graph s'.graph (settled_follows s.victims s t.slot s' t.slot acc.2 (lawful_waits s law t.slot)).graph
-accepted_keeps s law (command.Group n) a told s' free acc = absurd acc
-accepted_keeps s law (command.Held t n) a told s' free acc = absurd acc
-accepted_keeps s law (command.Effective t n) a told s' free acc = absurd acc
+accepted_keeps s law (command.Group n) a told s' stays free acc = absurd acc
+accepted_keeps s law (command.Held t n) a told s' stays free acc = absurd acc
+accepted_keeps s law (command.Effective t n) a told s' stays free acc = absurd acc
+accepted_keeps s law (command.IndexBy t ps f bs) a told s' stays free acc = index_keeps s.graph s'.graph law.graph acc.1
+accepted_keeps s law (command.Drop t n) a told s' stays free acc = absurd (no (sym stays))
 
-step_keeps : (s s' : State) (c : Command) (a : Answer) (told : Told) → IsLawful s → Step s c a told s' → KeepsIndexes s.graph s'.graph
-step_keeps s s' c a told law step =
-    each_step (λ x. KeepsIndexes s.graph x.graph) s c a told s' (keeps_itself s.graph) (λ next kept. kept)
-    (λ free next acc. accepted_keeps s law c a told next free acc) step
+-- of one file, whose indexes were kept since g: also a drop, where what goes was none of them
+accepted_since : (g : Graph) (f : NodeId) → IsLawfulGraph g → (s : State) → IsLawful s → KeepsIndexes g s.graph f → (c : Command) (a : Answer) (told : Told)
+    (s' : State) → drops_index_of g f c ≡ false → refusal_of s c ≡ None → Accepts s c a told s' → KeepsIndexes g s'.graph f
+accepted_since g f law' s law kept (command.Drop t n) a told s' stays free acc =
+    let may = may_drop s t n free in
+    subst (λ x. KeepsIndexes g x f) (sym (ap (λ z. z.graph) acc.2)) (dropped_keeps s.graph law.graph n may.movable may.free g f law' kept stays)
+accepted_since g f law' s law kept c a told s' stays free acc =
+    keeps_trans g s.graph s'.graph f law' kept (accepted_keeps s law c a told s' refl free acc f)
+
+step_since : (g : Graph) (f : NodeId) → IsLawfulGraph g → (s s' : State) (c : Command) (a : Answer) (told : Told) → IsLawful s → KeepsIndexes g s.graph f
+    → drops_index_of g f c ≡ false → Step s c a told s' → KeepsIndexes g s'.graph f
+step_since g f law' s s' c a told law kept stays step =
+    each_step (λ x. KeepsIndexes g x.graph f) s c a told s' kept (λ next k. k)
+    (λ free next acc. accepted_since g f law' s law kept c a told next stays free acc) step
 
 -- step by step, since each state of the run is lawful
-pub run_keeps : (cs : List Command) (rs : List (Answer × Told)) (s s' : State) → IsLawful s → Run s cs rs s' → KeepsIndexes s.graph s'.graph
-run_keeps [] [] s s' law run = same_keeps s.graph s'.graph (ap (λ x. x.graph) run)
-run_keeps [] (r ∷ rs) s s' law run = absurd run
-run_keeps (c ∷ cs) [] s s' law run = absurd run
-run_keeps (c ∷ cs) (r ∷ rs) s s' law run =
-    let law' = steps_keep_law s run.0 c r.0 r.1 law run.1 in
-    keeps_trans s.graph run.0.graph s'.graph (step_keeps s run.0 c r.0 r.1 law run.1) (run_keeps cs rs run.0 s' law' run.2)
+run_since : (g : Graph) (f : NodeId) → IsLawfulGraph g → (cs : List Command) (rs : List (Answer × Told)) (s s' : State) → IsLawful s
+    → KeepsIndexes g s.graph f → list_any (drops_index_of g f) cs ≡ false → Run s cs rs s' → KeepsIndexes g s'.graph f
+run_since g f law' [] [] s s' law kept stays run = subst (λ (x : State). KeepsIndexes g x.graph f) (sym run) kept
+run_since g f law' [] (r ∷ rs) s s' law kept stays run = absurd run
+run_since g f law' (c ∷ cs) [] s s' law kept stays run = absurd run
+run_since g f law' (c ∷ cs) (r ∷ rs) s s' law kept stays run =
+    let each = or_no (drops_index_of g f c) (list_any (drops_index_of g f) cs) stays in
+    run_since g f law' cs rs run.0 s' (steps_keep_law s run.0 c r.0 r.1 law run.1) (step_since g f law' s run.0 c r.0 r.1 law kept each.0 run.1) each.1 run.2
+
+pub run_keeps : (cs : List Command) (rs : List (Answer × Told)) (s s' : State) (f : NodeId) → IsLawful s → list_any (drops_index_of s.graph f) cs ≡ false
+    → Run s cs rs s' → KeepsIndexes s.graph s'.graph f
+run_keeps cs rs s s' f law stays run = run_since s.graph f law.graph cs rs s s' law (keeps_itself s.graph f) stays run
+
+-- a row in the states before and after one step lies below the same nodes, whatever the command
+pub step_parents : (s s' : State) (c : Command) (a : Answer) (told : Told) → IsLawful s → Step s c a told s' → (f : NodeId) (keys : List ℕ)
+    → IsRow s.graph f keys → IsRow s'.graph f keys → record_parents s'.graph f keys ≡ record_parents s.graph f keys
+step_parents s s' c a told law step f keys =
+    each_step (λ x. IsRow s.graph f keys → IsRow x.graph f keys → record_parents x.graph f keys ≡ record_parents s.graph f keys) s c a told s'
+    (λ row row'. refl) (λ next kept. kept) (λ free next acc. by c free next acc) step
+  where
+    by : (c : Command) → refusal_of s c ≡ None → (next : State) → Accepts s c a told next → IsRow s.graph f keys → IsRow next.graph f keys
+        → record_parents next.graph f keys ≡ record_parents s.graph f keys
+    by (command.Drop t n) free next acc =
+        let may = may_drop s t n free in
+        subst (λ (x : Graph). IsRow s.graph f keys → IsRow x f keys → record_parents x f keys ≡ record_parents s.graph f keys)
+        (sym (ap (λ z. z.graph) acc.2)) (dropped_parents s.graph law.graph n may.movable may.free f keys)
+    by c free next acc = same_parents s.graph next.graph f (accepted_keeps s law c a told next refl free acc f) keys

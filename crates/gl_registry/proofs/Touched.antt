@@ -2,15 +2,17 @@
 use Rattle.std.specs.Prelude.{◌≡◌, ◌&&◌, ◌||◌, ◌==◌, ℕ, zero, suc, Bool, true, false, not, List, [], ◌∷◌, Option, None, Some, is_some, if◌then◌else◌}
 use Rattle.std.proofs.Common.{refl, rules, sym, ap, subst, ◌∙◌}
 use denote.Bor.{Bor}
-use Rattle.gl_modes.proofs.Words.{and_both, clash, no as never, none_some, same_number, some_is, split}
+use Rattle.gl_modes.proofs.NodeLemmas.{same_node-equal}
+use Rattle.gl_modes.proofs.Words.{and_both, clash, no as never, none_some, not_true, same_number, some_is, split}
 use Rattle.gl_modes.specs.declared.node.NodeId.{NodeId}
 use Rattle.gl_graph.specs.Changes.{IsBorn, IsIndexBorn, born_node, born_nodes, marked, rekeyed, rekeyed_keys, rekeyed_node, rekeyed_parents}
-use Rattle.gl_graph.specs.Changes.{with_node, without_node}
+use Rattle.gl_graph.specs.Changes.{with_node, without_branch, without_node}
 use Rattle.gl_graph.specs.Graph.{Graph, Node, first_in, first_parent, is_live, node_at, parents_in, record_parents, shape_in, shape_of, with_key}
 use Rattle.gl_graph.specs.Lawful.{IsLawfulGraph}
-use Rattle.gl_graph.specs.Refusals.{bad_parents, some_no_node, where_true}
+use Rattle.gl_graph.specs.Refusals.{bad_parents, is_in_use, some_no_node, where_true}
 use Rattle.gl_graph.specs.Shapes.{Rec, Shape, is_index_of_shape, is_movable_shape, is_record_shape, least_parents}
 use Rattle.gl_graph.proofs.Born.{old_or_new, old_same, place_in}
+use Rattle.gl_graph.proofs.Branch.{children_are, is_interval_shape, left_is, live, movable_no_record, stays_left}
 use Rattle.gl_graph.proofs.Changed.{at_here, at_other}
 use Rattle.gl_graph.proofs.Look.{one_birth}
 use Rattle.gl_graph.proofs.Marked.{marked_first_parent, marked_record}
@@ -34,6 +36,7 @@ use Rattle.gl_steps.proofs.MoveCommands.{move_moves}
 use Rattle.gl_steps.proofs.OneStep.{all_none}
 use Rattle.gl_steps.proofs.OtherChanges.{settled_follows}
 use Rattle.gl_steps.proofs.RowKeeps.{may_forget}
+use Rattle.gl_steps.proofs.SchemaKeeps.{may_drop}
 use Rattle.gl_registry.specs.Names.{NamesHold}
 use Rattle.gl_registry.specs.Rows.{RegistryView, has_rows, name_of}
 use Rattle.gl_registry.specs.Serving.{touches_rows}
@@ -166,6 +169,23 @@ module _ (has : NodeId → Bool) where
         (sym (ap (λ o. is_record_shape (shape_in o)) at) ∙ q_rec, ap (λ o. first_in (parents_in o)) at);
   }
 
+  -- a node goes with its intervals
+  branch_same : (g : Graph) → IsLawfulGraph g → (n : NodeId) → is_movable_shape (shape_of g n) ≡ true → is_in_use g n ≡ false → Same g (without_branch g n)
+  branch_same g law n movable free = record {
+    on = λ q rec of.
+        let at = stays_left g n (live g law n movable free) q (record_live g q rec)
+        (not_true _ (λ same. clash (ap (λ x. is_record_shape (shape_of g x)) (same_node-equal n q same) ∙ rec) (movable_no_record (shape_of g n) movable)))
+        (not_true _ (λ child. clash rec (no_record (shape_of g q) (children_are g law n movable free q child).1))) in
+        (ap (λ o. is_record_shape (shape_in o)) at ∙ rec, ap (λ o. first_in (parents_in o)) at);
+    back = λ q rec of.
+        let at = left_is g n q (shape_live (node_at (without_branch g n) q) rec) in
+        (sym (ap (λ o. is_record_shape (shape_in o)) at) ∙ rec, ap (λ o. first_in (parents_in o)) at);
+  }
+    where
+      no_record : (o : Option Shape) → is_interval_shape o ≡ true → is_record_shape o ≡ false
+      no_record (Some (Rec keys)) h = absurd (never h)
+      no_record o h = refl
+
   -- a record gets other keys
   pub rekeyed_stays : (g : Graph) → IsLawfulGraph g → (r i : NodeId) (key : ℕ) → is_record_shape (shape_of g r) ≡ true → Same g (rekeyed g r i key)
   rekeyed_stays g law r i key rec = record {
@@ -255,6 +275,10 @@ module _ (v : RegistryView) (law : IsLawful (state_of v.manager)) where
   accepted_same (command.Group n) a told s' off free acc = absurd acc
   accepted_same (command.Held t n) a told s' off free acc = absurd acc
   accepted_same (command.Effective t n) a told s' off free acc = absurd acc
+  accepted_same (command.IndexBy t parents f bounds) a told s' off free acc = index_same has s.graph s'.graph law.graph acc.1
+  accepted_same (command.Drop t n) a told s' off free acc =
+      let may = may_drop s t n free in
+      subst (SameRecords has s.graph) (sym (ap (λ (z : State). z.graph) acc.2)) (branch_same has s.graph law.graph n may.movable may.free)
 
   -- so the law of names stays
   pub untouched_keeps : (s' : State) (c : Command) (a : Answer) (told : Told) → touches_rows v c ≡ false → Step s c a told s' → NamesHold v.rows s.graph

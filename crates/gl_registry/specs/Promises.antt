@@ -1,11 +1,11 @@
 -- What is promised of rows: of a file and a key for each of its indexes, whether or not a record stands for them.
-use Rattle.std.specs.Prelude.{◌≡◌, ◌≢◌, ◌||◌, ℕ, Bool, true, false, List, Option, Some, None, Result, length, if◌then◌else◌}
+use Rattle.std.specs.Prelude.{◌≡◌, ◌≢◌, ◌||◌, ℕ, Bool, true, false, List, ◌∷◌, Option, Some, None, Result, length, if◌then◌else◌}
 use Rattle.std.specs.List.{list_all, list_any}
 use Rattle.gl_modes.specs.declared.mode.Mode.TheVariants.{NL}
 use Rattle.gl_modes.specs.declared.node.NodeId.{NodeId}
 use Rattle.gl_modes.specs.declared.refusal.Refusal.{Refusal}
-use Rattle.gl_graph.specs.Graph.{Graph, first_parent, indexes_of, record_parents, shape_of}
-use Rattle.gl_graph.specs.Shapes.{is_file_shape, is_record_shape, keys_in}
+use Rattle.gl_graph.specs.Graph.{Graph, first_parent, indexes_of, intervals_of, record_parents, shape_of}
+use Rattle.gl_graph.specs.Shapes.{is_file_shape, is_index_of_shape, is_record_shape, keys_in}
 use Rattle.gl_model.specs.declared.answers.Effect.{Effect}
 use Rattle.gl_model.specs.declared.answers.Effect.TheVariants as effect
 use Rattle.gl_model.specs.declared.txn.TxnId.{TxnId}
@@ -14,6 +14,7 @@ use Rattle.gl_model.specs.State.{State, lives}
 use Rattle.gl_model.specs.Tellings.{Told}
 use Rattle.gl_steps.specs.declared.command.Answer.{Answer}
 use Rattle.gl_steps.specs.declared.command.Command.{Command}
+use Rattle.gl_steps.specs.declared.command.Command.TheVariants as command
 use Rattle.gl_catalog.specs.declared.manager.paths.Reached.{Reached}
 use Rattle.gl_steps.specs.Promises.{is_grant_to, names, same_txn, told_granted}
 use Rattle.gl_catalog.specs.Manager.{state_of}
@@ -96,16 +97,47 @@ RecordsHaveRowEffects =
 abbrev pub IsRowInBoth : State → State → NodeId → List ℕ → Type 0
 IsRowInBoth s s' f keys = IsRow s.graph f keys × IsRow s'.graph f keys
 
--- t's effective mode on every such row is the same, or the same or greater where t was told of a grant
-pub record KeepsRowEffects (s s' : State) (t : TxnId) (granted : Bool) : Type 0 where
-  pub same : granted ≡ false → (f : NodeId) (keys : List ℕ) → IsRowInBoth s s' f keys → row_effect s' t.slot f keys ≡ row_effect s t.slot f keys
-  pub greater : (f : NodeId) (keys : List ℕ) → IsRowInBoth s s' f keys → is_at_least_effect (row_effect s' t.slot f keys) (row_effect s t.slot f keys) ≡ true
+-- t's effective mode on every such row of f is the same, or the same or greater where t was told of a grant
+pub record KeepsRowEffects (s s' : State) (t : TxnId) (f : NodeId) (granted : Bool) : Type 0 where
+  pub same : granted ≡ false → (keys : List ℕ) → IsRowInBoth s s' f keys → row_effect s' t.slot f keys ≡ row_effect s t.slot f keys
+  pub greater : (keys : List ℕ) → IsRowInBoth s s' f keys → is_at_least_effect (row_effect s' t.slot f keys) (row_effect s t.slot f keys) ≡ true
 
--- over a run that does not name t, its effective modes on rows stay, or grow where it was told of a grant (own)
+-- the command drops one of the indexes of the file f in g
+abbrev pub drops_index_of : Graph → NodeId → Command → Bool
+drops_index_of g f (command.Drop t n) = is_index_of_shape f (shape_of g n)
+drops_index_of g f c = false
+
+-- over a run that does not name t, and in which no index is dropped that the file has, its effective modes on rows of the file stay, or grow where it was
+-- told of a grant (own)
 abbrev pub OthersKeepRowEffects : Type 0
 OthersKeepRowEffects =
+    (s s' : State) (cs : List Command) (rs : List (Answer × Told)) (t : TxnId) (f : NodeId) → IsLawful s → Run s cs rs s' → lives s t ≡ true
+    → list_any (names t) cs ≡ false → list_any (drops_index_of s.graph f) cs ≡ false → KeepsRowEffects s s' t f (told_granted t rs)
+
+-- the effective mode that locks on a file and on the intervals of these indexes give on a row with these keys
+abbrev pub effect_by : State → ℕ → NodeId → List NodeId → List ℕ → Effect
+effect_by s t f is keys =
+    effect_of (list_all (λ n. is_at_least_effect (effective s t n) effect.X) (f ∷ intervals_of s.graph is keys))
+    (list_any (λ n. is_at_least_effect (effective s t n) effect.S) (f ∷ intervals_of s.graph is keys))
+
+-- f is a file, and each of these is an index of it
+pub record AreIndexes (g : Graph) (f : NodeId) (is : List NodeId) : Type 0 where
+  pub file : is_file_shape (shape_of g f) ≡ true
+  pub indexes : list_all (λ i. is_index_of_shape f (shape_of g i)) is ≡ true
+
+-- t's effective mode by a file and by indexes of it that stand in both states is the same, or the same or greater where t was told of a grant
+pub record KeepsByIndexes (s s' : State) (t : TxnId) (granted : Bool) : Type 0 where
+  pub same : granted ≡ false → (f : NodeId) (is : List NodeId) (keys : List ℕ) → AreIndexes s.graph f is → AreIndexes s'.graph f is
+      → effect_by s' t.slot f is keys ≡ effect_by s t.slot f is keys
+  pub greater : (f : NodeId) (is : List NodeId) (keys : List ℕ) → AreIndexes s.graph f is → AreIndexes s'.graph f is
+      → is_at_least_effect (effect_by s' t.slot f is keys) (effect_by s t.slot f is keys) ≡ true
+
+-- over a run that does not name t, whatever it drops and makes, its effective modes by a file and by the indexes that stand stay, or grow where it was
+-- told of a grant (own)
+abbrev pub OthersKeepByIndexes : Type 0
+OthersKeepByIndexes =
     (s s' : State) (cs : List Command) (rs : List (Answer × Told)) (t : TxnId) → IsLawful s → Run s cs rs s' → lives s t ≡ true → list_any (names t) cs ≡ false
-    → KeepsRowEffects s s' t (told_granted t rs)
+    → KeepsByIndexes s s' t (told_granted t rs)
 
 -- The same of rows of a registry, with the locks on their own nodes.
 

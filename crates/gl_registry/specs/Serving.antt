@@ -1,11 +1,14 @@
 -- What a registry does by commands about nodes.
-use Rattle.std.specs.Prelude.{◌≡◌, Bool, true, false, [], Option, Some, None, Result, Err, IfErr, OnErr}
+use Rattle.std.specs.Prelude.{◌≡◌, ◌&&◌, Bool, true, false, not, [], Option, Some, None, Result, Err, IfErr, OnErr}
+use Rattle.gl_modes.specs.declared.node.NodeId.{NodeId}
+use Rattle.gl_modes.specs.Nodes.{same_node}
 use Rattle.gl_modes.specs.declared.refusal.Refusal.{Refusal}
 use Rattle.gl_graph.specs.Graph.{first_parent}
 use Rattle.gl_graph.specs.Refusals.{first_refusal}
 use Rattle.gl_model.specs.declared.txn.TxnId.{TxnId}
 use Rattle.gl_model.specs.Tellings.{Told}
 use Rattle.gl_steps.specs.declared.command.Answer.{Answer}
+use Rattle.gl_steps.specs.declared.command.Answer.TheVariants as answer
 use Rattle.gl_steps.specs.declared.command.Command.{Command}
 use Rattle.gl_steps.specs.declared.command.Command.TheVariants as command
 use Rattle.gl_catalog.specs.declared.manager.paths.Reached.{Reached}
@@ -16,7 +19,7 @@ use Rattle.gl_catalog.specs.Paths.{Ask, LeavesAllBut, LocksPath, missing_parent,
 use Rattle.gl_steps.specs.Promises.{KeepsCaller, SettlesIdle, StepLeavesOthers}
 use Rattle.gl_catalog.specs.Replies.{said}
 use Rattle.gl_steps.specs.Step.{Step}
-use Rattle.gl_registry.specs.Rows.{RegistryView, has_rows}
+use Rattle.gl_registry.specs.Rows.{RegistryView, RowsView, has_rows}
 
 -- the command would make, take away or change a record of a file of rows
 abbrev pub touches_rows : RegistryView → Command → Bool
@@ -38,10 +41,27 @@ pub record Applies (m : ManagerView) (c : Command) (a : Answer) (told : Told) (m
   pub counters : m'.counters ≡ counted (state_of m) c a told (state_of m') m.counters
   pub same : m'.accepted ≡ m.accepted → m' ≡ m
 
--- such a command is not made; any other is, and leaves the rows
+-- the node that a command drops which is answered so
+abbrev pub dropped_by : Command → Answer → Option NodeId
+dropped_by (command.Drop t n) answer.Done = Some n
+dropped_by c a = None
+
+-- the node is no file of rows any more, and all else is as it was
+pub record ForgetsFile (v : RowsView) (n : NodeId) (v' : RowsView) : Type 0 where
+  pub files : (f : NodeId) → has_rows v' f ≡ (has_rows v f && not (same_node n f))
+  pub names : v'.names ≡ v.names
+  pub asked : v'.asked ≡ v.asked
+
+-- a node that was dropped is forgotten as a file; its rows have no names, since no record of it stood, and its name is never given again
+abbrev pub LeavesRows : Option NodeId → RowsView → RowsView → Type 0
+LeavesRows None v v' = v' ≡ v
+LeavesRows (Some n) v v' = ForgetsFile v n v'
+
+-- such a command is not made; any other is, and leaves the rows, but for a file that it drops
 abbrev pub ServesBy : Bool → RegistryView → Command → Option Answer → Told → RegistryView → Type 0
 ServesBy true v c result told v' = (result ≡ None) × (told ≡ []) × (v' ≡ v)
-ServesBy false v c result told v' = (a : Answer) × (result ≡ Some a) × Applies v.manager c a told v'.manager × (v'.rows ≡ v.rows)
+ServesBy false v c result told v' =
+    (a : Answer) × (result ≡ Some a) × Applies v.manager c a told v'.manager × LeavesRows (dropped_by c a) v.rows v'.rows
 
 -- a path is locked by the manager, and leaves the rows
 pub record LocksWay (t : TxnId) (ask : Ask) (v : RegistryView) (result : Result Reached Refusal) (told : Told) (v' : RegistryView) : Type 0 where

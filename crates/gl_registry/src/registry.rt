@@ -100,7 +100,8 @@ impl Registry {
 
     /// Carries out one command, and answers it as `Manager::apply_telling`. `None` where it would make,
     /// take away or change a record of a file of rows by its node: then nothing has changed, whatever
-    /// else could be said against it. Notices are put into an empty list.
+    /// else could be said against it. A file of rows that is dropped is forgotten as one. Notices are put
+    /// into an empty list.
     #[inline(always)]
     pub fn serve(&mut self, command: Command<'_>, told: &mut Told) -> Option<Answer>
         requires empty { told.old.items ≡ [] }
@@ -110,7 +111,9 @@ impl Registry {
             return None;
         }
         self.manager.law();
-        Some(self.manager.apply_telling(command, told))
+        let answer = self.manager.apply_telling(command, told);
+        self.rows.note(&command, answer);
+        Some(answer)
     }
 
     /// Locks a node with what has to be held above it, as `Manager::lock_path_telling`.

@@ -9,11 +9,12 @@ ghost use Rattle.gl_registry.specs.declared.row.Row.{Row as ARow};
 ghost use Rattle.gl_registry.specs.Files.{MakesFile};
 ghost use Rattle.gl_registry.specs.Releasing.{node_for};
 ghost use Rattle.gl_registry.specs.Rows.{has_asked, has_rows, name_of};
+ghost use Rattle.gl_registry.specs.Serving.{ForgetsFile, LeavesRows, dropped_by};
 
 use crate::answer::RowRefusal;
 use crate::row::Row;
 use crate::sets::empty_sets;
-use gl_catalog::Manager;
+use gl_catalog::{Answer, Command, Manager};
 use gl_modes::{NodeId, Refusal};
 use indexmap::{IndexMap, IndexSet};
 use std::alloc::Global;
@@ -105,5 +106,24 @@ impl Rows {
         let file = manager.add_file(parents)?;
         self.files.insert(file).unwrap();
         Ok(file)
+    }
+
+    /// A command was answered so. A node that it dropped is no file of rows any more.
+    #[inline(always)]
+    pub(crate) fn note(&mut self, command: &Command<'_>, answer: Answer)
+        ensures { LeavesRows (dropped_by command.now answer) self.old self.new }
+    {
+        if let Command::Drop { node, .. } = *command {
+            if answer == Answer::Done {
+                self.forget_file(node);
+            }
+        }
+    }
+
+    /// The node is no file of rows any more.
+    fn forget_file(&mut self, node: NodeId)
+        ensures { ForgetsFile self.old node self.new }
+    {
+        self.files.swap_remove(&node);
     }
 }

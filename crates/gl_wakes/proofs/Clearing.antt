@@ -32,6 +32,8 @@ emptied_query (command.Held t n) boxes asks = refl
 emptied_query (command.Effective t n) boxes asks = refl
 emptied_query (command.Adopt f keys) boxes asks = refl
 emptied_query (command.Forget r) boxes asks = refl
+emptied_query (command.Drop t n) boxes asks = refl
+emptied_query (command.IndexBy t ps f bs) boxes asks = refl
 
 asks_if : (b : Bool) → not b && not false ≡ false → b ≡ true
 asks_if true e = refl

@@ -36,6 +36,8 @@ module _ (Holds : Told → Type 0) (s : State) (none : Holds []) (all : (now : S
   accepted (command.Effective t n) a list s' acc = absurd acc
   accepted (command.Adopt f keys) a list s' acc = subst Holds (sym acc.3) none
   accepted (command.Forget r) a list s' acc = subst Holds (sym acc.1) none
+  accepted (command.Drop t n) a list s' acc = subst Holds (sym acc.1) (all s')
+  accepted (command.IndexBy t ps f bs) a list s' acc = subst Holds (sym acc.3) none
 
   module _ (c : Command) (a : Answer) (list : Told) (s' : State) where
     answered : (q : Option Answer) → Answers s c q a list s' → Holds list

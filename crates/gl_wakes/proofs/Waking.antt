@@ -51,6 +51,8 @@ names_its_slot (command.Held u n) t h = h
 names_its_slot (command.Effective u n) t h = h
 names_its_slot (command.Adopt f keys) t h = h
 names_its_slot (command.Forget r) t h = h
+names_its_slot (command.Drop u n) t h = h
+names_its_slot (command.IndexBy u ps f bs) t h = h
 
 -- a set of the slots that are told, and of the one that is named, has everybody whose wait was ended
 pub wakes_ended : (c : Command) (told : Told) (slots : Slots)

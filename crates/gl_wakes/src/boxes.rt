@@ -11,9 +11,9 @@ ghost use Rattle.gl_wakes.specs.declared.grant.Grant.{Grant};
 
 use crate::grant::{Grant, Stop};
 use gl_catalog::{Command, Manager};
+use gl_model::{Notice, TxnId};
 use gl_modes::{Mode, NodeId, Refusal, covers};
 use gl_slots::SLOTS;
-use gl_model::{Notice, TxnId};
 use std::marker::Model;
 
 /// A slot's last notice.

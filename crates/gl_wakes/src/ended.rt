@@ -10,8 +10,8 @@ ghost use Rattle.gl_wakes.specs.Wakes.{names_slot};
 ghost use Rattle.gl_wakes.specs.Wakes.{WakesEnded};
 
 use gl_catalog::Command;
-use gl_slots::{SLOTS, Slots};
 use gl_model::{Notice, TxnId};
+use gl_slots::{SLOTS, Slots};
 
 /// The slots whose wait a command may have ended that told these: who is told, and whose wait it
 /// cancelled or aborted by name.

@@ -1,7 +1,7 @@
 //! How a session's lock ends.
 
-use gl_modes::{Mode, NodeId, Refusal};
 use gl_model::TxnId;
+use gl_modes::{Mode, NodeId, Refusal};
 
 /// A lock that is held.
 #[derive(Clone, Copy, PartialEq, Eq, Debug)]

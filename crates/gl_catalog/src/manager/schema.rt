@@ -111,18 +111,19 @@ impl Manager {
     ) -> Result<(), Refusal>
         ensures { result ≡ verdict (first_refusal (index_by_tests (state_of self.now) t parents.now file bounds.now)) }
     {
-        if self.table.graph().worn() {
+        let graph = self.table.graph();
+        if graph.worn() {
             return Err(Refusal::WornOut);
         }
         self.check_active(t)?;
-        self.table.graph().check_index_place(parents, file)?;
+        graph.check_index_place(parents, file)?;
         if self.mode(t, file) != Mode::X {
             return Err(Refusal::NeedExclusive);
         }
         self.check_writable(t, parents)?;
-        if self.table.graph().has_records(file) {
+        if graph.has_records(file) {
             return Err(Refusal::FileInUse);
         }
-        self.table.graph().check_index_bounds(bounds)
+        graph.check_index_bounds(bounds)
     }
 }

@@ -1,9 +1,13 @@
 use Rattle.gl_registry.proofs.KeptRows.{others_keep_row_effects}
 use Rattle.gl_registry.proofs.Served.{calls_keep_on_rows, commands_keep_on_rows, paths_keep_on_rows}
+use Rattle.gl_registry.proofs.StandingIndexes.{others_keep_by_indexes}
 use Rattle.gl_registry.proofs.laws.others_keep_row_effects.Goals as goal
 
 pub returns-clause-above : goal.returns-clause-above
 returns-clause-above c = others_keep_row_effects
+
+pub returns-clause-standing : goal.returns-clause-standing
+returns-clause-standing c = others_keep_by_indexes
 
 pub returns-clause-by_command : goal.returns-clause-by_command
 returns-clause-by_command c = commands_keep_on_rows

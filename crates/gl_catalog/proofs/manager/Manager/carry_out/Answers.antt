@@ -121,6 +121,18 @@ returns-in-Forget c =
     c.done_answer-in-Forget.ensures c.in-Forget.is c.forget.ensures.err (λ x h. h)
     c.args.told.now c.requires.empty c.forget.ensures.step c.forget.ensures.completes
 
+pub returns-in-Drop : goal.returns-in-Drop
+returns-in-Drop c =
+    carries_telling (λ u. answer.Done) c.args.self.now c.drop_telling.new.self _ c.args.command c.drop_telling.result c.done_answer-in-Drop.result
+    c.done_answer-in-Drop.ensures c.in-Drop.is c.drop_telling.ensures.err (λ x h. h)
+    c.drop_telling.new.told c.args.told.now c.drop_telling.ensures.untold c.requires.empty c.drop_telling.ensures.step c.drop_telling.ensures.completes
+
+pub returns-in-IndexBy : goal.returns-in-IndexBy
+returns-in-IndexBy c =
+    carries_quietly answer.Node c.args.self.now c.index_by.new.self _ c.args.command c.index_by.result c.node_answer-in-IndexBy.result
+    c.node_answer-in-IndexBy.ensures c.in-IndexBy.is c.index_by.ensures.err (λ x h. h)
+    c.args.told.now c.requires.empty c.index_by.ensures.step c.index_by.ensures.completes
+
 -- queries
 
 pub returns-in-Group : goal.returns-in-Group

@@ -2,23 +2,23 @@ use Rattle.std.proofs.Common.{◌≡◌, ◌∙◌, Bool, Some, false, ap, subst
 use Rattle.gl_registry.specs.Owned.{registry_of}
 use Rattle.gl_registry.specs.Rows.{RegistryView}
 use Rattle.gl_registry.specs.Serving.{ServesBy, touches_rows}
-use Rattle.gl_registry.proofs.Touched.{untouched_keeps}
+use Rattle.gl_registry.proofs.Dropped.{left_hold}
 use Rattle.gl_registry.proofs.registry.Registry.serve.Goals as goal
 
 -- it touches no row
-off : (c : goal.After-apply_telling) → touches_rows (registry_of c.self.inside) c.args.command ≡ false
+off : (c : goal.After-note) → touches_rows (registry_of c.self.inside) c.args.command ≡ false
 off c = ap (λ (v : RegistryView). touches_rows v c.args.command) c.self.view_is ∙ sym c.touches_rows.ensures ∙ c.if-touches_rows.false
 
 pub invariant_of-self : goal.invariant_of-self
 invariant_of-self c =
-    untouched_keeps (registry_of c.self.inside) c.law.ensures.lawful _ c.args.command c.apply_telling.result c.apply_telling.new.told.items (off c)
-    c.apply_telling.ensures.step c.self.invariant
+    left_hold (registry_of c.self.inside) c.law.ensures.lawful _ c.args.command c.apply_telling.result c.apply_telling.new.told.items c.note.new.self (off c)
+    c.apply_telling.ensures.step c.self.invariant c.note.ensures
 
 pub returns : goal.returns
 returns c =
     let e = c.apply_telling.ensures in
     let told = c.apply_telling.new.told.items in
-    let after : RegistryView = record { manager = c.apply_telling.new.self; rows = c.self.inside.rows } in
+    let after : RegistryView = record { manager = c.apply_telling.new.self; rows = c.note.new.self } in
     subst (λ (v : RegistryView). ServesBy (touches_rows v c.args.command) v c.args.command (Some c.apply_telling.result) told after) c.self.view_is
     (subst (λ (b : Bool). ServesBy b (registry_of c.self.inside) c.args.command (Some c.apply_telling.result) told after) (sym (off c)) (
       c.apply_telling.result,
@@ -32,5 +32,5 @@ returns c =
         counters = e.counters;
         same = e.same;
       },
-      refl,
+      c.note.ensures,
     ))
