@@ -12,11 +12,11 @@ use crate::numbers::{
     DONE, GONE, MOVED, NOT_ROWS, ON_THE_WAY, OTHER_KEYS, ROWS_BY_NUMBER, VICTIM, WAITING,
     effect_number, mode_number,
 };
-use gl_wakes::{Grant, Stop};
 use gl_catalog::{Answer, Reached};
 use gl_modes::{Mode, NodeId, Refusal};
 use gl_registry::RowAnswer;
 use gl_table::{Locked, TxnId};
+use gl_wakes::{Grant, Stop};
 
 /// An answer. Beside the status it has what the call answers, and zero in all other fields.
 #[repr(C)]
