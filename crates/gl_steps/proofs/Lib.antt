@@ -48,6 +48,7 @@ mod LockRows
 mod RecordRows
 mod MoveRows
 mod RefusalRows
+mod SchemaRows
 mod Limits
 -- which commands are counted
 pub mod Serving
