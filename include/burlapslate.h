@@ -43,7 +43,7 @@
  * names is left out: whoever makes the call has its answer.
  *
  * MEMORY. Calls that end something or give something back take no memory and cannot fail for want of it:
- * unlock, cancel, commit, abort, settle, delete, rekey, escalate, of nodes and of rows. Others say so.
+ * unlock, cancel, commit, abort, settle, delete, rekey, escalate, of nodes and of rows; and drop. Others say so.
  *
  * STACK. To make a manager takes some 140 kilobytes of stack, any other call 20 at most. With 1,024 slots it takes two
  * megabytes, and what reads a board or finds a deadlock 0.7: give the thread so much.
@@ -63,7 +63,7 @@ extern "C" {
 /* The version of what is declared here. The first number rises where a program has to be changed for it, or the second
  * while the first is 0. The second rises where something is added, the third where neither. */
 #define BS_VERSION_MAJOR 0
-#define BS_VERSION_MINOR 12
+#define BS_VERSION_MINOR 13
 #define BS_VERSION_PATCH 0
 
 /* How many transactions can live at once, and so how many notices a call can have. A library can be built for another
@@ -76,7 +76,7 @@ extern "C" {
 /* How many watchers a manager can have at once. */
 #define BS_MOST_WATCHERS 8
 
-/* What a call comes to. Refusals are 1 to 22, of the manager, and 64 to 73, of this library. */
+/* What a call comes to. Refusals are 1 to 23, of the manager, and 64 to 73, of this library. */
 typedef uint32_t bs_status;
 enum bs_statuses {
   BS_DONE = 0,
@@ -93,15 +93,16 @@ enum bs_statuses {
   BS_TOO_MANY_TXNS = 11,  /* as many transactions live as may */
   BS_TOO_MANY_NODES = 12, /* as many nodes live as may, 65,536 where no other number was chosen */
   BS_BAD_PARENTS = 13,    /* a node of the wrong kind for its place, one parent twice, or too few */
-  BS_NEED_EXCLUSIVE = 14, /* without the exclusive locks that a delete or a move needs */
+  BS_NEED_EXCLUSIVE = 14, /* without the exclusive locks that the call needs: a delete, a move, a drop, bs_index_by */
   BS_NOT_WAITING = 15,    /* the transaction waits for nothing */
   BS_NAME_TAKEN = 16,     /* not answered here: names are the manager's own */
-  BS_FILE_IN_USE = 17,    /* an index cannot be added to a file that has records, or of which a row had a node */
+  BS_FILE_IN_USE = 17,    /* the file has records; or of bs_add_index: a row had a node; of bs_drop: it has indexes */
   BS_BAD_KEYS = 18,       /* bounds that do not rise from above 0, too many, or not a key for each index */
   BS_WORN_OUT = 19,       /* a counter has come to its end */
   BS_BAD_LINE = 20,       /* not answered here */
   BS_CYCLE = 21,          /* the new parent `node` is the node itself or lies below it */
   BS_RECORD_IN_USE = 22,  /* of bs_forget: some transaction holds the record or waits for it */
+  BS_HAS_CHILDREN = 23,   /* of bs_drop: the inner node has children */
   BS_WAITING = 32,        /* the lock is waited for */
   BS_VICTIM = 33,         /* the asker was condemned to end a deadlock, and can only abort */
   BS_MOVED = 34,          /* the node moved, and the wait is over */
@@ -364,7 +365,7 @@ static inline bs_reply bs_end(bs_manager *manager) {
 
 /* ------------------------------------------------------------------------------------------------
  * The graph. No path closes, whatever is made, moved or removed. These take memory; each answers the
- * new node in `node`. They tell nobody.
+ * new node in `node`. They tell nobody. Nodes go by bs_drop, and no name is ever given twice.
  */
 
 /* A new inner node under 0 to 8 different inner nodes; without parents it is a root. Refused with
@@ -390,12 +391,12 @@ static inline bs_reply bs_add_row_file(bs_manager *manager, const bs_node *paren
   return bs_call_row_file(manager, bs_nodes(parents), count);
 }
 
-/* A new index of a file that has no records, and of which no row ever had a node by bs_adopt or bs_lock_row. It lies
- * under 1 to 8 different inner nodes. It has up to 256 bounds, or up to the number that was chosen by bs_make_with.
- * Bounds rise from above 0: interval 0 has the keys below the first bound, interval i those from bound i - 1 on. Each
- * interval is a node. Refused with BS_NO_SUCH_NODE, BS_BAD_PARENTS (also where the file has 7 indexes), BS_FILE_IN_USE,
- * BS_BAD_KEYS, BS_TOO_MANY_NODES (its intervals count); with BS_BAD_NUMBER, first of all, where there are more than 8
- * parents. Costs a step for each bound. */
+/* A new index of a file that has no records, and of which no row ever had a node by bs_adopt or bs_lock_row; else
+ * bs_index_by makes one. It lies under 1 to 8 different inner nodes. It has up to 256 bounds, or up to the number that
+ * was chosen by bs_make_with. Bounds rise from above 0: interval 0 has the keys below the first bound, interval i those
+ * from bound i - 1 on. Each interval is a node. Refused with BS_NO_SUCH_NODE, BS_BAD_PARENTS (also where the file has 7
+ * indexes), BS_FILE_IN_USE, BS_BAD_KEYS, BS_TOO_MANY_NODES (its intervals count); with BS_BAD_NUMBER, first of all,
+ * where there are more than 8 parents. Costs a step for each bound. */
 static inline bs_reply bs_add_index(bs_manager *manager, const bs_node *parents, size_t count, bs_node file,
                                     const uint64_t *bounds, size_t bound_count) {
   if (manager == NULL || (parents == NULL && count != 0) || (bounds == NULL && bound_count != 0)) return bs_null();
@@ -513,10 +514,10 @@ static inline bs_reply bs_delete(bs_manager *manager, bs_txn txn, bs_node record
   return bs_lacks(manager, told) ? bs_null() : bs_call_delete(manager, txn, record, told);
 }
 
-/* A new record of a file, in `node`, as bs_insert makes one, but for no transaction: nobody holds it, and no locks
- * are asked for. It is for an engine that itself gives its rows nodes while they are locked. From then on no index of
- * the file is made. Refused with BS_NO_SUCH_NODE, BS_BAD_PARENTS (no file), BS_BAD_KEYS, BS_TOO_MANY_NODES. Takes
- * memory. */
+/* A new record of a file, in `node`, as bs_insert makes one, but for no transaction: nobody holds it, and no locks are
+ * asked for. It is for an engine that itself gives its rows nodes while they are locked. From then on no index of the
+ * file is made but by bs_index_by. Refused with BS_NO_SUCH_NODE, BS_BAD_PARENTS (no file), BS_BAD_KEYS,
+ * BS_TOO_MANY_NODES. Takes memory. */
 static inline bs_reply bs_adopt(bs_manager *manager, bs_node file, const uint64_t *keys, size_t count) {
   if (manager == NULL || (keys == NULL && count != 0)) return bs_null();
   return bs_call_adopt(manager, file, bs_numbers(keys), count);
@@ -548,6 +549,35 @@ static inline bs_reply bs_move(bs_manager *manager, bs_txn txn, bs_node node, co
                                bs_notices *told) {
   if (bs_lacks(manager, told) || (parents == NULL && count != 0)) return bs_null();
   return bs_call_move(manager, txn, node, bs_nodes(parents), count, told);
+}
+
+/* ------------------------------------------------------------------------------------------------
+ * What a schema changes. Both are for files of either kind. An abort undoes neither. The name of a node that is gone is
+ * never another's: whoever has kept it is refused with BS_NO_SUCH_NODE.
+ */
+
+/* Takes away an inner node that has no children, a file that has no records and no indexes, or an index with its
+ * intervals, of whose file no record stands. The transaction holds BS_X on the node, and for an index on its file too;
+ * each by a lock on that node itself. All locks on the node and on its intervals go, its own among them. Who waits for
+ * it is told BS_TOLD_GONE. Behind an index that goes, the later ones of its file have their places and their keys one
+ * lower. Refused with BS_NO_SUCH_TXN, BS_TXN_WAITING, BS_TXN_CONDEMNED, BS_NO_SUCH_NODE, BS_BAD_PARENTS (an interval or
+ * a record), BS_NEED_EXCLUSIVE, and then with BS_HAS_CHILDREN (an inner node) or BS_FILE_IN_USE (a file or an index).
+ * Costs a look-up or two for the node and for each of its intervals. */
+static inline bs_reply bs_drop(bs_manager *manager, bs_txn txn, bs_node node, bs_notices *told) {
+  return bs_lacks(manager, told) ? bs_null() : bs_call_drop(manager, txn, node, told);
+}
+
+/* A new index of a file of which no record stands now, in `node`, with parents and bounds as bs_add_index takes them.
+ * It is the last of the file's indexes. The transaction holds BS_X on the file and BS_IX or more on each parent, each
+ * by a lock on that node itself, and holds the index in BS_X from then on: so nobody comes by the new index until it
+ * ends. Tells nobody. Refused with BS_NO_SUCH_TXN, BS_TXN_WAITING, BS_TXN_CONDEMNED, BS_NO_SUCH_NODE, BS_BAD_PARENTS
+ * (also where the file has 7 indexes), BS_NEED_EXCLUSIVE, BS_NEED_PARENTS, BS_FILE_IN_USE, BS_BAD_KEYS,
+ * BS_TOO_MANY_NODES (its intervals count); with BS_BAD_NUMBER, first of all, where there are more than 8 parents. Takes
+ * memory. Costs a step for each bound. */
+static inline bs_reply bs_index_by(bs_manager *manager, bs_txn txn, const bs_node *parents, size_t count, bs_node file,
+                                   const uint64_t *bounds, size_t bound_count) {
+  if (manager == NULL || (parents == NULL && count != 0) || (bounds == NULL && bound_count != 0)) return bs_null();
+  return bs_call_index_by(manager, txn, bs_nodes(parents), count, file, bs_numbers(bounds), bound_count);
 }
 
 /* ------------------------------------------------------------------------------------------------
@@ -967,6 +997,7 @@ static inline const char *bs_text(bs_status status) {
     case BS_BAD_LINE: return "BadLine";
     case BS_CYCLE: return "Cycle";
     case BS_RECORD_IN_USE: return "RecordInUse";
+    case BS_HAS_CHILDREN: return "HasChildren";
     case BS_WAITING: return "Waiting";
     case BS_VICTIM: return "Victim";
     case BS_MOVED: return "Moved";

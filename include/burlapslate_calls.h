@@ -36,6 +36,9 @@ bs_reply bs_call_forget(bs_manager *manager, bs_node record);
 bs_reply bs_call_rekey(bs_manager *manager, bs_txn txn, bs_node record, bs_node index, uint64_t key, bs_notices *told);
 bs_reply bs_call_move(bs_manager *manager, bs_txn txn, bs_node node, const bs_node *parents, size_t count,
                       bs_notices *told);
+bs_reply bs_call_drop(bs_manager *manager, bs_txn txn, bs_node node, bs_notices *told);
+bs_reply bs_call_index_by(bs_manager *manager, bs_txn txn, const bs_node *parents, size_t count, bs_node file,
+                          const uint64_t *bounds, size_t bound_count);
 bs_reply bs_call_lock_row(bs_manager *manager, bs_txn txn, bs_node file, uint64_t number, const uint64_t *keys,
                           size_t count, bs_mode mode, bs_notices *told);
 bs_reply bs_call_unlock_row(bs_manager *manager, bs_txn txn, bs_node file, uint64_t number, bs_notices *told);

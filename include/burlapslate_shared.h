@@ -31,7 +31,7 @@
  * HOW A SLEEP ENDS. The one who sleeps for a lock is answered
  *   - BS_DONE: it was granted, and is held in `mode`; of a row BS_OTHER_KEYS, where its keys are others than was said;
  *   - BS_VICTIM: the transaction was condemned to end a deadlock, by a lock or a settle, and can only abort;
- *   - BS_MOVED, BS_GONE: the node moved, or is gone, by another transaction's rekey, move or delete;
+ *   - BS_MOVED, BS_GONE: the node moved, or is gone, by another transaction's rekey, move, delete or drop;
  *   - BS_TIMED_OUT: its time came first; the wait was taken back, and the transaction is active;
  *   - BS_NOT_WAITING: another thread took the wait back by bs_table_cancel; the transaction is active;
  *   - BS_NO_SUCH_TXN: another thread ended the transaction by bs_table_abort;
@@ -626,8 +626,8 @@ static inline bs_reply bs_table_path_inside(bs_table *table, bs_txn txn, bs_node
 /* Locks a node with what has to be held above it, as bs_lock_path does, and sleeps for each lock that has to wait, to
  * `until` at most where that is not null. A node that moves meanwhile is begun anew, so that BS_MOVED and
  * BS_NEED_PARENTS are not answered. BS_DONE: `mode` is the mode in which the node is held. Else it is the answer of
- * the first lock that was refused or came to nothing; what was locked before it stays locked. A record that was
- * deleted meanwhile answers BS_GONE or BS_NO_SUCH_NODE. */
+ * the first lock that was refused or came to nothing; what was locked before it stays locked. A node that was deleted
+ * or dropped meanwhile answers BS_GONE or BS_NO_SUCH_NODE. */
 static inline bs_reply bs_table_lock_path(bs_table *table, bs_txn txn, bs_node node, bs_mode mode,
                                           const struct timespec *until) {
   bs_table_inside *in = bs_table_enter(table);
@@ -670,6 +670,19 @@ static inline bs_reply bs_table_rekey(bs_table *table, bs_txn txn, bs_node recor
 static inline bs_reply bs_table_move(bs_table *table, bs_txn txn, bs_node node, const bs_node *parents, size_t count,
                                      bs_notices *told) {
   BS_TABLE_TELL(table, told, false, bs_move(&in->manager, txn, node, parents, count, list));
+}
+
+/* ------------------------------------------------------------------------------------------------
+ * What a schema changes.
+ */
+
+static inline bs_reply bs_table_drop(bs_table *table, bs_txn txn, bs_node node, bs_notices *told) {
+  BS_TABLE_TELL(table, told, false, bs_drop(&in->manager, txn, node, list));
+}
+
+static inline bs_reply bs_table_index_by(bs_table *table, bs_txn txn, const bs_node *parents, size_t count,
+                                         bs_node file, const uint64_t *bounds, size_t bound_count) {
+  BS_TABLE_ASK(table, bs_index_by(&in->manager, txn, parents, count, file, bounds, bound_count));
 }
 
 /* ------------------------------------------------------------------------------------------------
@@ -750,7 +763,7 @@ static inline bs_reply bs_table_row_node(bs_table *table, bs_node file, uint64_t
 enum bs_command_kinds {
   BS_DO_BEGIN = 1, BS_DO_LOCK, BS_DO_TRY, BS_DO_UNLOCK, BS_DO_ESCALATE, BS_DO_CANCEL, BS_DO_COMMIT, BS_DO_ABORT,
   BS_DO_SETTLE, BS_DO_INSERT, BS_DO_DELETE, BS_DO_REKEY, BS_DO_MOVE, BS_DO_ADD_INNER, BS_DO_ADD_FILE, BS_DO_ADD_INDEX,
-  BS_DO_ADOPT, BS_DO_FORGET, BS_DO_ADD_ROW_FILE
+  BS_DO_ADOPT, BS_DO_FORGET, BS_DO_ADD_ROW_FILE, BS_DO_DROP, BS_DO_INDEX_BY
 };
 
 /* A command, of enum bs_command_kinds, with what it is given: the fields that its maker below sets. */
@@ -861,6 +874,14 @@ static inline bs_command bs_do_add_index(const bs_node *parents, size_t count, b
   command.number_count = bound_count;
   return command;
 }
+static inline bs_command bs_do_index_by(bs_txn txn, const bs_node *parents, size_t count, bs_node file,
+                                        const uint64_t *bounds, size_t bound_count) {
+  bs_command command = bs_do_add_index(parents, count, file, bounds, bound_count);
+  command.kind = BS_DO_INDEX_BY;
+  command.txn = txn;
+  return command;
+}
+static inline bs_command bs_do_drop(bs_txn txn, bs_node node) { return bs_do(BS_DO_DROP, txn, node); }
 
 /* Makes a command with a manager, for this transaction. */
 static inline bs_reply bs_command_made(bs_manager *m, const bs_command *c, bs_txn txn, bs_notices *told) {
@@ -885,6 +906,9 @@ static inline bs_reply bs_command_made(bs_manager *m, const bs_command *c, bs_tx
     case BS_DO_ADD_ROW_FILE: return bs_add_row_file(m, c->parents, c->parent_count);
     case BS_DO_ADD_INDEX:
       return bs_add_index(m, c->parents, c->parent_count, c->other, c->numbers, c->number_count);
+    case BS_DO_DROP: return bs_drop(m, txn, c->node, told);
+    case BS_DO_INDEX_BY:
+      return bs_index_by(m, txn, c->parents, c->parent_count, c->other, c->numbers, c->number_count);
     default: return bs_bad_number();
   }
 }

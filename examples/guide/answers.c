@@ -30,7 +30,8 @@ static enum action what_to_do(bs_status status) {
     case BS_TOO_MANY_TXNS: case BS_TOO_MANY_NODES: case BS_TOO_MANY_WATCHERS: return MAKE_ROOM;
     case BS_WORN_OUT: return CLOSE;
     case BS_TXN_WAITING: case BS_BAD_MODE: case BS_NOT_HELD: case BS_HELD_CHILD: return MEND;
-    case BS_BAD_PARENTS: case BS_NEED_EXCLUSIVE: case BS_FILE_IN_USE: case BS_BAD_KEYS: return MEND;
+    case BS_BAD_PARENTS: case BS_NEED_EXCLUSIVE: case BS_BAD_KEYS: return MEND;
+    case BS_FILE_IN_USE: case BS_HAS_CHILDREN: return MEND; /* What stands below goes first. */
     case BS_CYCLE: case BS_NULL_POINTER: case BS_NO_MANAGER: case BS_BAD_NUMBER: case BS_IN_USE: return MEND;
     case BS_NO_WATCHER: case BS_ROWS_BY_NUMBER: case BS_NOT_ROWS: case BS_OTHER_SLOTS: return MEND;
     case BS_NAME_TAKEN: case BS_BAD_LINE: return MEND; /* Not answered to C. */

@@ -95,6 +95,9 @@ int main(void) {
   TELL(no_upgrades);
   TELL(no_phantoms);
   TELL(a_row_moves);
+  TELL(what_is_in_the_way);
+  TELL(an_index_gets_finer_bounds);
+  TELL(a_table_is_dropped_and_made_again);
   TELL(a_reader_escalates);
   TELL(a_writer_escalates);
   TELL(implied_is_not_held);

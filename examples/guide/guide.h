@@ -65,6 +65,11 @@ void no_upgrades(void);
 void no_phantoms(void);
 void a_row_moves(void);
 
+/* schema.c */
+void what_is_in_the_way(void);
+void an_index_gets_finer_bounds(void);
+void a_table_is_dropped_and_made_again(void);
+
 /* escalation.c */
 void a_reader_escalates(void);
 void a_writer_escalates(void);

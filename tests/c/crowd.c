@@ -23,8 +23,8 @@
 
 enum kind {
   BEGIN, LOCK, LOCK_PATH, LOCK_ROW, TRY, UNLOCK, UNLOCK_ROW, ESCALATE, ESCALATE_ROWS, CANCEL, CANCEL_ROWS, COMMIT,
-  COMMIT_ROWS, ABORT, ABORT_ROWS, SETTLE, INSERT, DELETE, REKEY, REKEY_ROW, MOVE, ADD_INNER, ADD_FILE, ADD_ROW_FILE,
-  ADD_INDEX, KINDS
+  COMMIT_ROWS, ABORT, ABORT_ROWS, SETTLE, INSERT, DELETE, REKEY, REKEY_ROW, MOVE, DROP, INDEX_BY, ADD_INNER, ADD_FILE,
+  ADD_ROW_FILE, ADD_INDEX, KINDS
 };
 
 enum { MOST_NUMBERS = 3, MOST_PARENTS = 2 };
@@ -120,6 +120,9 @@ static bs_reply made(bs_manager *m, const struct call *c, bs_notices *told) {
     case REKEY: return bs_rekey(m, c->txn, c->node, c->other, c->key, told);
     case REKEY_ROW: return bs_rekey_row(m, c->txn, c->node, c->row, c->other, c->key, told);
     case MOVE: return bs_move(m, c->txn, c->node, c->parents, c->parent_count, told);
+    case DROP: return bs_drop(m, c->txn, c->node, told);
+    case INDEX_BY:
+      return bs_index_by(m, c->txn, c->parents, c->parent_count, c->other, c->numbers, c->number_count);
     case ADD_INNER: return bs_add_inner(m, c->parents, c->parent_count);
     case ADD_FILE: return bs_add_file(m, c->parents, c->parent_count);
     case ADD_ROW_FILE: return bs_add_row_file(m, c->parents, c->parent_count);
@@ -136,8 +139,9 @@ static struct call call_of(enum kind kind, bs_txn txn, bs_node node) {
   return call;
 }
 
+static const bs_txn nobody = { 0, 0 };
+
 static struct call adding(enum kind kind, const bs_node *parents, size_t count) {
-  bs_txn nobody = { 0, 0 };
   bs_node none = { 0, 0 };
   struct call call = call_of(kind, nobody, none);
   if (count > MOST_PARENTS) abort();
@@ -243,13 +247,18 @@ static bs_reply served_move(bs_manager *m, bs_txn txn, bs_node node, const bs_no
   return serve(m, call, told);
 }
 
+static bs_reply served_drop(bs_manager *m, bs_txn txn, bs_node node, bs_notices *told) {
+  return serve(m, call_of(DROP, txn, node), told);
+}
+
 static bs_reply served_add(bs_manager *m, enum kind kind, const bs_node *parents, size_t count) {
   return serve(m, adding(kind, parents, count), NULL);
 }
 
-static bs_reply served_add_index(bs_manager *m, const bs_node *parents, size_t count, bs_node file,
-                                 const uint64_t *bounds, size_t bound_count) {
-  struct call call = adding(ADD_INDEX, parents, count);
+static bs_reply served_index(bs_manager *m, enum kind kind, bs_txn txn, const bs_node *parents, size_t count,
+                             bs_node file, const uint64_t *bounds, size_t bound_count) {
+  struct call call = adding(kind, parents, count);
+  call.txn = txn;
   call.other = file;
   give_numbers(&call, bounds, bound_count);
   return serve(m, call, NULL);
@@ -277,10 +286,14 @@ static bs_reply served_add_index(bs_manager *m, const bs_node *parents, size_t c
 #define bs_delete(m, txn, record, told) served_delete(m, txn, record, told)
 #define bs_rekey(m, txn, record, index, key, told) served_rekey(m, txn, record, index, key, told)
 #define bs_move(m, txn, node, parents, count, told) served_move(m, txn, node, parents, count, told)
+#define bs_drop(m, txn, node, told) served_drop(m, txn, node, told)
+#define bs_index_by(m, txn, parents, count, file, bounds, most) \
+  served_index(m, INDEX_BY, txn, parents, count, file, bounds, most)
 #define bs_add_inner(m, parents, count) served_add(m, ADD_INNER, parents, count)
 #define bs_add_file(m, parents, count) served_add(m, ADD_FILE, parents, count)
 #define bs_add_row_file(m, parents, count) served_add(m, ADD_ROW_FILE, parents, count)
-#define bs_add_index(m, parents, count, file, bounds, most) served_add_index(m, parents, count, file, bounds, most)
+#define bs_add_index(m, parents, count, file, bounds, most) \
+  served_index(m, ADD_INDEX, nobody, parents, count, file, bounds, most)
 
 #include "threads.h"
 
@@ -302,7 +315,8 @@ static bool is_handed_on(void) {
 static bs_node root, areas[AREAS], files[FILES], indexes[FILES], intervals[FILES][INTERVALS], accounts[ACCOUNTS];
 static bs_node records[RECORDS];
 static bs_node row_files[FILES], row_indexes[FILES], row_intervals[FILES][INTERVALS];
-static pthread_mutex_t names = PTHREAD_MUTEX_INITIALIZER; /* of records, and of those who may be ended by anybody */
+/* Of records, of the indexes of rows and their intervals, and of those who may be ended by anybody. */
+static pthread_mutex_t names = PTHREAD_MUTEX_INITIALIZER;
 static bs_txn free_game[THREADS];
 static long added[ACCOUNTS];      /* by who holds the account in X */
 static long changed[FILES][ROWS]; /* the same of rows, each of which is there or not */
@@ -310,12 +324,35 @@ static bool is_over;              /* for those who watch, with `names` held */
 
 static const uint64_t bounds[INTERVALS - 1] = { 100, 200 };
 
+/* From now on this is the index of a file of rows. */
+static void name_row_index(size_t i, bs_node index) {
+  size_t j;
+  pthread_mutex_lock(&names);
+  row_indexes[i] = index;
+  for (j = 0; j < INTERVALS; j++) row_intervals[i][j] = DONE(bs_table_interval(&table, index, j)).node;
+  pthread_mutex_unlock(&names);
+}
+
+static bs_node row_index(size_t i) {
+  bs_node index;
+  pthread_mutex_lock(&names);
+  index = row_indexes[i];
+  pthread_mutex_unlock(&names);
+  return index;
+}
+
+static bs_node row_interval(size_t i, size_t place) {
+  bs_node interval;
+  pthread_mutex_lock(&names);
+  interval = row_intervals[i][place];
+  pthread_mutex_unlock(&names);
+  return interval;
+}
+
 static void make_row_file(size_t i) {
   bs_node area = areas[i % AREAS];
-  size_t j;
   row_files[i] = DONE(bs_table_add_row_file(&table, &area, 1)).node;
-  row_indexes[i] = DONE(bs_table_add_index(&table, &area, 1, row_files[i], bounds, INTERVALS - 1)).node;
-  for (j = 0; j < INTERVALS; j++) row_intervals[i][j] = DONE(bs_table_interval(&table, row_indexes[i], j)).node;
+  name_row_index(i, DONE(bs_table_add_index(&table, &area, 1, row_files[i], bounds, INTERVALS - 1)).node);
 }
 
 static void make_file(size_t i) {
@@ -361,7 +398,7 @@ struct session {
   uint64_t dice;
   bs_txn txn;
   bool is_game; /* anybody may end its transaction */
-  long adds[ACCOUNTS], changes[FILES][ROWS], victims, slept, late, others;
+  long adds[ACCOUNTS], changes[FILES][ROWS], victims, slept, late, others, indexes;
   pthread_t thread;
 };
 
@@ -481,7 +518,7 @@ static bs_reply ask_row_by(struct session *s, size_t i, uint64_t row, uint64_t k
   struct timespec until = moment_in(200 + (long)pick(s, 2000));
   const struct timespec *limit = pick(s, 4) == 0 ? &until : NULL;
   size_t place = key / 100 < INTERVALS ? key / 100 : INTERVALS - 1;
-  bs_reply reply = ask_path(s, row_intervals[i][place], BS_IX);
+  bs_reply reply = ask_path(s, row_interval(i, place), BS_IX);
   if (reply.status == BS_DONE) reply = ask_path(s, row_files[i], BS_IX);
   while (reply.status == BS_DONE) {
     reply = as_row_slept(s, bs_table_lock_row(&table, s->txn, row_files[i], row, &key, 1, mode, limit));
@@ -511,7 +548,7 @@ static bs_reply ask_row(struct session *s, bs_mode mode) {
   if (reply.status != BS_OTHER_KEYS) return reply;
   s->others++;
   if (reply.mode == BS_S) return as_served(bs_table_unlock_row(&table, s->txn, row_files[i], row, NULL));
-  return as_served(bs_table_rekey_row(&table, s->txn, row_files[i], row, row_indexes[i], key, NULL));
+  return as_served(bs_table_rekey_row(&table, s->txn, row_files[i], row, row_index(i), key, NULL));
 }
 
 static bs_mode any_mode(struct session *s) {
@@ -567,6 +604,24 @@ static bs_reply move(struct session *s) {
   bs_reply reply = ask_path(s, file, BS_X);
   if (reply.status == BS_DONE) reply = ask_path(s, area, BS_IX);
   return reply.status == BS_DONE ? as_served(bs_table_move(&table, s->txn, file, &area, 1, NULL)) : reply;
+}
+
+/* The index of a file of rows goes, and another is made, where no row stands. */
+static bs_reply change_index(struct session *s) {
+  size_t i = pick(s, FILES), count;
+  bs_node area = areas[i % AREAS], index = row_index(i);
+  bs_command list[2];
+  bs_reply reply = ask_path(s, index, BS_X);
+  if (reply.status == BS_DONE) reply = ask_path(s, row_files[i], BS_X);
+  if (reply.status != BS_DONE) return reply;
+  list[0] = bs_do_index_by(s->txn, &area, 1, row_files[i], bounds, INTERVALS - 1);
+  list[1] = bs_do_drop(s->txn, index);
+  count = bs_table_run(&table, list, 2);
+  if (count < 2) return as_served(list[count].reply);
+  reply = as_served(list[1].reply);
+  s->indexes++;
+  name_row_index(i, list[0].reply.node);
+  return reply;
 }
 
 /* Ends or cancels somebody whom anybody may end. */
@@ -639,7 +694,7 @@ static bs_reply audit(void) {
 }
 
 static bs_reply any_command(struct session *s) {
-  switch (pick(s, 31)) {
+  switch (pick(s, 32)) {
     case 0: return ask(s, any_node(s), any_mode(s));
     case 1: return as_served(bs_table_try(&table, s->txn, any_node(s), any_mode(s)));
     case 2: return as_served(bs_table_unlock(&table, s->txn, any_node(s), NULL));
@@ -659,12 +714,12 @@ static bs_reply any_command(struct session *s) {
     case 21: case 22: return ask_row(s, BS_S);
     case 23: return as_served(bs_table_unlock_row(&table, s->txn, row_files[pick(s, FILES)], pick(s, ROWS), NULL));
     case 24: return as_served(bs_table_escalate_rows(&table, s->txn, any_node(s), NULL));
+    case 25: return change_index(s);
     default: return add(s);
   }
 }
 
 static void name_game(struct session *s, bool is_game) {
-  bs_txn nobody = { 0, 0 };
   pthread_mutex_lock(&names);
   free_game[s->number] = is_game ? s->txn : nobody;
   pthread_mutex_unlock(&names);
@@ -777,7 +832,8 @@ static void compare_named(const struct call *call) {
 
 static void replay_one(bs_manager *m, size_t at, bs_notices *told) {
   const struct served *s = &log_of_calls[at];
-  bool was_waiting = s->call.kind <= MOVE && s->call.kind != BEGIN && (bs_waiting)(m, s->call.txn).status == BS_WAITING;
+  bool is_by_txn = s->call.kind <= INDEX_BY && s->call.kind != BEGIN;
+  bool was_waiting = is_by_txn && (bs_waiting)(m, s->call.txn).status == BS_WAITING;
   bs_reply reply = made(m, &s->call, told);
   size_t i;
   WANT(same_reply(reply, s->reply));
@@ -830,7 +886,7 @@ static void compare_additions(const struct session *sessions) {
 static void crowd(const char *name, uint32_t detect, uint32_t victims, uint32_t most, unsigned patience) {
   static struct session sessions[THREADS];
   struct looker lookers[WATCHERS];
-  long fell = 0, slept = 0, late = 0, others = 0, looks = 0;
+  long fell = 0, slept = 0, late = 0, others = 0, changed_indexes = 0, looks = 0;
   size_t i;
   story = name;
   feed(patience);
@@ -857,12 +913,13 @@ static void crowd(const char *name, uint32_t detect, uint32_t victims, uint32_t 
     slept += sessions[i].slept;
     late += sessions[i].late;
     others += sessions[i].others;
+    changed_indexes += sessions[i].indexes;
   }
   replay(detect, victims, most);
   compare_additions(sessions);
   DONE(bs_table_end(&table));
-  fprintf(stderr, "%s: %lu calls, %ld sleeps, %ld too late, %ld victims, %ld other keys, %ld looks\n", name,
-          (unsigned long)log_count, slept, late, fell, others, looks);
+  fprintf(stderr, "%s: %lu calls, %ld sleeps, %ld too late, %ld victims, %ld other keys, %ld new indexes, %ld looks\n",
+          name, (unsigned long)log_count, slept, late, fell, others, changed_indexes, looks);
   printf("%s\n", name);
 }
 

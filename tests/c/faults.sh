@@ -20,7 +20,7 @@ faults() {
     printf '%s-is-not-watched\t/bs_table_%s(/,/^}/s/wake(in, reply.status,/wake(in, reply.status == BS_WAITING ? BS_DONE : reply.status,/\n' \
       "$call" "$call"
   done
-  for call in unlock{,_row} {cancel,commit,abort,escalate}{,_rows} settle delete rekey{,_row} move; do
+  for call in unlock{,_row} {cancel,commit,abort,escalate}{,_rows} settle delete drop rekey{,_row} move; do
     printf '%s-forgets-to-wake\ts/BS_TABLE_TELL(table, told, [a-z]*, \\(.*bs_%s(.*\\)list))/BS_TABLE_ASK(table, \\1bs_table_list(in, told)))/\n' \
       "$call" "$call"
   done

@@ -333,6 +333,33 @@ static void a_record_goes(void) {
 }
 
 /* An escalation releases a child, for which a reader waits that came by another parent. */
+/* Who sleeps for a node that is dropped is woken, also on the way of a path; and who asks later finds none. */
+static void a_drop_ends_sleeps(void) {
+  struct asker one, two;
+  bs_node area, under;
+  bs_txn a, b, c;
+  set_up(BS_AT_BLOCK);
+  area = DONE(bs_table_add_inner(&table, &root, 1)).node;
+  under = DONE(bs_table_add_file(&table, &area, 1)).node;
+  a = begin(), b = begin(), c = begin();
+  DONE(bs_table_lock_path(&table, a, under, BS_X, NULL));
+  DONE(bs_table_lock(&table, a, area, BS_X));
+  DONE(bs_table_lock(&table, b, root, BS_IS));
+  send(&one, b, area, BS_S);
+  send_by_path(&two, c, under, BS_X);
+  ANSWERS(BS_HAS_CHILDREN, bs_table_drop(&table, a, area, NULL));
+  DONE(bs_table_drop(&table, a, under, &told));
+  WANT(told.count == 0);
+  DONE(bs_table_drop(&table, a, area, &told));
+  WANT(told.count == 2 && is_told(0, b, BS_TOLD_GONE) && is_told(1, c, BS_TOLD_GONE));
+  back(&one, BS_GONE);
+  back(&two, BS_GONE);
+  holds(c, root, BS_IX);
+  ANSWERS(BS_NO_SUCH_NODE, bs_table_lock_path(&table, c, under, BS_X, NULL));
+  ANSWERS(BS_NO_SUCH_NODE, bs_table_lock(&table, b, area, BS_S));
+  DONE(bs_table_end(&table));
+}
+
 static void grants_by(bs_reply (*escalate)(bs_table *, bs_txn, bs_node, bs_notices *)) {
   struct asker one;
   bs_node parents[2], child;
@@ -1342,6 +1369,67 @@ static void how_a_sleep_for_a_row_ends(void) {
   ANSWERS(BS_NO_MANAGER, bs_table_add_row_file(&table, &root, 1));
 }
 
+/* A file of rows is dropped and made again in one list, while a writer sleeps for it: that one is told so, and its rows'
+ * numbers are free in the next file. */
+static void a_file_of_rows_is_dropped(void) {
+  struct asker one, two;
+  bs_command list[4];
+  bs_txn a, b, c;
+  set_up_rows(BS_AT_BLOCK);
+  a = begin_writer(OLD_KEY), b = begin(), c = begin();
+  locked_row(a, 7, OLD_KEY);
+  send_by_path(&one, b, rows, BS_X);
+  send_by_path(&two, c, rows, BS_IX);
+  DONE(bs_table_commit_rows(&table, a, NULL));
+  back(&one, BS_DONE);
+  DONE(bs_table_lock_path(&table, b, by_row_key, BS_X, NULL));
+  ANSWERS(BS_FILE_IN_USE, bs_table_drop(&table, b, rows, NULL));
+  list[0] = bs_do_drop(b, by_row_key);
+  list[1] = bs_do_drop(b, rows);
+  list[1].told = &told;
+  list[2] = bs_do_add_row_file(&root, 1);
+  list[3] = bs_do_commit(b);
+  WANT(bs_table_run(&table, list, 4) == 4 && told.count == 1 && is_told(0, c, BS_TOLD_GONE));
+  back(&two, BS_GONE);
+  ANSWERS(BS_NOT_ROWS, ask_row(c, 7, OLD_KEY, NULL));
+  WANT(!same_node(list[2].reply.node, rows));
+  rows = list[2].reply.node;
+  DONE(bs_table_lock_path(&table, c, rows, BS_IX, NULL));
+  DONE(bs_table_lock_row(&table, c, rows, 7, NULL, 0, BS_X, NULL));
+  DONE(bs_table_commit_rows(&table, c, NULL));
+  DONE(bs_table_end(&table));
+}
+
+/* An index is dropped and made with finer bounds in one list. Who slept for it is told so, and who sleeps for the file
+ * is granted behind the list. */
+static void an_index_is_made_again(void) {
+  static const uint64_t finer[3] = { 50, 100, 150 };
+  struct asker one, two;
+  bs_command list[3];
+  bs_node days;
+  bs_txn a, b, c;
+  set_up_rows(BS_AT_BLOCK);
+  a = begin(), b = begin(), c = begin();
+  DONE(bs_table_lock_path(&table, a, rows, BS_X, NULL));
+  DONE(bs_table_lock_path(&table, a, by_row_key, BS_X, NULL));
+  send_by_path(&one, b, rows_below, BS_S);
+  send_by_path(&two, c, rows, BS_IX);
+  list[0] = bs_do_drop(a, by_row_key);
+  list[1] = bs_do_index_by(a, &root, 1, rows, finer, 3);
+  list[2] = bs_do_commit(a);
+  WANT(bs_table_run(&table, list, 3) == 3);
+  back(&one, BS_GONE);
+  back(&two, BS_DONE);
+  by_row_key = list[1].reply.node;
+  days = DONE(bs_table_interval_of(&table, by_row_key, 120)).node;
+  WANT(bs_table_place(&table, days).count == 2);
+  DONE(bs_table_lock_path(&table, c, days, BS_IX, NULL));
+  DONE(ask_row(c, 7, 120, NULL));
+  DONE(bs_table_commit_rows(&table, c, NULL));
+  ANSWERS(BS_NO_SUCH_NODE, bs_table_lock_path(&table, b, rows_below, BS_S, NULL));
+  DONE(bs_table_end(&table));
+}
+
 static void rows_that_change(void) {
   bs_reply reply;
   bs_node row;
@@ -1696,7 +1784,7 @@ static void lists_that_name(void) {
 static void every_command(void) {
   static const uint64_t bound = 7, key = 3;
   bs_node top, under, table_node, index, record;
-  bs_command list[5];
+  bs_command list[7];
   bs_txn t, u;
   set_up(BS_AT_BLOCK);
   list[0] = bs_do_add_inner(NULL, 0);
@@ -1735,7 +1823,22 @@ static void every_command(void) {
   WANT(bs_table_run(&table, list, 4) == 3 && list[3].reply.status == BS_NOT_WAITING);
   list[0] = bs_do_add_row_file(&top, 1);
   WANT(bs_table_run(&table, list, 1) == 1 && bs_table_kind(&table, list[0].reply.node).count == BS_FILE);
-  ANSWERS(BS_ROWS_BY_NUMBER, bs_table_adopt(&table, list[0].reply.node, NULL, 0));
+  table_node = list[0].reply.node;
+  ANSWERS(BS_ROWS_BY_NUMBER, bs_table_adopt(&table, table_node, NULL, 0));
+  list[0] = bs_do_begin();
+  list[1] = bs_do_lock(bs_begun(), top, BS_IX);
+  list[2] = bs_do_lock(bs_begun(), table_node, BS_X);
+  list[3] = bs_do_index_by(bs_begun(), &top, 1, table_node, &bound, 1);
+  list[4] = bs_do_commit(bs_begun());
+  WANT(bs_table_run(&table, list, 5) == 5);
+  index = list[3].reply.node;
+  WANT(same_node(bs_table_index(&table, table_node, 0).node, index));
+  list[3] = bs_do_lock(bs_begun(), index, BS_X);
+  list[4] = bs_do_drop(bs_begun(), index);
+  list[5] = bs_do_drop(bs_begun(), table_node);
+  list[6] = bs_do_commit(bs_begun());
+  WANT(bs_table_run(&table, list, 7) == 7 && bs_table_kind(&table, table_node).status == BS_NO_SUCH_NODE);
+  WANT(bs_table_run(&table, list, 7) == 2 && list[2].reply.status == BS_NO_SUCH_NODE);
   list[0] = bs_do(99, t, root);
   WANT(bs_table_run(&table, list, 1) == 0 && list[0].reply.status == BS_BAD_NUMBER);
   DONE(bs_table_end(&table));
@@ -2230,6 +2333,10 @@ static void places_without_a_table(void) {
   WANT(told.count == 0);
   ANSWERS(BS_NO_MANAGER, bs_table_lock(&table, t, root, BS_X));
   ANSWERS(BS_NO_MANAGER, bs_table_lock_path(&table, t, root, BS_X, NULL));
+  told.count = 1;
+  ANSWERS(BS_NO_MANAGER, bs_table_drop(&table, t, root, &told));
+  WANT(told.count == 0);
+  ANSWERS(BS_NO_MANAGER, bs_table_index_by(&table, t, &root, 1, file, NULL, 0));
   ANSWERS(BS_NO_MANAGER, bs_table_end(&table));
   told.count = 1;
   ANSWERS(BS_NULL_POINTER, bs_table_commit(NULL, t, &told));
@@ -2354,6 +2461,7 @@ int main(int count, char **words) {
   TELL(a_rekey_moves);
   TELL(a_file_moves);
   TELL(a_record_goes);
+  TELL(a_drop_ends_sleeps);
   TELL(an_escalation_grants);
   TELL(a_cancel_ends_a_sleep);
   TELL(a_cancel_grants);
@@ -2386,6 +2494,8 @@ int main(int count, char **words) {
   TELL(a_row_is_slept_for);
   TELL(a_row_with_other_keys_is_slept_for);
   TELL(how_a_sleep_for_a_row_ends);
+  TELL(a_file_of_rows_is_dropped);
+  TELL(an_index_is_made_again);
   TELL(rows_that_change);
   TELL(other_keys_by_the_fall_of_another);
   TELL(two_ways_to_one_row);

@@ -743,6 +743,200 @@ static void a_file_moves(void) {
   DONE(bs_end(&m));
 }
 
+/* Takes the records of a file away, whose file and index the transaction holds. */
+static void delete_records(bs_manager *m, bs_txn t, struct file f) {
+  lock_path(m, t, f, f.below);
+  DONE(bs_lock(m, t, f.above, BS_IX, &told));
+  DONE(bs_lock(m, t, f.low, BS_X, &told));
+  DONE(bs_lock(m, t, f.high, BS_X, &told));
+  DONE(bs_delete(m, t, f.low, &told));
+  DONE(bs_delete(m, t, f.high, &told));
+}
+
+/* Transactions that can do nothing: one that has ended, one that waits, and one that was condemned. */
+struct unable {
+  bs_txn ended, waits, condemned;
+};
+
+static struct unable make_unable(bs_manager *m) {
+  bs_node node = DONE(bs_add_inner(m, NULL, 0)).node;
+  struct unable u;
+  u.ended = begin(m), u.waits = begin(m), u.condemned = begin(m);
+  DONE(bs_commit(m, u.ended, &told));
+  DONE(bs_lock(m, u.waits, node, BS_S, &told));
+  DONE(bs_lock(m, u.condemned, node, BS_S, &told));
+  WANT(bs_lock(m, u.waits, node, BS_X, &told).status == BS_WAITING);
+  WANT(bs_lock(m, u.condemned, node, BS_X, &told).status == BS_VICTIM);
+  return u;
+}
+
+/* A drop is refused in this order, and by what stands below each kind of node. */
+static void a_drop_is_refused(void) {
+  bs_node nothing = { 0, 0 };
+  bs_manager m = BS_NO_MANAGER_HERE;
+  bs_node root = begin_manager(&m, BS_AT_BLOCK);
+  struct file f = make_file(&m, root);
+  struct unable u = make_unable(&m);
+  bs_txn a = begin(&m);
+  struct seen before = see(&m);
+  WANT(bs_drop(&m, u.ended, nothing, &told).status == BS_NO_SUCH_TXN);
+  WANT(bs_drop(&m, u.waits, nothing, &told).status == BS_TXN_WAITING);
+  WANT(bs_drop(&m, u.condemned, nothing, &told).status == BS_TXN_CONDEMNED);
+  WANT(bs_drop(&m, a, nothing, &told).status == BS_NO_SUCH_NODE);
+  WANT(bs_drop(&m, a, f.low, &told).status == BS_BAD_PARENTS);
+  WANT(bs_drop(&m, a, f.below, &told).status == BS_BAD_PARENTS);
+  WANT(bs_drop(&m, a, root, &told).status == BS_NEED_EXCLUSIVE);
+  WANT(bs_drop(&m, a, f.file, &told).status == BS_NEED_EXCLUSIVE);
+  WANT(bs_drop(&m, a, f.index, &told).status == BS_NEED_EXCLUSIVE && is_as(&m, &before));
+  DONE(bs_lock(&m, a, root, BS_X, &told));
+  DONE(bs_lock(&m, a, f.index, BS_X, &told));
+  WANT(bs_drop(&m, a, root, &told).status == BS_HAS_CHILDREN);
+  WANT(bs_drop(&m, a, f.index, &told).status == BS_NEED_EXCLUSIVE); /* For want of its file. */
+  DONE(bs_lock(&m, a, f.file, BS_X, &told));
+  WANT(bs_drop(&m, a, f.index, &told).status == BS_FILE_IN_USE);
+  WANT(bs_drop(&m, a, f.file, &told).status == BS_FILE_IN_USE);
+  delete_records(&m, a, f);
+  WANT(bs_drop(&m, a, f.file, &told).status == BS_FILE_IN_USE); /* It has an index. */
+  DONE(bs_drop(&m, a, f.index, &told));
+  WANT(bs_kind(&m, f.below).status == BS_NO_SUCH_NODE && bs_index(&m, f.file, 0).status == BS_NO_PLACE);
+  DONE(bs_drop(&m, a, f.file, &told));
+  DONE(bs_drop(&m, a, root, &told));
+  WANT(bs_len(&m).count == 1 && bs_lock_count(&m, a).count == 0 && told.count == 0);
+  DONE(bs_end(&m));
+}
+
+/* Bounds that fall, so that what is refused for another reason is so before these are looked at. */
+static bs_reply index_falling(bs_manager *m, bs_txn t, const bs_node *parents, bs_node file) {
+  static const uint64_t falling[2] = { 2, 1 };
+  return bs_index_by(m, t, parents, 2, file, falling, 2);
+}
+
+/* An index of a file that has been in use is refused in this order. */
+static void an_index_by_is_refused(void) {
+  bs_node nothing = { 0, 0 }, parents[2], none[2], files[2];
+  bs_manager m = BS_NO_MANAGER_HERE;
+  bs_node root = begin_manager(&m, BS_AT_BLOCK);
+  struct file f = make_file(&m, root);
+  struct unable u = make_unable(&m);
+  bs_txn a = begin(&m);
+  bs_reply reply;
+  uint64_t i;
+  struct seen before;
+  parents[0] = none[0] = files[0] = root;
+  parents[1] = DONE(bs_add_inner(&m, NULL, 0)).node, none[1] = nothing, files[1] = f.file;
+  before = see(&m);
+  WANT(index_falling(&m, u.ended, none, nothing).status == BS_NO_SUCH_TXN);
+  WANT(index_falling(&m, u.waits, none, nothing).status == BS_TXN_WAITING);
+  WANT(index_falling(&m, u.condemned, none, nothing).status == BS_TXN_CONDEMNED);
+  WANT(index_falling(&m, a, none, root).status == BS_NO_SUCH_NODE);
+  WANT(index_falling(&m, a, files, nothing).status == BS_NO_SUCH_NODE);
+  WANT(index_falling(&m, a, files, f.file).status == BS_BAD_PARENTS);
+  WANT(index_falling(&m, a, parents, f.index).status == BS_BAD_PARENTS);
+  WANT(bs_index_by(&m, a, NULL, 0, f.file, NULL, 0).status == BS_BAD_PARENTS);
+  WANT(index_falling(&m, a, parents, f.file).status == BS_NEED_EXCLUSIVE && is_as(&m, &before));
+  DONE(bs_lock_path(&m, a, f.file, BS_X, &told));
+  reply = index_falling(&m, a, parents, f.file);
+  WANT(reply.status == BS_NEED_PARENTS && same_node(reply.node, parents[1]));
+  DONE(bs_lock(&m, a, parents[1], BS_IX, &told));
+  WANT(index_falling(&m, a, parents, f.file).status == BS_FILE_IN_USE);
+  delete_records(&m, a, f);
+  WANT(index_falling(&m, a, parents, f.file).status == BS_BAD_KEYS);
+  for (i = 1; i < 7; i++) {
+    bs_node made = DONE(bs_index_by(&m, a, parents, 2, f.file, &i, 1)).node;
+    WANT(bs_held(&m, a, made).mode == BS_X && same_node(bs_index(&m, f.file, i).node, made));
+  }
+  WANT(index_falling(&m, a, parents, f.file).status == BS_BAD_PARENTS); /* It has seven. */
+  DONE(bs_end(&m));
+}
+
+/* Whoever waits for a node that is dropped is told so. Another node may have its key then, and none its name. */
+static void a_node_is_dropped(void) {
+  bs_manager m = BS_NO_MANAGER_HERE;
+  bs_node root = begin_manager(&m, BS_AT_BLOCK), file = DONE(bs_add_file(&m, &root, 1)).node, next;
+  bs_txn a = begin(&m), b = begin(&m), c = begin(&m);
+  bs_counts counts;
+  size_t made = 0;
+  DONE(bs_lock_path(&m, a, file, BS_X, &told));
+  WANT(bs_lock_path(&m, b, file, BS_S, &told).status == BS_WAITING);
+  WANT(bs_lock_path(&m, c, file, BS_IX, &told).status == BS_WAITING);
+  DONE(bs_drop(&m, a, file, &told));
+  WANT(told.count == 2 && is_told(0, b, BS_TOLD_GONE) && is_told(1, c, BS_TOLD_GONE));
+  WANT(bs_has(bs_ended(&m).slots, b.slot) && bs_has(bs_ended(&m).slots, c.slot));
+  WANT(bs_waiting(&m, b).status == BS_NOT_WAITING && bs_lock_count(&m, a).count == 1);
+  WANT(bs_lock_count(&m, b).count == 1 && DONE(bs_counters(&m, &counts)).status == BS_DONE && counts.gone == 2);
+  do {
+    next = DONE(bs_add_file(&m, &root, 1)).node;
+    WANT(next.birth != file.birth && ++made < 100);
+  } while (next.key != file.key);
+  WANT(bs_verdict(&m, b, file, BS_S).status == BS_GONE && bs_verdict(&m, c, file, BS_IX).status == BS_GONE);
+  WANT(bs_lock(&m, b, file, BS_S, &told).status == BS_NO_SUCH_NODE && bs_group(&m, file).status == BS_NO_SUCH_NODE);
+  WANT(bs_lock_path(&m, c, file, BS_S, &told).status == BS_NO_SUCH_NODE);
+  WANT(bs_drop(&m, a, file, &told).status == BS_NO_SUCH_NODE && bs_held(&m, a, next).mode == BS_NL);
+  DONE(bs_lock(&m, b, next, BS_S, &told));
+  DONE(bs_end(&m));
+}
+
+/* The intervals of an index get finer under the locks of one transaction, which holds the new index to its end. */
+static void an_index_is_made_again(void) {
+  static const uint64_t finer[3] = { 50, 100, 150 };
+  bs_manager m = BS_NO_MANAGER_HERE;
+  bs_node root = begin_manager(&m, BS_AT_BLOCK), made, other, days;
+  struct file f = with_index(&m, root, DONE(bs_add_file(&m, &root, 1)).node);
+  bs_txn a = begin(&m), b = begin(&m);
+  other = DONE(bs_add_index(&m, &root, 1, f.file, NULL, 0)).node;
+  DONE(bs_lock_path(&m, a, f.file, BS_X, &told));
+  DONE(bs_lock_path(&m, a, f.index, BS_X, &told));
+  DONE(bs_lock(&m, a, f.below, BS_X, &told));
+  WANT(bs_lock_path(&m, b, f.below, BS_S, &told).status == BS_WAITING);
+  made = DONE(bs_index_by(&m, a, &root, 1, f.file, finer, 3)).node;
+  DONE(bs_drop(&m, a, f.index, &told));
+  WANT(told.count == 1 && is_told(0, b, BS_TOLD_GONE) && bs_held(&m, a, f.below).status == BS_NO_SUCH_NODE);
+  WANT(same_node(bs_index(&m, f.file, 0).node, other) && same_node(bs_index(&m, f.file, 1).node, made));
+  WANT(bs_index(&m, f.file, 2).status == BS_NO_PLACE && bs_held(&m, a, made).mode == BS_X);
+  days = DONE(bs_interval_of(&m, made, 120)).node;
+  WANT(bs_place(&m, days).count == 2 && bs_interval(&m, made, 4).status == BS_NO_PLACE);
+  WANT(bs_lock_path(&m, b, days, BS_IX, &told).status == BS_WAITING);
+  DONE(bs_commit(&m, a, &told));
+  WANT(told.count == 1 && is_told(0, b, BS_TOLD_GRANTED) && same_node(told.at[0].node, made));
+  DONE(bs_lock_path(&m, b, days, BS_IX, &told));
+  DONE(bs_end(&m));
+}
+
+/* Rows that have nodes are in the way of a drop, whoever left them, until they are let go. What is gone is no file of
+ * rows any more, also where another file has its key. */
+static void a_file_of_rows_is_dropped(void) {
+  bs_manager m = BS_NO_MANAGER_HERE;
+  struct file f = begin_rows(&m);
+  bs_txn a = begin(&m), b = begin(&m);
+  bs_node made, next;
+  DONE(lock_row(&m, a, f, 7, 70, BS_X));
+  DONE(bs_commit(&m, a, &told)); /* It lets no row go. */
+  DONE(bs_lock_path(&m, b, f.file, BS_X, &told));
+  DONE(bs_lock_path(&m, b, f.index, BS_X, &told));
+  WANT(bs_drop(&m, b, f.index, &told).status == BS_FILE_IN_USE);
+  DONE(lock_row(&m, b, f, 7, 70, BS_X));
+  WANT(bs_index_by(&m, b, &f.root, 1, f.file, NULL, 0).status == BS_FILE_IN_USE);
+  DONE(bs_unlock_row(&m, b, f.file, 7, &told));
+  WANT(bs_add_index(&m, &f.root, 1, f.file, NULL, 0).status == BS_FILE_IN_USE);
+  made = DONE(bs_index_by(&m, b, &f.root, 1, f.file, NULL, 0)).node;
+  DONE(bs_drop(&m, b, f.index, &told));
+  DONE(bs_lock(&m, b, bs_interval(&m, made, 0).node, BS_IX, &told));
+  DONE(ask_row(&m, b, f, 8, 170, BS_X));
+  WANT(bs_drop(&m, b, made, &told).status == BS_FILE_IN_USE);
+  DONE(bs_unlock_row(&m, b, f.file, 8, &told));
+  DONE(bs_drop(&m, b, made, &told));
+  DONE(bs_drop(&m, b, f.file, &told));
+  WANT(bs_len(&m).count == 1 && bs_row_node(&m, f.file, 7).status == BS_NO_SUCH_NODE);
+  WANT(bs_unlock_row(&m, b, f.file, 7, &told).status == BS_NOT_ROWS);
+  WANT(bs_lock_row(&m, b, f.file, 7, NULL, 0, BS_X, &told).status == BS_NOT_ROWS);
+  do next = DONE(bs_add_file(&m, &f.root, 1)).node;
+  while (next.key != f.file.key);
+  WANT(bs_lock_row(&m, b, next, 7, NULL, 0, BS_X, &told).status == BS_NOT_ROWS);
+  DONE(bs_adopt(&m, next, NULL, 0));
+  DONE(bs_commit_rows(&m, b, &told));
+  DONE(bs_end(&m));
+}
+
 static void questions(void) {
   bs_manager m = BS_NO_MANAGER_HERE;
   bs_node root = begin_manager(&m, BS_AT_BLOCK);
@@ -801,6 +995,8 @@ static void no_transaction_by(bs_manager *m, bs_txn none, const struct file *f) 
   WANT(bs_delete(m, none, f->low, &told).status == BS_NO_SUCH_TXN);
   WANT(bs_rekey(m, none, f->low, f->index, 7, &told).status == BS_NO_SUCH_TXN);
   WANT(bs_move(m, none, f->index, &f->root, 1, &told).status == BS_NO_SUCH_TXN);
+  WANT(bs_drop(m, none, nothing, &told).status == BS_NO_SUCH_TXN);
+  WANT(bs_index_by(m, none, &nothing, 1, nothing, NULL, 0).status == BS_NO_SUCH_TXN);
   WANT(bs_commit_rows(m, none, &told).status == BS_NO_SUCH_TXN);
   WANT(bs_abort_rows(m, none, &told).status == BS_NO_SUCH_TXN);
   WANT(bs_cancel_rows(m, none, &told).status == BS_NO_SUCH_TXN);
@@ -855,6 +1051,7 @@ static void numbers_out_of_range(void) {
   WANT(bs_lock(&m, a, root, BS_NL, &told).status == BS_BAD_MODE);
   WANT(bs_add_inner(&m, many, 9).status == BS_BAD_NUMBER && bs_add_row_file(&m, many, 9).status == BS_BAD_NUMBER);
   WANT(bs_move(&m, a, root, many, 9, &told).status == BS_BAD_NUMBER);
+  WANT(bs_index_by(&m, a, many, 9, root, NULL, 0).status == BS_BAD_NUMBER);
   DONE(bs_end(&m));
 }
 
@@ -933,13 +1130,21 @@ static void intervals_are_nodes(void) {
   bs_manager m = BS_NO_MANAGER_HERE;
   bs_options options = bs_usual();
   const uint64_t bounds[3] = { 1, 2, 3 };
-  bs_node root, file;
+  bs_node root, file, index;
+  bs_txn a;
   options.nodes = 6;
   DONE(bs_make_with(&m, &options));
   root = DONE(bs_add_inner(&m, NULL, 0)).node;
   file = DONE(bs_add_file(&m, &root, 1)).node;
   WANT(bs_add_index(&m, &root, 1, file, bounds, 3).status == BS_TOO_MANY_NODES);
-  DONE(bs_add_index(&m, &root, 1, file, bounds, 2));
+  index = DONE(bs_add_index(&m, &root, 1, file, bounds, 2)).node;
+  a = begin(&m);
+  DONE(bs_lock_path(&m, a, file, BS_X, &told));
+  DONE(bs_lock(&m, a, index, BS_X, &told));
+  WANT(bs_index_by(&m, a, &root, 1, file, NULL, 0).status == BS_TOO_MANY_NODES);
+  DONE(bs_drop(&m, a, index, &told));
+  WANT(bs_len(&m).count == 2 && bs_index_by(&m, a, &root, 1, file, bounds, 3).status == BS_TOO_MANY_NODES);
+  DONE(bs_index_by(&m, a, &root, 1, file, bounds, 2));
   DONE(bs_end(&m));
 }
 
@@ -956,6 +1161,9 @@ static void places_without_a_manager(void) {
   told.count = 1;
   WANT(bs_commit(&m, a, &told).status == BS_NO_MANAGER && told.count == 0);
   WANT(bs_held(&m, a, root).status == BS_NO_MANAGER);
+  told.count = 1;
+  WANT(bs_drop(&m, a, root, &told).status == BS_NO_MANAGER && told.count == 0);
+  WANT(bs_index_by(&m, a, &root, 1, root, NULL, 0).status == BS_NO_MANAGER);
   DONE(bs_make(&m, BS_AT_BLOCK, 1));
   WANT(bs_lock(&m, a, root, BS_X, &told).status == BS_NO_SUCH_TXN);
   begin(&m);
@@ -980,6 +1188,7 @@ static void a_refused_call_tells_nobody(void) {
   WANT(is_refused_and_empty(bs_lock_row(NULL, a, root, 7, &key, 1, BS_X, &told)));
   WANT(is_refused_and_empty(bs_move(&m, a, root, NULL, 1, &told)));
   WANT(is_refused_and_empty(bs_move(NULL, a, root, &root, 1, &told)));
+  WANT(is_refused_and_empty(bs_drop(NULL, a, root, &told)));
   WANT(is_refused_and_empty(bs_lock(NULL, a, root, BS_X, &told)));
   WANT(is_refused_and_empty(bs_lock_path(NULL, a, root, BS_X, &told)));
   WANT(is_refused_and_empty(bs_commit_rows(NULL, a, &told)));
@@ -1004,6 +1213,10 @@ static void null_pointers(void) {
   WANT(bs_add_index(&m, &root, 1, root, NULL, 1).status == BS_NULL_POINTER);
   WANT(bs_insert(&m, a, root, NULL, 1).status == BS_NULL_POINTER);
   WANT(bs_move(&m, a, root, NULL, 1, &told).status == BS_NULL_POINTER);
+  WANT(bs_drop(&m, a, root, NULL).status == BS_NULL_POINTER);
+  WANT(bs_index_by(&m, a, NULL, 1, root, NULL, 0).status == BS_NULL_POINTER);
+  WANT(bs_index_by(&m, a, &root, 1, root, NULL, 1).status == BS_NULL_POINTER);
+  WANT(bs_index_by(NULL, a, &root, 1, root, NULL, 0).status == BS_NULL_POINTER);
   DONE(bs_end(&m));
 }
 
@@ -1069,6 +1282,50 @@ static long growths_of(bool (*refuses_nth)(long n)) {
 
 static void refused_growths(void) {
   WANT(growths_of(refuses) > 4);
+}
+
+static bs_node index_in_spite(bs_manager *m, bs_txn t, bs_node root, bs_node file) {
+  static const uint64_t bounds[2] = { 10, 20 };
+  uint64_t before = bs_accepted(m).count, nodes = bs_len(m).count;
+  bs_reply made = bs_index_by(m, t, &root, 1, file, bounds, 2);
+  if (made.status == BS_NO_MEMORY) {
+    WANT(bs_accepted(m).count == before && bs_len(m).count == nodes && bs_index(m, file, 0).status == BS_NO_PLACE);
+    made = bs_index_by(m, t, &root, 1, file, bounds, 2);
+  }
+  return DONE(made).node;
+}
+
+/* A drop takes no memory: a growth that is refused is refused behind it. */
+static void drop_without_memory(bs_manager *m, bs_txn t, bs_node node) {
+  long left = refused_growth;
+  refused_growth = 1;
+  DONE(bs_drop(m, t, node, &told));
+  WANT(refused_growth == 1);
+  refused_growth = left;
+}
+
+/* Whether there is an nth growth of indexes that are made and dropped, which is refused. */
+static bool refuses_an_index(long n) {
+  bs_manager m = BS_NO_MANAGER_HERE;
+  bs_node root = begin_manager(&m, BS_AT_BLOCK), files[8];
+  bs_txn a = begin(&m);
+  bool refused;
+  size_t i;
+  for (i = 0; i < 8; i++) files[i] = DONE(bs_add_file(&m, &root, 1)).node;
+  for (i = 0; i < 8; i++) DONE(bs_lock_path(&m, a, files[i], BS_X, &told));
+  refused_growth = n;
+  for (i = 0; i < 8; i++) index_in_spite(&m, a, root, files[i]);
+  for (i = 0; i < 8; i++) drop_without_memory(&m, a, bs_index(&m, files[i], 0).node);
+  for (i = 0; i < 8; i++) drop_without_memory(&m, a, files[i]);
+  refused = refused_growth == 0;
+  refused_growth = 0;
+  WANT(bs_len(&m).count == 1 && bs_lock_count(&m, a).count == 1);
+  DONE(bs_end(&m));
+  return refused;
+}
+
+static void refused_growths_of_indexes(void) {
+  WANT(growths_of(refuses_an_index) > 2);
 }
 
 /* A transaction that may write rows in the lower interval. */
@@ -1306,6 +1563,11 @@ int main(void) {
   TELL(an_escalation_of_rows);
   TELL(an_escalation);
   TELL(a_file_moves);
+  TELL(a_drop_is_refused);
+  TELL(an_index_by_is_refused);
+  TELL(a_node_is_dropped);
+  TELL(an_index_is_made_again);
+  TELL(a_file_of_rows_is_dropped);
   TELL(questions);
   TELL(stale_names);
   TELL(slots_that_are_none);
@@ -1318,6 +1580,7 @@ int main(void) {
   TELL(null_pointers);
   TELL(everybody_is_told);
   TELL(refused_growths);
+  TELL(refused_growths_of_indexes);
   TELL(refused_growths_of_rows);
   TELL(refused_growths_of_row_files);
   TELL(rows_that_nobody_locks);

@@ -47,7 +47,7 @@ victims_at n = if n == 0 then Some Youngest else if n == 1 then Some Fewest else
 abbrev pub slot_at : ℕ → Option ℕ
 slot_at n = if nat_lt n most_slots then Some n else None
 
--- it was done; refusals have their own numbers, 1 to 22
+-- it was done; refusals have their own numbers, 1 to 23
 abbrev pub done : ℕ
 done = 0
 

@@ -17,16 +17,15 @@ ghost use Rattle.gl_c.specs.Rows.{ServesRow, comes_to_nothing, is_waited_for};
 ghost use Rattle.gl_c.specs.Serving.{HasShown, ServesNodes, ShowsNobodyLast, ShowsOn};
 ghost use Rattle.gl_c.specs.Watching.{OnlyShows};
 
-use gl_steps::{is_accepted, is_refused, leaves_waiting};
-use gl_wakes::{Boxes, Grant, Stop, ended_by};
-use gl_window::{Telling, board_now, is_due, may_show_waits};
 use gl_catalog::{Answer, Command, Manager, Reached};
 use gl_modes::{Mode, NodeId, Refusal};
 use gl_registry::{Registry, Row, RowAnswer, RowCall};
 use gl_slots::Slots;
+use gl_steps::{is_accepted, is_refused, leaves_waiting};
 use gl_table::{Detect, Locked, Told, TxnId};
 use gl_waits::{Board, Victims};
-use gl_window::{Publisher, WatchFault, Watcher};
+use gl_wakes::{Boxes, Grant, Stop, ended_by};
+use gl_window::{Publisher, Telling, WatchFault, Watcher, board_now, is_due, may_show_waits};
 use std::alloc::{AllocError, Global};
 use std::marker::Model;
 

@@ -28,6 +28,7 @@ mod queries;
 mod records;
 mod reply;
 mod rows;
+mod schema;
 mod searches;
 mod session;
 mod txns;

@@ -12,17 +12,17 @@ use crate::numbers::{
     DONE, GONE, MOVED, NOT_ROWS, ON_THE_WAY, OTHER_KEYS, ROWS_BY_NUMBER, VICTIM, WAITING,
     effect_number, mode_number,
 };
-use gl_wakes::{Grant, Stop};
 use gl_catalog::{Answer, Reached};
 use gl_modes::{Mode, NodeId, Refusal};
 use gl_registry::RowAnswer;
 use gl_table::{Locked, TxnId};
+use gl_wakes::{Grant, Stop};
 
 /// An answer. Beside the status it has what the call answers, and zero in all other fields.
 #[repr(C)]
 #[derive(Clone, Copy)]
 pub struct Reply {
-    /// Zero where it was done, a refusal's number from 1 to 22, or one of the numbers above.
+    /// Zero where it was done, a refusal's number from 1 to 23, or one of the numbers above.
     pub status: u32,
     /// A mode's number.
     pub mode: u32,

@@ -246,7 +246,7 @@ impl Manager {
 /// # The graph
 ///
 /// No path closes, whatever is made, moved or removed. These take memory; each answers the new
-/// node. They tell nobody.
+/// node. They tell nobody. Nodes go by [`drop_node`](Manager::drop_node), and no name is ever given twice.
 impl Manager {
     /// A new inner node under 0 to 8 different inner nodes; without parents it is a root.
     ///
@@ -288,8 +288,8 @@ impl Manager {
     }
 
     /// A new index of a file that has no records, and of which no row ever had a node by
-    /// [`adopt`](Manager::adopt) or [`lock_row`](Manager::lock_row). It lies under 1 to 8 different inner
-    /// nodes, and has up to 256 bounds, or as many as were chosen by [`bounds`](Options::bounds). They rise
+    /// [`adopt`](Manager::adopt) or [`lock_row`](Manager::lock_row); else [`index_by`](Manager::index_by)
+    /// makes one. It lies under 1 to 8 different inner nodes, and has up to 256 bounds, or as many as were chosen by [`bounds`](Options::bounds). They rise
     /// from above 0: interval 0 has the keys below the first bound, interval i those from bound i - 1 on.
     /// Each interval is a node.
     ///
@@ -534,7 +534,7 @@ impl Manager {
 
     /// A new record of a file, as [`insert`](Manager::insert) makes one, but for no transaction: nobody
     /// holds it, and no locks are asked for. It is for an engine that itself gives its rows nodes while
-    /// they are locked. From then on no index of the file is made.
+    /// they are locked. From then on no index of the file is made but by [`index_by`](Manager::index_by).
     ///
     /// Refused with [`WornOut`](Refusal::WornOut), [`NoSuchNode`](Refusal::NoSuchNode),
     /// [`BadParents`](Refusal::BadParents) (no file), [`BadKeys`](Refusal::BadKeys),
@@ -609,6 +609,69 @@ impl Manager {
         let Pinned { place, told } = &mut *self.pinned;
         accepted(sys::move_node(place, txn, node, parents, told))?;
         Ok(Notices::of(told))
+    }
+}
+
+/// # What a schema changes
+///
+/// Both are for files of either kind. An abort undoes neither. The name of a node that is gone is never
+/// another's: whoever has kept it is refused with [`NoSuchNode`](Refusal::NoSuchNode).
+impl Manager {
+    /// Takes away an inner node that has no children, a file that has no records and no indexes, or an index
+    /// with its intervals, of whose file no record stands. The transaction holds [`X`](Mode::X) on the node,
+    /// and for an index on its file too. All locks on the node and on its intervals go, its own among them.
+    /// Who waits for it is told [`Notice::Gone`](crate::Notice::Gone). Behind an index that goes, the later
+    /// ones of its file have their places and their keys one lower.
+    ///
+    /// Refused with [`WornOut`](Refusal::WornOut), [`NoSuchTxn`](Refusal::NoSuchTxn),
+    /// [`TxnWaiting`](Refusal::TxnWaiting), [`TxnCondemned`](Refusal::TxnCondemned),
+    /// [`NoSuchNode`](Refusal::NoSuchNode), [`BadParents`](Refusal::BadParents) (an interval or a record),
+    /// [`NeedExclusive`](Refusal::NeedExclusive), and then with [`HasChildren`](Refusal::HasChildren) (an
+    /// inner node) or [`FileInUse`](Refusal::FileInUse) (a file or an index). Takes no memory.
+    ///
+    /// ```
+    /// # use burlapslate::{Detect, Manager, Mode, Refusal, SLOTS};
+    /// # let mut m = Manager::new(Detect::AtBlock, SLOTS)?;
+    /// # let shop = m.add_inner(&[])?;
+    /// # let orders = m.add_file(&[shop])?;
+    /// let by_day = m.add_index(&[shop], orders, &[100])?;
+    /// let txn = m.begin()?;
+    /// m.lock_path(txn, orders, Mode::X)?;
+    /// m.lock_path(txn, by_day, Mode::X)?;
+    /// let finer = m.index_by(txn, &[shop], orders, &[50, 100, 150])?;
+    /// assert!(m.drop_node(txn, by_day)?.is_empty());
+    /// assert_eq!(m.index(orders, 0)?, Some(finer));
+    /// assert_eq!(m.group(by_day), Err(Refusal::NoSuchNode));
+    /// # Ok::<(), burlapslate::Refusal>(())
+    /// ```
+    pub fn drop_node(&mut self, txn: Txn, node: Node) -> Result<Notices<'_>, Refusal> {
+        let Pinned { place, told } = &mut *self.pinned;
+        accepted(sys::bs_call_drop(place, txn, node, told))?;
+        Ok(Notices::of(told))
+    }
+
+    /// A new index of a file of which no record stands now, with parents and bounds as
+    /// [`add_index`](Manager::add_index) takes them. It is the last of the file's indexes. The transaction
+    /// holds [`X`](Mode::X) on the file and [`IX`](Mode::IX) or more on each parent, and holds the index in
+    /// `X` from then on: so nobody comes by the new index until it ends.
+    ///
+    /// Refused with [`BadNumber`](Refusal::BadNumber), [`WornOut`](Refusal::WornOut),
+    /// [`NoSuchTxn`](Refusal::NoSuchTxn), [`TxnWaiting`](Refusal::TxnWaiting),
+    /// [`TxnCondemned`](Refusal::TxnCondemned), [`NoSuchNode`](Refusal::NoSuchNode),
+    /// [`BadParents`](Refusal::BadParents) (also where the file has 7 indexes),
+    /// [`NeedExclusive`](Refusal::NeedExclusive), [`NeedParents`](Refusal::NeedParents),
+    /// [`FileInUse`](Refusal::FileInUse), [`BadKeys`](Refusal::BadKeys),
+    /// [`TooManyNodes`](Refusal::TooManyNodes), [`NoMemory`](Refusal::NoMemory). Takes memory. It tells
+    /// nobody. Costs a step for each bound.
+    pub fn index_by(
+        &mut self,
+        txn: Txn,
+        parents: &[Node],
+        file: Node,
+        bounds: &[u64],
+    ) -> Result<Node, Refusal> {
+        let reply = sys::index_by(&mut self.pinned.place, txn, parents, file, bounds);
+        accepted(reply).map(|reply| reply.node)
     }
 }
 

@@ -38,11 +38,12 @@ pub enum Refusal {
     TooManyNodes,
     /// A node of the wrong kind for its place, one parent twice, or too few parents.
     BadParents,
-    /// Without the exclusive locks that a delete, a rekey or a move needs.
+    /// Without the exclusive locks that a delete, a rekey, a move, a drop or an index of a file in use needs.
     NeedExclusive,
     /// The transaction waits for nothing.
     NotWaiting,
-    /// An index cannot be added to a file that has records, or of which a row had a node.
+    /// The file has records. Of [`add_index`](crate::Manager::add_index): or a row of it had a node. Of
+    /// [`drop_node`](crate::Manager::drop_node): or the file that is to go has indexes.
     FileInUse,
     /// Bounds that do not rise from above 0, too many of them, or not a key for each index.
     BadKeys,
@@ -53,6 +54,8 @@ pub enum Refusal {
     Cycle(Node),
     /// A record is not forgotten while some transaction holds it or waits for it.
     RecordInUse,
+    /// An inner node with children is not dropped.
+    HasChildren,
     /// The file is one of rows: its records come, go and change by calls about rows alone. It comes
     /// first of all.
     RowsByNumber,
@@ -89,6 +92,7 @@ impl Refusal {
             sys::WORN_OUT => Refusal::WornOut,
             sys::CYCLE => Refusal::Cycle(reply.node),
             sys::RECORD_IN_USE => Refusal::RecordInUse,
+            sys::HAS_CHILDREN => Refusal::HasChildren,
             sys::TOO_MANY_WATCHERS => Refusal::TooManyWatchers,
             sys::ROWS_BY_NUMBER => Refusal::RowsByNumber,
             sys::NOT_ROWS => Refusal::NotRows,
@@ -121,6 +125,7 @@ impl Refusal {
             Refusal::WornOut => "WornOut",
             Refusal::Cycle(_) => "Cycle",
             Refusal::RecordInUse => "RecordInUse",
+            Refusal::HasChildren => "HasChildren",
             Refusal::RowsByNumber => "RowsByNumber",
             Refusal::NotRows => "NotRows",
             Refusal::TooManyWatchers => "TooManyWatchers",
@@ -159,7 +164,7 @@ mod tests {
     }
 
     /// The names of the statuses by number, those that the safe calls never answer left out.
-    const TEXTS: [(u32, &str); 24] = [
+    const TEXTS: [(u32, &str); 25] = [
         (1, "NoMemory"),
         (2, "NoSuchNode"),
         (3, "NoSuchTxn"),
@@ -180,6 +185,7 @@ mod tests {
         (19, "WornOut"),
         (21, "Cycle"),
         (22, "RecordInUse"),
+        (23, "HasChildren"),
         (66, "BadNumber"),
         (70, "TooManyWatchers"),
         (71, "RowsByNumber"),

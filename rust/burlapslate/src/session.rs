@@ -338,6 +338,23 @@ impl<'t> Session<'t> {
             .serve(|m| m.move_node(self.txn, node, parents).map(drop))
     }
 
+    /// As [`Manager::drop_node`](crate::Manager::drop_node). Who sleeps for the node is woken, and answered
+    /// [`Stop::Gone`].
+    pub fn drop_node(&mut self, node: Node) -> Result<(), Refusal> {
+        self.table.serve(|m| m.drop_node(self.txn, node).map(drop))
+    }
+
+    /// As [`Manager::index_by`](crate::Manager::index_by).
+    pub fn index_by(
+        &mut self,
+        parents: &[Node],
+        file: Node,
+        bounds: &[u64],
+    ) -> Result<Node, Refusal> {
+        self.table
+            .ask(|m| m.index_by(self.txn, parents, file, bounds))
+    }
+
     /// Commits, wakes whoever is granted by that, and lets its rows go. One that is refused, since the
     /// transaction was condemned or another thread ended it, is aborted.
     ///

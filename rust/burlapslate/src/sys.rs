@@ -40,6 +40,7 @@ pub(crate) const BAD_KEYS: u32 = 18;
 pub(crate) const WORN_OUT: u32 = 19;
 pub(crate) const CYCLE: u32 = 21;
 pub(crate) const RECORD_IN_USE: u32 = 22;
+pub(crate) const HAS_CHILDREN: u32 = 23;
 pub(crate) const WAITING: u32 = 32;
 pub(crate) const VICTIM: u32 = 33;
 pub(crate) const MOVED: u32 = 34;
@@ -306,6 +307,21 @@ unsafe extern "C" {
         count: usize,
         told: &mut Notices,
     ) -> Reply;
+    pub(crate) safe fn bs_call_drop(
+        manager: &mut Place,
+        txn: Txn,
+        node: Node,
+        told: &mut Notices,
+    ) -> Reply;
+    fn bs_call_index_by(
+        manager: &mut Place,
+        txn: Txn,
+        parents: *const Node,
+        count: usize,
+        file: Node,
+        bounds: *const u64,
+        bound_count: usize,
+    ) -> Reply;
 
     fn bs_call_lock_row(
         manager: &mut Place,
@@ -455,6 +471,28 @@ pub(crate) fn add_index(
     let (above, count) = (nodes(parents), parents.len());
     // SAFETY: the counts are the lists' own.
     unsafe { bs_call_add_index(manager, above, count, file, numbers(bounds), bounds.len()) }
+}
+
+pub(crate) fn index_by(
+    manager: &mut Place,
+    txn: Txn,
+    parents: &[Node],
+    file: Node,
+    bounds: &[u64],
+) -> Reply {
+    let (above, count) = (nodes(parents), parents.len());
+    // SAFETY: the counts are the lists' own.
+    unsafe {
+        bs_call_index_by(
+            manager,
+            txn,
+            above,
+            count,
+            file,
+            numbers(bounds),
+            bounds.len(),
+        )
+    }
 }
 
 pub(crate) fn insert(manager: &mut Place, txn: Txn, file: Node, keys: &[u64]) -> Reply {

@@ -216,6 +216,12 @@ fn play(n: usize) -> bool {
             m.move_node(txn, inner, &[root]).map(|_| ())
         });
     }
+    let other = in_spite(&mut m, left, |m| m.add_file(&[root]));
+    in_spite(&mut m, left, |m| m.try_lock(txn, other, Mode::X));
+    for bounds in [&[10, 20][..], &[]] {
+        let index = in_spite(&mut m, left, |m| m.index_by(txn, &[root], other, bounds));
+        in_spite(&mut m, left, |m| m.drop_node(txn, index).map(|_| ()));
+    }
     let file = in_spite(&mut m, left, |m| m.add_row_file(&[root]));
     in_spite(&mut m, left, |m| m.try_lock(txn, file, Mode::IX));
     for number in 0..10 {
@@ -359,4 +365,23 @@ fn records_take_none_but_to_be_made() {
     assert_eq!(deleted, Ok([Some(Notice::Gone { txn: b }), None, None]));
     let escalated = without_memory(|| m.escalate(a, s.index).map(|(escalated, _)| escalated.mode));
     assert_eq!(escalated, Ok(Mode::X));
+}
+
+#[test]
+fn drops_take_none() {
+    let (mut m, root) = at_block();
+    let file = m.add_file(&[root]).unwrap();
+    let index = m.add_index(&[root], file, &[10, 20]).unwrap();
+    let [a, b] = begin(&mut m);
+    grant(&mut m, a, &[root], Mode::IX);
+    grant(&mut m, a, &[file, index], Mode::X);
+    grant(&mut m, b, &[root], Mode::IS);
+    wait(&mut m, b, index, Mode::S);
+    let gone = [Some(Notice::Gone { txn: b }), None, None];
+    assert_eq!(without_memory(|| m.drop_node(a, index).map(told)), Ok(gone));
+    assert_eq!(
+        without_memory(|| m.drop_node(a, file).map(told)),
+        Ok([None; 3])
+    );
+    assert_eq!(m.len(), 1);
 }

@@ -9,7 +9,7 @@ use burlapslate::{
 use common::{ask, at_block, begin, grant, refused_lock, store, wait, Store};
 
 /// What each command of a transaction on a node is refused with.
-fn of_each(m: &mut Manager, txn: Txn, s: &Store) -> [Option<Refusal>; 9] {
+fn of_each(m: &mut Manager, txn: Txn, s: &Store) -> [Option<Refusal>; 11] {
     [
         m.lock(txn, s.root, Mode::IS).err(),
         m.try_lock(txn, s.root, Mode::IS).err(),
@@ -20,6 +20,8 @@ fn of_each(m: &mut Manager, txn: Txn, s: &Store) -> [Option<Refusal>; 9] {
         m.delete(txn, s.low).err(),
         m.rekey(txn, s.low, s.index, 1).err(),
         m.move_node(txn, s.file, &[s.root]).err(),
+        m.drop_node(txn, s.file).err(),
+        m.index_by(txn, &[s.root], s.file, &[]).err(),
     ]
 }
 
@@ -31,9 +33,9 @@ fn a_transaction_that_waits_or_is_condemned() {
     grant(&mut m, a, &[root], Mode::S);
     grant(&mut m, b, &[root], Mode::S);
     wait(&mut m, a, root, Mode::X);
-    assert_eq!(of_each(&mut m, a, &s), [Some(Refusal::TxnWaiting); 9]);
+    assert_eq!(of_each(&mut m, a, &s), [Some(Refusal::TxnWaiting); 11]);
     assert_eq!(ask(&mut m, b, root, Mode::X), Asked::Victim);
-    assert_eq!(of_each(&mut m, b, &s), [Some(Refusal::TxnCondemned); 9]);
+    assert_eq!(of_each(&mut m, b, &s), [Some(Refusal::TxnCondemned); 11]);
     assert_eq!(m.cancel(b).unwrap_err(), Refusal::TxnCondemned);
 }
 
@@ -43,7 +45,7 @@ fn a_transaction_that_has_ended() {
     let s = store(&mut m, root);
     let [a] = begin(&mut m);
     assert!(m.abort(a).unwrap().is_empty());
-    assert_eq!(of_each(&mut m, a, &s), [Some(Refusal::NoSuchTxn); 9]);
+    assert_eq!(of_each(&mut m, a, &s), [Some(Refusal::NoSuchTxn); 11]);
     assert_eq!(m.cancel(a).unwrap_err(), Refusal::NoSuchTxn);
     assert_eq!(m.abort(a).unwrap_err(), Refusal::NoSuchTxn);
     assert_eq!(m.settle(a).unwrap_err(), Refusal::NoSuchTxn);
@@ -72,6 +74,11 @@ fn a_node_that_is_not() {
         m.move_node(a, s.file, &[none]).unwrap_err(),
         Refusal::NoSuchNode
     );
+    assert_eq!(m.drop_node(a, none).unwrap_err(), Refusal::NoSuchNode);
+    for (parent, file) in [(none, s.file), (root, none)] {
+        let made = m.index_by(a, &[parent], file, &[]);
+        assert_eq!(made, Err(Refusal::NoSuchNode));
+    }
     assert_eq!(m.group(none), Err(Refusal::NoSuchNode));
     assert_eq!(m.held(a, none), Err(Refusal::NoSuchNode));
     assert_eq!(m.effective(a, none), Err(Refusal::NoSuchNode));
@@ -130,6 +137,7 @@ fn numbers_out_of_range() {
     assert_eq!(m.add_inner(&many), Err(Refusal::BadNumber));
     assert_eq!(m.add_file(&many), Err(Refusal::BadNumber));
     assert_eq!(m.add_index(&many, root, &[]), Err(Refusal::BadNumber));
+    assert_eq!(m.index_by(a, &many, root, &[]), Err(Refusal::BadNumber));
     assert_eq!(m.move_node(a, root, &many).unwrap_err(), Refusal::BadNumber);
     let roots = [(); burlapslate::MOST_PARENTS].map(|()| m.add_inner(&[]).unwrap());
     assert!(m.add_inner(&roots).is_ok());
@@ -315,6 +323,109 @@ fn adopted_records() {
     assert_eq!(m.forget(row), Err(Refusal::NoSuchNode));
     assert_eq!(m.forget(file), Err(Refusal::BadParents));
     assert_eq!(m.add_index(&[root], file, &[]), Err(Refusal::FileInUse));
+}
+
+/// Takes the records of a store away, whose file the transaction holds in X.
+fn delete_records(m: &mut Manager, txn: Txn, s: &Store) {
+    grant(m, txn, &[s.below, s.above], Mode::IX);
+    for record in [s.low, s.high] {
+        grant(m, txn, &[record], Mode::X);
+        assert!(m.delete(txn, record).unwrap().is_empty());
+    }
+}
+
+/// A drop is refused in this order, and by what stands below each kind of node.
+#[test]
+fn drops() {
+    let (mut m, root) = at_block();
+    let s = store(&mut m, root);
+    let [a] = begin(&mut m);
+    let refused = |m: &mut Manager, node| m.drop_node(a, node).unwrap_err();
+    for node in [s.low, s.below] {
+        assert_eq!(refused(&mut m, node), Refusal::BadParents);
+    }
+    for node in [root, s.file, s.index] {
+        assert_eq!(refused(&mut m, node), Refusal::NeedExclusive);
+    }
+    grant(&mut m, a, &[root, s.index], Mode::X);
+    assert_eq!(refused(&mut m, root), Refusal::HasChildren);
+    assert_eq!(refused(&mut m, s.index), Refusal::NeedExclusive); // For want of its file.
+    grant(&mut m, a, &[s.file], Mode::X);
+    for node in [s.index, s.file] {
+        assert_eq!(refused(&mut m, node), Refusal::FileInUse);
+    }
+    delete_records(&mut m, a, &s);
+    assert_eq!(refused(&mut m, s.file), Refusal::FileInUse); // It has an index.
+    for node in [s.index, s.file, root] {
+        assert!(m.drop_node(a, node).unwrap().is_empty());
+        assert_eq!(refused(&mut m, node), Refusal::NoSuchNode);
+    }
+    assert_eq!((m.len(), m.lock_count(a)), (0, Ok(0)));
+}
+
+/// An index of a file that has been in use is refused in this order.
+#[test]
+fn indexes_by_a_transaction() {
+    let (mut m, root) = at_block();
+    let s = store(&mut m, root);
+    let area = m.add_inner(&[]).unwrap();
+    let [a] = begin(&mut m);
+    let refused = |m: &mut Manager, parents: &[Node], file| {
+        let falling = [2, 1];
+        m.index_by(a, parents, file, &falling).unwrap_err()
+    };
+    for (parents, file) in [(&[][..], s.file), (&[s.file], s.file), (&[area], root)] {
+        assert_eq!(refused(&mut m, parents, file), Refusal::BadParents);
+    }
+    let above = [root, area];
+    assert_eq!(refused(&mut m, &above, s.file), Refusal::NeedExclusive);
+    grant(&mut m, a, &[root, s.index], Mode::IX);
+    grant(&mut m, a, &[s.file], Mode::X);
+    assert_eq!(refused(&mut m, &above, s.file), Refusal::NeedParents(area));
+    grant(&mut m, a, &[area], Mode::IX);
+    assert_eq!(refused(&mut m, &above, s.file), Refusal::FileInUse);
+    delete_records(&mut m, a, &s);
+    assert_eq!(refused(&mut m, &above, s.file), Refusal::BadKeys);
+    for place in 1..7 {
+        let index = m.index_by(a, &above, s.file, &[place]).unwrap();
+        assert_eq!(m.held(a, index), Ok(Mode::X));
+        assert_eq!(m.index(s.file, place as usize), Ok(Some(index)));
+    }
+    assert_eq!(refused(&mut m, &above, s.file), Refusal::BadParents); // It has seven.
+}
+
+/// As many nodes as may live, an index and its intervals among them.
+#[test]
+fn indexes_by_a_transaction_are_nodes() {
+    let mut m = Manager::with_options(Options::new(Detect::AtBlock).nodes(6)).unwrap();
+    let root = m.add_inner(&[]).unwrap();
+    let file = m.add_file(&[root]).unwrap();
+    let [a] = begin(&mut m);
+    grant(&mut m, a, &[root], Mode::IX);
+    grant(&mut m, a, &[file], Mode::X);
+    let too_many = m.index_by(a, &[root], file, &[1, 2, 3]);
+    assert_eq!(too_many, Err(Refusal::TooManyNodes));
+    let index = m.index_by(a, &[root], file, &[1, 2]).unwrap();
+    assert_eq!(m.len(), 6);
+    assert!(m.drop_node(a, index).unwrap().is_empty());
+    assert!(m.index_by(a, &[root], file, &[1, 2]).is_ok());
+}
+
+/// Rows that were adopted keep no index away that a transaction makes, as long as none stands.
+#[test]
+fn an_index_over_rows_that_were_adopted() {
+    let (mut m, root) = at_block();
+    let file = m.add_file(&[root]).unwrap();
+    let row = m.adopt(file, &[]).unwrap();
+    let [a] = begin(&mut m);
+    grant(&mut m, a, &[root], Mode::IX);
+    grant(&mut m, a, &[file], Mode::X);
+    assert_eq!(m.index_by(a, &[root], file, &[]), Err(Refusal::FileInUse));
+    assert_eq!(m.forget(row), Ok(()));
+    assert_eq!(m.add_index(&[root], file, &[]), Err(Refusal::FileInUse));
+    assert!(m.index_by(a, &[root], file, &[]).is_ok());
+    assert_eq!(m.adopt(file, &[]), Err(Refusal::BadKeys));
+    assert!(m.adopt(file, &[1]).is_ok());
 }
 
 #[test]

@@ -492,6 +492,62 @@ fn names_that_are_old_name_nothing() {
     assert_eq!(m.accepted(), before);
 }
 
+/// Whoever waits for a node that is dropped is told so, and the name of the node is never another's.
+#[test]
+fn a_node_is_dropped() {
+    let (mut m, root) = at_block();
+    let file = m.add_file(&[root]).unwrap();
+    let [a, b, c] = begin(&mut m);
+    grant(&mut m, a, &[root], Mode::IX);
+    grant(&mut m, a, &[file], Mode::X);
+    for txn in [b, c] {
+        grant(&mut m, txn, &[root], Mode::IS);
+        wait(&mut m, txn, file, Mode::S);
+    }
+    let gone = [b, c].map(|txn| Notice::Gone { txn });
+    tells(m.drop_node(a, file).unwrap(), &gone);
+    assert_eq!(m.counters().gone, 2);
+    assert_eq!((m.waiting(b), m.lock_count(a)), (None, Ok(1)));
+    for _ in 0..10 {
+        assert_ne!(m.add_file(&[root]).unwrap(), file);
+    }
+    for txn in [a, b] {
+        assert_eq!(
+            refused_lock(&mut m, txn, file, Mode::S),
+            Refusal::NoSuchNode
+        );
+    }
+    assert_eq!(m.kind(file), Err(Refusal::NoSuchNode));
+    assert_eq!(m.kind(root), Ok(Kind::Inner));
+}
+
+/// The intervals of an index get finer under the locks of one transaction, which holds the new index to its
+/// end.
+#[test]
+fn an_index_is_made_again() {
+    let (mut m, root) = at_block();
+    let file = m.add_file(&[root]).unwrap();
+    let [coarse, other] = [(); 2].map(|()| m.add_index(&[root], file, &[100]).unwrap());
+    let [a, b] = begin(&mut m);
+    grant(&mut m, a, &[root], Mode::IX);
+    grant(&mut m, a, &[file, coarse], Mode::X);
+    grant(&mut m, b, &[root], Mode::IS);
+    wait(&mut m, b, coarse, Mode::S);
+    let finer = m.index_by(a, &[root], file, &[50, 100, 150]).unwrap();
+    tells(m.drop_node(a, coarse).unwrap(), &[Notice::Gone { txn: b }]);
+    let indexes = [0, 1, 2].map(|place| m.index(file, place).unwrap());
+    assert_eq!(indexes, [Some(other), Some(finer), None]);
+    wait(&mut m, b, finer, Mode::S);
+    let granted = Notice::Granted {
+        txn: b,
+        node: finer,
+        mode: Mode::S,
+    };
+    tells(m.commit(a).unwrap(), &[granted]);
+    let interval = m.interval_of(finer, 120).unwrap();
+    assert_eq!(m.place(interval), Ok(2));
+}
+
 /// Two managers share nothing.
 #[test]
 fn two_managers() {

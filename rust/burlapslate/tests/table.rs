@@ -215,6 +215,68 @@ fn a_record_goes() {
 }
 
 #[test]
+fn a_file_is_dropped() {
+    let s = Store::new(Detect::AtBlock);
+    let rows = s.table.add_row_file(&[s.root]).unwrap();
+    let row = Row {
+        file: rows,
+        number: 7,
+    };
+    let mut writer = s.begin();
+    writer.lock_path(rows, Mode::IX).unwrap();
+    let locked = writer.lock_row(row, &[], Mode::X);
+    assert_eq!(locked, Ok(RowLocked::Own(Mode::X)));
+    writer.commit().unwrap(); // It lets the row go.
+    let (mut a, b) = (s.begin(), s.begin());
+    a.lock_path(rows, Mode::X).unwrap();
+    let end = s.woken_by(b, rows, Mode::IX, || a.drop_node(rows).unwrap());
+    assert_eq!(end, Err(Stop::Gone));
+    let end = s.begin().lock_path(rows, Mode::IX);
+    assert_eq!(end, Err(Stop::Refused(Refusal::NoSuchNode)));
+    let end = a.lock_row(row, &[], Mode::X);
+    assert_eq!(end, Err(Stop::Refused(Refusal::NotRows)));
+    assert_ne!(s.table.add_row_file(&[s.root]), Ok(rows));
+}
+
+/// A row that its transaction holds stands in the way, until it is let go.
+#[test]
+fn an_index_of_rows_is_made_again() {
+    let s = Store::new(Detect::AtBlock);
+    let rows = s.table.add_row_file(&[s.root]).unwrap();
+    let coarse = s.table.add_index(&[s.root], rows, &[100]).unwrap();
+    let interval = s.table.with(|m| m.interval_of(coarse, 120)).unwrap();
+    let row = Row {
+        file: rows,
+        number: 7,
+    };
+    let (mut a, b) = (s.begin(), s.begin());
+    for (node, mode) in [(rows, Mode::X), (coarse, Mode::X), (interval, Mode::IX)] {
+        a.lock_path(node, mode).unwrap();
+    }
+    let locked = a.lock_row(row, &[120], Mode::X);
+    assert_eq!(locked, Ok(RowLocked::Own(Mode::X)));
+    let bounds = [50, 100, 150];
+    let in_use = Err(Refusal::FileInUse);
+    assert_eq!(a.index_by(&[s.root], rows, &bounds), in_use);
+    assert_eq!(a.drop_node(coarse), in_use.map(drop::<Node>));
+    a.unlock_row(row).unwrap();
+    let finer = a.index_by(&[s.root], rows, &bounds).unwrap();
+    let end = s.woken_by(b, interval, Mode::S, || a.drop_node(coarse).unwrap());
+    assert_eq!(end, Err(Stop::Gone));
+    a.commit().unwrap();
+    let mut next = s.begin();
+    assert_eq!(next.lock_path(finer, Mode::IX), Ok(Mode::IX));
+    let interval = s.table.with(|m| m.interval_of(finer, 120)).unwrap();
+    for node in [rows, interval] {
+        assert_eq!(next.lock_path(node, Mode::IX), Ok(Mode::IX));
+    }
+    assert_eq!(
+        next.lock_row(row, &[120], Mode::X),
+        Ok(RowLocked::Own(Mode::X))
+    );
+}
+
+#[test]
 fn a_file_moves() {
     let s = Store::new(Detect::AtBlock);
     let other = s.table.add_inner(&[]).unwrap();
