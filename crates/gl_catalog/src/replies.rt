@@ -4,8 +4,8 @@
 ghost use Rattle.std.specs.Prelude.{◌≡◌, []};
 ghost use Rattle.gl_catalog.specs.Replies.{asking, began, doing, made, read_effect, read_mode, rising, said, took};
 
-use gl_steps::{Answer, Escalated};
 use gl_modes::{Mode, NodeId, Refusal};
+use gl_steps::{Answer, Escalated};
 use gl_table::{Effect, Locked, TxnId};
 
 /// A node was asked for.

@@ -6,9 +6,9 @@ ghost use Rattle.gl_steps.specs.Promises.{LeavesOthers};
 ghost use Rattle.gl_catalog.specs.Replies.{said_in};
 ghost use Rattle.gl_steps.specs.Step.{Run};
 
-use gl_steps::{Command, Reply};
 use crate::manager::Manager;
 use gl_modes::Refusal;
+use gl_steps::{Command, Reply};
 use std::alloc::Global;
 
 /// Carries out commands one after the other, and answers each. Room for all replies is made first,

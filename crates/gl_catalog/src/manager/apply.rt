@@ -9,11 +9,11 @@ ghost use Rattle.gl_steps.specs.Promises.{KeepsCaller, SettlesIdle, StepLeavesOt
 ghost use Rattle.gl_steps.specs.Step.{Step};
 
 use super::Manager;
-use gl_steps::{Answer, Command, Reply};
 use crate::replies::{
     begun_answer, done_answer, effect_answer, escalate_answer, lock_answer, mode_answer,
     node_answer, try_answer,
 };
+use gl_steps::{Answer, Command, Reply};
 use gl_table::Told;
 
 impl Manager {

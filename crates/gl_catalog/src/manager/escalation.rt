@@ -12,9 +12,9 @@ ghost use Rattle.gl_catalog.specs.Replies.{CallSteps, rising, rose, said};
 ghost use Rattle.gl_steps.specs.Tests.{escalate_asks, worn};
 
 use super::Manager;
-use gl_steps::Escalated;
 use gl_graph::Kind;
 use gl_modes::{Mode, NodeId, Refusal};
+use gl_steps::Escalated;
 use gl_table::{Told, TxnId};
 
 impl Manager {

@@ -1,5 +1,5 @@
 use Rattle.std.proofs.Common.{ap, refl, sym, ◌∙◌, rules, subst}
-use Rattle.std.specs.Prelude.{Bool, Option, None, Ok, Err, not, true, false, ◌≡◌}
+use Rattle.std.specs.Prelude.{Bool, Option, Err, not, true, false, ◌≡◌}
 use Rattle.gl_modes.specs.declared.refusal.Refusal.{Refusal}
 use Rattle.gl_modes.specs.Modes.{same_mode}
 use Rattle.gl_modes.specs.declared.mode.Mode.TheVariants.{X}
@@ -23,8 +23,8 @@ returns-in_err-check_index_place c =
     let births = ap (λ (v : View). births_worn (graph_of v)) (sym graph) ∙ sym c.worn.ensures ∙ c.if-worn.false in
     let active = verdict_ok _ _ c.in_ok-check_active.ensures in
     let placed : Err c.in_err-check_index_place.field-0.0 ≡ verdict (first_refusal (places s.graph c.args.parents.now c.args.file)) =
-        c.in_err-check_index_place.ensures
-        ∙ ap (λ (v : View). verdict (first_refusal (places (graph_of v) c.args.parents.now c.args.file))) graph in
+    c.in_err-check_index_place.ensures
+    ∙ ap (λ (v : View). verdict (first_refusal (places (graph_of v) c.args.parents.now c.args.file))) graph in
     subst (λ (o : Option Refusal). c.from_residual-in_err-check_index_place.result ≡ verdict o)
     (sym (place_refused s c.args.t c.args.parents.now c.args.file c.args.bounds.now births active c.in_err-check_index_place.field-0.0
     (test_refused _ _ placed))) (search rules)
@@ -36,7 +36,7 @@ returns-then-ne c =
     let births = ap (λ (v : View). births_worn (graph_of v)) (sym graph) ∙ sym c.worn.ensures ∙ c.if-worn.false in
     let active = verdict_ok _ _ c.in_ok-check_active.ensures in
     let placed = verdict_ok _ _ (c.in_ok-check_index_place.ensures
-        ∙ ap (λ (v : View). verdict (first_refusal (places (graph_of v) c.args.parents.now c.args.file))) graph) in
+    ∙ ap (λ (v : View). verdict (first_refusal (places (graph_of v) c.args.parents.now c.args.file))) graph) in
     let is : c.ne.result ≡ not (same_mode c.mode.result X) = search rules in
     let holds = ap (λ m. same_mode m X) (sym c.mode.ensures) in
     ap verdict (sym (exclusive_refused s c.args.t c.args.parents.now c.args.file c.args.bounds.now births active placed
@@ -49,7 +49,7 @@ returns c =
     let births = ap (λ (v : View). births_worn (graph_of v)) (sym graph) ∙ sym c.worn.ensures ∙ c.if-worn.false in
     let active = verdict_ok _ _ c.in_ok-check_active.ensures in
     let placed = verdict_ok _ _ (c.in_ok-check_index_place.ensures
-        ∙ ap (λ (v : View). verdict (first_refusal (places (graph_of v) c.args.parents.now c.args.file))) graph) in
+    ∙ ap (λ (v : View). verdict (first_refusal (places (graph_of v) c.args.parents.now c.args.file))) graph) in
     let is : c.ne.result ≡ not (same_mode c.mode.result X) = search rules in
     let holds = ap (λ m. same_mode m X) (sym c.mode.ensures) in
     let free = ap (λ (v : View). has_records (graph_of v) c.args.file) (sym graph) ∙ sym c.has_records.ensures ∙ c.if-has_records.false in

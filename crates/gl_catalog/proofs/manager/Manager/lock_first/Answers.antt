@@ -43,7 +43,7 @@ fewer a b h k = grind (arith)
 pub first-smaller : goal.first-smaller
 first-smaller c =
     let none : is_none (missing_parent c.in-Err.refusal) ≡ false =
-        ap is_none (sym c.missing_parent.ensures) ∙ looked _ _ c.is_none.ensures c.if-is_none.false in
+    ap is_none (sym c.missing_parent.ensures) ∙ looked _ _ c.is_none.ensures c.if-is_none.false in
     fewer _ _ (ap wants c.climb.ensures.first) (ap wants (ap (parent_wanted (state_of c.first.self) c.args.t) (sym c.next_ask-wanted.ensures)
     ∙ refused_wants (state_of c.first.self) (state_of c.lock_telling.new.self) c.args.t c.next_ask-wanted.result []
     c.in-Err.refusal c.in-Err.ensures.step) ∙ some_wants _ none)
