@@ -14,8 +14,8 @@ const INDEX: NodeId = N3;
 const LOW: NodeId = N4;
 
 const REC: NodeId = N6;
-/// The index that is made in the place of the first.
-const AGAIN: NodeId = NodeId { key: 2, birth: 7 };
+/// The index that is made in the place of the first, with the key that was freed last.
+const AGAIN: NodeId = NodeId { key: 4, birth: 7 };
 
 /// A file with one index of two intervals and one record, which its maker holds in X with the file.
 const OPEN: &[Step] = &[
@@ -50,10 +50,7 @@ const GOES: &[Step] = &[
     Step::Takes(B, IS, DB),
     Step::Ask(Ask::Lock(B, IS, INDEX), Answer::Waiting),
     Step::Tells(Ask::Drop(A, INDEX), Answer::Done, 1),
-    Step::Ask(
-        Ask::Held(B, INDEX),
-        Answer::Refused(Refusal::NoSuchNode),
-    ),
+    Step::Ask(Ask::Held(B, INDEX), Answer::Refused(Refusal::NoSuchNode)),
     Step::Ask(Ask::Held(A, LOW), Answer::Refused(Refusal::NoSuchNode)),
 ];
 
@@ -92,10 +89,7 @@ fn schemas_change(rt: HostRuntime) {
             "an index goes and comes again",
             &[OPEN, NEEDS_X, IN_USE, GOES, COMES],
         ),
-        (
-            "a tree goes from below",
-            &[OPEN, NEEDS_X, IN_USE, ALL_GO],
-        ),
+        ("a tree goes from below", &[OPEN, NEEDS_X, IN_USE, ALL_GO]),
     ];
     play_all(&rt, rt.alloc(), STORIES);
 }
