@@ -29,7 +29,8 @@ bounds g bs = where_true (bad_bounds g bs) no.BadKeys ∷ too_many_nodes g (2 + 
 
 module _ (s : State) (t : TxnId) (ps : List NodeId) (f : NodeId) (bs : List ℕ) where
   abbrev behind : List (Option Refusal)
-  behind = where_true (not (holds_x s t.slot f)) no.NeedExclusive ∷ first_not_ix (s.held t.slot) ps ∷ where_true (has_records s.graph f) no.FileInUse ∷ bounds s.graph bs
+  behind = where_true (not (holds_x s t.slot f)) no.NeedExclusive ∷ first_not_ix (s.held t.slot) ps ∷ where_true (has_records s.graph f) no.FileInUse ∷ bounds
+      s.graph bs
 
   -- births are left, and the transaction is active
   module _ (births : births_worn s.graph ≡ false) (active : first_refusal (commit_tests s t) ≡ None) where

@@ -18,7 +18,8 @@ use Rattle.gl_graph.specs.Changes.{IsAdopted, IsBorn, IsIndexBorn, rekeyed, reke
 use Rattle.gl_graph.specs.Graph.{record_parents}
 use Rattle.gl_graph.specs.Shapes.{File, Inner, Rec}
 use Rattle.gl_header.specs.Header.{group_of}
-use Rattle.gl_model.specs.Calls.{Locks, accepted_once, begun, cancelled, deleted, dropped, free_slot, granted, moved_to, raised, released, shed, unlocked, wanted}
+use Rattle.gl_model.specs.Calls.{Locks, accepted_once, begun, cancelled, deleted, dropped, free_slot, granted, moved_to, raised, released, shed, unlocked}
+use Rattle.gl_model.specs.Calls.{wanted}
 use Rattle.gl_model.specs.Calls.{covered_children, held_children}
 use Rattle.gl_model.specs.Lawful.{effective}
 use Rattle.gl_model.specs.State.{State, members, status_of, with_grant, with_graph, Settled}

@@ -13,7 +13,8 @@ use Rattle.gl_graph.specs.Refusals.{too_many_nodes, where_true, worn_births}
 use Rattle.gl_graph.specs.Shapes.{is_file_shape, is_index_of_shape, is_movable_shape, is_record_shape, least_parents}
 use Rattle.gl_header.specs.Header.{holds}
 use Rattle.gl_model.specs.Calls.{enters_at}
-use Rattle.gl_model.specs.Calls.{active_on, begin_tests, cancel_tests, commit_tests, drop_tests, index_by_tests, escalation_blocks, first_not_ix, forget_tests, group_tests}
+use Rattle.gl_model.specs.Calls.{active_on, begin_tests, cancel_tests, commit_tests, drop_tests, index_by_tests, escalation_blocks, first_not_ix}
+use Rattle.gl_model.specs.Calls.{forget_tests, group_tests}
 use Rattle.gl_model.specs.Calls.{held_tests, holds_x, living_tests, lock_tests, need_exclusive, need_new_parents, not_held, some_given, try_tests}
 use Rattle.gl_model.specs.Calls.{unlock_tests}
 use Rattle.gl_model.specs.State.{State, members}

@@ -1,8 +1,12 @@
 -- A node is dropped from a table, or an index is made that its maker holds: what it makes of the table. For those calls.
-use Rattle.gl_table.proofs.Words.{[], ◌&&◌, ◌+◌, ◌==◌, ◌||◌, ◌∙◌, ◌∷◌, ◌≡◌, Active, and_both, ap, ap₂, AreExact, arith, Bool, children_that, clash, cond, count_by}
-use Rattle.gl_table.proofs.Words.{count_cons, false, filter, first_not_ix, Graph, graph_of, HasNoCycle, IfOk, if◌then◌else◌, is_among_waiters, is_at_least, is_child}
-use Rattle.gl_table.proofs.Words.{is_live, IsIndexBorn, IsLawful, IsSound, List, list_all, list_any, Mode, nat_tests, NL, node_at, NodeId, nodes, nodes_live, None, not}
-use Rattle.gl_table.proofs.Words.{not_true, OnErr, parents_in, refl, Refusal, Refuses, Result, rules, same_mode, same_node, same_node-refl, same_number, shape_of, Some}
+use Rattle.gl_table.proofs.Words.{[], ◌&&◌, ◌+◌, ◌==◌, ◌||◌, ◌∙◌, ◌∷◌, ◌≡◌, Active, and_both, ap, ap₂, AreExact, arith, Bool, children_that, clash, cond}
+use Rattle.gl_table.proofs.Words.{count_by}
+use Rattle.gl_table.proofs.Words.{count_cons, false, filter, first_not_ix, Graph, graph_of, HasNoCycle, IfOk, if◌then◌else◌, is_among_waiters, is_at_least}
+use Rattle.gl_table.proofs.Words.{is_child}
+use Rattle.gl_table.proofs.Words.{is_live, IsIndexBorn, IsLawful, IsSound, List, list_all, list_any, Mode, nat_tests, NL, node_at, NodeId, nodes, nodes_live}
+use Rattle.gl_table.proofs.Words.{None, not}
+use Rattle.gl_table.proofs.Words.{not_true, OnErr, parents_in, refl, Refusal, Refuses, Result, rules, same_mode, same_node, same_node-refl, same_number}
+use Rattle.gl_table.proofs.Words.{shape_of, Some}
 use Rattle.gl_table.proofs.Words.{split, State, state_in, state_of, status_of, subst, sym, true, View, view_of, with_grant, with_graph, X, ℕ}
 use Rattle.gl_modes.proofs.Words.{no, or_elim, or_left}
 use Rattle.gl_modes.proofs.NodeLemmas.{same_node-equal}

@@ -2,8 +2,10 @@
 use Rattle.gl_table.proofs.Words.{[], ◌&&◌, ◌+◌, ◌++◌, ◌<◌, ◌==◌, ◌||◌, ◌∙◌, ◌∷◌, ◌≡◌, Active, age_in, ap, ap₂, AreExact, arith, Bool, clash, departed}
 use Rattle.gl_table.proofs.Words.{false, fun_ext, held_children, holds, if◌then◌else◌, is_among_waiters, is_child, is_live, IsBySlot, IsLawfulGraph}
 use Rattle.gl_table.proofs.Words.{IsOrderly, IsTold, length, List, list_any, members, Mode, NL, NodeId, nodes, nodes_live, None, not, not_true, notices_in}
-use Rattle.gl_table.proofs.Words.{Option, parents_in, refl, same_mode, same_node, same_node-equal, same_node-refl, same_node-sym, is_some, shape_of, Some, split, State}
-use Rattle.gl_table.proofs.Words.{state_in, status_in, status_of, sym, take, Told, true, Txn, View, Waiting, ℕ, slice_get, slice_index_or, count_none, suc, zero, get_or, ◌≤◌}
+use Rattle.gl_table.proofs.Words.{Option, parents_in, refl, same_mode, same_node, same_node-equal, same_node-refl, same_node-sym, is_some, shape_of, Some}
+use Rattle.gl_table.proofs.Words.{split, State}
+use Rattle.gl_table.proofs.Words.{state_in, status_in, status_of, sym, take, Told, true, Txn, View, Waiting, ℕ, slice_get, slice_index_or, count_none, suc}
+use Rattle.gl_table.proofs.Words.{zero, get_or, ◌≤◌}
 use Rattle.gl_modes.proofs.Words.{no, or_elim, or_left, or_right, some_is}
 use Rattle.std.proofs.lemmas.List.{take_more}
 use Rattle.std.proofs.lemmas.List.Folds.{list_any-append}

@@ -1,5 +1,6 @@
 use denote.Bor.{Bor}
-use Rattle.gl_table.proofs.Words.{◌<◌, ◌∙◌, ◌≡◌, ap, as_left, books_of, CanEnd, CanStrike, departed, header_at, IfNone, IfSome, Some, [], fun_ext, graph_of, header_or_new, is_among_waiters, length}
+use Rattle.gl_table.proofs.Words.{◌<◌, ◌∙◌, ◌≡◌, ap, as_left, books_of, CanEnd, CanStrike, departed, header_at, IfNone, IfSome, Some, [], fun_ext, graph_of}
+use Rattle.gl_table.proofs.Words.{header_or_new, is_among_waiters, length}
 use Rattle.gl_table.proofs.Words.{List, NodeId, parents_of, queue_of, same_node, refl, State, state_in, Strikes, subst, sym, Waiter, WaitsEnd, ℕ}
 use Rattle.gl_model.specs.declared.answers.Notice.TheVariants as notice
 use Rattle.gl_table.proofs.inside.Vacated.{agrees_vacated, can_free, can_strike, counts_vacated, MayVacate, txns_freed, waiter_childless}

@@ -1,4 +1,5 @@
-use Rattle.gl_table.proofs.Words.{◌∙◌, ◌≡◌, Active, Agrees, ap, CountsHeld, departed, false, graph_of, is_among_waiters, IsTold, NodeId, same_mode, shape_of, Some, state_in, state_of, status_of, subst}
+use Rattle.gl_table.proofs.Words.{◌∙◌, ◌≡◌, Active, Agrees, ap, CountsHeld, departed, false, graph_of, is_among_waiters, IsTold, NodeId, same_mode, shape_of}
+use Rattle.gl_table.proofs.Words.{Some, state_in, state_of, status_of, subst}
 use Rattle.gl_table.proofs.Words.{sym, TableView, Told, told, true, view_of, X}
 use Rattle.gl_graph.specs.Refusals.{is_in_use}
 use Rattle.gl_graph.specs.Shapes.{is_movable_shape}
@@ -21,14 +22,16 @@ free i v n is h = subst (λ (x : TableView). is_in_use (state_of x).graph n ≡ 
 pub vacate_branch-requires-clause-alone : goal.vacate_branch-requires-clause-alone
 vacate_branch-requires-clause-alone c =
     branch_alone (state_of (view_of c.self.inside)) c.self.invariant.lawful c.args.t.slot c.args.n
-    (movable c.self.inside c.args.self.now c.args.n c.self.view_is c.requires.movable) (free c.self.inside c.args.self.now c.args.n c.self.view_is c.requires.free)
+    (movable c.self.inside c.args.self.now c.args.n c.self.view_is c.requires.movable)
+        (free c.self.inside c.args.self.now c.args.n c.self.view_is c.requires.free)
     (subst (λ (v : TableView). status_of (state_of v) c.args.t.slot ≡ Some Active) (sym c.self.view_is) c.requires.active)
     (subst (λ (v : TableView). same_mode ((state_of v).held c.args.t.slot c.args.n) X ≡ true) (sym c.self.view_is) c.requires.exclusive)
 
 pub vacate_branch-requires-clause-unawaited : goal.vacate_branch-requires-clause-unawaited
 vacate_branch-requires-clause-unawaited c =
     branch_unawaited (state_of (view_of c.self.inside)) c.self.invariant.lawful c.args.t.slot c.args.n
-    (movable c.self.inside c.args.self.now c.args.n c.self.view_is c.requires.movable) (free c.self.inside c.args.self.now c.args.n c.self.view_is c.requires.free)
+    (movable c.self.inside c.args.self.now c.args.n c.self.view_is c.requires.movable)
+        (free c.self.inside c.args.self.now c.args.n c.self.view_is c.requires.free)
     (subst (λ (v : TableView). status_of (state_of v) c.args.t.slot ≡ Some Active) (sym c.self.view_is) c.requires.active)
     (subst (λ (v : TableView). same_mode ((state_of v).held c.args.t.slot c.args.n) X ≡ true) (sym c.self.view_is) c.requires.exclusive)
 
@@ -36,7 +39,8 @@ gone : (c : After-remove_node)
     → AreGone (state_of (view_of c.self.inside)) (goes_with (graph_of c.self.inside.locks.graph) c.args.n) (graph_of c.remove_node.new.self) c.args.n
 gone c =
     branch_gone (state_of (view_of c.self.inside)) c.self.invariant.lawful c.args.t.slot c.args.n
-    (movable c.self.inside c.args.self.now c.args.n c.self.view_is c.requires.movable) (free c.self.inside c.args.self.now c.args.n c.self.view_is c.requires.free)
+    (movable c.self.inside c.args.self.now c.args.n c.self.view_is c.requires.movable)
+        (free c.self.inside c.args.self.now c.args.n c.self.view_is c.requires.free)
     (subst (λ (v : TableView). status_of (state_of v) c.args.t.slot ≡ Some Active) (sym c.self.view_is) c.requires.active)
     (subst (λ (v : TableView). same_mode ((state_of v).held c.args.t.slot c.args.n) X ≡ true) (sym c.self.view_is) c.requires.exclusive)
     (graph_of c.remove_node.new.self) c.remove_node.ensures.removed

@@ -1,4 +1,5 @@
-use Rattle.gl_table.proofs.Words.{◌∙◌, ◌≡◌, ap, deleted, departed, graph_of, holds, is_among_waiters, is_record_shape, IsTold, members, rec_live, same_mode, same_node, shape_of}
+use Rattle.gl_table.proofs.Words.{◌∙◌, ◌≡◌, ap, deleted, departed, graph_of, holds, is_among_waiters, is_record_shape, IsTold, members, rec_live, same_mode}
+use Rattle.gl_table.proofs.Words.{same_node, shape_of}
 use Rattle.gl_table.proofs.Words.{state_in, state_of, subst, sym, TableView, Told, told, true, view_of, X, NodeId}
 use Rattle.gl_model.specs.declared.answers.Notice.TheVariants as notice
 use Rattle.gl_table.proofs.inside.Vacated.{record-childless}
