@@ -55,5 +55,5 @@ returns c =
     let free = ap (λ (v : View). has_records (graph_of v) c.args.file) (sym graph) ∙ sym c.has_records.ensures ∙ c.if-has_records.false in
     c.check_index_bounds.ensures ∙ ap (λ (v : View). verdict (first_refusal (bounds (graph_of v) c.args.bounds.now))) graph
     ∙ ap verdict (sym (bounds_left s c.args.t c.args.parents.now c.args.file c.args.bounds.now births active placed
-        (holds ∙ not_false _ (sym is ∙ c.if-ne.false))
+    (holds ∙ not_false _ (sym is ∙ c.if-ne.false))
     (verdict_ok _ _ c.in_ok-check_writable.ensures) free))

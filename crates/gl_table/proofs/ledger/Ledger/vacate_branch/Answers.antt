@@ -50,33 +50,33 @@ pub clear-requires-clause-live : goal.clear-requires-clause-live
 clear-requires-clause-live c =
     let p = may (goal.at.clear-requires-clause-live c).After-intervals-interval-items in
     child_live p c.loop-interval.interval-index _ (item_at c.intervals-interval-items.result.now c.loop-interval.interval-index
-        (record { key = 0; birth = 0 }) c.loop-interval-test.true)
+    (record { key = 0; birth = 0 }) c.loop-interval-test.true)
 
 pub clear-requires-clause-childless : goal.clear-requires-clause-childless
 clear-requires-clause-childless c =
     let p = may (goal.at.clear-requires-clause-childless c).After-intervals-interval-items in
     λ u. ap (λ (x : State). held_children x u (slice_index_or c.intervals-interval-items.result.now c.loop-interval.interval-index
-        (record { key = 0; birth = 0 }))) c.loop-interval.invariant.state
+    (record { key = 0; birth = 0 }))) c.loop-interval.invariant.state
     ∙ childless p c.loop-interval.interval-index _ (item_at c.intervals-interval-items.result.now c.loop-interval.interval-index
-        (record { key = 0; birth = 0 }) c.loop-interval-test.true) u
+    (record { key = 0; birth = 0 }) c.loop-interval-test.true) u
 
 pub clear-requires-clause-alone : goal.clear-requires-clause-alone
 clear-requires-clause-alone c =
     let p = may (goal.at.clear-requires-clause-alone c).After-intervals-interval-items in
     λ u e. ap (λ (x : State). x.held u (slice_index_or c.intervals-interval-items.result.now c.loop-interval.interval-index (record { key = 0; birth = 0 })))
-        c.loop-interval.invariant.state
+    c.loop-interval.invariant.state
     ∙ before_alone p c.loop-interval.interval-index u _ e
-        (or_right _ _ (child_here p c.loop-interval.interval-index _
-        (item_at c.intervals-interval-items.result.now c.loop-interval.interval-index (record { key = 0; birth = 0 }) c.loop-interval-test.true)))
+    (or_right _ _ (child_here p c.loop-interval.interval-index _
+    (item_at c.intervals-interval-items.result.now c.loop-interval.interval-index (record { key = 0; birth = 0 }) c.loop-interval-test.true)))
 
 pub clear-requires-clause-unawaited : goal.clear-requires-clause-unawaited
 clear-requires-clause-unawaited c =
     let p = may (goal.at.clear-requires-clause-unawaited c).After-intervals-interval-items in
     ap (λ (x : State). x.queue (slice_index_or c.intervals-interval-items.result.now c.loop-interval.interval-index (record { key = 0; birth = 0 })))
-        c.loop-interval.invariant.state
+    c.loop-interval.invariant.state
     ∙ before_unawaited p c.loop-interval.interval-index _
-        (child_here p c.loop-interval.interval-index _ (item_at c.intervals-interval-items.result.now c.loop-interval.interval-index
-        (record { key = 0; birth = 0 }) c.loop-interval-test.true))
+    (child_here p c.loop-interval.interval-index _ (item_at c.intervals-interval-items.result.now c.loop-interval.interval-index
+    (record { key = 0; birth = 0 }) c.loop-interval-test.true))
 
 pub clear-requires-clause-by_slot : goal.clear-requires-clause-by_slot
 clear-requires-clause-by_slot c = c.loop-interval.invariant.by_slot
@@ -88,9 +88,9 @@ loop-interval-preserved c =
       exact = c.clear.ensures.exact;
       state = c.clear.ensures.state
           ∙ ap (λ (x : State). departed x (λ q. same_node q (slice_index_or c.intervals-interval-items.result.now c.loop-interval.interval-index
-              (record { key = 0; birth = 0 }))) (graph_of c.args.graph.now)) c.loop-interval.invariant.state
+          (record { key = 0; birth = 0 }))) (graph_of c.args.graph.now)) c.loop-interval.invariant.state
           ∙ one_more p c.loop-interval.interval-index _ (item_at c.intervals-interval-items.result.now c.loop-interval.interval-index
-              (record { key = 0; birth = 0 }) c.loop-interval-test.true);
+          (record { key = 0; birth = 0 }) c.loop-interval-test.true);
       by_slot = c.clear.ensures.by_slot;
       same = λ u. c.clear.ensures.same u ∙ c.loop-interval.invariant.same u;
     }
@@ -112,14 +112,14 @@ pub vacate-requires-clause-childless : goal.vacate-requires-clause-childless
 vacate-requires-clause-childless c =
     let p = may (goal.at.vacate-requires-clause-childless c).After-intervals-interval-items in
     λ u. ap (λ (x : State). held_children x u c.args.node) c.loop-interval.invariant.state ∙ end_childless p c.loop-interval.interval-index
-        (take_all c.intervals-interval-items.result.now c.loop-interval.interval-index c.loop-interval-test.false) u
+    (take_all c.intervals-interval-items.result.now c.loop-interval.interval-index c.loop-interval-test.false) u
 
 pub vacate-requires-clause-holds : goal.vacate-requires-clause-holds
 vacate-requires-clause-holds c =
     let p = may (goal.at.vacate-requires-clause-holds c).After-intervals-interval-items in
     ap (λ (x : State). holds (members x c.args.node) c.args.slot) c.loop-interval.invariant.state
     ∙ ap (λ m. not (same_mode m NL)) (end_held p c.loop-interval.interval-index
-        (take_all c.intervals-interval-items.result.now c.loop-interval.interval-index c.loop-interval-test.false)) ∙ c.requires.holds
+    (take_all c.intervals-interval-items.result.now c.loop-interval.interval-index c.loop-interval-test.false)) ∙ c.requires.holds
 
 pub vacate-requires-clause-alone : goal.vacate-requires-clause-alone
 vacate-requires-clause-alone c =
@@ -134,8 +134,8 @@ vacate-requires-clause-tell c =
       by_slot = c.loop-interval.invariant.by_slot;
       untold = λ u h. c.loop-interval.invariant.same u
           ∙ c.requires.tell.untold u (ap (is_among_waiters u)
-              (sym (ap (λ (x : State). x.queue c.args.node) c.loop-interval.invariant.state ∙ end_queue p c.loop-interval.interval-index
-              (take_all c.intervals-interval-items.result.now c.loop-interval.interval-index c.loop-interval-test.false))) ∙ h);
+          (sym (ap (λ (x : State). x.queue c.args.node) c.loop-interval.invariant.state ∙ end_queue p c.loop-interval.interval-index
+          (take_all c.intervals-interval-items.result.now c.loop-interval.interval-index c.loop-interval-test.false))) ∙ h);
     }
 
 pub returns-clause-exact : goal.returns-clause-exact
@@ -156,8 +156,8 @@ returns-clause-tells c =
     let p = may (goal.at.returns-clause-tells c).After-intervals-interval-items in
     told_after (state_in c.args.graph.now c.args.self.now) (state_in c.args.graph.now c.loop-interval.self) c.args.node c.args.told.now.items
     c.loop-interval.told.items c.vacate.new.told.items (ap (λ (x : State). x.queue c.args.node) c.loop-interval.invariant.state ∙ end_queue p
-        c.loop-interval.interval-index (take_all c.intervals-interval-items.result.now c.loop-interval.interval-index c.loop-interval-test.false))
+    c.loop-interval.interval-index (take_all c.intervals-interval-items.result.now c.loop-interval.interval-index c.loop-interval-test.false))
     (λ u. ap (λ (x : State). age_in (x.txns u)) c.loop-interval.invariant.state
     ∙ age_freed_among (λ q. list_any (same_node q) (take c.loop-interval.interval-index c.intervals-interval-items.result.now))
-        ((state_in c.args.graph.now c.args.self.now).txns u))
+    ((state_in c.args.graph.now c.args.self.now).txns u))
     c.loop-interval.invariant.same c.vacate.ensures.tells

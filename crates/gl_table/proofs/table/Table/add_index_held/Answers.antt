@@ -38,9 +38,9 @@ free c = subst (λ (v : TableView). reindex_refusal (state_of v).graph c.args.pa
 asked : (c : After-add_index_unrefused) → MayStand (roomy c) c.add_index_unrefused.new.self c.prepare.new.self
 asked c =
     stands_indexed (roomy c) (ready c).safe c.args.parents.now c.args.file c.args.bounds.now (free c) c.add_index_unrefused.new.self
-        c.add_index_unrefused.result
+    c.add_index_unrefused.result
     (subst (λ (o : Option Refusal). Refuses o c.add_index_unrefused.result) (sym (free c)) c.add_index_unrefused.ensures.memory)
-        c.add_index_unrefused.ensures.made
+    c.add_index_unrefused.ensures.made
     c.add_index_unrefused.ensures.err
 
 pub invariant_of-locks-in-Break-branch-2 : goal.invariant_of-locks-in-Break-branch-2
@@ -59,22 +59,22 @@ place-requires-clause-exact c = let law = (asked (goal.at.place-requires-clause-
 pub place-requires-clause-live : goal.place-requires-clause-live
 place-requires-clause-live c = let at = (goal.at.place-requires-clause-live c).After-add_index_unrefused in
     index_lives (roomy at) (ready at).safe c.args.parents.now c.args.file c.args.bounds.now (free at) c.add_index_unrefused.new.self c.in_ok-index.index
-        c.in_ok-index.ensures.made
+    c.in_ok-index.ensures.made
 
 pub place-requires-clause-unheld : goal.place-requires-clause-unheld
 place-requires-clause-unheld c = let at = (goal.at.place-requires-clause-unheld c).After-add_index_unrefused in
     index_unheld (roomy at) (ready at).safe c.args.parents.now c.args.file c.args.bounds.now (free at) c.add_index_unrefused.new.self c.in_ok-index.index
-        c.in_ok-index.ensures.made
+    c.in_ok-index.ensures.made
 
 pub place-requires-clause-unawaited : goal.place-requires-clause-unawaited
 place-requires-clause-unawaited c = let at = (goal.at.place-requires-clause-unawaited c).After-add_index_unrefused in
     index_unawaited (roomy at) (ready at).safe c.args.parents.now c.args.file c.args.bounds.now (free at) c.add_index_unrefused.new.self c.in_ok-index.index
-        c.in_ok-index.ensures.made
+    c.in_ok-index.ensures.made
 
 -- the slot holds it
 placed : (c : After-add_index_unrefused) (n : NodeId)
     → IsIndexBorn (graph_of c.self.inside.locks.graph) (graph_of c.add_index_unrefused.new.self) n c.args.parents.now c.args.file c.args.bounds.now →
-        (l : Ledger)
+    (l : Ledger)
     → state_in c.add_index_unrefused.new.self l ≡ with_grant (state_in c.add_index_unrefused.new.self c.prepare.new.self) c.args.t.slot n X
     → AreExact c.add_index_unrefused.new.self l → MayStand (roomy c) c.add_index_unrefused.new.self l
 placed c n born l is exact =
@@ -94,6 +94,6 @@ invariant_of-locks-2 c = (placed (goal.at.invariant_of-locks-2 c).After-add_inde
 pub returns-clause-state : goal.returns-clause-state
 returns-clause-state c = let at = (goal.at.returns-clause-state c).After-add_index_unrefused in
     state_indexed (roomy at) (ready at).safe c.args.parents.now c.args.file c.args.bounds.now (free at) c.add_index_unrefused.new.self c.in_ok-index.index
-        c.in_ok-index.ensures.made
+    c.in_ok-index.ensures.made
     c.args.t.slot c.place.new.self c.place.ensures.state
     ∙ ap (λ (s : State). with_grant (with_graph s (graph_of c.add_index_unrefused.new.self)) c.args.t.slot c.in_ok-index.index X) (same at)

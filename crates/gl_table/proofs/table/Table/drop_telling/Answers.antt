@@ -23,7 +23,7 @@ pub vacate_branch-requires-clause-alone : goal.vacate_branch-requires-clause-alo
 vacate_branch-requires-clause-alone c =
     branch_alone (state_of (view_of c.self.inside)) c.self.invariant.lawful c.args.t.slot c.args.n
     (movable c.self.inside c.args.self.now c.args.n c.self.view_is c.requires.movable)
-        (free c.self.inside c.args.self.now c.args.n c.self.view_is c.requires.free)
+    (free c.self.inside c.args.self.now c.args.n c.self.view_is c.requires.free)
     (subst (λ (v : TableView). status_of (state_of v) c.args.t.slot ≡ Some Active) (sym c.self.view_is) c.requires.active)
     (subst (λ (v : TableView). same_mode ((state_of v).held c.args.t.slot c.args.n) X ≡ true) (sym c.self.view_is) c.requires.exclusive)
 
@@ -31,7 +31,7 @@ pub vacate_branch-requires-clause-unawaited : goal.vacate_branch-requires-clause
 vacate_branch-requires-clause-unawaited c =
     branch_unawaited (state_of (view_of c.self.inside)) c.self.invariant.lawful c.args.t.slot c.args.n
     (movable c.self.inside c.args.self.now c.args.n c.self.view_is c.requires.movable)
-        (free c.self.inside c.args.self.now c.args.n c.self.view_is c.requires.free)
+    (free c.self.inside c.args.self.now c.args.n c.self.view_is c.requires.free)
     (subst (λ (v : TableView). status_of (state_of v) c.args.t.slot ≡ Some Active) (sym c.self.view_is) c.requires.active)
     (subst (λ (v : TableView). same_mode ((state_of v).held c.args.t.slot c.args.n) X ≡ true) (sym c.self.view_is) c.requires.exclusive)
 
@@ -40,7 +40,7 @@ gone : (c : After-remove_node)
 gone c =
     branch_gone (state_of (view_of c.self.inside)) c.self.invariant.lawful c.args.t.slot c.args.n
     (movable c.self.inside c.args.self.now c.args.n c.self.view_is c.requires.movable)
-        (free c.self.inside c.args.self.now c.args.n c.self.view_is c.requires.free)
+    (free c.self.inside c.args.self.now c.args.n c.self.view_is c.requires.free)
     (subst (λ (v : TableView). status_of (state_of v) c.args.t.slot ≡ Some Active) (sym c.self.view_is) c.requires.active)
     (subst (λ (v : TableView). same_mode ((state_of v).held c.args.t.slot c.args.n) X ≡ true) (sym c.self.view_is) c.requires.exclusive)
     (graph_of c.remove_node.new.self) c.remove_node.ensures.removed
