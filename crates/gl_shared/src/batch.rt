@@ -12,11 +12,11 @@ use crate::guarded::Guarded;
 use crate::naming::Naming;
 use crate::session::{Session, await_verdict};
 use crate::share::Share;
-use gl_wakes::{Grant, Stop, ended_by};
 use gl_catalog::{Answer, Command};
 use gl_modes::{Mode, NodeId, Refusal};
 use gl_slots::Slots;
 use gl_table::{Told, TxnId};
+use gl_wakes::{Grant, Stop, ended_by};
 use std::alloc::Global;
 use std::sync::{MutexGuard, Wait};
 

@@ -9,8 +9,8 @@ ghost use Rattle.gl_shared.specs.Ties.{tie_of, turn_of, turned};
 
 use crate::rule::{Publish, Published, Ties};
 use crate::shown::{Next, Shown, Tie};
-use gl_window::{Head, Line};
 use gl_waits::Board;
+use gl_window::{Head, Line};
 use left_right::reader::Reader;
 use left_right::writer::Writer;
 use std::alloc::{AllocError, Global};

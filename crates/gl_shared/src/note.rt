@@ -3,8 +3,8 @@ ghost use Rattle.std.specs.Prelude.{◌≡◌};
 ghost use Rattle.gl_window.specs.Boards.{IsLawful, Ends, last_epoch};
 
 use crate::naming::Naming;
-use gl_window::Line;
 use gl_waits::Board;
+use gl_window::Line;
 use std::marker::{Model, PhantomData};
 
 /// A beginning of the list that a table published. To a contract it is that list.

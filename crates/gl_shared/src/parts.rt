@@ -11,9 +11,9 @@ ghost use Rattle.gl_shared.specs.Ties.{tie_of};
 ghost use Rattle.gl_window.specs.declared.telling.Telling.TheVariants.{Always};
 
 use crate::boards::{BoardWriter, open};
-use gl_window::{Head, Line, Telling, board_now};
 use gl_catalog::Manager;
 use gl_modes::Refusal;
+use gl_window::{Head, Line, Telling, board_now};
 use std::alloc::Global;
 use std::sync::ledger::Blank;
 use std::sync::{Arc, Wait};

@@ -18,11 +18,11 @@ use crate::note::Note;
 use crate::share::Share;
 use crate::shared::Shared;
 use crate::wakes::Woken;
-use gl_steps::is_accepted;
-use gl_wakes::{Grant, Stop};
 use gl_catalog::{Answer, Command, Counters, Reply};
 use gl_modes::{Mode, NodeId};
+use gl_steps::is_accepted;
 use gl_table::{Told, TxnId};
+use gl_wakes::{Grant, Stop};
 use std::sync::{MutexGuard, Wait};
 
 /// Whoever asks the table. It keeps its share, the epoch of its last note, the count of accepted

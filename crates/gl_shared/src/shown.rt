@@ -6,9 +6,9 @@ ghost use Rattle.std.specs.Arc.{arc_value};
 ghost use Rattle.gl_window.specs.Boards.{Fine, last_epoch};
 ghost use Rattle.gl_window.specs.Rules.{head_of};
 
-use gl_window::{Head, Line};
 use gl_table::Detect;
 use gl_waits::Board;
+use gl_window::{Head, Line};
 use std::sync::Arc;
 
 /// A list, and the board that was last to stand behind it: none, where nothing was published yet.

@@ -6,10 +6,10 @@ ghost use Rattle.gl_slots.specs.Slots.{no_slots};
 ghost use Rattle.gl_wakes.specs.Notices.{RisingTo};
 ghost use Rattle.gl_shared.specs.Sessions.{AreWoken};
 
-use gl_wakes::ended_by;
 use gl_catalog::Command;
 use gl_slots::{SLOTS, Slot, Slots};
 use gl_table::{Notice, TxnId};
+use gl_wakes::ended_by;
 use std::array;
 use std::marker::Model;
 use std::snapshot::Snapshot;

@@ -9,8 +9,8 @@ use crate::boards::{BoardReader, BoardWriter};
 use crate::naming::Naming;
 use crate::note::Note;
 use crate::rule::{Enter, Ties};
-use gl_window::Line;
 use gl_waits::Board;
+use gl_window::Line;
 use std::alloc::AllocError;
 use std::marker::{Model, PhantomData};
 

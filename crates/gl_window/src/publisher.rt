@@ -5,9 +5,9 @@ ghost use Rattle.gl_window.specs.Boards.{Fine, last_epoch};
 ghost use Rattle.gl_window.specs.Rules.{head_of};
 ghost use Rattle.gl_window.specs.Window.{GoesOn};
 
+use crate::history::{Head, Line};
 use crate::watcher::Watcher;
 use crate::window::Window;
-use crate::history::{Head, Line};
 use gl_model::Detect;
 use gl_waits::Board;
 use std::alloc::{AllocError, Global};

@@ -4,9 +4,9 @@ ghost use Rattle.std.specs.Prelude.{◌≡◌, ◌≤◌};
 ghost use mathlib.Core.List.{IsPrefix};
 ghost use Rattle.gl_window.specs.Boards.{Ends, Fine, last_epoch};
 
+use crate::history::Line;
 use crate::seats::Chair;
 use crate::window::Window;
-use crate::history::Line;
 use gl_waits::Board;
 use std::marker::Model;
 use std::sync::Arc;

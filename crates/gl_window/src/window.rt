@@ -4,9 +4,9 @@ ghost use Rattle.std.specs.Prelude.{◌≡◌, ◌<◌, IfOk, IfSome};
 ghost use Rattle.std.specs.List.{All};
 ghost use Rattle.gl_window.specs.Window.{GoesOn};
 
+use crate::history::Line;
 use crate::seats::Seats;
 use counted_slot::{Counted, Fits, MOST_READERS, ONE_READER, PRESENT, TAKEN};
-use crate::history::Line;
 use std::alloc::{AllocError, Global};
 use std::sync::atomic::{AtomicU64, Ordering};
 

@@ -11,7 +11,8 @@ off c = ap (λ (v : RegistryView). touches_rows v c.args.command) c.self.view_is
 
 pub invariant_of-self : goal.invariant_of-self
 invariant_of-self c =
-    left_hold (registry_of c.self.inside) c.law.ensures.lawful _ c.args.command c.apply_telling-answer.result c.apply_telling-answer.new.told.items c.note.new.self (off c)
+    left_hold (registry_of c.self.inside) c.law.ensures.lawful _ c.args.command c.apply_telling-answer.result c.apply_telling-answer.new.told.items
+    c.note.new.self (off c)
     c.apply_telling-answer.ensures.step c.self.invariant c.note.ensures
 
 pub returns : goal.returns
