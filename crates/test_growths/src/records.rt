@@ -30,6 +30,7 @@ pub(crate) const PLAYS: &[Play] = &[
     ("manager: nothing is inserted", &[SHOP, INSERTS_NOTHING]),
     ("manager: kinds are kept", &[SHOP, KEEPS_THE_KINDS]),
     ("manager: a row is adopted and forgotten", &[SHOP, ADOPTS]),
+    ("manager: a schema changes", &[SHOP, CHANGES_THE_SCHEMA]),
 ];
 
 /// The transaction that makes the records, and those that begin when it has ended.
@@ -56,6 +57,9 @@ const FIRST: NodeId = N6;
 const SECOND: NodeId = N7;
 
 const ROW: NodeId = N8;
+
+/// The index that is made when the first has gone.
+const AGAIN: NodeId = NodeId { key: 4, birth: 8 };
 
 const NEED_LOW: Answer = Answer::Refused(Refusal::NeedParents { node: LOW });
 
@@ -243,4 +247,25 @@ const ADOPTS: &[Step] = &[
     Step::Ask(Ask::Forget(ROW), Answer::Done),
     Step::Ask(Ask::Forget(ROW), Answer::Refused(Refusal::NoSuchNode)),
     Step::Ask(Ask::Forget(LOW), Answer::Refused(Refusal::BadParents)),
+];
+
+const CHANGES_THE_SCHEMA: &[Step] = &[
+    Step::Ask(Ask::Begin, Answer::Begun(A)),
+    Step::Ask(Ask::Begin, Answer::Begun(B)),
+    Step::Takes(A, IX, &[DB]),
+    Step::Takes(A, X, &[FILE, INDEX]),
+    Step::Takes(A, IX, &[LOW, HIGH]),
+    Step::Takes(A, X, &[FIRST, SECOND]),
+    Step::Ask(Ask::Drop(A, INDEX), Answer::Refused(Refusal::FileInUse)),
+    Step::Ask(Ask::Delete(A, FIRST), Answer::Done),
+    Step::Ask(Ask::Delete(A, SECOND), Answer::Done),
+    Step::Takes(B, IS, &[DB]),
+    Step::Ask(Ask::Lock(B, IS, INDEX), Answer::Waiting),
+    Step::Tells(Ask::Drop(A, INDEX), B, Notice::Gone),
+    Step::Ask(Ask::IndexBy(A, &[DB], FILE, &[70]), Answer::Node(AGAIN)),
+    Step::Ask(Ask::Held(A, AGAIN), Answer::Mode(X)),
+    Step::Ask(Ask::Drop(A, FILE), Answer::Refused(Refusal::FileInUse)),
+    Step::Ask(Ask::Drop(A, AGAIN), Answer::Done),
+    Step::Ask(Ask::Drop(A, FILE), Answer::Done),
+    Step::Ask(Ask::Commit(A), Answer::Done),
 ];

@@ -45,6 +45,8 @@ pub(crate) enum Ask {
     Effective(TxnId, NodeId),
     Adopt(NodeId, &'static [u64]),
     Forget(NodeId),
+    Drop(TxnId, NodeId),
+    IndexBy(TxnId, &'static [NodeId], NodeId, &'static [u64]),
 }
 
 /// A command of a list, its answer, and who alone is told what.
@@ -102,6 +104,22 @@ pub(crate) fn command_of(ask: Ask) -> Command<'static> {
         Ask::Effective(txn, node) => Command::Effective { txn, node },
         Ask::Adopt(file, keys) => Command::Adopt { file, keys },
         Ask::Forget(rec) => Command::Forget { rec },
+        Ask::Drop(txn, node) => Command::Drop { txn, node },
+        Ask::IndexBy(txn, parents, file, bounds) => index_by(txn, parents, file, bounds),
+    }
+}
+
+fn index_by(
+    txn: TxnId,
+    parents: &'static [NodeId],
+    file: NodeId,
+    bounds: &'static [u64],
+) -> Command<'static> {
+    Command::IndexBy {
+        txn,
+        parents,
+        file,
+        bounds,
     }
 }
 
