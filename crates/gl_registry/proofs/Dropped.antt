@@ -3,7 +3,7 @@ use Rattle.std.specs.Prelude.{◌≡◌, Bool, true, false, not, ◌&&◌, ◌||
 use Rattle.std.specs.Map.{lookup}
 use Rattle.std.proofs.Common.{refl, sym, ap, ap₂, subst, ◌∙◌}
 use Rattle.gl_modes.proofs.NodeLemmas.{same_node-equal, same_node-refl}
-use Rattle.gl_modes.proofs.Words.{and_both, both, clash, no as never, not_true}
+use Rattle.gl_modes.proofs.Words.{and_both, clash, no as never, not_true}
 use Rattle.gl_modes.specs.declared.node.NodeId.{NodeId}
 use Rattle.gl_modes.specs.Nodes.{same_node}
 use Rattle.gl_graph.specs.Graph.{Graph, first_parent, is_child, is_live, shape_of}
@@ -26,7 +26,7 @@ use Rattle.gl_steps.specs.Served.{accepts}
 use Rattle.gl_steps.specs.Step.{Step}
 use Rattle.gl_catalog.specs.Manager.{state_of}
 use Rattle.gl_registry.specs.Names.{NamesHold}
-use Rattle.gl_registry.specs.Rows.{RegistryView, RowsView, has_rows, name_of, same_row}
+use Rattle.gl_registry.specs.Rows.{RegistryView, RowsView, name_of, same_row}
 use Rattle.gl_registry.specs.Serving.{ForgetsFile, LeavesRows, dropped_by, touches_rows}
 use Rattle.gl_registry.specs.declared.row.Row.{Row}
 use Rattle.gl_registry.proofs.Adopted.{accepted_of}

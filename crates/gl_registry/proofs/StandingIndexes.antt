@@ -1,9 +1,9 @@
 -- What others cannot do to who holds a file or intervals of its indexes, whatever they drop and make: an index that stands keeps its file and its intervals.
-use Rattle.std.specs.Prelude.{◌≡◌, ℕ, ◌≤◌, Bool, true, false, not, ◌&&◌, ◌||◌, List, [], ◌∷◌, None, is_some}
+use Rattle.std.specs.Prelude.{◌≡◌, ℕ, true, false, not, ◌||◌, List, [], ◌∷◌, None, is_some}
 use Rattle.std.specs.List.{list_all, list_any}
 use Rattle.std.proofs.Common.{refl, sym, ap, ap₂, subst, ◌∙◌, arith}
-use Rattle.gl_modes.proofs.NodeLemmas.{same_node-equal, same_node-refl}
-use Rattle.gl_modes.proofs.Words.{and_both, clash, no, not_true, or_elim}
+use Rattle.gl_modes.proofs.NodeLemmas.{same_node-equal}
+use Rattle.gl_modes.proofs.Words.{and_both, no, not_true, or_elim}
 use Rattle.gl_modes.specs.declared.node.NodeId.{NodeId}
 use Rattle.gl_modes.specs.Nodes.{same_node}
 use Rattle.gl_graph.specs.Changes.{without_branch}
@@ -26,7 +26,7 @@ use Rattle.gl_steps.specs.Promises.{names}
 use Rattle.gl_steps.specs.Step.{Accepts, Run, Step}
 use Rattle.gl_steps.specs.Tests.{refusal_of}
 use Rattle.gl_steps.proofs.EachStep.{each_step}
-use Rattle.gl_steps.proofs.OthersKeep.{KeepsOver, birth_of, run_keeps}
+use Rattle.gl_steps.proofs.OthersKeep.{birth_of, run_keeps}
 use Rattle.gl_steps.proofs.SchemaKeeps.{may_drop}
 use Rattle.gl_steps.proofs.StepsKeepLaw.{runs_keep_law, steps_keep_law}
 use Rattle.gl_registry.specs.Promises.{AreIndexes, OthersKeepByIndexes, effect_by}

@@ -11,17 +11,17 @@ off c = ap (λ (v : RegistryView). touches_rows v c.args.command) c.self.view_is
 
 pub invariant_of-self : goal.invariant_of-self
 invariant_of-self c =
-    left_hold (registry_of c.self.inside) c.law.ensures.lawful _ c.args.command c.apply_telling.result c.apply_telling.new.told.items c.note.new.self (off c)
-    c.apply_telling.ensures.step c.self.invariant c.note.ensures
+    left_hold (registry_of c.self.inside) c.law.ensures.lawful _ c.args.command c.apply_telling-answer.result c.apply_telling-answer.new.told.items c.note.new.self (off c)
+    c.apply_telling-answer.ensures.step c.self.invariant c.note.ensures
 
 pub returns : goal.returns
 returns c =
-    let e = c.apply_telling.ensures in
-    let told = c.apply_telling.new.told.items in
-    let after : RegistryView = record { manager = c.apply_telling.new.self; rows = c.note.new.self } in
-    subst (λ (v : RegistryView). ServesBy (touches_rows v c.args.command) v c.args.command (Some c.apply_telling.result) told after) c.self.view_is
-    (subst (λ (b : Bool). ServesBy b (registry_of c.self.inside) c.args.command (Some c.apply_telling.result) told after) (sym (off c)) (
-      c.apply_telling.result,
+    let e = c.apply_telling-answer.ensures in
+    let told = c.apply_telling-answer.new.told.items in
+    let after : RegistryView = record { manager = c.apply_telling-answer.new.self; rows = c.note.new.self } in
+    subst (λ (v : RegistryView). ServesBy (touches_rows v c.args.command) v c.args.command (Some c.apply_telling-answer.result) told after) c.self.view_is
+    (subst (λ (b : Bool). ServesBy b (registry_of c.self.inside) c.args.command (Some c.apply_telling-answer.result) told after) (sym (off c)) (
+      c.apply_telling-answer.result,
       refl,
       record {
         step = e.step;
