@@ -18,7 +18,8 @@ wide false v h = absurd (none_some h)
 
 -- a version was chosen
 pub chooses : (v : Version) (two : ManagerView) (s s' : Script) (line : List ℕ) → IsReadyWith (Some two) s → version_of line ≡ Some v
-    → s'.language ≡ record { version = v; listings = s.language.listings } → s'.names ≡ s.names → s'.locks ≡ state_of two → s'.deadlock ≡ two.table.deadlock
+    → s'.language ≡ record { version = v; listings = s.language.listings; schema = s.language.schema } → s'.names ≡ s.names
+    → s'.locks ≡ state_of two → s'.deadlock ≡ two.table.deadlock
     → Prints (stage_with (Some two) s) line (codes "ok\n") (stage_with None s')
 unfolding Prints
 chooses v two s s' line ready says is names locks deadlock =

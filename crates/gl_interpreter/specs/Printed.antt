@@ -17,7 +17,7 @@ use Rattle.gl_model.specs.Tellings.{Told}
 use Rattle.gl_steps.specs.declared.command.Answer.{Answer}
 use Rattle.gl_steps.specs.declared.command.Answer.TheVariants as answer
 use Rattle.gl_script.specs.Grammar.{Text, Node, Plain, Interval, Command, Inner, File, Index, Lock, Try, Unlock, Cancel, Commit, Abort, Settle}
-use Rattle.gl_script.specs.Grammar.{Insert, Delete, Rekey, Escalate, Move, Group, Held, Effective, node_text}
+use Rattle.gl_script.specs.Grammar.{Insert, Delete, Rekey, Escalate, Move, Group, Held, Effective, Drop, IndexBy, node_text}
 use Rattle.gl_interpreter.specs.Script.{Script, Declared, NodeName, TxnName, Nothing, declared, node_named}
 
 -- a dot, and the place of an interval
@@ -50,6 +50,8 @@ used_nodes (Move t n ps) = n ∷ ps
 used_nodes (Group n) = n ∷ []
 used_nodes (Held t n) = n ∷ []
 used_nodes (Effective t n) = n ∷ []
+used_nodes (Drop t n) = Plain n ∷ []
+used_nodes (IndexBy t n ps f bs) = ps ++ Plain f ∷ []
 used_nodes c = []
 
 -- the transaction that a line uses
@@ -68,6 +70,8 @@ used_txn (Escalate t n) = t
 used_txn (Move t n ps) = t
 used_txn (Held t n) = t
 used_txn (Effective t n) = t
+used_txn (Drop t n) = t
+used_txn (IndexBy t n ps f bs) = t
 used_txn c = []
 
 -- a space, and the first of these nodes whose name is not in use

@@ -21,7 +21,7 @@ use Rattle.gl_script.specs.declared.form.Language.{Language}
 use Rattle.gl_script.specs.declared.form.Version.{Version}
 use Rattle.gl_script.specs.declared.form.Version.TheVariants as version
 use Rattle.gl_script.specs.Grammar.{Text, Node, Plain, Interval, Command, Inner, File, Index, Begin, Lock, Try, Unlock, Cancel, Commit, Abort, Settle}
-use Rattle.gl_script.specs.Grammar.{Insert, Delete, Rekey, Escalate, Move, Group, Held, Effective}
+use Rattle.gl_script.specs.Grammar.{Insert, Delete, Rekey, Escalate, Move, Group, Held, Effective, Drop, IndexBy}
 use Rattle.gl_interpreter.specs.Names.{Names, no_names, with_node, with_txn, without_node, without_txn}
 
 -- its language, the names that it has declared, the locks, and the deadlock of which the last victim fell
@@ -39,7 +39,7 @@ most_of version.Two = 128
 -- a script of which no line was carried out
 abbrev pub begun : Choices → Version → Script
 begun c v = record {
-  language = record { version = v; listings = c.listings };
+  language = record { version = v; listings = c.listings; schema = c.schema };
   names = no_names;
   locks =
       choosing c.victims (empty_state c.detect (most_of v));
@@ -94,6 +94,10 @@ Asks s (Move t n ps) k = (xs : Bor (List NodeId)) × (xs.now ≡ node_ids s ps) 
 Asks s (Group n) k = k ≡ command.Group (node_id s n)
 Asks s (Held t n) k = k ≡ command.Held (txn_id s.names t) (node_id s n)
 Asks s (Effective t n) k = k ≡ command.Effective (txn_id s.names t) (node_id s n)
+Asks s (Drop t n) k = k ≡ command.Drop (txn_id s.names t) (plain_id s.names n)
+Asks s (IndexBy t n ps f bs) k =
+    (xs : Bor (List NodeId)) × (xs.now ≡ node_ids s ps)
+    × ((ys : Bor (List ℕ)) × (ys.now ≡ bs) × (k ≡ command.IndexBy (txn_id s.names t) xs (plain_id s.names f) ys))
 
 -- what a line declares: the name of a node, that of a transaction, or nothing
 pub data Declared : Type 0 where
@@ -105,6 +109,7 @@ abbrev pub declared : Command → Declared
 declared (Inner n ps) = NodeName n
 declared (File n ps) = NodeName n
 declared (Index n ps f bs) = NodeName n
+declared (IndexBy t n ps f bs) = NodeName n
 declared (Insert t r f ks) = NodeName r
 declared (Begin t) = TxnName t
 declared c = Nothing
@@ -132,7 +137,7 @@ abbrev pub without_ended : Names → Text → Answer → Names
 without_ended names t answer.Done = without_txn names t (txn_id names t)
 without_ended names t a = names
 
--- the name of a record that was deleted is free again
+-- the name of a node that was taken away is free again
 abbrev pub without_deleted : Names → Text → Answer → Names
 without_deleted names r answer.Done = without_node names r (plain_id names r)
 without_deleted names r a = names
@@ -142,6 +147,7 @@ abbrev pub renamed : Names → Command → Answer → Names
 renamed names (Commit t) a = without_ended names t a
 renamed names (Abort t) a = without_ended names t a
 renamed names (Delete t r) a = without_deleted names r a
+renamed names (Drop t n) a = without_deleted names n a
 renamed names c a = named_as names (declared c) a
 
 -- the command is handed on, and is a step of the manager

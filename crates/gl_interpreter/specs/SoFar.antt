@@ -23,7 +23,8 @@ use Rattle.gl_interpreter.specs.Views.{script_of}
 
 -- how the script is answered
 abbrev pub choices_of : Script → Choices
-choices_of s = record { detect = s.locks.detect; victims = s.locks.victims; listings = s.language.listings }
+choices_of s =
+    record { detect = s.locks.detect; victims = s.locks.victims; listings = s.language.listings; schema = s.language.schema }
 
 -- a script has not begun where the manager of version 2 is still at hand
 abbrev pub stage_with : Option ManagerView → Script → Stage

@@ -200,6 +200,8 @@ fn txn_name(form: &Form) -> &[u8]
         Form::Move { txn, .. } => txn.as_slice(),
         Form::Held { txn, .. } => txn.as_slice(),
         Form::Effective { txn, .. } => txn.as_slice(),
+        Form::Drop { txn, .. } => txn.as_slice(),
+        Form::IndexBy { txn, .. } => txn.as_slice(),
         _ => &[],
     }
 }
@@ -212,6 +214,7 @@ fn declared_name(form: &Form) -> &[u8]
         Form::Inner { name } => name.as_slice(),
         Form::File { name } => name.as_slice(),
         Form::Index { name, .. } => name.as_slice(),
+        Form::IndexBy { name, .. } => name.as_slice(),
         Form::Insert { name, .. } => name.as_slice(),
         Form::Begin { txn } => txn.as_slice(),
         _ => &[],
@@ -233,11 +236,8 @@ fn put_first_unused<W: Write>(
         Form::Inner { .. } | Form::File { .. } => {
             put_unused_listed(sink, writer, desk, lists);
         }
-        Form::Index { file, .. } => {
-            if !put_unused_listed(sink, writer, desk, lists) {
-                put_unused_name(sink, writer, desk, file);
-            }
-        }
+        Form::Index { file, .. } => put_unused_of_index(sink, writer, desk, lists, file),
+        Form::IndexBy { file, .. } => put_unused_of_index(sink, writer, desk, lists, file),
         Form::Move { node, .. } => {
             if !put_unused(sink, writer, desk, node) {
                 put_unused_listed(sink, writer, desk, lists);
@@ -254,6 +254,9 @@ fn put_first_unused<W: Write>(
         Form::Delete { rec, .. } => {
             put_unused_name(sink, writer, desk, rec);
         }
+        Form::Drop { node, .. } => {
+            put_unused_name(sink, writer, desk, node);
+        }
         Form::Lock { node, .. }
         | Form::Try { node, .. }
         | Form::Unlock { node, .. }
@@ -268,6 +271,22 @@ fn put_first_unused<W: Write>(
         Form::Commit { .. } => {}
         Form::Abort { .. } => {}
         Form::Settle { .. } => {}
+    }
+}
+
+/// Prints a space, and the first of an index's parents and its file whose name is not in use.
+fn put_unused_of_index<W: Write>(
+    sink: &mut Sink,
+    writer: &mut W,
+    desk: &Desk,
+    lists: &Lists,
+    file: &Name,
+)
+    ensures { Hands (W.contents writer.old) sink.old (W.contents writer.new) sink.new
+        (first_unused (script_of desk.now) (nodes_of lists.now ++ Plain file.now.items ∷ [])) }
+{
+    if !put_unused_listed(sink, writer, desk, lists) {
+        put_unused_name(sink, writer, desk, file);
     }
 }
 

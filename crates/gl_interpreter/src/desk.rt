@@ -48,17 +48,14 @@ pub(crate) struct Desk {
 }
 
 impl Desk {
-    /// A script of version 1, with or without listings, of which no line was carried out.
-    pub(crate) fn new(alloc: Global, listings: bool, manager: Manager) -> Desk
-        ensures language { result.language ≡ record { version = Version.One; listings = listings } }
+    /// A script of this language, of which no line was carried out.
+    pub(crate) fn new(alloc: Global, language: Language, manager: Manager) -> Desk
+        ensures language { result.language ≡ language }
         ensures manager { result.manager ≡ manager }
         ensures names { names_of result ≡ no_names }
     {
         Desk {
-            language: Language {
-                version: Version::One,
-                listings,
-            },
+            language,
             manager,
             nodes: Register::new(alloc),
             txns: Register::new(alloc),
@@ -67,7 +64,7 @@ impl Desk {
 
     /// Goes on as a script of this version, of which no line was carried out.
     pub(crate) fn begin_version(&mut self, version: Version, manager: Manager)
-        ensures language { self.new.language ≡ record { version = version; listings = self.old.language.listings } }
+        ensures language { self.new.language ≡ record (self.old.language) { version = version } }
         ensures manager { self.new.manager ≡ manager }
         ensures names { names_of self.new ≡ names_of self.old }
     {
@@ -108,6 +105,7 @@ impl Desk {
             Form::Inner { name } => room_for(&mut self.nodes, name),
             Form::File { name } => room_for(&mut self.nodes, name),
             Form::Index { name, .. } => room_for(&mut self.nodes, name),
+            Form::IndexBy { name, .. } => room_for(&mut self.nodes, name),
             Form::Insert { name, .. } => room_for(&mut self.nodes, name),
             Form::Begin { txn } => room_for(&mut self.txns, txn),
             _ => Ok(()),
@@ -205,6 +203,16 @@ impl Desk {
                 txn: self.txn_id(txn),
                 node: self.node_id(node),
             },
+            Form::Drop { txn, node } => Command::Drop {
+                txn: self.txn_id(txn),
+                node: self.plain_id(node),
+            },
+            Form::IndexBy { txn, file, .. } => Command::IndexBy {
+                txn: self.txn_id(txn),
+                parents: ids,
+                file: self.plain_id(file),
+                bounds: numbers,
+            },
         }
     }
 
@@ -219,11 +227,13 @@ impl Desk {
             Form::Inner { name } => self.name_node(name, answer),
             Form::File { name } => self.name_node(name, answer),
             Form::Index { name, .. } => self.name_node(name, answer),
+            Form::IndexBy { name, .. } => self.name_node(name, answer),
             Form::Insert { name, .. } => self.name_node(name, answer),
             Form::Begin { txn } => self.name_txn(txn, answer),
             Form::Commit { txn } => self.free_txn(txn, answer),
             Form::Abort { txn } => self.free_txn(txn, answer),
             Form::Delete { rec, .. } => self.free_node(rec, answer),
+            Form::Drop { node, .. } => self.free_node(node, answer),
             _ => {}
         }
     }
@@ -264,7 +274,7 @@ impl Desk {
         }
     }
 
-    /// The name of a record that was deleted is free again.
+    /// The name of a node that was taken away is free again.
     fn free_node(&mut self, name: &Name, answer: Answer)
         ensures names { names_of self.new ≡ without_deleted (names_of self.old) name.now.items answer }
         ensures language { self.new.language ≡ self.old.language }

@@ -11,7 +11,7 @@ use crate::listings::put_listing;
 use crate::sink::{Sink, put};
 use arrayvec::ArrayVec;
 use gl_catalog::Manager;
-use gl_script::{Form, Line, Lists, Version, parse};
+use gl_script::{Form, Language, Line, Lists, Version, parse};
 use gl_table::Told;
 use gl_words::Choices;
 use std::alloc::Global;
@@ -46,7 +46,13 @@ impl Interpreter {
             detect,
             victims,
             listings,
+            schema,
         } = choices;
+        let language = Language {
+            version: Version::One,
+            listings,
+            schema,
+        };
         let Ok(one) = Manager::choosing(alloc, detect, victims, 64) else {
             return None;
         };
@@ -54,7 +60,7 @@ impl Interpreter {
             return None;
         };
         Some(Interpreter {
-            desk: Desk::new(alloc, listings, one),
+            desk: Desk::new(alloc, language, one),
             two: Some(two),
             lists: Lists::new(),
             ids: ArrayVec::new(),

@@ -1,7 +1,7 @@
 //! Scripts for the lock manager, from the bytes that come in to the bytes that go out.
 //!
 //! A script has a command on each line; [`run`] answers each line as soon as it is read, and
-//! [`run_choosing`] does so with a choice of victims, and with or without listings. What the lines say and
+//! [`run_choosing`] does so with a choice of victims, and with or without listings and lines that change the schema. What the lines say and
 //! what is printed for them is defined in `specs/`, and the contract of both is that what is written is
 //! the report of what is read. [`picture`] draws the state in which a script ends.
 #![tactic(auto)]

@@ -49,7 +49,7 @@ pub(crate) struct Tool {
 }
 
 /// Answers a script, line by line as it is read, with deadlocks found as `detect` says; the youngest
-/// falls, and there are no listings. All else is as for [`run_choosing`].
+/// falls, and there are none of the further lines. All else is as for [`run_choosing`].
 ///
 /// # Errors
 ///
@@ -67,8 +67,8 @@ pub fn run<R: Read, W: Write>(
     run_choosing(alloc, reader, writer, Choices::plain(detect))
 }
 
-/// Answers a script, line by line as it is read, with deadlocks found, victims chosen and listings had
-/// as `choices` says.
+/// Answers a script, line by line as it is read, with deadlocks found, victims chosen, and listings and
+/// lines that change the schema had as `choices` says.
 ///
 /// What is written is the report of what is read; with `Ok` all of the reader was read. Whatever the
 /// outcome, at most 16,777,217 bytes were read, and with `Ok` at most 16,777,216. The answers

@@ -1,9 +1,9 @@
 -- Lists are spelt in one way: a field that spells nothing stands in no list.
-use Rattle.std.proofs.Common.{◌≡◌, ◌≢◌, List, [], ◌∷◌, ◌++◌, All, map, length, codes, decimal, refl, sym, ap, ap₂, ◌∙◌, subst, append_assoc, arith}
+use Rattle.std.proofs.Common.{◌≡◌, ◌≢◌, List, [], ◌∷◌, ◌++◌, All, map, length, slice_index, codes, decimal, refl, sym, ap, ap₂, ◌∙◌, subst, append_assoc, arith}
 use Rattle.std.proofs.lemmas.List.{map_push}
 use Rattle.std.proofs.lemmas.List.Elements.{All-head, All-tail, All-cons, All-nil}
 use Rattle.gl_script.specs.declared.reads.Used.{Used}
-use Rattle.gl_script.specs.Grammar.{Text, Node, Plain, Interval, IsNode, AreSomeNodes, node_text, parents}
+use Rattle.gl_script.specs.Grammar.{Text, Node, Plain, Interval, IsLetter, IsName, IsNode, AreSomeNodes, node_text, parents}
 use Rattle.gl_script.specs.Views.{node_of}
 use Rattle.gl_script.proofs.Splitting.{has_byte}
 
@@ -49,12 +49,10 @@ on_parts (p ∷ ps) (q ∷ qs) x y h k e =
     let more = on_parts_nodes (p ∷ ps) (q ∷ qs) x y h.0 k.0 (cc) in
     (ap (λ fs. codes ":" ∷ fs) more.0, more.1)
 
--- so what follows it behind a name and parents is known
-pub behind_on : (name : Text) (rest : List Text) (read : List Node) (after : List Text) (n : Text) (ps : List Node) (more : List Text)
-    → rest ≡ parents read ++ codes "on" ∷ after → AreSomeNodes read → AreSomeNodes ps → name ∷ rest ≡ n ∷ (parents ps ++ codes "on" ∷ more) → after ≡ more
-behind_on name rest read after n ps more was had some e =
-    let tail : rest ≡ parents ps ++ codes "on" ∷ more = cc in
-    (on_parts read ps after more had some (sym was ∙ tail)).1
+-- so what follows it behind parents is known
+pub behind_on : (rest : List Text) (read : List Node) (after : List Text) (ps : List Node) (more : List Text)
+    → rest ≡ parents read ++ codes "on" ∷ after → AreSomeNodes read → AreSomeNodes ps → rest ≡ parents ps ++ codes "on" ∷ more → after ≡ more
+behind_on rest read after ps more was had some e = (on_parts read ps after more had some (sym was ∙ e)).1
 
 -- before the word `on` stands a field that is no node
 pub none_before_on : (done : List Node) (field : Text) (rest : List Text) (ns : List Node) (more : List Text)
@@ -88,3 +86,15 @@ pub none_at_once : (read : List Used) (all rest : List Text) (field : Text) (aft
 none_at_once [] all rest field after [] more none before next on some e = absurd (omega (arith, some.1))
 none_at_once [] all rest field after (n ∷ ns) more none before next on some e = on_is_no_node n (All-head IsNode n ns some.0) (cc)
 none_at_once (u ∷ us) all rest field after ns more none before next on some e = absurd (omega (arith, none))
+
+-- a colon is no name
+pub colon_is_no_name : (n : Text) → IsName n → codes ":" ≢ n
+colon_is_no_name n is e =
+    let first : IsLetter 58 = subst (λ (w : Text). IsLetter (slice_index w 0)) (sym e) is.first in
+    omega (arith, first.0)
+
+-- a name with the colon behind it is no two names
+pub one_before_colon : (m : Text) (ps : List Node) (x : List Text) (t n : Text) (y : List Text) → AreSomeNodes ps → IsName n
+    → m ∷ (parents ps ++ x) ≡ t ∷ n ∷ y → ⊥
+one_before_colon m [] x t n y some is e = absurd (omega (arith, some.1))
+one_before_colon m (p ∷ ps) x t n y some is e = colon_is_no_name n is (cc)

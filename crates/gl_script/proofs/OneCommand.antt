@@ -9,14 +9,14 @@ use Rattle.gl_modes.specs.declared.mode.Mode.{Mode}
 use Rattle.gl_modes.specs.Modes.{mode_text}
 use Rattle.gl_modes.proofs.Spellings.{mode_text-injective}
 use Rattle.gl_script.specs.declared.form.Language.{Language}
-use Rattle.gl_script.specs.declared.form.Version.{Version}
 use Rattle.gl_script.specs.Grammar.{Text, Command, Inner, File, Index, Begin, Lock, Try, Unlock, Cancel, Commit, Abort, Settle, Insert, Delete, Rekey}
-use Rattle.gl_script.specs.Grammar.{Escalate, Move, Group, Held, Effective, Listing, Holders, Queue, Locks, Waits, Txns, Cycle, Line, Orders, Lists}
+use Rattle.gl_script.specs.Grammar.{Escalate, Move, Group, Held, Effective, Drop, IndexBy, Listing, Holders, Queue, Locks, Waits, Txns, Cycle}
+use Rattle.gl_script.specs.Grammar.{Line, Orders, Lists}
 use Rattle.gl_script.specs.Grammar.{Node, Plain, Interval, IsNode, IsNumber, AreSomeNodes, node_text, parents, fields, listing_fields, SaysFields}
 use Rattle.gl_script.specs.Grammar.{ListsFields, LineFields, LineSaysOneCommand}
 use Rattle.gl_script.proofs.Splitting.{cut_once, has_byte}
 use Rattle.gl_script.proofs.NodeTexts.{name_no_dot}
-use Rattle.gl_script.proofs.ListTexts.{on_parts}
+use Rattle.gl_script.proofs.ListTexts.{on_parts, one_before_colon}
 use Rattle.gl_script.proofs.Verbs.{first_verb, first_topic, told_apart, verb_no_topic}
 
 -- a node is spelt in one way
@@ -58,9 +58,9 @@ apart : (fs gs : List Text) → fs ≡ gs → bytes_eq (first_field fs) (first_f
 apart fs gs e f = told_apart (first_field fs) (first_field gs) f (ap first_field e)
 
 -- two commands with one line have one verb
-differ : (v : Version) (all : List Text) (c d : Command) → SaysFields v all c → SaysFields v all d
+differ : (g : Language) (all : List Text) (c d : Command) → SaysFields g all c → SaysFields g all d
     → bytes_eq (first_field (fields c)) (first_field (fields d)) ≡ false → ⊥
-differ v all c d p q f = apart (fields c) (fields d) (sym p.2 ∙ q.2) f
+differ g all c d p q f = apart (fields c) (fields d) (sym p.2 ∙ q.2) f
 
 -- what the forms with two parts and more have in common
 same_of_txn_node : (f : Text) (s t : Text) (m n : Node) → IsNode m → IsNode n → f ∷ s ∷ node_text m ∷ [] ≡ f ∷ t ∷ node_text n ∷ [] → (s ≡ t) × (m ≡ n)
@@ -87,31 +87,34 @@ same_of_index f m n ps qs g h ks bs p q a b e =
     let numbers : map decimal ks ≡ map decimal bs = cc in
     (cc, one_parents ps qs p.0 q.0 cut.0, cc, one_numbers ks bs a b numbers)
 
-one_of_fields : (v : Version) (all : List Text) (c d : Command) → SaysFields v all c → SaysFields v all d → c ≡ d
-one_of_fields v all (Inner m ps) (Inner n qs) p q =
+behind_first : (f g : Text) (fs gs : List Text) → f ∷ fs ≡ g ∷ gs → fs ≡ gs
+behind_first f g fs gs e = cc
+
+one_of_fields : (g : Language) (all : List Text) (c d : Command) → SaysFields g all c → SaysFields g all d → c ≡ d
+one_of_fields l all (Inner m ps) (Inner n qs) p q =
     let same : fields (Inner m ps) ≡ fields (Inner n qs) = sym p.2 ∙ q.2 in
     let name : m ≡ n = cc in
     let tail : parents ps ≡ parents qs = cc in
     ap₂ Inner name (one_parents ps qs p.0.1 q.0.1 tail)
-one_of_fields v all (File m ps) (File n qs) p q =
+one_of_fields l all (File m ps) (File n qs) p q =
     let same : fields (File m ps) ≡ fields (File n qs) = sym p.2 ∙ q.2 in
     let name : m ≡ n = cc in
     let tail : parents ps ≡ parents qs = cc in
     ap₂ File name (one_parents ps qs p.0.1.0 q.0.1.0 tail)
-one_of_fields v all (Index m ps g ks) (Index n qs h bs) p q =
+one_of_fields l all (Index m ps g ks) (Index n qs h bs) p q =
     let same = same_of_index _ m n ps qs g h ks bs p.0.1 q.0.1 p.0.3 q.0.3 (sym p.2 ∙ q.2) in
     λ i. Index (same.0 i) (same.1 i) (same.2 i) (same.3 i)
-one_of_fields v all (Begin s) (Begin t) p q = ap Begin (same_of_name _ s t (sym p.2 ∙ q.2))
-one_of_fields v all (Lock s a m) (Lock t b n) p q =
+one_of_fields l all (Begin s) (Begin t) p q = ap Begin (same_of_name _ s t (sym p.2 ∙ q.2))
+one_of_fields l all (Lock s a m) (Lock t b n) p q =
     let same = same_of_txn_mode_node _ s t a b m n p.0.1 q.0.1 (sym p.2 ∙ q.2) in λ i. Lock (same.0 i) (same.1 i) (same.2 i)
-one_of_fields v all (Try s a m) (Try t b n) p q =
+one_of_fields l all (Try s a m) (Try t b n) p q =
     let same = same_of_txn_mode_node _ s t a b m n p.0.1 q.0.1 (sym p.2 ∙ q.2) in λ i. Try (same.0 i) (same.1 i) (same.2 i)
-one_of_fields v all (Unlock s m) (Unlock t n) p q = let same = same_of_txn_node _ s t m n p.0.1 q.0.1 (sym p.2 ∙ q.2) in ap₂ Unlock same.0 same.1
-one_of_fields v all (Cancel s) (Cancel t) p q = ap Cancel (same_of_name _ s t (sym p.2 ∙ q.2))
-one_of_fields v all (Commit s) (Commit t) p q = ap Commit (same_of_name _ s t (sym p.2 ∙ q.2))
-one_of_fields v all (Abort s) (Abort t) p q = ap Abort (same_of_name _ s t (sym p.2 ∙ q.2))
-one_of_fields v all (Settle s) (Settle t) p q = ap Settle (same_of_name _ s t (sym p.2 ∙ q.2))
-one_of_fields v all (Insert s m g js) (Insert t n h ks) p q =
+one_of_fields l all (Unlock s m) (Unlock t n) p q = let same = same_of_txn_node _ s t m n p.0.1 q.0.1 (sym p.2 ∙ q.2) in ap₂ Unlock same.0 same.1
+one_of_fields l all (Cancel s) (Cancel t) p q = ap Cancel (same_of_name _ s t (sym p.2 ∙ q.2))
+one_of_fields l all (Commit s) (Commit t) p q = ap Commit (same_of_name _ s t (sym p.2 ∙ q.2))
+one_of_fields l all (Abort s) (Abort t) p q = ap Abort (same_of_name _ s t (sym p.2 ∙ q.2))
+one_of_fields l all (Settle s) (Settle t) p q = ap Settle (same_of_name _ s t (sym p.2 ∙ q.2))
+one_of_fields l all (Insert s m g js) (Insert t n h ks) p q =
     let same : fields (Insert s m g js) ≡ fields (Insert t n h ks) = sym p.2 ∙ q.2 in
     let txn : s ≡ t = cc in
     let name : m ≡ n = cc in
@@ -119,12 +122,12 @@ one_of_fields v all (Insert s m g js) (Insert t n h ks) p q =
     let tail : map decimal js ≡ map decimal ks = cc in
     let keys : js ≡ ks = one_numbers js ks p.0.3 q.0.3 tail in
     λ i. Insert (txn i) (name i) (file i) (keys i)
-one_of_fields v all (Delete s m) (Delete t n) p q =
+one_of_fields l all (Delete s m) (Delete t n) p q =
     let same : fields (Delete s m) ≡ fields (Delete t n) = sym p.2 ∙ q.2 in
     let txn : s ≡ t = cc in
     let name : m ≡ n = cc in
     ap₂ Delete txn name
-one_of_fields v all (Rekey s m g j) (Rekey t n h k) p q =
+one_of_fields l all (Rekey s m g j) (Rekey t n h k) p q =
     let same : fields (Rekey s m g j) ≡ fields (Rekey t n h k) = sym p.2 ∙ q.2 in
     let txn : s ≡ t = cc in
     let name : m ≡ n = cc in
@@ -132,8 +135,8 @@ one_of_fields v all (Rekey s m g j) (Rekey t n h k) p q =
     let spelt : decimal j ≡ decimal k = cc in
     let key : j ≡ k = decimal_injective j k p.0.3 q.0.3 spelt in
     λ i. Rekey (txn i) (name i) (index i) (key i)
-one_of_fields v all (Escalate s m) (Escalate t n) p q = let same = same_of_txn_node _ s t m n p.0.1 q.0.1 (sym p.2 ∙ q.2) in ap₂ Escalate same.0 same.1
-one_of_fields v all (Move s m ps) (Move t n qs) p q =
+one_of_fields l all (Escalate s m) (Escalate t n) p q = let same = same_of_txn_node _ s t m n p.0.1 q.0.1 (sym p.2 ∙ q.2) in ap₂ Escalate same.0 same.1
+one_of_fields l all (Move s m ps) (Move t n qs) p q =
     let same : fields (Move s m ps) ≡ fields (Move t n qs) = sym p.2 ∙ q.2 in
     let txn : s ≡ t = cc in
     let spelt : node_text m ≡ node_text n = cc in
@@ -141,10 +144,22 @@ one_of_fields v all (Move s m ps) (Move t n qs) p q =
     let node : m ≡ n = one_node m n p.0.1 q.0.1 spelt in
     let others : ps ≡ qs = one_parents ps qs p.0.2 q.0.2 tail in
     λ i. Move (txn i) (node i) (others i)
-one_of_fields v all (Group m) (Group n) p q = ap Group (one_node m n p.0 q.0 (same_of_name _ (node_text m) (node_text n) (sym p.2 ∙ q.2)))
-one_of_fields v all (Held s m) (Held t n) p q = let same = same_of_txn_node _ s t m n p.0.1 q.0.1 (sym p.2 ∙ q.2) in ap₂ Held same.0 same.1
-one_of_fields v all (Effective s m) (Effective t n) p q = let same = same_of_txn_node _ s t m n p.0.1 q.0.1 (sym p.2 ∙ q.2) in ap₂ Effective same.0 same.1
-one_of_fields v all c d p q = absurd (differ v all c d p q refl)
+one_of_fields l all (Group m) (Group n) p q = ap Group (one_node m n p.0 q.0 (same_of_name _ (node_text m) (node_text n) (sym p.2 ∙ q.2)))
+one_of_fields l all (Held s m) (Held t n) p q = let same = same_of_txn_node _ s t m n p.0.1 q.0.1 (sym p.2 ∙ q.2) in ap₂ Held same.0 same.1
+one_of_fields l all (Effective s m) (Effective t n) p q = let same = same_of_txn_node _ s t m n p.0.1 q.0.1 (sym p.2 ∙ q.2) in ap₂ Effective same.0 same.1
+one_of_fields l all (Drop s m) (Drop t n) p q =
+    let same : fields (Drop s m) ≡ fields (Drop t n) = sym p.2 ∙ q.2 in
+    let txn : s ≡ t = cc in
+    let name : m ≡ n = cc in
+    ap₂ Drop txn name
+one_of_fields l all (IndexBy s m ps g ks) (IndexBy t n qs h bs) p q =
+    let same : fields (IndexBy s m ps g ks) ≡ fields (IndexBy t n qs h bs) = sym p.2 ∙ q.2 in
+    let txn : s ≡ t = cc in
+    let parts = same_of_index s m n ps qs g h ks bs p.0.2 q.0.2 p.0.4 q.0.4 (cc) in
+    λ i. IndexBy (txn i) (parts.0 i) (parts.1 i) (parts.2 i) (parts.3 i)
+one_of_fields l all (Index m ps g ks) (IndexBy t n qs h bs) p q = absurd (one_before_colon m ps _ t n _ p.0.1 q.0.1 (behind_first _ _ _ _ (sym p.2 ∙ q.2)))
+one_of_fields l all (IndexBy t n qs h bs) (Index m ps g ks) p q = absurd (one_before_colon m ps _ t n _ q.0.1 p.0.1 (behind_first _ _ _ _ (sym q.2 ∙ p.2)))
+one_of_fields l all c d p q = absurd (differ l all c d p q refl)
 
 -- two listings with one line have one topic
 lists_differ : (had : Bool) (all : List Text) (c d : Listing) → ListsFields had all c → ListsFields had all d
@@ -170,17 +185,17 @@ some_topic Txns e = cc
 some_topic Cycle e = cc
 
 -- no fields are those of a command and those of a listing: verbs are no topics
-not_both : (v : Version) (had : Bool) (all : List Text) (c : Command) (l : Listing) → SaysFields v all c → ListsFields had all l → ⊥
-not_both v had [] c l p q = some_topic l q.2
-not_both v had (f ∷ rest) c l p q =
+not_both : (g : Language) (had : Bool) (all : List Text) (c : Command) (l : Listing) → SaysFields g all c → ListsFields had all l → ⊥
+not_both g had [] c l p q = some_topic l q.2
+not_both g had (f ∷ rest) c l p q =
     let verb = first_verb f rest c p.2 in
     let topic = first_topic f rest l q.2 in
     verb_no_topic verb.0 topic.0 (sym verb.1 ∙ topic.1)
 
 one_of_line : (g : Language) (all : List Text) (c d : Line) → LineFields g all c → LineFields g all d → c ≡ d
-one_of_line g all (Orders c) (Orders d) p q = ap Orders (one_of_fields g.version all c d p q)
-one_of_line g all (Orders c) (Lists l) p q = absurd (not_both g.version g.listings all c l p q)
-one_of_line g all (Lists l) (Orders d) p q = absurd (not_both g.version g.listings all d l q p)
+one_of_line g all (Orders c) (Orders d) p q = ap Orders (one_of_fields g all c d p q)
+one_of_line g all (Orders c) (Lists l) p q = absurd (not_both g g.listings all c l p q)
+one_of_line g all (Lists l) (Orders d) p q = absurd (not_both g g.listings all d l q p)
 one_of_line g all (Lists l) (Lists m) p q = ap Lists (one_of_listed g.listings all l m p q)
 
 pub one_command : LineSaysOneCommand

@@ -4,7 +4,6 @@ use Rattle.std.specs.List.{slice_split}
 use Rattle.gl_modes.specs.declared.mode.Mode.{Mode}
 use Rattle.gl_modes.specs.Modes.{mode_text}
 use Rattle.gl_script.specs.declared.form.Language.{Language}
-use Rattle.gl_script.specs.declared.form.Version.{Version}
 use Rattle.gl_script.specs.declared.form.Version.TheVariants as version
 
 -- bytes
@@ -16,7 +15,7 @@ pub data Node : Type 0 where
   Plain : (name : Text) → Node
   Interval : (index : Text) → (place : ℕ) → Node
 
--- What a line can ask for. The name that a line declares, and those of a transaction, a record, a file and an index, are plain.
+-- What a line can ask for. The name that a line declares, and those of a transaction, a record, a file, an index and a node that is dropped, are plain.
 pub data Command : Type 0 where
   Inner : (name : Text) → (parents : List Node) → Command
   File : (name : Text) → (parents : List Node) → Command
@@ -37,6 +36,8 @@ pub data Command : Type 0 where
   Group : (node : Node) → Command
   Held : (txn : Text) → (node : Node) → Command
   Effective : (txn : Text) → (node : Node) → Command
+  Drop : (txn : Text) → (node : Text) → Command
+  IndexBy : (txn : Text) → (name : Text) → (parents : List Node) → (file : Text) → (bounds : List ℕ) → Command
 
 -- What a line can want listed.
 pub data Listing : Type 0 where
@@ -103,6 +104,8 @@ IsCommand (Move t n ps) = IsName t × IsNode n × All IsNode ps
 IsCommand (Group n) = IsNode n
 IsCommand (Held t n) = IsName t × IsNode n
 IsCommand (Effective t n) = IsName t × IsNode n
+IsCommand (Drop t n) = IsName t × IsName n
+IsCommand (IndexBy t n ps f bs) = IsName t × IsName n × AreSomeNodes ps × IsName f × All IsNumber bs
 
 -- the names and numbers of a listing are such
 abbrev pub IsListing : Listing → Type 0
@@ -113,10 +116,12 @@ IsListing (Waits t) = IsName t
 IsListing Txns = Unit
 IsListing Cycle = Unit
 
--- no node moves in a script of version 1
-abbrev pub IsOfVersion : Version → Command → Type 0
-IsOfVersion v (Move t n ps) = v ≢ version.One
-IsOfVersion v c = Unit
+-- no node moves in a script of version 1, and a schema changes where the language has the lines for it
+abbrev pub IsOfLanguage : Language → Command → Type 0
+IsOfLanguage l (Move t n ps) = l.version ≢ version.One
+IsOfLanguage l (Drop t n) = l.schema ≡ true
+IsOfLanguage l (IndexBy t n ps f bs) = l.schema ≡ true
+IsOfLanguage l c = Unit
 
 -- how a node is spelt: its name, or the index, a dot and the interval's number
 abbrev pub node_text : Node → Text
@@ -149,6 +154,8 @@ fields (Move t n ps) = codes "move" ∷ t ∷ node_text n ∷ parents ps
 fields (Group n) = codes "group" ∷ node_text n ∷ []
 fields (Held t n) = codes "held" ∷ t ∷ node_text n ∷ []
 fields (Effective t n) = codes "effective" ∷ t ∷ node_text n ∷ []
+fields (Drop t n) = codes "drop" ∷ t ∷ n ∷ []
+fields (IndexBy t n ps f bs) = codes "index" ∷ t ∷ n ∷ parents ps ++ codes "on" ∷ f ∷ codes "at" ∷ map decimal bs
 
 -- the fields of a listing's line
 abbrev pub listing_fields : Listing → List Text
@@ -160,8 +167,8 @@ listing_fields Txns = codes "txns" ∷ []
 listing_fields Cycle = codes "cycle" ∷ []
 
 -- the fields are those of the command
-abbrev pub SaysFields : Version → List Text → Command → Type 0
-SaysFields v all command = IsCommand command × IsOfVersion v command × (all ≡ fields command)
+abbrev pub SaysFields : Language → List Text → Command → Type 0
+SaysFields l all command = IsCommand command × IsOfLanguage l command × (all ≡ fields command)
 
 -- the fields are those of the listing, where there are listings
 abbrev pub ListsFields : Bool → List Text → Listing → Type 0
@@ -169,7 +176,7 @@ ListsFields listings all listing = IsListing listing × (listings ≡ true) × (
 
 -- the fields are those of the line
 abbrev pub LineFields : Language → List Text → Line → Type 0
-LineFields l all (Orders command) = SaysFields l.version all command
+LineFields l all (Orders command) = SaysFields l all command
 LineFields l all (Lists listing) = ListsFields l.listings all listing
 
 -- the bytes say the line: exactly one space stands between two fields, and none at either end

@@ -45,6 +45,8 @@ command_of (form.Move t n) lists = grammar.Move t.items (node_of n) (nodes_of li
 command_of (form.Group n) lists = grammar.Group (node_of n)
 command_of (form.Held t n) lists = grammar.Held t.items (node_of n)
 command_of (form.Effective t n) lists = grammar.Effective t.items (node_of n)
+command_of (form.Drop t n) lists = grammar.Drop t.items n.items
+command_of (form.IndexBy t n f) lists = grammar.IndexBy t.items n.items (nodes_of lists) f.items lists.numbers.items
 
 -- the listing of a value
 abbrev pub listing_of : Listing → grammar.Listing

@@ -27,6 +27,7 @@ word verb.Move = codes "move"
 word verb.Group = codes "group"
 word verb.Held = codes "held"
 word verb.Effective = codes "effective"
+word verb.Drop = codes "drop"
 
 -- the first field of a topic's lines
 abbrev pub topic_word : Topic → Text

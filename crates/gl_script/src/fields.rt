@@ -1,7 +1,8 @@
 //! The fields of a line.
 
-ghost use Rattle.std.specs.Prelude.{◌≡◌, ◌≢◌, ◌==◌, ◌↔◌, [], ◌∷◌, ◌++◌, All, IfSome, IfNone, IsTrue};
+ghost use Rattle.std.specs.Prelude.{◌≡◌, ◌≢◌, ◌==◌, ◌↔◌, [], ◌∷◌, ◌++◌, List, All, IfSome, IfNone, IsTrue, codes, false};
 ghost use Rattle.std.specs.List.{slice_split};
+ghost use Rattle.gl_script.specs.Grammar.{Text};
 ghost use Rattle.gl_script.specs.Left.{left};
 
 /// The fields of a line that are still to be read. Exactly one space stands between two of them, so
@@ -37,6 +38,16 @@ impl<'a> Fields<'a> {
                 Some(rest)
             }
         }
+    }
+
+    /// Whether the next field is a colon.
+    #[tactic(auto, unfolding(crate::specs::Left::left))]
+    pub(crate) fn is_at_colon(&self) -> bool
+        ensures colon { IsTrue result → (more : List Text) × (left self.now ≡ codes ":" ∷ more) }
+        ensures other { result ≡ false → (more : List Text) → left self.now ≢ codes ":" ∷ more }
+    {
+        let mut ahead = Fields { rest: self.rest };
+        matches!(ahead.next(), Some(b":"))
     }
 
     /// Whether no field is left.

@@ -5,13 +5,14 @@ ghost use Rattle.gl_script.specs.Grammar.{Command, SaysFields};
 ghost use Rattle.gl_script.specs.Left.{left};
 ghost use Rattle.gl_script.specs.Views.{command_of};
 ghost use Rattle.gl_script.specs.Words.{word};
+ghost use Rattle.gl_script.specs.declared.form.Lists.{Lists as TheLists};
 
 use crate::fields::Fields;
-use crate::reads::{Name, Used};
+use crate::reads::{Name, Used, next_name};
 use crate::series::MOST_LISTED;
 use crate::shapes::{
     index_parts, insert_parts, name_parents, name_some_parents, only_name, only_node, rekey_parts,
-    txn_mode_node, txn_node, txn_node_parents, txn_record,
+    txn_mode_node, txn_name, txn_node, txn_node_parents,
 };
 use crate::verb::Verb;
 use arrayvec::ArrayVec;
@@ -32,6 +33,8 @@ pub struct Language {
     pub version: Version,
     /// Whether the listings are among them.
     pub listings: bool,
+    /// Whether those by which a schema changes are among them: `drop`, and `index` by a transaction.
+    pub schema: bool,
 }
 
 /// A command, as a line has it. The parents, bounds and keys of the line are [`Lists`] beside it.
@@ -129,6 +132,17 @@ pub enum Form {
         txn: Name,
         node: Used,
     },
+    /// Take an inner node, a file or an index away.
+    Drop {
+        txn: Name,
+        node: Name,
+    },
+    /// A new index of a file that may have had records, its parents, and its bounds.
+    IndexBy {
+        txn: Name,
+        name: Name,
+        file: Name,
+    },
 }
 
 /// What a line lists: the parents of a node, and the bounds of an index or the keys of a record. A
@@ -154,19 +168,19 @@ impl Lists {
 
 /// The command that a verb and the fields behind it say, if they say one.
 pub(crate) fn read_command(
-    version: Version,
+    language: Language,
     verb: Verb,
     fields: &mut Fields,
     lists: &mut Lists,
 ) -> Option<Form>
     requires room { length (left fields.old) ≤ 257 }
-    ensures says { IfSome result (λ form. SaysFields version (word verb ∷ left fields.old) (command_of form lists.new)) }
-    ensures none { IfNone result ((c : Command) → SaysFields version (word verb ∷ left fields.old) c → ⊥) }
+    ensures says { IfSome result (λ form. SaysFields language (word verb ∷ left fields.old) (command_of form lists.new)) }
+    ensures none { IfNone result ((c : Command) → SaysFields language (word verb ∷ left fields.old) c → ⊥) }
 {
     match verb {
         Verb::Inner => name_parents(fields, &mut lists.nodes, |name| Form::Inner { name }),
         Verb::File => name_some_parents(fields, &mut lists.nodes, |name| Form::File { name }),
-        Verb::Index => index_parts(fields, lists, |name, file| Form::Index { name, file }),
+        Verb::Index => read_index(language, fields, lists),
         Verb::Begin => only_name(fields, |txn| Form::Begin { txn }),
         Verb::Lock => txn_mode_node(fields, |txn, mode, node| Form::Lock { txn, mode, node }),
         Verb::Try => txn_mode_node(fields, |txn, mode, node| Form::Try { txn, mode, node }),
@@ -178,7 +192,7 @@ pub(crate) fn read_command(
         Verb::Insert => insert_parts(fields, &mut lists.numbers, |txn, name, file| {
             Form::Insert { txn, name, file }
         }),
-        Verb::Delete => txn_record(fields, |txn, rec| Form::Delete { txn, rec }),
+        Verb::Delete => txn_name(fields, |txn, rec| Form::Delete { txn, rec }),
         Verb::Rekey => rekey_parts(
             fields,
             |txn, rec, index, key| Form::Rekey {
@@ -189,20 +203,21 @@ pub(crate) fn read_command(
             },
         ),
         Verb::Escalate => txn_node(fields, |txn, node| Form::Escalate { txn, node }),
-        Verb::Move => read_move(version, fields, lists),
+        Verb::Move => read_move(language, fields, lists),
         Verb::Group => only_node(fields, |node| Form::Group { node }),
         Verb::Held => txn_node(fields, |txn, node| Form::Held { txn, node }),
         Verb::Effective => txn_node(fields, |txn, node| Form::Effective { txn, node }),
+        Verb::Drop => read_drop(language, fields),
     }
 }
 
 /// What follows the word `move`, which version 1 does not have.
-fn read_move(version: Version, fields: &mut Fields, lists: &mut Lists) -> Option<Form>
+fn read_move(language: Language, fields: &mut Fields, lists: &mut Lists) -> Option<Form>
     requires room { length (left fields.old) ≤ 257 }
-    ensures says { IfSome result (λ form. SaysFields version (codes "move" ∷ left fields.old) (command_of form lists.new)) }
-    ensures none { IfNone result ((c : Command) → SaysFields version (codes "move" ∷ left fields.old) c → ⊥) }
+    ensures says { IfSome result (λ form. SaysFields language (codes "move" ∷ left fields.old) (command_of form lists.new)) }
+    ensures none { IfNone result ((c : Command) → SaysFields language (codes "move" ∷ left fields.old) c → ⊥) }
 {
-    match version {
+    match language.version {
         Version::One => None,
         Version::Two => {
             txn_node_parents(
@@ -212,4 +227,39 @@ fn read_move(version: Version, fields: &mut Fields, lists: &mut Lists) -> Option
             )
         }
     }
+}
+
+/// What follows the word `drop`, where a schema changes.
+fn read_drop(language: Language, fields: &mut Fields) -> Option<Form>
+    ensures says { IfSome result (λ form. (lists : TheLists) → SaysFields language (codes "drop" ∷ left fields.old) (command_of form lists)) }
+    ensures none { IfNone result ((c : Command) → SaysFields language (codes "drop" ∷ left fields.old) c → ⊥) }
+{
+    if language.schema {
+        txn_name(fields, |txn, node| Form::Drop { txn, node })
+    } else {
+        None
+    }
+}
+
+/// What follows the word `index`: one name before the colon, or, where a schema changes, a transaction and a name.
+fn read_index(language: Language, fields: &mut Fields, lists: &mut Lists) -> Option<Form>
+    requires room { length (left fields.old) ≤ 257 }
+    ensures says { IfSome result (λ form. SaysFields language (codes "index" ∷ left fields.old) (command_of form lists.new)) }
+    ensures none { IfNone result ((c : Command) → SaysFields language (codes "index" ∷ left fields.old) c → ⊥) }
+{
+    let first = next_name(fields)?;
+    if fields.is_at_colon() {
+        let file = index_parts(fields, lists)?;
+        return Some(Form::Index { name: first, file });
+    }
+    if !language.schema {
+        return None;
+    }
+    let name = next_name(fields)?;
+    let file = index_parts(fields, lists)?;
+    Some(Form::IndexBy {
+        txn: first,
+        name,
+        file,
+    })
 }

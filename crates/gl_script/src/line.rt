@@ -29,9 +29,7 @@ pub fn parse(language: Language, line: &[u8], lists: &mut Lists) -> Option<Line>
     let mut fields = Fields::of(line);
     let first = fields.next()?;
     match read_verb(first) {
-        Some(verb) => {
-            Some(Line::Order(read_command(language.version, verb, &mut fields, lists)?))
-        }
+        Some(verb) => Some(Line::Order(read_command(language, verb, &mut fields, lists)?)),
         None => {
             let topic = read_topic(first)?;
             Some(Line::List(read_listing(language.listings, topic, &mut fields)?))

@@ -63,19 +63,16 @@ pub(crate) fn txn_mode_node<F: FnOnce(Name, Mode, Used) -> Form>(
     Some(form(txn, mode, node))
 }
 
-/// A transaction and a record.
-pub(crate) fn txn_record<F: FnOnce(Name, Name) -> Form>(
-    fields: &mut Fields,
-    form: F,
-) -> Option<Form>
+/// A transaction and the name of a node.
+pub(crate) fn txn_name<F: FnOnce(Name, Name) -> Form>(fields: &mut Fields, form: F) -> Option<Form>
     requires form { F.IsAlwaysCallable form }
-    ensures found { IfSome result (λ r. (txn : _) × (rec : _) × F.post form txn rec r × IsName txn.items × IsName rec.items
-        × (left fields.old ≡ txn.items ∷ rec.items ∷ [])) }
-    ensures none { IfNone result ((t r : Text) → IsName t → IsName r → left fields.old ≢ t ∷ r ∷ []) }
+    ensures found { IfSome result (λ r. (txn : _) × (name : _) × F.post form txn name r × IsName txn.items × IsName name.items
+        × (left fields.old ≡ txn.items ∷ name.items ∷ [])) }
+    ensures none { IfNone result ((t n : Text) → IsName t → IsName n → left fields.old ≢ t ∷ n ∷ []) }
 {
     let txn = next_name(fields)?;
-    let rec = last_name(fields)?;
-    Some(form(txn, rec))
+    let name = last_name(fields)?;
+    Some(form(txn, name))
 }
 
 /// A transaction, a record, an index and a key.
@@ -170,24 +167,16 @@ pub(crate) fn txn_node_parents<F: FnOnce(Name, Used) -> Form>(
     Some(form(txn, node))
 }
 
-/// A name, one or more parents, the word `on`, a file, the word `at`, and bounds.
-pub(crate) fn index_parts<F: FnOnce(Name, Name) -> Form>(
-    fields: &mut Fields,
-    lists: &mut Lists,
-    form: F,
-) -> Option<Form>
+/// One or more parents, the word `on`, a file, the word `at`, and bounds.
+pub(crate) fn index_parts(fields: &mut Fields, lists: &mut Lists) -> Option<Name>
     requires room { length (left fields.old) ≤ 257 }
-    requires form { F.IsAlwaysCallable form }
-    ensures found { IfSome result (λ r. let ps = nodes_of lists.new in let bs = lists.new.numbers.items in (name : _) × (file : _)
-        × F.post form name file r × IsName name.items × AreSomeNodes ps × IsName file.items × All IsNumber bs
-        × (left fields.old ≡ name.items ∷ parents ps ++ codes "on" ∷ file.items ∷ codes "at" ∷ map decimal bs)) }
-    ensures none { IfNone result ((n f : Text) (ps : List Node) (bs : List ℕ) → IsName n → AreSomeNodes ps → IsName f → All IsNumber bs
-        → left fields.old ≢ n ∷ parents ps ++ codes "on" ∷ f ∷ codes "at" ∷ map decimal bs) }
+    ensures found { IfSome result (λ file. let ps = nodes_of lists.new in let bs = lists.new.numbers.items in AreSomeNodes ps × IsName file.items
+        × All IsNumber bs × (left fields.old ≡ parents ps ++ codes "on" ∷ file.items ∷ codes "at" ∷ map decimal bs)) }
+    ensures none { IfNone result ((f : Text) (ps : List Node) (bs : List ℕ) → AreSomeNodes ps → IsName f → All IsNumber bs
+        → left fields.old ≢ parents ps ++ codes "on" ∷ f ∷ codes "at" ∷ map decimal bs) }
 {
-    let name = next_name(fields)?;
     read_parents_on(fields, &mut lists.nodes)?;
-    let file = file_bounds(fields, &mut lists.numbers)?;
-    Some(form(name, file))
+    file_bounds(fields, &mut lists.numbers)
 }
 
 /// The name that is left.

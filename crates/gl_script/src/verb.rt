@@ -26,6 +26,7 @@ pub(crate) enum Verb {
     Group,
     Held,
     Effective,
+    Drop,
 }
 
 /// The verb that the bytes are, if they are one.
@@ -53,6 +54,7 @@ pub(crate) fn read_verb(text: &[u8]) -> Option<Verb>
         b"group" => Some(Verb::Group),
         b"held" => Some(Verb::Held),
         b"effective" => Some(Verb::Effective),
+        b"drop" => Some(Verb::Drop),
         _ => None,
     }
 }

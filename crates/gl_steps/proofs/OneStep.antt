@@ -93,7 +93,6 @@ module _ (s : State) (law : IsLawful s) (t : TxnId) (alive : lives s t ≡ true)
       finish ans.0 ans.2 (λ l. adopt_keeps s law t alive ans.0 l _ ans.1.0.key f keys.now (adopted_is s ans.0 ans.1.1 ans.1.4))
   accepted (command.Forget r) apart passed ans =
       finish ans.0 ans.2 (λ l. forget_keeps s law t alive ans.0 l _ r (not_false _ (test_fails _ no.BadParents passed.1.1.0)) ans.1.2)
-
   accepted (command.Drop u n) apart passed ans =
       finish ans.0 ans.2 (λ l. drop_keeps s law t alive ans.0 l _ u.slot n (other_slot u apart passed.1.0)
       (not_false _ (test_fails _ no.BadParents passed.1.1.1.1.1.0)) (test_fails _ _ passed.1.1.1.1.1.1.1.0)

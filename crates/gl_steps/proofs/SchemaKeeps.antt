@@ -1,5 +1,5 @@
 -- Nodes are dropped, and an index is made that its maker holds: what their tests leave, and that the law of a state is kept.
-use Rattle.std.specs.Prelude.{◌≡◌, ℕ, ◌+◌, true, false, not, ◌&&◌, ◌++◌, List, [], ◌∷◌, length, Option, Some, None}
+use Rattle.std.specs.Prelude.{◌≡◌, ℕ, ◌+◌, true, false, not, ◌++◌, List, [], ◌∷◌, length, Option, Some, None}
 use Rattle.std.proofs.Common.{sym, ap, subst, ◌∙◌}
 use Rattle.gl_modes.proofs.Words.{and_both}
 use Rattle.gl_modes.specs.Modes.{same_mode}

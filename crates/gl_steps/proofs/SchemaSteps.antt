@@ -1,32 +1,30 @@
 -- A schema changes under the lock of another: nodes are dropped, and an index is made that its maker holds. What it leaves to a holder t.
-use Rattle.std.specs.Prelude.{◌≡◌, ◌≢◌, ℕ, ◌≤◌, Bool, true, false, not, ◌&&◌, ◌||◌, List, [], ◌∷◌, Option, Some, None, is_some, if◌then◌else◌}
+use Rattle.std.specs.Prelude.{◌≡◌, ◌≢◌, ℕ, Bool, true, false, not, ◌&&◌, List, [], ◌∷◌, Option, Some, None, is_some, if◌then◌else◌}
 use Rattle.std.specs.List.{list_all, list_any}
 use Rattle.std.proofs.Common.{refl, sym, ap, ap₂, subst, ◌∙◌, arith, rules}
-use Rattle.std.proofs.Math.Path.{fun_ext}
-use Rattle.gl_modes.proofs.Words.{and_both, clash, no, not_true, or_elim, split}
+use Rattle.gl_modes.proofs.Words.{clash, no, not_true, or_elim, split}
 use Rattle.gl_modes.proofs.NodeLemmas.{same_node-equal}
 use Rattle.gl_modes.specs.declared.mode.Mode.{Mode}
 use Rattle.gl_modes.specs.declared.mode.Mode.TheVariants.{IS, NL, X}
 use Rattle.gl_modes.specs.declared.node.NodeId.{NodeId}
 use Rattle.gl_modes.specs.Modes.{is_at_least, same_mode}
 use Rattle.gl_modes.specs.Nodes.{same_node}
-use Rattle.gl_graph.specs.Changes.{IsIndexBorn, born_index, interval_nodes, without_branch}
-use Rattle.gl_graph.specs.Graph.{Graph, Node, is_child, is_live, node_at, node_count, parents_in, parents_of, shape_in, shape_of, with_key}
-use Rattle.gl_graph.specs.Lawful.{HasShape, IsLawfulGraph}
+use Rattle.gl_graph.specs.Changes.{born_index, interval_nodes, without_branch}
+use Rattle.gl_graph.specs.Graph.{Graph, Node, is_child, is_live, node_at, node_count, parents_in, shape_of}
 use Rattle.gl_graph.specs.Refusals.{is_in_use}
 use Rattle.gl_graph.specs.Routes.{IsRoute}
-use Rattle.gl_graph.specs.Shapes.{File, Index, Inner, Interval, Rec, Shape, is_movable_shape}
-use Rattle.gl_graph.proofs.Branch.{at_beside, at_gone, children_are, gone, is_interval_shape, left_is, left_live, left_was_live, live}
+use Rattle.gl_graph.specs.Shapes.{Index, is_movable_shape}
+use Rattle.gl_graph.proofs.Branch.{left_is, left_live, left_was_live, live}
 use Rattle.gl_model.specs.declared.txn.TxnId.{TxnId}
 use Rattle.gl_model.specs.Calls.{accepted_once, dropped, freed_among, goes_with}
-use Rattle.gl_model.specs.Lawful.{EffX, IsLawful, eff_x, is_read}
+use Rattle.gl_model.specs.Lawful.{EffX, IsLawful, is_read}
 use Rattle.gl_model.specs.State.{State, Txn, live_by, lives, no_parents, with_grant, with_graph}
 use Rattle.gl_model.specs.Tellings.{Told}
 use Rattle.gl_model.proofs.law.Effects.{ReadOn, none_held}
 use Rattle.gl_model.proofs.law.Schema.{only_parent}
 use Rattle.gl_model.proofs.law.Searches.{GraphStep}
 use Rattle.gl_model.proofs.telling.Follows.{SameGrants}
-use Rattle.gl_steps.proofs.GraphChanges.{beside_x, born_births, born_kinds, born_old, born_step, is_new, quiet_under, x_here, x_on_parents}
+use Rattle.gl_steps.proofs.GraphChanges.{born_births, born_kinds, born_old, born_step, is_new, quiet_under, x_here, x_on_parents}
 use Rattle.gl_steps.proofs.GraphCommands.{plain_intervals}
 use Rattle.gl_steps.proofs.Keeps.{Keeps, keeps_graph}
 use Rattle.gl_steps.proofs.KeptKinds.{kind_same}

@@ -1,7 +1,7 @@
 //! The commands of the lock manager, and what is answered.
 
-use gl_modes::{Mode, NodeId, Refusal};
 use gl_model::{Effect, Told, TxnId};
+use gl_modes::{Mode, NodeId, Refusal};
 
 /// What an escalation did. Escalation to a node as Gray and Reuter describe it; that it is asked
 /// for, and what it keeps, is our own choice.

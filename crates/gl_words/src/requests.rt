@@ -6,17 +6,19 @@ ghost use Rattle.gl_words.specs.Planned.{plain, plan_of};
 use gl_model::Detect;
 use gl_waits::Victims;
 
-/// How a script is answered: how deadlocks are found, whom they take, and whether it has the listings.
+/// How a script is answered: how deadlocks are found, whom they take, and whether it has the listings and
+/// the lines by which a schema changes.
 #[derive(Clone, Copy, Debug, PartialEq, Eq)]
 pub struct Choices {
     pub detect: Detect,
     pub victims: Victims,
     pub listings: bool,
+    pub schema: bool,
 }
 
 impl Choices {
     /// The choices where no more than the way of detection is named: the youngest falls, and there are
-    /// no listings.
+    /// neither listings nor lines by which a schema changes.
     pub fn plain(detect: Detect) -> Choices
         ensures { result ≡ plain detect }
     {
@@ -24,6 +26,7 @@ impl Choices {
             detect,
             victims: Victims::Youngest,
             listings: false,
+            schema: false,
         }
     }
 }
@@ -43,7 +46,7 @@ pub enum Asked {
 }
 
 impl Asked {
-    /// The plan of what is asked: all but whom deadlocks take and whether there are listings.
+    /// The plan of what is asked: all but whom deadlocks take and which further lines there are.
     pub fn plan(self) -> Plan
         ensures { result ≡ plan_of self }
     {

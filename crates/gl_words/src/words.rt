@@ -57,10 +57,12 @@ fn read_words<S: AsStr>(alloc: Global, words: &[S]) -> Result<Asked, Unread>
     let detect = matches.get_str("detect");
     let victims = matches.get_str("victims");
     let listings = is_set(matches.get_str("listings"));
+    let schema = is_set(matches.get_str("schema"));
     match asked_of(
         detect,
         victims,
         listings,
+        schema,
         matches.get_str("crew"),
         matches.get_str("rounds"),
     ) {
@@ -76,6 +78,7 @@ fn command<'a>(alloc: Global) -> Result<Command<'a>, AllocError>
     let detect = option(alloc, "detect");
     let victims = option(alloc, "victims");
     let listings = flag(alloc, "listings");
+    let schema = flag(alloc, "schema");
     let crew = option(alloc, "crew");
     let rounds = option(alloc, "rounds");
     Command::new(alloc, "gltool")
@@ -83,6 +86,7 @@ fn command<'a>(alloc: Global) -> Result<Command<'a>, AllocError>
         .arg(detect)?
         .arg(victims)?
         .arg(listings)?
+        .arg(schema)?
         .arg(crew)?
         .arg(rounds)
 }
@@ -114,25 +118,27 @@ fn cause(kind: ErrorKind) -> Unread
 }
 
 /// What these values ask for: a script where there is neither number, a crew where there are both, which
-/// has no listings.
+/// has none of the further lines.
 fn asked_of(
     detect: Option<&str>,
     victims: Option<&str>,
     listings: bool,
+    schema: bool,
     crew: Option<&str>,
     rounds: Option<&str>,
 ) -> Option<Asked>
-    ensures some { IfSome result (λ asked. IsAsked (text detect.entry) (text victims.entry) listings (text crew.entry) (text rounds.entry) asked) }
+    ensures some { IfSome result (λ asked. IsAsked (text detect.entry) (text victims.entry) listings schema (text crew.entry) (text rounds.entry) asked) }
     ensures none { IfNone result ((asked : WhatIsAsked)
-        → ¬ (IsAsked (text detect.entry) (text victims.entry) listings (text crew.entry) (text rounds.entry) asked)) }
+        → ¬ (IsAsked (text detect.entry) (text victims.entry) listings schema (text crew.entry) (text rounds.entry) asked)) }
 {
     let detect = way(detect)?;
     let victims = choice(victims)?;
-    match (crew, rounds, listings) {
+    match (crew, rounds, listings || schema) {
         (None, None, _) => Some(Asked::Script(Choices {
             detect,
             victims,
             listings,
+            schema,
         })),
         (Some(crew), Some(rounds), false) => Some(Asked::Crew {
             sessions: number_to(MOST_SESSIONS, crew)?,

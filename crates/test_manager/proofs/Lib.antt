@@ -1,1 +1,4 @@
+-- boards on which nobody waits
 mod Boards
+-- a file with one index
+mod OneIndex

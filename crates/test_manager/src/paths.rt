@@ -1,6 +1,6 @@
 //! Locks along paths: what is locked above a node, and where a path ends.
 
-use crate::story::{A, Ask, B, C, N1, N2, N3, N4, N6, N7, N9, Step, play};
+use crate::story::{A, Ask, B, C, N1, N2, N3, N4, N6, N7, N9, Step, Story, play_all};
 use gl_catalog::{Answer, Reached};
 use gl_modes::Mode::{IS, IX, NL, S, X};
 use gl_modes::{NodeId, Refusal};
@@ -44,68 +44,49 @@ const FILL: &[Step] = &[
     Step::Ask(Ask::Begin, Answer::Begun(T)),
 ];
 
-#[test]
-fn a_record_is_read_by_its_first_parent(rt: HostRuntime) {
-    const READS: &[Step] = &[
-        Step::Takes(T, S, REC),
-        Step::Holds(T, DB, IS),
-        Step::Holds(T, FILE, IS),
-        Step::Holds(T, FIRST, NL),
-    ];
-    play(&rt, rt.alloc(), &[OPEN, FILL, READS]);
-}
+const READS_BY_THE_FIRST: &[Step] = &[
+    Step::Takes(T, S, REC),
+    Step::Holds(T, DB, IS),
+    Step::Holds(T, FILE, IS),
+    Step::Holds(T, FIRST, NL),
+];
 
-#[test]
-fn a_record_is_written_by_all_its_parents(rt: HostRuntime) {
-    const WRITES: &[Step] = &[
-        Step::Takes(T, X, REC),
-        Step::Holds(T, FILE, IX),
-        Step::Holds(T, IN_FIRST, IX),
-        Step::Holds(T, IN_SECOND, IX),
-        Step::Holds(T, SECOND, IX),
-        Step::Holds(T, DB, IX),
-    ];
-    play(&rt, rt.alloc(), &[OPEN, FILL, WRITES]);
-}
+const WRITES: &[Step] = &[
+    Step::Takes(T, X, REC),
+    Step::Holds(T, FILE, IX),
+    Step::Holds(T, IN_FIRST, IX),
+    Step::Holds(T, IN_SECOND, IX),
+    Step::Holds(T, SECOND, IX),
+    Step::Holds(T, DB, IX),
+];
 
-#[test]
-fn a_reader_by_another_parent_locks_nothing_above(rt: HostRuntime) {
-    const READS: &[Step] = &[
-        Step::Takes(T, IS, IN_SECOND),
-        Step::Takes(T, S, REC),
-        Step::Holds(T, FILE, NL),
-    ];
-    play(&rt, rt.alloc(), &[OPEN, FILL, READS]);
-}
+const READS_BY_ANOTHER: &[Step] = &[
+    Step::Takes(T, IS, IN_SECOND),
+    Step::Takes(T, S, REC),
+    Step::Holds(T, FILE, NL),
+];
 
-#[test]
-fn a_path_goes_on_after_a_wait(rt: HostRuntime) {
-    const AT_ROOT: Result<Reached, Refusal> = Ok(Reached {
-        node: DB,
-        locked: Locked::Waiting,
-    });
-    const WAITS: &[Step] = &[
-        Step::Ask(Ask::Begin, Answer::Begun(A)),
-        Step::Ask(Ask::Begin, Answer::Begun(B)),
-        Step::Takes(A, X, DB),
-        Step::Path(B, S, FILE, AT_ROOT, 0),
-        Step::Holds(B, FILE, NL),
-        Step::Tells(Ask::Commit(A), Answer::Done, 1),
-        Step::Takes(B, S, FILE),
-        Step::Holds(B, DB, IS),
-    ];
-    play(&rt, rt.alloc(), &[OPEN, WAITS]);
-}
+const WAITS_AT_ROOT: Result<Reached, Refusal> = Ok(Reached {
+    node: DB,
+    locked: Locked::Waiting,
+});
 
-#[test]
-fn a_bad_mode_leaves_nothing_locked(rt: HostRuntime) {
-    const REFUSED: &[Step] = &[
-        Step::Path(T, IX, REC, Err(Refusal::BadMode), 0),
-        Step::Holds(T, FILE, NL),
-        Step::Holds(T, DB, NL),
-    ];
-    play(&rt, rt.alloc(), &[OPEN, FILL, REFUSED]);
-}
+const WAITS: &[Step] = &[
+    Step::Ask(Ask::Begin, Answer::Begun(A)),
+    Step::Ask(Ask::Begin, Answer::Begun(B)),
+    Step::Takes(A, X, DB),
+    Step::Path(B, S, FILE, WAITS_AT_ROOT, 0),
+    Step::Holds(B, FILE, NL),
+    Step::Tells(Ask::Commit(A), Answer::Done, 1),
+    Step::Takes(B, S, FILE),
+    Step::Holds(B, DB, IS),
+];
+
+const REFUSED: &[Step] = &[
+    Step::Path(T, IX, REC, Err(Refusal::BadMode), 0),
+    Step::Holds(T, FILE, NL),
+    Step::Holds(T, DB, NL),
+];
 
 /// Another root.
 const OTHER: NodeId = N9;
@@ -123,12 +104,37 @@ const RING: &[Step] = &[
     Step::Ask(Ask::Lock(C, X, DB), Answer::Waiting),
 ];
 
+const GRANTED_AT_ROOT: Result<Reached, Refusal> = Ok(Reached {
+    node: DB,
+    locked: Locked::Granted(IX),
+});
+
+const GOES_ON: &[Step] = &[
+    Step::Path(A, X, FILE, GRANTED_AT_ROOT, 1),
+    Step::Takes(A, X, FILE),
+];
+
 #[test]
-fn a_victim_is_told_before_a_path_goes_on(rt: HostRuntime) {
-    const AT_ROOT: Result<Reached, Refusal> = Ok(Reached {
-        node: DB,
-        locked: Locked::Granted(IX),
-    });
-    const GOES_ON: &[Step] = &[Step::Path(A, X, FILE, AT_ROOT, 1), Step::Takes(A, X, FILE)];
-    play(&rt, rt.alloc(), &[OPEN, RING, GOES_ON]);
+fn paths_are_locked(rt: HostRuntime) {
+    const STORIES: &[Story] = &[
+        (
+            "a record is read by its first parent",
+            &[OPEN, FILL, READS_BY_THE_FIRST],
+        ),
+        (
+            "a record is written by all its parents",
+            &[OPEN, FILL, WRITES],
+        ),
+        (
+            "a reader by another parent locks nothing above",
+            &[OPEN, FILL, READS_BY_ANOTHER],
+        ),
+        ("a path goes on after a wait", &[OPEN, WAITS]),
+        ("a bad mode leaves nothing locked", &[OPEN, FILL, REFUSED]),
+        (
+            "a victim is told before a path goes on",
+            &[OPEN, RING, GOES_ON],
+        ),
+    ];
+    play_all(&rt, rt.alloc(), STORIES);
 }

@@ -1,6 +1,6 @@
 //! Rows by the engine's own numbers, whose nodes come and go with their locks.
 
-use crate::story::{A, Ask, B, N1, N2, N3, N4, N5, N6, N7, command_of};
+use crate::story::{A, Ask, B, N1, N2, N3, N4, N5, N6, N7, Place, command_of};
 use crate::wanted::{allowed, same};
 use gl_catalog::{Answer, Manager};
 use gl_modes::Mode::{IX, S, X};
@@ -101,7 +101,7 @@ fn call_of(call: Call) -> RowCall<'static> {
 }
 
 /// Takes one step.
-fn take(rt: &impl Abort, registry: &mut Registry, place: usize, step: Step) {
+fn take(rt: &impl Abort, registry: &mut Registry, place: Place, step: Step) {
     match step {
         Step::Serve(ask, wanted) => {
             let answer = registry.serve(command_of(ask), &mut Told::new());
@@ -132,7 +132,7 @@ fn take(rt: &impl Abort, registry: &mut Registry, place: usize, step: Step) {
 }
 
 /// Makes a call, and compares its answer.
-fn applies(rt: &impl Abort, registry: &mut Registry, place: usize, call: Call, wanted: RowAnswer) {
+fn applies(rt: &impl Abort, registry: &mut Registry, place: Place, call: Call, wanted: RowAnswer) {
     let answer = registry.apply(call_of(call), &mut Told::new());
     same(rt, (place, answer), (place, wanted));
 }
@@ -145,13 +145,24 @@ fn open(alloc: Global) -> Result<Registry, Refusal> {
     Registry::new(alloc, manager)
 }
 
-/// Plays a story, in parts, over a new registry.
-fn play(rt: &impl Abort, alloc: Global, parts: &[&[Step]]) {
+/// What a story is called, and its parts.
+type Story = (&'static str, &'static [&'static [Step]]);
+
+/// Plays a story over a new registry.
+fn play(rt: &impl Abort, alloc: Global, story: Story) {
+    let (name, parts) = story;
     let mut registry = allowed(rt, open(alloc));
     for steps in parts {
         for (place, step) in steps.iter().enumerate() {
-            take(rt, &mut registry, place, *step);
+            take(rt, &mut registry, (name, place), *step);
         }
+    }
+}
+
+/// Plays each story over a registry of its own.
+fn play_all(rt: &impl Abort, alloc: Global, stories: &[Story]) {
+    for story in stories {
+        play(rt, alloc, *story);
     }
 }
 
@@ -195,125 +206,135 @@ const READ: Locked = Locked::Granted(S);
 
 const WRITTEN: Locked = Locked::Granted(X);
 
-#[test]
-fn a_row_has_a_node_while_it_is_locked(rt: HostRuntime) {
-    const STORY: &[Step] = &[
-        Step::Stand(6),
-        Step::Lock(A, &[5], X, FIRST, WRITTEN, true),
-        Step::Lock(B, &[5], S, FIRST, Locked::Waiting, true),
-        Step::Named(1),
-        Step::Apply(Call::Commit(A), DONE),
-        Step::Named(1),
-        Step::Apply(Call::Commit(B), DONE),
-        Step::Named(0),
-        Step::Stand(6),
-    ];
-    play(&rt, rt.alloc(), &[OPEN, WRITER, SECOND, STORY]);
-}
+const HAS_A_NODE: &[Step] = &[
+    Step::Stand(6),
+    Step::Lock(A, &[5], X, FIRST, WRITTEN, true),
+    Step::Lock(B, &[5], S, FIRST, Locked::Waiting, true),
+    Step::Named(1),
+    Step::Apply(Call::Commit(A), DONE),
+    Step::Named(1),
+    Step::Apply(Call::Commit(B), DONE),
+    Step::Named(0),
+    Step::Stand(6),
+];
 
 /// Whoever says other keys than a held row's node has is locked by that node, and hears it.
-#[test]
-fn a_row_is_locked_by_the_node_that_it_has(rt: HostRuntime) {
-    const STORY: &[Step] = &[
-        Step::Lock(A, &[5], S, FIRST, READ, true),
-        Step::Lock(B, &[50], S, FIRST, READ, false),
-        Step::Lock(B, &[50], X, FIRST, Locked::Waiting, false),
-        Step::Apply(Call::Commit(A), DONE),
-        Step::Named(1),
-        Step::Lock(B, &[50], X, FIRST, WRITTEN, false),
-        Step::Apply(Call::Unlock(B), DONE),
-        Step::Lock(B, &[50], X, NEXT, WRITTEN, true),
-    ];
-    play(&rt, rt.alloc(), &[OPEN, WRITER, SECOND, STORY]);
-}
+const IS_LOCKED_BY_ITS_NODE: &[Step] = &[
+    Step::Lock(A, &[5], S, FIRST, READ, true),
+    Step::Lock(B, &[50], S, FIRST, READ, false),
+    Step::Lock(B, &[50], X, FIRST, Locked::Waiting, false),
+    Step::Apply(Call::Commit(A), DONE),
+    Step::Named(1),
+    Step::Lock(B, &[50], X, FIRST, WRITTEN, false),
+    Step::Apply(Call::Unlock(B), DONE),
+    Step::Lock(B, &[50], X, NEXT, WRITTEN, true),
+];
 
 /// A row that is released by its node keeps that, and gets another where other keys are said.
-#[test]
-fn a_row_whose_node_nobody_has_gets_another(rt: HostRuntime) {
-    const STORY: &[Step] = &[
-        Step::Lock(A, &[5], S, FIRST, READ, true),
-        Step::Stand(7),
-        Step::Node(Some(FIRST)),
-        Step::Serve(Ask::Commit(A), Some(Answer::Done)),
-        Step::Named(1),
-        Step::Lock(B, &[50], X, BESIDE, WRITTEN, true),
-        Step::Node(Some(BESIDE)),
-        Step::Stand(7),
-        Step::Apply(Call::Commit(B), DONE),
-        Step::Named(0),
-    ];
-    play(&rt, rt.alloc(), &[OPEN, WRITER, SECOND, STORY]);
-}
+const GETS_ANOTHER: &[Step] = &[
+    Step::Lock(A, &[5], S, FIRST, READ, true),
+    Step::Stand(7),
+    Step::Node(Some(FIRST)),
+    Step::Serve(Ask::Commit(A), Some(Answer::Done)),
+    Step::Named(1),
+    Step::Lock(B, &[50], X, BESIDE, WRITTEN, true),
+    Step::Node(Some(BESIDE)),
+    Step::Stand(7),
+    Step::Apply(Call::Commit(B), DONE),
+    Step::Named(0),
+];
 
 /// A refused lock of a row changes nothing: no node, no count, and an index can still be made.
-#[test]
-fn a_refused_lock_changes_nothing(rt: HostRuntime) {
-    const NEED: RowAnswer = RowAnswer::Answered(Answer::Refused(Refusal::NeedParents {
-        node: FILE,
-    }));
-    const BAD_MODE: RowAnswer = RowAnswer::Answered(Answer::Refused(Refusal::BadMode));
-    const NO_TXN: RowAnswer = RowAnswer::Answered(Answer::Refused(Refusal::NoSuchTxn));
-    const NO_NODE: RowAnswer = RowAnswer::Answered(Answer::Refused(Refusal::NoSuchNode));
-    const STORY: &[Step] = &[
-        Step::Stand(6),
-        Step::Accepted(5),
-        Step::Apply(Call::Lock(A, X, &[5]), NEED),
-        Step::Apply(Call::Lock(A, IX, &[5]), BAD_MODE),
-        Step::Apply(Call::Lock(TxnId::NONE, X, &[5]), NO_TXN),
-        Step::Apply(Call::Unlock(A), NO_NODE),
-        Step::Named(0),
-        Step::Stand(6),
-        Step::Accepted(5),
-        Step::Serve(Ask::Index(&[DB], FILE, &[]), Some(Answer::Node(N7))),
-    ];
-    play(&rt, rt.alloc(), &[OPEN, BEGIN, STORY]);
-}
+const NEED: RowAnswer = RowAnswer::Answered(Answer::Refused(Refusal::NeedParents { node: FILE }));
+
+const BAD_MODE: RowAnswer = RowAnswer::Answered(Answer::Refused(Refusal::BadMode));
+
+const NO_TXN: RowAnswer = RowAnswer::Answered(Answer::Refused(Refusal::NoSuchTxn));
+
+const NO_NODE: RowAnswer = RowAnswer::Answered(Answer::Refused(Refusal::NoSuchNode));
+
+const CHANGES_NOTHING: &[Step] = &[
+    Step::Stand(6),
+    Step::Accepted(5),
+    Step::Apply(Call::Lock(A, X, &[5]), NEED),
+    Step::Apply(Call::Lock(A, IX, &[5]), BAD_MODE),
+    Step::Apply(Call::Lock(TxnId::NONE, X, &[5]), NO_TXN),
+    Step::Apply(Call::Unlock(A), NO_NODE),
+    Step::Named(0),
+    Step::Stand(6),
+    Step::Accepted(5),
+    Step::Serve(Ask::Index(&[DB], FILE, &[]), Some(Answer::Node(N7))),
+];
 
 /// No record of a file of rows is made, taken away or changed by its node.
-#[test]
-fn a_file_of_rows_has_no_other_records(rt: HostRuntime) {
-    const STORY: &[Step] = &[
-        Step::Serve(Ask::Insert(A, FILE, &[5]), None),
-        Step::Serve(Ask::Adopt(FILE, &[5]), None),
-        Step::Lock(A, &[5], X, FIRST, WRITTEN, true),
-        Step::Serve(Ask::Delete(A, FIRST), None),
-        Step::Serve(Ask::Forget(FIRST), None),
-        Step::Serve(Ask::Rekey(A, FIRST, INDEX, 50), None),
-        Step::Lock(A, &[5], X, FIRST, WRITTEN, true),
-    ];
-    play(&rt, rt.alloc(), &[OPEN, WRITER, STORY]);
-}
+const HAS_NO_OTHER_RECORDS: &[Step] = &[
+    Step::Serve(Ask::Insert(A, FILE, &[5]), None),
+    Step::Serve(Ask::Adopt(FILE, &[5]), None),
+    Step::Lock(A, &[5], X, FIRST, WRITTEN, true),
+    Step::Serve(Ask::Delete(A, FIRST), None),
+    Step::Serve(Ask::Forget(FIRST), None),
+    Step::Serve(Ask::Rekey(A, FIRST, INDEX, 50), None),
+    Step::Lock(A, &[5], X, FIRST, WRITTEN, true),
+];
 
 /// A file of records has no rows by number.
-#[test]
-fn a_file_of_records_has_no_rows(rt: HostRuntime) {
-    const STORY: &[Step] = &[
-        Step::Apply(Call::LockRecord(A), RowAnswer::NotRows),
-        Step::Apply(Call::UnlockRecord(A), RowAnswer::NotRows),
-        Step::Apply(Call::RekeyRecord(A), RowAnswer::NotRows),
-        Step::Serve(Ask::Insert(A, RECORDS, &[]), Some(Answer::Node(N7))),
-        Step::HasRows(RECORDS, false),
-        Step::HasRows(FILE, true),
-    ];
-    play(&rt, rt.alloc(), &[OPEN, WRITER, STORY]);
-}
+const HAS_NO_ROWS: &[Step] = &[
+    Step::Apply(Call::LockRecord(A), RowAnswer::NotRows),
+    Step::Apply(Call::UnlockRecord(A), RowAnswer::NotRows),
+    Step::Apply(Call::RekeyRecord(A), RowAnswer::NotRows),
+    Step::Serve(Ask::Insert(A, RECORDS, &[]), Some(Answer::Node(N7))),
+    Step::HasRows(RECORDS, false),
+    Step::HasRows(FILE, true),
+];
 
 /// The number of a row that is locked in X stays until its transaction ends: so it is deleted.
+const NOT_WAITING: RowAnswer = RowAnswer::Answered(Answer::Refused(Refusal::NotWaiting));
+
+const IS_FREE_AT_THE_COMMIT: &[Step] = &[
+    Step::Lock(A, &[5], X, FIRST, WRITTEN, true),
+    Step::Lock(B, &[5], X, FIRST, Locked::Waiting, true),
+    Step::Apply(Call::Cancel(B), DONE),
+    Step::Named(1),
+    Step::Lock(B, &[5], X, FIRST, Locked::Waiting, true),
+    Step::Apply(Call::Commit(A), DONE),
+    Step::Named(1),
+    Step::Lock(B, &[5], X, FIRST, WRITTEN, true),
+    Step::Apply(Call::Cancel(B), NOT_WAITING),
+    Step::Apply(Call::Commit(B), DONE),
+    Step::Named(0),
+];
+
 #[test]
-fn a_number_is_free_at_the_commit(rt: HostRuntime) {
-    const NOT_WAITING: RowAnswer = RowAnswer::Answered(Answer::Refused(Refusal::NotWaiting));
-    const STORY: &[Step] = &[
-        Step::Lock(A, &[5], X, FIRST, WRITTEN, true),
-        Step::Lock(B, &[5], X, FIRST, Locked::Waiting, true),
-        Step::Apply(Call::Cancel(B), DONE),
-        Step::Named(1),
-        Step::Lock(B, &[5], X, FIRST, Locked::Waiting, true),
-        Step::Apply(Call::Commit(A), DONE),
-        Step::Named(1),
-        Step::Lock(B, &[5], X, FIRST, WRITTEN, true),
-        Step::Apply(Call::Cancel(B), NOT_WAITING),
-        Step::Apply(Call::Commit(B), DONE),
-        Step::Named(0),
+fn rows_have_nodes_while_they_are_locked(rt: HostRuntime) {
+    const STORIES: &[Story] = &[
+        (
+            "a row has a node while it is locked",
+            &[OPEN, WRITER, SECOND, HAS_A_NODE],
+        ),
+        (
+            "a row is locked by the node that it has",
+            &[OPEN, WRITER, SECOND, IS_LOCKED_BY_ITS_NODE],
+        ),
+        (
+            "a row whose node nobody has gets another",
+            &[OPEN, WRITER, SECOND, GETS_ANOTHER],
+        ),
+        (
+            "a refused lock changes nothing",
+            &[OPEN, BEGIN, CHANGES_NOTHING],
+        ),
+        (
+            "a file of rows has no other records",
+            &[OPEN, WRITER, HAS_NO_OTHER_RECORDS],
+        ),
+        (
+            "a file of records has no rows",
+            &[OPEN, WRITER, HAS_NO_ROWS],
+        ),
+        (
+            "a number is free at the commit",
+            &[OPEN, WRITER, SECOND, IS_FREE_AT_THE_COMMIT],
+        ),
     ];
-    play(&rt, rt.alloc(), &[OPEN, WRITER, SECOND, STORY]);
+    play_all(&rt, rt.alloc(), STORIES);
 }

@@ -31,6 +31,12 @@ pub const N7: NodeId = NodeId { key: 6, birth: 7 };
 
 pub const N9: NodeId = NodeId { key: 8, birth: 9 };
 
+/// A place in a story, by the story's name and the number of the step in its part.
+pub type Place = (&'static str, usize);
+
+/// What a story is called, and its parts.
+pub type Story = (&'static str, &'static [&'static [Step]]);
+
 /// A command.
 #[derive(Clone, Copy)]
 pub enum Ask {
@@ -48,6 +54,8 @@ pub enum Ask {
     Rekey(TxnId, NodeId, NodeId, u64),
     Adopt(NodeId, &'static [u64]),
     Forget(NodeId),
+    Drop(TxnId, NodeId),
+    IndexBy(TxnId, &'static [NodeId], NodeId, &'static [u64]),
     Group(NodeId),
     Held(TxnId, NodeId),
     Effective(TxnId, NodeId),
@@ -119,6 +127,13 @@ pub fn command_of(ask: Ask) -> Command<'static> {
         },
         Ask::Adopt(file, keys) => Command::Adopt { file, keys },
         Ask::Forget(rec) => Command::Forget { rec },
+        Ask::Drop(txn, node) => Command::Drop { txn, node },
+        Ask::IndexBy(txn, parents, file, bounds) => Command::IndexBy {
+            txn,
+            parents,
+            file,
+            bounds,
+        },
         Ask::Group(node) => Command::Group { node },
         Ask::Held(txn, node) => Command::Held { txn, node },
         Ask::Effective(txn, node) => Command::Effective { txn, node },
@@ -137,7 +152,7 @@ fn escalated(manager: &mut Manager, txn: TxnId, node: NodeId) -> Answer {
 fn asks(
     rt: &impl Abort,
     manager: &mut Manager,
-    place: usize,
+    place: Place,
     ask: Ask,
     answer: Answer,
     told: usize,
@@ -148,7 +163,7 @@ fn asks(
 }
 
 /// A call that must be allowed tells so many.
-fn tells(rt: &impl Abort, place: usize, came: Result<Told, Refusal>, told: usize) {
+fn tells(rt: &impl Abort, place: Place, came: Result<Told, Refusal>, told: usize) {
     let came = allowed(rt, came);
     same(rt, (place, came.len()), (place, told));
 }
@@ -157,7 +172,7 @@ fn tells(rt: &impl Abort, place: usize, came: Result<Told, Refusal>, told: usize
 fn goes(
     rt: &impl Abort,
     manager: &mut Manager,
-    place: usize,
+    place: Place,
     lock: (TxnId, Mode, NodeId),
     wanted: Result<Reached, Refusal>,
     told: usize,
@@ -170,7 +185,7 @@ fn goes(
 }
 
 /// Takes one step.
-fn take(rt: &impl Abort, manager: &mut Manager, place: usize, step: Step) {
+fn take(rt: &impl Abort, manager: &mut Manager, place: Place, step: Step) {
     match step {
         Step::Ask(ask, answer) => asks(rt, manager, place, ask, answer, 0),
         Step::Tells(ask, answer, told) => asks(rt, manager, place, ask, answer, told),
@@ -199,12 +214,20 @@ fn take(rt: &impl Abort, manager: &mut Manager, place: usize, step: Step) {
     }
 }
 
-/// Plays a story, in parts, over a new manager for four transactions.
-pub fn play(rt: &impl Abort, alloc: Global, parts: &[&[Step]]) {
+/// Plays a story over a new manager for four transactions.
+fn play(rt: &impl Abort, alloc: Global, story: Story) {
+    let (name, parts) = story;
     let mut manager = allowed(rt, Manager::new(alloc, Detect::AtBlock, 4));
     for steps in parts {
         for (place, step) in steps.iter().enumerate() {
-            take(rt, &mut manager, place, *step);
+            take(rt, &mut manager, (name, place), *step);
         }
+    }
+}
+
+/// Plays each story over a manager of its own.
+pub fn play_all(rt: &impl Abort, alloc: Global, stories: &[Story]) {
+    for story in stories {
+        play(rt, alloc, *story);
     }
 }

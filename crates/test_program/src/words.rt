@@ -28,7 +28,7 @@ const LEFT_WAITING: &[u8] = b"ok\nok\nok\nok S\nok S\nwait\nwait\n";
 
 const NO_WORDS: [&str; 0] = [];
 
-const REFUSED: [&[&str]; 32] = [
+const REFUSED: [&[&str]; 38] = [
     &["x"],
     &[""],
     &["-h"],
@@ -61,6 +61,12 @@ const REFUSED: [&[&str]; 32] = [
     &["--listings=true"],
     &["--listings", "x"],
     &["--listing"],
+    &["--schema", "--crew", "4", "--rounds", "1"],
+    &["--crew=4", "--rounds=1", "--schema"],
+    &["--crew=4", "--rounds=1", "--schema", "--listings"],
+    &["--schema", "--schema"],
+    &["--schema=true"],
+    &["--schemas"],
 ];
 
 /// A script that lists, with the word and without.
@@ -70,33 +76,52 @@ const LISTS_LISTED: &[u8] = b"ok\nok\nok\n";
 
 const LISTS_UNLISTED: &[u8] = b"ok\nno 20 BadLine\nno 20 BadLine\n";
 
-/// Words that ask for a script, and what they choose.
-const CHOSEN: [(&[&str], Detect, Victims, bool); 12] = [
-    (&[], AtBlock, Youngest, false),
-    (&["--detect", "at-block"], AtBlock, Youngest, false),
-    (&["--detect=at-block"], AtBlock, Youngest, false),
-    (&["--detect", "by-watcher"], ByWatcher, Youngest, false),
-    (&["--detect=by-watcher"], ByWatcher, Youngest, false),
-    (&["--victims", "fewest"], AtBlock, Fewest, false),
-    (&["--victims=fewest"], AtBlock, Fewest, false),
-    (&["--victims", "youngest"], AtBlock, Youngest, false),
+/// Words that ask for a script, and what they choose: the way, the victims, the listings and the lines by
+/// which a schema changes.
+const CHOSEN: [(&[&str], Detect, Victims, bool, bool); 15] = [
+    (&[], AtBlock, Youngest, false, false),
+    (&["--detect", "at-block"], AtBlock, Youngest, false, false),
+    (&["--detect=at-block"], AtBlock, Youngest, false, false),
+    (
+        &["--detect", "by-watcher"],
+        ByWatcher,
+        Youngest,
+        false,
+        false,
+    ),
+    (&["--detect=by-watcher"], ByWatcher, Youngest, false, false),
+    (&["--victims", "fewest"], AtBlock, Fewest, false, false),
+    (&["--victims=fewest"], AtBlock, Fewest, false, false),
+    (&["--victims", "youngest"], AtBlock, Youngest, false, false),
     (
         &["--victims=fewest", "--detect=by-watcher"],
         ByWatcher,
         Fewest,
         false,
+        false,
     ),
-    (&["--listings"], AtBlock, Youngest, true),
+    (&["--listings"], AtBlock, Youngest, true, false),
     (
         &["--detect", "at-block", "--listings"],
         AtBlock,
         Youngest,
         true,
+        false,
     ),
     (
         &["--listings", "--victims=fewest", "--detect=by-watcher"],
         ByWatcher,
         Fewest,
+        true,
+        false,
+    ),
+    (&["--schema"], AtBlock, Youngest, false, true),
+    (&["--schema", "--listings"], AtBlock, Youngest, true, true),
+    (
+        &["--listings", "--detect=by-watcher", "--schema"],
+        ByWatcher,
+        Youngest,
+        true,
         true,
     ),
 ];
@@ -194,11 +219,12 @@ fn ends<H: Threads + Wait + Sync + Abort>(
 
 #[test]
 fn a_script_is_chosen_by_words(rt: HostRuntime) {
-    for (words, detect, victims, listings) in CHOSEN {
+    for (words, detect, victims, listings, schema) in CHOSEN {
         let choices = Choices {
             detect,
             victims,
             listings,
+            schema,
         };
         choose(&rt, rt.alloc(), words, choices);
     }
@@ -218,6 +244,34 @@ fn the_plan_is_what_runs(rt: HostRuntime) {
     for (words, report) in RUNS {
         ends(&rt, rt.alloc(), words, 0, report, b"");
     }
+}
+
+/// A script that drops, with the word and without.
+const DROPS: &[u8] = b"inner db\nbegin a\nlock a X db\ndrop a db\ngroup db\n";
+
+const DROPS_DONE: &[u8] = b"ok\nok\nok X\nok\nno 2 NoSuchNode db\n";
+
+const DROPS_UNREAD: &[u8] = b"ok\nok\nok X\nno 20 BadLine\nok X\n";
+
+/// A schema changes with the word alone.
+#[test]
+fn a_schema_changes_by_its_word(rt: HostRuntime) -> Result<(), Fail> {
+    let alloc = rt.alloc();
+    let rows: [(&[&str], &[u8]); 4] = [
+        (&[], DROPS_UNREAD),
+        (&["--listings"], DROPS_UNREAD),
+        (&["--schema"], DROPS_DONE),
+        (&["--schema", "--listings"], DROPS_DONE),
+    ];
+    for (words, report) in rows {
+        let (mut reader, mut out) = (DROPS, Vec::with_capacity(alloc, 256)?);
+        let mut faults = Vec::with_capacity(alloc, 256)?;
+        let ended = program(&rt, alloc, words, &mut reader, &mut out, &mut faults);
+        same(&rt, ended, 0);
+        same(&rt, out.as_slice(), report);
+        assert!(rt; faults.is_empty());
+    }
+    Ok(())
 }
 
 /// The listings of a script are answered with the word alone.

@@ -24,6 +24,8 @@ mod records;
 #[cfg(test)]
 mod rows;
 #[cfg(test)]
+mod schema;
+#[cfg(test)]
 mod streams;
 #[cfg(test)]
 mod wanted;

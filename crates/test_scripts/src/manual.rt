@@ -1,6 +1,6 @@
 //! The examples of the manual, `docs/SCRIPT.md`: each as it stands there.
 
-use crate::rows::{AT_BLOCK, BY_WATCHER, LISTED, Lines, try_out};
+use crate::rows::{AT_BLOCK, BY_WATCHER, LISTED, Lines, SCHEMA, try_out};
 use std::test::Fail;
 
 /// The shop, from which most examples go on.
@@ -104,6 +104,52 @@ const MOVES: Lines = &[
     ("lock a X new", "ok X"),
     ("move a new", "ok"),
     ("move a db : new", "ok"),
+];
+
+/// Without the word a line by which a schema changes is a bad line.
+const UNCHANGED: Lines = &[
+    ("inner db", "ok"),
+    ("file t : db", "ok"),
+    ("begin a", "ok"),
+    ("lock a IX db", "ok IX"),
+    ("lock a X t", "ok X"),
+    ("drop a t", "no 20 BadLine"),
+    ("index a i : db on t at", "no 20 BadLine"),
+];
+
+/// An index is dropped and made with finer bounds, while a reader waits for it.
+const FINER: Lines = &[
+    ("begin w", "ok"),
+    ("begin r", "ok"),
+    ("lock w IX db", "ok IX"),
+    ("lock w X orders", "ok X"),
+    ("lock w X by_day", "ok X"),
+    ("lock r IS db", "ok IS"),
+    ("lock r S by_day", "wait"),
+    ("drop w by_day", "ok\ntold r gone"),
+    ("group by_day.0", "no 2 NoSuchNode by_day.0"),
+    ("index w by_day : db on orders at 50 100 150", "ok"),
+    ("held w by_day", "ok X"),
+    ("lock r S by_day", "wait"),
+    ("commit w", "ok\ntold r granted S by_day"),
+    ("lock r S by_day.3", "ok S"),
+];
+
+/// A data base goes, from its leaves up.
+const DROPPED: Lines = &[
+    ("begin a", "ok"),
+    ("lock a X db", "ok X"),
+    ("lock a X orders", "ok X"),
+    ("drop a orders", "no 17 FileInUse"),
+    ("drop a by_day", "no 14 NeedExclusive"),
+    ("lock a X by_day", "ok X"),
+    ("drop a by_day", "ok"),
+    ("drop a db", "no 23 HasChildren"),
+    ("drop a orders", "ok"),
+    ("drop a db", "ok"),
+    ("file db : db", "no 2 NoSuchNode db"),
+    ("inner db", "ok"),
+    ("held a db", "ok NL"),
 ];
 
 /// A lock on the file in place of locks on its records, for a writer and for a reader.
@@ -273,7 +319,7 @@ const REFUSALS: Lines = &[
 
 #[test]
 fn examples_of_the_manual(rt: HostRuntime) -> Result<(), Fail> {
-    for lines in [VERSIONS, NODES, MOVES, DEADLOCK, UNLISTED] {
+    for lines in [VERSIONS, NODES, MOVES, DEADLOCK, UNLISTED, UNCHANGED] {
         try_out(&rt, rt.alloc(), AT_BLOCK, &[lines])?;
     }
     for lines in [LISTINGS, CYCLE] {
@@ -296,6 +342,14 @@ fn examples_of_the_shop(rt: HostRuntime) -> Result<(), Fail> {
     ];
     for lines in rows {
         try_out(&rt, rt.alloc(), AT_BLOCK, &[SHOP, lines])?;
+    }
+    Ok(())
+}
+
+#[test]
+fn examples_of_a_schema_that_changes(rt: HostRuntime) -> Result<(), Fail> {
+    for lines in [FINER, DROPPED] {
+        try_out(&rt, rt.alloc(), SCHEMA, &[SHOP, lines])?;
     }
     Ok(())
 }

@@ -106,6 +106,28 @@ fn pictures_of_listings(rt: HostRuntime) -> Result<(), Fail> {
     draws(&rt, alloc, &["--waits"], LISTS, VICTIM)
 }
 
+/// A table is dropped and made again, and an index with it.
+const DROPS: &[u8] = b"inner db\nfile f : db\nindex i : db on f at 5\nbegin a\nlock a IX db\n\
+    lock a X f\nlock a X i\ndrop a i\ndrop a f\nfile f : db\nlock a X f\nindex a i : db on f at\n";
+
+const DROPS_DRAWN: &[u8] = b"digraph locks {\n\
+    \x20 node [shape=box];\n\
+    \x20 n1 [label=\"db\\na IX\"];\n\
+    \x20 n6 [label=\"f\\na X\"];\n\
+    \x20 n1 -> n6;\n\
+    \x20 n7 [label=\"i\\na X\"];\n\
+    \x20 n1 -> n7;\n\
+    \x20 n8 [label=\"i.0\"];\n\
+    \x20 n7 -> n8;\n\
+    }\n";
+
+#[test]
+fn pictures_of_what_is_left(rt: HostRuntime) -> Result<(), Fail> {
+    let alloc = rt.alloc();
+    draws(&rt, alloc, &["--graph", "--schema"], DROPS, DROPS_DRAWN)?;
+    is_refused(&rt, alloc, &["--schema", "--graph"])
+}
+
 #[test]
 fn words_that_draw_nothing(rt: HostRuntime) -> Result<(), Fail> {
     let alloc = rt.alloc();

@@ -18,6 +18,7 @@ pub(crate) const AT_BLOCK: Choices = Choices {
     detect: Detect::AtBlock,
     victims: Victims::Youngest,
     listings: false,
+    schema: false,
 };
 
 /// Where one victim is to be enough.
@@ -48,6 +49,18 @@ pub(crate) const LISTED: Choices = Choices {
 pub(crate) const LISTED_BY_WATCHER: Choices = Choices {
     listings: true,
     ..BY_WATCHER
+};
+
+/// With the lines by which a schema changes.
+pub(crate) const SCHEMA: Choices = Choices {
+    schema: true,
+    ..AT_BLOCK
+};
+
+/// With these and the listings.
+pub(crate) const LISTED_SCHEMA: Choices = Choices {
+    schema: true,
+    ..LISTED
 };
 
 /// A script, and the report that it must have.

@@ -14,7 +14,6 @@ use std::alloc::{AllocError, Global};
 use std::process::Abort;
 use std::rt::Clock;
 use std::sync::Wait;
-use std::test::Fail;
 use std::thread::{Threads, map_vec};
 
 /// How often each session commits.
@@ -194,23 +193,18 @@ impl Watched {
 }
 
 /// Two look on while four work.
-fn look_on<R: Threads + Wait + Abort + Clock + Sync>(
-    rt: &R,
-    alloc: Global,
-    detect: Detect,
-) -> Result<(), Fail> {
+fn look_on<R: Threads + Wait + Abort + Clock + Sync>(rt: &R, alloc: Global, detect: Detect) {
     let mut manager = new_manager(rt, alloc, detect);
     let root = add_root(rt, &mut manager);
     // The root, and of each of four sessions the begins, locks and commits.
     let story = Watched { root, last: 1201 };
-    let closed = enact(rt, alloc, manager, 6, 2, &Story::Watched(story))?;
+    let closed = enact(rt, alloc, manager, 6, 2, &Story::Watched(story));
     same(rt, closed.book, 1200);
     same(rt, closed.manager.accepted(), story.last);
-    Ok(())
 }
 
 #[test]
-fn watchers_look_on_while_sessions_work(rt: HostRuntime) -> Result<(), Fail> {
-    look_on(&rt, rt.alloc(), Detect::AtBlock)?;
+fn watchers_look_on_while_sessions_work(rt: HostRuntime) {
+    look_on(&rt, rt.alloc(), Detect::AtBlock);
     look_on(&rt, rt.alloc(), Detect::ByWatcher)
 }

@@ -13,7 +13,6 @@ use std::process::Abort;
 use std::rt::Clock;
 use std::sync::Wait;
 use std::sync::atomic::{AtomicBool, Ordering};
-use std::test::Fail;
 use std::thread::{Threads, join, yield_now};
 
 /// The younger gives way, and the older is granted.
@@ -243,7 +242,7 @@ fn race_up<R: Threads + Wait + Abort + Clock + Sync>(
     alloc: Global,
     detect: Detect,
     book: u64,
-) -> Result<(), Fail> {
+) {
     let mut manager = new_manager(rt, alloc, detect);
     let (root, older, younger) = add_pair(rt, &mut manager);
     let story = Upgrade {
@@ -252,19 +251,17 @@ fn race_up<R: Threads + Wait + Abort + Clock + Sync>(
         younger,
         detect,
     };
-    let closed = enact(rt, alloc, manager, 3, 1, &Story::Upgrade(story))?;
+    let closed = enact(rt, alloc, manager, 3, 1, &Story::Upgrade(story));
     same(rt, closed.book, book);
-    Ok(())
 }
 
 #[test]
-fn the_younger_of_two_upgrades_gives_way(rt: HostRuntime) -> Result<(), Fail> {
+fn the_younger_of_two_upgrades_gives_way(rt: HostRuntime) {
     // Two locks, an abort and a commit, and what a watcher settles.
     for _ in 0..100u32 {
-        race_up(&rt, rt.alloc(), Detect::AtBlock, 4)?;
-        race_up(&rt, rt.alloc(), Detect::ByWatcher, 5)?;
+        race_up(&rt, rt.alloc(), Detect::AtBlock, 4);
+        race_up(&rt, rt.alloc(), Detect::ByWatcher, 5);
     }
-    Ok(())
 }
 
 /// The wait of the older or of the younger is cancelled.
@@ -272,7 +269,7 @@ fn settle_late<R: Threads + Wait + Abort + Clock + Sync>(
     rt: &R,
     alloc: Global,
     older_is_cancelled: bool,
-) -> Result<(), Fail> {
+) {
     let mut manager = new_manager(rt, alloc, Detect::ByWatcher);
     let (root, older, younger) = add_pair(rt, &mut manager);
     let (cancelled, left) = if older_is_cancelled {
@@ -286,13 +283,12 @@ fn settle_late<R: Threads + Wait + Abort + Clock + Sync>(
         cancelled,
         left,
     };
-    let closed = enact(rt, alloc, manager, 3, 1, &Story::SettledLate(story))?;
+    let closed = enact(rt, alloc, manager, 3, 1, &Story::SettledLate(story));
     same(rt, closed.book, 6);
-    Ok(())
 }
 
 #[test]
-fn a_suspect_of_an_old_board_is_settled(rt: HostRuntime) -> Result<(), Fail> {
-    settle_late(&rt, rt.alloc(), true)?;
+fn a_suspect_of_an_old_board_is_settled(rt: HostRuntime) {
+    settle_late(&rt, rt.alloc(), true);
     settle_late(&rt, rt.alloc(), false)
 }

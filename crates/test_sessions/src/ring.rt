@@ -14,7 +14,6 @@ use std::alloc::{AllocError, Global};
 use std::process::Abort;
 use std::rt::Clock;
 use std::sync::Wait;
-use std::test::Fail;
 use std::thread::{Threads, join, map_vec};
 
 /// A transaction and the root that it holds.
@@ -155,17 +154,16 @@ fn break_ring<R: Threads + Wait + Abort + Clock + Sync>(
     alloc: Global,
     detect: Detect,
     book: u64,
-) -> Result<(), Fail> {
+) {
     let mut manager = new_manager(rt, alloc, detect);
     let ring = add_ring(rt, &mut manager, detect);
-    let closed = enact(rt, alloc, manager, 129, 1, &Story::Ring(ring))?;
+    let closed = enact(rt, alloc, manager, 129, 1, &Story::Ring(ring));
     same(rt, closed.book, book);
-    Ok(())
 }
 
 #[test]
-fn one_gives_way_in_a_ring(rt: HostRuntime) -> Result<(), Fail> {
+fn one_gives_way_in_a_ring(rt: HostRuntime) {
     // 128 locks, 127 commits and an abort, and what a watcher settles.
-    break_ring(&rt, rt.alloc(), Detect::AtBlock, 256)?;
+    break_ring(&rt, rt.alloc(), Detect::AtBlock, 256);
     break_ring(&rt, rt.alloc(), Detect::ByWatcher, 257)
 }

@@ -8,7 +8,7 @@ use crate::story::Story;
 use crate::wanted::{allowed, same};
 use gl_catalog::{Answer, Command, Manager};
 use gl_modes::{Mode, NodeId};
-use gl_shared::{Closed, Naming, NotAll, Parts, Session, Share, Shared, Watcher, gather};
+use gl_shared::{Closed, Naming, NotAll, Parts, Session, Share, Shared, Telling, Watcher, gather};
 use gl_table::{Detect, Notice, TxnId};
 use gl_waits::{Board, SLOTS, suspects, youngest};
 use std::alloc::Global;
@@ -16,7 +16,6 @@ use std::marker::Brand;
 use std::process::Abort;
 use std::rt::Clock;
 use std::sync::Wait;
-use std::test::Fail;
 use std::thread::{Threads, yield_now};
 
 /// The story on a table with its name.
@@ -25,7 +24,7 @@ fn enact_under_name<N: Naming + Send + Sync, R: Threads + Wait + Abort + Clock +
     alloc: Global,
     parts: Parts,
     story: &Story,
-) -> Result<Closed, Fail>
+) -> Option<Closed>
     requires name { parts.blank.name ≡ N.name }
     requires parts { parts.blank.parts ≡ N.parts }
     requires shares { parts.shares ≡ N.shares }
@@ -33,16 +32,54 @@ fn enact_under_name<N: Naming + Send + Sync, R: Threads + Wait + Abort + Clock +
     requires book { (parts.line.book ≡ N.book) × (board_of (state_of parts.manager) ≡ N.first) }
 {
     let Ok((shared, shares, watchers)) = Shared::<N>::new(rt, alloc, parts) else {
-        return Err(Fail::from("no memory"));
+        return None;
     };
     let shares = story.play(rt, alloc, &shared, shares, watchers);
     match gather(rt, shared, shares) {
-        Ok(closed) => Ok(closed),
+        Ok(closed) => Some(closed),
         Err(NotAll { shared, shares: _ }) => {
             shared.abandon(rt);
-            Err(Fail::from("a share is missing"))
+            None
         }
     }
+}
+
+/// Plays a story on a table over this manager, whose sessions tell when this says, and closes it, where there is
+/// memory.
+fn try_on<R: Threads + Wait + Abort + Clock + Sync>(
+    rt: &R,
+    alloc: Global,
+    manager: Manager,
+    telling: Telling,
+    shares: u64,
+    watchers: usize,
+    story: &Story,
+) -> Option<Closed>
+    requires counts { (0 < shares) × (shares < 130) × (0 < watchers) × (watchers < 9) }
+{
+    match Parts::new(rt, alloc, manager, shares, watchers) {
+        Ok(parts) => {
+            let parts = parts.with_telling(telling);
+            enact_under_name::<Brand, R>(rt, alloc, parts, story)
+        }
+        Err(_) => None,
+    }
+}
+
+/// The same, for which there must be memory.
+pub fn play_on<R: Threads + Wait + Abort + Clock + Sync>(
+    rt: &R,
+    alloc: Global,
+    manager: Manager,
+    telling: Telling,
+    shares: u64,
+    watchers: usize,
+    story: &Story,
+) -> Closed
+    requires counts { (0 < shares) × (shares < 130) × (0 < watchers) × (watchers < 9) }
+{
+    let closed = try_on(rt, alloc, manager, telling, shares, watchers, story);
+    closed.expect(rt, "no memory, or a share is missing")
 }
 
 /// Plays a story on a table over this manager, and closes it. Nobody lives then.
@@ -53,16 +90,13 @@ pub fn enact<R: Threads + Wait + Abort + Clock + Sync>(
     shares: u64,
     watchers: usize,
     story: &Story,
-) -> Result<Closed, Fail>
+) -> Closed
     requires counts { (0 < shares) × (shares < 130) × (0 < watchers) × (watchers < 9) }
 {
-    let Ok(parts) = Parts::new(rt, alloc, manager, shares, watchers) else {
-        return Err(Fail::from("no memory"));
-    };
-    let closed = enact_under_name::<Brand, R>(rt, alloc, parts, story)?;
+    let closed = play_on(rt, alloc, manager, Telling::Always, shares, watchers, story);
     let board = closed.manager.board();
     assert!(rt; board.ages == [0; SLOTS] && board.rows == [0; SLOTS]);
-    Ok(closed)
+    closed
 }
 
 /// A manager for 128 transactions at once.

@@ -1,8 +1,13 @@
 //! The stories that are told on a stage.
 
+use crate::crowd::Crowd;
+use crate::lists::Scene;
 use crate::looks::Watched;
 use crate::races::{SettledLate, Upgrade};
 use crate::ring::Ring;
+use crate::table::Alike;
+use crate::tellings::Looks;
+use crate::waits::Staged;
 use crate::wakings::Waking;
 use gl_shared::{Naming, Share, Shared, Watcher};
 use std::alloc::Global;
@@ -14,11 +19,16 @@ use std::thread::Threads;
 /// What sessions do with a table.
 #[derive(Drop)]
 pub enum Story {
+    Alike(Alike),
+    Lists(Scene),
+    Looks(Looks),
+    Staged(Staged),
     Upgrade(Upgrade),
     SettledLate(SettledLate),
     Watched(Watched),
     Ring(Ring),
     Waking(Waking),
+    Crowd(Crowd),
 }
 
 impl Story {
@@ -32,11 +42,16 @@ impl Story {
         watchers: Vec<Watcher<N>>,
     ) -> Vec<Share<N>> {
         match self {
+            Story::Alike(story) => story.play(rt, alloc, table, shares),
+            Story::Lists(story) => story.play(rt, alloc, table, shares),
+            Story::Looks(story) => story.play(rt, table, shares, watchers),
+            Story::Staged(story) => story.play(rt, table, shares, watchers),
             Story::Upgrade(story) => story.play(rt, table, shares, watchers),
             Story::SettledLate(story) => story.play(rt, table, shares, watchers),
             Story::Watched(story) => story.play(rt, alloc, table, shares, watchers),
             Story::Ring(story) => story.play(rt, alloc, table, shares, watchers),
             Story::Waking(story) => story.play(rt, alloc, table, shares),
+            Story::Crowd(story) => story.play(rt, alloc, table, shares, watchers),
         }
     }
 }

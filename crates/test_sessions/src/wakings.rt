@@ -14,14 +14,13 @@ use std::process::Abort;
 use std::rt::Clock;
 use std::sync::Wait;
 use std::sync::atomic::{AtomicUsize, Ordering};
-use std::test::Fail;
 use std::thread::{Threads, map_vec, yield_now};
 
 /// How many sleep.
 const SLEEPERS: usize = 3;
 
 /// How the holder's commit is asked.
-#[derive(Clone, Copy, PartialEq, Eq, Debug)]
+#[derive(Clone, Copy)]
 enum End {
     Alone,
     /// As the first of three.
@@ -120,10 +119,9 @@ fn ends<N: Naming, R: Wait>(
         _ => Command::Inner { parents: &[] },
     };
     let list = [commit, second, Command::Inner { parents: &[] }];
-    let asked = if end == End::Alone {
-        session.ask_all(rt, alloc, &[commit])
-    } else {
-        session.ask_all(rt, alloc, &list)
+    let asked = match end {
+        End::Alone => session.ask_all(rt, alloc, &[commit]),
+        _ => session.ask_all(rt, alloc, &list),
     };
     asked.map_or(0, |answers| answers.len())
 }
@@ -223,7 +221,7 @@ fn wakes_three<R: Threads + Wait + Abort + Clock + Sync>(
     alloc: Global,
     detect: Detect,
     end: End,
-) -> Result<(), Fail> {
+) {
     let mut manager = new_manager(rt, alloc, detect);
     let root = add_root(rt, &mut manager);
     let story = Waking {
@@ -237,8 +235,7 @@ fn wakes_three<R: Threads + Wait + Abort + Clock + Sync>(
         mode: S,
         end,
     };
-    enact(rt, alloc, manager, 4, 1, &Story::Waking(story))?;
-    Ok(())
+    enact(rt, alloc, manager, 4, 1, &Story::Waking(story));
 }
 
 /// One waits for X on a root, and three sessions sleep for it.
@@ -246,7 +243,7 @@ fn wakes_three_for_one<R: Threads + Wait + Abort + Clock + Sync>(
     rt: &R,
     alloc: Global,
     detect: Detect,
-) -> Result<(), Fail> {
+) {
     let mut manager = new_manager(rt, alloc, detect);
     let root = add_root(rt, &mut manager);
     let holder = begin_with(rt, &mut manager, root, X);
@@ -257,30 +254,29 @@ fn wakes_three_for_one<R: Threads + Wait + Abort + Clock + Sync>(
         mode: X,
         end: End::Alone,
     };
-    enact(rt, alloc, manager, 4, 1, &Story::Waking(story))?;
-    Ok(())
+    enact(rt, alloc, manager, 4, 1, &Story::Waking(story));
 }
 
 #[test]
-fn all_who_are_granted_at_once_wake(rt: HostRuntime) -> Result<(), Fail> {
-    wakes_three(&rt, rt.alloc(), Detect::AtBlock, End::Alone)?;
+fn all_who_are_granted_at_once_wake(rt: HostRuntime) {
+    wakes_three(&rt, rt.alloc(), Detect::AtBlock, End::Alone);
     wakes_three(&rt, rt.alloc(), Detect::ByWatcher, End::Alone)
 }
 
 #[test]
-fn they_wake_by_the_first_of_a_list(rt: HostRuntime) -> Result<(), Fail> {
-    wakes_three(&rt, rt.alloc(), Detect::AtBlock, End::First)?;
+fn they_wake_by_the_first_of_a_list(rt: HostRuntime) {
+    wakes_three(&rt, rt.alloc(), Detect::AtBlock, End::First);
     wakes_three(&rt, rt.alloc(), Detect::ByWatcher, End::First)
 }
 
 #[test]
-fn they_wake_by_a_list_that_stops(rt: HostRuntime) -> Result<(), Fail> {
-    wakes_three(&rt, rt.alloc(), Detect::AtBlock, End::Stopped)?;
+fn they_wake_by_a_list_that_stops(rt: HostRuntime) {
+    wakes_three(&rt, rt.alloc(), Detect::AtBlock, End::Stopped);
     wakes_three(&rt, rt.alloc(), Detect::ByWatcher, End::Stopped)
 }
 
 #[test]
-fn all_who_sleep_for_one_wake(rt: HostRuntime) -> Result<(), Fail> {
-    wakes_three_for_one(&rt, rt.alloc(), Detect::AtBlock)?;
+fn all_who_sleep_for_one_wake(rt: HostRuntime) {
+    wakes_three_for_one(&rt, rt.alloc(), Detect::AtBlock);
     wakes_three_for_one(&rt, rt.alloc(), Detect::ByWatcher)
 }

@@ -6,7 +6,11 @@ use std::process::Abort;
 
 /// Whether the line says nothing in this language.
 fn says_nothing(version: Version, listings: bool, line: &[u8]) -> bool {
-    let language = Language { version, listings };
+    let language = Language {
+        version,
+        listings,
+        schema: false,
+    };
     line.len() <= 256 && parse(language, line, &mut Lists::new()).is_none()
 }
 

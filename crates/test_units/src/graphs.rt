@@ -27,6 +27,9 @@ const N9: NodeId = NodeId { key: 8, birth: 9 };
 
 const N10: NodeId = NodeId { key: 9, birth: 10 };
 
+/// A place in a story, by the story's name and the number of the step in its part.
+type Place = (&'static str, usize);
+
 /// A call that makes a node.
 #[derive(Clone, Copy)]
 enum Make {
@@ -134,7 +137,7 @@ fn file_of(graph: &Graph, file: NodeId) -> Option<(bool, usize)> {
 }
 
 /// Takes a step that changes something.
-fn take(rt: &impl Abort, alloc: Global, graph: &mut Graph, place: usize, step: Step) {
+fn take(rt: &impl Abort, alloc: Global, graph: &mut Graph, place: Place, step: Step) {
     match step {
         Step::Makes(make, wanted) => {
             let came = made(graph, alloc, make);
@@ -158,7 +161,7 @@ fn take(rt: &impl Abort, alloc: Global, graph: &mut Graph, place: usize, step: S
 }
 
 /// Looks at what is asked, in a place of a story.
-fn look(rt: &impl Abort, graph: &Graph, place: usize, step: Step) {
+fn look(rt: &impl Abort, graph: &Graph, place: Place, step: Step) {
     match step {
         Step::Len(len) => same(rt, (place, graph.len()), (place, len)),
         Step::Most(most) => same(rt, (place, graph.most()), (place, most)),
@@ -186,15 +189,37 @@ fn look(rt: &impl Abort, graph: &Graph, place: usize, step: Step) {
     }
 }
 
-/// Plays a story, in parts, over a graph.
-fn play(rt: &impl Abort, alloc: Global, graph: Graph, parts: &[&[Step]]) {
-    let mut graph = graph;
+/// What a story is called, how many nodes and bounds there may be where that is chosen, and its parts.
+type Story = (&'static str, Option<(u32, u32)>, &'static [&'static [Step]]);
+
+/// The greatest limit of nodes that may be chosen.
+const HIGHEST: u32 = 0x8000_0000;
+
+/// A graph within the limits that are chosen, or the usual ones.
+fn open(alloc: Global, limits: Option<(u32, u32)>) -> Graph {
+    match limits {
+        Some((most, bounds)) if most <= HIGHEST => Graph::with_limits(alloc, most, bounds),
+        _ => Graph::new(alloc),
+    }
+}
+
+/// Plays a story over a new graph.
+fn play(rt: &impl Abort, alloc: Global, story: Story) {
+    let (name, limits, parts) = story;
+    let mut graph = open(alloc, limits);
     for steps in parts {
         for (place, step) in steps.iter().enumerate() {
-            take(rt, alloc, &mut graph, place, *step);
+            take(rt, alloc, &mut graph, (name, place), *step);
         }
     }
     graph.law();
+}
+
+/// Plays each story over a graph of its own.
+fn play_all(rt: &impl Abort, alloc: Global, stories: &[Story]) {
+    for story in stories {
+        play(rt, alloc, *story);
+    }
 }
 
 const DB: NodeId = N1;
@@ -214,235 +239,227 @@ const BOUND: &[Step] = &[Step::Makes(Make::Index(DB, FILE, &[100]), Ok(INDEX))];
 
 const UNBOUND: &[Step] = &[Step::Makes(Make::Index(DB, FILE, &[]), Ok(INDEX))];
 
-#[test]
-fn a_key_lies_below_a_bound_or_from_it_on(rt: HostRuntime) {
-    const LIES: &[Step] = &[
-        Step::Interval(INDEX, 0, Some(N4)),
-        Step::Interval(INDEX, 1, Some(N5)),
-        Step::Lies(INDEX, 0, N4),
-        Step::Lies(INDEX, 99, N4),
-        Step::Lies(INDEX, 100, N5),
-        Step::Lies(INDEX, u64::MAX, N5),
-    ];
-    let graph = Graph::new(rt.alloc());
-    play(&rt, rt.alloc(), graph, &[FILED, BOUND, LIES]);
-}
+const LIES: &[Step] = &[
+    Step::Interval(INDEX, 0, Some(N4)),
+    Step::Interval(INDEX, 1, Some(N5)),
+    Step::Lies(INDEX, 0, N4),
+    Step::Lies(INDEX, 99, N4),
+    Step::Lies(INDEX, 100, N5),
+    Step::Lies(INDEX, u64::MAX, N5),
+];
+
+const TWO: &[Step] = &[
+    Step::Interval(INDEX, 1, Some(N5)),
+    Step::Interval(INDEX, 2, None),
+];
+
+const TOGETHER: &[Step] = &[
+    Step::Interval(INDEX, 0, Some(N4)),
+    Step::Lies(INDEX, 0, N4),
+    Step::Lies(INDEX, 99, N4),
+    Step::Lies(INDEX, 100, N4),
+    Step::Lies(INDEX, u64::MAX, N4),
+];
+
+const AT_MOST_256: &[Step] = &[
+    Step::Many(1, Make::Wide(DB, FILE, 256)),
+    Step::Makes(Make::Wide(DB, FILE, 257), Err(Refusal::BadKeys)),
+    Step::MostBounds(256),
+];
+
+const TOO_MANY: &[Step] = &[
+    Step::MostBounds(70_000),
+    Step::Makes(Make::Wide(DB, FILE, 69_997), Err(Refusal::TooManyNodes)),
+];
+
+const USUAL: &[Step] = &[
+    Step::Makes(Make::Wide(DB, FILE, 257), Err(Refusal::BadKeys)),
+    Step::Many(1, Make::Wide(DB, FILE, 256)),
+    Step::Most(70_000),
+];
+
+const CHOSEN: &[Step] = &[
+    Step::Makes(Make::Wide(DB, FILE, 301), Err(Refusal::BadKeys)),
+    Step::Many(1, Make::Wide(DB, FILE, 300)),
+    Step::Most(65_536),
+];
+
+const SECOND: NodeId = N5;
+
+const MIDDLE: NodeId = NodeId {
+    key: 30_003,
+    birth: 30_004,
+};
+
+const LAST: NodeId = NodeId {
+    key: 60_003,
+    birth: 60_004,
+};
+
+const REC: NodeId = NodeId {
+    key: 60_004,
+    birth: 60_005,
+};
+
+const MANY_LIE: &[Step] = &[
+    Step::Makes(Make::Wide(DB, FILE, 60_000), Ok(INDEX)),
+    Step::Lies(INDEX, 0, N4),
+    Step::Interval(INDEX, 0, Some(N4)),
+    Step::Lies(INDEX, 1, SECOND),
+    Step::Interval(INDEX, 1, Some(SECOND)),
+    Step::Lies(INDEX, 30_000, MIDDLE),
+    Step::Interval(INDEX, 30_000, Some(MIDDLE)),
+    Step::Lies(INDEX, 60_000, LAST),
+    Step::Lies(INDEX, u64::MAX, LAST),
+    Step::Interval(INDEX, 60_000, Some(LAST)),
+    Step::Makes(Make::Record(FILE, &[30_000]), Ok(REC)),
+    Step::Parents(REC, &[FILE, MIDDLE]),
+];
+
+const SEVEN: &[Step] = &[
+    Step::Many(6, Make::Index(DB, FILE, &[])),
+    Step::Makes(Make::Index(DB, FILE, &[]), Err(Refusal::BadParents)),
+];
+
+const EIGHT: &[NodeId] = &[N1, N2, N3, N4, N5, N6, N7, N8];
+
+const NINE: &[NodeId] = &[N1, N2, N3, N4, N5, N6, N7, N8, N9];
+
+const PARENTS: &[Step] = &[
+    Step::Many(9, Make::Inner(&[])),
+    Step::Makes(Make::Inner(NINE), Err(Refusal::BadParents)),
+    Step::Makes(Make::Inner(EIGHT), Ok(N10)),
+    Step::Parents(N10, EIGHT),
+];
+
+const IN_USE: &[Step] = &[
+    Step::Parents(FILE, &[DB]),
+    Step::Makes(Make::Record(FILE, &[]), Ok(N3)),
+    Step::Makes(Make::Index(DB, FILE, &[]), Err(Refusal::FileInUse)),
+];
+
+const FULL_AT_THE_USUAL: &[Step] = &[
+    Step::Many(65_536, Make::Inner(&[])),
+    Step::Makes(Make::Inner(&[]), Err(Refusal::TooManyNodes)),
+    Step::Len(65_536),
+    Step::IsWorn(false),
+];
+
+const AGAIN: NodeId = NodeId { key: 2, birth: 4 };
+
+const FULL_AT_THREE: &[Step] = &[
+    Step::Makes(Make::Record(FILE, &[]), Ok(N3)),
+    Step::Makes(Make::Record(FILE, &[]), Err(Refusal::TooManyNodes)),
+    Step::Removes(N3),
+    Step::Makes(Make::Record(FILE, &[]), Ok(AGAIN)),
+    Step::Makes(Make::Inner(&[]), Err(Refusal::TooManyNodes)),
+    Step::Most(3),
+];
+
+const FULL_ABOVE: &[Step] = &[
+    Step::Many(70_000, Make::Inner(&[])),
+    Step::Makes(Make::Inner(&[]), Err(Refusal::TooManyNodes)),
+    Step::Len(70_000),
+];
+
+const NEXT: &[Step] = &[
+    Step::NextKey(4),
+    Step::Makes(Make::Record(FILE, &[7]), Ok(N5)),
+    Step::Removes(N5),
+    Step::NextKey(4),
+];
+
+const MANY: &[Step] = &[Step::ComeAndGo(65_532, FILE), Step::Len(4)];
+
+const OLD: NodeId = N6;
+
+const NEW: NodeId = NodeId { key: 5, birth: 7 };
+
+const STALE: &[Step] = &[
+    Step::Makes(Make::Record(FILE, &[50]), Ok(OLD)),
+    Step::Keys(OLD, &[50]),
+    Step::Removes(OLD),
+    Step::Makes(Make::Record(FILE, &[200]), Ok(NEW)),
+    Step::File(FILE, true, 1),
+    Step::Kind(OLD, None),
+    Step::Kind(NEW, Some(Kind::Rec)),
+];
+
+const CLOSES: &[Step] = &[
+    Step::Makes(Make::Inner(&[]), Ok(N1)),
+    Step::Makes(Make::Inner(&[N1]), Ok(N2)),
+    Step::Makes(Make::Inner(&[N2]), Ok(N3)),
+    Step::Moves(N1, N3, Err(Refusal::Cycle { node: N3 })),
+    Step::Moves(N3, N1, Ok(())),
+    Step::Parents(N3, &[N1]),
+];
 
 #[test]
-fn one_bound_makes_two_intervals(rt: HostRuntime) {
-    const TWO: &[Step] = &[
-        Step::Interval(INDEX, 1, Some(N5)),
-        Step::Interval(INDEX, 2, None),
+fn graphs_grow_within_their_limits(rt: HostRuntime) {
+    const STORIES: &[Story] = &[
+        (
+            "a key lies below a bound or from it on",
+            None,
+            &[FILED, BOUND, LIES],
+        ),
+        ("one bound makes two intervals", None, &[FILED, BOUND, TWO]),
+        (
+            "without bounds all keys lie together",
+            None,
+            &[FILED, UNBOUND, TOGETHER],
+        ),
+        (
+            "an index has at most 256 bounds",
+            None,
+            &[FILED, UNBOUND, AT_MOST_256],
+        ),
+        (
+            "an index has no more intervals than nodes may live",
+            Some((70_000, 70_000)),
+            &[FILED, TOO_MANY],
+        ),
+        (
+            "a chosen limit of bounds goes with any limit of nodes, usual",
+            Some((70_000, 256)),
+            &[FILED, USUAL],
+        ),
+        (
+            "a chosen limit of bounds goes with any limit of nodes, chosen",
+            Some((65_536, 300)),
+            &[FILED, CHOSEN],
+        ),
+        (
+            "an index of many bounds",
+            Some((70_000, 60_000)),
+            &[FILED, MANY_LIE],
+        ),
+        (
+            "a file has at most seven indexes",
+            None,
+            &[FILED, UNBOUND, SEVEN],
+        ),
+        ("a node has at most eight parents", None, &[PARENTS]),
+        ("a file with records gets no index", None, &[FILED, IN_USE]),
+        ("no node past the limit", None, &[FULL_AT_THE_USUAL]),
+        (
+            "a chosen limit is met and passed by none",
+            Some((3, 256)),
+            &[FILED, FULL_AT_THREE],
+        ),
+        (
+            "a limit above the usual one",
+            Some((70_000, 256)),
+            &[FULL_ABOVE],
+        ),
+        (
+            "the next key is that of the next node",
+            None,
+            &[FILED, UNBOUND, NEXT],
+        ),
+        ("many records come and go", None, &[FILED, UNBOUND, MANY]),
+        ("a stale name names nothing", None, &[FILED, BOUND, STALE]),
+        ("no path closes", None, &[CLOSES]),
     ];
-    let graph = Graph::new(rt.alloc());
-    play(&rt, rt.alloc(), graph, &[FILED, BOUND, TWO]);
-}
-
-#[test]
-fn without_bounds_all_keys_lie_together(rt: HostRuntime) {
-    const TOGETHER: &[Step] = &[
-        Step::Interval(INDEX, 0, Some(N4)),
-        Step::Lies(INDEX, 0, N4),
-        Step::Lies(INDEX, 99, N4),
-        Step::Lies(INDEX, 100, N4),
-        Step::Lies(INDEX, u64::MAX, N4),
-    ];
-    let graph = Graph::new(rt.alloc());
-    play(&rt, rt.alloc(), graph, &[FILED, UNBOUND, TOGETHER]);
-}
-
-#[test]
-fn an_index_has_at_most_256_bounds(rt: HostRuntime) {
-    const BOUNDS: &[Step] = &[
-        Step::Many(1, Make::Wide(DB, FILE, 256)),
-        Step::Makes(Make::Wide(DB, FILE, 257), Err(Refusal::BadKeys)),
-        Step::MostBounds(256),
-    ];
-    let graph = Graph::new(rt.alloc());
-    play(&rt, rt.alloc(), graph, &[FILED, UNBOUND, BOUNDS]);
-}
-
-#[test]
-fn an_index_has_no_more_intervals_than_nodes_may_live(rt: HostRuntime) {
-    const BOUNDS: &[Step] = &[
-        Step::MostBounds(70_000),
-        Step::Makes(Make::Wide(DB, FILE, 69_997), Err(Refusal::TooManyNodes)),
-    ];
-    let graph = Graph::with_limits(rt.alloc(), 70_000, 70_000);
-    play(&rt, rt.alloc(), graph, &[FILED, BOUNDS]);
-}
-
-#[test]
-fn a_chosen_limit_of_bounds_goes_with_any_limit_of_nodes(rt: HostRuntime) {
-    const USUAL: &[Step] = &[
-        Step::Makes(Make::Wide(DB, FILE, 257), Err(Refusal::BadKeys)),
-        Step::Many(1, Make::Wide(DB, FILE, 256)),
-        Step::Most(70_000),
-    ];
-    const CHOSEN: &[Step] = &[
-        Step::Makes(Make::Wide(DB, FILE, 301), Err(Refusal::BadKeys)),
-        Step::Many(1, Make::Wide(DB, FILE, 300)),
-        Step::Most(65_536),
-    ];
-    let usual = Graph::with_limits(rt.alloc(), 70_000, 256);
-    play(&rt, rt.alloc(), usual, &[FILED, USUAL]);
-    let chosen = Graph::with_limits(rt.alloc(), 65_536, 300);
-    play(&rt, rt.alloc(), chosen, &[FILED, CHOSEN]);
-}
-
-#[test]
-fn an_index_of_many_bounds(rt: HostRuntime) {
-    const SECOND: NodeId = N5;
-    const MIDDLE: NodeId = NodeId {
-        key: 30_003,
-        birth: 30_004,
-    };
-    const LAST: NodeId = NodeId {
-        key: 60_003,
-        birth: 60_004,
-    };
-    const REC: NodeId = NodeId {
-        key: 60_004,
-        birth: 60_005,
-    };
-    const LIES: &[Step] = &[
-        Step::Makes(Make::Wide(DB, FILE, 60_000), Ok(INDEX)),
-        Step::Lies(INDEX, 0, N4),
-        Step::Interval(INDEX, 0, Some(N4)),
-        Step::Lies(INDEX, 1, SECOND),
-        Step::Interval(INDEX, 1, Some(SECOND)),
-        Step::Lies(INDEX, 30_000, MIDDLE),
-        Step::Interval(INDEX, 30_000, Some(MIDDLE)),
-        Step::Lies(INDEX, 60_000, LAST),
-        Step::Lies(INDEX, u64::MAX, LAST),
-        Step::Interval(INDEX, 60_000, Some(LAST)),
-        Step::Makes(Make::Record(FILE, &[30_000]), Ok(REC)),
-        Step::Parents(REC, &[FILE, MIDDLE]),
-    ];
-    let graph = Graph::with_limits(rt.alloc(), 70_000, 60_000);
-    play(&rt, rt.alloc(), graph, &[FILED, LIES]);
-}
-
-#[test]
-fn a_file_has_at_most_seven_indexes(rt: HostRuntime) {
-    const SEVEN: &[Step] = &[
-        Step::Many(6, Make::Index(DB, FILE, &[])),
-        Step::Makes(Make::Index(DB, FILE, &[]), Err(Refusal::BadParents)),
-    ];
-    let graph = Graph::new(rt.alloc());
-    play(&rt, rt.alloc(), graph, &[FILED, UNBOUND, SEVEN]);
-}
-
-#[test]
-fn a_node_has_at_most_eight_parents(rt: HostRuntime) {
-    const EIGHT: &[NodeId] = &[N1, N2, N3, N4, N5, N6, N7, N8];
-    const NINE: &[NodeId] = &[N1, N2, N3, N4, N5, N6, N7, N8, N9];
-    const PARENTS: &[Step] = &[
-        Step::Many(9, Make::Inner(&[])),
-        Step::Makes(Make::Inner(NINE), Err(Refusal::BadParents)),
-        Step::Makes(Make::Inner(EIGHT), Ok(N10)),
-        Step::Parents(N10, EIGHT),
-    ];
-    let graph = Graph::new(rt.alloc());
-    play(&rt, rt.alloc(), graph, &[PARENTS]);
-}
-
-#[test]
-fn a_file_with_records_gets_no_index(rt: HostRuntime) {
-    const IN_USE: &[Step] = &[
-        Step::Parents(FILE, &[DB]),
-        Step::Makes(Make::Record(FILE, &[]), Ok(N3)),
-        Step::Makes(Make::Index(DB, FILE, &[]), Err(Refusal::FileInUse)),
-    ];
-    let graph = Graph::new(rt.alloc());
-    play(&rt, rt.alloc(), graph, &[FILED, IN_USE]);
-}
-
-#[test]
-fn no_node_past_the_limit(rt: HostRuntime) {
-    const FULL: &[Step] = &[
-        Step::Many(65_536, Make::Inner(&[])),
-        Step::Makes(Make::Inner(&[]), Err(Refusal::TooManyNodes)),
-        Step::Len(65_536),
-        Step::IsWorn(false),
-    ];
-    let graph = Graph::new(rt.alloc());
-    play(&rt, rt.alloc(), graph, &[FULL]);
-}
-
-#[test]
-fn a_chosen_limit_is_met_and_passed_by_none(rt: HostRuntime) {
-    const AGAIN: NodeId = NodeId { key: 2, birth: 4 };
-    const FULL: &[Step] = &[
-        Step::Makes(Make::Record(FILE, &[]), Ok(N3)),
-        Step::Makes(Make::Record(FILE, &[]), Err(Refusal::TooManyNodes)),
-        Step::Removes(N3),
-        Step::Makes(Make::Record(FILE, &[]), Ok(AGAIN)),
-        Step::Makes(Make::Inner(&[]), Err(Refusal::TooManyNodes)),
-        Step::Most(3),
-    ];
-    let graph = Graph::with_limits(rt.alloc(), 3, 256);
-    play(&rt, rt.alloc(), graph, &[FILED, FULL]);
-}
-
-#[test]
-fn a_limit_above_the_usual_one(rt: HostRuntime) {
-    const FULL: &[Step] = &[
-        Step::Many(70_000, Make::Inner(&[])),
-        Step::Makes(Make::Inner(&[]), Err(Refusal::TooManyNodes)),
-        Step::Len(70_000),
-    ];
-    let graph = Graph::with_limits(rt.alloc(), 70_000, 256);
-    play(&rt, rt.alloc(), graph, &[FULL]);
-}
-
-#[test]
-fn the_next_key_is_that_of_the_next_node(rt: HostRuntime) {
-    const NEXT: &[Step] = &[
-        Step::NextKey(4),
-        Step::Makes(Make::Record(FILE, &[7]), Ok(N5)),
-        Step::Removes(N5),
-        Step::NextKey(4),
-    ];
-    let graph = Graph::new(rt.alloc());
-    play(&rt, rt.alloc(), graph, &[FILED, UNBOUND, NEXT]);
-}
-
-#[test]
-fn many_records_come_and_go(rt: HostRuntime) {
-    const MANY: &[Step] = &[Step::ComeAndGo(65_532, FILE), Step::Len(4)];
-    let graph = Graph::new(rt.alloc());
-    play(&rt, rt.alloc(), graph, &[FILED, UNBOUND, MANY]);
-}
-
-#[test]
-fn a_stale_name_names_nothing(rt: HostRuntime) {
-    const OLD: NodeId = N6;
-    const NEW: NodeId = NodeId { key: 5, birth: 7 };
-    const STALE: &[Step] = &[
-        Step::Makes(Make::Record(FILE, &[50]), Ok(OLD)),
-        Step::Keys(OLD, &[50]),
-        Step::Removes(OLD),
-        Step::Makes(Make::Record(FILE, &[200]), Ok(NEW)),
-        Step::File(FILE, true, 1),
-        Step::Kind(OLD, None),
-        Step::Kind(NEW, Some(Kind::Rec)),
-    ];
-    let graph = Graph::new(rt.alloc());
-    play(&rt, rt.alloc(), graph, &[FILED, BOUND, STALE]);
-}
-
-#[test]
-fn no_path_closes(rt: HostRuntime) {
-    const CLOSES: &[Step] = &[
-        Step::Makes(Make::Inner(&[]), Ok(N1)),
-        Step::Makes(Make::Inner(&[N1]), Ok(N2)),
-        Step::Makes(Make::Inner(&[N2]), Ok(N3)),
-        Step::Moves(N1, N3, Err(Refusal::Cycle { node: N3 })),
-        Step::Moves(N3, N1, Ok(())),
-        Step::Parents(N3, &[N1]),
-    ];
-    let graph = Graph::new(rt.alloc());
-    play(&rt, rt.alloc(), graph, &[CLOSES]);
+    play_all(&rt, rt.alloc(), STORIES);
     root_path_laws();
 }

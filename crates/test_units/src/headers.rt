@@ -75,6 +75,12 @@ fn dismiss_behind(header: &mut Header, slot: u8, other: u8) -> bool {
     true
 }
 
+/// Something was dropped, and these were let in.
+fn lets_in(rt: &impl Abort, granted: Option<GrantList>, wanted: &[(u8, Mode)]) {
+    let granted = granted.expect(rt, "nothing is dropped");
+    same(rt, granted.as_slice(), wanted);
+}
+
 #[test]
 fn a_conversion_goes_first(rt: HostRuntime) {
     let mut header = Header::new(rt.alloc());
@@ -82,11 +88,9 @@ fn a_conversion_goes_first(rt: HostRuntime) {
     asks(&rt, &mut header, 1, Mode::S, Asked::Granted(Mode::S));
     asks(&rt, &mut header, 2, Mode::X, Asked::Waiting);
     asks(&rt, &mut header, 0, Mode::X, Asked::Waiting);
-    let granted = drop_grant(&mut header, 1).expect(&rt, "slot 1 holds S");
-    same(&rt, granted.as_slice(), [(0, Mode::X)].as_slice());
+    lets_in(&rt, drop_grant(&mut header, 1), &[(0, Mode::X)]);
     same(&rt, header.group(), Mode::X);
-    let granted = drop_grant(&mut header, 0).expect(&rt, "slot 0 holds X");
-    same(&rt, granted.as_slice(), [(2, Mode::X)].as_slice());
+    lets_in(&rt, drop_grant(&mut header, 0), &[(2, Mode::X)]);
 }
 
 #[test]
@@ -147,32 +151,35 @@ fn the_group_falls(rt: HostRuntime) {
         try_ask(&mut header, 1, Mode::IS),
         Some(Try::Granted(Mode::IS)),
     );
-    let granted = drop_grant(&mut header, 0).expect(&rt, "slot 0 holds SIX");
-    assert!(rt; granted.is_empty());
+    lets_in(&rt, drop_grant(&mut header, 0), &[]);
     same(&rt, header.group(), Mode::IS);
+}
+
+/// Three wait behind a reader, in this order.
+fn three_wait(rt: &impl Abort, header: &mut Header) {
+    for (slot, mode) in [(1, Mode::X), (2, Mode::IX), (3, Mode::IS)] {
+        same(rt, header.would_grant(slot, mode), false);
+        asks(rt, header, slot, mode, Asked::Waiting);
+    }
+    let ahead = [header.ahead(3, 1), header.ahead(3, 2), header.ahead(2, 3)];
+    same(rt, ahead, [true, true, false]);
 }
 
 #[test]
 fn waits_are_taken_out(rt: HostRuntime) {
     let mut header = Header::new(rt.alloc());
-    assert!(rt; header.is_empty());
+    same(&rt, header.is_empty(), true);
     asks(&rt, &mut header, 0, Mode::S, Asked::Granted(Mode::S));
-    for (slot, mode) in [(1, Mode::X), (2, Mode::IX), (3, Mode::IS)] {
-        assert!(rt; !header.would_grant(slot, mode));
-        asks(&rt, &mut header, slot, mode, Asked::Waiting);
-    }
-    assert!(rt; header.ahead(3, 1) && header.ahead(3, 2) && !header.ahead(2, 3));
+    three_wait(&rt, &mut header);
     same(&rt, header.wanted_by(2), Some(Mode::IX));
     same(&rt, header.mode_of(2), Mode::NL);
-    assert!(rt; dismiss_behind(&mut header, 2, 1));
+    same(&rt, dismiss_behind(&mut header, 2, 1), true);
     same(&rt, header.wanted_by(2), None);
-    let granted = drop_wait(&mut header, 1).expect(&rt, "slot 1 waits");
-    same(&rt, granted.as_slice(), [(3, Mode::IS)].as_slice());
-    assert!(rt; !header.is_empty());
+    lets_in(&rt, drop_wait(&mut header, 1), &[(3, Mode::IS)]);
+    same(&rt, header.is_empty(), false);
     for slot in [0, 3] {
-        let granted = drop_grant(&mut header, slot).expect(&rt, "both hold");
-        assert!(rt; granted.is_empty());
+        lets_in(&rt, drop_grant(&mut header, slot), &[]);
     }
-    assert!(rt; header.is_empty());
+    same(&rt, header.is_empty(), true);
     same(&rt, header.group(), Mode::NL);
 }

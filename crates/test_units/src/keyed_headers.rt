@@ -25,7 +25,7 @@ fn is_alone(headers: &Headers, node: NodeId) -> bool
     ensures { result ≡ true → HasItsKey headers.now.entries node }
 {
     headers.law();
-    headers.get(node).is_some() || headers.is_free(node.key)
+    !headers.is_idle(node) || headers.is_free(node.key)
 }
 
 /// Whether a slot may ask for a mode on a node.
@@ -103,34 +103,48 @@ fn node_of(key: usize, birth: u64) -> NodeId {
     NodeId { key, birth }
 }
 
+/// A grant to this slot.
+fn gets(rt: &impl Abort, headers: &mut Headers, slot: u8, node: NodeId, mode: Mode) {
+    asks(rt, headers, slot, node, mode, Some(Asked::Granted(mode)));
+}
+
+/// Something was dropped, and these were let in.
+fn lets_in(rt: &impl Abort, granted: Option<GrantList>, wanted: &[(u8, Mode)]) {
+    let granted = granted.expect(rt, "nothing is dropped");
+    same(rt, granted.as_slice(), wanted);
+}
+
+/// Whether nobody holds or waits for a node, and whether its key is free.
+fn is_gone(headers: &Headers, node: NodeId) -> (bool, bool) {
+    (headers.is_idle(node), headers.is_free(node.key))
+}
+
+/// Whether nobody holds or waits for a node, and whether it has a header of its own.
+fn has_box(headers: &Headers, node: NodeId) -> (bool, bool) {
+    (headers.is_idle(node), headers.shared(node).is_some())
+}
+
+/// Whether two slots hold a node.
+fn held_by(headers: &Headers, node: NodeId, slots: [u8; 2]) -> [bool; 2] {
+    let holders = headers.holders(node);
+    [holders.contains(slots[0]), holders.contains(slots[1])]
+}
+
 #[test]
 fn a_header_is_found_by_its_key(rt: HostRuntime) {
     let mut headers = new_headers(&rt, rt.alloc());
     let (near, far, other) = (node_of(0, 1), node_of(70, 2), node_of(70, 3));
-    assert!(rt; headers.is_free(70));
+    same(&rt, is_gone(&headers, far), (true, true));
     same(&rt, headers.group(far), Mode::NL);
-    assert!(rt; headers.would_grant(5, far, Mode::X));
-    asks(
-        &rt,
-        &mut headers,
-        5,
-        far,
-        Mode::X,
-        Some(Asked::Granted(Mode::X)),
-    );
-    asks(
-        &rt,
-        &mut headers,
-        6,
-        near,
-        Mode::IS,
-        Some(Asked::Granted(Mode::IS)),
-    );
+    same(&rt, headers.would_grant(5, far, Mode::X), true);
+    gets(&rt, &mut headers, 5, far, Mode::X);
+    gets(&rt, &mut headers, 6, near, Mode::IS);
     same(&rt, headers.group(far), Mode::X);
     same(&rt, headers.group(near), Mode::IS);
-    assert!(rt; headers.holders(far).contains(5) && !headers.holders(near).contains(5));
-    assert!(rt; !headers.would_grant(6, far, Mode::IS));
-    assert!(rt; headers.get(other).is_none() && !headers.is_free(70));
+    same(&rt, held_by(&headers, far, [5, 6]), [true, false]);
+    same(&rt, held_by(&headers, near, [5, 6]), [false, true]);
+    same(&rt, headers.would_grant(6, far, Mode::IS), false);
+    same(&rt, is_gone(&headers, other), (true, false));
     same(&rt, headers.group(other), Mode::NL);
     asks(&rt, &mut headers, 6, other, Mode::S, None);
 }
@@ -139,57 +153,35 @@ fn a_header_is_found_by_its_key(rt: HostRuntime) {
 fn a_key_is_used_again(rt: HostRuntime) {
     let mut headers = new_headers(&rt, rt.alloc());
     let (old, new) = (node_of(3, 1), node_of(3, 2));
-    asks(
-        &rt,
-        &mut headers,
-        0,
-        old,
-        Mode::S,
-        Some(Asked::Granted(Mode::S)),
-    );
-    assert!(rt; drop_grant(&mut headers, 0, old).is_some());
-    assert!(rt; headers.is_free(3) && headers.get(old).is_none());
-    asks(
-        &rt,
-        &mut headers,
-        1,
-        new,
-        Mode::X,
-        Some(Asked::Granted(Mode::X)),
-    );
-    assert!(rt; headers.holders(new).contains(1) && !headers.holders(new).contains(0));
-    assert!(rt; headers.get(old).is_none());
+    gets(&rt, &mut headers, 0, old, Mode::S);
+    lets_in(&rt, drop_grant(&mut headers, 0, old), &[]);
+    same(&rt, is_gone(&headers, old), (true, true));
+    gets(&rt, &mut headers, 1, new, Mode::X);
+    same(&rt, held_by(&headers, new, [1, 0]), [true, false]);
+    same(&rt, is_gone(&headers, old), (true, false));
 }
 
 #[test]
 fn queues_grant_and_are_left(rt: HostRuntime) {
     let mut headers = new_headers(&rt, rt.alloc());
     let node = node_of(1, 1);
-    asks(
-        &rt,
-        &mut headers,
-        0,
-        node,
-        Mode::X,
-        Some(Asked::Granted(Mode::X)),
-    );
+    gets(&rt, &mut headers, 0, node, Mode::X);
     for slot in [1, 2] {
         asks(&rt, &mut headers, slot, node, Mode::S, Some(Asked::Waiting));
     }
+    let queue: &[(u8, Mode)] = &[(1, Mode::S), (2, Mode::S)];
+    same(&rt, headers.queue(node), queue);
+    let awaited = headers.waits_for(2, node, Mode::S);
     same(
         &rt,
-        headers.queue(node),
-        [(1, Mode::S), (2, Mode::S)].as_slice(),
+        [awaited.contains(0), awaited.contains(1)],
+        [true, true],
     );
-    assert!(rt; headers.waits_for(2, node, Mode::S).contains(0));
-    assert!(rt; headers.waits_for(2, node, Mode::S).contains(1));
-    let granted = drop_wait(&mut headers, 2, node).expect(&rt, "slot 2 waits");
-    assert!(rt; granted.is_empty());
-    let granted = drop_grant(&mut headers, 0, node).expect(&rt, "slot 0 holds X");
-    same(&rt, granted.as_slice(), [(1, Mode::S)].as_slice());
+    lets_in(&rt, drop_wait(&mut headers, 2, node), &[]);
+    lets_in(&rt, drop_grant(&mut headers, 0, node), &[(1, Mode::S)]);
     same(&rt, headers.group(node), Mode::S);
-    assert!(rt; drop_grant(&mut headers, 1, node).is_some());
-    assert!(rt; headers.is_free(1));
+    lets_in(&rt, drop_grant(&mut headers, 1, node), &[]);
+    same(&rt, is_gone(&headers, node), (true, true));
 }
 
 #[test]
@@ -197,19 +189,12 @@ fn more_headers_go_than_wait_aside(rt: HostRuntime) {
     let mut headers = new_headers(&rt, rt.alloc());
     for birth in [1, 2] {
         for key in 0..20 {
-            let node = node_of(key, birth);
-            asks(
-                &rt,
-                &mut headers,
-                9,
-                node,
-                Mode::IX,
-                Some(Asked::Granted(Mode::IX)),
-            );
+            gets(&rt, &mut headers, 9, node_of(key, birth), Mode::IX);
         }
         for key in 0..20 {
-            assert!(rt; drop_grant(&mut headers, 9, node_of(key, birth)).is_some());
-            assert!(rt; headers.is_free(key));
+            let node = node_of(key, birth);
+            lets_in(&rt, drop_grant(&mut headers, 9, node), &[]);
+            same(&rt, is_gone(&headers, node), (true, true));
         }
     }
 }
@@ -224,5 +209,22 @@ fn a_header_is_prepared_and_taken(rt: HostRuntime) {
     asks(&rt, &mut headers, 3, node, Mode::S, Some(Asked::Waiting));
     let header = headers.take(node).expect(&rt, "slot 2 holds the node");
     same(&rt, header.queue(), [(3, Mode::S)].as_slice());
-    assert!(rt; headers.is_free(40) && headers.take(node).is_none());
+    same(&rt, headers.is_free(40), true);
+    same(&rt, headers.take(node).is_none(), true);
+}
+
+#[test]
+fn one_holder_has_no_box(rt: HostRuntime) {
+    let mut headers = new_headers(&rt, rt.alloc());
+    let node = node_of(5, 1);
+    gets(&rt, &mut headers, 2, node, Mode::IS);
+    gets(&rt, &mut headers, 2, node, Mode::X);
+    same(&rt, has_box(&headers, node), (false, false));
+    asks(&rt, &mut headers, 3, node, Mode::S, Some(Asked::Waiting));
+    same(&rt, has_box(&headers, node), (false, true));
+    lets_in(&rt, drop_grant(&mut headers, 2, node), &[(3, Mode::S)]);
+    lets_in(&rt, drop_grant(&mut headers, 3, node), &[]);
+    same(&rt, is_gone(&headers, node), (true, true));
+    gets(&rt, &mut headers, 4, node, Mode::S);
+    same(&rt, has_box(&headers, node), (false, false));
 }

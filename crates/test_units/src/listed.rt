@@ -5,13 +5,20 @@ use gl_listed::NodeMap;
 use gl_modes::NodeId;
 use indexmap::IndexMap;
 use std::alloc::{AllocError, Global};
-use std::test::Fail;
+use std::process::Abort;
 
 fn node(number: u64) -> NodeId {
     NodeId {
         key: (number % 7) as usize,
         birth: number,
     }
+}
+
+/// A list, and a map of the same.
+#[derive(Drop)]
+struct Pair {
+    list: NodeMap<u32>,
+    map: IndexMap<NodeId, u32>,
 }
 
 /// Puts a value last, unless the node has one.
@@ -24,83 +31,105 @@ fn put(list: &mut NodeMap<u32>, number: u64, value: u32) -> Result<(), AllocErro
     Ok(())
 }
 
-/// The number at a place, and the value.
-fn row(list: &NodeMap<u32>, place: usize) -> Option<(u64, u32)> {
-    let (node, value) = list.get_index(place)?;
-    Some((node.birth, *value))
+/// Puts a value into both.
+fn put_in_both(rt: &impl Abort, pair: &mut Pair, number: u64, value: u32) {
+    same(rt, put(&mut pair.list, number, value).is_ok(), true);
+    same(rt, pair.map.insert(node(number), value).is_ok(), true);
 }
 
-/// Whether both hold the same rows in the same order, and find each of these nodes alike.
-fn are_alike(list: &NodeMap<u32>, map: &IndexMap<NodeId, u32>) -> bool {
-    (0..=map.len()).all(|place| list.get_index(place) == map.get_index(place))
-        && (0..45).all(|number| list.get(node(number)) == map.get(&node(number)))
-        && list.len() == map.len()
-        && list.is_empty() == map.is_empty()
+/// Both hold the same rows in the same order.
+fn rows_are_alike(rt: &impl Abort, pair: &Pair) {
+    for place in 0..=pair.map.len() {
+        same(rt, pair.list.get_index(place), pair.map.get_index(place));
+    }
+}
+
+/// Both are as long, hold the same rows in the same order, and find each of these nodes alike.
+fn are_alike(rt: &impl Abort, pair: &Pair) {
+    same(rt, pair.list.len(), pair.map.len());
+    same(rt, pair.list.is_empty(), pair.map.is_empty());
+    rows_are_alike(rt, pair);
+    for number in 0..45 {
+        let node = node(number);
+        same(rt, pair.list.get(node), pair.map.get(&node));
+    }
 }
 
 /// A list of as many rows, beside the map of the same.
-fn filled(alloc: Global, rows: u64) -> Result<(NodeMap<u32>, IndexMap<NodeId, u32>), Fail> {
-    let mut list = NodeMap::new(alloc);
-    let mut map = IndexMap::new(alloc);
+fn filled(rt: &impl Abort, alloc: Global, rows: u64) -> Pair {
+    let mut pair = Pair {
+        list: NodeMap::new(alloc),
+        map: IndexMap::new(alloc),
+    };
     for number in 0..rows {
-        put(&mut list, number, (number % 256) as u32)?;
-        map.insert(node(number), (number % 256) as u32)?;
+        put_in_both(rt, &mut pair, number, (number % 256) as u32);
     }
-    Ok((list, map))
+    pair
+}
+
+/// Writes a value into both where they have the node.
+fn write(pair: &mut Pair, number: u64, value: u32) {
+    if let Some(place) = pair.list.get_mut(node(number)) {
+        *place = value;
+    }
+    if let Some(place) = pair.map.get_mut(&node(number)) {
+        *place = value;
+    }
 }
 
 #[test]
-fn a_list_fills_as_a_map_does(rt: HostRuntime) -> Result<(), Fail> {
+fn a_list_fills_as_a_map_does(rt: HostRuntime) {
     for rows in 0..=40 {
-        let (list, map) = filled(rt.alloc(), rows)?;
-        assert!(rt; are_alike(&list, &map));
+        are_alike(&rt, &filled(&rt, rt.alloc(), rows));
     }
-    Ok(())
 }
 
 #[test]
-fn a_list_is_what_a_map_is(rt: HostRuntime) -> Result<(), Fail> {
-    let (mut list, mut map) = filled(rt.alloc(), 40)?;
+fn a_list_is_what_a_map_is(rt: HostRuntime) {
+    let mut pair = filled(&rt, rt.alloc(), 40);
     for number in 0..40 {
         let other = node(number * 11 % 40);
-        same(&rt, list.swap_remove(other), map.swap_remove(&other));
-        assert!(rt; are_alike(&list, &map));
+        let came = pair.list.swap_remove(other);
+        same(&rt, came, pair.map.swap_remove(&other));
+        are_alike(&rt, &pair);
     }
-    assert!(rt; list.is_empty());
-    put(&mut list, 3, 1)?;
-    same(&rt, row(&list, 0), Some((3, 1)));
-    Ok(())
+    same(&rt, pair.list.len(), 0);
+    put_in_both(&rt, &mut pair, 3, 1);
+    are_alike(&rt, &pair);
+}
+
+/// Pops all, and once more.
+fn pops_all(rt: &impl Abort, alloc: Global, rows: u64) {
+    let mut pair = filled(rt, alloc, rows);
+    for _ in 0..=rows {
+        same(rt, pair.list.pop(), pair.map.pop());
+        are_alike(rt, &pair);
+    }
 }
 
 #[test]
-fn what_was_put_in_last_is_popped(rt: HostRuntime) -> Result<(), Fail> {
+fn what_was_put_in_last_is_popped(rt: HostRuntime) {
     for rows in [0, 1, 15, 16, 17, 18, 40] {
-        let (mut list, mut map) = filled(rt.alloc(), rows)?;
-        for _ in 0..=rows {
-            same(&rt, list.pop(), map.pop());
-            assert!(rt; are_alike(&list, &map));
-        }
+        pops_all(&rt, rt.alloc(), rows);
     }
-    Ok(())
+}
+
+/// Writes the first value, the last one and one that is not there, and takes all away.
+fn writes_and_clears(rt: &impl Abort, alloc: Global, rows: u64) {
+    let mut pair = filled(rt, alloc, rows);
+    for number in [0, rows.saturating_sub(1), rows] {
+        write(&mut pair, number, 500);
+        are_alike(rt, &pair);
+    }
+    same(rt, pair.list.swap_remove(node(rows)), None);
+    pair.list.clear();
+    pair.map.clear();
+    are_alike(rt, &pair);
 }
 
 #[test]
-fn a_value_is_written_where_it_stands(rt: HostRuntime) -> Result<(), Fail> {
+fn a_value_is_written_where_it_stands(rt: HostRuntime) {
     for rows in [1, 16, 17, 40] {
-        let (mut list, mut map) = filled(rt.alloc(), rows)?;
-        for number in [0, rows - 1, rows] {
-            if let Some(value) = list.get_mut(node(number)) {
-                *value = 500;
-            }
-            if let Some(value) = map.get_mut(&node(number)) {
-                *value = 500;
-            }
-            assert!(rt; are_alike(&list, &map));
-        }
-        same(&rt, list.swap_remove(node(rows)), None);
-        list.clear();
-        map.clear();
-        assert!(rt; are_alike(&list, &map));
+        writes_and_clears(&rt, rt.alloc(), rows);
     }
-    Ok(())
 }

@@ -14,6 +14,7 @@ fn listing_in(version: Version, line: &[u8]) -> Option<Listing> {
     let language = Language {
         version,
         listings: true,
+        schema: false,
     };
     match parse(language, line, &mut Lists::new()) {
         Some(Line::List(listing)) => Some(listing),
@@ -105,6 +106,7 @@ fn commands_beside_listings(rt: HostRuntime) {
     let language = Language {
         version: Version::Two,
         listings: true,
+        schema: false,
     };
     let form = order_in(language, b"begin holders", &mut lists);
     assert!(rt; matches!(&form, Some(Form::Begin { txn }) if is(txn, b"holders")));

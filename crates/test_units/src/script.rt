@@ -135,6 +135,7 @@ fn says(rt: &impl Abort, version: Version, rows: Rows) {
     let language = Language {
         version,
         listings: false,
+        schema: false,
     };
     for (place, (line, said)) in rows.iter().enumerate() {
         let is_so = match order_in(language, line, &mut lists) {
@@ -236,6 +237,7 @@ fn moves_from_version_two_on(rt: HostRuntime) {
     let language = Language {
         version: Version::One,
         listings: false,
+        schema: false,
     };
     assert!(rt; order_in(language, MOVE, &mut Lists::new()).is_none());
     says(&rt, Version::Two, ROWS);

@@ -1,8 +1,8 @@
 -- Nodes go with all their grants and waits, each with all that lies below it: the law of a state is kept, and no step of a wait is added.
-use Rattle.gl_model.proofs.Words.{[], ◌&&◌, ◌∙◌, ◌∷◌, ◌≡◌, ◌≤◌, age_in, ap, arith, Bool, clash, false, filter, Graph, HasNoCycle, holds, if◌then◌else◌, intends}
+use Rattle.gl_model.proofs.Words.{[], ◌∙◌, ◌≡◌, ◌≤◌, age_in, ap, arith, Bool, false, filter, Graph, HasNoCycle, holds, if◌then◌else◌, intends}
 use Rattle.gl_model.proofs.Words.{intends_over, is_ahead, is_among_waiters, is_at_least, is_child, is_live, is_record_shape, is_some, is_waiter, IsLawful}
-use Rattle.gl_model.proofs.Words.{IsLawfulGraph, less-no_cycle, members, Mode, ModeFitsKind, nat_tests, NL, node_at, NodeId, not, not_true, Option, parents_in, parents_of}
-use Rattle.gl_model.proofs.Words.{same_mode, shape_in, shape_of, Some, split, State, status_in, status_of, subst, sym, true, Txn, Waiting, waits_at, waits_for, ℕ}
+use Rattle.gl_model.proofs.Words.{IsLawfulGraph, less-no_cycle, members, Mode, ModeFitsKind, nat_tests, NL, node_at, NodeId, not, Option, parents_in, parents_of}
+use Rattle.gl_model.proofs.Words.{same_mode, shape_in, Some, State, status_in, status_of, subst, sym, true, Txn, Waiting, waits_at, waits_for, ℕ}
 use Rattle.gl_model.proofs.Words.{◌||◌, Active, Condemned, fun_ext, IsOrderly, None, or-true, refl, Status}
 use Rattle.gl_model.specs.Calls.{departed, freed_among, none_among}
 use Rattle.gl_model.proofs.law.Edges.{is_step, step_is}

@@ -1,7 +1,7 @@
 -- A schema changes under the lock of a transaction: nodes are dropped, and an index is made that its maker holds. The law of a state is kept.
-use Rattle.gl_model.proofs.Words.{[], ◌+◌, ◌∙◌, ◌∷◌, ◌≡◌, ◌≤◌, Active, and_both, ap, are_compatible, arith, Bool, false, first_not_ix, fits-from_all, Graph, HasNoCycle}
+use Rattle.gl_model.proofs.Words.{[], ◌+◌, ◌∙◌, ◌∷◌, ◌≡◌, Active, and_both, ap, are_compatible, arith, false, first_not_ix, fits-from_all, Graph, HasNoCycle}
 use Rattle.gl_model.proofs.Words.{Index, intends_over, interval_nodes, is_at_least, is_live, is_movable_shape, is_some, IsIndexBorn, IsLawful, IsLawfulGraph, List}
-use Rattle.gl_model.proofs.Words.{list_any, members, new_id, new_node, NL, Node, node_at, node_is, NodeId, None, not, old_below, Option, is_child, or_no, parents_in, parents_of, refl, same_node, same_node-equal, shape_in, shape_of, Some}
+use Rattle.gl_model.proofs.Words.{list_any, members, new_id, new_node, NL, Node, node_at, node_is, NodeId, None, old_below, Option, is_child, or_no, parents_in, parents_of, refl, same_node, same_node-equal, shape_in, shape_of, Some}
 use Rattle.gl_model.proofs.Words.{State, status_of, sym, true, with_grant, with_graph, X, ℕ}
 use Rattle.std.proofs.lemmas.Bool.{not-true}
 use Rattle.gl_modes.proofs.Words.{no, or_elim}

@@ -1,10 +1,9 @@
 -- Nodes go from a table with all locks on them: what it makes of the table. For the calls that take nodes away.
-use Rattle.gl_table.proofs.Words.{[], ◌&&◌, ◌∙◌, ◌∷◌, ◌≡◌, Active, addressed, age_in, age_of, Agrees, AreSound, Bool, children_that, clash, CountsHeld, departed, false}
-use Rattle.gl_table.proofs.Words.{Graph, graph_of, HasNoCycle, holds, if◌then◌else◌, is_among_waiters, is_live, is_some, is_waiting_at, IsLawful, IsOrderly, IsSound}
-use Rattle.gl_table.proofs.Words.{IsTold, members, Mode, NL, NodeId, None, not, not_true, notice_of, notices_in, Option, same_mode, Some, split, State, state_at, state_in}
-use Rattle.gl_table.proofs.Words.{refl, state_of, status_in, status_of, subst, sym, Told, told, told_from, told_to, true, Txn, TxnId, View, view_of, Waiting, ap, ℕ}
-use Rattle.gl_modes.specs.Nodes.{same_node}
-use Rattle.gl_modes.proofs.NodeLemmas.{same_node-equal, same_node-refl}
+use Rattle.gl_table.proofs.Words.{[], ◌∙◌, ◌≡◌, Active, addressed, age_in, age_of, Agrees, AreSound, Bool, children_that, clash, CountsHeld, departed, false}
+use Rattle.gl_table.proofs.Words.{Graph, graph_of, HasNoCycle, holds, if◌then◌else◌, is_among_waiters, is_live, IsLawful, IsOrderly, IsSound}
+use Rattle.gl_table.proofs.Words.{IsTold, members, Mode, NL, NodeId, None, not, not_true, notice_of, Option, same_mode, Some, split, State, state_at, state_in}
+use Rattle.gl_table.proofs.Words.{refl, state_of, status_in, subst, sym, Told, told, told_from, told_to, true, Txn, TxnId, View, view_of, Waiting, ap, ℕ}
+use Rattle.gl_modes.proofs.NodeLemmas.{same_node-refl}
 use Rattle.gl_model.specs.Calls.{freed_among, none_among}
 use Rattle.gl_model.specs.State.{waits_at}
 use Rattle.gl_model.specs.declared.answers.Notice.TheVariants as notice

@@ -1,9 +1,9 @@
 -- A node is dropped from a table, or an index is made that its maker holds: what it makes of the table. For those calls.
-use Rattle.gl_table.proofs.Words.{[], ◌&&◌, ◌+◌, ◌==◌, ◌||◌, ◌∙◌, ◌∷◌, ◌≡◌, Active, and_both, ap, ap₂, AreExact, are_compatible, arith, Bool, children_that, clash, cond, count_by}
-use Rattle.gl_table.proofs.Words.{count_cons, false, filter, first_not_ix, Graph, graph_of, HasNoCycle, holds, IfOk, if◌then◌else◌, is_among_waiters, is_at_least, is_child}
-use Rattle.gl_table.proofs.Words.{is_live, IsIndexBorn, IsLawful, IsSound, List, list_all, list_any, members, Mode, nat_tests, NL, node_at, NodeId, nodes, nodes_live, None, not}
-use Rattle.gl_table.proofs.Words.{not_true, OnErr, parents_in, parents_of, refl, Refusal, Refuses, Result, rules, same_mode, same_node, same_node-refl, same_number, shape_of, Some}
-use Rattle.gl_table.proofs.Words.{split, State, state_in, state_of, status_of, subst, sym, true, View, view_of, Waiting, with_grant, with_graph, X, ℕ}
+use Rattle.gl_table.proofs.Words.{[], ◌&&◌, ◌+◌, ◌==◌, ◌||◌, ◌∙◌, ◌∷◌, ◌≡◌, Active, and_both, ap, ap₂, AreExact, arith, Bool, children_that, clash, cond, count_by}
+use Rattle.gl_table.proofs.Words.{count_cons, false, filter, first_not_ix, Graph, graph_of, HasNoCycle, IfOk, if◌then◌else◌, is_among_waiters, is_at_least, is_child}
+use Rattle.gl_table.proofs.Words.{is_live, IsIndexBorn, IsLawful, IsSound, List, list_all, list_any, Mode, nat_tests, NL, node_at, NodeId, nodes, nodes_live, None, not}
+use Rattle.gl_table.proofs.Words.{not_true, OnErr, parents_in, refl, Refusal, Refuses, Result, rules, same_mode, same_node, same_node-refl, same_number, shape_of, Some}
+use Rattle.gl_table.proofs.Words.{split, State, state_in, state_of, status_of, subst, sym, true, View, view_of, with_grant, with_graph, X, ℕ}
 use Rattle.gl_modes.proofs.Words.{no, or_elim, or_left}
 use Rattle.gl_modes.proofs.NodeLemmas.{same_node-equal}
 use Rattle.gl_modes.specs.declared.mode.Mode.TheVariants.{IS, IX}
@@ -13,7 +13,7 @@ use Rattle.gl_graph.specs.Refusals.{is_in_use, reindex_refusal}
 use Rattle.gl_graph.specs.Shapes.{is_movable_shape}
 use Rattle.gl_graph.proofs.Branch.{left_live, live, nodes_left, stays_left}
 use Rattle.gl_graph.proofs.Unrefused.{reindex_unrefused}
-use Rattle.gl_model.specs.Calls.{dropped, goes_with}
+use Rattle.gl_model.specs.Calls.{goes_with}
 use Rattle.gl_model.specs.State.{intends, intends_over, is_wait, is_write}
 use Rattle.gl_model.proofs.law.Lock.{granted-no_cycle}
 use Rattle.gl_model.proofs.law.Orderly.{lawful_orderly}

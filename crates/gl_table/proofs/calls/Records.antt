@@ -1,20 +1,19 @@
 -- Records come and go, and children are shed: what it makes of a table. For those calls.
 use Rattle.gl_slots.specs.Limit.{most_slots}
-use Rattle.gl_table.proofs.Words.{[], ◌&&◌, ◌+◌, ◌-◌, ◌==◌, ◌||◌, ◌∙◌, ◌∷◌, ◌≡◌, ◌≤◌, Active, addressed, age_in, age_of, Agrees, and_both, ap, are_compatible}
-use Rattle.gl_table.proofs.Words.{AreExact, AreSound, arith, Bool, children_that, clash, cond, count_by, count_cons, CountsHeld, covered_children, deleted}
-use Rattle.gl_table.proofs.Words.{false, first_not_ix, freed, granted_at, Graph, graph_of, HasNoCycle, held_children, holds, holds_child, IfOk, if◌then◌else◌}
-use Rattle.gl_table.proofs.Words.{is_among_waiters, is_at_least, is_child, is_covered, is_idle, is_live, is_record_shape, is_some, is_wait, is_waiting_at}
-use Rattle.gl_table.proofs.Words.{IsAdopted, IsBorn, IsLawful, IsOrderly, IsRoomyRecord, IsSound, IsTold, KeepsLocks, keys, length, List, list_all, listed}
-use Rattle.gl_table.proofs.Words.{members, Mode, nat_tests, NL, NodeId, nodes, None, none_but, not, not_true, notice_of, notices_in, number_same, OnErr, Option}
+use Rattle.gl_table.proofs.Words.{[], ◌&&◌, ◌+◌, ◌-◌, ◌==◌, ◌||◌, ◌∙◌, ◌∷◌, ◌≡◌, ◌≤◌, Active, Agrees, and_both, ap, are_compatible}
+use Rattle.gl_table.proofs.Words.{AreExact, arith, Bool, children_that, clash, cond, count_by, count_cons, CountsHeld, covered_children}
+use Rattle.gl_table.proofs.Words.{false, first_not_ix, granted_at, Graph, graph_of, HasNoCycle, held_children, holds, holds_child, IfOk, if◌then◌else◌}
+use Rattle.gl_table.proofs.Words.{is_at_least, is_child, is_covered, is_idle, is_live, is_record_shape, is_some, is_wait}
+use Rattle.gl_table.proofs.Words.{IsAdopted, IsBorn, IsLawful, IsRoomyRecord, IsSound, KeepsLocks, keys, length, List, list_all, listed}
+use Rattle.gl_table.proofs.Words.{members, Mode, nat_tests, NL, NodeId, nodes, None, not, not_true, notices_in, number_same, OnErr, Option}
 use Rattle.gl_table.proofs.Words.{other_number, parents_of, Rec, record_parents, record_refusal, record_unrefused, refl, Refusal, Refuses, Result, rules, S}
 use Rattle.gl_table.proofs.Words.{same_mode, same_mode-equal, same_node-refl, same_number, shape_of, shed, Some, split, State, state_at, state_in, state_of}
-use Rattle.gl_table.proofs.Words.{state_on, status_in, status_of, subst, sym, TellsOthers, Told, told, told_from, told_to, true, Txn, TxnId, unwrap_or, View}
-use Rattle.gl_table.proofs.Words.{view_of, Waiting, with_grant, with_graph, with_key, without_node, X, ℕ}
+use Rattle.gl_table.proofs.Words.{state_on, status_of, subst, sym, TellsOthers, Told, told, true, unwrap_or, View}
+use Rattle.gl_table.proofs.Words.{view_of, with_grant, with_graph, with_key, without_node, X, ℕ}
 use Rattle.gl_model.proofs.queues.Walks.{same}
 use Rattle.gl_table.specs.declared.ledger.Ledger.{Ledger}
 use Rattle.gl_table.specs.declared.locks.Locks.{Locks}
 use Rattle.gl_table.specs.declared.table.Table.TheInside.{Inside}
-use Rattle.gl_model.specs.declared.answers.Notice.TheVariants as notice
 use Rattle.gl_table.proofs.calls.Calls.{table_way}
 use Rattle.gl_table.proofs.calls.Departing.{AreGone}
 use Rattle.gl_model.proofs.law.Orderly.{lawful_orderly}
@@ -31,10 +30,9 @@ use Rattle.gl_modes.specs.Nodes.{same_node}
 use Rattle.gl_modes.proofs.NodeLemmas.{same_node-equal}
 use Rattle.gl_model.proofs.law.Tests.{shed-lawful}
 use Rattle.gl_listed.proofs.Children.{one_found}
-use Rattle.gl_model.proofs.queues.Edits.{freed_other}
 use Rattle.gl_model.proofs.queues.Fronts.{granted_waits}
-use Rattle.gl_model.proofs.queues.Waiters.{grants_other, if-false, if-true}
-use Rattle.gl_model.proofs.telling.Fronts.{in_no_queue, stands_there, waits_there}
+use Rattle.gl_model.proofs.queues.Waiters.{grants_other}
+use Rattle.gl_model.proofs.telling.Fronts.{in_no_queue}
 use Rattle.gl_model.proofs.telling.Lists.{told_is}
 use Rattle.gl_model.proofs.telling.Ways.{active_untold, nobody_told}
 

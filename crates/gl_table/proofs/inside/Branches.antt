@@ -1,22 +1,22 @@
 -- The locks on a node that is in no use go, and those on its children, one by one: what is left. For nodes that are dropped.
-use Rattle.gl_table.proofs.Words.{[], ◌&&◌, ◌+◌, ◌++◌, ◌<◌, ◌==◌, ◌||◌, ◌∙◌, ◌∷◌, ◌≡◌, Active, age_in, and_both, ap, ap₂, AreExact, arith, Bool, CanTell, clash, departed}
-use Rattle.gl_table.proofs.Words.{false, fun_ext, Graph, graph_of, held_children, holds, if◌then◌else◌, is_among_waiters, is_child, is_live, IsBySlot, IsLawfulGraph}
-use Rattle.gl_table.proofs.Words.{IsOrderly, IsTold, length, List, list_any, members, Mode, nat_tests, NL, NodeId, nodes, nodes_live, None, not, not_true, notices_in}
-use Rattle.gl_table.proofs.Words.{number_same, Option, parents_in, refl, same_mode, same_node, same_node-equal, same_node-refl, same_node-sym, same_number, is_some, shape_of, Some, split, State}
-use Rattle.gl_table.proofs.Words.{state_in, status_in, status_of, subst, sym, take, Told, true, Txn, View, Waiting, ℕ, slice_get, slice_index_or, count_none, suc, zero, get_or, ◌≤◌}
+use Rattle.gl_table.proofs.Words.{[], ◌&&◌, ◌+◌, ◌++◌, ◌<◌, ◌==◌, ◌||◌, ◌∙◌, ◌∷◌, ◌≡◌, Active, age_in, ap, ap₂, AreExact, arith, Bool, clash, departed}
+use Rattle.gl_table.proofs.Words.{false, fun_ext, held_children, holds, if◌then◌else◌, is_among_waiters, is_child, is_live, IsBySlot, IsLawfulGraph}
+use Rattle.gl_table.proofs.Words.{IsOrderly, IsTold, length, List, list_any, members, Mode, NL, NodeId, nodes, nodes_live, None, not, not_true, notices_in}
+use Rattle.gl_table.proofs.Words.{Option, parents_in, refl, same_mode, same_node, same_node-equal, same_node-refl, same_node-sym, is_some, shape_of, Some, split, State}
+use Rattle.gl_table.proofs.Words.{state_in, status_in, status_of, sym, take, Told, true, Txn, View, Waiting, ℕ, slice_get, slice_index_or, count_none, suc, zero, get_or, ◌≤◌}
 use Rattle.gl_modes.proofs.Words.{no, or_elim, or_left, or_right, some_is}
 use Rattle.std.proofs.lemmas.List.{take_more}
 use Rattle.std.proofs.lemmas.List.Folds.{list_any-append}
 use Rattle.gl_graph.specs.Graph.{interval_at, Node, node_at}
 use Rattle.gl_graph.specs.Refusals.{is_in_use}
 use Rattle.gl_graph.specs.Shapes.{is_movable_shape}
-use Rattle.gl_graph.proofs.Branch.{apart_from, at_child, child_at, children_are, live, movable_no_interval}
+use Rattle.gl_graph.proofs.Branch.{apart_from, at_child, child_at, children_are, movable_no_interval}
 use Rattle.gl_model.specs.Calls.{freed_among, goes_with, none_among}
 use Rattle.gl_model.specs.State.{waits_at}
 use Rattle.gl_model.specs.declared.answers.Notice.TheVariants as notice
 use Rattle.gl_model.specs.declared.txn.Status.{Status}
 use Rattle.gl_model.specs.declared.txn.Status.TheVariants.{Condemned}
-use Rattle.gl_model.proofs.law.Departures.{age_freed_among, cleared_orderly, departed_twice}
+use Rattle.gl_model.proofs.law.Departures.{cleared_orderly, departed_twice}
 use Rattle.gl_model.proofs.queues.Waiters.{if-false, if-true}
 use Rattle.gl_model.proofs.telling.Fronts.{stands_there}
 use Rattle.gl_table.specs.declared.ledger.Ledger.{Ledger}

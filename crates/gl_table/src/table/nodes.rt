@@ -127,9 +127,7 @@ impl Table {
         ensures told { notices.new.items ≡ told (state_of self.old) (state_of self.new) }
     {
         let locks = &mut self.locks;
-        locks
-            .ledger
-            .vacate_branch(&locks.graph, t.slot, n, notices);
+        locks.ledger.vacate_branch(&locks.graph, t.slot, n, notices);
         locks.graph.remove_node(n);
     }
 }

@@ -1,26 +1,10 @@
-use Rattle.std.proofs.Common.{◌≡◌, ◌∷◌, [], true, false, sym, ◌∙◌}
+use Rattle.std.proofs.Common.{◌∷◌, [], sym, ◌∙◌}
 use Rattle.gl_script.specs.Grammar.{Plain}
 use Rattle.gl_script.specs.Views.{node_of, nodes_of}
-use Rattle.gl_interpreter.specs.Printed.{some_unused}
 use Rattle.gl_interpreter.specs.Views.{script_of}
-use Rattle.gl_interpreter.proofs.Printing.{head_used, none_unused, unused_in_first, unused_in_second}
+use Rattle.gl_interpreter.proofs.Printing.{head_used, none_unused}
 use Rattle.gl_interpreter.proofs.Writing.{Hands-none, Hands-then}
 use Rattle.gl_interpreter.proofs.answers.put_first_unused.Goals as goal
-
-pub returns-then-not-put_unused_listed : goal.returns-then-not-put_unused_listed
-returns-then-not-put_unused_listed g c =
-    let s = script_of c.args.desk.now in
-    let nodes = nodes_of c.args.lists.now in
-    let none : some_unused s nodes ≡ false = sym c.put_unused_listed.ensures.is ∙ c.if-not-put_unused_listed.true in
-    let nothing = rw (none_unused s nodes none) at c.put_unused_listed.ensures.text in
-    rw c.in-Index.is (rw (unused_in_second s nodes (Plain c.in-Index.file.items ∷ []) none) (Hands-then _ _ _ _ _ _ _ _ nothing c.put_unused_name.ensures.text))
-
-pub returns-else-not-put_unused_listed : goal.returns-else-not-put_unused_listed
-returns-else-not-put_unused_listed g c =
-    let s = script_of c.args.desk.now in
-    let nodes = nodes_of c.args.lists.now in
-    let some : some_unused s nodes ≡ true = sym c.put_unused_listed.ensures.is ∙ c.if-not-put_unused_listed.false in
-    rw c.in-Index.is (rw (unused_in_first s nodes (Plain c.in-Index.file.items ∷ []) some) c.put_unused_listed.ensures.text)
 
 pub returns-then-not-put_unused : goal.returns-then-not-put_unused
 returns-then-not-put_unused g c =
@@ -29,15 +13,15 @@ returns-then-not-put_unused g c =
     let node = node_of c.in-Move.node in
     let in_use = sym c.put_unused.ensures.is ∙ c.if-not-put_unused.true in
     let nothing = rw (none_unused s (node ∷ []) (head_used s node [] in_use).1) at c.put_unused.ensures.text in
-    rw c.in-Move.is (rw (head_used s node nodes in_use).0 (Hands-then _ _ _ _ _ _ _ _ nothing c.put_unused_listed-then-not-put_unused.ensures.text))
+    rw c.in-Move.is (rw (head_used s node nodes in_use).0 (Hands-then _ _ _ _ _ _ _ _ nothing c.put_unused_listed.ensures.text))
 
 pub returns-then-not-put_unused_name : goal.returns-then-not-put_unused_name
 returns-then-not-put_unused_name g c =
     let s = script_of c.args.desk.now in
     let rec = Plain c.in-Rekey.rec.items in
     let index = Plain c.in-Rekey.index.items in
-    let in_use = sym c.put_unused_name-in-Rekey.ensures.is ∙ c.if-not-put_unused_name.true in
-    let nothing = rw (none_unused s (rec ∷ []) (head_used s rec [] in_use).1) at c.put_unused_name-in-Rekey.ensures.text in
+    let in_use = sym c.put_unused_name.ensures.is ∙ c.if-not-put_unused_name.true in
+    let nothing = rw (none_unused s (rec ∷ []) (head_used s rec [] in_use).1) at c.put_unused_name.ensures.text in
     rw c.in-Rekey.is (rw (head_used s rec (index ∷ []) in_use).0 (Hands-then _ _ _ _ _ _ _ _ nothing c.put_unused_name-then-not-put_unused_name.ensures.text))
 
 pub returns-in-Begin : goal.returns-in-Begin

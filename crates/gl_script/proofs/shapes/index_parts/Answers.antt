@@ -1,8 +1,14 @@
-use Rattle.std.proofs.Common.{sym, ◌∙◌}
+use Rattle.std.proofs.Common.{Option, None, Some}
+use Rattle.std.specs.Prelude.{IfNone}
 use Rattle.gl_script.proofs.ListTexts.{behind_on}
 use Rattle.gl_script.proofs.shapes.index_parts.Goals as goal
 
-pub returns-in_err-file-clause-none : goal.returns-in_err-file-clause-none
-returns-in_err-file-clause-none g c = rw c.from_residual-in_err-file.ensures (λ n f ps bs named some of_file are e.
+none_so : {T : Type 0} (o : Option T) (P Q : Type 0) → (P → Q) → IfNone o P → IfNone o Q
+none_so None P Q so h = so h
+none_so (Some x) P Q so h = tt
+
+pub returns-clause-none : goal.returns-clause-none
+returns-clause-none c =
     let read = c.in_ok-read_parents_on.ensures.found in
-    c.in_err-file.ensures.none f bs of_file are (behind_on _ _ _ _ n ps _ read.1 read.0 some (sym c.in_ok-name.ensures.found.1 ∙ e)))
+    none_so c.file_bounds.result _ _ (λ none f ps bs some named are e. none f bs named are (behind_on _ _ _ ps _ read.1 read.0 some e))
+    c.file_bounds.ensures.none

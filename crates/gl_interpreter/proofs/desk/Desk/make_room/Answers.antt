@@ -18,6 +18,13 @@ returns-in-Index-clause-names c = λ i. record (names_of c.args.self.now) {
       c.room_for-in-Index.ensures.names i;
 }
 
+pub returns-in-IndexBy-clause-names : goal.returns-in-IndexBy-clause-names
+returns-in-IndexBy-clause-names c = λ i. record (names_of c.args.self.now) {
+  node = c.room_for-in-IndexBy.ensures.ids i;
+  node_name =
+      c.room_for-in-IndexBy.ensures.names i;
+}
+
 pub returns-in-Insert-clause-names : goal.returns-in-Insert-clause-names
 returns-in-Insert-clause-names c = λ i. record (names_of c.args.self.now) {
   node = c.room_for-in-Insert.ensures.ids i;

@@ -14,6 +14,9 @@ name_node-requires-in-File c = record { room = rw c.in-File.is at (c.requires.ro
 pub name_node-requires-in-Index : goal.name_node-requires-in-Index
 name_node-requires-in-Index c = record { room = rw c.in-Index.is at (c.requires.room nothing_listed) }
 
+pub name_node-requires-in-IndexBy : goal.name_node-requires-in-IndexBy
+name_node-requires-in-IndexBy c = record { room = rw c.in-IndexBy.is at (c.requires.room nothing_listed) }
+
 pub name_node-requires-in-Insert : goal.name_node-requires-in-Insert
 name_node-requires-in-Insert c = record { room = rw c.in-Insert.is at (c.requires.room nothing_listed) }
 

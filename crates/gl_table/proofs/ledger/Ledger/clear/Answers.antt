@@ -1,5 +1,5 @@
-use Rattle.gl_table.proofs.Words.{◌==◌, ◌<◌, ◌∙◌, ◌≡◌, Agrees, ap, CountsHeld, departed, false, graph_of, holds, length, members, mode_of, NL, not, same_mode, same_node, split}
-use Rattle.gl_table.proofs.Words.{State, state_in, subst, sym, true, same_number, Mode, rules, ℕ}
+use Rattle.gl_table.proofs.Words.{◌==◌, ◌<◌, ◌∙◌, ◌≡◌, Agrees, ap, CountsHeld, false, holds, length, members, mode_of, NL, not, same_mode, split}
+use Rattle.gl_table.proofs.Words.{State, state_in, subst, sym, same_number, ℕ}
 use Rattle.gl_model.proofs.law.Keeps.{nl_is, txn_there}
 use Rattle.gl_table.proofs.inside.Branches.{departed_nothing}
 use Rattle.gl_table.proofs.inside.Slots.{by_list-at}

@@ -1,10 +1,10 @@
-use Rattle.gl_table.proofs.Words.{◌+◌, ◌<◌, ◌==◌, ◌∙◌, ◌≡◌, ◌≤◌, Agrees, ap, arith, CountsHeld, departed, false, graph_of, holds, is_among_waiters, length, List, list_any, members, NL}
-use Rattle.gl_table.proofs.Words.{AreExact, IsOrderly, NodeId, not, refl, same_mode, same_node, slice_index_or, Some, State, state_in, status_of, subst, sym, take, true, ⊎_elim, Active, age_in, held_children, ℕ}
+use Rattle.gl_table.proofs.Words.{◌∙◌, ◌≡◌, Agrees, ap, CountsHeld, departed, graph_of, holds, is_among_waiters, list_any, members, NL}
+use Rattle.gl_table.proofs.Words.{IsOrderly, not, refl, same_mode, same_node, slice_index_or, Some, State, state_in, status_of, subst, sym, take, Active, age_in, held_children}
 use Rattle.gl_modes.proofs.Words.{or_left, or_right}
 use Rattle.gl_modes.proofs.NodeLemmas.{same_node-refl}
 use Rattle.gl_model.proofs.law.Departures.{age_freed_among}
-use Rattle.gl_table.proofs.inside.Branches.{before, before_active, before_alone, before_orderly, before_unawaited, child_here, child_live, childless, end_childless}
-use Rattle.gl_table.proofs.inside.Branches.{departed_none, end_held, end_queue, end_whole, IsClearing, item_at, MayClear, one_more, take_all, told_after}
+use Rattle.gl_table.proofs.inside.Branches.{before_active, before_alone, before_orderly, before_unawaited, child_here, child_live, childless, end_childless}
+use Rattle.gl_table.proofs.inside.Branches.{departed_none, end_held, end_queue, end_whole, item_at, MayClear, one_more, take_all, told_after}
 use Rattle.gl_table.proofs.ledger.Ledger.vacate_branch.Goals.{After-intervals-interval-items}
 use Rattle.gl_table.proofs.ledger.Ledger.vacate_branch.Goals as goal
 
@@ -54,13 +54,13 @@ pub clear-requires-clause-childless : goal.clear-requires-clause-childless
 clear-requires-clause-childless c =
     let p = may (goal.at.clear-requires-clause-childless c).After-intervals-interval-items in
     λ u. ap (λ (x : State). held_children x u (slice_index_or c.intervals-interval-items.result.now c.loop-interval.interval-index (record { key = 0; birth = 0 }))) c.loop-interval.invariant.state
-        ∙ childless p c.loop-interval.interval-index _ (item_at c.intervals-interval-items.result.now c.loop-interval.interval-index (record { key = 0; birth = 0 }) c.loop-interval-test.true) u
+    ∙ childless p c.loop-interval.interval-index _ (item_at c.intervals-interval-items.result.now c.loop-interval.interval-index (record { key = 0; birth = 0 }) c.loop-interval-test.true) u
 
 pub clear-requires-clause-alone : goal.clear-requires-clause-alone
 clear-requires-clause-alone c =
     let p = may (goal.at.clear-requires-clause-alone c).After-intervals-interval-items in
     λ u e. ap (λ (x : State). x.held u (slice_index_or c.intervals-interval-items.result.now c.loop-interval.interval-index (record { key = 0; birth = 0 }))) c.loop-interval.invariant.state
-        ∙ before_alone p c.loop-interval.interval-index u _ e (or_right _ _ (child_here p c.loop-interval.interval-index _ (item_at c.intervals-interval-items.result.now c.loop-interval.interval-index (record { key = 0; birth = 0 }) c.loop-interval-test.true)))
+    ∙ before_alone p c.loop-interval.interval-index u _ e (or_right _ _ (child_here p c.loop-interval.interval-index _ (item_at c.intervals-interval-items.result.now c.loop-interval.interval-index (record { key = 0; birth = 0 }) c.loop-interval-test.true)))
 
 pub clear-requires-clause-unawaited : goal.clear-requires-clause-unawaited
 clear-requires-clause-unawaited c =
@@ -111,7 +111,7 @@ pub vacate-requires-clause-alone : goal.vacate-requires-clause-alone
 vacate-requires-clause-alone c =
     let p = may (goal.at.vacate-requires-clause-alone c).After-intervals-interval-items in
     λ u e. ap (λ (x : State). x.held u c.args.node) c.loop-interval.invariant.state
-        ∙ before_alone p c.loop-interval.interval-index u _ e (or_left _ _ (same_node-refl c.args.node))
+    ∙ before_alone p c.loop-interval.interval-index u _ e (or_left _ _ (same_node-refl c.args.node))
 
 pub vacate-requires-clause-tell : goal.vacate-requires-clause-tell
 vacate-requires-clause-tell c =

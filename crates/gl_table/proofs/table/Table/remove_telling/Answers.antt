@@ -24,8 +24,8 @@ vacate-requires-clause-live c =
 pub vacate-requires-clause-childless : goal.vacate-requires-clause-childless
 vacate-requires-clause-childless c =
     λ u. record-childless (graph_of c.self.inside.locks.graph) c.self.invariant.lawful.graph c.args.rec
-        (is_record c.self.inside c.args.self.now c.args.rec c.self.view_is c.requires.record)
-        (λ q. holds (members (state_of (view_of c.self.inside)) q) u)
+    (is_record c.self.inside c.args.self.now c.args.rec c.self.view_is c.requires.record)
+    (λ q. holds (members (state_of (view_of c.self.inside)) q) u)
 
 pub vacate-requires-clause-alone : goal.vacate-requires-clause-alone
 vacate-requires-clause-alone c =

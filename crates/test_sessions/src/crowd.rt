@@ -1,0 +1,246 @@
+//! 128 sessions ask what they draw, and what they did was one run.
+
+use crate::actor::{Act, Entry, acts};
+use crate::forest::{Forest, add_forest};
+use crate::stage::{enact, new_manager, suspect_on};
+use crate::story::Story;
+use crate::tally::replays;
+use crate::wanted::same;
+use gl_catalog::{Answer, Command, Manager};
+use gl_modes::{Mode, NodeId, Refusal};
+use gl_shared::{Naming, Session, Share, Shared, Watcher};
+use gl_table::{Detect, TxnId};
+use std::alloc::{AllocError, Global};
+use std::env;
+use std::env::VarError;
+use std::process::Abort;
+use std::rt::{Clock, Env};
+use std::sync::Wait;
+use std::sync::atomic::{AtomicBool, Ordering};
+use std::test::Fail;
+use std::thread::{Threads, join, map_vec, yield_now};
+
+/// How many commands each session asks at least, where the environment has no other number.
+const COMMANDS: u32 = 200;
+
+/// Sessions over a forest, each of which asks at least so many commands.
+#[derive(Drop)]
+pub struct Crowd {
+    forest: Forest,
+    detect: Detect,
+    commands: u32,
+}
+
+/// A session before it acts: its share, its number, and how many commands it asks at least.
+#[derive(Drop)]
+struct Seat<N: Naming> {
+    share: Share<N>,
+    number: u64,
+    commands: u32,
+}
+
+/// What a session gives back: its share, and all that it asked.
+#[derive(Drop)]
+struct Left<N: Naming> {
+    share: Share<N>,
+    diary: Vec<Entry>,
+}
+
+fn act_from<N: Naming, R: Wait + Abort>(
+    rt: &R,
+    alloc: Global,
+    table: &Shared<N>,
+    forest: &Forest,
+    seat: Seat<N>,
+) -> Left<N> {
+    let Seat {
+        share,
+        number,
+        commands,
+    } = seat;
+    let (share, diary) = acts(rt, alloc, table, forest, share, number, commands);
+    Left { share, diary }
+}
+
+/// All at once, each in a thread; and then the flag is set.
+fn act_all<N: Naming + Send + Sync, R: Threads + Wait + Abort + Sync>(
+    rt: &R,
+    alloc: Global,
+    table: &Shared<N>,
+    forest: &Forest,
+    seats: Vec<Seat<N>>,
+    ended: &AtomicBool,
+) -> Result<Vec<Left<N>>, AllocError> {
+    let left = map_vec(
+        rt,
+        seats,
+        &|seat: Seat<N>| -> Left<N> { act_from(rt, alloc, table, forest, seat) },
+    );
+    ended.store(true, Ordering::SeqCst);
+    left
+}
+
+/// Settles a suspect, and says what it asked.
+fn settle<N: Naming, R: Wait + Abort>(rt: &R, session: &mut Session<'_, N>, txn: TxnId) -> Entry {
+    let command = Command::Settle { txn };
+    let answer = session.ask(rt, command).answer;
+    Entry {
+        at: session.served_at(),
+        act: Act::Plain(command),
+        answer,
+    }
+}
+
+/// Settles the youngest suspect of each look until the others have ended, and writes down what it asked.
+fn settles_all<N: Naming, R: Wait + Abort>(
+    rt: &R,
+    alloc: Global,
+    table: &Shared<N>,
+    share: Share<N>,
+    watcher: &mut Watcher<N>,
+    ended: &AtomicBool,
+) -> Left<N> {
+    let mut session = Session::new(table, share);
+    let mut diary = Vec::new(alloc);
+    for _ in rt.forever() {
+        if ended.load(Ordering::SeqCst) {
+            break;
+        }
+        if let Some(txn) = watcher.look().and_then(|board| suspect_on(&board)) {
+            let _ = diary.push(settle(rt, &mut session, txn));
+        }
+        yield_now();
+    }
+    Left {
+        share: session.end(),
+        diary,
+    }
+}
+
+/// A seat for each share.
+fn seat_all<N: Naming>(alloc: Global, shares: Vec<Share<N>>, commands: u32) -> Vec<Seat<N>> {
+    let mut seats = Vec::new(alloc);
+    for (place, share) in shares.into_iter().enumerate() {
+        let seat = Seat {
+            share,
+            number: place as u64,
+            commands,
+        };
+        let _ = seats.push(seat);
+    }
+    seats
+}
+
+/// Parts the shares from what was asked.
+fn part_all<N: Naming>(alloc: Global, left: Vec<Left<N>>) -> (Vec<Share<N>>, Vec<Vec<Entry>>) {
+    let mut shares = Vec::new(alloc);
+    let mut diaries = Vec::new(alloc);
+    for Left { share, diary } in left {
+        let _ = shares.push(share);
+        let _ = diaries.push(diary);
+    }
+    (shares, diaries)
+}
+
+/// All that was asked, in one list.
+fn join_all(alloc: Global, diaries: &[Vec<Entry>]) -> Vec<Entry> {
+    let mut all = Vec::new(alloc);
+    for diary in diaries {
+        let _ = all.extend_from_slice(diary.as_slice());
+    }
+    all
+}
+
+impl Crowd {
+    /// Puts what was asked to a manager alone.
+    fn replay<R: Abort>(&self, rt: &R, alloc: Global, diary: Vec<Entry>) {
+        let mut alone = new_manager(rt, alloc, self.detect);
+        add_forest(rt, &mut alone);
+        replays(rt, &mut alone, diary);
+    }
+
+    /// Plays with the shares and the watchers of a table, and gives the shares back. A manager alone
+    /// answers all that was asked alike.
+    pub fn play<N: Naming + Send + Sync, R: Threads + Wait + Abort + Clock + Sync>(
+        &self,
+        rt: &R,
+        alloc: Global,
+        table: &Shared<N>,
+        mut shares: Vec<Share<N>>,
+        mut watchers: Vec<Watcher<N>>,
+    ) -> Vec<Share<N>> {
+        let (Some(share), Some(mut watcher)) = (shares.pop(), watchers.pop()) else {
+            return shares;
+        };
+        let seats = seat_all(alloc, shares, self.commands);
+        let ended = AtomicBool::new(false);
+        let (flag, looking, forest) = (&ended, &mut watcher, &self.forest);
+        let (left, settler) = join(
+            rt,
+            move || act_all(rt, alloc, table, forest, seats, flag),
+            move || settles_all(rt, alloc, table, share, looking, flag),
+        );
+        let mut left = left.unwrap_or(Vec::new(alloc));
+        let _ = left.push(settler);
+        let (shares, diaries) = part_all(alloc, left);
+        let diary = join_all(alloc, diaries.as_slice());
+        self.replay(rt, alloc, diary);
+        shares
+    }
+}
+
+/// How many commands each session is to ask at least: the environment's CROWD_COMMANDS, if it is there.
+fn commands_wanted<R: Env + Alloc>(rt: &R) -> Result<u32, Fail> {
+    match env::var(rt, "CROWD_COMMANDS") {
+        Ok(number) => Ok(number.as_str().parse::<u32>()?),
+        Err(VarError::NotPresent) => Ok(COMMANDS),
+        Err(why) => Err(Fail::from(why)),
+    }
+}
+
+/// Plays with 128 sessions. In the end nobody holds anything, and the book has all that was accepted.
+fn play_crowd<R: Threads + Wait + Abort + Clock + Sync>(
+    rt: &R,
+    alloc: Global,
+    detect: Detect,
+    commands: u32,
+) {
+    let mut manager = new_manager(rt, alloc, detect);
+    let forest = add_forest(rt, &mut manager);
+    let (nodes, opening) = (forest.nodes, manager.accepted());
+    let crowd = Crowd {
+        forest,
+        detect,
+        commands,
+    };
+    let mut closed = enact(rt, alloc, manager, 129, 1, &Story::Crowd(crowd));
+    let accepted = closed.manager.accepted();
+    same(rt, opening.checked_add(closed.book), Some(accepted));
+    assert!(rt; closed.book > 64 * u64::from(commands));
+    assert!(rt; all_free(&mut closed.manager, &nodes));
+}
+
+/// Whether nobody holds any of the nodes that still live.
+fn all_free(manager: &mut Manager, nodes: &[NodeId]) -> bool {
+    for node in nodes {
+        let group = manager.apply(Command::Group { node: *node }).answer;
+        if group != Answer::Mode(Mode::NL) && group != Answer::Refused(Refusal::NoSuchNode) {
+            return false;
+        }
+    }
+    true
+}
+
+#[test]
+fn what_a_crowd_does_is_one_run_at_block(rt: HostRuntime) -> Result<(), Fail> {
+    let commands = commands_wanted(&rt)?;
+    play_crowd(&rt, rt.alloc(), Detect::AtBlock, commands);
+    Ok(())
+}
+
+#[test]
+fn what_a_crowd_does_is_one_run_by_watcher(rt: HostRuntime) -> Result<(), Fail> {
+    let commands = commands_wanted(&rt)?;
+    play_crowd(&rt, rt.alloc(), Detect::ByWatcher, commands);
+    Ok(())
+}

@@ -1,2 +1,0 @@
--- a file with one index
-mod OneIndex
