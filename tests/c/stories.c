@@ -937,6 +937,27 @@ static void a_file_of_rows_is_dropped(void) {
   DONE(bs_end(&m));
 }
 
+/* Who reads a row by one index holds nothing on the file, nor on another index. So the row is in the way, though both
+ * of these are held in X; and nobody comes by the first index, once it is held too. */
+static void a_reader_by_another_index(void) {
+  static const uint64_t keys[2] = { 70, 1 };
+  bs_manager m = BS_NO_MANAGER_HERE;
+  struct file f = begin_rows(&m);
+  bs_node other = DONE(bs_add_index(&m, &f.root, 1, f.file, NULL, 0)).node;
+  bs_txn reader = begin(&m), a = begin(&m);
+  DONE(bs_lock_path(&m, reader, bs_interval(&m, other, 0).node, BS_IS, &told));
+  DONE(bs_lock_row(&m, reader, f.file, 7, keys, 2, BS_S, &told));
+  DONE(bs_lock_path(&m, a, f.file, BS_X, &told));
+  DONE(bs_lock_path(&m, a, f.index, BS_X, &told));
+  WANT(bs_drop(&m, a, f.index, &told).status == BS_FILE_IN_USE);
+  WANT(bs_lock_path(&m, a, other, BS_X, &told).status == BS_WAITING);
+  DONE(bs_commit_rows(&m, reader, &told));
+  WANT(told.count == 1 && is_told(0, a, BS_TOLD_GRANTED));
+  DONE(bs_drop(&m, a, f.index, &told));
+  WANT(same_node(bs_index(&m, f.file, 0).node, other));
+  DONE(bs_end(&m));
+}
+
 static void questions(void) {
   bs_manager m = BS_NO_MANAGER_HERE;
   bs_node root = begin_manager(&m, BS_AT_BLOCK);
@@ -1568,6 +1589,7 @@ int main(void) {
   TELL(a_node_is_dropped);
   TELL(an_index_is_made_again);
   TELL(a_file_of_rows_is_dropped);
+  TELL(a_reader_by_another_index);
   TELL(questions);
   TELL(stale_names);
   TELL(slots_that_are_none);

@@ -14,8 +14,9 @@ use Rattle.gl_catalog.specs.declared.manager.paths.Reached.{Reached}
 use Rattle.gl_catalog.specs.Manager.{ManagerView, state_of}
 use Rattle.gl_catalog.specs.Paths.{Ask, lock_of}
 use Rattle.gl_steps.specs.Promises.{NobodyWaits}
-use Rattle.gl_registry.specs.Rows.{RegistryView}
-use Rattle.gl_registry.specs.Serving.{Applies, LocksWay, ServesBy, touches_rows}
+use Rattle.gl_registry.specs.Rows.{RegistryView, RowsView}
+use Rattle.gl_registry.specs.Serving.{Applies, LeavesRows, LocksWay, ServesBy, dropped_by, touches_rows}
+use Rattle.gl_registry.proofs.Dropped.{unaccepted_leaves}
 use Rattle.gl_wakes.specs.Boxes.{Delivers, Slot, cleared, emptied}
 use Rattle.gl_steps.specs.Served.{accepts, leaves_waiting}
 use Rattle.gl_window.specs.Strip.{Strip}
@@ -41,7 +42,7 @@ some_is a b e = cc e
 pub record Made (v : RegistryView) (c : Command) (a : Answer) (told : Told) (v' : RegistryView) : Type 0 where
   pub untouched : touches_rows v c ≡ false
   pub applies : Applies v.manager c a told v'.manager
-  pub rows : v'.rows ≡ v.rows
+  pub rows : LeavesRows (dropped_by c a) v.rows v'.rows
 
 pub made : (v v' : RegistryView) (c : Command) (a : Answer) (told : Told) → ServesBy (touches_rows v c) v c (Some a) told v' → Made v c a told v'
 made v v' c a told = by (touches_rows v c) refl
@@ -51,7 +52,7 @@ made v v' c a told = by (touches_rows v c) refl
     by false is h = record {
       untouched = is;
       applies = subst (λ (x : Answer). Applies v.manager c x told v'.manager) (sym (some_is a h.0 h.1)) h.2;
-      rows = h.3;
+      rows = subst (λ (x : Answer). LeavesRows (dropped_by c x) v.rows v'.rows) (sym (some_is a h.0 h.1)) h.3;
     }
 
 -- so it is for C
@@ -72,12 +73,12 @@ same_view g v same rows = λ i. record g { manager = same i; rows = rows i }
 
 -- a command that is not accepted
 pub serves_not : (g : GuardedView) (c : Command) (a : Answer) (told : Told) (v : RegistryView) → Applies g.manager c a told v.manager → accepts c a ≡ false
-    → told ≡ [] → v.manager ≡ g.manager → v.rows ≡ g.rows → IsQuiet g.manager g.shown g.waited
+    → told ≡ [] → v.manager ≡ g.manager → LeavesRows (dropped_by c a) g.rows v.rows → IsQuiet g.manager g.shown g.waited
     → Serves g c a told (record g { manager = v.manager; rows = v.rows })
 serves_not g c a told v applies not_so none same rows quiet = record {
   applies = applies;
   boxes = (g.boxes, delivers_none told g.boxes none, sym (cleared_not c a g.boxes not_so));
-  not_accepted = λ _. (same_view g v same rows, none);
+  not_accepted = λ _. (same_view g v same (unaccepted_leaves c a g.rows v.rows not_so rows), none);
   wakes = λ so. absurd (true≢false (sym so ∙ not_so));
   shown = shows_same (g.waited || leaves_waiting a) (board_of (state_of v.manager)) g.shown;
   quiet = subst (λ (x : ManagerView). IsQuiet x g.shown g.waited) (sym same) quiet;
@@ -86,7 +87,7 @@ serves_not g c a told v applies not_so none same rows quiet = record {
 
 -- an accepted command
 pub serves_yes : (g after : GuardedView) (c : Command) (a : Answer) (told : Told) (v : RegistryView) (boxes : List Slot) (ended : Slots)
-    → Applies g.manager c a told v.manager → accepts c a ≡ true → v.rows ≡ g.rows
+    → Applies g.manager c a told v.manager → accepts c a ≡ true → LeavesRows (dropped_by c a) g.rows v.rows
     → ((mid : List Slot) × Delivers g.boxes told mid × (boxes ≡ cleared c a mid))
     → (after.manager ≡ v.manager) × (after.boxes ≡ boxes) × (after.ended ≡ ended) × (after.rows ≡ v.rows)
     → Wakes c g.manager told v.manager ended
@@ -100,7 +101,7 @@ serves_yes g after c a told v boxes ended applies so rows delivered kept wakes s
       (subst (λ (x : ManagerView). Wakes c g.manager told x ended) (sym kept.0) wakes);
   shown = subst (λ (x : ManagerView). ShowsOn (g.waited || leaves_waiting a) (board_of (state_of x)) g.shown after.shown) (sym kept.0) shown;
   quiet = quiet;
-  rows = kept.3 ∙ rows;
+  rows = subst (λ (x : RowsView). LeavesRows (dropped_by c a) g.rows x) (sym kept.3) rows;
 }
 
 -- a path of which nothing was accepted

@@ -11,7 +11,7 @@ use Rattle.gl_steps.specs.declared.command.Answer.{Answer}
 use Rattle.gl_steps.specs.declared.command.Command.{Command}
 use Rattle.gl_catalog.specs.Manager.{ManagerView, state_of}
 use Rattle.gl_steps.specs.Promises.{NobodyWaits}
-use Rattle.gl_registry.specs.Serving.{Applies, touches_rows}
+use Rattle.gl_registry.specs.Serving.{Applies, LeavesRows, dropped_by, touches_rows}
 use Rattle.gl_window.specs.Boards.{EndsIdle}
 use Rattle.gl_wakes.specs.Boxes.{Delivers, Slot, cleared}
 use Rattle.gl_steps.specs.Served.{accepts, leaves_waiting}
@@ -46,7 +46,8 @@ pub record Wakes (c : Command) (m : ManagerView) (told : Told) (m' : ManagerView
   pub slots : (u : ℕ) → u < most_slots → has_slot ended u ≡ (names_slot c u || list_any (λ x. x.0.slot == u) told)
 
 -- a command is carried out; its notices stand in their boxes, but that an accepted lock empties its own slot's; whose wait it ended is known;
--- watchers are shown the board behind it, whole, or nothing; one that is not accepted changes nothing; no row gets or loses its node
+-- watchers are shown the board behind it, whole, or nothing; one that is not accepted changes nothing; no row gets or loses its node, and of the files
+-- of rows one that is dropped is none any more
 pub record Serves (g : GuardedView) (c : Command) (a : Answer) (told : Told) (g' : GuardedView) : Type 0 where
   pub applies : Applies g.manager c a told g'.manager
   pub boxes : (mid : List Slot) × Delivers g.boxes told mid × (g'.boxes ≡ cleared c a mid)
@@ -54,7 +55,7 @@ pub record Serves (g : GuardedView) (c : Command) (a : Answer) (told : Told) (g'
   pub wakes : accepts c a ≡ true → Wakes c g.manager told g'.manager g'.ended
   pub shown : ShowsOn (g.waited || leaves_waiting a) (board_of (state_of g'.manager)) g.shown g'.shown
   pub quiet : g'.waited ≡ false → NobodyWaits (state_of g'.manager) × ShowsNobodyLast g'.shown
-  pub rows : g'.rows ≡ g.rows
+  pub rows : LeavesRows (dropped_by c a) g.rows g'.rows
 
 -- one that would make, take away or change a record of a file of rows is not made: nobody is told, and nothing changes; any other is carried out
 abbrev pub ServesUnless : Bool → GuardedView → Command → Option Answer → Told → GuardedView → Type 0

@@ -13,6 +13,7 @@ use Rattle.gl_catalog.specs.Manager.{state_of}
 use Rattle.gl_steps.proofs.Detection.{steps_keep_detect}
 use Rattle.gl_registry.specs.Rows.{RegistryView}
 use Rattle.gl_registry.specs.Serving.{touches_rows}
+use Rattle.gl_registry.proofs.Dropped.{unaccepted_leaves}
 use Rattle.gl_wakes.specs.Boxes.{Delivers, Slot, emptied}
 use Rattle.gl_steps.specs.Served.{accepts}
 use Rattle.gl_wakes.specs.Notices.{RisingTo}
@@ -48,7 +49,8 @@ same c =
 pub invariant_of-self-then-not-is_accepted : goal.invariant_of-self-then-not-is_accepted
 invariant_of-self-then-not-is_accepted c =
     subst (λ (v : RegistryView). IsSound (record c.self.inside { registry = v }))
-    (same_registry c.serve.new.self c.self.inside.registry (same c) (made_not c).rows) c.self.invariant
+    (same_registry c.serve.new.self c.self.inside.registry (same c)
+    (unaccepted_leaves _ _ c.self.inside.registry.rows c.serve.new.self.rows (unaccepted c) (made_not c).rows)) c.self.invariant
 
 pub returns-then-not-is_accepted : goal.returns-then-not-is_accepted
 returns-then-not-is_accepted c =
