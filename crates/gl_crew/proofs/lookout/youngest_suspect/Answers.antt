@@ -1,4 +1,4 @@
-use Rattle.std.proofs.Common.{rules, refl, sym, ◌≡◌, ◌∙◌, ℕ, true, false}
+use Rattle.std.proofs.Common.{refl, sym, ◌≡◌, ◌∙◌, true, false}
 use Rattle.gl_slots.specs.Slots.{has_bit, has_slot}
 use Rattle.gl_waits.specs.Boards.{board_edge}
 use Rattle.gl_waits.specs.Waits.{IsOnCycle}

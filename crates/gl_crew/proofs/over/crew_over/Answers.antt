@@ -1,4 +1,4 @@
-use Rattle.std.proofs.Common.{refl, ap, sym, subst, ◌≡◌, ◌∙◌, ◌*◌, ◌+◌, vec_len}
+use Rattle.std.proofs.Common.{refl, ap, subst, ◌≡◌, ◌∙◌, ◌*◌, ◌+◌, vec_len}
 use Rattle.std.proofs.lemmas.Result.{IfOk-weaker}
 use Rattle.gl_crew.specs.Crews.{IsCountOf, IsSumOf, shares_of}
 use Rattle.gl_crew.proofs.Counts.{same_sessions, sessions_count}
