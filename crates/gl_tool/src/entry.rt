@@ -32,9 +32,10 @@ pub enum ToolFault {
 
 /// Does what the words after the program's name ask for, with deadlocks found as `--detect` says, which
 /// take whom `--victims` says: runs the script that `reader` gives, with listings where `--listings` is
-/// among the words, and with lines that change the schema where `--schema` is; or has a crew of sessions do its rounds, and writes how many commands they had
-/// accepted. Answers the exit status: 0 at the end, 1 after a fault, 2 for words that ask for nothing
-/// that the program does; after anything but 0 one line that says why was given to `faults`.
+/// among the words, and with lines that change the schema where `--schema` is; or has a crew of sessions
+/// do its rounds, and writes how many commands they had accepted. Answers the exit status: 0 at the end, 1
+/// after a fault, 2 for words that ask for nothing that the program does; after anything but 0 one line
+/// that says why was given to `faults`.
 pub fn program<H: Threads + Wait + Sync, S: AsStr, R: Read, W: Write, E: Write>(
     rt: &H,
     alloc: Global,

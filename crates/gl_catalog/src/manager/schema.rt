@@ -80,7 +80,7 @@ impl Manager {
         };
         if !self.may_drop(t, n) {
             Err(Refusal::NeedExclusive)
-        } else if self.table.is_in_use(n) {
+        } else if self.table.graph().is_in_use(n) {
             Err(in_use)
         } else {
             Ok(())

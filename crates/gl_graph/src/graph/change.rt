@@ -98,8 +98,8 @@ impl Graph {
         count_down(&mut self.nodes, parents.as_slice());
     }
 
-    /// Keeps for ever that rows of the file were adopted: an index of it is made by `add_index_again`
-    /// alone from then on. It takes no memory.
+    /// Keeps for ever that rows of the file were adopted: `add_index` refuses an index of it from then
+    /// on. It takes no memory.
     pub fn mark_adopted(&mut self, file: NodeId)
         requires { is_file_shape (shape_of (graph_of self.old) file) ≡ true }
         ensures marked { graph_of self.new ≡ marked (graph_of self.old) file }

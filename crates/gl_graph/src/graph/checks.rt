@@ -11,13 +11,10 @@ ghost use Rattle.gl_graph.specs.Refusals.{
   bad_index_place,
   bad_parents,
   first_refusal,
-  has_records,
   index_refusal,
-  index_refusal_where,
   is_rising,
   parents_refusal,
   record_refusal,
-  reindex_refusal,
   some_no_node,
   too_many_nodes,
   verdict,
@@ -168,48 +165,14 @@ impl Graph {
     ) -> Result<(), Refusal>
         ensures { result ≡ verdict (index_refusal (graph_of self.now) parents.now file bounds.now) }
     {
-        self.check_index_where(true, parents, file, bounds)
-    }
-
-    /// The tests for an index of a file of which rows may have been adopted.
-    pub(super) fn check_index_again(
-        &self,
-        parents: &[NodeId],
-        file: NodeId,
-        bounds: &[u64],
-    ) -> Result<(), Refusal>
-        ensures { result ≡ verdict (reindex_refusal (graph_of self.now) parents.now file bounds.now) }
-    {
-        self.check_index_where(false, parents, file, bounds)
-    }
-
-    /// The tests for an index of a file, which may also say that the file is in use where rows of it
-    /// were adopted.
-    fn check_index_where(
-        &self,
-        adopted_in_use: bool,
-        parents: &[NodeId],
-        file: NodeId,
-        bounds: &[u64],
-    ) -> Result<(), Refusal>
-        ensures { result ≡ verdict (index_refusal_where (graph_of self.now)
-            (has_records (graph_of self.now) file || adopted_in_use && is_adopted (shape_of (graph_of self.now) file)) parents.now file bounds.now) }
-    {
         if self.worn() {
-            Err(Refusal::WornOut)
-        } else if !self.all_live(parents) || !self.lives(file) {
-            Err(Refusal::NoSuchNode)
-        } else if self.is_bad_index_place(parents, file) {
-            Err(Refusal::BadParents)
-        } else if self.has_records(file) || adopted_in_use && self.is_adopted(file) {
-            Err(Refusal::FileInUse)
-        } else if self.are_bad_bounds(bounds) {
-            Err(Refusal::BadKeys)
-        } else if self.too_many(bounds.len() + 2) {
-            Err(Refusal::TooManyNodes)
-        } else {
-            Ok(())
+            return Err(Refusal::WornOut);
         }
+        self.check_index_place(parents, file)?;
+        if self.has_records(file) || self.is_adopted(file) {
+            return Err(Refusal::FileInUse);
+        }
+        self.check_index_bounds(bounds)
     }
 
     /// Whether these cannot be the bounds of an index.

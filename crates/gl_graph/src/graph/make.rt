@@ -121,26 +121,8 @@ impl Graph {
         self.add_index_unrefused(parents, file, bounds)
     }
 
-    /// As `add_index`, also where rows of the file were adopted, but none of its records stands. The
-    /// file stays one of which rows were adopted.
-    ///
-    /// Refused as `add_index` is, with `FileInUse` where the file has records.
-    pub fn add_index_again(
-        &mut self,
-        parents: &[NodeId],
-        file: NodeId,
-        bounds: &[u64],
-    ) -> Result<NodeId, Refusal>
-        ensures made { IfOk result (λ n. IsIndexBorn (graph_of self.old) (graph_of self.new) n parents.now file bounds.now) }
-        ensures refuses { Refuses (reindex_refusal (graph_of self.old) parents.now file bounds.now) result }
-        ensures err { OnErr result (self.new ≡ self.old) }
-    {
-        self.check_index_again(parents, file, bounds)?;
-        self.add_index_unrefused(parents, file, bounds)
-    }
-
-    /// As `add_index_again`, where nothing stands against the index but memory. The only refusal is
-    /// `NoMemory`.
+    /// As `add_index`, also where rows of the file were adopted, where nothing stands against the index
+    /// but memory. The file stays one of which rows were adopted. The only refusal is `NoMemory`.
     pub fn add_index_unrefused(
         &mut self,
         parents: &[NodeId],
@@ -234,8 +216,8 @@ impl Graph {
         Ok(NodeId { key, birth })
     }
 
-    /// As `add_record`, and the file is one of which rows were adopted from then on, so that an index
-    /// of it is made by `add_index_again` alone. Refused as `add_record` is.
+    /// As `add_record`, and the file is one of which rows were adopted from then on, so that `add_index`
+    /// refuses an index of it. Refused as `add_record` is.
     pub fn adopt_record(&mut self, file: NodeId, keys: &[u64]) -> Result<NodeId, Refusal>
         ensures made { IfOk result (λ n. IsAdopted (graph_of self.old) (graph_of self.new) n file keys.now) }
         ensures refuses { Refuses (record_refusal (graph_of self.old) file keys.now) result }

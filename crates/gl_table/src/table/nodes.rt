@@ -104,14 +104,6 @@ impl Table {
         Ok(index)
     }
 
-    /// Whether something stands against a drop of a node: of an inner node a child, of a file a record or an
-    /// index, of an index a record of its file; `false` of all else.
-    pub fn is_in_use(&self, n: NodeId) -> bool
-        ensures { result ≡ is_in_use (state_of self.now).graph n }
-    {
-        self.locks.graph.is_in_use(n)
-    }
-
     /// Takes away an inner node, a file or an index with its intervals, below which nothing stands, and which
     /// an active transaction holds in X; with it go all locks on it. Those who wait for it are told that it is
     /// gone, in an empty list. It takes no memory.
