@@ -7,4 +7,4 @@
 # way of detection; a manager alone then has to answer all of them alike. Ends with the status of the tests,
 # which it builds, and so proves, first.
 export CROWD_COMMANDS="${1:-2000}"
-cd "$(dirname "$0")/../crates/test_sessions" && exec rt test
+cd "$(dirname "$0")/../crates/test_threads" && exec rt test

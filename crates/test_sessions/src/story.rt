@@ -1,10 +1,6 @@
 //! The stories that are told on a stage.
 
-use crate::crowd::Crowd;
 use crate::lists::Scene;
-use crate::looks::Watched;
-use crate::races::{SettledLate, Upgrade};
-use crate::ring::Ring;
 use crate::table::Alike;
 use crate::tellings::Looks;
 use crate::waits::Staged;
@@ -23,12 +19,7 @@ pub enum Story {
     Lists(Scene),
     Looks(Looks),
     Staged(Staged),
-    Upgrade(Upgrade),
-    SettledLate(SettledLate),
-    Watched(Watched),
-    Ring(Ring),
     Waking(Waking),
-    Crowd(Crowd),
 }
 
 impl Story {
@@ -46,12 +37,7 @@ impl Story {
             Story::Lists(story) => story.play(rt, alloc, table, shares),
             Story::Looks(story) => story.play(rt, table, shares, watchers),
             Story::Staged(story) => story.play(rt, table, shares, watchers),
-            Story::Upgrade(story) => story.play(rt, table, shares, watchers),
-            Story::SettledLate(story) => story.play(rt, table, shares, watchers),
-            Story::Watched(story) => story.play(rt, alloc, table, shares, watchers),
-            Story::Ring(story) => story.play(rt, alloc, table, shares, watchers),
             Story::Waking(story) => story.play(rt, alloc, table, shares),
-            Story::Crowd(story) => story.play(rt, alloc, table, shares, watchers),
         }
     }
 }

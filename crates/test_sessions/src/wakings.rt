@@ -1,14 +1,15 @@
 //! Who is woken: whoever sleeps for a transaction whose wait has ended, by whichever command of a list,
 //! however many they are.
 
-use crate::stage::{add_root, begin_with, enact, new_manager};
+use crate::stage::{new_manager, play_on};
 use crate::story::Story;
 use crate::wanted::{allowed, same};
 use gl_catalog::{Answer, Command, Manager};
 use gl_modes::Mode::{S, X};
 use gl_modes::{Mode, NodeId};
-use gl_shared::{Grant, Naming, Session, Share, Shared};
+use gl_shared::{Grant, Naming, Session, Share, Shared, Telling};
 use gl_table::{Detect, TxnId};
+use gl_waits::SLOTS;
 use std::alloc::{AllocError, Global};
 use std::process::Abort;
 use std::rt::Clock;
@@ -207,12 +208,43 @@ impl Waking {
     }
 }
 
-/// A new transaction that waits for the root.
-fn begin_waiting<R: Abort>(rt: &R, manager: &mut Manager, node: NodeId, mode: Mode) -> TxnId {
+/// A new transaction that asks for the root, and is answered so.
+fn begin_asking<R: Abort>(
+    rt: &R,
+    manager: &mut Manager,
+    node: NodeId,
+    mode: Mode,
+    wanted: Answer,
+) -> TxnId {
     let txn = allowed(rt, manager.begin());
     let answer = manager.apply(Command::Lock { txn, node, mode }).answer;
-    same(rt, answer, Answer::Waiting);
+    same(rt, answer, wanted);
     txn
+}
+
+/// A new transaction that waits for the root.
+fn begin_waiting<R: Abort>(rt: &R, manager: &mut Manager, node: NodeId, mode: Mode) -> TxnId {
+    begin_asking(rt, manager, node, mode, Answer::Waiting)
+}
+
+/// Plays on a table over this manager. Nobody lives then.
+fn wake_all<R: Threads + Wait + Abort + Clock + Sync>(
+    rt: &R,
+    alloc: Global,
+    manager: Manager,
+    story: Waking,
+) {
+    let closed = play_on(
+        rt,
+        alloc,
+        manager,
+        Telling::Always,
+        4,
+        1,
+        &Story::Waking(story),
+    );
+    let board = closed.manager.board();
+    assert!(rt; board.ages == [0; SLOTS] && board.rows == [0; SLOTS]);
 }
 
 /// Three wait for S on a root, and are granted together.
@@ -223,10 +255,10 @@ fn wakes_three<R: Threads + Wait + Abort + Clock + Sync>(
     end: End,
 ) {
     let mut manager = new_manager(rt, alloc, detect);
-    let root = add_root(rt, &mut manager);
+    let root = allowed(rt, manager.add_inner(&[]));
     let story = Waking {
         root,
-        holder: begin_with(rt, &mut manager, root, X),
+        holder: begin_asking(rt, &mut manager, root, X, Answer::Granted(X)),
         awaited: [
             begin_waiting(rt, &mut manager, root, S),
             begin_waiting(rt, &mut manager, root, S),
@@ -235,7 +267,7 @@ fn wakes_three<R: Threads + Wait + Abort + Clock + Sync>(
         mode: S,
         end,
     };
-    enact(rt, alloc, manager, 4, 1, &Story::Waking(story));
+    wake_all(rt, alloc, manager, story)
 }
 
 /// One waits for X on a root, and three sessions sleep for it.
@@ -245,8 +277,8 @@ fn wakes_three_for_one<R: Threads + Wait + Abort + Clock + Sync>(
     detect: Detect,
 ) {
     let mut manager = new_manager(rt, alloc, detect);
-    let root = add_root(rt, &mut manager);
-    let holder = begin_with(rt, &mut manager, root, X);
+    let root = allowed(rt, manager.add_inner(&[]));
+    let holder = begin_asking(rt, &mut manager, root, X, Answer::Granted(X));
     let story = Waking {
         root,
         holder,
@@ -254,7 +286,7 @@ fn wakes_three_for_one<R: Threads + Wait + Abort + Clock + Sync>(
         mode: X,
         end: End::Alone,
     };
-    enact(rt, alloc, manager, 4, 1, &Story::Waking(story));
+    wake_all(rt, alloc, manager, story)
 }
 
 #[test]
