@@ -1,5 +1,5 @@
 -- Inside the crate: what stands at the keys of nodes, in place or in a box.
-use Rattle.std.specs.Prelude.{◌≡◌, ℕ, ◌+◌, ◌==◌, false, true, cond, List, [], ◌∷◌, length, Option, Some, None, slice_index_or}
+use Rattle.std.specs.Prelude.{◌≡◌, ℕ, ◌+◌, ◌==◌, Bool, false, true, cond, List, [], ◌∷◌, length, Option, Some, None, slice_index_or}
 use Rattle.std.specs.Global.{Global}
 use Rattle.std.specs.declared.boxed.Box.{Box}
 use Rattle.std.specs.List.{All}
@@ -22,6 +22,11 @@ abbrev pub stands : Place → Option (ℕ × HeaderState)
 stands Free = None
 stands (Held t m b) = Some (b, held_by_one t m)
 stands (Shared x) = Some (x.value.birth, x.value.header)
+
+-- its header has a box
+abbrev pub is_boxed : Place → Bool
+is_boxed (Shared x) = true
+is_boxed p = false
 
 -- the node of this key with its header, ahead of others
 abbrev pub entered : ℕ → Option (ℕ × HeaderState) → Entries → Entries

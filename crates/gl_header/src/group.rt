@@ -116,12 +116,24 @@ impl Group {
         ensures group { IsGroup self.new }
         ensures held { held_by self.new ≡ with_mode (held_by self.old) slot mode }
     {
-        self.release(slot);
+        self.leave(slot);
         if mode == Mode::IS {
             self.intents.insert(slot);
         } else {
             self.mode = mode;
             self.holders.insert(slot);
+        }
+    }
+
+    /// Takes away what `slot` holds, if anything.
+    #[inline]
+    fn leave(&mut self, slot: Slot)
+        requires { IsGroup self.old }
+        ensures group { IsGroup self.new }
+        ensures held { held_by self.new ≡ with_mode (held_by self.old) slot NL }
+    {
+        if self.has(slot) {
+            self.release(slot); // Whoever asks first holds nothing.
         }
     }
 

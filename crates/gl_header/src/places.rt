@@ -26,13 +26,17 @@ ghost use Rattle.gl_header.specs.Places.{
   entries_in,
   header_in,
   header_of,
+  is_boxed,
   members_by,
   place_at,
   queue_by,
   seen_header,
   stands,
 };
-ghost use Rattle.gl_header.specs.declared.places.Place.TheVariants.{Free};
+ghost use Rattle.gl_header.specs.declared.places.Place.TheVariants.{Free, Shared as SharedPlace};
+ghost use Rattle.gl_header.specs.declared.places.Shared.{Shared as SharedBox};
+ghost use Rattle.std.specs.declared.boxed.Box.{Box};
+ghost use Rattle.std.specs.Global.{Global};
 
 use crate::changes::GrantList;
 use crate::header::{Asked, Header};
@@ -235,12 +239,15 @@ pub(crate) fn drop_grant_at(
     ensures birth { KeepsBirth place.old place.new }
     ensures spare { All IsIdle spare.new.items }
 {
-    match mem::replace(place, Place::Free) {
-        Place::Shared(mut here) => {
+    match place {
+        Place::Shared(here) => {
             here.header.drop_grant(slot, granted);
-            put_back(place, spare, here);
+            sweep(place, spare);
         }
-        _ => granted.clear(), // The slot held it alone.
+        _ => {
+            *place = Place::Free; // The slot held it alone.
+            granted.clear();
+        }
     }
 }
 
@@ -260,11 +267,13 @@ pub(crate) fn drop_wait_at(
     ensures birth { KeepsBirth place.old place.new }
     ensures spare { All IsIdle spare.new.items }
 {
-    let Place::Shared(mut here) = mem::replace(place, Place::Free) else {
-        unreachable!()
-    };
-    here.header.drop_wait(slot, granted);
-    put_back(place, spare, here);
+    match place {
+        Place::Shared(here) => {
+            here.header.drop_wait(slot, granted);
+            sweep(place, spare);
+        }
+        _ => unreachable!(),
+    }
 }
 
 /// Takes a wait away at a place where nobody at the front of what is left can be granted.
@@ -278,29 +287,46 @@ pub(crate) fn dismiss_at(place: &mut Place, spare: &mut Vec<Box<Shared>>, slot: 
     ensures birth { KeepsBirth place.old place.new }
     ensures spare { All IsIdle spare.new.items }
 {
-    let Place::Shared(mut here) = mem::replace(place, Place::Free) else {
-        unreachable!()
-    };
-    here.header.dismiss(slot);
-    put_back(place, spare, here);
+    match place {
+        Place::Shared(here) => {
+            here.header.dismiss(slot);
+            sweep(place, spare);
+        }
+        _ => unreachable!(),
+    }
 }
 
-/// Puts a box back into its place, or aside where nobody holds or waits any more: there it waits for
-/// another node where there is room for it, so that this takes no memory.
+/// Frees a place by whose box nobody holds or waits any more.
 #[inline]
-fn put_back(place: &mut Place, spare: &mut Vec<Box<Shared>>, here: Box<Shared>)
+fn sweep(place: &mut Place, spare: &mut Vec<Box<Shared>>)
     requires spare { All IsIdle spare.old.items }
-    requires empty { place.old ≡ Free }
-    ensures members { members_by place.new ≡ members_of here.value.header }
-    ensures queue { queue_by place.new ≡ here.value.header.queue }
+    requires boxed { is_boxed place.old ≡ true }
+    ensures members { members_by place.new ≡ members_by place.old }
+    ensures queue { queue_by place.new ≡ queue_by place.old }
     ensures place { IsPlace place.new }
-    ensures birth { IsOf here.value.birth place.new }
+    ensures birth { KeepsBirth place.old place.new }
     ensures spare { All IsIdle spare.new.items }
 {
+    let Place::Shared(here) = place else {
+        unreachable!()
+    };
     here.header.law();
-    if !here.header.is_empty() {
-        *place = Place::Shared(here);
-    } else if spare.len() < spare.capacity() {
-        spare.push_reserved(here);
+    if here.header.is_empty() {
+        set_aside(place, spare);
+    }
+}
+
+/// Takes a box out of its place. It waits for another node where there is room for it, so that this
+/// takes no memory.
+fn set_aside(place: &mut Place, spare: &mut Vec<Box<Shared>>)
+    requires spare { All IsIdle spare.old.items }
+    requires idle { (x : Box SharedBox Global) → place.old ≡ SharedPlace x → IsIdle x }
+    ensures free { place.new ≡ Free }
+    ensures spare { All IsIdle spare.new.items }
+{
+    if let Place::Shared(here) = mem::replace(place, Place::Free) {
+        if spare.len() < spare.capacity() {
+            spare.push_reserved(here);
+        }
     }
 }

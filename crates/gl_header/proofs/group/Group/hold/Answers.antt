@@ -27,22 +27,22 @@ not-IS X h = refl
 
 pub returns-then-eq-clause-group : goal.returns-then-eq-clause-group
 returns-then-eq-clause-group c =
-    intent-group (held_by c.args.self.now) c.release.new.self c.args.slot c.release.ensures.group c.release.ensures.held c.requires.below
+    intent-group (held_by c.args.self.now) c.leave.new.self c.args.slot c.leave.ensures.group c.leave.ensures.held c.requires.below
     c.insert.new.self c.insert.ensures
 
 pub returns-then-eq-clause-held : goal.returns-then-eq-clause-held
 returns-then-eq-clause-held c =
-    intent-held (held_by c.args.self.now) c.release.new.self c.args.slot c.release.ensures.group c.release.ensures.held c.requires.below
+    intent-held (held_by c.args.self.now) c.leave.new.self c.args.slot c.leave.ensures.group c.leave.ensures.held c.requires.below
     c.insert.new.self c.insert.ensures
     ∙ ap (with_mode (held_by c.args.self.now) c.args.slot) (is-IS c.args.mode (sym c.eq.ensures ∙ c.if-eq.true))
 
 pub returns-else-eq-clause-group : goal.returns-else-eq-clause-group
 returns-else-eq-clause-group c =
-    main-group (held_by c.args.self.now) c.release.new.self c.args.slot c.release.ensures.group c.release.ensures.held c.requires.below c.args.mode
+    main-group (held_by c.args.self.now) c.leave.new.self c.args.slot c.leave.ensures.group c.leave.ensures.held c.requires.below c.args.mode
     c.insert-else-eq.new.self (not-IS c.args.mode (sym c.eq.ensures ∙ c.if-eq.false)) c.requires.lock c.insert-else-eq.ensures
 
 pub returns-else-eq-clause-held : goal.returns-else-eq-clause-held
 returns-else-eq-clause-held c =
-    main-held (held_by c.args.self.now) c.release.new.self c.args.slot c.release.ensures.group c.release.ensures.held c.requires.below c.args.mode
+    main-held (held_by c.args.self.now) c.leave.new.self c.args.slot c.leave.ensures.group c.leave.ensures.held c.requires.below c.args.mode
     c.insert-else-eq.new.self (not-IS c.args.mode (sym c.eq.ensures ∙ c.if-eq.false)) c.requires.lock c.requires.fits
     (within-group c.args.self.now c.requires.group) c.insert-else-eq.ensures

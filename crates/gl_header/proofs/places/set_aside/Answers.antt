@@ -1,0 +1,12 @@
+use Rattle.std.proofs.Common.{◌∙◌, sym}
+use Rattle.std.proofs.lemmas.List.Elements.{All-push, All-same}
+use Rattle.gl_header.specs.Places.{IsIdle}
+use Rattle.gl_header.proofs.places.set_aside.Goals as goal
+
+-- nobody uses the header of the box that waits
+
+pub returns-then-len-capacity-clause-spare : goal.returns-then-len-capacity-clause-spare
+returns-then-len-capacity-clause-spare c =
+    All-same IsIdle _ _
+    c.push_reserved.ensures.items
+    (All-push IsIdle _ _ c.requires.spare (c.requires.idle c.in-Shared.here (sym c.replace.ensures.value ∙ c.in-Shared.is)))

@@ -1,0 +1,16 @@
+use Rattle.std.proofs.Common.{◌∙◌, ap, subst, sym}
+use Rattle.gl_header.specs.Places.{members_by}
+use Rattle.gl_header.specs.State.{IsLawfulHeader, is_unused}
+use Rattle.gl_header.specs.declared.places.Shared.{Shared}
+use Rattle.gl_header.proofs.AtPlace.{idle-is}
+use Rattle.gl_header.proofs.places.sweep.Goals as goal
+
+-- a header that nobody uses has no members, as a free place has none
+
+pub returns-then-is_empty-clause-members : goal.returns-then-is_empty-clause-members
+returns-then-is_empty-clause-members c =
+    ap members_by c.set_aside.ensures.free
+    ∙ (sym (idle-is c.in-Shared.here.value.header
+    (subst (λ (x : Shared). IsLawfulHeader x.header) c.deref.ensures c.law.ensures.lawful)
+    (sym (ap (λ (x : Shared). is_unused x.header) c.deref-2.ensures) ∙ (sym c.is_empty.ensures ∙ c.if-is_empty.true))).0
+    ∙ sym (ap members_by c.in-Shared.is))
