@@ -88,8 +88,8 @@ pub use Rattle.gl_header.specs.Headers.{members_at, queue_of, with_members, with
 pub use Rattle.gl_model.specs.State.{age_in, age_of, blocks, choosing, condemned, empty_state, front_at, granted_at, HasNoCycle, intends_over, is_wait}
 pub use Rattle.gl_model.specs.State.{is_waiting_at, is_write, IsVictim, lives, members, no_parents, pumped, restatus, Settled, SettledWithin, slots, State}
 pub use Rattle.gl_model.specs.State.{status_in, status_of, Txn, waits_at, waits_for, with_grant, with_graph, with_txn, without_wait, woken}
-pub use Rattle.gl_listed.specs.Lists.{count_in, count_of, covered_in, entry_of, HasRoom, is_listed, loose_of, mode_in, mode_of, NoneMarkedFrom, unlisted}
-unfoldable pub use Rattle.gl_listed.specs.Apart.{IsApart}
+pub use Rattle.gl_lock_lists.specs.Lists.{count_in, count_of, covered_in, entry_of, HasRoom, is_listed, loose_of, mode_in, mode_of, NoneMarkedFrom, unlisted}
+unfoldable pub use Rattle.gl_lock_lists.specs.Apart.{IsApart}
 pub use Rattle.gl_table.specs.inside.Ledger.{Agrees, AreExact, AreNew, AreSound, CountsHeld, KeepsLocks, state_in, state_on}
 pub use Rattle.gl_table.specs.inside.Locks.{state_at}
 pub use Rattle.gl_table.specs.inside.Seating.{IsSeating}
@@ -100,8 +100,8 @@ pub use Rattle.gl_model.specs.declared.deadlock.Deadlock.{Deadlock}
 pub use Rattle.gl_model.specs.declared.deadlock.Stuck.{Stuck}
 pub use Rattle.gl_model.specs.declared.answers.Detect.{Detect}
 pub use Rattle.gl_model.specs.declared.answers.Detect.TheVariants.{AtBlock, ByWatcher}
-pub use Rattle.gl_listed.specs.declared.list.Entry.{Entry}
-pub use Rattle.gl_listed.specs.declared.list.LockList.{LockList}
+pub use Rattle.gl_lock_lists.specs.declared.list.Entry.{Entry}
+pub use Rattle.gl_lock_lists.specs.declared.list.LockList.{LockList}
 pub use Rattle.gl_model.specs.declared.answers.LockRow.{LockRow}
 pub use Rattle.gl_model.specs.declared.answers.Notice.{Notice}
 pub use Rattle.gl_table.specs.declared.seat.Seat.{Seat}

@@ -13,11 +13,11 @@ use Rattle.gl_waits.specs.declared.board.Board.{Board}
 use Rattle.gl_slots.specs.Slots.{bits_of}
 use Rattle.gl_model.specs.declared.deadlock.Deadlock.{Deadlock}
 use Rattle.gl_model.specs.declared.answers.Detect.{Detect}
-use Rattle.gl_listed.specs.declared.list.Entry.{Entry}
+use Rattle.gl_lock_lists.specs.declared.list.Entry.{Entry}
 use Rattle.gl_table.specs.declared.seat.Seat.{Seat}
 use Rattle.gl_model.specs.Calls.{held_children}
 use Rattle.gl_header.specs.Headers.{Entries, held_of, queue_of}
-use Rattle.gl_listed.specs.Lists.{mode_in}
+use Rattle.gl_lock_lists.specs.Lists.{mode_in}
 use Rattle.gl_model.specs.State.{is_waiting_at, State, members, Txn, age_of, empty_state, waits_for}
 use Rattle.gl_table.specs.inside.Seats.{txns_of}
 use Rattle.gl_model.specs.declared.answers.LockRow.{LockRow}

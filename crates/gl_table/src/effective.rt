@@ -6,10 +6,10 @@ ghost use Rattle.gl_modes.specs.Modes.{same_mode};
 ghost use Rattle.gl_graph.specs.Graph.{is_live, node_count};
 ghost use Rattle.gl_graph.specs.View.{graph_of};
 ghost use Rattle.gl_model.specs.Lawful.{eff_s, eff_x, effect_on};
-ghost use Rattle.gl_listed.specs.Lists.{mode_of};
+ghost use Rattle.gl_lock_lists.specs.Lists.{mode_of};
 
 use gl_graph::{Graph, add_missing};
-use gl_listed::LockList;
+use gl_lock_lists::LockList;
 use gl_model::Effect;
 use gl_modes::{Mode, NodeId, covers};
 use indexmap::IndexSet;

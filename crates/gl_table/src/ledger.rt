@@ -25,7 +25,7 @@ use crate::seat::Seat;
 use crate::seats::Seats;
 use gl_graph::Graph;
 use gl_header::{GrantList, Headers};
-use gl_listed::{Entry, LockList};
+use gl_lock_lists::{Entry, LockList};
 use gl_model::{Effect, LockRow, Status, Told};
 use gl_modes::{Mode, NodeId};
 use gl_slots::Slot;

@@ -6,10 +6,10 @@ ghost use Rattle.gl_modes.specs.declared.mode.Mode.TheVariants.{IS};
 ghost use Rattle.gl_modes.specs.Modes.{is_at_least};
 ghost use Rattle.gl_graph.specs.Refusals.{verdict};
 ghost use Rattle.gl_model.specs.State.{no_parents};
-ghost use Rattle.gl_listed.specs.Lists.{mode_of};
+ghost use Rattle.gl_lock_lists.specs.Lists.{mode_of};
 ghost use Rattle.gl_model.specs.Calls.{first_not_ix, first_of_all, rule_refusal};
 
-use gl_listed::LockList;
+use gl_lock_lists::LockList;
 use gl_modes::{Mode, NodeId, Refusal, covers};
 
 /// Whether the rule of the graph lets this transaction have this mode on a node with these parents:

@@ -29,7 +29,7 @@ use Rattle.gl_model.proofs.law.Records.{forgotten-lawful, placed-lawful, record-
 use Rattle.gl_modes.specs.Nodes.{same_node}
 use Rattle.gl_modes.proofs.NodeLemmas.{same_node-equal}
 use Rattle.gl_model.proofs.law.Tests.{shed-lawful}
-use Rattle.gl_listed.proofs.Children.{one_found}
+use Rattle.gl_lock_lists.proofs.Children.{one_found}
 use Rattle.gl_model.proofs.queues.Fronts.{granted_waits}
 use Rattle.gl_model.proofs.queues.Waiters.{grants_other}
 use Rattle.gl_model.proofs.telling.Fronts.{in_no_queue}

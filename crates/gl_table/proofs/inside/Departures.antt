@@ -10,7 +10,7 @@ use Rattle.gl_table.proofs.Words.{without_waiter, woken, ℕ}
 use Rattle.gl_model.specs.declared.answers.Notice.TheVariants as notice
 use Rattle.gl_table.proofs.inside.Released.{agrees_unlocked, counts_unlocked, unlocked_own}
 use Rattle.gl_model.proofs.law.Keeps.{waiting_is}
-use Rattle.gl_listed.proofs.Children.{nl_is}
+use Rattle.gl_lock_lists.proofs.Children.{nl_is}
 use Rattle.gl_model.proofs.queues.Counts.{children_down, fewer}
 use Rattle.gl_model.proofs.queues.Edits.{without_none}
 use Rattle.gl_model.proofs.queues.Fronts.{granted_waits, out_of_own, pumped-pumped, stripped_after}

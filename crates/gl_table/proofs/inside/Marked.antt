@@ -10,8 +10,8 @@ use Rattle.gl_table.specs.declared.ledger.Ledger.{Ledger}
 use Rattle.gl_table.proofs.inside.Departures.{fewer_held, held_after, holds_after, IsLeaving, leaving_one, left_by, taken_from}
 use Rattle.gl_table.proofs.inside.Slots.{agrees-set, by_list-at, counts-set, own_list}
 use Rattle.gl_model.proofs.law.Keeps.{txn_there}
-use Rattle.gl_listed.proofs.Children.{nl_is}
-use Rattle.gl_listed.proofs.Children.{one_found}
+use Rattle.gl_lock_lists.proofs.Children.{nl_is}
+use Rattle.gl_lock_lists.proofs.Children.{one_found}
 use Rattle.gl_model.proofs.telling.Fronts.{in_no_queue}
 use Rattle.gl_model.proofs.queues.Waiters.{if-false, if-true}
 

@@ -8,7 +8,7 @@ use Rattle.gl_graph.specs.View.{View, graph_of}
 use Rattle.gl_header.specs.Header.{holds, is_among_waiters}
 use Rattle.gl_waits.specs.declared.victims.Victims.TheVariants.{Youngest}
 use Rattle.gl_model.specs.declared.answers.Detect.TheVariants.{ByWatcher}
-use Rattle.gl_listed.specs.declared.list.LockList.{LockList}
+use Rattle.gl_lock_lists.specs.declared.list.LockList.{LockList}
 use Rattle.gl_table.specs.declared.ledger.Ledger.{Ledger}
 use Rattle.gl_model.specs.Calls.{held_children}
 use Rattle.gl_header.specs.Headers.{held_of, queue_of}

@@ -14,10 +14,10 @@ use Rattle.gl_header.specs.Header.{Waiter, holds, is_among_waiters}
 use Rattle.gl_header.specs.Sound.{is_distinct}
 use Rattle.gl_model.specs.declared.answers.Notice.{Notice}
 use Rattle.gl_model.specs.Tellings.{IsOnWay, Told, told_to, IsBySlot, IsTold, mode_given, notices_in}
-use Rattle.gl_listed.specs.declared.list.LockList.{LockList}
+use Rattle.gl_lock_lists.specs.declared.list.LockList.{LockList}
 use Rattle.gl_table.specs.declared.seat.Seat.{Seat}
 use Rattle.gl_model.specs.declared.txn.Status.TheVariants.{Active}
-use Rattle.gl_listed.specs.Lists.{count_of, is_listed, mode_of, unlisted}
+use Rattle.gl_lock_lists.specs.Lists.{count_of, is_listed, mode_of, unlisted}
 use Rattle.gl_table.specs.inside.Seats.{SeatList, txns_of}
 use Rattle.gl_model.specs.Calls.{held_children, is_covered}
 use Rattle.gl_model.specs.State.{State, members, restatus}

@@ -18,7 +18,7 @@ use crate::ledger::Ledger;
 use crate::seat::Seat;
 use gl_graph::Graph;
 use gl_header::Asked;
-use gl_listed::LockList;
+use gl_lock_lists::LockList;
 use gl_model::{Locked, Status};
 use gl_modes::{Mode, NodeId, Refusal, sup};
 use gl_slots::Slot;

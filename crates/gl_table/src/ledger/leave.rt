@@ -2,7 +2,7 @@
 
 ghost use Rattle.std.specs.Prelude.{ℕ, ◌<◌, ◌==◌, ◌≡◌, None, Some, false, length};
 ghost use Rattle.gl_header.specs.Header.{is_among_waiters};
-ghost use Rattle.gl_listed.specs.Lists.{mode_of};
+ghost use Rattle.gl_lock_lists.specs.Lists.{mode_of};
 ghost use Rattle.gl_model.specs.Calls.{released, shed};
 ghost use Rattle.gl_model.specs.Lawful.{IsOrderly};
 ghost use Rattle.gl_model.specs.State.{is_wait, status_of, with_txn};
@@ -18,7 +18,7 @@ use crate::seats::Seats;
 use crate::told::tell;
 use gl_graph::Graph;
 use gl_header::GrantList;
-use gl_listed::LockList;
+use gl_lock_lists::LockList;
 use gl_model::{Notice, Status, Told, TxnId};
 use gl_modes::NodeId;
 use gl_slots::Slot;

@@ -16,7 +16,7 @@ ghost use Rattle.gl_header.specs.Headers.{held_of, members_at, queue_of, with_wa
 ghost use Rattle.gl_model.specs.State.{intends_over, members};
 ghost use Rattle.indexmap.specs.IndexMap.{spare};
 ghost use Rattle.gl_modes.specs.Modes.{same_mode};
-ghost use Rattle.gl_listed.specs.Lists.{count_of, is_listed, mode_of, unlisted};
+ghost use Rattle.gl_lock_lists.specs.Lists.{count_of, is_listed, mode_of, unlisted};
 ghost use Rattle.gl_table.specs.inside.Ledger.{Agrees, AreSound, state_in};
 ghost use Rattle.gl_model.specs.Lawful.{IsOrderly};
 ghost use Rattle.gl_table.specs.inside.Slots.{AreKept, CanTell, WaitsEnd, as_left, books_of, counted_by, room_by, unlisted_by};
@@ -27,7 +27,7 @@ use crate::ledger::leave::end_wait;
 use crate::rule::check_rule;
 use arrayvec::ArrayVec;
 use gl_graph::Graph;
-use gl_listed::LockList;
+use gl_lock_lists::LockList;
 use gl_model::{Notice, Told};
 use gl_modes::{Mode, NodeId};
 use gl_slots::{Slot, Slots};

@@ -27,7 +27,7 @@ use crate::ledger::leave::{end_wait, strike};
 use crate::seats::Seats;
 use gl_graph::Graph;
 use gl_header::Prepared;
-use gl_listed::LockList;
+use gl_lock_lists::LockList;
 use gl_model::{Notice, Told};
 use gl_modes::{Mode, NodeId, Refusal};
 use gl_slots::Slot;

@@ -6,7 +6,7 @@ ghost use Rattle.gl_table.specs.inside.Slots.{CanEnd, CanHold, IsWritten, Wakes,
 
 use crate::seats::Seats;
 use crate::told::tell;
-use gl_listed::LockList;
+use gl_lock_lists::LockList;
 use gl_model::{Notice, Status, Told, TxnId};
 use gl_modes::{Mode, NodeId};
 use gl_slots::Slot;

@@ -8,7 +8,7 @@ ghost use Rattle.gl_table.specs.inside.Locks.{state_at};
 ghost use Rattle.gl_table.specs.inside.Slots.{CanTell, TellsOthers};
 
 use crate::locks::Locks;
-use gl_listed::LockList;
+use gl_lock_lists::LockList;
 use gl_model::Told;
 use gl_modes::NodeId;
 use gl_slots::Slot;

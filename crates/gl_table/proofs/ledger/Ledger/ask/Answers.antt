@@ -9,7 +9,7 @@ use Rattle.gl_table.proofs.inside.Asks.{parents-room, roomy_may, roomy_ready, ro
 use Rattle.gl_table.proofs.inside.Enqueues.{has_wait-set, HasWait, is_enqueued, IsEnqueued}
 use Rattle.gl_table.proofs.inside.Asks.{its_key}
 use Rattle.gl_table.proofs.inside.Slots.{also_held, also_listed, counts-entered, has_node-set, none_more}
-use Rattle.gl_listed.proofs.Children.{nl_is}
+use Rattle.gl_lock_lists.proofs.Children.{nl_is}
 use Rattle.gl_table.proofs.ledger.Ledger.ask.Goals.{After-make_room_to_ask, After-count_up, After-set_mode, After-set_status, then-not-is_member}
 use Rattle.gl_table.proofs.ledger.Ledger.ask.Goals.{else-not-is_member}
 use Rattle.gl_table.proofs.ledger.Ledger.ask.Goals as goal

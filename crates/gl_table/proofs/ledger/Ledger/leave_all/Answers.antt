@@ -3,7 +3,7 @@ use Rattle.gl_table.proofs.Words.{is_wait, length, length-set, LockList, members
 use Rattle.gl_table.proofs.Words.{status_in, subst, sym, true, ℕ}
 use Rattle.gl_table.proofs.inside.Departures.{holds_after, IsLeaving, leaving_begins, leaving_fewer, leaving_one, leaving_out, left_released}
 use Rattle.gl_table.proofs.inside.Slots.{agrees-set, by_list-at, counts-set, popped-listed}
-use Rattle.gl_listed.proofs.Children.{nl_is}
+use Rattle.gl_lock_lists.proofs.Children.{nl_is}
 use Rattle.gl_model.proofs.telling.Fronts.{in_no_queue, stands_other, waits_there}
 use Rattle.gl_table.proofs.ledger.Ledger.leave_all.Goals.{After-index_mut}
 use Rattle.gl_table.proofs.ledger.Ledger.leave_all.Goals as goal

@@ -1,0 +1,67 @@
+use Rattle.gl_lock_lists.specs.Apart.{IsApart}
+use Rattle.gl_lock_lists.specs.Lists.{mode_in}
+use Rattle.std.proofs.Common.{ap, arith, refl, rules, sym, ◌∙◌}
+use Rattle.std.proofs.lemmas.Bool.{false≢true}
+use Rattle.std.specs.Prelude.{is_some, ◌-◌}
+use Rattle.gl_lock_lists.proofs.Lists.{at_each, CountsDown, CountsDown-last, IsWritten-same, IsWritten-twice, SameListed, SameMode, StaysApart}
+use Rattle.gl_lock_lists.proofs.list.LockList.count_one_down.Goals as goal
+
+pub returns-in-Some-clause-listed : goal.returns-in-Some-clause-listed
+returns-in-Some-clause-listed c =
+    at_each SameListed c.args.n _ _ _ _ _ _ ((c.get_mut.follows.holds _).3 (search rules)).0
+    (IsWritten-same c.args.n c.args.self.now.loose.entries) (ap is_some c.in-Some.ensures.value) (λ x y. refl)
+
+pub returns-in-Some-clause-modes : goal.returns-in-Some-clause-modes
+returns-in-Some-clause-modes c =
+    at_each SameMode c.args.n _ _ _ _ _ _ ((c.get_mut.follows.holds _).3 (search rules)).0
+    (IsWritten-same c.args.n c.args.self.now.loose.entries) (ap mode_in c.in-Some.ensures.value) (λ x y. refl)
+
+pub invariant_of-self : goal.invariant_of-self
+unfolding IsApart
+invariant_of-self c = record {
+  apart = (
+    (c.get_mut.follows.holds _).4,
+    λ q.
+        at_each StaysApart c.args.n _ _ _ _ _ _ ((c.get_mut.follows.holds _).3 (search rules)).0
+        (IsWritten-same c.args.n c.args.self.now.loose.entries) (λ f _. f (ap is_some (sym c.in-Some.ensures.value))) (λ x y f. f) q
+        (c.args.self.now.apart.1 q),
+  );
+}
+
+pub returns-then-children-eq0-clause-counts : goal.returns-then-children-eq0-clause-counts
+returns-then-children-eq0-clause-counts c =
+    let counted = (c.get_mut-in_default.follows.holds (c.in-Some-get_mut.children.now - 1)).3 (search rules) in
+    rw c.get_mut.follows.holds-at-none
+    (at_each CountsDown c.args.n _ _ _ _ _ _ (IsWritten-same c.args.n c.args.self.now.entries.entries)
+    (IsWritten-twice c.args.n _ _ _ _ _ counted.0 c.swap_remove.ensures.updates.0)
+    (CountsDown-last _ _ _ c.in_default.ensures.value c.in-Some-get_mut.ensures.value c.requires.some c.if-children-eq0.true) (λ x y. omega arith))
+
+pub invariant_of-self-then-children-eq0 : goal.invariant_of-self-then-children-eq0
+unfolding IsApart
+invariant_of-self-then-children-eq0 c = record {
+  apart =
+      let counted = (c.get_mut-in_default.follows.holds (c.in-Some-get_mut.children.now - 1)).3 (search rules) in
+      rw c.get_mut.follows.holds-at-none
+      ((
+        c.args.self.now.apart.0,
+        λ q.
+            at_each StaysApart c.args.n _ _ _ _ _ _ (IsWritten-same c.args.n c.args.self.now.entries.entries)
+            (IsWritten-twice c.args.n _ _ _ _ _ counted.0 c.swap_remove.ensures.updates.0)
+            (λ _ _. refl) (λ x y f. f) q (c.args.self.now.apart.1 q),
+      ));
+}
+
+pub invariant_of-self-else-children-eq0 : goal.invariant_of-self-else-children-eq0
+unfolding IsApart
+invariant_of-self-else-children-eq0 c = record {
+  apart =
+      let counted = (c.get_mut-in_default.follows.holds (c.in-Some-get_mut.children.now - 1)).3 (search rules) in
+      rw c.get_mut.follows.holds-at-none
+      ((
+        c.args.self.now.apart.0,
+        λ q.
+            at_each StaysApart c.args.n _ _ _ _ _ _ (IsWritten-same c.args.n c.args.self.now.entries.entries)
+            counted.0
+            (λ _ h. absurd (false≢true (ap is_some c.in_default.ensures.value ∙ h))) (λ x y f. f) q (c.args.self.now.apart.1 q),
+      ));
+}

@@ -1,0 +1,17 @@
+use Rattle.gl_graph.specs.View.{graph_of}
+use Rattle.gl_lock_lists.specs.Lists.{count_of, is_listed}
+use Rattle.gl_modes.specs.declared.node.NodeId.{NodeId}
+use Rattle.indexmap.specs.IndexMap.{keys}
+use Rattle.std.specs.Prelude.{take, ◌≡◌}
+use Rattle.gl_lock_lists.proofs.Children.{HasMarked}
+use Rattle.gl_lock_lists.proofs.list.LockList.mark_covered.Given as goal
+
+-- the covered children at the places so far are marked
+abbrev pub invariant-loop-at : goal.invariant-loop-at
+invariant-loop-at l = record {
+  listed : (q : NodeId) → is_listed l.self q ≡ is_listed l.fn.self q;
+  modes : HasMarked (graph_of l.fn.graph) l.fn.node l.fn.self l.self (take l.at (keys l.fn.self.entries));
+  counts : (q : NodeId) → count_of l.self q ≡ count_of l.fn.self q;
+  loose : l.self.loose ≡ l.fn.self.loose;
+  keys : keys l.self.entries ≡ keys l.fn.self.entries;
+}

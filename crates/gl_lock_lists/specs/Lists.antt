@@ -1,0 +1,66 @@
+-- The list of one transaction: the nodes that it holds or waits for, each with its mode and the count of its held children.
+use Rattle.std.specs.Prelude.{◌≡◌, ℕ, ◌≤◌, ◌<◌, Bool, true, not, List, Option, Some, None, is_some, false, ◌&&◌, ◌||◌, ◌==◌, slice_get}
+use Rattle.std.specs.List.{count_by, list_all}
+use Rattle.std.specs.Map.{lookup}
+use Rattle.indexmap.specs.IndexMap.{spare, keys}
+use Rattle.gl_modes.specs.declared.mode.Mode.{Mode}
+use Rattle.gl_modes.specs.declared.mode.Mode.TheVariants.{NL, X}
+use Rattle.gl_modes.specs.declared.node.NodeId.{NodeId}
+use Rattle.gl_modes.specs.Nodes.{same_node}
+use Rattle.gl_modes.specs.Modes.{same_mode}
+use Rattle.gl_graph.specs.Graph.{Graph, is_child, parents_of}
+use Rattle.gl_lock_lists.specs.declared.list.Entry.{Entry}
+use Rattle.gl_lock_lists.specs.declared.list.LockList.{LockList}
+
+-- The list of one transaction: the nodes that it holds or waits for, each with its mode and the count of its held children.
+
+-- what is said of a node
+abbrev pub entry_of : LockList → NodeId → Option Entry
+entry_of l n = lookup (same_node n) l.entries.entries
+
+-- what is counted apart of a node that is not listed
+abbrev pub loose_of : LockList → NodeId → Option ℕ
+loose_of l n = lookup (same_node n) l.loose.entries
+
+-- the node is listed
+abbrev pub is_listed : LockList → NodeId → Bool
+is_listed l n = is_some (entry_of l n)
+
+-- the mode of a node, NL where nothing is said of it
+abbrev pub mode_in : Option Entry → Mode
+mode_in None = NL
+mode_in (Some e) = e.mode
+
+-- the mode in which the node is held
+abbrev pub mode_of : LockList → NodeId → Mode
+mode_of l n = mode_in (entry_of l n)
+
+-- the count beside a node, or the one apart, or 0
+abbrev pub count_in : Option Entry → Option ℕ → ℕ
+count_in (Some e) o = e.children
+count_in None (Some k) = k
+count_in None None = 0
+
+-- how many children of the node are held
+abbrev pub count_of : LockList → NodeId → ℕ
+count_of l n = count_in (entry_of l n) (loose_of l n)
+
+-- how many of these are not listed
+abbrev pub unlisted : LockList → List NodeId → ℕ
+unlisted l ps = count_by (λ p. not (is_listed l p)) ps
+
+-- room for one node more, and for the counts of nine nodes that are not listed
+abbrev pub HasRoom : LockList → Type 0
+HasRoom l = (0 < spare l.entries) × (9 ≤ spare l.loose)
+
+-- Covered children as the list of one transaction tells them, and the marks that are set on them while they are released: a marked node is listed with mode NL.
+
+-- a held child of n, of which no child is held, and not X, or X on every parent
+abbrev pub covered_in : Graph → LockList → NodeId → NodeId → Bool
+covered_in g l n c =
+    is_child g n c && not (same_mode (mode_of l c) NL) && (count_of l c == 0)
+    && (not (same_mode (mode_of l c) X) || list_all (λ p. same_mode (mode_of l p) X) (parents_of g c))
+
+-- no node listed at this place or further back is marked
+abbrev pub NoneMarkedFrom : LockList → ℕ → Type 0
+NoneMarkedFrom l at = (i : ℕ) (n : NodeId) → at ≤ i → slice_get (keys l.entries) i ≡ Some n → same_mode (mode_of l n) NL ≡ false

@@ -1,0 +1,446 @@
+//! The list of one transaction: what it holds and waits for.
+
+ghost use Rattle.std.specs.Prelude.{◌≡◌, ℕ, ◌+◌, ◌<◌, ◌≤◌, ◌^◌, ◌&&◌, ◌||◌, not, true, false, length, OnOk, IfSome, IfNone, if◌then◌else◌};
+ghost use Rattle.std.specs.List.{count_by, list_all, list_any};
+ghost use Rattle.indexmap.specs.IndexMap.{spare};
+ghost use Rattle.std.specs.Prelude.{None, Some, cond, nat_lt, slice_get, unwrap_or};
+ghost use Rattle.std.specs.List.{find};
+ghost use Rattle.std.specs.Option.{option_map, option_map_or};
+ghost use Rattle.gl_modes.specs.declared.mode.Mode.TheVariants.{IX, NL, X};
+ghost use Rattle.gl_graph.specs.Graph.{is_child, is_live, nodes, parents_of};
+ghost use Rattle.gl_graph.specs.View.{graph_of};
+ghost use Rattle.gl_modes.specs.declared.node.NodeId.{NodeId as Node};
+ghost use Rattle.gl_lock_lists.specs.Apart.{IsApart, IsApart-prop};
+ghost use Rattle.indexmap.specs.IndexMap.{Updates, keys, swap_remove_entry};
+ghost use Rattle.std.specs.Map.{keys_of, lookup};
+ghost use Rattle.gl_modes.specs.Modes.{is_at_least, same_mode};
+ghost use Rattle.gl_modes.specs.Nodes.{same_node};
+
+use crate::node_map::NodeMap;
+use gl_graph::Graph;
+use gl_modes::{MOST_PARENTS, Mode, NodeId, covers};
+use indexmap::IndexMap;
+use std::alloc::{AllocError, Global};
+
+/// What a list says of a node that its transaction holds or waits for.
+#[derive(Clone, Copy)]
+pub struct Entry {
+    /// The mode in which the node is held: `NL` while it is waited for alone.
+    pub mode: Mode,
+    /// How many of its children the transaction holds.
+    pub children: u32,
+}
+
+/// The nodes that one transaction holds or waits for, each once.
+///
+/// Beside each stands how many of its children are held. A reader needs one parent only, so a child
+/// may be held of a node that is not listed: such nodes are counted apart, and are listed with their
+/// count as soon as they are asked for.
+#[derive(Drop)]
+pub struct LockList {
+    entries: NodeMap<Entry>,
+    loose: IndexMap<NodeId, u32>,
+    pub ghost apart: { IsApart entries.entries loose.entries } by { IsApart-prop entries.entries loose.entries },
+}
+
+/// Takes out what is counted apart of a node. Most lists count nothing apart, and are not looked into.
+#[inline]
+fn take_loose(loose: &mut IndexMap<NodeId, u32>, n: NodeId) -> u32
+    ensures value { result ≡ unwrap_or (lookup (same_node n) loose.old.entries) 0 }
+    ensures taken { (q : Node) → lookup (same_node q) loose.new.entries ≡ cond (same_node n q) None (lookup (same_node q) loose.old.entries) }
+    ensures room { spare loose.old ≤ spare loose.new }
+{
+    if loose.is_empty() {
+        return 0;
+    }
+    take_counted(loose, n)
+}
+
+/// As `take_loose`, where something is counted apart.
+#[inline(never)]
+fn take_counted(loose: &mut IndexMap<NodeId, u32>, n: NodeId) -> u32
+    ensures value { result ≡ unwrap_or (lookup (same_node n) loose.old.entries) 0 }
+    ensures taken { (q : Node) → lookup (same_node q) loose.new.entries ≡ cond (same_node n q) None (lookup (same_node q) loose.old.entries) }
+    ensures room { spare loose.old ≤ spare loose.new }
+{
+    loose.swap_remove(&n).unwrap_or(0)
+}
+
+/// Counts one more of a node that is counted apart.
+#[inline(never)]
+fn count_loose_up(loose: &mut IndexMap<NodeId, u32>, n: NodeId)
+    requires room { 0 < spare loose.old }
+    requires few { unwrap_or (lookup (same_node n) loose.old.entries) 0 + 1 < 2 ^ 32 }
+    ensures updates { Updates same_node loose.old loose.new n (Some (unwrap_or (lookup (same_node n) loose.old.entries) 0 + 1)) }
+    ensures room { spare loose.old ≤ spare loose.new + 1 }
+{
+    let children = loose.get(&n).copied().unwrap_or(0);
+    loose.insert(n, children + 1).unwrap();
+}
+
+impl LockList {
+    ghost use Rattle.gl_lock_lists.specs.Lists.{NoneMarkedFrom, covered_in, HasRoom, count_of, entry_of, is_listed, mode_of, unlisted};
+
+    /// A list of no nodes. It takes no memory.
+    pub fn new(alloc: Global) -> Self
+        ensures listed { (n : Node) → is_listed result n ≡ false }
+        ensures counts { (n : Node) → count_of result n ≡ 0 }
+    {
+        LockList {
+            entries: NodeMap::new(alloc),
+            loose: IndexMap::new(alloc),
+        }
+    }
+
+    /// What is said of the node.
+    pub fn entry(&self, n: NodeId) -> Option<Entry>
+        ensures { result ≡ entry_of self.now n }
+    {
+        self.entries.get(n).copied()
+    }
+
+    /// The node at a place, with what is said of it.
+    pub fn at(&self, place: usize) -> Option<(NodeId, Entry)>
+        ensures { result ≡ slice_get self.now.entries.entries place }
+    {
+        let (node, entry) = self.entries.get_index(place)?;
+        Some((*node, *entry))
+    }
+
+    /// The mode in which the node is held, `NL` for none.
+    #[inline]
+    pub fn mode(&self, n: NodeId) -> Mode
+        ensures { result ≡ mode_of self.now n }
+    {
+        match self.entries.get(n) {
+            Some(entry) => entry.mode,
+            None => Mode::NL,
+        }
+    }
+
+    /// Whether the node is held.
+    pub fn holds(&self, n: NodeId) -> bool
+        ensures { result ≡ not (same_mode (mode_of self.now n) NL) }
+    {
+        !matches!(self.mode(n), Mode::NL)
+    }
+
+    /// Makes room for one node more and for the counts of its parents.
+    #[inline]
+    pub fn make_room(&mut self) -> Result<(), AllocError>
+        ensures entries { self.new.entries.entries ≡ self.old.entries.entries }
+        ensures loose { self.new.loose.entries ≡ self.old.loose.entries }
+        ensures ok { OnOk result (HasRoom self.new) }
+        ensures kept { spare self.old.loose ≤ spare self.new.loose }
+    {
+        self.entries.reserve_one()?;
+        self.loose.reserve(MOST_PARENTS + 1)
+    }
+
+    /// Lists a node, with the count of its held children.
+    #[inline]
+    pub fn enter(&mut self, n: NodeId, mode: Mode)
+        requires new { is_listed self.old n ≡ false }
+        requires room { 0 < spare self.old.entries }
+        ensures listed { (q : Node) → is_listed self.new q ≡ (same_node q n || is_listed self.old q) }
+        ensures modes { (q : Node) → mode_of self.new q ≡ (if same_node q n then mode else mode_of self.old q) }
+        ensures counts { (q : Node) → count_of self.new q ≡ count_of self.old q }
+        ensures room { spare self.old.loose ≤ spare self.new.loose }
+    {
+        let children = take_loose(&mut self.loose, n);
+        self.entries.insert_new(n, Entry { mode, children });
+    }
+
+    /// Writes the mode in which a listed node is held.
+    pub fn set_mode(&mut self, n: NodeId, mode: Mode)
+        requires { is_listed self.old n ≡ true }
+        ensures listed { (q : Node) → is_listed self.new q ≡ is_listed self.old q }
+        ensures modes { (q : Node) → mode_of self.new q ≡ (if same_node q n then mode else mode_of self.old q) }
+        ensures counts { (q : Node) → count_of self.new q ≡ count_of self.old q }
+        ensures loose { self.new.loose ≡ self.old.loose }
+        ensures keys { keys self.new.entries ≡ keys self.old.entries }
+    {
+        if let Some(entry) = self.entries.get_mut(n) {
+            entry.mode = mode;
+        }
+    }
+
+    /// Takes a node out. What is held of its children is still counted.
+    pub fn leave(&mut self, n: NodeId)
+        requires room { 0 < count_of self.old n → 0 < spare self.old.loose }
+        ensures listed { (q : Node) → is_listed self.new q ≡ (is_listed self.old q && not (same_node q n)) }
+        ensures modes { (q : Node) → mode_of self.new q ≡ (if same_node q n then NL else mode_of self.old q) }
+        ensures counts { (q : Node) → count_of self.new q ≡ count_of self.old q }
+        ensures keys { keys self.new.entries ≡ keys_of (swap_remove_entry (same_node n) self.old.entries.entries) }
+    {
+        if let Some(entry) = self.entries.swap_remove(n) {
+            if entry.children > 0 {
+                self.loose.insert(n, entry.children).unwrap();
+            }
+        }
+    }
+
+    /// Counts one held child more of each of these nodes.
+    pub fn count_up(&mut self, parents: &[NodeId])
+        requires room { unlisted self.old parents.now ≤ spare self.old.loose }
+        requires few { (q : Node) → list_any (same_node q) parents.now ≡ true → count_of self.old q + count_by (same_node q) parents.now < 2 ^ 32 }
+        ensures listed { (q : Node) → is_listed self.new q ≡ is_listed self.old q }
+        ensures modes { (q : Node) → mode_of self.new q ≡ mode_of self.old q }
+        ensures counts { (q : Node) → count_of self.new q ≡ count_of self.old q + count_by (same_node q) parents.now }
+        ensures room { spare self.old.loose ≤ spare self.new.loose + unlisted self.old parents.now }
+    {
+        for parent in parents {
+            self.count_one_up(*parent);
+        }
+    }
+
+    /// Counts one held child more of a node.
+    #[inline]
+    fn count_one_up(&mut self, n: NodeId)
+        requires room { is_listed self.old n ≡ false → 0 < spare self.old.loose }
+        requires few { count_of self.old n + 1 < 2 ^ 32 }
+        ensures listed { (q : Node) → is_listed self.new q ≡ is_listed self.old q }
+        ensures modes { (q : Node) → mode_of self.new q ≡ mode_of self.old q }
+        ensures counts { (q : Node) → count_of self.new q ≡ count_of self.old q + (if same_node q n then 1 else 0) }
+        ensures room { spare self.old.loose ≤ spare self.new.loose + (if is_listed self.old n then 0 else 1) }
+    {
+        if let Some(entry) = self.entries.get_mut(n) {
+            entry.children += 1;
+        } else {
+            count_loose_up(&mut self.loose, n);
+        }
+    }
+
+    /// Counts one held child less of each of these nodes.
+    pub fn count_down(&mut self, parents: &[NodeId])
+        requires some { (q : Node) → count_by (same_node q) parents.now ≤ count_of self.old q }
+        ensures listed { (q : Node) → is_listed self.new q ≡ is_listed self.old q }
+        ensures modes { (q : Node) → mode_of self.new q ≡ mode_of self.old q }
+        ensures counts { (q : Node) → count_of self.new q + count_by (same_node q) parents.now ≡ count_of self.old q }
+        ensures room { spare self.old.loose ≤ spare self.new.loose }
+        ensures keys { keys self.new.entries ≡ keys self.old.entries }
+    {
+        for parent in parents {
+            self.count_one_down(*parent);
+        }
+    }
+
+    /// Counts one held child less of a node. A node that is not listed is forgotten at 0.
+    fn count_one_down(&mut self, n: NodeId)
+        requires some { 0 < count_of self.old n }
+        ensures listed { (q : Node) → is_listed self.new q ≡ is_listed self.old q }
+        ensures modes { (q : Node) → mode_of self.new q ≡ mode_of self.old q }
+        ensures counts { (q : Node) → count_of self.new q + (if same_node q n then 1 else 0) ≡ count_of self.old q }
+        ensures room { spare self.old.loose ≤ spare self.new.loose }
+        ensures keys { keys self.new.entries ≡ keys self.old.entries }
+    {
+        if let Some(entry) = self.entries.get_mut(n) {
+            entry.children -= 1;
+        } else if let Some(children) = self.loose.get_mut(&n) {
+            *children -= 1;
+            if *children == 0 {
+                self.loose.swap_remove(&n);
+            }
+        }
+    }
+
+    /// Takes out the node that was listed last, whatever is counted of its children.
+    #[inline]
+    pub fn pop(&mut self) -> Option<NodeId>
+        ensures none { IfNone result ((q : Node) → is_listed self.old q ≡ false) }
+        ensures none_same { IfNone result (self.new ≡ self.old) }
+        ensures was { IfSome result (λ n. is_listed self.old n ≡ true) }
+        ensures listed { IfSome result (λ n. (q : Node) → is_listed self.new q ≡ (is_listed self.old q && not (same_node q n))) }
+        ensures modes { IfSome result (λ n. (q : Node) → mode_of self.new q ≡ (if same_node q n then NL else mode_of self.old q)) }
+        ensures loose { self.new.loose ≡ self.old.loose }
+        ensures shorter { IfSome result (λ n. length self.new.entries.entries + 1 ≡ length self.old.entries.entries) }
+    {
+        if self.entries.is_empty() {
+            return None;
+        }
+        let (n, _) = self.entries.pop().unwrap();
+        Some(n)
+    }
+
+    /// Takes everything out, and keeps the room.
+    pub fn clear(&mut self)
+        ensures listed { (n : Node) → is_listed self.new n ≡ false }
+        ensures counts { (n : Node) → count_of self.new n ≡ 0 }
+        ensures entries_room { spare self.old.entries ≤ spare self.new.entries }
+        ensures loose_room { spare self.old.loose ≤ spare self.new.loose }
+    {
+        self.entries.clear();
+        if self.loose.is_empty() {
+            return;
+        }
+        self.loose.clear();
+    }
+
+    /// The held child of a node that was born first.
+    ///
+    /// Goes over all that is listed: it only names the child that is in the way.
+    pub fn first_child(&self, graph: &Graph, node: NodeId) -> Option<NodeId>
+        requires live { (c : Node) → not (same_mode (mode_of self.now c) NL) ≡ true → is_live (graph_of graph.now) c ≡ true }
+        ensures { result ≡ find (λ c. is_child (graph_of graph.now) node c && not (same_mode (mode_of self.now c) NL)) (nodes (graph_of graph.now)) }
+    {
+        graph.law();
+        let mut first: Option<NodeId> = None;
+        for place in 0..self.entries.len() {
+            first = self.earlier_child(graph, node, self.entries.node_at(place), first);
+        }
+        first
+    }
+
+    /// A node, where it is a held child and was born before the one found so far; else that one.
+    fn earlier_child(
+        &self,
+        graph: &Graph,
+        node: NodeId,
+        child: NodeId,
+        found: Option<NodeId>,
+    ) -> Option<NodeId>
+        ensures { result ≡
+            (if (is_child (graph_of graph.now) node child && not (same_mode (mode_of self.now child) NL))
+            && option_map_or (λ other. nat_lt child.birth other.birth) found true then Some child else found) }
+    {
+        if is_child(graph, node, child) && self.holds(child) && is_born_before(child, found) {
+            Some(child)
+        } else {
+            found
+        }
+    }
+
+    /// Whether some child of a node is held in `IX`, `SIX` or `X`.
+    ///
+    /// Goes over all that is listed.
+    pub fn writes_below(&self, graph: &Graph, node: NodeId) -> bool
+        requires live { (c : Node) → not (same_mode (mode_of self.now c) NL) ≡ true → is_live (graph_of graph.now) c ≡ true }
+        ensures { result ≡ list_any (λ c. is_child (graph_of graph.now) node c && is_at_least (mode_of self.now c) IX) (nodes (graph_of graph.now)) }
+    {
+        graph.law();
+        for place in 0..self.entries.len() {
+            if self.is_written_below(graph, node, self.entries.node_at(place)) {
+                return true;
+            }
+        }
+        false
+    }
+
+    /// Whether this is a child of the node and held in `IX`, `SIX` or `X`.
+    fn is_written_below(&self, graph: &Graph, node: NodeId, child: NodeId) -> bool
+        ensures { result ≡ (is_child (graph_of graph.now) node child && is_at_least (mode_of self.now child) IX) }
+    {
+        is_child(graph, node, child) && covers(self.mode(child), Mode::IX)
+    }
+
+    /// How many nodes are listed.
+    pub fn len(&self) -> usize
+        ensures { result ≡ length (keys self.now.entries) }
+    {
+        self.entries.len()
+    }
+
+    /// Marks the covered children of a node by the mode `NL`.
+    pub fn mark_covered(&mut self, graph: &Graph, node: NodeId)
+        requires counted { (c p : Node) → not (same_mode (mode_of self.old c) NL) ≡ true
+            → list_any (same_node p) (parents_of (graph_of graph.now) c) ≡ true → 0 < count_of self.old p }
+        ensures listed { (q : Node) → is_listed self.new q ≡ is_listed self.old q }
+        ensures modes { (q : Node) → mode_of self.new q ≡ (if covered_in (graph_of graph.now) self.old node q then NL else mode_of self.old q) }
+        ensures counts { (q : Node) → count_of self.new q ≡ count_of self.old q }
+        ensures loose { self.new.loose ≡ self.old.loose }
+        ensures keys { keys self.new.entries ≡ keys self.old.entries }
+    {
+        for at in 0..self.entries.len() {
+            self.mark_one(graph, node, at);
+        }
+    }
+
+    /// Marks the node at a place where it is a covered child.
+    fn mark_one(&mut self, graph: &Graph, node: NodeId, at: usize)
+        requires within { at < length (keys self.old.entries) }
+        ensures marks { (n : Node) → slice_get (keys self.old.entries) at ≡ Some n → (q : Node)
+            → mode_of self.new q ≡ (if same_node q n && covered_in (graph_of graph.now) self.old node n then NL else mode_of self.old q) }
+        ensures listed { (q : Node) → is_listed self.new q ≡ is_listed self.old q }
+        ensures counts { (q : Node) → count_of self.new q ≡ count_of self.old q }
+        ensures loose { self.new.loose ≡ self.old.loose }
+        ensures keys { keys self.new.entries ≡ keys self.old.entries }
+    {
+        if let Some((child, _)) = self.entries.get_index(at) {
+            let child = *child;
+            if self.covers(graph, node, child) {
+                self.set_mode(child, Mode::NL);
+            }
+        }
+    }
+
+    /// Whether the node is a child that the lock on a node covers.
+    fn covers(&self, graph: &Graph, node: NodeId, child: NodeId) -> bool
+        ensures { result ≡ covered_in (graph_of graph.now) self.now node child }
+    {
+        is_child(graph, node, child)
+            && self.holds(child)
+            && self.count(child) == 0
+            && (self.mode(child) != Mode::X || self.all_exclusive(graph.parents(child)))
+    }
+
+    /// How many children of the node are held.
+    fn count(&self, n: NodeId) -> u32
+        ensures { result ≡ count_of self.now n }
+    {
+        match self.entry(n) {
+            Some(entry) => entry.children,
+            None => self.loose.get(&n).copied().unwrap_or(0),
+        }
+    }
+
+    /// Whether all of these are held in `X`.
+    fn all_exclusive(&self, parents: &[NodeId]) -> bool
+        ensures { result ≡ list_all (λ p. same_mode (mode_of self.now p) X) parents.now }
+    {
+        parents.iter().all(|parent| self.mode(*parent) == Mode::X)
+    }
+
+    /// Takes out the node at a place if it is marked; each of its parents has one held child less.
+    /// The nodes further back are not marked.
+    pub fn take_marked(&mut self, graph: &Graph, at: usize) -> Option<NodeId>
+        requires within { at < length (keys self.old.entries) }
+        requires childless { (c : Node) → is_listed self.old c ≡ true → mode_of self.old c ≡ NL → count_of self.old c ≡ 0 }
+        requires counted { (c q : Node) → is_listed self.old c ≡ true → mode_of self.old c ≡ NL
+            → count_by (same_node q) (parents_of (graph_of graph.now) c) ≤ count_of self.old q }
+        requires passed { NoneMarkedFrom self.old (at + 1) }
+        ensures passed { NoneMarkedFrom self.new at }
+        ensures len { at ≤ length (keys self.new.entries) }
+        ensures none { IfNone result (self.new ≡ self.old) }
+        ensures was { IfSome result (λ n. is_listed self.old n ≡ true) }
+        ensures was_marked { IfSome result (λ n. mode_of self.old n ≡ NL) }
+        ensures listed { IfSome result (λ n. (q : Node) → is_listed self.new q ≡ (is_listed self.old q && not (same_node q n))) }
+        ensures modes { IfSome result (λ n. (q : Node) → mode_of self.new q ≡ mode_of self.old q) }
+        ensures counts { IfSome result (λ n. (q : Node)
+            → count_of self.new q + count_by (same_node q) (parents_of (graph_of graph.now) n) ≡ count_of self.old q) }
+    {
+        let node = *self.entries.get_index(at)?.0;
+        if self.holds(node) {
+            return None;
+        }
+        self.leave(node);
+        self.count_down(graph.parents(node));
+        Some(node)
+    }
+}
+
+/// Whether the node is a parent of this one.
+fn is_child(graph: &Graph, node: NodeId, child: NodeId) -> bool
+    ensures { result ≡ is_child (graph_of graph.now) node child }
+{
+    graph.parents(child).iter().any(|parent| node == *parent)
+}
+
+/// Whether a node was born before the other one, if there is one.
+fn is_born_before(n: NodeId, other: Option<NodeId>) -> bool
+    ensures { result ≡ option_map_or (λ o. nat_lt n.birth o.birth) other true }
+{
+    match other {
+        Some(other) => n.birth < other.birth,
+        None => true,
+    }
+}
