@@ -15,6 +15,7 @@ unheld-without g t none = fun_ext (λ u. by u (u == t) refl)
   where
     equal : (u : ℕ) → (u == t) ≡ true → u ≡ t
     equal u e = grind (arith, nat_tests)
+
     by : (u : ℕ) (b : Bool) → (u == t) ≡ b → g u ≡ (if u == t then NL else g u)
     by u true e = ap g (equal u e) ∙ (same_mode-equal (g t) NL (not-false _ none) ∙ sym (ap (λ x. if x then NL else g u) e))
     by u false e = sym (ap (λ x. if x then NL else g u) e)
