@@ -1,5 +1,5 @@
 -- The list of one transaction: the nodes that it holds or waits for, each with its mode and the count of its held children.
-use Rattle.std.specs.Prelude.{◌≡◌, ℕ, ◌≤◌, ◌<◌, Bool, true, not, List, Option, Some, None, is_some, false, ◌&&◌, ◌||◌, ◌==◌, slice_get}
+use Rattle.std.specs.Prelude.{◌≡◌, ℕ, ◌≤◌, ◌<◌, Bool, not, List, Option, Some, None, is_some, false, ◌&&◌, ◌||◌, ◌==◌, slice_get}
 use Rattle.std.specs.List.{count_by, list_all}
 use Rattle.std.specs.Map.{lookup}
 use Rattle.indexmap.specs.IndexMap.{spare, keys}

@@ -347,8 +347,6 @@ impl LockList {
         ensures listed { (q : Node) → is_listed self.new q ≡ is_listed self.old q }
         ensures modes { (q : Node) → mode_of self.new q ≡ (if covered_in (graph_of graph.now) self.old node q then NL else mode_of self.old q) }
         ensures counts { (q : Node) → count_of self.new q ≡ count_of self.old q }
-        ensures loose { self.new.loose ≡ self.old.loose }
-        ensures keys { keys self.new.entries ≡ keys self.old.entries }
     {
         for at in 0..self.entries.len() {
             self.mark_one(graph, node, at);
@@ -362,7 +360,6 @@ impl LockList {
             → mode_of self.new q ≡ (if same_node q n && covered_in (graph_of graph.now) self.old node n then NL else mode_of self.old q) }
         ensures listed { (q : Node) → is_listed self.new q ≡ is_listed self.old q }
         ensures counts { (q : Node) → count_of self.new q ≡ count_of self.old q }
-        ensures loose { self.new.loose ≡ self.old.loose }
         ensures keys { keys self.new.entries ≡ keys self.old.entries }
     {
         if let Some((child, _)) = self.entries.get_index(at) {

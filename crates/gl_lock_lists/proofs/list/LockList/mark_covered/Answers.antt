@@ -10,7 +10,6 @@ loop-at-init c = record {
   listed = λ q. refl;
   modes = marks_begin (graph_of c.args.graph.now) c.args.node c.args.self.now c.requires.counted;
   counts = λ q. refl;
-  loose = refl;
   keys = refl;
 }
 
@@ -23,7 +22,6 @@ loop-at-preserved c =
       modes = marks_more (graph_of c.args.graph.now) c.args.node c.args.self.now c.requires.counted c.loop-at.self c.mark_one.new.self c.loop-at.at
           (subst (λ (k : ℕ). c.loop-at.at < k) same c.loop-at-test.true) now.keys now.modes now.counts c.mark_one.ensures.marks;
       counts = λ q. c.mark_one.ensures.counts q ∙ now.counts q;
-      loose = c.mark_one.ensures.loose ∙ now.loose;
       keys = c.mark_one.ensures.keys ∙ now.keys;
     }
 

@@ -12,6 +12,5 @@ invariant-loop-at l = record {
   listed : (q : NodeId) → is_listed l.self q ≡ is_listed l.fn.self q;
   modes : HasMarked (graph_of l.fn.graph) l.fn.node l.fn.self l.self (take l.at (keys l.fn.self.entries));
   counts : (q : NodeId) → count_of l.self q ≡ count_of l.fn.self q;
-  loose : l.self.loose ≡ l.fn.self.loose;
   keys : keys l.self.entries ≡ keys l.fn.self.entries;
 }
