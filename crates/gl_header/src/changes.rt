@@ -25,6 +25,7 @@ pub(crate) type Queue = SmallVec<Entry, INLINE>;
 pub type GrantList = ArrayVec<(Slot, Mode), SLOTS>;
 
 /// Puts a wait into its place: a member's behind the waiting members, a newcomer's last.
+#[inline(never)]
 #[tactic(auto, using(crate::proofs::Steps::placed_steps))]
 pub(crate) fn enqueue(
     group: &Group,

@@ -149,6 +149,7 @@ fn take_box(alloc: Global, spare: &mut Vec<Box<Shared>>, birth: u64) -> Result<B
 }
 
 /// A box for a node of this birth that one slot holds in this mode, and nobody waits for.
+#[inline(never)]
 fn share(
     alloc: Global,
     spare: &mut Vec<Box<Shared>>,
