@@ -2,7 +2,7 @@
 use Rattle.std.proofs.Common.{◌≡◌, ℕ, ◌+◌, ◌<◌, ◌≤◌, List, [], ◌∷◌, ◌++◌, length, map, take, get_or, set, sym, ap, ap₂, ◌∙◌}
 use Rattle.std.proofs.lemmas.List.{map-append, take_all, take_more, take_more_set}
 use Rattle.gl_slots.specs.Slots.{Bits}
-use Rattle.gl_c.specs.declared.board.Slots.{Slots}
+use Rattle.gl_c.specs.declared.boards.board.Slots.{Slots}
 use Rattle.gl_c.specs.Boards.{set_of}
 
 pub put_more : (rows : List Slots) (sets : List Bits) (row : Slots) (i : ℕ) (d : Bits) → i < length rows → i < length sets → set_of row ≡ get_or sets i d

@@ -3,7 +3,7 @@ use Rattle.std.specs.Prelude.{ℕ, Option, Some, None, IfSome}
 use Rattle.gl_table.specs.Table.{AreRowsOf, rows_of}
 use Rattle.gl_table.proofs.calls.Queries.{are_rows}
 use Rattle.gl_catalog.specs.Manager.{IsLawfulManager, state_of}
-use Rattle.gl_c.specs.Guarded.{GuardedView}
+use Rattle.gl_c.specs.managers.Guarded.{GuardedView}
 
 pub rows_in : (o : Option GuardedView) (t : ℕ) → IfSome o (λ g. IsLawfulManager g.manager)
     → IfSome o (λ g. AreRowsOf (state_of g.manager) t (rows_of g.manager.table t))

@@ -9,11 +9,11 @@ use Rattle.gl_window.specs.Strip.{Strip}
 use Rattle.gl_window.proofs.Fronts.{prefix_self}
 use Rattle.gl_window.specs.Window.{GoesOn}
 use Rattle.gl_window.specs.declared.publisher.WatchFault.{WatchFault}
-use Rattle.gl_c.specs.declared.reply.Reply.{Reply}
-use Rattle.gl_c.specs.Guarded.{GuardedView}
+use Rattle.gl_c.specs.declared.answers.reply.Reply.{Reply}
+use Rattle.gl_c.specs.managers.Guarded.{GuardedView}
 use Rattle.gl_c.specs.Numbers.{done, too_many_watchers}
-use Rattle.gl_c.specs.Replies.{refused_reply, status_reply}
-use Rattle.gl_c.specs.Watching.{Attends, Continues, Knows, Watches}
+use Rattle.gl_c.specs.answers.Replies.{refused_reply, status_reply}
+use Rattle.gl_c.specs.watchers.Watching.{Attends, Continues, Knows, Watches}
 
 -- the publisher that a watcher finds or that is made for it is no newer than the board of now, of the manager's way of detection, and goes on from
 -- what was shown

@@ -5,9 +5,9 @@ use denote.Bor.{Bor}
 use Rattle.gl_modes.specs.declared.refusal.Refusal.{Refusal}
 use Rattle.gl_header.specs.Header.{Waiter}
 use Rattle.gl_model.specs.Calls.{RefusesOnly}
-use Rattle.gl_c.specs.declared.reply.Reply.{Reply}
-use Rattle.gl_c.specs.Listings.{of_queue}
-use Rattle.gl_c.specs.Replies.{refused_reply}
+use Rattle.gl_c.specs.declared.answers.reply.Reply.{Reply}
+use Rattle.gl_c.specs.questions.Listings.{of_queue}
+use Rattle.gl_c.specs.answers.Replies.{refused_reply}
 
 pub queue_is : (answer : List Waiter → Reply) (o : Option Refusal) (queue : List Waiter) (x : Result (Bor (List Waiter)) Refusal) (r : Reply)
     → IfOk x (λ w. w.now ≡ queue) → RefusesOnly o x → MatchResult x (λ w. r ≡ answer w.now) (λ e. r ≡ refused_reply e) → r ≡ of_queue o answer queue

@@ -8,14 +8,14 @@ use Rattle.gl_slots.specs.Words.{in_words}
 use Rattle.gl_waits.specs.Waits.{IsLowestYoungest, IsOnCycle, IsOnCycleOf}
 use Rattle.gl_table.specs.Table.{board_of}
 use Rattle.gl_catalog.specs.Manager.{state_of}
-use Rattle.gl_c.specs.declared.board.Board.{Board}
-use Rattle.gl_c.specs.declared.board.Slots.{Slots}
-use Rattle.gl_c.specs.declared.found.Found.{Found}
-use Rattle.gl_c.specs.declared.reply.Reply.{Reply}
-use Rattle.gl_c.specs.Carries.{Declines}
-use Rattle.gl_c.specs.Guarded.{GuardedView}
+use Rattle.gl_c.specs.declared.boards.board.Board.{Board}
+use Rattle.gl_c.specs.declared.boards.board.Slots.{Slots}
+use Rattle.gl_c.specs.declared.answers.found.Found.{Found}
+use Rattle.gl_c.specs.declared.answers.reply.Reply.{Reply}
+use Rattle.gl_c.specs.managers.Carries.{Declines}
+use Rattle.gl_c.specs.managers.Guarded.{GuardedView}
 use Rattle.gl_c.specs.Numbers.{bad_number, done, no_manager, no_place}
-use Rattle.gl_c.specs.Replies.{count_reply, status_reply}
+use Rattle.gl_c.specs.answers.Replies.{count_reply, status_reply}
 
 -- a set of slots, as boards show it: bit s mod 64 of word s div 64 stands for slot s
 abbrev pub set_of : Slots → Bits

@@ -5,33 +5,13 @@
 //! from all else; a board that is read is written by nobody meanwhile.
 #![tactic(auto)]
 
-mod board;
-mod counts;
+mod answers;
+mod boards;
 mod crossing;
-mod deadlock;
-mod found;
-mod guarded;
-mod handle;
-mod held;
-mod listing;
-mod listings;
-mod look;
-mod lookout;
-mod managing;
+mod graph;
+mod locks;
+mod managers;
 mod names;
-mod nodes;
-mod notices;
 mod numbers;
-mod parents;
-mod posted;
-mod queries;
-mod records;
-mod reply;
-mod rows;
-mod schema;
-mod searches;
-mod session;
-mod txns;
-mod waiting;
-mod watcher;
-mod watching;
+mod questions;
+mod watchers;

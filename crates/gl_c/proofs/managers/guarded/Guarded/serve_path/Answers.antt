@@ -1,0 +1,115 @@
+use Rattle.gl_slots.specs.Limit.{most_slots}
+use Rattle.std.proofs.Common.{arith, ◌≡◌, ◌≤◌, ◌<◌, ◌||◌, ◌==◌, ℕ, Bool, [], List, ap, subst, sym, ◌∙◌}
+use Rattle.std.specs.List.{list_any}
+use Rattle.std.specs.Prelude.{IfSome}
+use Rattle.gl_slots.specs.Slots.{has_slot}
+use Rattle.gl_model.specs.declared.answers.Detect.{Detect}
+use Rattle.gl_model.specs.declared.answers.Notice.{Notice}
+use Rattle.gl_model.specs.declared.txn.TxnId.{TxnId}
+use Rattle.gl_table.specs.Table.{board_of}
+use Rattle.gl_model.specs.Tellings.{Told}
+use Rattle.gl_catalog.specs.Manager.{state_of}
+use Rattle.gl_catalog.specs.Paths.{lock_of}
+use Rattle.gl_registry.specs.Rows.{RegistryView}
+use Rattle.gl_wakes.specs.Boxes.{Delivers, Slot, emptied}
+use Rattle.gl_wakes.specs.Notices.{RisingTo}
+use Rattle.gl_wakes.specs.Wakes.{names_slot}
+use Rattle.gl_window.specs.Strip.{Strip}
+use Rattle.gl_window.proofs.Idle.{neither}
+use Rattle.gl_c.specs.managers.Guarded.{GuardedView}
+use Rattle.gl_c.specs.locks.Paths.{ServesPath}
+use Rattle.gl_c.specs.managers.Serving.{ShowsOn}
+use Rattle.gl_c.specs.managers.Sound.{IsSound, view_of}
+use Rattle.gl_c.proofs.serving.Paths.{ended_told, keeps_detect, later_unless, same_if, stays_quiet, told_rises}
+use Rattle.gl_c.proofs.serving.Serving.{counted_as, path_none, path_some, same_registry}
+use Rattle.gl_c.proofs.serving.Showing.{later_epoch}
+use Rattle.gl_c.proofs.managers.guarded.Guarded.serve_path.Goals as goal
+
+-- nothing was accepted
+
+same : (c : goal.Then-accepted-before) → (c.lock_path-reached.new.self.manager ≡ c.self.inside.registry.manager) × (c.lock_path-reached.new.told.items ≡ [])
+same c =
+    same_if c.args.txn (c.args.node, c.args.mode) c.self.inside.registry.manager c.lock_path-reached.new.self.manager c.lock_path-reached.new.told.items
+    c.lock_path-reached.result c.lock_path-reached.ensures.untold c.lock_path-reached.ensures.path
+    c.accepted-before.result c.accepted.result (counted_as _ _ _ c.accepted-before.ensures c.manager.ensures)
+    (counted_as _ _ _ c.accepted.ensures c.manager-2.ensures) c.if-accepted-before.true
+
+pub invariant_of-self : goal.invariant_of-self
+invariant_of-self c =
+    subst (λ (v : RegistryView). IsSound (record c.self.inside { registry = v }))
+    (same_registry c.lock_path-reached.new.self c.self.inside.registry (same c).0 c.lock_path-reached.ensures.rows) c.self.invariant
+
+pub returns-then-accepted-before : goal.returns-then-accepted-before
+returns-then-accepted-before c =
+    subst
+    (λ (v : GuardedView). ServesPath v c.args.txn (c.args.node, c.args.mode) c.lock_path-reached.result c.lock_path-reached.new.told.items
+    (record (view_of c.self.inside) { manager = c.lock_path-reached.new.self.manager; rows = c.lock_path-reached.new.self.rows })) c.self.view_is
+    (path_none (view_of c.self.inside) c.args.txn (c.args.node, c.args.mode) c.lock_path-reached.result c.lock_path-reached.new.told.items
+    c.lock_path-reached.new.self c.lock_path-reached.ensures (same c).0 (same c).1 c.self.invariant.quiet)
+
+-- some was
+
+pub deliver-requires : goal.deliver-requires
+deliver-requires c =
+    subst (λ (l : List (TxnId × Notice)). RisingTo 0 l most_slots) (sym c.as_slice.ensures.value)
+    (told_rises c.args.txn (c.args.node, c.args.mode) c.self.inside.registry.manager c.lock_path-reached.new.self.manager c.lock_path-reached.new.told.items
+    c.lock_path-reached.result c.lock_path-reached.ensures.untold c.lock_path-reached.ensures.path c.law.ensures.manager.few)
+
+pub ended_by-self-inside-requires : goal.ended_by-self-inside-requires
+ended_by-self-inside-requires c =
+    subst (λ (l : List (TxnId × Notice)). RisingTo 0 l most_slots) (sym c.as_slice-2.ensures.value)
+    (told_rises c.args.txn (c.args.node, c.args.mode) c.self.inside.registry.manager c.lock_path-reached.new.self.manager c.lock_path-reached.new.told.items
+    c.lock_path-reached.result c.lock_path-reached.ensures.untold c.lock_path-reached.ensures.path c.law.ensures.manager.few)
+
+pub invariant_of-self-2 : goal.invariant_of-self-2
+invariant_of-self-2 c =
+    let later = later_unless c.args.txn (c.args.node, c.args.mode) c.self.inside.registry.manager c.lock_path-reached.new.self.manager
+    c.lock_path-reached.new.told.items c.lock_path-reached.result c.lock_path-reached.ensures.untold
+    c.lock_path-reached.ensures.path c.accepted-before.result c.accepted.result (counted_as _ _ _ c.accepted-before.ensures c.manager.ensures)
+    (counted_as _ _ _ c.accepted.ensures c.manager-2.ensures) c.if-accepted-before.false in
+    let low : c.self.inside.registry.manager.accepted ≤ c.lock_path-reached.new.self.manager.accepted = omega (arith, later) in
+    let way : c.lock_path-reached.new.self.manager.table.detect ≡ c.self.inside.registry.manager.table.detect =
+    keeps_detect c.args.txn (c.args.node, c.args.mode) c.self.inside.registry.manager c.lock_path-reached.new.self.manager
+    c.lock_path-reached.new.told.items c.lock_path-reached.result c.lock_path-reached.ensures.untold
+    c.lock_path-reached.ensures.path in
+    record {
+      epoch = later_epoch c.self.inside.publisher c.self.inside.registry.manager.accepted c.lock_path-reached.new.self.manager.accepted low
+          c.self.invariant.epoch;
+      detect = subst (λ (d : Detect). IfSome c.self.inside.publisher (λ (p : Strip). p.detect ≡ d)) (sym way) c.self.invariant.detect;
+      quiet = λ e. (
+        stays_quiet c.args.txn (c.args.node, c.args.mode) c.self.inside.registry.manager c.lock_path-reached.new.self.manager
+            c.lock_path-reached.new.told.items c.lock_path-reached.result c.lock_path-reached.ensures.untold
+            c.lock_path-reached.ensures.path c.self.inside.waited (λ is. (c.self.invariant.quiet is).0)
+            (ap (λ b. c.self.inside.waited || b) (sym c.ends_waiting.ensures) ∙ e),
+        (c.self.invariant.quiet (neither c.self.inside.waited c.ends_waiting.result e).0).1,
+      );
+    }
+
+pub returns : goal.returns
+returns c =
+    let told = c.lock_path-reached.new.told.items in
+    let asked = lock_of c.args.txn (c.args.node, c.args.mode) in
+    let ended = c.ended_by-self-inside.result in
+    let later = later_unless c.args.txn (c.args.node, c.args.mode) c.self.inside.registry.manager c.lock_path-reached.new.self.manager
+    c.lock_path-reached.new.told.items c.lock_path-reached.result c.lock_path-reached.ensures.untold
+    c.lock_path-reached.ensures.path c.accepted-before.result c.accepted.result (counted_as _ _ _ c.accepted-before.ensures c.manager.ensures)
+    (counted_as _ _ _ c.accepted.ensures c.manager-2.ensures) c.if-accepted-before.false in
+    let slots = subst (λ (l : List (TxnId × Notice)). (u : ℕ) → u < most_slots
+    → has_slot ended u ≡ (names_slot asked u || list_any (λ (x : TxnId × Notice). x.0.slot == u) l))
+    c.as_slice-2.ensures.value c.ended_by-self-inside.ensures.slots in
+    subst
+    (λ (v : GuardedView). ServesPath v c.args.txn (c.args.node, c.args.mode) c.lock_path-reached.result told c.show_if.new.self) c.self.view_is
+    (path_some (view_of c.self.inside) c.show_if.new.self c.args.txn (c.args.node, c.args.mode) c.lock_path-reached.result told
+    c.lock_path-reached.new.self c.deliver.new.self ended c.lock_path-reached.ensures later
+    (subst (λ (l : Told). (mid : List Slot) × Delivers c.self.inside.boxes l mid × (c.deliver.new.self ≡ emptied asked mid))
+    c.as_slice.ensures.value c.deliver.ensures.told)
+    c.show_if.ensures.kept
+    (record {
+      all = ended_told c.args.txn (c.args.node, c.args.mode) c.self.inside.registry.manager c.lock_path-reached.new.self.manager told
+          c.lock_path-reached.result c.lock_path-reached.ensures.untold c.lock_path-reached.ensures.path ended slots;
+      slots = slots;
+    })
+    (subst (λ (b : Bool).
+    ShowsOn (c.self.inside.waited || b) (board_of (state_of c.lock_path-reached.new.self.manager)) c.self.inside.publisher c.show_if.new.self.shown)
+    c.ends_waiting.ensures c.show_if.ensures.shown)
+    c.show_if.ensures.quiet)

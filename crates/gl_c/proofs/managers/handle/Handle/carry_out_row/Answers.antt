@@ -1,0 +1,19 @@
+use Rattle.std.specs.Prelude.{Option, Some}
+use Rattle.std.proofs.Common.{rules, ◌≡◌, subst}
+use Rattle.gl_c.specs.managers.Guarded.{GuardedView}
+use Rattle.gl_c.specs.managers.Handle.{guarded_in}
+use Rattle.gl_c.specs.locks.Rows.{CarriesRow, RepliesRow}
+use Rattle.gl_c.proofs.managers.handle.Handle.carry_out_row.Goals as goal
+
+pub returns : goal.returns
+returns c =
+    let from : c.deref_mut.result.now ≡ c.in-Some.session.value = search rules in
+    let to : guarded_in c.of.result ≡ Some c.carry_out_row-reply.new.self = search rules in
+    subst (λ (s : Option GuardedView). CarriesRow s c.args.call c.carry_out_row-reply.result c.carry_out_row-reply.new.notices
+    (guarded_in c.of.result)) c.in-Some.ensures.taken (
+      c.carry_out_row-reply.new.self,
+      to,
+      subst
+          (λ (g : GuardedView). RepliesRow g c.args.call c.carry_out_row-reply.result c.carry_out_row-reply.new.notices c.carry_out_row-reply.new.self) from
+          c.carry_out_row-reply.ensures,
+    )

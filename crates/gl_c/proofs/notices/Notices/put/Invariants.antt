@@ -1,7 +1,0 @@
-use Rattle.std.specs.Prelude.{◌≡◌, map, take}
-use Rattle.gl_c.specs.Notices.{notice_of}
-use Rattle.gl_c.proofs.notices.Notices.put.Given as goal
-
--- the places so far have the notices so far
-abbrev pub invariant-loop-place : goal.invariant-loop-place
-invariant-loop-place l = take l.place l.self.at ≡ map notice_of (take l.place l.told)

@@ -1,8 +1,0 @@
--- What a contract sees of the place of a manager.
-use Rattle.std.specs.Prelude.{Option}
-use Rattle.gl_c.specs.declared.handle.Handle.{Handle}
-use Rattle.gl_c.specs.Guarded.{GuardedView}
-
--- the manager with all that is guarded with it, if there is one
-abbrev pub guarded_in : Handle → Option GuardedView
-guarded_in h = h.held.guarded

@@ -1,8 +1,0 @@
--- What a contract sees of the place of a watcher.
-use Rattle.std.specs.Prelude.{Option}
-use Rattle.gl_window.specs.Strip.{Strip}
-use Rattle.gl_c.specs.declared.lookout.Lookout.{Lookout}
-
--- the list of boards that the watcher knows, if there is one
-abbrev pub watcher_in : Lookout → Option Strip
-watcher_in l = l.posted.known

@@ -1,0 +1,74 @@
+-- What a call does that locks a node with what has to be held above it.
+use Rattle.std.specs.Prelude.{◌≡◌, ◌<◌, ◌||◌, Bool, true, false, [], List, Option, Some, None, Result, Ok, Err, if◌then◌else◌}
+use Rattle.gl_modes.specs.declared.node.NodeId.{NodeId}
+use Rattle.gl_modes.specs.declared.refusal.Refusal.{Refusal}
+use Rattle.gl_modes.specs.Nodes.{same_node}
+use Rattle.gl_model.specs.declared.answers.Locked.{Locked}
+use Rattle.gl_model.specs.declared.answers.Locked.TheVariants as locked
+use Rattle.gl_model.specs.declared.txn.TxnId.{TxnId}
+use Rattle.gl_table.specs.Table.{board_of}
+use Rattle.gl_model.specs.Tellings.{Told}
+use Rattle.gl_steps.specs.declared.command.Answer.TheVariants as answer
+use Rattle.gl_catalog.specs.declared.manager.paths.Reached.{Reached}
+use Rattle.gl_catalog.specs.Manager.{state_of}
+use Rattle.gl_catalog.specs.Paths.{Ask, lock_of}
+use Rattle.gl_steps.specs.Promises.{NobodyWaits}
+use Rattle.gl_registry.specs.Serving.{LocksWay}
+use Rattle.gl_wakes.specs.Boxes.{Delivers, Slot, emptied}
+use Rattle.gl_c.specs.declared.answers.notices.Notices.{Notices}
+use Rattle.gl_c.specs.declared.answers.reply.Reply.{Reply}
+use Rattle.gl_c.specs.managers.Carries.{Declines}
+use Rattle.gl_c.specs.managers.Guarded.{GuardedView, registry_in}
+use Rattle.gl_c.specs.Names.{node_of}
+use Rattle.gl_c.specs.answers.Notices.{Tells}
+use Rattle.gl_c.specs.Numbers.{no_manager, on_the_way, victim, waiting}
+use Rattle.gl_c.specs.answers.Replies.{refused_reply, reply_of, status_reply}
+use Rattle.gl_c.specs.managers.Serving.{ShowsNobodyLast, ShowsOn, Wakes}
+
+-- a status, and the node that was asked for last
+abbrev pub reply_at : NodeId → Reply → Reply
+reply_at n r = record r { node = node_of n }
+
+-- what C is answered for the last ask of a path to n: the mode of n itself, or what the ask came to and for which node
+abbrev pub reached_reply : NodeId → NodeId → Locked → Reply
+reached_reply n at (locked.Granted m) = if same_node at n then reply_of (answer.Granted m) else reply_at at (status_reply on_the_way)
+reached_reply n at locked.Waiting = reply_at at (status_reply waiting)
+reached_reply n at locked.Victim = reply_at at (status_reply victim)
+
+-- the same where the path may be refused
+abbrev pub path_reply : NodeId → Result Reached Refusal → Reply
+path_reply n (Ok x) = reached_reply n x.node x.locked
+path_reply n (Err r) = refused_reply r
+
+-- a lock that is left waiting
+abbrev pub is_left_waiting : Locked → Bool
+is_left_waiting locked.Waiting = true
+is_left_waiting x = false
+
+-- a path that leaves its transaction waiting
+abbrev pub ends_waiting : Result Reached Refusal → Bool
+ends_waiting (Ok x) = is_left_waiting x.locked
+ends_waiting (Err r) = false
+
+-- a path is locked, as one command after the other; the notices stand in their boxes, but that the transaction's own is empty; whose wait was ended
+-- is known; watchers are shown the board behind it, whole, or nothing; where no ask was accepted nothing changed
+pub record ServesPath (g : GuardedView) (t : TxnId) (ask : Ask) (result : Result Reached Refusal) (told : Told) (g' : GuardedView) : Type 0 where
+  pub way : LocksWay t ask (registry_in g) result told (registry_in g')
+  pub none_accepted : g'.manager.accepted ≡ g.manager.accepted → (g' ≡ g) × (told ≡ [])
+  pub boxes : g.manager.accepted < g'.manager.accepted → (mid : List Slot) × Delivers g.boxes told mid × (g'.boxes ≡ emptied (lock_of t ask) mid)
+  pub wakes : g.manager.accepted < g'.manager.accepted → Wakes (lock_of t ask) g.manager told g'.manager g'.ended
+  pub shown : ShowsOn (g.waited || ends_waiting result) (board_of (state_of g'.manager)) g.shown g'.shown
+  pub quiet : g'.waited ≡ false → NobodyWaits (state_of g'.manager) × ShowsNobodyLast g'.shown
+
+-- a path is locked, and C is answered how far it came, and told whom it tells
+pub record RepliesPath (g : GuardedView) (t : TxnId) (ask : Ask) (r : Reply) (notices : Notices) (g' : GuardedView) : Type 0 where
+  pub result : Result Reached Refusal
+  pub told : Told
+  pub serves : ServesPath g t ask result told g'
+  pub replied : r ≡ path_reply ask.0 result
+  pub tells : Tells notices told
+
+-- a call that locks a path: it does so where there is a manager
+abbrev pub CarriesPath : Option GuardedView → TxnId → Ask → Reply → Notices → Option GuardedView → Type 0
+CarriesPath None t ask r notices s' = Declines None no_manager r s' × Tells notices []
+CarriesPath (Some g) t ask r notices s' = (g' : GuardedView) × (s' ≡ Some g') × RepliesPath g t ask r notices g'

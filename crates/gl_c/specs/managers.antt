@@ -1,0 +1,9 @@
+-- Managers: what C keeps of each, what stands behind it, and what a command does to that.
+pub mod Carries
+pub mod Guarded
+pub mod Handle
+pub mod Held
+pub mod Managing
+pub mod Serving
+pub mod Session
+pub mod Sound

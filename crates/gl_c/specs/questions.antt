@@ -1,0 +1,5 @@
+-- What is answered to questions and listings.
+pub mod Counts
+pub mod Deadlocks
+pub mod Listings
+pub mod Looks

@@ -1,0 +1,223 @@
+//! What is answered to C.
+
+ghost use Rattle.std.specs.Prelude.{◌≡◌};
+ghost use Rattle.gl_steps.specs.declared.command.Answer.TheVariants as answer;
+ghost use Rattle.gl_c.specs.locks.Paths.{path_reply, reached_reply, reply_at};
+ghost use Rattle.gl_c.specs.answers.Replies.{count_reply, refused_at, refused_reply, reply_of, served_reply, status_reply};
+ghost use Rattle.gl_c.specs.locks.Rows.{call_reply, row_lock_status};
+ghost use Rattle.gl_c.specs.locks.Verdicts.{verdict_reply};
+
+use crate::names::{Node, Txn};
+use crate::numbers::{
+    DONE, GONE, MOVED, NOT_ROWS, ON_THE_WAY, OTHER_KEYS, ROWS_BY_NUMBER, VICTIM, WAITING,
+    effect_number, mode_number,
+};
+use gl_catalog::{Answer, Reached};
+use gl_modes::{Mode, NodeId, Refusal};
+use gl_registry::RowAnswer;
+use gl_table::{Locked, TxnId};
+use gl_wakes::{Grant, Stop};
+
+/// An answer. Beside the status it has what the call answers, and zero in all other fields.
+#[repr(C)]
+#[derive(Clone, Copy)]
+pub struct Reply {
+    /// Zero where it was done, a refusal's number from 1 to 23, or one of the numbers above.
+    pub status: u32,
+    /// A mode's number.
+    pub mode: u32,
+    /// The node that was made or asked after, or that the refusal names.
+    pub node: Node,
+    /// The transaction that began or was asked after.
+    pub txn: Txn,
+    /// How many children an escalation released.
+    pub released: u32,
+    /// How many held children an escalation kept.
+    pub kept: u32,
+    /// The number that was asked after.
+    pub count: u64,
+    /// The number of the mode in which a listed node is waited for.
+    pub wanted: u32,
+}
+
+impl Reply {
+    /// A status alone.
+    pub(crate) fn with_status(status: u32) -> Reply
+        ensures { result ≡ status_reply status }
+    {
+        Reply {
+            status,
+            mode: 0,
+            node: Node::of(NodeId::NONE),
+            txn: Txn::of(TxnId::NONE),
+            released: 0,
+            kept: 0,
+            count: 0,
+            wanted: 0,
+        }
+    }
+
+    /// What C is answered for an answer.
+    pub(crate) fn of(answer: Answer) -> Reply
+        ensures { result ≡ reply_of answer }
+    {
+        match answer {
+            Answer::Done => Reply::with_status(DONE),
+            Answer::Node(node) => Reply::with_node(node),
+            Answer::Begun(txn) => Reply {
+                txn: Txn::of(txn),
+                ..Reply::with_status(DONE)
+            },
+            Answer::Granted(mode) | Answer::Mode(mode) => Reply::with_mode(mode),
+            Answer::Waiting => Reply::with_status(WAITING),
+            Answer::Victim => Reply::with_status(VICTIM),
+            Answer::Escalated(escalated) => Reply {
+                mode: mode_number(escalated.mode),
+                released: escalated.released,
+                kept: escalated.kept,
+                ..Reply::with_status(DONE)
+            },
+            Answer::Effect(effect) => Reply {
+                mode: effect_number(effect),
+                ..Reply::with_status(DONE)
+            },
+            Answer::Refused(refusal) => Reply::refused(refusal),
+        }
+    }
+
+    /// What C is answered where a command may be one that is not made by nodes. Inlined, so that a call
+    /// for one kind of command makes no choice.
+    #[inline(always)]
+    pub(crate) fn of_served(answer: Option<Answer>) -> Reply
+        ensures { result ≡ served_reply answer }
+    {
+        match answer {
+            Some(answer) => Reply::of(answer),
+            None => Reply::with_status(ROWS_BY_NUMBER),
+        }
+    }
+
+    /// What C is answered for a verdict.
+    pub(crate) fn of_verdict(verdict: Option<Result<Grant, Stop>>) -> Reply
+        ensures { result ≡ verdict_reply verdict }
+    {
+        match verdict {
+            None => Reply::with_status(WAITING),
+            Some(Ok(grant)) => Reply::with_mode(grant.mode),
+            Some(Err(Stop::Refused(refusal))) => Reply::refused(refusal),
+            Some(Err(Stop::Victim)) => Reply::with_status(VICTIM),
+            Some(Err(Stop::Moved)) => Reply::with_status(MOVED),
+            Some(Err(Stop::Gone)) => Reply::with_status(GONE),
+        }
+    }
+
+    /// What C is answered for a path to a node.
+    pub(crate) fn of_path(node: NodeId, reached: Result<Reached, Refusal>) -> Reply
+        ensures { result ≡ path_reply node reached }
+    {
+        match reached {
+            Ok(Reached { node: at, locked }) => Reply::of_reached(node, at, locked),
+            Err(refusal) => Reply::refused(refusal),
+        }
+    }
+
+    /// What C is answered for the last ask of a path to a node.
+    fn of_reached(node: NodeId, at: NodeId, locked: Locked) -> Reply
+        ensures { result ≡ reached_reply node at locked }
+    {
+        match locked {
+            Locked::Granted(mode) if at == node => Reply::with_mode(mode),
+            Locked::Granted(_) => Reply::with_status(ON_THE_WAY).at(at),
+            Locked::Waiting => Reply::with_status(WAITING).at(at),
+            Locked::Victim => Reply::with_status(VICTIM).at(at),
+        }
+    }
+
+    /// What C is answered for a call about rows: of a lock that is not refused also its row's node.
+    pub(crate) fn of_row_call(answer: RowAnswer) -> Reply
+        ensures { result ≡ call_reply answer }
+    {
+        match answer {
+            RowAnswer::Locked(x) => Reply::of_row_lock(x.locked, x.own_keys).at(x.node),
+            RowAnswer::Answered(answer) => Reply::of(answer),
+            RowAnswer::NotRows => Reply::with_status(NOT_ROWS),
+        }
+    }
+
+    /// What C is answered for the lock of a row's node, the node aside.
+    fn of_row_lock(locked: Locked, own_keys: bool) -> Reply
+        ensures { result ≡ row_lock_status locked own_keys }
+    {
+        match locked {
+            Locked::Granted(mode) if own_keys => Reply::with_mode(mode),
+            Locked::Granted(mode) => Reply {
+                status: OTHER_KEYS,
+                ..Reply::with_mode(mode)
+            },
+            Locked::Waiting => Reply::with_status(WAITING),
+            Locked::Victim => Reply::with_status(VICTIM),
+        }
+    }
+
+    /// The same reply, with this node.
+    fn at(self, node: NodeId) -> Reply
+        ensures { result ≡ reply_at node self }
+    {
+        Reply {
+            node: Node::of(node),
+            ..self
+        }
+    }
+
+    /// A number that was asked after.
+    pub(crate) fn with_count(count: u64) -> Reply
+        ensures { result ≡ count_reply count }
+    {
+        Reply {
+            count,
+            ..Reply::with_status(DONE)
+        }
+    }
+
+    /// A node that was made or asked after.
+    pub(crate) fn with_node(node: NodeId) -> Reply
+        ensures { result ≡ reply_of (answer.Node node) }
+    {
+        Reply {
+            node: Node::of(node),
+            ..Reply::with_status(DONE)
+        }
+    }
+
+    /// A mode that was asked after.
+    pub(crate) fn with_mode(mode: Mode) -> Reply
+        ensures { result ≡ reply_of (answer.Mode mode) }
+    {
+        Reply {
+            mode: mode_number(mode),
+            ..Reply::with_status(DONE)
+        }
+    }
+
+    /// A refusal's own number, and the node that it names.
+    pub(crate) fn refused(refusal: Refusal) -> Reply
+        ensures { result ≡ refused_reply refusal }
+    {
+        Reply {
+            node: refused_at(refusal),
+            ..Reply::with_status(u32::from(refusal.number()))
+        }
+    }
+}
+
+/// The node that a refusal names, if it names one.
+fn refused_at(refusal: Refusal) -> Node
+    ensures { result ≡ refused_at refusal }
+{
+    match refusal {
+        Refusal::NeedParents { node } | Refusal::HeldChild { node } | Refusal::Cycle { node } => {
+            Node::of(node)
+        }
+        _ => Node::of(NodeId::NONE),
+    }
+}

@@ -1,0 +1,82 @@
+//! New nodes of the graph.
+
+ghost use Rattle.gl_steps.specs.declared.command.Command.TheVariants as command;
+ghost use Rattle.gl_registry.specs.declared.call.RowCall.TheVariants as call;
+ghost use Rattle.gl_c.specs.managers.Carries.{Asks, Declines, Under};
+ghost use Rattle.gl_c.specs.managers.Handle.{guarded_in};
+ghost use Rattle.gl_c.specs.Names.{node_id};
+ghost use Rattle.gl_c.specs.Numbers.{bad_number};
+ghost use Rattle.gl_c.specs.locks.Rows.{AsksRow};
+
+use crate::answers::reply::Reply;
+use crate::graph::parents::parent_ids;
+use crate::managers::handle::Handle;
+use crate::names::Node;
+use crate::numbers::BAD_NUMBER;
+use gl_catalog::Command;
+use gl_registry::RowCall;
+
+/// A new inner node, under 0 to 8 inner nodes; without parents it is a root.
+#[unsafe(no_mangle)]
+pub extern "C" fn bs_call_add_inner(manager: &mut Handle, parents: &[Node]) -> Reply
+    ensures { Under parents.now (λ ids. Asks (guarded_in manager.old) (command.Inner ids) result (guarded_in manager.new))
+        (Declines (guarded_in manager.old) bad_number result (guarded_in manager.new)) }
+{
+    match parent_ids(parents) {
+        Some(ids) => manager.ask(Command::Inner {
+            parents: ids.as_slice(),
+        }),
+        None => Reply::with_status(BAD_NUMBER),
+    }
+}
+
+/// A new file, under 1 to 8 inner nodes.
+#[unsafe(no_mangle)]
+pub extern "C" fn bs_call_add_file(manager: &mut Handle, parents: &[Node]) -> Reply
+    ensures { Under parents.now (λ ids. Asks (guarded_in manager.old) (command.File ids) result (guarded_in manager.new))
+        (Declines (guarded_in manager.old) bad_number result (guarded_in manager.new)) }
+{
+    match parent_ids(parents) {
+        Some(ids) => manager.ask(Command::File {
+            parents: ids.as_slice(),
+        }),
+        None => Reply::with_status(BAD_NUMBER),
+    }
+}
+
+/// A new file of rows, under 1 to 8 inner nodes. Its records come, go and change by the calls about rows
+/// alone.
+#[unsafe(no_mangle)]
+pub extern "C" fn bs_call_row_file(manager: &mut Handle, parents: &[Node]) -> Reply
+    ensures { Under parents.now (λ ids. AsksRow (guarded_in manager.old) (call.File ids) result (guarded_in manager.new))
+        (Declines (guarded_in manager.old) bad_number result (guarded_in manager.new)) }
+{
+    match parent_ids(parents) {
+        Some(ids) => manager.ask_row(RowCall::File {
+            parents: ids.as_slice(),
+        }),
+        None => Reply::with_status(BAD_NUMBER),
+    }
+}
+
+/// A new index of a file without records, of which no row was adopted, under 1 to 8 inner nodes, with
+/// rising bounds above 0 that part its intervals: at most 256, or as many as were chosen.
+#[unsafe(no_mangle)]
+pub extern "C" fn bs_call_add_index(
+    manager: &mut Handle,
+    parents: &[Node],
+    file: Node,
+    bounds: &[u64],
+) -> Reply
+    ensures { Under parents.now (λ ids. Asks (guarded_in manager.old) (command.Index ids (node_id file) bounds.entry) result
+        (guarded_in manager.new)) (Declines (guarded_in manager.old) bad_number result (guarded_in manager.new)) }
+{
+    match parent_ids(parents) {
+        Some(ids) => manager.ask(Command::Index {
+            parents: ids.as_slice(),
+            file: file.id(),
+            bounds,
+        }),
+        None => Reply::with_status(BAD_NUMBER),
+    }
+}

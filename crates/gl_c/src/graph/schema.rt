@@ -1,0 +1,56 @@
+//! Nodes that go, and indexes of files that have been in use: what a schema changes.
+
+ghost use Rattle.gl_steps.specs.declared.command.Command.TheVariants as command;
+ghost use Rattle.gl_c.specs.managers.Carries.{Asks, Carries, Declines, Under};
+ghost use Rattle.gl_c.specs.managers.Handle.{guarded_in};
+ghost use Rattle.gl_c.specs.Names.{node_id, txn_id};
+ghost use Rattle.gl_c.specs.Numbers.{bad_number};
+
+use crate::answers::notices::Notices;
+use crate::answers::reply::Reply;
+use crate::graph::parents::parent_ids;
+use crate::managers::handle::Handle;
+use crate::names::{Node, Txn};
+use crate::numbers::BAD_NUMBER;
+use gl_catalog::Command;
+
+/// Takes an inner node, a file or an index away, an index with its intervals. It fills `told`, whatever
+/// that had before.
+#[unsafe(no_mangle)]
+pub extern "C" fn bs_call_drop(
+    manager: &mut Handle,
+    txn: Txn,
+    node: Node,
+    told: &mut Notices,
+) -> Reply
+    ensures { Carries (guarded_in manager.old) (command.Drop (txn_id txn) (node_id node)) result told.new (guarded_in manager.new) }
+{
+    let command = Command::Drop {
+        txn: txn.id(),
+        node: node.id(),
+    };
+    manager.carry_out(command, told)
+}
+
+/// A new index of a file of which no record stands, whatever it had before. Its maker holds it in X.
+#[unsafe(no_mangle)]
+pub extern "C" fn bs_call_index_by(
+    manager: &mut Handle,
+    txn: Txn,
+    parents: &[Node],
+    file: Node,
+    bounds: &[u64],
+) -> Reply
+    ensures { Under parents.now (λ ids. Asks (guarded_in manager.old) (command.IndexBy (txn_id txn) ids (node_id file) bounds.entry) result
+        (guarded_in manager.new)) (Declines (guarded_in manager.old) bad_number result (guarded_in manager.new)) }
+{
+    match parent_ids(parents) {
+        Some(ids) => manager.ask(Command::IndexBy {
+            txn: txn.id(),
+            parents: ids.as_slice(),
+            file: file.id(),
+            bounds,
+        }),
+        None => Reply::with_status(BAD_NUMBER),
+    }
+}

@@ -1,0 +1,139 @@
+//! Rows by the engine's own numbers, which have nodes while they are locked. Each call that tells
+//! somebody fills `told`, whatever it had before.
+
+ghost use Rattle.std.specs.Prelude.{[]};
+ghost use Rattle.gl_registry.specs.declared.call.RowCall.TheVariants as call;
+ghost use Rattle.gl_c.specs.managers.Carries.{Declines, Where};
+ghost use Rattle.gl_c.specs.managers.Handle.{guarded_in};
+ghost use Rattle.gl_c.specs.Names.{node_id, row_at, txn_id};
+ghost use Rattle.gl_c.specs.answers.Notices.{Tells};
+ghost use Rattle.gl_c.specs.Numbers.{bad_number, mode_at};
+ghost use Rattle.gl_c.specs.locks.Rows.{CarriesRow, FindsRow};
+
+use crate::answers::notices::Notices;
+use crate::answers::reply::Reply;
+use crate::managers::handle::Handle;
+use crate::names::{Node, Txn};
+use crate::numbers::{BAD_NUMBER, mode_at};
+use gl_registry::RowCall;
+
+/// Locks a row whose keys are these, one for each index of its file in order of their making. A row that
+/// is to be inserted or taken away is locked in X. Where the row's node has other keys the lock is held
+/// as well, and the status says so.
+#[unsafe(no_mangle)]
+pub extern "C" fn bs_call_lock_row(
+    manager: &mut Handle,
+    txn: Txn,
+    file: Node,
+    number: u64,
+    keys: &[u64],
+    mode: u32,
+    told: &mut Notices,
+) -> Reply
+    ensures { Where (mode_at mode) (λ wanted. CarriesRow (guarded_in manager.old)
+        (call.Lock (txn_id txn) (row_at file number) keys.entry wanted) result told.new (guarded_in manager.new))
+        (Declines (guarded_in manager.old) bad_number result (guarded_in manager.new) × Tells told.new []) }
+{
+    let Some(mode) = mode_at(mode) else {
+        told.clear();
+        return Reply::with_status(BAD_NUMBER);
+    };
+    let call = RowCall::Lock {
+        txn: txn.id(),
+        row: file.row(number),
+        keys,
+        mode,
+    };
+    manager.carry_out_row(call, told)
+}
+
+/// Releases a row.
+#[unsafe(no_mangle)]
+pub extern "C" fn bs_call_unlock_row(
+    manager: &mut Handle,
+    txn: Txn,
+    file: Node,
+    number: u64,
+    told: &mut Notices,
+) -> Reply
+    ensures { CarriesRow (guarded_in manager.old) (call.Unlock (txn_id txn) (row_at file number)) result told.new (guarded_in manager.new) }
+{
+    let call = RowCall::Unlock {
+        txn: txn.id(),
+        row: file.row(number),
+    };
+    manager.carry_out_row(call, told)
+}
+
+/// Gives a row another key for one index of its file.
+#[unsafe(no_mangle)]
+pub extern "C" fn bs_call_rekey_row(
+    manager: &mut Handle,
+    txn: Txn,
+    file: Node,
+    number: u64,
+    index: Node,
+    key: u64,
+    told: &mut Notices,
+) -> Reply
+    ensures { CarriesRow (guarded_in manager.old) (call.Rekey (txn_id txn) (row_at file number) (node_id index) key) result told.new (guarded_in manager.new) }
+{
+    let call = RowCall::Rekey {
+        txn: txn.id(),
+        row: file.row(number),
+        index: index.id(),
+        key,
+    };
+    manager.carry_out_row(call, told)
+}
+
+/// Ends a transaction, and releases everything. Rows that nobody holds any more lose their nodes.
+#[unsafe(no_mangle)]
+pub extern "C" fn bs_call_commit_rows(manager: &mut Handle, txn: Txn, told: &mut Notices) -> Reply
+    ensures { CarriesRow (guarded_in manager.old) (call.Commit (txn_id txn)) result told.new (guarded_in manager.new) }
+{
+    manager.carry_out_row(RowCall::Commit { txn: txn.id() }, told)
+}
+
+/// Ends a transaction and releases everything, also while it waits or is condemned. Rows that nobody
+/// holds any more lose their nodes.
+#[unsafe(no_mangle)]
+pub extern "C" fn bs_call_abort_rows(manager: &mut Handle, txn: Txn, told: &mut Notices) -> Reply
+    ensures { CarriesRow (guarded_in manager.old) (call.Abort (txn_id txn)) result told.new (guarded_in manager.new) }
+{
+    manager.carry_out_row(RowCall::Abort { txn: txn.id() }, told)
+}
+
+/// Takes a wait back. A row that nobody holds or waits for any more loses its node.
+#[unsafe(no_mangle)]
+pub extern "C" fn bs_call_cancel_rows(manager: &mut Handle, txn: Txn, told: &mut Notices) -> Reply
+    ensures { CarriesRow (guarded_in manager.old) (call.Cancel (txn_id txn)) result told.new (guarded_in manager.new) }
+{
+    manager.carry_out_row(RowCall::Cancel { txn: txn.id() }, told)
+}
+
+/// Raises the lock of a node, and releases the children whose locks it then implies. Rows that nobody
+/// holds any more lose their nodes.
+#[unsafe(no_mangle)]
+pub extern "C" fn bs_call_escalate_rows(
+    manager: &mut Handle,
+    txn: Txn,
+    node: Node,
+    told: &mut Notices,
+) -> Reply
+    ensures { CarriesRow (guarded_in manager.old) (call.Escalate (txn_id txn) (node_id node)) result told.new (guarded_in manager.new) }
+{
+    let call = RowCall::Escalate {
+        txn: txn.id(),
+        node: node.id(),
+    };
+    manager.carry_out_row(call, told)
+}
+
+/// The node by which a row is named, which somebody holds or waits for.
+#[unsafe(no_mangle)]
+pub extern "C" fn bs_call_row_node(manager: &mut Handle, file: Node, number: u64) -> Reply
+    ensures { FindsRow (guarded_in manager.old) (row_at file number) result (guarded_in manager.new) }
+{
+    manager.row_node(file.row(number))
+}

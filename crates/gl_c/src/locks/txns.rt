@@ -1,0 +1,151 @@
+//! Transactions and their locks. Each call that tells somebody fills `told`, whatever it had before.
+
+ghost use Rattle.std.specs.Prelude.{[]};
+ghost use Rattle.gl_steps.specs.declared.command.Command.TheVariants as command;
+ghost use Rattle.gl_c.specs.managers.Carries.{Asks, Carries, Declines, Where};
+ghost use Rattle.gl_c.specs.managers.Handle.{guarded_in};
+ghost use Rattle.gl_c.specs.Names.{node_id, txn_id};
+ghost use Rattle.gl_c.specs.answers.Notices.{Tells};
+ghost use Rattle.gl_c.specs.Numbers.{bad_number, mode_at};
+ghost use Rattle.gl_c.specs.locks.Paths.{CarriesPath};
+
+use crate::answers::notices::Notices;
+use crate::answers::reply::Reply;
+use crate::managers::handle::Handle;
+use crate::names::{Node, Txn};
+use crate::numbers::{BAD_NUMBER, mode_at};
+use gl_catalog::Command;
+
+/// A new transaction.
+#[unsafe(no_mangle)]
+pub extern "C" fn bs_call_begin(manager: &mut Handle) -> Reply
+    ensures { Asks (guarded_in manager.old) command.Begin result (guarded_in manager.new) }
+{
+    manager.ask(Command::Begin)
+}
+
+/// Asks for a lock, and waits where it cannot be granted at once.
+#[unsafe(no_mangle)]
+pub extern "C" fn bs_call_lock(
+    manager: &mut Handle,
+    txn: Txn,
+    node: Node,
+    mode: u32,
+    told: &mut Notices,
+) -> Reply
+    ensures { Where (mode_at mode) (λ wanted. Carries (guarded_in manager.old) (command.Lock (txn_id txn) (node_id node) wanted) result told.new
+        (guarded_in manager.new)) (Declines (guarded_in manager.old) bad_number result (guarded_in manager.new) × Tells told.new []) }
+{
+    let Some(mode) = mode_at(mode) else {
+        told.clear();
+        return Reply::with_status(BAD_NUMBER);
+    };
+    let command = Command::Lock {
+        txn: txn.id(),
+        node: node.id(),
+        mode,
+    };
+    manager.carry_out(command, told)
+}
+
+/// Locks a node with what has to be held above it.
+#[unsafe(no_mangle)]
+pub extern "C" fn bs_call_lock_path(
+    manager: &mut Handle,
+    txn: Txn,
+    node: Node,
+    mode: u32,
+    told: &mut Notices,
+) -> Reply
+    ensures { Where (mode_at mode) (λ wanted. CarriesPath (guarded_in manager.old) (txn_id txn) (node_id node, wanted) result told.new
+        (guarded_in manager.new)) (Declines (guarded_in manager.old) bad_number result (guarded_in manager.new) × Tells told.new []) }
+{
+    let Some(mode) = mode_at(mode) else {
+        told.clear();
+        return Reply::with_status(BAD_NUMBER);
+    };
+    manager.lock_path(txn.id(), node.id(), mode, told)
+}
+
+/// Asks for a lock, and is refused where it cannot be granted at once.
+#[unsafe(no_mangle)]
+pub extern "C" fn bs_call_try(manager: &mut Handle, txn: Txn, node: Node, mode: u32) -> Reply
+    ensures { Where (mode_at mode) (λ wanted. Asks (guarded_in manager.old) (command.Try (txn_id txn) (node_id node) wanted) result
+        (guarded_in manager.new)) (Declines (guarded_in manager.old) bad_number result (guarded_in manager.new)) }
+{
+    let Some(mode) = mode_at(mode) else {
+        return Reply::with_status(BAD_NUMBER);
+    };
+    manager.ask(Command::Try {
+        txn: txn.id(),
+        node: node.id(),
+        mode,
+    })
+}
+
+/// Releases one node, of which no child is held.
+#[unsafe(no_mangle)]
+pub extern "C" fn bs_call_unlock(
+    manager: &mut Handle,
+    txn: Txn,
+    node: Node,
+    told: &mut Notices,
+) -> Reply
+    ensures { Carries (guarded_in manager.old) (command.Unlock (txn_id txn) (node_id node)) result told.new (guarded_in manager.new) }
+{
+    let command = Command::Unlock {
+        txn: txn.id(),
+        node: node.id(),
+    };
+    manager.carry_out(command, told)
+}
+
+/// Raises the lock of a node, and releases the children whose locks it then implies.
+#[unsafe(no_mangle)]
+pub extern "C" fn bs_call_escalate(
+    manager: &mut Handle,
+    txn: Txn,
+    node: Node,
+    told: &mut Notices,
+) -> Reply
+    ensures { Carries (guarded_in manager.old) (command.Escalate (txn_id txn) (node_id node)) result told.new (guarded_in manager.new) }
+{
+    let command = Command::Escalate {
+        txn: txn.id(),
+        node: node.id(),
+    };
+    manager.carry_out(command, told)
+}
+
+/// Takes a wait back.
+#[unsafe(no_mangle)]
+pub extern "C" fn bs_call_cancel(manager: &mut Handle, txn: Txn, told: &mut Notices) -> Reply
+    ensures { Carries (guarded_in manager.old) (command.Cancel (txn_id txn)) result told.new (guarded_in manager.new) }
+{
+    manager.carry_out(Command::Cancel { txn: txn.id() }, told)
+}
+
+/// Ends a transaction, and releases everything.
+#[unsafe(no_mangle)]
+pub extern "C" fn bs_call_commit(manager: &mut Handle, txn: Txn, told: &mut Notices) -> Reply
+    ensures { Carries (guarded_in manager.old) (command.Commit (txn_id txn)) result told.new (guarded_in manager.new) }
+{
+    manager.carry_out(Command::Commit { txn: txn.id() }, told)
+}
+
+/// Ends a transaction and releases everything, also while it waits or is condemned.
+#[unsafe(no_mangle)]
+pub extern "C" fn bs_call_abort(manager: &mut Handle, txn: Txn, told: &mut Notices) -> Reply
+    ensures { Carries (guarded_in manager.old) (command.Abort (txn_id txn)) result told.new (guarded_in manager.new) }
+{
+    manager.carry_out(Command::Abort { txn: txn.id() }, told)
+}
+
+/// Condemns those who lie on a cycle with a transaction, by the manager's choice of victims, until it
+/// is on none.
+#[unsafe(no_mangle)]
+pub extern "C" fn bs_call_settle(manager: &mut Handle, txn: Txn, told: &mut Notices) -> Reply
+    ensures { Carries (guarded_in manager.old) (command.Settle (txn_id txn)) result told.new (guarded_in manager.new) }
+{
+    manager.carry_out(Command::Settle { txn: txn.id() }, told)
+}

@@ -1,0 +1,302 @@
+//! The session of a manager: put to its place, taken out, and used.
+
+ghost use Rattle.std.specs.Prelude.{◌≡◌, [], IfSome, None, Some, is_some};
+ghost use Rattle.std.specs.Option.{option_map};
+ghost use Rattle.gl_c.specs.Boards.{Shows};
+ghost use Rattle.gl_c.specs.managers.Carries.{Asks, Carries};
+ghost use Rattle.gl_c.specs.managers.Handle.{guarded_in};
+ghost use Rattle.gl_c.specs.questions.Counts.{Counting};
+ghost use Rattle.gl_c.specs.questions.Deadlocks.{Recalls};
+ghost use Rattle.gl_c.specs.answers.Finding.{FindsEnded, FindsIn};
+ghost use Rattle.gl_graph.specs.Refusals.{first_refusal};
+ghost use Rattle.gl_header.specs.Header.{holds};
+ghost use Rattle.gl_model.specs.Calls.{group_tests, living_tests};
+ghost use Rattle.gl_model.specs.State.{members, waits_for};
+ghost use Rattle.gl_catalog.specs.Manager.{IsLawfulManager};
+ghost use Rattle.gl_c.specs.questions.Looks.{Looks};
+ghost use Rattle.gl_c.specs.locks.Paths.{CarriesPath};
+ghost use Rattle.gl_c.specs.answers.Notices.{Tells};
+ghost use Rattle.gl_c.specs.Numbers.{no_manager};
+ghost use Rattle.gl_c.specs.answers.Replies.{status_reply};
+ghost use Rattle.gl_c.specs.locks.Rows.{AsksRow, CarriesRow, FindsRow};
+ghost use Rattle.gl_c.specs.locks.Verdicts.{Judges};
+ghost use Rattle.gl_c.specs.watchers.Watching.{Attends};
+
+use super::Handle;
+use crate::answers::found::{Found, holders, waits_for};
+use crate::answers::notices::Notices;
+use crate::answers::reply::Reply;
+use crate::boards::board::Board;
+use crate::crossing::hand_over;
+use crate::managers::handle::held::Held;
+use crate::managers::session::Session;
+use crate::numbers::{DONE, NO_MANAGER};
+use crate::questions::counts::Counts;
+use crate::questions::deadlock::Deadlock;
+use crate::questions::look::Query;
+use gl_catalog::Command;
+use gl_modes::{Mode, NodeId};
+use gl_registry::{Row, RowCall};
+use gl_table::TxnId;
+use gl_window::{WatchFault, Watcher};
+use std::alloc::Global;
+use std::mem::replace;
+
+/// The reply where there is no manager, and nobody is told.
+fn declined(told: &mut Notices) -> Reply
+    ensures replied { result ≡ status_reply no_manager }
+    ensures tells { Tells told.new [] }
+{
+    told.clear();
+    Reply::with_status(NO_MANAGER)
+}
+
+impl Handle {
+    fn none(alloc: Global) -> Handle
+        ensures { guarded_in result ≡ None }
+    {
+        Handle {
+            is_open: false,
+            held: Held::none(alloc),
+            alloc,
+        }
+    }
+
+    /// The place of this session.
+    pub(crate) fn of(alloc: Global, session: Box<Session, Global>) -> Handle
+        ensures { guarded_in result ≡ Some session.value }
+    {
+        Handle {
+            is_open: true,
+            held: Held::of(hand_over(session)),
+            alloc,
+        }
+    }
+
+    /// Whether there is a session.
+    pub(crate) fn has_session(&self) -> bool
+        ensures { result ≡ is_some (guarded_in self.now) }
+    {
+        self.is_open
+    }
+
+    /// Takes the session out, if there is one.
+    pub(crate) fn take(&mut self) -> Option<Box<Session, Global>>
+        ensures taken { option_map (λ session. session.value) result ≡ guarded_in self.old }
+        ensures none { guarded_in self.new ≡ None }
+    {
+        let alloc = self.alloc;
+        let Handle { is_open, held, .. } = replace(self, Handle::none(alloc));
+        if is_open {
+            Some(held.into_session())
+        } else {
+            None
+        }
+    }
+
+    /// Carries out a command, and writes down whom it tells. Inlined, as all below it, so that a call for
+    /// one kind of command makes no choice.
+    #[inline(always)]
+    pub(crate) fn carry_out(&mut self, command: Command<'_>, told: &mut Notices) -> Reply
+        ensures { Carries (guarded_in self.old) command.entry result told.new (guarded_in self.new) }
+    {
+        let alloc = self.alloc;
+        let Some(mut session) = self.take() else {
+            return declined(told);
+        };
+        let reply = session.carry_out(command, told);
+        *self = Handle::of(alloc, session);
+        reply
+    }
+
+    /// Locks a node with what has to be held above it, and writes down whom it tells.
+    pub(crate) fn lock_path(
+        &mut self,
+        txn: TxnId,
+        node: NodeId,
+        mode: Mode,
+        told: &mut Notices,
+    ) -> Reply
+        ensures { CarriesPath (guarded_in self.old) txn (node, mode) result told.new (guarded_in self.new) }
+    {
+        let alloc = self.alloc;
+        let Some(mut session) = self.take() else {
+            return declined(told);
+        };
+        let reply = session.lock_path(txn, node, mode, told);
+        *self = Handle::of(alloc, session);
+        reply
+    }
+
+    /// Carries out a call about rows, and writes down whom it tells.
+    pub(crate) fn carry_out_row(&mut self, call: RowCall<'_>, told: &mut Notices) -> Reply
+        ensures { CarriesRow (guarded_in self.old) call.entry result told.new (guarded_in self.new) }
+    {
+        let alloc = self.alloc;
+        let Some(mut session) = self.take() else {
+            return declined(told);
+        };
+        let reply = session.carry_out_row(call, told);
+        *self = Handle::of(alloc, session);
+        reply
+    }
+
+    /// Carries out a call about rows that tells nobody.
+    pub(crate) fn ask_row(&mut self, call: RowCall<'_>) -> Reply
+        ensures { AsksRow (guarded_in self.old) call.entry result (guarded_in self.new) }
+    {
+        let alloc = self.alloc;
+        let Some(mut session) = self.take() else {
+            return Reply::with_status(NO_MANAGER);
+        };
+        let reply = session.ask_row(call);
+        *self = Handle::of(alloc, session);
+        reply
+    }
+
+    /// Carries out a command that tells nobody.
+    #[inline(always)]
+    pub(crate) fn ask(&mut self, command: Command<'_>) -> Reply
+        ensures { Asks (guarded_in self.old) command.entry result (guarded_in self.new) }
+    {
+        let alloc = self.alloc;
+        let Some(mut session) = self.take() else {
+            return Reply::with_status(NO_MANAGER);
+        };
+        let reply = session.ask(command);
+        *self = Handle::of(alloc, session);
+        reply
+    }
+
+    /// Answers a question.
+    pub(crate) fn look(&mut self, query: Query) -> Reply
+        ensures looks { Looks (guarded_in self.old) query result (guarded_in self.new) }
+        ensures law { IfSome (guarded_in self.old) (λ g. IsLawfulManager g.manager) }
+    {
+        let alloc = self.alloc;
+        let Some(session) = self.take() else {
+            return Reply::with_status(NO_MANAGER);
+        };
+        let reply = session.look(query);
+        *self = Handle::of(alloc, session);
+        reply
+    }
+
+    /// The node by which a row is named.
+    pub(crate) fn row_node(&mut self, row: Row) -> Reply
+        ensures { FindsRow (guarded_in self.old) row result (guarded_in self.new) }
+    {
+        let alloc = self.alloc;
+        let Some(session) = self.take() else {
+            return Reply::with_status(NO_MANAGER);
+        };
+        let reply = session.row_node(row);
+        *self = Handle::of(alloc, session);
+        reply
+    }
+
+    /// Writes the board of this moment down.
+    pub(crate) fn show(&mut self, board: &mut Board) -> Reply
+        ensures { Shows (guarded_in self.old) result board.old board.new (guarded_in self.new) }
+    {
+        let alloc = self.alloc;
+        let Some(session) = self.take() else {
+            return Reply::with_status(NO_MANAGER);
+        };
+        board.put(session.board());
+        *self = Handle::of(alloc, session);
+        Reply::with_status(DONE)
+    }
+
+    /// What became of the wait of a transaction for a node.
+    pub(crate) fn verdict(&mut self, txn: TxnId, node: NodeId, mode: Mode) -> Reply
+        ensures { Judges (guarded_in self.old) txn node mode result (guarded_in self.new) }
+    {
+        let alloc = self.alloc;
+        let Some(session) = self.take() else {
+            return Reply::with_status(NO_MANAGER);
+        };
+        let reply = session.verdict(txn, node, mode);
+        *self = Handle::of(alloc, session);
+        reply
+    }
+
+    /// The slots whose wait the last accepted command may have ended.
+    pub(crate) fn ended(&mut self) -> Found
+        ensures { FindsEnded (guarded_in self.old) result (guarded_in self.new) }
+    {
+        let alloc = self.alloc;
+        let Some(session) = self.take() else {
+            return Found::none(NO_MANAGER);
+        };
+        let found = Found::of(session.ended().bits());
+        *self = Handle::of(alloc, session);
+        found
+    }
+
+    /// A watcher that knows the board of now; `None` where there is no manager.
+    pub(crate) fn watch(&mut self) -> Option<Result<Watcher, WatchFault>>
+        ensures { Attends (guarded_in self.old) result (guarded_in self.new) }
+    {
+        let alloc = self.alloc;
+        let Some(mut session) = self.take() else {
+            return None;
+        };
+        let watcher = session.watch(alloc);
+        *self = Handle::of(alloc, session);
+        Some(watcher)
+    }
+
+    /// The slots of those who hold a node.
+    pub(crate) fn holders(&mut self, node: NodeId) -> Found
+        ensures { FindsIn (guarded_in self.old) (λ s. first_refusal (group_tests s node)) (λ s u. holds (members s node) u) result (guarded_in self.new) }
+    {
+        let alloc = self.alloc;
+        let Some(session) = self.take() else {
+            return Found::none(NO_MANAGER);
+        };
+        let found = holders(session.manager(), node);
+        *self = Handle::of(alloc, session);
+        found
+    }
+
+    /// The slots of those for whom a transaction waits.
+    pub(crate) fn waits_for(&mut self, txn: TxnId) -> Found
+        ensures { FindsIn (guarded_in self.old) (λ s. first_refusal (living_tests s txn)) (λ s u. waits_for s txn.slot u) result (guarded_in self.new) }
+    {
+        let alloc = self.alloc;
+        let Some(session) = self.take() else {
+            return Found::none(NO_MANAGER);
+        };
+        let found = waits_for(session.manager(), txn);
+        *self = Handle::of(alloc, session);
+        found
+    }
+
+    /// Writes the last deadlock down.
+    pub(crate) fn recall(&mut self, deadlock: &mut Deadlock) -> Reply
+        ensures { Recalls (guarded_in self.old) result deadlock.old deadlock.new (guarded_in self.new) }
+    {
+        let alloc = self.alloc;
+        let Some(session) = self.take() else {
+            return Reply::with_status(NO_MANAGER);
+        };
+        let reply = deadlock.recall(session.manager());
+        *self = Handle::of(alloc, session);
+        reply
+    }
+
+    /// Writes down what the manager has been doing.
+    pub(crate) fn count(&mut self, counts: &mut Counts) -> Reply
+        ensures { Counting (guarded_in self.old) result counts.old counts.new (guarded_in self.new) }
+    {
+        let alloc = self.alloc;
+        let Some(session) = self.take() else {
+            return Reply::with_status(NO_MANAGER);
+        };
+        let manager = session.manager();
+        *counts = Counts::of(manager.accepted(), manager.counters());
+        *self = Handle::of(alloc, session);
+        Reply::with_status(DONE)
+    }
+}

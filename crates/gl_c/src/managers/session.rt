@@ -1,0 +1,188 @@
+//! A manager with its list of notices.
+
+ghost use Rattle.gl_slots.specs.Limit.{most_slots};
+ghost use Rattle.std.specs.Prelude.{◌≡◌, ◌≤◌, ◌^◌, IfErr, IfOk, Some};
+ghost use Rattle.gl_modes.specs.declared.refusal.Refusal.{Refusal as ARefusal};
+ghost use Rattle.gl_table.specs.Table.{board_of};
+ghost use Rattle.gl_catalog.specs.Manager.{IsLawfulManager, state_of};
+ghost use Rattle.gl_registry.specs.Rows.{name_of};
+ghost use Rattle.gl_window.specs.Boards.{Ends};
+ghost use Rattle.gl_wakes.specs.Boxes.{verdict_of};
+ghost use Rattle.gl_c.specs.managers.Carries.{Answers, Replies};
+ghost use Rattle.gl_c.specs.questions.Looks.{looked};
+ghost use Rattle.gl_c.specs.locks.Paths.{RepliesPath};
+ghost use Rattle.gl_c.specs.managers.Managing.{IsNew};
+ghost use Rattle.gl_c.specs.locks.Rows.{AnswersRow, RepliesRow, named_reply};
+ghost use Rattle.gl_c.specs.locks.Verdicts.{verdict_reply};
+ghost use Rattle.gl_c.specs.watchers.Watching.{OnlyShows};
+
+use crate::answers::notices::Notices;
+use crate::answers::reply::Reply;
+use crate::managers::guarded::Guarded;
+use crate::questions::look::{Query, look};
+use gl_catalog::{Command, Manager};
+use gl_modes::{Mode, NodeId, Refusal};
+use gl_registry::{Row, RowCall};
+use gl_slots::Slots;
+use gl_table::{Detect, Told, TxnId};
+use gl_waits::Victims;
+use gl_window::{WatchFault, Watcher};
+use std::alloc::Global;
+use std::marker::Model;
+
+/// A manager with all that is guarded with it, and the list that its commands fill, which is empty
+/// between them: it is some six kilobytes large, so that it is made once.
+#[derive(Drop)]
+pub(crate) struct Session {
+    guarded: Guarded,
+    told: Told,
+}
+
+impl Model for Session {
+    ghost use Rattle.gl_c.specs.managers.Guarded.{GuardedView};
+
+    ghost Value = { GuardedView };
+
+    ghost use Rattle.gl_c.specs.managers.Session.{guarded_of, IsIdle};
+
+    ghost view = { guarded_of };
+
+    ghost invariant = { IsIdle };
+}
+
+impl Session {
+    /// A session of a new manager, for at most so many transactions and nodes at once, and bounds of an
+    /// index. The only refusal is `NoMemory`.
+    pub(crate) fn new(
+        alloc: Global,
+        detect: Detect,
+        victims: Victims,
+        most: usize,
+        nodes: u32,
+        bounds: u32,
+    ) -> Result<Self, Refusal>
+        requires some { 1 ≤ most }
+        requires few { most ≤ most_slots }
+        requires low { nodes ≤ 2 ^ 31 }
+        ensures made { IfOk result (λ session. IsNew detect victims most nodes bounds session) }
+        ensures refused { IfErr result (λ refusal. refusal ≡ ARefusal.NoMemory) }
+    {
+        let guarded = Guarded::new(alloc, detect, victims, most, nodes, bounds)?;
+        Ok(Session {
+            guarded,
+            told: Told::new(),
+        })
+    }
+
+    /// Carries out a command, and writes down whom it tells.
+    #[inline(always)]
+    pub(crate) fn carry_out(&mut self, command: Command<'_>, notices: &mut Notices) -> Reply
+        ensures { Replies self.old command.entry result notices.new self.new }
+    {
+        let answer = self.guarded.serve(command, &mut self.told);
+        notices.put(self.told.as_slice());
+        self.told.clear();
+        Reply::of_served(answer)
+    }
+
+    /// Locks a node with what has to be held above it, and writes down whom it tells.
+    pub(crate) fn lock_path(
+        &mut self,
+        txn: TxnId,
+        node: NodeId,
+        mode: Mode,
+        notices: &mut Notices,
+    ) -> Reply
+        ensures { RepliesPath self.old txn (node, mode) result notices.new self.new }
+    {
+        let reached = self.guarded.serve_path(txn, node, mode, &mut self.told);
+        notices.put(self.told.as_slice());
+        self.told.clear();
+        Reply::of_path(node, reached)
+    }
+
+    /// Carries out a call about rows, and writes down whom it tells.
+    pub(crate) fn carry_out_row(&mut self, call: RowCall<'_>, notices: &mut Notices) -> Reply
+        ensures { RepliesRow self.old call.entry result notices.new self.new }
+    {
+        let answer = self.guarded.serve_row(call, &mut self.told);
+        notices.put(self.told.as_slice());
+        self.told.clear();
+        Reply::of_row_call(answer)
+    }
+
+    /// Carries out a call about rows of which nobody is to be told.
+    pub(crate) fn ask_row(&mut self, call: RowCall<'_>) -> Reply
+        ensures { AnswersRow self.old call.entry result self.new }
+    {
+        let answer = self.guarded.serve_row(call, &mut self.told);
+        self.told.clear();
+        Reply::of_row_call(answer)
+    }
+
+    /// Carries out a command of which nobody is to be told.
+    #[inline(always)]
+    pub(crate) fn ask(&mut self, command: Command<'_>) -> Reply
+        ensures { Answers self.old command.entry result self.new }
+    {
+        let answer = self.guarded.serve(command, &mut self.told);
+        self.told.clear();
+        Reply::of_served(answer)
+    }
+
+    /// The node by which a row is named.
+    pub(crate) fn row_node(&self, row: Row) -> Reply
+        ensures { result ≡ named_reply (name_of self.now.rows row) }
+    {
+        match self.guarded.node(row) {
+            Some(node) => Reply::with_node(node),
+            None => Reply::refused(Refusal::NoSuchNode),
+        }
+    }
+
+    /// Answers a question.
+    pub(crate) fn look(&self, query: Query) -> Reply
+        ensures looked { result ≡ looked self.now.manager query }
+        ensures law { IsLawfulManager self.now.manager }
+    {
+        let manager = self.guarded.manager();
+        manager.law();
+        look(manager, query)
+    }
+
+    /// Who waits for whom at this moment.
+    pub(crate) fn board(&self) -> gl_waits::Board
+        ensures { result ≡ board_of (state_of self.now.manager) }
+    {
+        self.guarded.manager().board()
+    }
+
+    /// What became of the wait of a transaction for a node.
+    pub(crate) fn verdict(&self, txn: TxnId, node: NodeId, mode: Mode) -> Reply
+        ensures { result ≡ verdict_reply (verdict_of (state_of self.now.manager) self.now.boxes txn node mode) }
+    {
+        Reply::of_verdict(self.guarded.verdict(txn, node, mode))
+    }
+
+    /// The slots whose wait the last accepted command may have ended.
+    pub(crate) fn ended(&self) -> Slots
+        ensures { result ≡ self.now.ended }
+    {
+        self.guarded.ended()
+    }
+
+    /// A watcher that knows the board of now.
+    pub(crate) fn watch(&mut self, alloc: Global) -> Result<Watcher, WatchFault>
+        ensures kept { OnlyShows self.old self.new }
+        ensures watcher { IfOk result (λ watcher. (self.new.shown ≡ Some watcher) × Ends watcher.list (board_of (state_of self.old.manager))) }
+    {
+        self.guarded.watch(alloc)
+    }
+
+    /// The manager, to be asked.
+    pub(crate) fn manager(&self) -> &Manager
+        ensures { result.now ≡ self.now.manager }
+    {
+        self.guarded.manager()
+    }
+}
