@@ -11,6 +11,7 @@ ghost use Rattle.gl_model.specs.declared.txn.Status.TheVariants.{Active};
 ghost use Rattle.gl_modes.specs.declared.mode.Mode.TheVariants.{NL};
 ghost use Rattle.gl_modes.specs.declared.node.NodeId.{NodeId as Node};
 ghost use Rattle.gl_table.specs.inside.Ledger.{Agrees, AreExact, AreSound, CountsHeld, state_in};
+ghost use Rattle.gl_table.specs.inside.Steps.{AreExactFor, IsReleased};
 ghost use Rattle.gl_table.specs.inside.Slots.{AreKept, CanStrike, CanTell, IsShedding, Strikes, TellsOthers, WaitsEnd, as_left, books_of, counted_by, room_by};
 
 use crate::ledger::Ledger;
@@ -90,21 +91,12 @@ impl Ledger {
         list: &mut LockList,
         told: &mut Told,
     )
-        requires sound { AreSound self.old }
-        requires orderly { IsOrderly (state_in graph.now self.old) }
-        requires agree { (u : ℕ) → (u == slot) ≡ false → Agrees (state_in graph.now self.old) self.old.lists.items u }
-        requires count { (u : ℕ) → (u == slot) ≡ false → CountsHeld (state_in graph.now self.old) self.old.lists.items u }
+        requires others { AreExactFor graph.now self.old (λ u. (u == slot) ≡ false) }
         requires active { status_of (state_in graph.now self.old) slot ≡ Some Active }
         requires marked { IsShedding (state_in graph.now self.old) (state_in graph.now self.old) slot node list.old }
         requires tell { CanTell told.old.items (λ u. is_wait (status_of (state_in graph.now self.old) u)) }
-        ensures sound { AreSound self.new }
-        ensures orderly { IsOrderly (state_in graph.now self.new) }
-        ensures state { state_in graph.now self.new ≡ shed (state_in graph.now self.old) slot node }
-        ensures agree { (u : ℕ) → (u == slot) ≡ false → Agrees (state_in graph.now self.new) self.new.lists.items u }
-        ensures count { (u : ℕ) → (u == slot) ≡ false → CountsHeld (state_in graph.now self.new) self.new.lists.items u }
-        ensures active { status_of (state_in graph.now self.new) slot ≡ Some Active }
-        ensures marked { IsShedding (state_in graph.now self.old) (state_in graph.now self.new) slot node list.new }
-        ensures modes { (q : Node) → mode_of list.new q ≡ (state_in graph.now self.new).held slot q }
+        ensures others { AreExactFor graph.now self.new (λ u. (u == slot) ≡ false) }
+        ensures released { IsReleased (state_in graph.now self.old) (state_in graph.now self.new) slot node list.new }
         ensures tells { TellsOthers slot (state_in graph.now self.old) (state_in graph.now self.new) told.old.items told.new.items }
     {
         graph.law();

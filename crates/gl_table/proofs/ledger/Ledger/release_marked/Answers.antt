@@ -7,12 +7,12 @@ use Rattle.gl_table.proofs.ledger.Ledger.release_marked.Goals as goal
 
 pub loop-at-init : goal.loop-at-init
 loop-at-init c = record {
-  sound = c.requires.sound;
+  sound = c.requires.others.sound;
   within = omega arith;
   passed = λ i n le at. absurd (none_some (sym (slice_get_past (keys c.args.list.now.entries) i (omega arith)) ∙ at));
   releasing = record {
-    leaving = leaving_begins (state_in c.args.graph.now c.args.self.now) c.args.slot c.args.self.now.lists.items c.args.told.now.items c.requires.orderly
-        c.requires.agree c.requires.count c.requires.tell;
+    leaving = leaving_begins (state_in c.args.graph.now c.args.self.now) c.args.slot c.args.self.now.lists.items c.args.told.now.items c.requires.others.orderly
+        c.requires.others.agree c.requires.others.count c.requires.tell;
     marked = c.requires.marked;
     covered = λ q h. clash h (and-not_self (holds (members (state_in c.args.graph.now c.args.self.now) q) c.args.slot));
   };
@@ -53,12 +53,18 @@ loop-at-preserved-in-Some c = record {
       c.drop_and_wake.ensures.lists c.drop_and_wake.ensures.tells);
 }
 
-pub returns-clause-state : goal.returns-clause-state
-returns-clause-state c = releasing_ends c.loop-at.invariant.releasing (λ i n le at. c.loop-at.invariant.passed i n (omega arith) at)
+pub returns-clause-others : goal.returns-clause-others
+returns-clause-others c = let is = c.loop-at.invariant.releasing.leaving in
+    record { sound = c.loop-at.invariant.sound; orderly = is.orderly; agree = is.agree; count = is.count }
+
+pub returns-clause-released : goal.returns-clause-released
+returns-clause-released c = let is = c.loop-at.invariant.releasing in record {
+  state = releasing_ends is (λ i n le at. c.loop-at.invariant.passed i n (omega arith) at);
+  active = ap status_in is.leaving.txn ∙ c.requires.active;
+  marked = is.marked;
+  modes = releasing_modes is (λ i n le at. c.loop-at.invariant.passed i n (omega arith) at);
+}
 
 pub returns-clause-tells : goal.returns-clause-tells
 returns-clause-tells c = let is = c.loop-at.invariant.releasing.leaving in
     record { by_slot = is.by_slot; others = λ s way same. (is.tells s way same).1; own = is.own }
-
-pub returns-clause-modes : goal.returns-clause-modes
-returns-clause-modes c = releasing_modes c.loop-at.invariant.releasing (λ i n le at. c.loop-at.invariant.passed i n (omega arith) at)
