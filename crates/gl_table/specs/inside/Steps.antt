@@ -11,7 +11,7 @@ use Rattle.gl_graph.specs.Shapes.{is_movable_shape}
 use Rattle.gl_graph.specs.View.{View, graph_of}
 use Rattle.gl_header.specs.Header.{fits, holds, is_among_waiters}
 use Rattle.gl_header.specs.Headers.{IsOneHolder}
-use Rattle.gl_header.specs.State.{slot_limit}
+use Rattle.gl_header.specs.State.{HeaderState, slot_limit}
 use Rattle.gl_header.specs.declared.header.Asked.{Asked}
 use Rattle.gl_listed.specs.Lists.{mode_of}
 use Rattle.gl_listed.specs.declared.list.LockList.{LockList}
@@ -38,3 +38,86 @@ pub record IsReleased (s now : State) (t : ℕ) (n : NodeId) (l : LockList) : Ty
   pub active : status_of now t ≡ Some Active
   pub marked : IsShedding s now t n l
   pub modes : (q : NodeId) → mode_of l q ≡ now.held t q
+
+-- t has left all that it held: it holds nothing and waits for nothing, and once its seat is free it is released
+pub record HasLeftAll (s now : State) (t : ℕ) : Type 0 where
+  pub most : now.most ≡ s.most
+  pub state : released s t ≡ with_txn now t None
+  pub free : (n : NodeId) → now.held t n ≡ NL
+  pub out : (n : NodeId) → is_among_waiters t (now.queue n) ≡ false
+
+-- the ledger is in order over a graph, and each list has the modes of its slot; what is counted may be out
+pub record AreAgreed (g : View) (l : Ledger) : Type 0 where
+  pub sound : AreSound l
+  pub orderly : IsOrderly (state_in g l)
+  pub agree : (u : ℕ) → Agrees (state_in g l) l.lists.items u
+
+-- those who wait for n hold nothing of it, and none of them can be granted
+pub record AreShutOut (s : State) (n : NodeId) : Type 0 where
+  pub newcomers : (u : ℕ) → is_among_waiters u (s.queue n) ≡ true → s.held u n ≡ NL
+  pub stuck : list_all (λ w. not (fits slot_limit (members s n) w.0 w.1)) (s.queue n) ≡ true
+
+-- where t holds n, its list can count n at these new parents in place of the old ones
+pub record CanRecount (s : State) (ls : List LockList) (t : ℕ) (n : NodeId) (old new : List NodeId) : Type 0 where
+  pub slot : t < length ls
+  pub counted : holds (members s n) t ≡ true → (q : NodeId) → count_by (same_node q) old ≤ counted_by ls t q
+  pub listed : unlisted_by ls t new ≡ 0
+  pub few : (q : NodeId) → counted_by ls t q + count_by (same_node q) new < 2 ^ 32
+
+-- so it counts it now; all other counts are as they were
+abbrev pub Recounts : State → List LockList → ℕ → NodeId → List NodeId → List NodeId → List LockList → Type 0
+Recounts s ls t n old new ls' =
+    (u : ℕ) (q : NodeId) → counted_by ls' u q + (if (u == t) && holds (members s n) t then count_by (same_node q) old else 0)
+    ≡ counted_by ls u q + (if (u == t) && holds (members s n) t then count_by (same_node q) new else 0)
+
+-- n has moved: waits on it that do not meet the rule of the graph over its parents are over, and who waited so is told
+pub record HasMoved (g : View) (n : NodeId) (l l' : Ledger) (list list' : Told) : Type 0 where
+  pub sound : AreSound l'
+  pub state : state_in g l' ≡ moved_to (state_in g l) n (parents_of (graph_of g) n) (graph_of g)
+  pub agree : (u : ℕ) → Agrees (state_in g l') l'.lists.items u
+  pub tells : IsTold (state_in g l).txns
+      (λ u. is_among_waiters u (filter (λ w. not (stays (state_in g l) (parents_of (graph_of g) n) w)) ((state_in g l).queue n))) (λ u. notice.Moved) list list'
+
+-- the ledger is in order and exact over a graph, and the transaction in this slot is active
+pub record MayAct (g : View) (l : Ledger) (t : ℕ) : Type 0 where
+  pub exact : AreExact g l
+  pub orderly : IsOrderly (state_in g l)
+  pub active : status_of (state_in g l) t ≡ Some Active
+
+-- n lives, nobody holds a child of it, and nobody but t holds n
+pub record IsLeftTo (s : State) (t : ℕ) (n : NodeId) : Type 0 where
+  pub live : is_live s.graph n ≡ true
+  pub childless : (u : ℕ) → held_children s u n ≡ 0
+  pub alone : (u : ℕ) → (u == t) ≡ false → s.held u n ≡ NL
+
+-- n is in no use, t holds it, nobody else holds n or a child that goes with it, and nobody waits for a child
+pub record IsBranchLeftTo (s : State) (t : ℕ) (n : NodeId) : Type 0 where
+  pub movable : is_movable_shape (shape_of s.graph n) ≡ true
+  pub free : is_in_use s.graph n ≡ false
+  pub holding : holds (members s n) t ≡ true
+  pub alone : (u : ℕ) (q : NodeId) → (u == t) ≡ false → goes_with s.graph n q ≡ true → s.held u q ≡ NL
+  pub unawaited : (q : NodeId) → is_child s.graph n q ≡ true → s.queue q ≡ []
+
+-- t can come to hold a node with this key in this mode, by a header that was prepared: the room is there
+pub record IsReady (l : Ledger) (t key : ℕ) (m : Mode) (prepared : HeaderState) : Type 0 where
+  pub header : IsOneHolder prepared t m
+  pub headers_room : key < l.headers.room
+  pub lists_room : HasRoomAt l.lists.items t
+
+-- t can ask for n in a mode m: n lives, and this is what t holds of it, and these are its parents
+pub record CanAsk (g : View) (l : Ledger) (t : ℕ) (n : NodeId) (m held : Mode) (parents : List NodeId) : Type 0 where
+  pub live : is_live (graph_of g) n ≡ true
+  pub lock : m ≢ NL
+  pub held_is : held ≡ held_by l.lists.items t n
+  pub parents_are : parents ≡ parents_of (graph_of g) n
+
+-- t asked for n and has this answer: it was granted at once, or it waits
+pub record HasAsked (s now : State) (t : ℕ) (n : NodeId) (m : Mode) (answer : Asked) : Type 0 where
+  pub answered : answer ≡ asked_at s t n m
+  pub enters : enters_at s t n m ≡ true → now ≡ granted s t n m
+  pub waits : enters_at s t n m ≡ false → now ≡ enqueued s t n (wanted s t n m)
+
+-- t was granted this mode
+pub record HasGrant (s now : State) (t : ℕ) (n : NodeId) (m given : Mode) : Type 0 where
+  pub mode : given ≡ wanted s t n m
+  pub state : now ≡ granted s t n m
