@@ -6,7 +6,7 @@ use Rattle.gl_table.proofs.Words.{is_child}
 use Rattle.gl_table.proofs.Words.{is_live, IsIndexBorn, IsLawful, IsSound, List, list_all, list_any, Mode, nat_tests, NL, node_at, NodeId, nodes, nodes_live}
 use Rattle.gl_table.proofs.Words.{None, not}
 use Rattle.gl_table.proofs.Words.{not_true, OnErr, parents_in, refl, Refusal, Refuses, Result, rules, same_mode, same_node, same_node-refl, same_number}
-use Rattle.gl_table.proofs.Words.{shape_of, Some}
+use Rattle.gl_table.proofs.Words.{IsBranchLeftTo, same_mode-equal, shape_of, Some}
 use Rattle.gl_table.proofs.Words.{split, State, state_in, state_of, status_of, subst, sym, true, View, view_of, with_grant, with_graph, X, ℕ}
 use Rattle.gl_modes.proofs.Words.{no, or_elim, or_left}
 use Rattle.gl_modes.proofs.NodeLemmas.{same_node-equal}
@@ -102,7 +102,7 @@ module _ (s : State) (law : IsLawful s) (t : ℕ) (n : NodeId) (movable : is_mov
   held_is m h = search rules
 
   -- nobody else holds the node or a child of it
-  pub branch_alone : (u : ℕ) (q : NodeId) → (u == t) ≡ false → goes_with s.graph n q ≡ true → s.held u q ≡ NL
+  branch_alone : (u : ℕ) (q : NodeId) → (u == t) ≡ false → goes_with s.graph n q ≡ true → s.held u q ≡ NL
   branch_alone u q other e =
       or_elim (same_node n q) (is_child s.graph n q) e
       (λ here. ap (s.held u) (sym (same_node-equal n q here)) ∙ held_alone s law t n holding u other)
@@ -118,7 +118,7 @@ module _ (s : State) (law : IsLawful s) (t : ℕ) (n : NodeId) (movable : is_mov
       ∙ ap (λ v. is_among_waiters v (s.queue q)) (sym (same_number u t e)) ∙ h))
       (λ e. nl_below (s.held u n) (held_alone s law t n holding u e) (holds_parent u q wait.0 c (law.waits_intend u q wait.0 wait.1).0))
 
-  pub branch_unawaited : (q : NodeId) → is_child s.graph n q ≡ true → s.queue q ≡ []
+  branch_unawaited : (q : NodeId) → is_child s.graph n q ≡ true → s.queue q ≡ []
   branch_unawaited q c = by (s.queue q) (λ u h. no_waiter u q c h)
     where
       by : (ws : List (ℕ × Mode)) → ((u : ℕ) → is_among_waiters u ws ≡ true → ⊥) → ws ≡ []
@@ -127,6 +127,15 @@ module _ (s : State) (law : IsLawful s) (t : ℕ) (n : NodeId) (movable : is_mov
         where
           same_slot : (k : ℕ) → (k == k) ≡ true
           same_slot k = grind (arith, nat_tests)
+
+  pub branch_left : IsBranchLeftTo s t n
+  branch_left = record {
+    movable = movable;
+    free = free;
+    holding = ap (λ m. not (same_mode m NL)) (same_mode-equal (s.held t n) X holding);
+    alone = branch_alone;
+    unawaited = branch_unawaited;
+  }
 
   -- what goes
   pub branch_gone : (g' : Graph) → g' ≡ without_branch s.graph n → AreGone s (goes_with s.graph n) g' n

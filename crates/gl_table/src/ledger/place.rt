@@ -5,16 +5,14 @@ ghost use Rattle.std.specs.Prelude.{◌≡◌, ◌≢◌, ◌<◌, ◌==◌, ℕ
 ghost use Rattle.gl_modes.specs.Nodes.{same_node};
 ghost use Rattle.gl_modes.specs.declared.mode.Mode.TheVariants.{NL};
 ghost use Rattle.gl_modes.specs.declared.refusal.Refusal.{Refusal as ARefusal};
-ghost use Rattle.gl_graph.specs.Graph.{is_child, is_live, shape_of};
-ghost use Rattle.gl_graph.specs.Refusals.{is_in_use};
-ghost use Rattle.gl_graph.specs.Shapes.{is_movable_shape};
+ghost use Rattle.gl_graph.specs.Graph.{is_live};
 ghost use Rattle.gl_graph.specs.View.{graph_of};
 ghost use Rattle.gl_header.specs.Header.{holds, is_among_waiters};
-ghost use Rattle.gl_model.specs.Calls.{departed, goes_with, held_children};
-ghost use Rattle.gl_modes.specs.declared.node.NodeId.{NodeId as Node};
+ghost use Rattle.gl_model.specs.Calls.{departed, goes_with};
 ghost use Rattle.gl_table.specs.inside.Slots.{CanEnd, CanTell, HasRoomAt, WaitsEnd, as_left, books_of, counted_by};
 ghost use Rattle.gl_model.specs.Tellings.{IsBySlot, IsTold, notices_in};
-ghost use Rattle.gl_table.specs.inside.Ledger.{Agrees, AreExact, AreSound, CountsHeld, KeepsLocks, state_in};
+ghost use Rattle.gl_table.specs.inside.Ledger.{AreExact, KeepsLocks, state_in};
+ghost use Rattle.gl_table.specs.inside.Steps.{IsBranchLeftTo, IsLeftTo, MayAct};
 ghost use Rattle.gl_model.specs.Lawful.{IsOrderly};
 ghost use Rattle.gl_header.specs.Headers.{IsOneHolder};
 ghost use Rattle.gl_model.specs.State.{members, status_of, with_grant};
@@ -56,18 +54,12 @@ impl Ledger {
     /// Takes all locks on a node away that an active slot holds and nobody else, and of which nobody holds a
     /// child. Those who wait for it are active again, and are told that it is gone.
     pub(crate) fn vacate(&mut self, graph: &Graph, slot: Slot, node: NodeId, told: &mut Told)
-        requires exact { AreExact graph.now self.old }
-        requires orderly { IsOrderly (state_in graph.now self.old) }
-        requires active { status_of (state_in graph.now self.old) slot ≡ Some Active }
-        requires live { is_live (graph_of graph.now) node ≡ true }
-        requires childless { (u : ℕ) → held_children (state_in graph.now self.old) u node ≡ 0 }
+        requires act { MayAct graph.now self.old slot }
+        requires left { IsLeftTo (state_in graph.now self.old) slot node }
         requires holds { holds (members (state_in graph.now self.old) node) slot ≡ true }
-        requires alone { (u : ℕ) → (u == slot) ≡ false → (state_in graph.now self.old).held u node ≡ NL }
         requires tell { CanTell told.old.items (λ u. is_among_waiters u ((state_in graph.now self.old).queue node)) }
+        ensures exact { AreExact graph.now self.new }
         ensures state { state_in graph.now self.new ≡ departed (state_in graph.now self.old) (λ q. same_node q node) (graph_of graph.now) }
-        ensures sound { AreSound self.new }
-        ensures agree { (u : ℕ) → Agrees (departed (state_in graph.now self.old) (λ q. same_node q node) (graph_of graph.now)) self.new.lists.items u }
-        ensures count { (u : ℕ) → CountsHeld (departed (state_in graph.now self.old) (λ q. same_node q node) (graph_of graph.now)) self.new.lists.items u }
         ensures tells { IsTold (state_in graph.now self.old).txns (λ u. is_among_waiters u ((state_in graph.now self.old).queue node))
             (λ u. notice.Gone) told.old.items told.new.items }
     {
@@ -84,12 +76,8 @@ impl Ledger {
     /// Takes the lock on a node away that an active slot may hold, and nobody else. Nobody waits for the node or
     /// holds a child of it, so nobody is told.
     fn clear(&mut self, graph: &Graph, slot: Slot, node: NodeId, told: &mut Told)
-        requires exact { AreExact graph.now self.old }
-        requires orderly { IsOrderly (state_in graph.now self.old) }
-        requires active { status_of (state_in graph.now self.old) slot ≡ Some Active }
-        requires live { is_live (graph_of graph.now) node ≡ true }
-        requires childless { (u : ℕ) → held_children (state_in graph.now self.old) u node ≡ 0 }
-        requires alone { (u : ℕ) → (u == slot) ≡ false → (state_in graph.now self.old).held u node ≡ NL }
+        requires act { MayAct graph.now self.old slot }
+        requires left { IsLeftTo (state_in graph.now self.old) slot node }
         requires unawaited { (state_in graph.now self.old).queue node ≡ [] }
         requires by_slot { IsBySlot told.old.items }
         ensures exact { AreExact graph.now self.new }
@@ -106,15 +94,8 @@ impl Ledger {
     /// intervals. An active slot holds the node, nobody else holds any of them, and nobody waits for a child.
     /// Those who wait for the node are active again, and are told that it is gone.
     pub(crate) fn vacate_branch(&mut self, graph: &Graph, slot: Slot, node: NodeId, told: &mut Told)
-        requires exact { AreExact graph.now self.old }
-        requires orderly { IsOrderly (state_in graph.now self.old) }
-        requires active { status_of (state_in graph.now self.old) slot ≡ Some Active }
-        requires movable { is_movable_shape (shape_of (graph_of graph.now) node) ≡ true }
-        requires free { is_in_use (graph_of graph.now) node ≡ false }
-        requires holds { holds (members (state_in graph.now self.old) node) slot ≡ true }
-        requires alone { (u : ℕ) (q : Node) → (u == slot) ≡ false → goes_with (graph_of graph.now) node q ≡ true
-            → (state_in graph.now self.old).held u q ≡ NL }
-        requires unawaited { (q : Node) → is_child (graph_of graph.now) node q ≡ true → (state_in graph.now self.old).queue q ≡ [] }
+        requires act { MayAct graph.now self.old slot }
+        requires branch { IsBranchLeftTo (state_in graph.now self.old) slot node }
         requires tell { CanTell told.old.items (λ u. is_among_waiters u ((state_in graph.now self.old).queue node)) }
         ensures exact { AreExact graph.now self.new }
         ensures state { state_in graph.now self.new ≡ departed (state_in graph.now self.old) (goes_with (graph_of graph.now) node) (graph_of graph.now) }

@@ -5,7 +5,8 @@ use Rattle.gl_model.specs.declared.answers.Notice.TheVariants as notice
 use Rattle.gl_table.proofs.inside.Vacated.{record-childless}
 use Rattle.gl_table.proofs.calls.Departing.{AreGone, stands_departed, state_departed, told_departed}
 use Rattle.gl_table.proofs.calls.Records.{held_alone, record_gone}
-use Rattle.gl_table.proofs.calls.Stands.{MayStand, with_locks}
+use Rattle.gl_table.proofs.Words.{Active, Some, status_of}
+use Rattle.gl_table.proofs.calls.Stands.{as_it_was, may_act, MayStand, with_locks}
 use Rattle.gl_table.specs.declared.table.Table.TheInside.{Inside}
 use Rattle.gl_table.proofs.table.Table.remove_telling.Goals.{After-remove_record}
 use Rattle.gl_table.proofs.table.Table.remove_telling.Goals as goal
@@ -14,24 +15,20 @@ is_record : (i : Inside) (v : TableView) (r : NodeId) → view_of i ≡ v → is
     → is_record_shape (shape_of (graph_of i.locks.graph) r) ≡ true
 is_record i v r is rec = subst (λ (x : TableView). is_record_shape (shape_of (state_of x).graph r) ≡ true) (sym is) rec
 
-pub vacate-requires-clause-orderly : goal.vacate-requires-clause-orderly
-vacate-requires-clause-orderly c = c.self.inside.locks.orderly
+pub vacate-requires-clause-act : goal.vacate-requires-clause-act
+vacate-requires-clause-act c = may_act c.self.inside.locks.graph c.self.inside.locks.ledger (as_it_was c.self.inside c.self.invariant).law c.args.t.slot
+    (subst (λ (v : TableView). status_of (state_of v) c.args.t.slot ≡ Some Active) (sym c.self.view_is) c.requires.active)
 
-pub vacate-requires-clause-live : goal.vacate-requires-clause-live
-vacate-requires-clause-live c =
-    rec_live (graph_of c.self.inside.locks.graph) c.self.invariant.lawful.graph c.args.rec
-    (is_record c.self.inside c.args.self.now c.args.rec c.self.view_is c.requires.record)
-
-pub vacate-requires-clause-childless : goal.vacate-requires-clause-childless
-vacate-requires-clause-childless c =
-    λ u. record-childless (graph_of c.self.inside.locks.graph) c.self.invariant.lawful.graph c.args.rec
-    (is_record c.self.inside c.args.self.now c.args.rec c.self.view_is c.requires.record)
-    (λ q. holds (members (state_of (view_of c.self.inside)) q) u)
-
-pub vacate-requires-clause-alone : goal.vacate-requires-clause-alone
-vacate-requires-clause-alone c =
-    held_alone (state_of (view_of c.self.inside)) c.self.invariant.lawful c.args.t.slot c.args.rec
-    (subst (λ (v : TableView). same_mode ((state_of v).held c.args.t.slot c.args.rec) X ≡ true) (sym c.self.view_is) c.requires.exclusive)
+pub vacate-requires-clause-left : goal.vacate-requires-clause-left
+vacate-requires-clause-left c =
+    let rec = is_record c.self.inside c.args.self.now c.args.rec c.self.view_is c.requires.record in
+    record {
+      live = rec_live (graph_of c.self.inside.locks.graph) c.self.invariant.lawful.graph c.args.rec rec;
+      childless = λ u. record-childless (graph_of c.self.inside.locks.graph) c.self.invariant.lawful.graph c.args.rec rec
+          (λ q. holds (members (state_of (view_of c.self.inside)) q) u);
+      alone = held_alone (state_of (view_of c.self.inside)) c.self.invariant.lawful c.args.t.slot c.args.rec
+          (subst (λ (v : TableView). same_mode ((state_of v).held c.args.t.slot c.args.rec) X ≡ true) (sym c.self.view_is) c.requires.exclusive);
+    }
 
 gone : (c : After-remove_record)
     → AreGone (state_of (view_of c.self.inside)) (λ q. same_node q c.args.rec) (graph_of c.remove_record.new.self) c.args.rec
@@ -42,7 +39,7 @@ gone c =
 stand : (c : After-remove_record) → MayStand c.self.inside c.remove_record.new.self c.vacate.new.self
 stand c =
     stands_departed c.self.inside c.self.invariant (λ q. same_node q c.args.rec) c.args.rec c.vacate.new.self c.remove_record.new.self (gone c)
-    c.vacate.ensures.state c.vacate.ensures.sound c.vacate.ensures.agree c.vacate.ensures.count
+    c.vacate.ensures.state c.vacate.ensures.exact
 
 pub invariant_of-self : goal.invariant_of-self
 invariant_of-self c = (stand (goal.at.invariant_of-self c).After-remove_record).safe
