@@ -6,7 +6,7 @@ use Rattle.gl_table.proofs.Words.{is_child}
 use Rattle.gl_table.proofs.Words.{is_live, IsIndexBorn, IsLawful, IsSound, List, list_all, list_any, Mode, nat_tests, NL, node_at, NodeId, nodes, nodes_live}
 use Rattle.gl_table.proofs.Words.{None, not}
 use Rattle.gl_table.proofs.Words.{not_true, OnErr, parents_in, refl, Refusal, Refuses, Result, rules, same_mode, same_node, same_node-refl, same_number}
-use Rattle.gl_table.proofs.Words.{IsBranchLeftTo, same_mode-equal, shape_of, Some}
+use Rattle.gl_table.proofs.Words.{IsBranchLeftTo, IsFresh, same_mode-equal, shape_of, Some}
 use Rattle.gl_table.proofs.Words.{split, State, state_in, state_of, status_of, subst, sym, true, View, view_of, with_grant, with_graph, X, ℕ}
 use Rattle.gl_modes.proofs.Words.{no, or_elim, or_left}
 use Rattle.gl_modes.proofs.NodeLemmas.{same_node-equal}
@@ -167,14 +167,8 @@ module _ (i : Inside) (sound : IsSound i) (ps : List NodeId) (f : NodeId) (bs : 
       (λ n free' born. roomy_index-grows before sound.lawful ps f bs (reindex_unrefused before.graph ps f bs free) (graph_of v) n born)
 
   module _ (n : NodeId) (born : IsIndexBorn (graph_of i.locks.graph) (graph_of v) n ps f bs) where
-    pub index_lives : is_live (graph_of v) n ≡ true
-    index_lives = index-live before sound.lawful ps f bs (reindex_unrefused before.graph ps f bs free) (graph_of v) n born
-
-    pub index_unheld : (u : ℕ) → before.held u n ≡ NL
-    index_unheld = index-unheld before sound.lawful ps f bs (reindex_unrefused before.graph ps f bs free) (graph_of v) n born
-
-    pub index_unawaited : before.queue n ≡ []
-    index_unawaited = index-unawaited before sound.lawful ps f bs (reindex_unrefused before.graph ps f bs free) (graph_of v) n born
+    pub index_fresh : IsFresh (state_in v i.locks.ledger) n
+    index_fresh = record { live = index-live before sound.lawful ps f bs (reindex_unrefused before.graph ps f bs free) (graph_of v) n born; unheld = index-unheld before sound.lawful ps f bs (reindex_unrefused before.graph ps f bs free) (graph_of v) n born; unawaited = index-unawaited before sound.lawful ps f bs (reindex_unrefused before.graph ps f bs free) (graph_of v) n born }
 
     -- the slot holds it
     module _ (t : ℕ) (ledger : Ledger) (is : state_in v ledger ≡ with_grant (state_in v i.locks.ledger) t n X) where

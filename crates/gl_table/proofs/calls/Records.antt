@@ -20,6 +20,7 @@ use Rattle.gl_model.proofs.law.Orderly.{lawful_orderly}
 use Rattle.gl_table.proofs.calls.Stands.{MayStand, stands, with_locks}
 use Rattle.gl_table.proofs.calls.Law.{called, held-lives, Suits, suited-stands}
 use Rattle.gl_table.proofs.calls.Queries.{children_in}
+use Rattle.gl_table.proofs.Words.{IsFresh}
 use Rattle.gl_table.proofs.inside.Asks.{state-same}
 use Rattle.gl_table.proofs.inside.Slots.{keeps-agrees, keeps-counts}
 use Rattle.gl_model.proofs.law.Lock.{granted-no_cycle, shed-no_cycle}
@@ -107,14 +108,12 @@ module _ (i : Inside) (sound : IsSound i) (f : NodeId) (keys : List ℕ) (free :
       (λ n free' born. record-grows before sound.lawful f keys roomy_record.file roomy_record.each roomy_record.room (graph_of v) n born)
 
   module _ (n : NodeId) (born : IsBorn (graph_of i.locks.graph) (graph_of v) n (Rec keys) (record_parents (graph_of i.locks.graph) f keys)) where
-    pub record_lives : is_live (graph_of v) n ≡ true
-    record_lives = born-live before sound.lawful f keys roomy_record.file roomy_record.each roomy_record.room (graph_of v) n born
-
-    pub record_unheld : (u : ℕ) → before.held u n ≡ NL
-    record_unheld = born-unheld before sound.lawful f keys roomy_record.file roomy_record.each roomy_record.room (graph_of v) n born
-
-    pub record_unawaited : before.queue n ≡ []
-    record_unawaited = born-unawaited before sound.lawful f keys roomy_record.file roomy_record.each roomy_record.room (graph_of v) n born
+    pub record_fresh : IsFresh (state_in v i.locks.ledger) n
+    record_fresh = record {
+      live = born-live before sound.lawful f keys roomy_record.file roomy_record.each roomy_record.room (graph_of v) n born;
+      unheld = born-unheld before sound.lawful f keys roomy_record.file roomy_record.each roomy_record.room (graph_of v) n born;
+      unawaited = born-unawaited before sound.lawful f keys roomy_record.file roomy_record.each roomy_record.room (graph_of v) n born;
+    }
 
     -- the slot holds it
     module _ (t : ℕ) (ledger : Ledger) (is : state_in v ledger ≡ with_grant (state_in v i.locks.ledger) t n X) where

@@ -90,6 +90,12 @@ pub record IsLeftTo (s : State) (t : ℕ) (n : NodeId) : Type 0 where
   pub childless : (u : ℕ) → held_children s u n ≡ 0
   pub alone : (u : ℕ) → (u == t) ≡ false → s.held u n ≡ NL
 
+-- n lives, and nobody holds it or waits for it
+pub record IsFresh (s : State) (n : NodeId) : Type 0 where
+  pub live : is_live s.graph n ≡ true
+  pub unheld : (u : ℕ) → s.held u n ≡ NL
+  pub unawaited : s.queue n ≡ []
+
 -- n is in no use, t holds it, nobody else holds n or a child that goes with it, and nobody waits for a child
 pub record IsBranchLeftTo (s : State) (t : ℕ) (n : NodeId) : Type 0 where
   pub movable : is_movable_shape (shape_of s.graph n) ≡ true
@@ -98,8 +104,8 @@ pub record IsBranchLeftTo (s : State) (t : ℕ) (n : NodeId) : Type 0 where
   pub alone : (u : ℕ) (q : NodeId) → (u == t) ≡ false → goes_with s.graph n q ≡ true → s.held u q ≡ NL
   pub unawaited : (q : NodeId) → is_child s.graph n q ≡ true → s.queue q ≡ []
 
--- t can come to hold a node with this key in this mode, by a header that was prepared: the room is there
-pub record IsReady (l : Ledger) (t key : ℕ) (m : Mode) (prepared : HeaderState) : Type 0 where
+-- room was made for t to come to hold a node with this key, by a header that was prepared with t's grant of this mode
+pub record IsPrepared (l : Ledger) (t key : ℕ) (m : Mode) (prepared : HeaderState) : Type 0 where
   pub header : IsOneHolder prepared t m
   pub headers_room : key < l.headers.room
   pub lists_room : HasRoomAt l.lists.items t

@@ -5,19 +5,15 @@ ghost use Rattle.std.specs.Prelude.{◌≡◌, ◌≢◌, ◌<◌, ◌==◌, ℕ
 ghost use Rattle.gl_modes.specs.Nodes.{same_node};
 ghost use Rattle.gl_modes.specs.declared.mode.Mode.TheVariants.{NL};
 ghost use Rattle.gl_modes.specs.declared.refusal.Refusal.{Refusal as ARefusal};
-ghost use Rattle.gl_graph.specs.Graph.{is_live};
 ghost use Rattle.gl_graph.specs.View.{graph_of};
 ghost use Rattle.gl_header.specs.Header.{holds, is_among_waiters};
 ghost use Rattle.gl_model.specs.Calls.{departed, goes_with};
-ghost use Rattle.gl_table.specs.inside.Slots.{CanEnd, CanTell, HasRoomAt, WaitsEnd, as_left, books_of, counted_by};
+ghost use Rattle.gl_table.specs.inside.Slots.{CanEnd, CanTell, WaitsEnd, as_left, books_of, counted_by};
 ghost use Rattle.gl_model.specs.Tellings.{IsBySlot, IsTold, notices_in};
 ghost use Rattle.gl_table.specs.inside.Ledger.{AreExact, KeepsLocks, state_in};
-ghost use Rattle.gl_table.specs.inside.Steps.{IsBranchLeftTo, IsLeftTo, MayAct};
-ghost use Rattle.gl_model.specs.Lawful.{IsOrderly};
-ghost use Rattle.gl_header.specs.Headers.{IsOneHolder};
-ghost use Rattle.gl_model.specs.State.{members, status_of, with_grant};
+ghost use Rattle.gl_table.specs.inside.Steps.{IsBranchLeftTo, IsFresh, IsLeftTo, IsPrepared, MayAct};
+ghost use Rattle.gl_model.specs.State.{members, with_grant};
 ghost use Rattle.gl_model.specs.declared.answers.Notice.TheVariants as notice;
-ghost use Rattle.gl_model.specs.declared.txn.Status.TheVariants.{Active};
 
 use crate::ledger::Ledger;
 use crate::ledger::ask::make_room;
@@ -121,10 +117,8 @@ impl Ledger {
         requires slot { slot < length self.old.lists.items }
         requires below { slot < most_slots }
         requires lock { mode ≢ NL }
-        ensures header { IfOk result (λ prepared. IsOneHolder prepared slot mode) }
+        ensures ready { IfOk result (λ prepared. IsPrepared self.new slot key mode prepared) }
         ensures kept { KeepsLocks self.old self.new }
-        ensures headers_room { OnOk result (key < self.new.headers.room) }
-        ensures lists_room { OnOk result (HasRoomAt self.new.lists.items slot) }
         ensures no_memory { IfErr result (λ refusal. refusal ≡ ARefusal.NoMemory) }
     {
         make_room(&mut self.lists, slot)?;
@@ -141,16 +135,10 @@ impl Ledger {
         mode: Mode,
         prepared: Prepared,
     )
-        requires exact { AreExact graph.now self.old }
-        requires orderly { IsOrderly (state_in graph.now self.old) }
-        requires active { status_of (state_in graph.now self.old) slot ≡ Some Active }
-        requires live { is_live (graph_of graph.now) node ≡ true }
-        requires unheld { (u : ℕ) → (state_in graph.now self.old).held u node ≡ NL }
-        requires unawaited { (state_in graph.now self.old).queue node ≡ [] }
+        requires act { MayAct graph.now self.old slot }
+        requires fresh { IsFresh (state_in graph.now self.old) node }
         requires lock { mode ≢ NL }
-        requires header { IsOneHolder prepared slot mode }
-        requires headers_room { node.key < self.old.headers.room }
-        requires lists_room { HasRoomAt self.old.lists.items slot }
+        requires ready { IsPrepared self.old slot node.key mode prepared }
         ensures exact { AreExact graph.now self.new }
         ensures state { state_in graph.now self.new ≡ with_grant (state_in graph.now self.old) slot node mode }
     {
