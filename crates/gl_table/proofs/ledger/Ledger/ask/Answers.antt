@@ -15,26 +15,23 @@ use Rattle.gl_table.proofs.ledger.Ledger.ask.Goals.{After-make_room_to_ask, Afte
 use Rattle.gl_table.proofs.ledger.Ledger.ask.Goals.{else-not-is_member}
 use Rattle.gl_table.proofs.ledger.Ledger.ask.Goals as goal
 
-may : (c : After-make_room_to_ask) → MayAct c.args.graph.now c.args.self.now c.args.slot
-may c = record { exact = c.requires.exact; orderly = c.requires.orderly; active = c.requires.active }
-
 -- whether the slot holds the node, as its list says
 member_is : (c : After-make_room_to_ask) → c.ne-is_member.result ≡ holds (members (state_in c.args.graph.now c.args.self.now) c.args.node) c.args.slot
 member_is c =
     let is : c.ne-is_member.result ≡ not (same_mode c.args.held NL) = search rules in
-    is ∙ ap (λ m. not (same_mode m NL)) (c.requires.held ∙ (c.requires.exact.agree c.args.slot).modes c.args.node)
+    is ∙ ap (λ m. not (same_mode m NL)) (c.requires.can.held_is ∙ (c.requires.act.exact.agree c.args.slot).modes c.args.node)
 
 -- with the room that was made, all is as it was
 
 may_now : (c : After-make_room_to_ask) → MayAct c.args.graph.now c.make_room_to_ask.new.self c.args.slot
-may_now c = roomy_may c.make_room_to_ask.new.self (may c) c.make_room_to_ask.ensures.rest c.make_room_to_ask.ensures.kept
+may_now c = roomy_may c.make_room_to_ask.new.self c.requires.act c.make_room_to_ask.ensures.rest c.make_room_to_ask.ensures.kept
 
 same : (c : After-make_room_to_ask) → state_in c.args.graph.now c.make_room_to_ask.new.self ≡ state_in c.args.graph.now c.args.self.now
-same c = roomy_same c.make_room_to_ask.new.self (may c) c.make_room_to_ask.ensures.rest c.make_room_to_ask.ensures.kept
+same c = roomy_same c.make_room_to_ask.new.self c.requires.act c.make_room_to_ask.ensures.rest c.make_room_to_ask.ensures.kept
 
 says : (c : After-make_room_to_ask) → is_granted_at c.make_room_to_ask.new.self.headers.entries c.args.slot c.args.node c.args.mode
     ≡ enters_at (state_in c.args.graph.now c.args.self.now) c.args.slot c.args.node c.args.mode
-says c = roomy_says c.make_room_to_ask.new.self (may c) c.make_room_to_ask.ensures.rest c.make_room_to_ask.ensures.kept c.args.node c.args.mode
+says c = roomy_says c.make_room_to_ask.new.self c.requires.act c.make_room_to_ask.ensures.rest c.make_room_to_ask.ensures.kept c.args.node c.args.mode
 
 member_now : (c : After-make_room_to_ask) → holds (members (state_in c.args.graph.now c.make_room_to_ask.new.self) c.args.node) c.args.slot
     ≡ c.ne-is_member.result
@@ -52,7 +49,7 @@ pub ask-requires-clause-alone : goal.ask-requires-clause-alone
 ask-requires-clause-alone c = let p = (goal.at.ask-requires-clause-alone c).After-make_room_to_ask in
     its_key c.make_room_to_ask.new.self
     (subst AreHeaders (sym (ap (λ (x : Ledger). x.headers.entries) c.make_room_to_ask.ensures.rest)) c.law-2.ensures.headers) (may_now p).orderly
-    c.law.ensures.lawful c.args.node c.requires.live
+    c.law.ensures.lawful c.args.node c.requires.can.live
 
 -- the refusals
 
@@ -64,7 +61,7 @@ pub returns-in_err-make_room_to_ask-clause-held : goal.returns-in_err-make_room_
 returns-in_err-make_room_to_ask-clause-held c =
     let p = (goal.at.returns-in_err-make_room_to_ask-clause-held c).After-make_room_to_ask in
     λ h e. clash (c.in_err-make_room_to_ask.ensures.at_once
-    (ap₂ (λ x y. x && y) (member_is p ∙ h) (says_is c.args.graph.now c.args.self.now c.args.slot c.args.node c.args.mode (may p) ∙ e))) refl
+    (ap₂ (λ x y. x && y) (member_is p ∙ h) (says_is c.args.graph.now c.args.self.now c.args.slot c.args.node c.args.mode c.requires.act ∙ e))) refl
 
 pub returns-in_err-asked-clause-exact : goal.returns-in_err-asked-clause-exact
 returns-in_err-asked-clause-exact c =
@@ -110,13 +107,13 @@ count_up-requires-clause-room c =
     (c.in_ok-make_room_to_ask.ensures.room (ap (λ b. b && is_granted_at c.args.self.now.headers.entries c.args.slot c.args.node c.args.mode)
     c.if-is_member.false))).1 in
     let kept = c.enter.ensures.room in
-    subst (λ ps. unlisted c.enter.new.self ps ≤ spare c.enter.new.self.loose) (sym c.requires.parents)
+    subst (λ ps. unlisted c.enter.new.self ps ≤ spare c.enter.new.self.loose) (sym c.requires.can.parents_are)
     (parents-room c.args.graph.now c.law.ensures.lawful c.args.node c.enter.new.self (omega arith))
 
 pub count_up-requires-clause-few : goal.count_up-requires-clause-few
 count_up-requires-clause-few c =
     let p = (goal.at.count_up-requires-clause-few c).After-make_room_to_ask in
-    λ q h. subst (λ ps. count_of c.enter.new.self q + count_by (same_node q) ps < 2 ^ 32) (sym c.requires.parents)
+    λ q h. subst (λ ps. count_of c.enter.new.self q + count_by (same_node q) ps < 2 ^ 32) (sym c.requires.can.parents_are)
     (subst (λ (k : ℕ). k + count_by (same_node q) (parents_of (graph_of c.args.graph.now) c.args.node) < 2 ^ 32) (sym (c.enter.ensures.counts q))
     (own-few c.args.graph.now c.make_room_to_ask.new.self c.args.slot (may_now p) c.index_mut-list.result.now c.index_mut-list.ensures.value
     c.law.ensures.lawful c.args.node q))
@@ -147,8 +144,8 @@ put_raised c m held = let g = c.args.graph.now in let l = c.make_room_to_ask.new
     let r = roomy_ready l m c.make_room_to_ask.ensures.rest c.make_room_to_ask.ensures.kept n c.args.mode c.ne-is_member.result true held
     now c.in_ok-make_room_to_ask.ensures.room in
     let listed = slot-listed g l t r.may in
-    is_granted _ r c.in_ok-asked.asked c.in-Granted.wanted c.law.ensures.lawful c.requires.live
-    c.requires.lock c.in_ok-asked.ensures.answer c.in-Granted.is c.in_ok-asked.ensures.granted refl
+    is_granted _ r c.in_ok-asked.asked c.in-Granted.wanted c.law.ensures.lawful c.requires.can.live
+    c.requires.can.lock c.in_ok-asked.ensures.answer c.in-Granted.is c.in_ok-asked.ensures.granted refl
     (has_node-set l.lists.items t x x' listed c.index_mut-list.ensures.value n c.in-Granted.wanted c.set_mode.ensures.modes
     (λ q. c.set_mode.ensures.listed q ∙ also_listed x n (own-listed g l t r.may x c.index_mut-list.ensures.value n ∙ r.is_held ∙ c.if-is_member.true) q))
     (counts-entered l.lists.items t x x' listed c.index_mut-list.ensures.value
@@ -169,13 +166,13 @@ put_new c m held = let g = c.args.graph.now in let l = c.make_room_to_ask.new.se
     let r = roomy_ready l m c.make_room_to_ask.ensures.rest c.make_room_to_ask.ensures.kept n c.args.mode c.ne-is_member.result true held
     now c.in_ok-make_room_to_ask.ensures.room in
     let listed = slot-listed g l t r.may in
-    is_granted _ r c.in_ok-asked.asked c.in-Granted-2.wanted c.law.ensures.lawful c.requires.live
-    c.requires.lock c.in_ok-asked.ensures.answer c.in-Granted-2.is c.in_ok-asked.ensures.granted refl
+    is_granted _ r c.in_ok-asked.asked c.in-Granted-2.wanted c.law.ensures.lawful c.requires.can.live
+    c.requires.can.lock c.in_ok-asked.ensures.answer c.in-Granted-2.is c.in_ok-asked.ensures.granted refl
     (has_node-set l.lists.items t x x' listed c.index_mut-list.ensures.value n c.in-Granted-2.wanted
     (λ q. c.count_up.ensures.modes q ∙ c.enter.ensures.modes q) (λ q. c.count_up.ensures.listed q ∙ c.enter.ensures.listed q))
     (counts-entered l.lists.items t x x' listed c.index_mut-list.ensures.value
     (λ q. if same_mode (held_of l.headers.entries t n) NL then count_by (same_node q) (parents_of (graph_of g) n) else 0)
-    (λ q. c.count_up.ensures.counts q ∙ ap₂ (λ k ps. k + count_by (same_node q) ps) (c.enter.ensures.counts q) c.requires.parents
+    (λ q. c.count_up.ensures.counts q ∙ ap₂ (λ k ps. k + count_by (same_node q) ps) (c.enter.ensures.counts q) c.requires.can.parents_are
     ∙ ap (λ b. count_of x q + (if b then count_by (same_node q) (parents_of (graph_of g) n) else 0)) (sym (not-false _ (r.is_held ∙ c.if-is_member.false)))))
 
 -- the list of one who waits has the node
@@ -225,52 +222,39 @@ put c m held = let g = c.args.graph.now in let l = c.make_room_to_ask.new.self i
     is_enqueued g c.args.self.now l (record c.if-not-is_member.self { seats = c.set_status.new.self }) t n c.args.mode c.sup-wanted.result _ r
     c.ask.new.self.entries c.if-not-is_member.self.seats.items
     (ap (λ h. h.entries) (same_headers c)) c.in_ok-asked.ensures.waits (ap (λ x. x.items) (same_seats c)) c.set_status.ensures.len c.set_status.ensures.txns
-    (c.sup-wanted.ensures ∙ ap (λ k. supremum k c.args.mode) (c.requires.held ∙ (m.exact.agree t).modes n
+    (c.sup-wanted.ensures ∙ ap (λ k. supremum k c.args.mode) (c.requires.can.held_is ∙ (m.exact.agree t).modes n
     ∙ ap (λ s. s.held t n) (sym (roomy_same l m c.make_room_to_ask.ensures.rest c.make_room_to_ask.ensures.kept))))
     (listed c r.may r.is_held (says_is g c.args.self.now t n c.args.mode m ∙ blocks c m))
 
 pub returns-in-Granted-clause-exact : goal.returns-in-Granted-clause-exact
 returns-in-Granted-clause-exact c = let at = goal.at.returns-in-Granted-clause-exact c in let p = at.After-make_room_to_ask in
-    let now = put_raised at.After-set_mode (may p) (member_is p) in record { sound = now.sound; agree = now.agree; count = now.count }
+    let now = put_raised at.After-set_mode c.requires.act (member_is p) in record { sound = now.sound; agree = now.agree; count = now.count }
 
-pub returns-in-Granted-clause-answer : goal.returns-in-Granted-clause-answer
-returns-in-Granted-clause-answer c = answer_is (goal.at.returns-in-Granted-clause-answer c).After-make_room_to_ask _ c.in_ok-asked.ensures.answer
-
-pub returns-in-Granted-clause-granted : goal.returns-in-Granted-clause-granted
-returns-in-Granted-clause-granted c = let at = goal.at.returns-in-Granted-clause-granted c in
-    let p = at.After-make_room_to_ask in λ e. (put_raised at.After-set_mode (may p) (member_is p)).state
-
-pub returns-in-Granted-clause-waits : goal.returns-in-Granted-clause-waits
-returns-in-Granted-clause-waits c = let at = goal.at.returns-in-Granted-clause-waits c in
-    let p = at.After-make_room_to_ask in λ e. clash (sym (says p) ∙ answer-enters _ _ _ _ c.in_ok-asked.ensures.answer c.in-Granted.is) e
+pub returns-in-Granted-clause-asked : goal.returns-in-Granted-clause-asked
+returns-in-Granted-clause-asked c = let at = goal.at.returns-in-Granted-clause-asked c in let p = at.After-make_room_to_ask in record {
+  answered = answer_is p _ c.in_ok-asked.ensures.answer;
+  enters = λ e. (put_raised at.After-set_mode c.requires.act (member_is p)).state;
+  waits = λ e. clash (sym (says p) ∙ answer-enters _ _ _ _ c.in_ok-asked.ensures.answer c.in-Granted.is) e;
+}
 
 pub returns-in-Granted-2-clause-exact : goal.returns-in-Granted-2-clause-exact
 returns-in-Granted-2-clause-exact c = let at = goal.at.returns-in-Granted-2-clause-exact c in let p = at.After-make_room_to_ask in
-    let now = put_new at.After-count_up (may p) (member_is p) in record { sound = now.sound; agree = now.agree; count = now.count }
+    let now = put_new at.After-count_up c.requires.act (member_is p) in record { sound = now.sound; agree = now.agree; count = now.count }
 
-pub returns-in-Granted-2-clause-answer : goal.returns-in-Granted-2-clause-answer
-returns-in-Granted-2-clause-answer c = answer_is (goal.at.returns-in-Granted-2-clause-answer c).After-make_room_to_ask _ c.in_ok-asked.ensures.answer
-
-pub returns-in-Granted-2-clause-granted : goal.returns-in-Granted-2-clause-granted
-returns-in-Granted-2-clause-granted c = let at = goal.at.returns-in-Granted-2-clause-granted c in
-    let p = at.After-make_room_to_ask in λ e. (put_new at.After-count_up (may p) (member_is p)).state
-
-pub returns-in-Granted-2-clause-waits : goal.returns-in-Granted-2-clause-waits
-returns-in-Granted-2-clause-waits c = let at = goal.at.returns-in-Granted-2-clause-waits c in
-    let p = at.After-make_room_to_ask in λ e. clash (sym (says p) ∙ answer-enters _ _ _ _ c.in_ok-asked.ensures.answer c.in-Granted-2.is) e
+pub returns-in-Granted-2-clause-asked : goal.returns-in-Granted-2-clause-asked
+returns-in-Granted-2-clause-asked c = let at = goal.at.returns-in-Granted-2-clause-asked c in let p = at.After-make_room_to_ask in record {
+  answered = answer_is p _ c.in_ok-asked.ensures.answer;
+  enters = λ e. (put_new at.After-count_up c.requires.act (member_is p)).state;
+  waits = λ e. clash (sym (says p) ∙ answer-enters _ _ _ _ c.in_ok-asked.ensures.answer c.in-Granted-2.is) e;
+}
 
 pub returns-after-not-is_member-clause-exact : goal.returns-after-not-is_member-clause-exact
 returns-after-not-is_member-clause-exact c = let at = goal.at.returns-after-not-is_member-clause-exact c in let p = at.After-make_room_to_ask in
-    let now = put at.After-set_status (may p) (member_is p) in record { sound = now.sound; agree = now.agree; count = now.count }
+    let now = put at.After-set_status c.requires.act (member_is p) in record { sound = now.sound; agree = now.agree; count = now.count }
 
-pub returns-after-not-is_member-clause-answer : goal.returns-after-not-is_member-clause-answer
-returns-after-not-is_member-clause-answer c = answer_is (goal.at.returns-after-not-is_member-clause-answer c).After-make_room_to_ask _
-    c.in_ok-asked.ensures.answer
-
-pub returns-after-not-is_member-clause-granted : goal.returns-after-not-is_member-clause-granted
-returns-after-not-is_member-clause-granted c = let at = goal.at.returns-after-not-is_member-clause-granted c in
-    let p = at.After-make_room_to_ask in λ e. clash e (blocks at.After-set_status (may p))
-
-pub returns-after-not-is_member-clause-waits : goal.returns-after-not-is_member-clause-waits
-returns-after-not-is_member-clause-waits c = let at = goal.at.returns-after-not-is_member-clause-waits c in
-    let p = at.After-make_room_to_ask in λ e. (put at.After-set_status (may p) (member_is p)).state
+pub returns-after-not-is_member-clause-asked : goal.returns-after-not-is_member-clause-asked
+returns-after-not-is_member-clause-asked c = let at = goal.at.returns-after-not-is_member-clause-asked c in let p = at.After-make_room_to_ask in record {
+  answered = answer_is p _ c.in_ok-asked.ensures.answer;
+  enters = λ e. clash e (blocks at.After-set_status c.requires.act);
+  waits = λ e. (put at.After-set_status c.requires.act (member_is p)).state;
+}
