@@ -13,8 +13,9 @@ ghost use Rattle.gl_graph.specs.View.{graph_of};
 ghost use Rattle.gl_header.specs.Header.{holds, is_among_waiters};
 ghost use Rattle.gl_model.specs.Calls.{unlocked};
 ghost use Rattle.gl_model.specs.State.{is_write, front_at, is_waiting_at, pumped, without_wait, members, with_grant};
-ghost use Rattle.gl_table.specs.inside.Ledger.{Agrees, AreSound, CountsHeld, state_in, AreNew};
-ghost use Rattle.gl_model.specs.Lawful.{IsOrderly, effect_on};
+ghost use Rattle.gl_table.specs.inside.Ledger.{AreSound, state_in, AreNew};
+ghost use Rattle.gl_table.specs.inside.Steps.{AreExactFor};
+ghost use Rattle.gl_model.specs.Lawful.{effect_on};
 ghost use Rattle.gl_table.specs.inside.Seats.{txn_in, txns_of};
 ghost use Rattle.gl_table.specs.Table.{row_of};
 ghost use Rattle.gl_table.specs.inside.Slots.{CanEnd, CanHold, CanTell, Wakes, WakesLists, books_of, by_list, counted_by, held_by};
@@ -169,14 +170,9 @@ impl Ledger {
         granted: &mut GrantList,
         told: &mut Told,
     )
-        requires sound { AreSound self.old }
-        requires orderly { IsOrderly (state_in graph.now self.old) }
+        requires waiters { AreExactFor graph.now self.old (λ u. is_among_waiters u ((state_in graph.now self.old).queue node) ≡ true) }
         requires holds { holds (members (state_in graph.now self.old) node) slot ≡ true }
         requires no_wait { is_among_waiters slot ((state_in graph.now self.old).queue node) ≡ false }
-        requires agree { (u : ℕ) → is_among_waiters u ((state_in graph.now self.old).queue node) ≡ true
-            → Agrees (state_in graph.now self.old) self.old.lists.items u }
-        requires count { (u : ℕ) → is_among_waiters u ((state_in graph.now self.old).queue node) ≡ true
-            → CountsHeld (state_in graph.now self.old) self.old.lists.items u }
         requires tell { CanTell told.old.items (λ u. is_among_waiters u ((state_in graph.now self.old).queue node)) }
         ensures sound { AreSound self.new }
         ensures state { state_in graph.now self.new ≡ unlocked (state_in graph.now self.old) slot node }
@@ -200,13 +196,8 @@ impl Ledger {
         status: Status,
         told: &mut Told,
     )
-        requires sound { AreSound self.old }
-        requires orderly { IsOrderly (state_in graph.now self.old) }
+        requires waiters { AreExactFor graph.now self.old (λ u. is_among_waiters u ((state_in graph.now self.old).queue node) ≡ true) }
         requires waits { is_waiting_at (state_in graph.now self.old) slot node ≡ true }
-        requires agree { (u : ℕ) → is_among_waiters u ((state_in graph.now self.old).queue node) ≡ true
-            → Agrees (state_in graph.now self.old) self.old.lists.items u }
-        requires count { (u : ℕ) → is_among_waiters u ((state_in graph.now self.old).queue node) ≡ true
-            → CountsHeld (state_in graph.now self.old) self.old.lists.items u }
         requires by_slot { IsBySlot told.old.items }
         requires untold { (u : ℕ) → is_among_waiters u ((state_in graph.now self.old).queue node) ≡ true → (u == slot) ≡ false
             → notices_in told.old.items u ≡ None }

@@ -6,10 +6,10 @@ use Rattle.gl_table.proofs.Words.{list_all, LockList, members, members_at, Mode,
 use Rattle.gl_table.proofs.Words.{not_true, notice_of, notices_in, Option, or-false, or_right, queue_of, refl, restatus, room_by, same_mode, same_mode-equal}
 use Rattle.gl_table.proofs.Words.{same_node, same_node-equal, same_node-refl, same_number, slice_index_or, slot_limit, Some, some_is, split, State, state_on}
 use Rattle.gl_table.proofs.Words.{status_in, status_of, stays, subst, sym, Told, told_from, told_to, true, Txn, TxnId, Waiter, Waiting, WaitsEnd, with_waiters}
-use Rattle.gl_table.proofs.Words.{without_waiter, ℕ}
+use Rattle.gl_table.proofs.Words.{CanEndAt, without_waiter, ℕ}
 use Rattle.gl_model.specs.declared.answers.Notice.TheVariants as notice
 use Rattle.gl_table.proofs.inside.Slots.{by_list-at}
-use Rattle.gl_table.proofs.inside.Woken.{agrees_given_up, ends_more, ends_none, seat_still, untold_still}
+use Rattle.gl_table.proofs.inside.Woken.{agrees_given_up, ends_more, ends_none, kept_still, seat_still, untold_still}
 use Rattle.gl_table.specs.declared.ledger.Ledger.{Ledger}
 use Rattle.gl_model.proofs.law.Strays.{all_filtered, all_of_some, all_or_chosen, among_failing, filter_all, stuck_front, without_chosen}
 use Rattle.gl_model.proofs.law.Takes.{restatus_is}
@@ -109,8 +109,12 @@ module _ (g : Graph) (l : Ledger) (o : IsOrderly (state_on g l)) (n : NodeId) (f
       fresh : (is_lost s n f t && not (pending t)) ≡ false
       fresh = ap (λ b. is_lost s n f t && not b) member ∙ and-false (is_lost s n f t)
 
-      pub turned_below : t < length l'.seats.items
-      turned_below = seat_still is.over t fresh (waiters_below s o n t stood)
+      pub turned_can : ((u : ℕ) → is_among_waiters u (s.queue n) ≡ true → notices_in told u ≡ None) → CanEndAt (books_of l'.seats l'.lists.items mid) t
+      turned_can untold = record {
+        kept = kept_still is.over kept;
+        seated = seat_still is.over t fresh (waiters_below s o n t stood);
+        untold = untold_still is.over t fresh (untold t stood);
+      }
 
       pub turned_waits : is_among_waiters t (queue_of l'.headers.entries n) ≡ true
       turned_waits = let w = lost_waits s o n f t lost in
@@ -126,9 +130,6 @@ module _ (g : Graph) (l : Ledger) (o : IsOrderly (state_on g l)) (n : NodeId) (f
 
       pub turned_room : Agrees s l.lists.items t → 9 ≤ room_by l'.lists.items t
       turned_room agree = subst (λ (k : ℕ). 9 ≤ k) (sym (is.over.lists.rooms t fresh)) (agree.room (ap is_wait (lost_waits s o n f t lost).1))
-
-      pub turned_untold : ((u : ℕ) → is_among_waiters u (s.queue n) ≡ true → notices_in told u ≡ None) → notices_in mid t ≡ None
-      turned_untold untold = untold_still is.over t fresh (untold t stood)
 
       -- its wait ends
       pub turning_one : {next : Ledger} {told' : Told} (pending' : ℕ → Bool) → ((x : ℕ) → pending' x ≡ (pending x && not (x == t)))

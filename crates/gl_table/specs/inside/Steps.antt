@@ -18,12 +18,12 @@ use Rattle.gl_listed.specs.declared.list.LockList.{LockList}
 use Rattle.gl_model.specs.Calls.{asked_at, enqueued, enters_at, goes_with, granted, held_children, moved_to, released, shed, stays, wanted}
 use Rattle.gl_model.specs.Lawful.{IsOrderly}
 use Rattle.gl_model.specs.State.{State, members, status_of, with_txn}
-use Rattle.gl_model.specs.Tellings.{IsTold, Told}
+use Rattle.gl_model.specs.Tellings.{IsTold, Told, notices_in}
 use Rattle.gl_model.specs.declared.answers.Notice.TheVariants as notice
 use Rattle.gl_model.specs.declared.txn.Status.TheVariants.{Active}
 use Rattle.gl_table.specs.declared.ledger.Ledger.{Ledger}
 use Rattle.gl_table.specs.inside.Ledger.{Agrees, AreExact, AreSound, CountsHeld, state_in}
-use Rattle.gl_table.specs.inside.Slots.{HasRoomAt, IsShedding, counted_by, held_by, unlisted_by}
+use Rattle.gl_table.specs.inside.Slots.{AreKept, Books, HasRoomAt, IsShedding, counted_by, held_by, unlisted_by}
 
 -- the ledger is in order over a graph, and exact for these slots; the lists of others are in change
 pub record AreExactFor (g : View) (l : Ledger) (who : ℕ → Type 0) : Type 0 where
@@ -31,6 +31,12 @@ pub record AreExactFor (g : View) (l : Ledger) (who : ℕ → Type 0) : Type 0 w
   pub orderly : IsOrderly (state_in g l)
   pub agree : (u : ℕ) → who u → Agrees (state_in g l) l.lists.items u
   pub count : (u : ℕ) → who u → CountsHeld (state_in g l) l.lists.items u
+
+-- a wait of t, who is there, can be over: t was told nothing yet, and more can be told
+pub record CanEndAt (b : Books) (t : ℕ) : Type 0 where
+  pub kept : AreKept b
+  pub seated : t < length b.seats
+  pub untold : notices_in b.told t ≡ None
 
 -- the covered children of n are released, and t's list, which is out of its place, has what t holds still
 pub record IsReleased (s now : State) (t : ℕ) (n : NodeId) (l : LockList) : Type 0 where

@@ -18,7 +18,7 @@ ghost use Rattle.indexmap.specs.IndexMap.{spare};
 ghost use Rattle.gl_modes.specs.Modes.{same_mode};
 ghost use Rattle.gl_listed.specs.Lists.{count_of, is_listed, mode_of, unlisted};
 ghost use Rattle.gl_table.specs.inside.Ledger.{state_in};
-ghost use Rattle.gl_table.specs.inside.Steps.{AreAgreed, AreShutOut, CanRecount, HasMoved, Recounts};
+ghost use Rattle.gl_table.specs.inside.Steps.{AreAgreed, AreShutOut, CanEndAt, CanRecount, HasMoved, Recounts};
 ghost use Rattle.gl_model.specs.Lawful.{IsOrderly};
 ghost use Rattle.gl_table.specs.inside.Slots.{AreKept, CanTell, WaitsEnd, as_left, books_of, counted_by, room_by, unlisted_by};
 ghost use Rattle.gl_model.specs.Tellings.{IsTold, notices_in};
@@ -135,12 +135,10 @@ impl Ledger {
     /// Ends a wait of a slot that holds nothing on the node, where nobody at the front of what is left
     /// can be granted. The slot is active, and told that the node moved.
     fn turn_one_away(&mut self, slot: Slot, node: NodeId, told: &mut Told)
-        requires kept { AreKept (books_of self.old.seats self.old.lists.items told.old.items) }
-        requires seated { slot < length self.old.seats.items }
+        requires can { CanEndAt (books_of self.old.seats self.old.lists.items told.old.items) slot }
         requires waits { is_among_waiters slot (queue_of self.old.headers.entries node) ≡ true }
         requires front_waits { front slot_limit (members_at self.old.headers.entries node) (without_waiter slot (queue_of self.old.headers.entries node)) ≡ [] }
         requires room { 9 ≤ room_by self.old.lists.items slot }
-        requires untold { notices_in told.old.items slot ≡ None }
         ensures held { held_of self.new.headers.entries ≡ held_of self.old.headers.entries }
         ensures queue { queue_of self.new.headers.entries ≡ with_waiters (queue_of self.old.headers.entries) node
             (without_waiter slot (queue_of self.old.headers.entries node)) }

@@ -1,5 +1,6 @@
 use Rattle.gl_table.proofs.Words.{◌∙◌, and-not_self, ap, arith, clash, holds, is_wait, keys, members, none_some}
 use Rattle.gl_table.proofs.Words.{slice_get_past, State, state_in, status_in, subst, sym}
+use Rattle.gl_table.proofs.Words.{ℕ}
 use Rattle.gl_model.proofs.telling.Fronts.{stands_other, waits_there}
 use Rattle.gl_table.proofs.inside.Departures.{leaving_begins}
 use Rattle.gl_table.proofs.inside.Marked.{IsReleasing, marked_childless, marked_counted, releasing_ends, releasing_modes, releasing_one}
@@ -25,15 +26,12 @@ pub take_marked-requires-clause-counted : goal.take_marked-requires-clause-count
 take_marked-requires-clause-counted c = λ n q listed mark.
     marked_counted c.loop-at.invariant.releasing (ap is_wait c.requires.active) c.law.ensures.lawful n listed q
 
-pub drop_and_wake-requires-clause-agree : goal.drop_and_wake-requires-clause-agree
-drop_and_wake-requires-clause-agree c = let is = c.loop-at.invariant.releasing.leaving in
-    λ u h. is.agree u (stands_other (state_in c.args.graph.now c.loop-at.self) is.orderly c.args.slot
-    (ap (λ x. is_wait (status_in x)) is.txn ∙ ap is_wait c.requires.active) u c.in-Some.child h)
-
-pub drop_and_wake-requires-clause-count : goal.drop_and_wake-requires-clause-count
-drop_and_wake-requires-clause-count c = let is = c.loop-at.invariant.releasing.leaving in
-    λ u h. is.count u (stands_other (state_in c.args.graph.now c.loop-at.self) is.orderly c.args.slot
-    (ap (λ x. is_wait (status_in x)) is.txn ∙ ap is_wait c.requires.active) u c.in-Some.child h)
+pub drop_and_wake-requires-clause-waiters : goal.drop_and_wake-requires-clause-waiters
+drop_and_wake-requires-clause-waiters c =
+    let is = c.loop-at.invariant.releasing.leaving in
+    let other = λ (u : ℕ). stands_other (state_in c.args.graph.now c.loop-at.self) is.orderly c.args.slot
+    (ap (λ x. is_wait (status_in x)) is.txn ∙ ap is_wait c.requires.active) u c.in-Some.child in
+    record { sound = c.loop-at.invariant.sound; orderly = is.orderly; agree = λ u h. is.agree u (other u h); count = λ u h. is.count u (other u h) }
 
 pub drop_and_wake-requires-clause-tell : goal.drop_and_wake-requires-clause-tell
 drop_and_wake-requires-clause-tell c = let is = c.loop-at.invariant.releasing.leaving in record {

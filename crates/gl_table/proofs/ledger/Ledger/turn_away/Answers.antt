@@ -1,6 +1,6 @@
 use Rattle.gl_table.proofs.Words.{◌∙◌, AreKept, books_of, Bool, graph_of, parents_of, state_in, stays, Waiter}
 use Rattle.gl_table.proofs.inside.Slots.{none_if}
-use Rattle.gl_table.proofs.inside.TurnedAway.{turned_agrees, turned_below, turned_front, turned_over, turned_room, turned_untold, turned_waits, turning_begins}
+use Rattle.gl_table.proofs.inside.TurnedAway.{turned_agrees, turned_can, turned_front, turned_over, turned_room, turned_waits, turning_begins}
 use Rattle.gl_table.proofs.inside.TurnedAway.{turning_ends, turning_one}
 use Rattle.gl_table.proofs.inside.Woken.{kept_still}
 use Rattle.gl_table.proofs.ledger.Ledger.turn_away.Goals.{After-strays-strays}
@@ -17,13 +17,10 @@ loop-slot-init c = let p = (goal.at.loop-slot-init c).After-strays-strays in
     turning_begins (graph_of c.args.graph.now) c.args.self.now c.requires.agreed.orderly c.args.node (allowed p) c.args.told.now.items (kept p) _
     c.strays-strays.ensures
 
-pub turn_one_away-requires-clause-kept : goal.turn_one_away-requires-clause-kept
-turn_one_away-requires-clause-kept c = kept_still c.loop-slot.invariant.over (kept (goal.at.turn_one_away-requires-clause-kept c).After-strays-strays)
-
-pub turn_one_away-requires-clause-seated : goal.turn_one_away-requires-clause-seated
-turn_one_away-requires-clause-seated c = let p = (goal.at.turn_one_away-requires-clause-seated c).After-strays-strays in
-    turned_below (graph_of c.args.graph.now) c.args.self.now c.requires.agreed.orderly c.args.node (allowed p) c.args.told.now.items (kept p)
-    c.loop-slot.invariant _ c.in-Some.ensures.some.member
+pub turn_one_away-requires-clause-can : goal.turn_one_away-requires-clause-can
+turn_one_away-requires-clause-can c = let p = (goal.at.turn_one_away-requires-clause-can c).After-strays-strays in
+    turned_can (graph_of c.args.graph.now) c.args.self.now c.requires.agreed.orderly c.args.node (allowed p) c.args.told.now.items (kept p)
+    c.loop-slot.invariant _ c.in-Some.ensures.some.member c.requires.tell.untold
 
 pub turn_one_away-requires-clause-waits : goal.turn_one_away-requires-clause-waits
 turn_one_away-requires-clause-waits c = let p = (goal.at.turn_one_away-requires-clause-waits c).After-strays-strays in
@@ -39,11 +36,6 @@ pub turn_one_away-requires-clause-room : goal.turn_one_away-requires-clause-room
 turn_one_away-requires-clause-room c = let p = (goal.at.turn_one_away-requires-clause-room c).After-strays-strays in
     turned_room (graph_of c.args.graph.now) c.args.self.now c.requires.agreed.orderly c.args.node (allowed p) c.args.told.now.items (kept p)
     c.loop-slot.invariant _ c.in-Some.ensures.some.member (c.requires.agreed.agree _)
-
-pub turn_one_away-requires-clause-untold : goal.turn_one_away-requires-clause-untold
-turn_one_away-requires-clause-untold c = let p = (goal.at.turn_one_away-requires-clause-untold c).After-strays-strays in
-    turned_untold (graph_of c.args.graph.now) c.args.self.now c.requires.agreed.orderly c.args.node (allowed p) c.args.told.now.items (kept p)
-    c.loop-slot.invariant _ c.in-Some.ensures.some.member c.requires.tell.untold
 
 pub loop-slot-preserved : goal.loop-slot-preserved
 loop-slot-preserved c = let p = (goal.at.loop-slot-preserved c).After-strays-strays in
