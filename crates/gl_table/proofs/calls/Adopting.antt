@@ -1,9 +1,9 @@
 -- A record is adopted in a table, and one transaction holds it: what holds of the fields still does. For the call that does both.
-use Rattle.gl_table.proofs.Words.{Active, ap, are_compatible, AreExact, Graph, graph_of, HasNoCycle, if◌then◌else◌, intends_over, is_at_least, is_live}
-use Rattle.gl_table.proofs.Words.{is_some, IsAdopted, IsBorn, IsLawful, IsSound, List, members, Mode, NL-compatible, Node, node_at, NodeId, None, number_same}
-use Rattle.gl_table.proofs.Words.{Option, parents_in, parents_of, Rec, record_parents, record_refusal, refl, Refusal, Refuses, rule_refusal, S, same_mode}
-use Rattle.gl_table.proofs.Words.{shape_of, Some, State, state_in, state_of, status_of, subst, sym, true, View, view_of, with_grant, with_graph, with_key, X}
-use Rattle.gl_table.proofs.Words.{IsFresh, ℕ, ◌+◌, ◌||◌, ◌∙◌, ◌≡◌}
+use Rattle.gl_table.proofs.Words.{◌+◌, ◌||◌, ◌∙◌, ◌≡◌, Active, ap, are_compatible, AreExact, Graph, graph_of, HasNoCycle, if◌then◌else◌, intends_over}
+use Rattle.gl_table.proofs.Words.{is_at_least, is_live, is_some, IsAdopted, IsBorn, IsFresh, IsLawful, IsSound, List, members, Mode, NL-compatible, Node}
+use Rattle.gl_table.proofs.Words.{node_at, NodeId, None, number_same, Option, parents_in, parents_of, Rec, record_parents, record_refusal, refl, Refusal}
+use Rattle.gl_table.proofs.Words.{Refuses, rule_refusal, S, same_mode, shape_of, Some, State, state_in, state_of, status_of, subst, sym, true, View, view_of}
+use Rattle.gl_table.proofs.Words.{with_grant, with_graph, with_key, X, ℕ}
 use Rattle.std.specs.Prelude.{Ok}
 use Rattle.gl_modes.proofs.ModeLemmas.{supremum-above}
 use Rattle.gl_modes.specs.declared.mode.Mode.TheVariants.{NL}

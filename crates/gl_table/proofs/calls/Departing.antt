@@ -1,8 +1,8 @@
 -- Nodes go from a table with all locks on them: what it makes of the table. For the calls that take nodes away.
-use Rattle.gl_table.proofs.Words.{[], ◌∙◌, ◌≡◌, Active, addressed, age_in, age_of, Agrees, AreExact, Bool, children_that, clash, CountsHeld, departed, false}
-use Rattle.gl_table.proofs.Words.{Graph, graph_of, HasNoCycle, holds, if◌then◌else◌, is_among_waiters, is_live, IsLawful, IsOrderly, IsSound}
-use Rattle.gl_table.proofs.Words.{IsTold, members, Mode, NL, NodeId, None, not, not_true, notice_of, Option, same_mode, Some, split, State, state_at, state_in}
-use Rattle.gl_table.proofs.Words.{refl, state_of, status_in, subst, sym, Told, told, told_from, told_to, true, Txn, TxnId, View, view_of, Waiting, ap, ℕ}
+use Rattle.gl_table.proofs.Words.{[], ◌∙◌, ◌≡◌, Active, addressed, age_in, age_of, Agrees, ap, AreExact, Bool, children_that, clash, CountsHeld, departed}
+use Rattle.gl_table.proofs.Words.{false, Graph, graph_of, HasNoCycle, holds, if◌then◌else◌, is_among_waiters, is_live, IsLawful, IsOrderly, IsSound, IsTold}
+use Rattle.gl_table.proofs.Words.{members, Mode, NL, NodeId, None, not, not_true, notice_of, Option, refl, same_mode, Some, split, State, state_at, state_in}
+use Rattle.gl_table.proofs.Words.{state_of, status_in, subst, sym, Told, told, told_from, told_to, true, Txn, TxnId, View, view_of, Waiting, ℕ}
 use Rattle.gl_modes.proofs.NodeLemmas.{same_node-refl}
 use Rattle.gl_model.specs.Calls.{freed_among, held_children, none_among}
 use Rattle.gl_model.specs.State.{waits_at}

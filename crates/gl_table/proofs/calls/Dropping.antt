@@ -1,13 +1,10 @@
 -- A node is dropped from a table, or an index is made that its maker holds: what it makes of the table. For those calls.
 use Rattle.gl_table.proofs.Words.{[], ◌&&◌, ◌+◌, ◌==◌, ◌||◌, ◌∙◌, ◌∷◌, ◌≡◌, Active, and_both, ap, ap₂, AreExact, arith, Bool, children_that, clash, cond}
-use Rattle.gl_table.proofs.Words.{count_by}
-use Rattle.gl_table.proofs.Words.{count_cons, false, filter, first_not_ix, Graph, graph_of, HasNoCycle, IfOk, if◌then◌else◌, is_among_waiters, is_at_least}
-use Rattle.gl_table.proofs.Words.{is_child}
-use Rattle.gl_table.proofs.Words.{is_live, IsIndexBorn, IsLawful, IsSound, List, list_all, list_any, Mode, nat_tests, NL, node_at, NodeId, nodes, nodes_live}
-use Rattle.gl_table.proofs.Words.{None, not}
-use Rattle.gl_table.proofs.Words.{not_true, OnErr, parents_in, refl, Refusal, Refuses, Result, rules, same_mode, same_node, same_node-refl, same_number}
-use Rattle.gl_table.proofs.Words.{IsBranchLeftTo, IsFresh, same_mode-equal, shape_of, Some}
-use Rattle.gl_table.proofs.Words.{split, State, state_in, state_of, status_of, subst, sym, true, View, view_of, with_grant, with_graph, X, ℕ}
+use Rattle.gl_table.proofs.Words.{count_by, count_cons, false, filter, first_not_ix, Graph, graph_of, HasNoCycle, IfOk, if◌then◌else◌, is_among_waiters}
+use Rattle.gl_table.proofs.Words.{is_at_least, is_child, is_live, IsBranchLeftTo, IsFresh, IsIndexBorn, IsLawful, IsSound, List, list_all, list_any, Mode}
+use Rattle.gl_table.proofs.Words.{nat_tests, NL, node_at, NodeId, nodes, nodes_live, None, not, not_true, OnErr, parents_in, refl, Refusal, Refuses, Result}
+use Rattle.gl_table.proofs.Words.{rules, same_mode, same_mode-equal, same_node, same_node-refl, same_number, shape_of, Some, split, State, state_in}
+use Rattle.gl_table.proofs.Words.{state_of, status_of, subst, sym, true, View, view_of, with_grant, with_graph, X, ℕ}
 use Rattle.gl_modes.proofs.Words.{no, or_elim, or_left}
 use Rattle.gl_modes.proofs.NodeLemmas.{same_node-equal}
 use Rattle.gl_modes.specs.declared.mode.Mode.TheVariants.{IS, IX}
@@ -168,7 +165,11 @@ module _ (i : Inside) (sound : IsSound i) (ps : List NodeId) (f : NodeId) (bs : 
 
   module _ (n : NodeId) (born : IsIndexBorn (graph_of i.locks.graph) (graph_of v) n ps f bs) where
     pub index_fresh : IsFresh (state_in v i.locks.ledger) n
-    index_fresh = record { live = index-live before sound.lawful ps f bs (reindex_unrefused before.graph ps f bs free) (graph_of v) n born; unheld = index-unheld before sound.lawful ps f bs (reindex_unrefused before.graph ps f bs free) (graph_of v) n born; unawaited = index-unawaited before sound.lawful ps f bs (reindex_unrefused before.graph ps f bs free) (graph_of v) n born }
+    index_fresh = record {
+      live = index-live before sound.lawful ps f bs (reindex_unrefused before.graph ps f bs free) (graph_of v) n born;
+      unheld = index-unheld before sound.lawful ps f bs (reindex_unrefused before.graph ps f bs free) (graph_of v) n born;
+      unawaited = index-unawaited before sound.lawful ps f bs (reindex_unrefused before.graph ps f bs free) (graph_of v) n born;
+    }
 
     -- the slot holds it
     module _ (t : ℕ) (ledger : Ledger) (is : state_in v ledger ≡ with_grant (state_in v i.locks.ledger) t n X) where

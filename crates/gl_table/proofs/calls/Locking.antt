@@ -1,11 +1,11 @@
 -- What a lock that is granted, and one that waits, makes of a table. For the calls that lock.
-use Rattle.gl_table.proofs.Words.{[], ◌==◌, ◌∙◌, ◌∷◌, ◌≡◌, Active, ap, AreExact, arith, Asked, AtBlock, Bool, ByWatcher, clash, Deadlock, Detect, enqueued}
-use Rattle.gl_table.proofs.Words.{enters_at, Err, false, first_refusal, granted, HasNoCycle, held_of, if◌then◌else◌, is_granted_at, IsLawful, IsOrderly}
-use Rattle.gl_table.proofs.Words.{IsSound, KeepsLocks, length, lock_tests, locked_as, LocksKeeping, Mode, nat_tests, NodeId, None, number_same, Ok, OnErr, OnOk}
-use Rattle.gl_table.proofs.Words.{Option, passed_then, queue_of, refl, Refusal, refused_first, Refuses, Result, same_node-refl, Some, split, State, state_at}
-use Rattle.gl_table.proofs.Words.{state_in, state_of, status_of, subst, sym, TableView, Told, told_but, true, try_tests, TxnId, txns_of, verdict, Victims}
-use Rattle.gl_table.proofs.Words.{view_of, WaitSettles, WaitSettlesKeeping, wanted, would_block, ℕ}
-use Rattle.gl_table.proofs.Words.{CanAsk, graph_of, HasAsked, HasGrant, held_by, IfOk, List, MayAct, NL, parents_of, same_mode}
+use Rattle.gl_table.proofs.Words.{[], ◌==◌, ◌∙◌, ◌∷◌, ◌≡◌, Active, ap, AreExact, arith, Asked, AtBlock, Bool, ByWatcher, CanAsk, clash, Deadlock, Detect}
+use Rattle.gl_table.proofs.Words.{enqueued, enters_at, Err, false, first_refusal, granted, graph_of, HasAsked, HasGrant, HasNoCycle, held_by, held_of, IfOk}
+use Rattle.gl_table.proofs.Words.{if◌then◌else◌, is_granted_at, IsLawful, IsOrderly, IsSound, KeepsLocks, length, List, lock_tests, locked_as, LocksKeeping}
+use Rattle.gl_table.proofs.Words.{MayAct, Mode, nat_tests, NL, NodeId, None, number_same, Ok, OnErr, OnOk, Option, parents_of, passed_then, queue_of, refl}
+use Rattle.gl_table.proofs.Words.{Refusal, refused_first, Refuses, Result, same_mode, same_node-refl, Some, split, State, state_at, state_in, state_of}
+use Rattle.gl_table.proofs.Words.{status_of, subst, sym, TableView, Told, told_but, true, try_tests, TxnId, txns_of, verdict, Victims, view_of, WaitSettles}
+use Rattle.gl_table.proofs.Words.{WaitSettlesKeeping, wanted, would_block, ℕ}
 use Rattle.gl_model.proofs.law.Tests.{mode_fits}
 use Rattle.gl_table.specs.declared.table.Table.TheInside.{Inside}
 use Rattle.gl_model.specs.Calls.{Locks}

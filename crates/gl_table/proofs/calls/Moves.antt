@@ -1,13 +1,13 @@
 -- A node moved and the locks followed: what it makes of a table. For the calls that move.
-use Rattle.gl_table.proofs.Words.{[], ⊎_elim, ◌&&◌, ◌+◌, ◌<◌, ◌==◌, ◌^◌, ◌||◌, ◌∙◌, ◌∷◌, ◌≡◌, ◌≤◌, Active, Agrees, and_both, ap, ap₂, AreAgreed, AreInnerParents}
-use Rattle.gl_table.proofs.Words.{AreShutOut, CanRecount, HasMoved, Recounts}
-use Rattle.gl_table.proofs.Words.{arith, at_least-not_NL, Bool, children_that, count_by, count_by-le-length, count_none, counted_by, CountsHeld, false}
-use Rattle.gl_table.proofs.Words.{first_cycle, fits, fits-limit, Graph, graph_of, HasNoCycle, held_children, holds, if◌then◌else◌, is_among_waiters}
-use Rattle.gl_table.proofs.Words.{is_at_least, is_listed, is_live, is_movable_shape, is_record_shape, IsBySlot, IsLawful, IsOrderly, IsSound, IX, least_parents}
-use Rattle.gl_table.proofs.Words.{List, list_all, listed_by, LockList, members, Mode, moved_to, need_exclusive, need_new_parents, NL, Node, NodeId, None, not}
-use Rattle.gl_table.proofs.Words.{not_true, notices_in, Option, option_map_or, other_number, parents_of, refl, rekeyed, rekeyed_parents, same_mode, same_node}
-use Rattle.gl_table.proofs.Words.{same_number, shape_of, slice_get, slot_limit, Some, some_given, split, State, state_in, state_of, state_on, status_of, stays}
-use Rattle.gl_table.proofs.Words.{subst, sym, TableView, Told, told, told_to, true, unlisted, unlisted_by, View, view_of, with_parents, X, ℕ}
+use Rattle.gl_table.proofs.Words.{[], ◌&&◌, ◌+◌, ◌<◌, ◌==◌, ◌^◌, ◌||◌, ◌∙◌, ◌∷◌, ◌≡◌, ◌≤◌, Active, Agrees, and_both, ap, ap₂, AreAgreed, AreInnerParents}
+use Rattle.gl_table.proofs.Words.{AreShutOut, arith, at_least-not_NL, Bool, CanRecount, children_that, count_by, count_by-le-length, count_none, counted_by}
+use Rattle.gl_table.proofs.Words.{CountsHeld, false, first_cycle, fits-limit, Graph, graph_of, HasMoved, HasNoCycle, held_children, holds, if◌then◌else◌}
+use Rattle.gl_table.proofs.Words.{is_among_waiters, is_at_least, is_listed, is_live, is_movable_shape, is_record_shape, IsLawful, IsOrderly, IsSound, IX}
+use Rattle.gl_table.proofs.Words.{least_parents, List, list_all, listed_by, LockList, members, Mode, moved_to, need_exclusive, need_new_parents, NL, Node}
+use Rattle.gl_table.proofs.Words.{NodeId, None, not, not_true, Option, option_map_or, other_number, parents_of, Recounts, refl, rekeyed, rekeyed_parents}
+use Rattle.gl_table.proofs.Words.{same_mode, same_node, same_number, shape_of, slice_get, slot_limit, Some, some_given, split, State, state_in, state_of}
+use Rattle.gl_table.proofs.Words.{state_on, status_of, stays, subst, sym, TableView, Told, told, told_to, true, unlisted, unlisted_by, View, view_of}
+use Rattle.gl_table.proofs.Words.{with_parents, X, ⊎_elim, ℕ}
 use Rattle.gl_table.specs.declared.ledger.Ledger.{Ledger}
 use Rattle.gl_table.specs.declared.table.Table.TheInside.{Inside}
 use Rattle.gl_model.proofs.law.Orderly.{lawful_orderly}

@@ -1,15 +1,14 @@
 -- Records come and go, and children are shed: what it makes of a table. For those calls.
 use Rattle.gl_slots.specs.Limit.{most_slots}
-use Rattle.gl_table.proofs.Words.{[], ◌&&◌, ◌+◌, ◌-◌, ◌==◌, ◌||◌, ◌∙◌, ◌∷◌, ◌≡◌, ◌≤◌, Active, Agrees, and_both, ap, are_compatible}
-use Rattle.gl_table.proofs.Words.{AreExact, arith, Bool, children_that, clash, cond, count_by, count_cons, CountsHeld, covered_children}
-use Rattle.gl_table.proofs.Words.{false, first_not_ix, granted_at, Graph, graph_of, HasNoCycle, held_children, holds, holds_child, IfOk, if◌then◌else◌}
-use Rattle.gl_table.proofs.Words.{is_at_least, is_child, is_covered, is_idle, is_live, is_record_shape, is_some, is_wait}
-use Rattle.gl_table.proofs.Words.{IsAdopted, IsBorn, IsLawful, IsRoomyRecord, IsSound, KeepsLocks, keys, length, List, list_all, listed}
-use Rattle.gl_table.proofs.Words.{members, Mode, nat_tests, NL, NodeId, nodes, None, not, not_true, notices_in, number_same, OnErr, Option}
-use Rattle.gl_table.proofs.Words.{other_number, parents_of, Rec, record_parents, record_refusal, record_unrefused, refl, Refusal, Refuses, Result, rules, S}
-use Rattle.gl_table.proofs.Words.{same_mode, same_mode-equal, same_node-refl, same_number, shape_of, shed, Some, split, State, state_at, state_in, state_of}
-use Rattle.gl_table.proofs.Words.{state_on, status_of, subst, sym, TellsOthers, Told, told, true, unwrap_or, View}
-use Rattle.gl_table.proofs.Words.{view_of, with_grant, with_graph, with_key, without_node, X, ℕ}
+use Rattle.gl_table.proofs.Words.{[], ◌&&◌, ◌+◌, ◌-◌, ◌==◌, ◌||◌, ◌∙◌, ◌∷◌, ◌≡◌, ◌≤◌, Active, Agrees, and_both, ap, are_compatible, AreExact, arith, Bool}
+use Rattle.gl_table.proofs.Words.{children_that, clash, cond, count_by, count_cons, CountsHeld, covered_children, false, first_not_ix, granted_at, Graph}
+use Rattle.gl_table.proofs.Words.{graph_of, HasNoCycle, held_children, holds, holds_child, IfOk, if◌then◌else◌, is_at_least, is_child, is_covered, is_idle}
+use Rattle.gl_table.proofs.Words.{is_live, is_record_shape, is_some, is_wait, IsAdopted, IsBorn, IsFresh, IsLawful, IsRoomyRecord, IsSound, KeepsLocks, keys}
+use Rattle.gl_table.proofs.Words.{length, List, list_all, listed, members, Mode, nat_tests, NL, NodeId, nodes, None, not, not_true, notices_in, number_same}
+use Rattle.gl_table.proofs.Words.{OnErr, Option, other_number, parents_of, Rec, record_parents, record_refusal, record_unrefused, refl, Refusal, Refuses}
+use Rattle.gl_table.proofs.Words.{Result, rules, S, same_mode, same_mode-equal, same_node-refl, same_number, shape_of, shed, Some, split, State, state_at}
+use Rattle.gl_table.proofs.Words.{state_in, state_of, state_on, status_of, subst, sym, TellsOthers, Told, told, true, unwrap_or, View, view_of, with_grant}
+use Rattle.gl_table.proofs.Words.{with_graph, with_key, without_node, X, ℕ}
 use Rattle.gl_model.proofs.queues.Walks.{same}
 use Rattle.gl_table.specs.declared.ledger.Ledger.{Ledger}
 use Rattle.gl_table.specs.declared.locks.Locks.{Locks}
@@ -20,7 +19,6 @@ use Rattle.gl_model.proofs.law.Orderly.{lawful_orderly}
 use Rattle.gl_table.proofs.calls.Stands.{MayStand, stands, with_locks}
 use Rattle.gl_table.proofs.calls.Law.{called, held-lives, Suits, suited-stands}
 use Rattle.gl_table.proofs.calls.Queries.{children_in}
-use Rattle.gl_table.proofs.Words.{IsFresh}
 use Rattle.gl_table.proofs.inside.Asks.{state-same}
 use Rattle.gl_table.proofs.inside.Slots.{keeps-agrees, keeps-counts}
 use Rattle.gl_model.proofs.law.Lock.{granted-no_cycle, shed-no_cycle}

@@ -1,6 +1,6 @@
 -- When a ledger over a graph may stand in a table. For the calls that write either.
-use Rattle.gl_table.proofs.Words.{Active, Agrees, AreExact, AreSound, CountsHeld, Detect, IsLawful, IsOrderly, IsSafe, IsSound, MayAct, Some, State, state_in}
-use Rattle.gl_table.proofs.Words.{status_of, Victims, View, ℕ, ◌≡◌}
+use Rattle.gl_table.proofs.Words.{◌≡◌, Active, Agrees, AreExact, AreSound, CountsHeld, Detect, IsLawful, IsOrderly, IsSafe, IsSound, MayAct, Some, State}
+use Rattle.gl_table.proofs.Words.{state_in, status_of, Victims, View, ℕ}
 use Rattle.gl_model.proofs.law.Orderly.{lawful_orderly}
 use Rattle.gl_table.specs.declared.ledger.Ledger.{Ledger}
 use Rattle.gl_table.specs.declared.table.Table.TheInside.{Inside}

@@ -1,15 +1,15 @@
 -- What an ask that is granted leaves, also of a node that nobody held, and that a node has its key alone. For asks and new records.
 use Rattle.gl_slots.specs.Limit.{most_slots}
-use Rattle.gl_table.proofs.Words.{[], ⊎_elim, ◌&&◌, ◌+◌, ◌<◌, ◌==◌, ◌^◌, ◌||◌, ◌∙◌, ◌∷◌, ◌≡◌, ◌≢◌, ◌≤◌, Active, Agrees, and-false, ap, ap₂, AreHeaders}
-use Rattle.gl_table.proofs.Words.{AreSound, arith, Asked, Bool, cases_of, children_that, clash, count_by, count_by-le-length, count_of, counted_by, CountsHeld}
-use Rattle.gl_table.proofs.Words.{enters, enters_at, Entries, false, fun_ext, granted, Graph, HasItsKey, HasRoom, HasRoomAt, header_at, header_or_new}
+use Rattle.gl_table.proofs.Words.{[], ◌&&◌, ◌+◌, ◌<◌, ◌==◌, ◌^◌, ◌||◌, ◌∙◌, ◌∷◌, ◌≡◌, ◌≢◌, ◌≤◌, Active, Agrees, and-false, ap, ap₂, AreHeaders, AreSound}
+use Rattle.gl_table.proofs.Words.{arith, Asked, Bool, cases_of, children_that, clash, count_by, count_by-le-length, count_of, counted_by, CountsHeld, enters}
+use Rattle.gl_table.proofs.Words.{enters_at, Entries, false, fun_ext, granted, Graph, graph_of, HasItsKey, HasRoom, HasRoomAt, header_at, header_or_new}
 use Rattle.gl_table.proofs.Words.{HeaderState, held_children, held_of, holds, if◌then◌else◌, is_among_waiters, is_empty, is_granted_at, is_listed, is_live}
-use Rattle.gl_table.proofs.Words.{is_wait, is_waiter, IsFreeKey, IsLawfulGraph, IsOneHolder, IsOrderly, KeepsLists, length, List, list_any, LockList}
-use Rattle.gl_table.proofs.Words.{members, members_at, members_of, Mode, mode_of, nat_tests, NL, NodeId, not, not-true, not_NL, number_same, or-false, or_left}
-use Rattle.gl_table.proofs.Words.{parents_of, queue_of, refl, same_mode, same_node, same_node-equal, same_node-from_equal, same_node-refl, same_number}
-use Rattle.gl_table.proofs.Words.{slice_index_or, slot_limit, Some, spare, split, State, state_on, status_of, subst, supremum, supremum-not_NL, sym, true}
-use Rattle.gl_table.proofs.Words.{unlisted, Waiter, wanted, with_grant, with_members, with_mode, with_waiters, ℕ}
-use Rattle.gl_table.proofs.Words.{View, graph_of, state_in, MayAct, IsFresh}
+use Rattle.gl_table.proofs.Words.{is_wait, is_waiter, IsFreeKey, IsFresh, IsLawfulGraph, IsOneHolder, IsOrderly, KeepsLists, length, List, list_any}
+use Rattle.gl_table.proofs.Words.{LockList, MayAct, members, members_at, members_of, Mode, mode_of, nat_tests, NL, NodeId, not, not-true, not_NL}
+use Rattle.gl_table.proofs.Words.{number_same, or-false, or_left, parents_of, queue_of, refl, same_mode, same_node, same_node-equal, same_node-from_equal}
+use Rattle.gl_table.proofs.Words.{same_node-refl, same_number, slice_index_or, slot_limit, Some, spare, split, State, state_in, state_on, status_of, subst}
+use Rattle.gl_table.proofs.Words.{supremum, supremum-not_NL, sym, true, unlisted, View, Waiter, wanted, with_grant, with_members, with_mode, with_waiters}
+use Rattle.gl_table.proofs.Words.{⊎_elim, ℕ}
 use Rattle.gl_table.specs.declared.ledger.Ledger.{Ledger}
 use Rattle.gl_header.specs.declared.header.Asked.TheVariants as asked
 use Rattle.gl_header.proofs.Changed.{nobody-enters, with_waiters-same}
@@ -44,7 +44,8 @@ room-may_ask g l l' t wanted made may = record {
       lists = made.lists.len ∙ may.exact.sound.lists ∙ sym seats;
     };
     agree = λ u. subst (λ s. Agrees s l'.lists.items u) (sym same) (keeps-agrees (state_in g l) l.lists.items l'.lists.items u made.lists (may.exact.agree u));
-    count = λ u. subst (λ s. CountsHeld s l'.lists.items u) (sym same) (keeps-counts (state_in g l) l.lists.items l'.lists.items u made.lists (may.exact.count u));
+    count = λ u. subst (λ s. CountsHeld s l'.lists.items u) (sym same)
+        (keeps-counts (state_in g l) l.lists.items l'.lists.items u made.lists (may.exact.count u));
   };
   orderly = subst IsOrderly (sym same) may.orderly;
   active = ap (λ s. status_of s t) same ∙ may.active;
@@ -98,7 +99,8 @@ module _ (g : View) (l : Ledger) (t : ℕ) (may : MayAct g l t) where
         omega arith
 
 -- a list with room for nine has room for the parents of a node
-pub parents-room : (g : View) → IsLawfulGraph (graph_of g) → (n : NodeId) (x : LockList) → 9 ≤ spare x.loose → unlisted x (parents_of (graph_of g) n) ≤ spare x.loose
+pub parents-room : (g : View) → IsLawfulGraph (graph_of g) → (n : NodeId) (x : LockList) → 9 ≤ spare x.loose
+    → unlisted x (parents_of (graph_of g) n) ≤ spare x.loose
 parents-room g law n x room =
     let some = count_by-le-length (λ p. not (is_listed x p)) (parents_of (graph_of g) n) in
     let few = few_parents (graph_of g) law n in
@@ -119,7 +121,8 @@ is_ready g l l' t n m held now may enters held_is made = record {
   may = may_now;
   same = same;
   room = λ e. made.room (ap not e);
-  enters = sym (enters-most (state_in g l') may_now.orderly may_now.exact.sound.few t n (wanted (state_in g l') t n m)) ∙ ap (λ s. enters_at s t n m) same ∙ enters;
+  enters = sym (enters-most (state_in g l') may_now.orderly may_now.exact.sound.few t n (wanted (state_in g l') t n m))
+      ∙ ap (λ s. enters_at s t n m) same ∙ enters;
   is_held = ap (λ s. holds (members s n) t) same ∙ sym held_is;
 }
   where
@@ -264,7 +267,8 @@ module _ {g : View} {l r : Ledger} (l' : Ledger) {t : ℕ} {n : NodeId} {m : Mod
   abbrev enters_now : Bool
   enters_now = enters slot_limit (members_at r.headers.entries n) (queue_of r.headers.entries n) t want
 
-  pub is_granted : IsLawfulGraph (graph_of g) → is_live (graph_of g) n ≡ true → m ≢ NL → a ≡ (if enters_now then asked.Granted want else asked.Waiting) → a ≡ asked.Granted w
+  pub is_granted : IsLawfulGraph (graph_of g) → is_live (graph_of g) n ≡ true → m ≢ NL → a ≡ (if enters_now then asked.Granted want else asked.Waiting)
+      → a ≡ asked.Granted w
       → (enters_now ≡ true → (held_of l'.headers.entries ≡ with_members (held_of r.headers.entries) n (with_mode (members_at r.headers.entries n) t want))
       × (queue_of l'.headers.entries ≡ queue_of r.headers.entries))
       → l'.seats ≡ r.seats → HasNode r.lists.items l'.lists.items t n w → CountsGrant (state_in g r) r.lists.items l'.lists.items t n → IsGranted g l l' t n m w
@@ -296,7 +300,8 @@ module _ {g : View} {l r : Ledger} (l' : Ledger) {t : ℕ} {n : NodeId} {m : Mod
 
 -- A node that nobody holds and nobody waits for comes to be held by one slot.
 
-module _ (g : View) (l : Ledger) (t : ℕ) (n : NodeId) (m : Mode) (may : MayAct g l t) (fresh : IsFresh (state_in g l) n) (room : HasRoomAt l.lists.items t) where
+module _ (g : View) (l : Ledger) (t : ℕ) (n : NodeId) (m : Mode) (may : MayAct g l t) (fresh : IsFresh (state_in g l) n)
+    (room : HasRoomAt l.lists.items t) where
   abbrev wanted_new : Mode
   wanted_new = supremum (held_of l.headers.entries t n) m
 

@@ -1,17 +1,14 @@
 -- The locks on a node that is in no use go, and those on its children, one by one: what is left. For nodes that are dropped.
-use Rattle.gl_table.proofs.Words.{[], ◌&&◌, ◌+◌, ◌++◌, ◌<◌, ◌==◌, ◌||◌, ◌∙◌, ◌∷◌, ◌≡◌, Active, age_in, ap, ap₂, AreExact, arith, Bool, clash, departed}
-use Rattle.gl_table.proofs.Words.{false, fun_ext, held_children, holds, if◌then◌else◌, is_among_waiters, is_child, is_live, IsBySlot, IsLawfulGraph}
-use Rattle.gl_table.proofs.Words.{IsOrderly, IsTold, length, List, list_any, members, Mode, NL, NodeId, nodes, nodes_live, None, not, not_true, notices_in}
-use Rattle.gl_table.proofs.Words.{Option, parents_in, refl, same_mode, same_node, same_node-equal, same_node-refl, same_node-sym, is_some, shape_of, Some}
-use Rattle.gl_table.proofs.Words.{split, State}
-use Rattle.gl_table.proofs.Words.{state_in, status_in, status_of, sym, take, Told, true, Txn, View, Waiting, ℕ, slice_get, slice_index_or, count_none, suc}
-use Rattle.gl_table.proofs.Words.{zero, get_or, ◌≤◌, subst, MayAct, IsLeftTo, IsBranchLeftTo}
+use Rattle.gl_table.proofs.Words.{[], ◌&&◌, ◌++◌, ◌+◌, ◌<◌, ◌==◌, ◌||◌, ◌∙◌, ◌∷◌, ◌≡◌, ◌≤◌, Active, age_in, ap, ap₂, AreExact, arith, Bool, clash}
+use Rattle.gl_table.proofs.Words.{count_none, departed, false, fun_ext, get_or, held_children, holds, if◌then◌else◌, is_among_waiters, is_child, is_live}
+use Rattle.gl_table.proofs.Words.{is_some, IsBranchLeftTo, IsBySlot, IsLawfulGraph, IsLeftTo, IsOrderly, IsTold, length, List, list_any, MayAct, members}
+use Rattle.gl_table.proofs.Words.{Mode, NL, NodeId, nodes, nodes_live, None, not, not_true, notices_in, Option, parents_in, refl, same_mode, same_node}
+use Rattle.gl_table.proofs.Words.{same_node-equal, same_node-refl, same_node-sym, shape_of, slice_get, slice_index_or, Some, split, State, state_in}
+use Rattle.gl_table.proofs.Words.{status_in, status_of, subst, suc, sym, take, Told, true, Txn, View, Waiting, zero, ℕ}
 use Rattle.gl_modes.proofs.Words.{no, or_elim, or_left, or_right, some_is}
 use Rattle.std.proofs.lemmas.List.{take_more}
 use Rattle.std.proofs.lemmas.List.Folds.{list_any-append}
 use Rattle.gl_graph.specs.Graph.{interval_at, Node, node_at}
-use Rattle.gl_graph.specs.Refusals.{is_in_use}
-use Rattle.gl_graph.specs.Shapes.{is_movable_shape}
 use Rattle.gl_graph.proofs.Branch.{apart_from, at_child, child_at, children_are, movable_no_interval}
 use Rattle.gl_model.specs.Calls.{freed_among, goes_with, none_among}
 use Rattle.gl_model.specs.State.{waits_at}

@@ -1,11 +1,10 @@
 -- What an ask that waits leaves. For asks.
 use Rattle.gl_slots.specs.Limit.{most_slots}
-use Rattle.gl_table.proofs.Words.{◌&&◌, ◌+◌, ◌<◌, ◌==◌, ◌||◌, ◌∙◌, ◌≡◌, ◌≤◌, Agrees, and_both, ap, ap₂, AreSound, arith, Bool, count_of, counted_by, CountsHeld}
-use Rattle.gl_table.proofs.Words.{enqueued, enters, Entries, false, fun_ext, Graph, held_of, holds, if◌then◌else◌, is_among_waiters, is_listed, is_wait, length}
-use Rattle.gl_table.proofs.Words.{List, LockList, members, members_at, Mode, mode_of, nat_tests, NodeId, number_same, Option, other_number, placed, queue_of}
-use Rattle.gl_table.proofs.Words.{refl, restatus, room_by, same_node, same_node-equal, same_number, Seat, slice_index_or, slice_set, slot_limit, spare, split}
-use Rattle.gl_table.proofs.Words.{State, state_on, status_in, subst, supremum, sym, true, txns_of, Waiting, wanted, with_waiters, ℕ}
-use Rattle.gl_table.proofs.Words.{View, state_in}
+use Rattle.gl_table.proofs.Words.{◌&&◌, ◌+◌, ◌<◌, ◌==◌, ◌||◌, ◌∙◌, ◌≡◌, ◌≤◌, Agrees, and_both, ap, ap₂, AreSound, arith, Bool, count_of, counted_by}
+use Rattle.gl_table.proofs.Words.{CountsHeld, enqueued, enters, Entries, false, fun_ext, held_of, holds, if◌then◌else◌, is_among_waiters, is_listed, is_wait}
+use Rattle.gl_table.proofs.Words.{length, List, LockList, members, members_at, Mode, mode_of, nat_tests, NodeId, number_same, Option, other_number, placed}
+use Rattle.gl_table.proofs.Words.{queue_of, refl, restatus, room_by, same_node, same_node-equal, same_number, Seat, slice_index_or, slice_set, slot_limit}
+use Rattle.gl_table.proofs.Words.{spare, split, State, state_in, status_in, subst, supremum, sym, true, txns_of, View, Waiting, wanted, with_waiters, ℕ}
 use Rattle.gl_table.specs.declared.ledger.Ledger.{Ledger}
 use Rattle.gl_table.proofs.inside.Asks.{active-waits_nowhere, IsReady}
 use Rattle.gl_table.proofs.inside.Slots.{by_list-set, counts-entered, has_node-set, HasNode, none_more}
@@ -98,7 +97,8 @@ module _ (g : View) (l r l' : Ledger) (t : ℕ) (n : NodeId) (m w : Mode) (held 
     };
     state = state ∙ ap (λ s. enqueued s t n (wanted s t n m)) ready.same;
     agree = λ u. subst (λ s. Agrees s l'.lists.items u) (sym state)
-        (enqueue-agrees (state_in g r) t n want (active-waits_nowhere g r t ready.may n) r.lists.items l'.lists.items has.node has.room u (ready.may.exact.agree u));
+        (enqueue-agrees (state_in g r) t n want (active-waits_nowhere g r t ready.may n) r.lists.items l'.lists.items has.node has.room u
+        (ready.may.exact.agree u));
     count = λ u. subst (λ s. CountsHeld s l'.lists.items u) (sym state) (λ p. has.counts u p ∙ ready.may.exact.count u p);
   }
     where

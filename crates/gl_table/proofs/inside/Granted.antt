@@ -1,15 +1,14 @@
 -- Headers, seats and lists once a node granted from its front. For releases and withdrawn waits.
 use Rattle.gl_slots.specs.Limit.{most_slots}
-use Rattle.gl_table.proofs.Words.{[], ◌&&◌, ◌+◌, ◌<◌, ◌==◌, ◌||◌, ◌∙◌, ◌≡◌, ◌≢◌, ◌≤◌, Active, after_grants, Agrees, and-false, and_both, ap, ap₂, AreSound}
-use Rattle.gl_table.proofs.Words.{arith, books_of, Bool, CanEnd, CanHold, children_that, clash, count_by, count_by-le-length, CountsHeld, drop, false, front}
-use Rattle.gl_table.proofs.Words.{front-limit, front_at, fun_ext, granted_at, Graph, held_by, held_children, holds, if◌then◌else◌, is_among_waiters}
-use Rattle.gl_table.proofs.Words.{is_distinct, is_listed, is_live, is_wait, IsBySlot, IsLawfulGraph, IsOrderly, IsWithin, length, List, LockList, Members}
-use Rattle.gl_table.proofs.Words.{members, Mode, mode_given, nat_tests, NL, NodeId, None, not, not_true, notices_in, Option, option_map_or, or_left, or_right}
-use Rattle.gl_table.proofs.Words.{parents_of, pumped, refl, restatus, same_mode, same_mode-equal, same_node, same_node-equal, same_node-refl, same_node-sym}
-use Rattle.gl_table.proofs.Words.{same_number, slice_get, slot_limit, Some, split, State, state_on, Status, status_of, subst, sym, Told, true, Txn, unlisted}
-use Rattle.gl_table.proofs.Words.{unlisted_by, Waiter, Waiting, WaitWell, WakesLists, with_grant, with_members, with_mode, with_waiters, without_wait}
-use Rattle.gl_table.proofs.Words.{without_waiter, woken, ℕ}
-use Rattle.gl_table.proofs.Words.{AreExactFor, graph_of, state_in, View}
+use Rattle.gl_table.proofs.Words.{[], ◌&&◌, ◌+◌, ◌<◌, ◌==◌, ◌||◌, ◌∙◌, ◌≡◌, ◌≢◌, ◌≤◌, Active, after_grants, Agrees, and-false, and_both, ap, ap₂}
+use Rattle.gl_table.proofs.Words.{AreExactFor, arith, books_of, Bool, CanEnd, CanHold, children_that, clash, count_by, count_by-le-length, CountsHeld, drop}
+use Rattle.gl_table.proofs.Words.{false, front, front-limit, front_at, fun_ext, granted_at, graph_of, held_by, held_children, holds, if◌then◌else◌}
+use Rattle.gl_table.proofs.Words.{is_among_waiters, is_distinct, is_listed, is_live, is_wait, IsBySlot, IsLawfulGraph, IsOrderly, IsWithin, length, List}
+use Rattle.gl_table.proofs.Words.{LockList, Members, members, Mode, mode_given, nat_tests, NL, NodeId, None, not, not_true, notices_in, Option}
+use Rattle.gl_table.proofs.Words.{option_map_or, or_left, or_right, parents_of, pumped, refl, restatus, same_mode, same_mode-equal, same_node}
+use Rattle.gl_table.proofs.Words.{same_node-equal, same_node-refl, same_node-sym, same_number, slice_get, slot_limit, Some, split, State, state_in, Status}
+use Rattle.gl_table.proofs.Words.{status_of, subst, sym, Told, true, Txn, unlisted, unlisted_by, View, Waiter, Waiting, WaitWell, WakesLists, with_grant}
+use Rattle.gl_table.proofs.Words.{with_members, with_mode, with_waiters, without_wait, without_waiter, woken, ℕ}
 use Rattle.gl_table.specs.declared.ledger.Ledger.{Ledger}
 use Rattle.gl_table.proofs.inside.Slots.{none_more}
 use Rattle.gl_table.proofs.inside.Woken.{given_or_held}

@@ -1,12 +1,12 @@
 -- Waits on one node that end without a grant, one after the other, and what is told. For moves.
-use Rattle.gl_table.proofs.Words.{[], ◌&&◌, ◌<◌, ◌==◌, ◌||◌, ◌∙◌, ◌∷◌, ◌≡◌, ◌≤◌, Active, addressed, age_in, age_of, Agrees, and-false, and-not_self, and-true}
-use Rattle.gl_table.proofs.Words.{and_both, ap, ap₂, AreKept, arith, as_left, books_of, Bool, both, clash, false, filter, fits, freed, freed_unless, front}
-use Rattle.gl_table.proofs.Words.{fun_ext, Graph, held_of, if◌then◌else◌, intends_over, is_among_waiters, is_live, is_wait, is_waiter, IsOrderly, length, List}
-use Rattle.gl_table.proofs.Words.{list_all, LockList, members, members_at, Mode, mode_of, moved_to, nat_tests, NL, NodeId, None, none_but, not, not-true}
-use Rattle.gl_table.proofs.Words.{not_true, notice_of, notices_in, Option, or-false, or_right, queue_of, refl, restatus, room_by, same_mode, same_mode-equal}
-use Rattle.gl_table.proofs.Words.{same_node, same_node-equal, same_node-refl, same_number, slice_index_or, slot_limit, Some, some_is, split, State, state_on}
-use Rattle.gl_table.proofs.Words.{status_in, status_of, stays, subst, sym, Told, told_from, told_to, true, Txn, TxnId, Waiter, Waiting, WaitsEnd, with_waiters}
-use Rattle.gl_table.proofs.Words.{CanEndAt, without_waiter, ℕ}
+use Rattle.gl_table.proofs.Words.{[], ◌&&◌, ◌<◌, ◌==◌, ◌||◌, ◌∙◌, ◌∷◌, ◌≡◌, ◌≤◌, Active, addressed, age_in, age_of, Agrees, and-false, and-not_self}
+use Rattle.gl_table.proofs.Words.{and-true, and_both, ap, ap₂, AreKept, arith, as_left, books_of, Bool, both, CanEndAt, clash, false, filter, fits, freed}
+use Rattle.gl_table.proofs.Words.{freed_unless, front, fun_ext, Graph, held_of, if◌then◌else◌, intends_over, is_among_waiters, is_live, is_wait, is_waiter}
+use Rattle.gl_table.proofs.Words.{IsOrderly, length, List, list_all, LockList, members, members_at, Mode, mode_of, moved_to, nat_tests, NL, NodeId, None}
+use Rattle.gl_table.proofs.Words.{none_but, not, not-true, not_true, notice_of, notices_in, Option, or-false, or_right, queue_of, refl, restatus, room_by}
+use Rattle.gl_table.proofs.Words.{same_mode, same_mode-equal, same_node, same_node-equal, same_node-refl, same_number, slice_index_or, slot_limit, Some}
+use Rattle.gl_table.proofs.Words.{some_is, split, State, state_on, status_in, status_of, stays, subst, sym, Told, told_from, told_to, true, Txn, TxnId}
+use Rattle.gl_table.proofs.Words.{Waiter, Waiting, WaitsEnd, with_waiters, without_waiter, ℕ}
 use Rattle.gl_model.specs.declared.answers.Notice.TheVariants as notice
 use Rattle.gl_table.proofs.inside.Slots.{by_list-at}
 use Rattle.gl_table.proofs.inside.Woken.{agrees_given_up, ends_more, ends_none, kept_still, seat_still, untold_still}

@@ -1,13 +1,12 @@
 -- The locks on a node go: the lists agree. For nodes that are taken away.
-use Rattle.gl_slots.specs.Limit.{most_slots}
-use Rattle.gl_table.proofs.Words.{[], ◌&&◌, ◌+◌, ◌<◌, ◌==◌, ◌||◌, ◌∙◌, ◌≡◌, ◌≤◌, Active, Agrees, and-false, and_both, ap, ap₂, arith, as_left, Bool, CanEnd}
-use Rattle.gl_table.proofs.Words.{CanStrike, children_that, clash, cond, count_by, count_none, count_same, count_there, counted_by, CountsHeld, departed, false}
-use Rattle.gl_table.proofs.Words.{freed, fun_ext, Graph, held_children, holds, if◌then◌else◌, is_among_waiters, is_child, is_live, is_record_shape, is_wait}
-use Rattle.gl_table.proofs.Words.{is_waiting_at, IsBySlot, IsLawfulGraph, IsOrderly, IsWritten, length, List, list_any, live_node, LockList, members, Mode}
-use Rattle.gl_table.proofs.Words.{nat_tests, NL, node_at, NodeId, nodes, nodes_live, None, not, not_true, notices_in, number_same, Option, parent_plain}
-use Rattle.gl_table.proofs.Words.{parents_in, parents_of, rec_live, rec_not_plain, refl, restatus, same_mode, same_node, same_node-equal, same_node-refl}
-use Rattle.gl_table.proofs.Words.{same_number, Seat, shape_of, Some, split, State, status_in, status_of, Strikes, subst, sym, Told, true, Txn, waits_at}
-use Rattle.gl_table.proofs.Words.{was_there, with_grant, without_node, ℕ, View, graph_of, state_in, MayAct, IsLeftTo, CanTell, books_of}
+use Rattle.gl_table.proofs.Words.{[], ◌&&◌, ◌+◌, ◌==◌, ◌||◌, ◌∙◌, ◌≡◌, ◌≤◌, Active, Agrees, and-false, and_both, ap, ap₂, arith, as_left, books_of, Bool}
+use Rattle.gl_table.proofs.Words.{CanEnd, CanStrike, CanTell, children_that, clash, cond, count_by, count_none, count_same, count_there, counted_by}
+use Rattle.gl_table.proofs.Words.{CountsHeld, departed, false, freed, fun_ext, Graph, graph_of, held_children, holds, if◌then◌else◌, is_among_waiters}
+use Rattle.gl_table.proofs.Words.{is_child, is_live, is_record_shape, is_wait, is_waiting_at, IsLawfulGraph, IsLeftTo, IsWritten, List, list_any, live_node}
+use Rattle.gl_table.proofs.Words.{LockList, MayAct, members, Mode, nat_tests, NL, node_at, NodeId, nodes, nodes_live, None, not, not_true, number_same}
+use Rattle.gl_table.proofs.Words.{Option, parent_plain, parents_in, parents_of, rec_live, rec_not_plain, refl, restatus, same_mode, same_node}
+use Rattle.gl_table.proofs.Words.{same_node-equal, same_node-refl, same_number, shape_of, Some, split, State, state_in, status_in, status_of, Strikes, subst}
+use Rattle.gl_table.proofs.Words.{sym, Told, true, Txn, View, waits_at, was_there, with_grant, without_node, ℕ}
 use Rattle.gl_table.specs.declared.ledger.Ledger.{Ledger}
 use Rattle.gl_table.proofs.inside.Marked.{list_there}
 use Rattle.gl_model.proofs.queues.Counts.{children_down}
@@ -114,7 +113,12 @@ module _ {g : View} {l : Ledger} {t : ℕ} {r : NodeId} (may : MayVacate g l t r
     }
       where
         absent : (q : NodeId) → ((u == t) && same_node q r) ≡ true → is_among_waiters u (s.queue q) ≡ false
-        absent q h = grind (arith, nat_tests, same_number u t (and_both (u == t) (same_node q r) h).0, in_no_queue s may.act.orderly t (ap is_wait may.act.active) q)
+        absent q h = grind (
+          arith,
+          nat_tests,
+          same_number u t (and_both (u == t) (same_node q r) h).0,
+          in_no_queue s may.act.orderly t (ap is_wait may.act.active) q,
+        )
 
         by : (k : Bool) (m : Mode) (a : Bool) → (k ≡ true → a ≡ false) → (if k then false else (not (same_mode m NL) || a))
             ≡ (not (same_mode (if k then NL else m) NL) || a)

@@ -1,8 +1,7 @@
-use Rattle.gl_table.proofs.Words.{◌&&◌, ◌+◌, ◌<◌, ◌^◌, ◌∙◌, ◌≡◌, ◌≤◌, Agrees, and-false, ap, ap₂, AreHeaders, arith, Asked, asked_at, clash, count_by, count_of}
-use Rattle.gl_table.proofs.Words.{CountsHeld, enters_at, false, graph_of, held_of, holds, if◌then◌else◌, is_granted_at, members, mode_of, NL, not, not-false}
-use Rattle.gl_table.proofs.Words.{not-true, parents_of, refl, rules, same_mode, same_node, spare, state_in, subst, supremum, sym, true, unlisted, wanted}
-use Rattle.gl_table.proofs.Words.{with_item, ℕ}
-use Rattle.gl_table.proofs.Words.{MayAct}
+use Rattle.gl_table.proofs.Words.{◌&&◌, ◌+◌, ◌<◌, ◌^◌, ◌∙◌, ◌≡◌, ◌≤◌, Agrees, and-false, ap, ap₂, AreHeaders, arith, Asked, asked_at, clash, count_by}
+use Rattle.gl_table.proofs.Words.{count_of, CountsHeld, enters_at, false, graph_of, held_of, holds, if◌then◌else◌, is_granted_at, MayAct, members, mode_of}
+use Rattle.gl_table.proofs.Words.{NL, not, not-false, not-true, parents_of, refl, rules, same_mode, same_node, spare, state_in, subst, supremum, sym, true}
+use Rattle.gl_table.proofs.Words.{unlisted, wanted, with_item, ℕ}
 use Rattle.gl_header.specs.declared.header.Asked.TheVariants as asked
 use Rattle.gl_table.specs.declared.ledger.Ledger.{Ledger}
 use Rattle.gl_table.proofs.inside.Asks.{answer-enters, answer-waits, is_granted, IsGranted, own-few, own-listed, own-mode, own-room}

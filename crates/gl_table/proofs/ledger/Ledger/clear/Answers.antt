@@ -1,6 +1,4 @@
-use Rattle.gl_table.proofs.Words.{◌==◌, ◌<◌, ◌∙◌, ◌≡◌, Agrees, ap, CountsHeld, false, holds, length, members, mode_of, NL, not, same_mode, split}
-use Rattle.gl_table.proofs.Words.{State, state_in, subst, sym, same_number, ℕ}
-use Rattle.gl_table.proofs.Words.{graph_of}
+use Rattle.gl_table.proofs.Words.{◌==◌, ◌∙◌, ◌≡◌, ap, false, graph_of, holds, members, mode_of, NL, not, same_mode, same_number, split, State, state_in, sym}
 use Rattle.gl_table.proofs.inside.Marked.{list_there}
 use Rattle.gl_model.proofs.law.Keeps.{nl_is}
 use Rattle.gl_table.proofs.inside.Branches.{departed_nothing}
@@ -11,7 +9,7 @@ use Rattle.gl_table.proofs.ledger.Ledger.clear.Goals as goal
 -- what the list says is what the slot holds
 holding : (c : After-holds) → c.holds.result ≡ holds (members (state_in c.args.graph.now c.args.self.now) c.args.node) c.args.slot
 holding c = c.holds.ensures
-    ∙ ap (λ m. not (same_mode m NL)) (sym (by_list-at (λ l. mode_of l c.args.node) NL c.args.self.now.lists.items c.args.slot c.index.result.now 
+    ∙ ap (λ m. not (same_mode m NL)) (sym (by_list-at (λ l. mode_of l c.args.node) NL c.args.self.now.lists.items c.args.slot c.index.result.now
     (list_there c.args.self.now (graph_of c.args.graph.now) c.requires.act.exact.sound c.requires.act.orderly c.args.slot c.requires.act.active)
     c.index.ensures) ∙ (c.requires.act.exact.agree c.args.slot).modes c.args.node)
 

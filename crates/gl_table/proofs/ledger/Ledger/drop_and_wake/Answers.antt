@@ -1,6 +1,6 @@
 use Rattle.gl_table.proofs.Words.{◌&&◌, ◌==◌, ◌∙◌, ◌≡◌, ap, books_of, Bool, CanEnd, CanHold, false, front, front_at, graph_of, held_of, if◌then◌else◌}
-use Rattle.gl_table.proofs.Words.{is_among_waiters, List, members, NL, NodeId, parents_of, queue_of, refl, same_node, slot_limit, State, state_in, subst, sym}
-use Rattle.gl_table.proofs.Words.{true, txns_of, Waiter, Wakes, with_grant, with_mode, ℕ}
+use Rattle.gl_table.proofs.Words.{is_among_waiters, List, members, NL, NodeId, parents_of, queue_of, refl, same_node, slot_limit, State, state_in, subst}
+use Rattle.gl_table.proofs.Words.{sym, true, txns_of, Waiter, Wakes, with_grant, with_mode, ℕ}
 use Rattle.gl_table.proofs.inside.Granted.{can_wake_front, held-pumped, members-with_grant, pumped_by_fields, queue-pumped, released_front}
 use Rattle.gl_model.proofs.telling.Fronts.{well_granted, woken_front}
 use Rattle.gl_table.proofs.ledger.Ledger.drop_and_wake.Goals.{After-as_slice}
@@ -12,8 +12,9 @@ can_wake : (c : After-as_slice) → CanEnd (books_of c.args.self.now.seats c.arg
 can_wake c =
     let s = state_in c.args.graph.now c.args.self.now in
     can_wake_front c.args.graph.now c.args.self.now c.args.node c.requires.waiters c.law.ensures.lawful (with_grant s c.args.slot c.args.node NL)
-    (well_granted s c.requires.waiters.orderly c.args.slot c.args.node NL c.args.node) (λ u h. h) c.args.told.now.items c.requires.tell.by_slot c.requires.tell.untold _
-    (c.as_slice.ensures.value ∙ c.drop_grant.ensures.granted ∙ released_front s c.requires.waiters.orderly c.requires.waiters.sound.few c.args.slot c.args.node)
+    (well_granted s c.requires.waiters.orderly c.args.slot c.args.node NL c.args.node) (λ u h. h) c.args.told.now.items c.requires.tell.by_slot
+    c.requires.tell.untold _ (c.as_slice.ensures.value ∙ c.drop_grant.ensures.granted ∙ released_front s c.requires.waiters.orderly
+    c.requires.waiters.sound.few c.args.slot c.args.node)
 
 pub wake_granted-requires-clause-can : goal.wake_granted-requires-clause-can
 wake_granted-requires-clause-can c = (can_wake (goal.at.wake_granted-requires-clause-can c).After-as_slice).0

@@ -1,5 +1,6 @@
 use Rattle.gl_table.proofs.Words.{◌&&◌, ◌+◌, ◌<◌, ◌==◌, ◌^◌, ◌∙◌, ◌≡◌, ◌≤◌, ap, Bool, count_by, count_of, counted_by, graph_of, if◌then◌else◌, IsTold}
-use Rattle.gl_table.proofs.Words.{length-set, List, mode_of, NL, NodeId, not, parents_of, same_mode, same_node, State, state_in, stays, subst, sym, unlisted, ℕ}
+use Rattle.gl_table.proofs.Words.{length-set, List, mode_of, NL, NodeId, not, parents_of, same_mode, same_node, State, state_in, stays, subst, sym, unlisted}
+use Rattle.gl_table.proofs.Words.{ℕ}
 use Rattle.gl_model.specs.declared.answers.Notice.TheVariants as notice
 use Rattle.gl_table.proofs.inside.TurnedAway.{is_lost}
 use Rattle.gl_table.proofs.inside.Slots.{agrees_recounted, by_list-at, counts_recounted}

@@ -1,7 +1,6 @@
-use Rattle.gl_table.proofs.Words.{◌&&◌, ◌<◌, ◌==◌, ◌||◌, ◌∙◌, ◌≡◌, Agrees, ap, count_by, CountsHeld, false, graph_of, holds, is_among_waiters, is_listed}
-use Rattle.gl_table.proofs.Words.{is_wait, length, length-set, LockList, members, NodeId, nodes, not, or-false, same_node, slice_set, State, state_in}
-use Rattle.gl_table.proofs.Words.{status_in, subst, sym, true, ℕ}
-use Rattle.gl_table.proofs.Words.{AreExactFor, with_item}
+use Rattle.gl_table.proofs.Words.{◌&&◌, ◌<◌, ◌==◌, ◌||◌, ◌∙◌, ◌≡◌, ap, AreExactFor, count_by, false, graph_of, holds, is_among_waiters, is_listed, is_wait}
+use Rattle.gl_table.proofs.Words.{length, length-set, LockList, members, NodeId, nodes, not, or-false, same_node, State, state_in, status_in, subst, sym}
+use Rattle.gl_table.proofs.Words.{true, with_item, ℕ}
 use Rattle.gl_table.proofs.inside.Departures.{holds_after, IsLeaving, leaving_begins, leaving_fewer, leaving_one, leaving_out, left_released}
 use Rattle.gl_table.proofs.inside.Slots.{agrees-set, by_list-at, counts-set, popped-listed}
 use Rattle.gl_listed.proofs.Children.{nl_is}
@@ -88,8 +87,8 @@ loop-node-preserved c =
           ∙ sym (ap (λ (x : State). holds (members x q) c.args.slot) ends.state ∙ holds_after left c.requires.quiet c.in-Some.node held q);
       leaving = subst (λ (x : State). IsLeaving (state_in c.args.graph.now c.args.self.now) x c.args.slot c.drop_and_wake.new.self.lists.items
           c.args.told.now.items c.drop_and_wake.new.told.items) (sym ends.state)
-          (leaving_one left c.requires.quiet c.in-Some.node held c.law.ensures.lawful (written p c.pop.new.self).agree (written p c.pop.new.self).count ends.lists
-          ends.tells);
+          (leaving_one left c.requires.quiet c.in-Some.node held c.law.ensures.lawful (written p c.pop.new.self).agree (written p c.pop.new.self).count
+          ends.lists ends.tells);
     }
 
 -- in the end the list is empty

@@ -1,6 +1,6 @@
-use Rattle.gl_table.proofs.Words.{◌∙◌, ◌≡◌, ap, books_of, CanEnd, CanHold, false, front, front_at, graph_of, held_of, is_among_waiters, List, members, not_true}
-use Rattle.gl_table.proofs.Words.{number_other, parents_of, pumped, queue_of, refl, same_node, same_node-sym, slot_limit, State, state_in, subst, sym, true}
-use Rattle.gl_table.proofs.Words.{txns_of, Waiter, WaitWell, Wakes, without_wait, without_waiter, ℕ}
+use Rattle.gl_table.proofs.Words.{◌∙◌, ◌≡◌, ap, books_of, CanEnd, CanHold, false, front, front_at, graph_of, held_of, is_among_waiters, List, members}
+use Rattle.gl_table.proofs.Words.{not_true, number_other, parents_of, pumped, queue_of, refl, same_node, same_node-sym, slot_limit, State, state_in, subst}
+use Rattle.gl_table.proofs.Words.{sym, true, txns_of, Waiter, WaitWell, Wakes, without_wait, without_waiter, ℕ}
 use Rattle.gl_table.proofs.inside.Granted.{can_wake_front, held-pumped, pumped_by_fields, queue-pumped, status_last, withdrawn_front}
 use Rattle.gl_model.proofs.queues.Edits.{out_of_without, without_none}
 use Rattle.gl_model.proofs.telling.Fronts.{front_stands, stands_only, stands_there, waits_only, well_without, woken_front}
@@ -19,7 +19,8 @@ can_wake c =
     (well_without s c.requires.waiters.orderly c.args.slot c.args.status c.args.node) (λ u h. (out_of_without c.args.slot u (s.queue c.args.node) h).0)
     c.args.told.now.items c.requires.by_slot
     (λ u h. let was = out_of_without c.args.slot u (s.queue c.args.node) h in c.requires.untold u was.0 (number_other u c.args.slot was.1)) _
-    (c.as_slice.ensures.value ∙ c.drop_wait.ensures.granted ∙ withdrawn_front s c.requires.waiters.orderly c.requires.waiters.sound.few c.args.slot c.args.node c.args.status)
+    (c.as_slice.ensures.value ∙ c.drop_wait.ensures.granted ∙ withdrawn_front s c.requires.waiters.orderly c.requires.waiters.sound.few c.args.slot
+    c.args.node c.args.status)
 
 pub wake_granted-requires-clause-can : goal.wake_granted-requires-clause-can
 wake_granted-requires-clause-can c = (can_wake (goal.at.wake_granted-requires-clause-can c).After-as_slice).0

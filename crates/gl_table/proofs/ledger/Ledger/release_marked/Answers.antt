@@ -1,6 +1,5 @@
-use Rattle.gl_table.proofs.Words.{◌∙◌, and-not_self, ap, arith, clash, holds, is_wait, keys, members, none_some}
-use Rattle.gl_table.proofs.Words.{slice_get_past, State, state_in, status_in, subst, sym}
-use Rattle.gl_table.proofs.Words.{ℕ}
+use Rattle.gl_table.proofs.Words.{◌∙◌, and-not_self, ap, arith, clash, holds, is_wait, keys, members, none_some, slice_get_past, State, state_in, status_in}
+use Rattle.gl_table.proofs.Words.{subst, sym, ℕ}
 use Rattle.gl_model.proofs.telling.Fronts.{stands_other, waits_there}
 use Rattle.gl_table.proofs.inside.Departures.{leaving_begins}
 use Rattle.gl_table.proofs.inside.Marked.{IsReleasing, marked_childless, marked_counted, releasing_ends, releasing_modes, releasing_one}

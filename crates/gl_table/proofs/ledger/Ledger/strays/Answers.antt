@@ -1,5 +1,5 @@
-use Rattle.gl_table.proofs.Words.{◌+◌, ◌<◌, ◌∙◌, ◌≡◌, ap, arith, Bool, graph_of, intends_over, length, List, mode_of, NL, NodeId}
-use Rattle.gl_table.proofs.Words.{not, parents_of, queue_of, refl, slice_index_or, State, state_in, stays, subst, sym, take, Waiter, ℕ}
+use Rattle.gl_table.proofs.Words.{◌+◌, ◌<◌, ◌∙◌, ◌≡◌, ap, arith, Bool, graph_of, intends_over, length, List, mode_of, NL, NodeId, not, parents_of, queue_of}
+use Rattle.gl_table.proofs.Words.{refl, slice_index_or, State, state_in, stays, subst, sym, take, Waiter, ℕ}
 use Rattle.gl_table.proofs.inside.TurnedAway.{allowed_stays}
 use Rattle.gl_model.proofs.law.Strays.{among_at, IsSetOf, set-with, set-without}
 use Rattle.gl_model.proofs.telling.Fronts.{waiters_below}

@@ -1,8 +1,5 @@
-use Rattle.gl_table.proofs.Words.{◌∙◌, ◌≡◌, Agrees, ap, CountsHeld, departed, graph_of, holds, is_among_waiters, list_any, members, NL}
-use Rattle.gl_table.proofs.Words.{IsOrderly, not, refl, same_mode, same_node, slice_index_or, Some, State, state_in, status_of, subst, sym, take, Active}
-use Rattle.gl_table.proofs.Words.{age_in, held_children}
-use Rattle.gl_modes.proofs.Words.{or_left, or_right}
-use Rattle.gl_modes.proofs.NodeLemmas.{same_node-refl}
+use Rattle.gl_table.proofs.Words.{◌∙◌, age_in, ap, departed, graph_of, holds, is_among_waiters, list_any, members, NL, not, refl, same_mode, same_node}
+use Rattle.gl_table.proofs.Words.{slice_index_or, State, state_in, sym, take}
 use Rattle.gl_model.proofs.law.Departures.{age_freed_among}
 use Rattle.gl_table.proofs.inside.Branches.{before_act, before_unawaited, child_here, child_left, end_left}
 use Rattle.gl_table.proofs.inside.Branches.{departed_none, end_held, end_queue, end_whole, item_at, MayClear, one_more, take_all, told_after}

@@ -1,6 +1,5 @@
-use Rattle.gl_table.proofs.Words.{◌∙◌, ◌≡◌, Active, ap, AreExact, first_not_ix, graph_of, IsIndexBorn, NodeId, None, Option}
-use Rattle.gl_table.proofs.Words.{Refusal, Refuses, Some, State, state_in, state_of, status_of, subst, sym, TableView, view_of, with_grant, with_graph, X}
-use Rattle.gl_table.proofs.Words.{IsPrepared, ℕ}
+use Rattle.gl_table.proofs.Words.{◌∙◌, ◌≡◌, Active, ap, AreExact, first_not_ix, graph_of, IsIndexBorn, IsPrepared, NodeId, None, Option, Refusal, Refuses}
+use Rattle.gl_table.proofs.Words.{Some, State, state_in, state_of, status_of, subst, sym, TableView, view_of, with_grant, with_graph, X, ℕ}
 use Rattle.gl_table.specs.declared.ledger.Ledger.{Ledger}
 use Rattle.gl_table.specs.declared.table.Table.TheInside.{Inside}
 use Rattle.gl_table.proofs.calls.Dropping.{index_fresh, stands_indexed, stands_placed_index, state_indexed}

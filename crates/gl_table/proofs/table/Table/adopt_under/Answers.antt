@@ -1,7 +1,6 @@
-use Rattle.gl_table.proofs.Words.{Active, ap, AreExact, graph_of, is_live, IsBorn, NodeId, None, Option, Rec, record_parents, record_refusal, Refusal}
-use Rattle.gl_table.proofs.Words.{Refuses, rule_refusal, Some, State, state_in, state_of, status_of, subst, sym, TableView, true, View, view_of, with_grant}
-use Rattle.gl_table.proofs.Words.{with_graph, ◌∙◌, ◌≡◌}
-use Rattle.gl_table.proofs.Words.{IsPrepared, ℕ}
+use Rattle.gl_table.proofs.Words.{◌∙◌, ◌≡◌, Active, ap, AreExact, graph_of, IsBorn, IsPrepared, NodeId, None, Option, Rec, record_parents, record_refusal}
+use Rattle.gl_table.proofs.Words.{Refusal, Refuses, rule_refusal, Some, State, state_in, state_of, status_of, subst, sym, TableView, View, view_of}
+use Rattle.gl_table.proofs.Words.{with_grant, with_graph, ℕ}
 use Rattle.gl_table.specs.declared.ledger.Ledger.{Ledger}
 use Rattle.gl_table.specs.declared.table.Table.TheInside.{Inside}
 use Rattle.gl_table.proofs.calls.Adopting.{adopted_fresh, file_stands, stands_adopted, stands_locked, state_adopted}
@@ -84,7 +83,8 @@ module _ (c : After-add_record_under) (n : NodeId)
 
 pub place-requires-clause-act : goal.place-requires-clause-act
 place-requires-clause-act c = let at = (goal.at.place-requires-clause-act c).After-add_record_under in
-    may_act _ c.prepare.new.self (adopts at c.in_ok-rec.rec c.in_ok-rec.ensures.made c.mark_adopted.new.self c.mark_adopted.ensures.marked).law c.args.t.slot (ap (λ (s : State). status_of s c.args.t.slot) (same at) ∙ c.requires.active)
+    may_act _ c.prepare.new.self (adopts at c.in_ok-rec.rec c.in_ok-rec.ensures.made c.mark_adopted.new.self c.mark_adopted.ensures.marked).law
+    c.args.t.slot (ap (λ (s : State). status_of s c.args.t.slot) (same at) ∙ c.requires.active)
 
 pub place-requires-clause-fresh : goal.place-requires-clause-fresh
 place-requires-clause-fresh c = let at = (goal.at.place-requires-clause-fresh c).After-add_record_under in

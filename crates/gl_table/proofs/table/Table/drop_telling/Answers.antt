@@ -1,13 +1,11 @@
-use Rattle.gl_table.proofs.Words.{◌∙◌, ◌≡◌, Active, Agrees, ap, CountsHeld, departed, false, graph_of, is_among_waiters, IsTold, NodeId, same_mode, shape_of}
-use Rattle.gl_table.proofs.Words.{Some, state_in, state_of, status_of, subst}
-use Rattle.gl_table.proofs.Words.{sym, TableView, Told, told, true, view_of, X}
+use Rattle.gl_table.proofs.Words.{◌∙◌, ◌≡◌, Active, ap, departed, false, graph_of, is_among_waiters, IsTold, NodeId, same_mode, shape_of, Some, state_in}
+use Rattle.gl_table.proofs.Words.{state_of, status_of, subst, sym, TableView, Told, told, true, view_of, X, ℕ}
 use Rattle.gl_graph.specs.Refusals.{is_in_use}
 use Rattle.gl_graph.specs.Shapes.{is_movable_shape}
 use Rattle.gl_model.specs.Calls.{dropped, goes_with}
 use Rattle.gl_model.specs.declared.answers.Notice.TheVariants as notice
 use Rattle.gl_table.proofs.calls.Departing.{AreGone, stands_departed, state_departed, told_departed}
 use Rattle.gl_table.proofs.calls.Dropping.{branch_gone, branch_left}
-use Rattle.gl_table.proofs.Words.{ℕ}
 use Rattle.gl_table.proofs.calls.Stands.{as_it_was, may_act, MayStand, with_locks}
 use Rattle.gl_table.specs.declared.table.Table.TheInside.{Inside}
 use Rattle.gl_table.proofs.table.Table.drop_telling.Goals.{After-remove_node}

@@ -1,5 +1,5 @@
-use Rattle.gl_table.proofs.Words.{◌<◌, ◌∙◌, ◌≡◌, Active, ap, enters_at, false, first_refusal, lock_tests, LocksKeeping, None, Option, Refusal}
-use Rattle.gl_table.proofs.Words.{Refuses, rules, state_in, state_of, subst, sym, TableView, told_but, true, view_of, ℕ}
+use Rattle.gl_table.proofs.Words.{◌<◌, ◌∙◌, ◌≡◌, Active, ap, enters_at, false, first_refusal, lock_tests, LocksKeeping, None, Option, Refusal, Refuses}
+use Rattle.gl_table.proofs.Words.{rules, state_in, state_of, subst, sym, TableView, told_but, true, view_of, ℕ}
 use Rattle.gl_model.specs.Calls.{Locks}
 use Rattle.gl_table.proofs.calls.Locking.{can_ask, granted_answer, granted_keeps, granted_locks, granted_told, kept_locked, may_ask, may_lock_by}
 use Rattle.gl_table.proofs.calls.Locking.{law_asked, sound_locked, stands_granted, stands_kept, state_granted, state_locked, tests-seen, told_locked, unrefused}

@@ -1,6 +1,6 @@
-use Rattle.gl_table.proofs.Words.{◌∙◌, ◌≡◌, Active, ap, AreExact, first_not_ix, graph_of, IsBorn, NodeId, None, Option, Rec, record_parents, record_refusal}
-use Rattle.gl_table.proofs.Words.{Refusal, Refuses, Some, State, state_in, state_of, status_of, subst, sym, TableView, view_of, with_grant, with_graph, X}
-use Rattle.gl_table.proofs.Words.{IsPrepared, ℕ}
+use Rattle.gl_table.proofs.Words.{◌∙◌, ◌≡◌, Active, ap, AreExact, first_not_ix, graph_of, IsBorn, IsPrepared, NodeId, None, Option, Rec, record_parents}
+use Rattle.gl_table.proofs.Words.{record_refusal, Refusal, Refuses, Some, State, state_in, state_of, status_of, subst, sym, TableView, view_of, with_grant}
+use Rattle.gl_table.proofs.Words.{with_graph, X, ℕ}
 use Rattle.gl_table.specs.declared.ledger.Ledger.{Ledger}
 use Rattle.gl_table.specs.declared.table.Table.TheInside.{Inside}
 use Rattle.gl_table.proofs.calls.Records.{record_fresh, same_state, stands_grown, stands_placed, stands_roomy, state_placed}

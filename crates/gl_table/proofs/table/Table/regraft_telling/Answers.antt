@@ -1,5 +1,4 @@
-use Rattle.gl_table.proofs.Words.{◌∙◌, ◌≡◌, ◌≤◌, ap, count_by, counted_by, CountsHeld, first_cycle, graph_of, List, moved_to, Node, NodeId, same_node, state_in}
-use Rattle.gl_table.proofs.Words.{state_of, subst, sym, TableView, told, view_of, with_parents, ℕ}
+use Rattle.gl_table.proofs.Words.{◌∙◌, ◌≡◌, ap, first_cycle, graph_of, moved_to, Node, state_in, state_of, sym, TableView, told, view_of, with_parents}
 use Rattle.gl_table.proofs.calls.Moves.{agreed_moved, move_call, recount_moved, shut_moved, stands_moved}
 use Rattle.gl_table.proofs.calls.Moves.{state_moved, told_moved}
 use Rattle.gl_model.proofs.law.Move.{moved_node, Moves}
@@ -23,10 +22,12 @@ made c =
     (moved_graph c)
 
 pub follow-requires-clause-agreed : goal.follow-requires-clause-agreed
-follow-requires-clause-agreed c = let m = made c in agreed_moved c.self.inside c.self.invariant c.args.t.slot c.args.n m.0 (after c m.0) c.set_parents.new.self m.1
+follow-requires-clause-agreed c = let m = made c in
+    agreed_moved c.self.inside c.self.invariant c.args.t.slot c.args.n m.0 (after c m.0) c.set_parents.new.self m.1
 
 pub follow-requires-clause-shut_out : goal.follow-requires-clause-shut_out
-follow-requires-clause-shut_out c = let m = made c in shut_moved c.self.inside c.self.invariant c.args.t.slot c.args.n m.0 (after c m.0) c.set_parents.new.self m.1
+follow-requires-clause-shut_out c = let m = made c in
+    shut_moved c.self.inside c.self.invariant c.args.t.slot c.args.n m.0 (after c m.0) c.set_parents.new.self m.1
 
 pub follow-requires-clause-recount : goal.follow-requires-clause-recount
 follow-requires-clause-recount c = let m = made c in

@@ -1,11 +1,10 @@
-use Rattle.gl_table.proofs.Words.{◌∙◌, ◌≡◌, ap, deleted, departed, graph_of, holds, is_among_waiters, is_record_shape, IsTold, members, rec_live, same_mode}
-use Rattle.gl_table.proofs.Words.{same_node, shape_of}
-use Rattle.gl_table.proofs.Words.{state_in, state_of, subst, sym, TableView, Told, told, true, view_of, X, NodeId}
+use Rattle.gl_table.proofs.Words.{◌∙◌, ◌≡◌, Active, ap, deleted, departed, graph_of, holds, is_among_waiters, is_record_shape, IsTold, members, NodeId}
+use Rattle.gl_table.proofs.Words.{rec_live, same_mode, same_node, shape_of, Some, state_in, state_of, status_of, subst, sym, TableView, Told, told, true}
+use Rattle.gl_table.proofs.Words.{view_of, X}
 use Rattle.gl_model.specs.declared.answers.Notice.TheVariants as notice
 use Rattle.gl_table.proofs.inside.Vacated.{record-childless}
 use Rattle.gl_table.proofs.calls.Departing.{AreGone, stands_departed, state_departed, told_departed}
 use Rattle.gl_table.proofs.calls.Records.{held_alone, record_gone}
-use Rattle.gl_table.proofs.Words.{Active, Some, status_of}
 use Rattle.gl_table.proofs.calls.Stands.{as_it_was, may_act, MayStand, with_locks}
 use Rattle.gl_table.specs.declared.table.Table.TheInside.{Inside}
 use Rattle.gl_table.proofs.table.Table.remove_telling.Goals.{After-remove_record}

@@ -1,5 +1,4 @@
-use Rattle.gl_table.proofs.Words.{◌∙◌, ◌≡◌, ◌≤◌, ap, count_by, counted_by, CountsHeld, graph_of, List, moved_to, Node, NodeId, rekeyed, rekeyed_parents}
-use Rattle.gl_table.proofs.Words.{same_node, state_in, state_of, subst, sym, TableView, told, view_of, ℕ}
+use Rattle.gl_table.proofs.Words.{◌∙◌, ◌≡◌, ap, graph_of, moved_to, Node, rekeyed, rekeyed_parents, state_in, state_of, TableView, told, view_of}
 use Rattle.gl_table.proofs.calls.Moves.{agreed_moved, recount_moved, rekey_call, shut_moved, stands_moved}
 use Rattle.gl_table.proofs.calls.Moves.{state_moved, told_moved}
 use Rattle.gl_model.proofs.law.Move.{Moves, rekeyed_to}
@@ -20,10 +19,12 @@ made c = rekey_call c.self.inside c.self.invariant c.args.self.now c.self.view_i
     c.requires.active c.requires.record c.requires.exclusive c.requires.parents (rekeyed_graph c)
 
 pub follow-requires-clause-agreed : goal.follow-requires-clause-agreed
-follow-requires-clause-agreed c = let m = made c in agreed_moved c.self.inside c.self.invariant c.args.t.slot c.args.rec m.0 (after c m.0) c.set_key.new.self m.1
+follow-requires-clause-agreed c = let m = made c in
+    agreed_moved c.self.inside c.self.invariant c.args.t.slot c.args.rec m.0 (after c m.0) c.set_key.new.self m.1
 
 pub follow-requires-clause-shut_out : goal.follow-requires-clause-shut_out
-follow-requires-clause-shut_out c = let m = made c in shut_moved c.self.inside c.self.invariant c.args.t.slot c.args.rec m.0 (after c m.0) c.set_key.new.self m.1
+follow-requires-clause-shut_out c = let m = made c in
+    shut_moved c.self.inside c.self.invariant c.args.t.slot c.args.rec m.0 (after c m.0) c.set_key.new.self m.1
 
 pub follow-requires-clause-recount : goal.follow-requires-clause-recount
 follow-requires-clause-recount c = let m = made c in

@@ -1,6 +1,5 @@
-use Rattle.gl_table.proofs.Words.{◌∙◌, ◌≡◌, Err, false, first_refusal, granted, lock_tests, Mode, None, none_some, OnOk, Option, refl, Refusal, Refuses, rules}
-use Rattle.gl_table.proofs.Words.{Some, state_in, state_of, subst, sym, TableView, true, try_tests, view_of}
-use Rattle.gl_table.proofs.Words.{IfOk, wanted}
+use Rattle.gl_table.proofs.Words.{◌∙◌, ◌≡◌, Err, false, first_refusal, granted, IfOk, lock_tests, Mode, None, none_some, OnOk, Option, refl, Refusal}
+use Rattle.gl_table.proofs.Words.{Refuses, rules, Some, state_in, state_of, subst, sym, TableView, true, try_tests, view_of, wanted}
 use Rattle.gl_modes.specs.declared.refusal.Refusal.TheVariants as no
 use Rattle.gl_table.proofs.calls.Locking.{can_ask, decided, may_ask, may_lock_by, mode_tried, same_enters, stands_tried, state_tried, tests-seen, try_refused}
 use Rattle.gl_table.proofs.calls.Stands.{MayStand, with_locks}
