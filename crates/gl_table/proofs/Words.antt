@@ -92,7 +92,7 @@ pub use Rattle.gl_listed.specs.Lists.{count_in, count_of, covered_in, entry_of, 
 unfoldable pub use Rattle.gl_listed.specs.Apart.{IsApart}
 pub use Rattle.gl_table.specs.inside.Ledger.{Agrees, AreExact, AreNew, AreSound, CountsHeld, KeepsLocks, state_in, state_on}
 pub use Rattle.gl_table.specs.inside.Locks.{state_at}
-pub use Rattle.gl_table.specs.inside.Steps.{AreAgreed, AreExactFor, AreShutOut, CanAsk, CanEndAt, CanRecount, HasAsked, HasLeftAll, HasMoved, IsBranchLeftTo}
+pub use Rattle.gl_table.specs.inside.Steps.{AreAgreed, AreExactFor, AreShutOut, CanAsk, CanEndAt, CanRecount, HasAsked, HasMoved, IsBranchLeftTo}
 pub use Rattle.gl_table.specs.inside.Steps.{HasGrant, IsFresh, IsLeftTo, IsPrepared, IsReleased, MayAct, Recounts}
 pub use Rattle.gl_table.specs.inside.Seating.{IsSeating}
 pub use Rattle.gl_table.specs.inside.Seats.{is_free, is_free_at, SeatList, txn_in, txns_of}

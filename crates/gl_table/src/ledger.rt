@@ -1,7 +1,7 @@
 //! The ledger of locks: the headers of all nodes, and by slot the transactions with their lists.
 
 ghost use Rattle.gl_slots.specs.Limit.{most_slots};
-ghost use Rattle.std.specs.Prelude.{◌≡◌, ◌<◌, ◌≤◌, ◌==◌, ℕ, IfOk, None, Some, false, length, not, slice_get, true, if◌then◌else◌};
+ghost use Rattle.std.specs.Prelude.{◌≡◌, ◌<◌, ◌≤◌, ◌==◌, ℕ, IfOk, None, Some, false, length, slice_get, true, if◌then◌else◌};
 ghost use Rattle.std.specs.Option.{option_map};
 ghost use Rattle.indexmap.specs.IndexMap.{keys};
 ghost use Rattle.gl_modes.specs.declared.mode.Mode.TheVariants.{NL};

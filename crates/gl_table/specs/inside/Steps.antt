@@ -25,7 +25,7 @@ use Rattle.gl_table.specs.declared.ledger.Ledger.{Ledger}
 use Rattle.gl_table.specs.inside.Ledger.{Agrees, AreExact, AreSound, CountsHeld, state_in}
 use Rattle.gl_table.specs.inside.Slots.{AreKept, Books, HasRoomAt, IsShedding, counted_by, held_by, unlisted_by}
 
--- the ledger is in order over a graph, and exact for these slots; the lists of others are in change
+-- the ledger is in order over a graph, and exact for these slots; the lists of others may be out
 pub record AreExactFor (g : View) (l : Ledger) (who : ℕ → Type 0) : Type 0 where
   pub sound : AreSound l
   pub orderly : IsOrderly (state_in g l)

@@ -1,6 +1,6 @@
 //! Nodes leave the list of a slot: one by one, all of them, or those that are covered.
 
-ghost use Rattle.std.specs.Prelude.{ℕ, ◌<◌, ◌==◌, ◌≡◌, Some, false, length};
+ghost use Rattle.std.specs.Prelude.{◌<◌, ◌==◌, ◌≡◌, Some, false, length};
 ghost use Rattle.gl_model.specs.Lawful.{IsOrderly};
 ghost use Rattle.gl_model.specs.State.{is_wait, status_of};
 ghost use Rattle.gl_model.specs.declared.txn.Status.TheVariants.{Active};

@@ -1,7 +1,7 @@
 //! A node that moved: what follows for who moved it, and for those who wait on it.
 
-ghost use Rattle.std.specs.Prelude.{◌≡◌, ◌<◌, ◌≤◌, ◌+◌, ◌^◌, ◌&&◌, ◌==◌, [], ℕ, None, Some, if◌then◌else◌, length, not, true};
-ghost use Rattle.std.specs.List.{count_by, filter, list_all};
+ghost use Rattle.std.specs.Prelude.{◌≡◌, ◌<◌, ◌≤◌, ◌+◌, ◌^◌, ◌==◌, [], ℕ, Some, if◌then◌else◌, not, true};
+ghost use Rattle.std.specs.List.{count_by, filter};
 ghost use Rattle.gl_modes.specs.declared.mode.Mode.TheVariants.{NL};
 ghost use Rattle.gl_modes.specs.declared.node.NodeId.{NodeId as Node};
 ghost use Rattle.gl_modes.specs.Nodes.{same_node};
@@ -11,17 +11,15 @@ ghost use Rattle.gl_header.specs.Header.{fits, front, holds, is_among_waiters, w
 ghost use Rattle.gl_header.specs.State.{slot_limit};
 ghost use Rattle.gl_slots.specs.Slots.{has_slot};
 ghost use Rattle.gl_model.specs.declared.answers.Notice.TheVariants as notice;
-ghost use Rattle.gl_model.specs.Calls.{moved_to, stays};
+ghost use Rattle.gl_model.specs.Calls.{stays};
 ghost use Rattle.gl_header.specs.Headers.{held_of, members_at, queue_of, with_waiters};
-ghost use Rattle.gl_model.specs.State.{intends_over, members};
+ghost use Rattle.gl_model.specs.State.{intends_over};
 ghost use Rattle.indexmap.specs.IndexMap.{spare};
 ghost use Rattle.gl_modes.specs.Modes.{same_mode};
 ghost use Rattle.gl_listed.specs.Lists.{count_of, is_listed, mode_of, unlisted};
 ghost use Rattle.gl_table.specs.inside.Ledger.{state_in};
 ghost use Rattle.gl_table.specs.inside.Steps.{AreAgreed, AreShutOut, CanEndAt, CanRecount, HasMoved, Recounts};
-ghost use Rattle.gl_model.specs.Lawful.{IsOrderly};
-ghost use Rattle.gl_table.specs.inside.Slots.{AreKept, CanTell, WaitsEnd, as_left, books_of, counted_by, room_by, unlisted_by};
-ghost use Rattle.gl_model.specs.Tellings.{IsTold, notices_in};
+ghost use Rattle.gl_table.specs.inside.Slots.{CanTell, WaitsEnd, as_left, books_of, counted_by, room_by};
 
 use crate::ledger::Ledger;
 use crate::ledger::leave::end_wait;

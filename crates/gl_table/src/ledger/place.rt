@@ -1,7 +1,7 @@
 //! Locks on records that come and go.
 
 ghost use Rattle.gl_slots.specs.Limit.{most_slots};
-ghost use Rattle.std.specs.Prelude.{◌≡◌, ◌≢◌, ◌<◌, ◌==◌, ℕ, [], IfErr, IfOk, None, OnOk, Some, false, length, true};
+ghost use Rattle.std.specs.Prelude.{◌≡◌, ◌≢◌, ◌<◌, ℕ, [], IfErr, IfOk, None, Some, length, true};
 ghost use Rattle.gl_modes.specs.Nodes.{same_node};
 ghost use Rattle.gl_modes.specs.declared.mode.Mode.TheVariants.{NL};
 ghost use Rattle.gl_modes.specs.declared.refusal.Refusal.{Refusal as ARefusal};
