@@ -14,11 +14,11 @@ ghost use Rattle.gl_header.specs.Header.{holds, is_among_waiters};
 ghost use Rattle.gl_model.specs.Calls.{unlocked};
 ghost use Rattle.gl_model.specs.State.{is_write, front_at, is_waiting_at, pumped, without_wait, members, with_grant};
 ghost use Rattle.gl_table.specs.inside.Ledger.{AreSound, state_in, AreNew};
-ghost use Rattle.gl_table.specs.inside.Steps.{AreExactFor};
+ghost use Rattle.gl_table.specs.inside.Steps.{AreExactFor, CanTellWaiters};
 ghost use Rattle.gl_model.specs.Lawful.{effect_on};
 ghost use Rattle.gl_table.specs.inside.Seats.{txn_in, txns_of};
 ghost use Rattle.gl_table.specs.Table.{row_of};
-ghost use Rattle.gl_table.specs.inside.Slots.{CanEnd, CanHold, CanTell, Wakes, WakesLists, books_of, by_list, counted_by, held_by};
+ghost use Rattle.gl_table.specs.inside.Slots.{CanEnd, CanHold, Wakes, WakesLists, books_of, by_list, counted_by, held_by};
 ghost use Rattle.gl_model.specs.Tellings.{IsBySlot, WakesTold, notices_in};
 
 use crate::effective::effective;
@@ -173,7 +173,7 @@ impl Ledger {
         requires waiters { AreExactFor graph.now self.old (λ u. is_among_waiters u ((state_in graph.now self.old).queue node) ≡ true) }
         requires holds { holds (members (state_in graph.now self.old) node) slot ≡ true }
         requires no_wait { is_among_waiters slot ((state_in graph.now self.old).queue node) ≡ false }
-        requires tell { CanTell told.old.items (λ u. is_among_waiters u ((state_in graph.now self.old).queue node)) }
+        requires tell { CanTellWaiters (state_in graph.now self.old) node told.old.items }
         ensures sound { AreSound self.new }
         ensures state { state_in graph.now self.new ≡ unlocked (state_in graph.now self.old) slot node }
         ensures lists { WakesLists self.old.lists.items node (parents_of (graph_of graph.now) node)

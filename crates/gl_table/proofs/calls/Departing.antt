@@ -1,8 +1,8 @@
 -- Nodes go from a table with all locks on them: what it makes of the table. For the calls that take nodes away.
 use Rattle.gl_table.proofs.Words.{[], ◌∙◌, ◌≡◌, Active, addressed, age_in, age_of, Agrees, ap, AreExact, Bool, children_that, clash, CountsHeld, departed}
-use Rattle.gl_table.proofs.Words.{false, Graph, graph_of, HasNoCycle, holds, if◌then◌else◌, is_among_waiters, is_live, IsLawful, IsOrderly, IsSound, IsTold}
-use Rattle.gl_table.proofs.Words.{members, Mode, NL, NodeId, None, not, not_true, notice_of, Option, refl, same_mode, Some, split, State, state_at, state_in}
-use Rattle.gl_table.proofs.Words.{state_of, status_in, subst, sym, Told, told, told_from, told_to, true, Txn, TxnId, View, view_of, Waiting, ℕ}
+use Rattle.gl_table.proofs.Words.{false, Graph, graph_of, HasNoCycle, holds, if◌then◌else◌, is_among_waiters, is_live, IsLawful, IsOrderly, IsSound, members}
+use Rattle.gl_table.proofs.Words.{Mode, NL, NodeId, None, not, not_true, notice_of, Option, refl, same_mode, Some, split, State, state_at, state_in}
+use Rattle.gl_table.proofs.Words.{state_of, status_in, subst, sym, TellsGone, Told, told, told_from, told_to, true, Txn, TxnId, View, view_of, Waiting, ℕ}
 use Rattle.gl_modes.proofs.NodeLemmas.{same_node-refl}
 use Rattle.gl_model.specs.Calls.{freed_among, held_children, none_among}
 use Rattle.gl_model.specs.State.{waits_at}
@@ -100,7 +100,7 @@ module _ (i : Inside) (sound : IsSound i) (goes : NodeId → Bool) (n : NodeId) 
       over : {u : ℕ} → Agrees (departed l goes (graph_of i.locks.graph)) ledger.lists.items u → Agrees (departed l goes (graph_of v)) ledger.lists.items u
       over a = record { modes = a.modes; listed = a.listed; room = a.room }
 
-  pub told_departed : (list : Told) → IsTold l.txns (λ u. is_among_waiters u (s.queue n)) (λ u. notice.Gone) [] list
+  pub told_departed : (list : Told) → TellsGone l n [] list
       → list ≡ told s (with_locks i (state_in v ledger))
   told_departed list tells =
       told_is s (with_locks i (state_in v ledger)) list sound.lawful i.locks.sound.few tells.by_slot

@@ -1,10 +1,10 @@
 -- The locks on a node that is in no use go, and those on its children, one by one: what is left. For nodes that are dropped.
 use Rattle.gl_table.proofs.Words.{[], ◌&&◌, ◌++◌, ◌+◌, ◌<◌, ◌==◌, ◌||◌, ◌∙◌, ◌∷◌, ◌≡◌, ◌≤◌, Active, age_in, ap, ap₂, AreExact, arith, Bool, clash}
 use Rattle.gl_table.proofs.Words.{count_none, departed, false, fun_ext, get_or, held_children, holds, if◌then◌else◌, is_among_waiters, is_child, is_live}
-use Rattle.gl_table.proofs.Words.{is_some, IsBranchLeftTo, IsBySlot, IsLawfulGraph, IsLeftTo, IsOrderly, IsTold, length, List, list_any, MayAct, members}
-use Rattle.gl_table.proofs.Words.{Mode, NL, NodeId, nodes, nodes_live, None, not, not_true, notices_in, Option, parents_in, refl, same_mode, same_node}
+use Rattle.gl_table.proofs.Words.{is_some, IsBranchLeftTo, IsBySlot, IsLawfulGraph, IsLeftTo, IsOrderly, length, List, list_any, MayAct, members, Mode, NL}
+use Rattle.gl_table.proofs.Words.{NodeId, nodes, nodes_live, None, not, not_true, notices_in, Option, parents_in, refl, same_mode, same_node}
 use Rattle.gl_table.proofs.Words.{same_node-equal, same_node-refl, same_node-sym, shape_of, slice_get, slice_index_or, Some, split, State, state_in}
-use Rattle.gl_table.proofs.Words.{status_in, status_of, subst, suc, sym, take, Told, true, Txn, View, Waiting, zero, ℕ}
+use Rattle.gl_table.proofs.Words.{status_in, status_of, subst, suc, sym, take, TellsGone, Told, true, Txn, View, Waiting, zero, ℕ}
 use Rattle.gl_modes.proofs.Words.{no, or_elim, or_left, or_right, some_is}
 use Rattle.std.proofs.lemmas.List.{take_more}
 use Rattle.std.proofs.lemmas.List.Folds.{list_any-append}
@@ -222,8 +222,7 @@ pub record IsClearing (g : View) (s : State) (xs : List NodeId) (k : ℕ) (l : L
 
 -- in the end those who waited for the node are told
 pub told_after : (s now : State) (n : NodeId) (first mid list : Told) → now.queue n ≡ s.queue n → ((u : ℕ) → age_in (now.txns u) ≡ age_in (s.txns u))
-    → ((u : ℕ) → notices_in mid u ≡ notices_in first u) → IsTold now.txns (λ u. is_among_waiters u (now.queue n)) (λ u. notice.Gone) mid list
-    → IsTold s.txns (λ u. is_among_waiters u (s.queue n)) (λ u. notice.Gone) first list
+    → ((u : ℕ) → notices_in mid u ≡ notices_in first u) → TellsGone now n mid list → TellsGone s n first list
 told_after s now n first mid list queue ages same tells = record {
   by_slot = tells.by_slot;
   notices = λ u. tells.notices u ∙ ap₂ (λ b x. if b then Some (record { slot = u; age = age_in (now.txns u) }, notice.Gone) else x)

@@ -1,12 +1,12 @@
 -- Waits on one node that end without a grant, one after the other, and what is told. For moves.
 use Rattle.gl_table.proofs.Words.{[], ◌&&◌, ◌<◌, ◌==◌, ◌||◌, ◌∙◌, ◌∷◌, ◌≡◌, ◌≤◌, Active, addressed, age_in, age_of, Agrees, and-false, and-not_self}
-use Rattle.gl_table.proofs.Words.{and-true, and_both, ap, ap₂, AreAgreed, AreKept, AreSound, arith, as_left, books_of, Bool, both, CanEndAt, CanTell, clash}
-use Rattle.gl_table.proofs.Words.{false, filter, fits, freed, freed_unless, front, fun_ext, Graph, held_of, if◌then◌else◌, intends_over, is_among_waiters}
-use Rattle.gl_table.proofs.Words.{is_live, is_wait, is_waiter, IsOrderly, length, List, list_all, LockList, members, members_at, Mode, mode_of, moved_to}
-use Rattle.gl_table.proofs.Words.{nat_tests, NL, NodeId, None, none_but, not, not-true, not_true, notice_of, Option, or-false, or_right, queue_of, refl}
-use Rattle.gl_table.proofs.Words.{restatus, room_by, same_mode, same_mode-equal, same_node, same_node-equal, same_node-refl, same_number, slice_index_or}
-use Rattle.gl_table.proofs.Words.{slot_limit, Some, some_is, split, State, state_in, status_in, status_of, stays, subst, sym, Told, told_from, told_to, true}
-use Rattle.gl_table.proofs.Words.{Txn, TxnId, View, Waiter, Waiting, WaitsEnd, with_waiters, without_waiter, ℕ}
+use Rattle.gl_table.proofs.Words.{and-true, and_both, ap, ap₂, AreAgreed, AreKept, AreSound, arith, as_left, books_of, Bool, both, CanEndAt, CanTellWaiters}
+use Rattle.gl_table.proofs.Words.{clash, false, filter, fits, freed, freed_unless, front, fun_ext, Graph, held_of, if◌then◌else◌, intends_over}
+use Rattle.gl_table.proofs.Words.{is_among_waiters, is_live, is_wait, is_waiter, IsOrderly, length, List, list_all, LockList, members, members_at, Mode}
+use Rattle.gl_table.proofs.Words.{mode_of, moved_to, nat_tests, NL, NodeId, None, none_but, not, not-true, not_true, notice_of, Option, or-false, or_right}
+use Rattle.gl_table.proofs.Words.{queue_of, refl, restatus, room_by, same_mode, same_mode-equal, same_node, same_node-equal, same_node-refl, same_number}
+use Rattle.gl_table.proofs.Words.{slice_index_or, slot_limit, Some, some_is, split, State, state_in, status_in, status_of, stays, subst, sym, Told}
+use Rattle.gl_table.proofs.Words.{told_from, told_to, true, Txn, TxnId, View, Waiter, Waiting, WaitsEnd, with_waiters, without_waiter, ℕ}
 use Rattle.gl_model.specs.declared.answers.Notice.TheVariants as notice
 use Rattle.gl_table.proofs.inside.Slots.{by_list-at}
 use Rattle.gl_table.proofs.inside.Woken.{agrees_given_up, ends_more, ends_none, kept_still, seat_still, untold_still}
@@ -84,7 +84,7 @@ pub record IsTurning (l l' : Ledger) (n : NodeId) (s : State) (f : Waiter → Bo
       (books_of l'.seats l'.lists.items told')
 
 module _ {g : View} {l : Ledger} (agreed : AreAgreed g l) (n : NodeId) {told : Told}
-    (tell : CanTell told (λ u. is_among_waiters u ((state_in g l).queue n))) where
+    (tell : CanTellWaiters (state_in g l) n told) where
   abbrev s : State
   s = state_in g l
 

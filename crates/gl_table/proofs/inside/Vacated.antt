@@ -1,6 +1,6 @@
 -- The locks on a node go: the lists agree. For nodes that are taken away.
 use Rattle.gl_table.proofs.Words.{[], ◌&&◌, ◌+◌, ◌==◌, ◌||◌, ◌∙◌, ◌≡◌, ◌≤◌, Active, Agrees, and-false, and_both, ap, ap₂, arith, as_left, books_of, Bool}
-use Rattle.gl_table.proofs.Words.{CanEnd, CanStrike, CanTell, children_that, clash, cond, count_by, count_none, count_same, count_there, counted_by}
+use Rattle.gl_table.proofs.Words.{CanEnd, CanStrike, CanTellWaiters, children_that, clash, cond, count_by, count_none, count_same, count_there, counted_by}
 use Rattle.gl_table.proofs.Words.{CountsHeld, departed, false, freed, fun_ext, Graph, graph_of, held_children, holds, if◌then◌else◌, is_among_waiters}
 use Rattle.gl_table.proofs.Words.{is_child, is_live, is_record_shape, is_wait, is_waiting_at, IsLawfulGraph, IsLeftTo, IsWritten, List, list_any, live_node}
 use Rattle.gl_table.proofs.Words.{LockList, MayAct, members, Mode, nat_tests, NL, node_at, NodeId, nodes, nodes_live, None, not, not_true, number_same}
@@ -90,7 +90,7 @@ module _ {g : View} {l : Ledger} {t : ℕ} {r : NodeId} (may : MayVacate g l t r
   waiter_other u h = stands_other s may.act.orderly t (ap is_wait may.act.active) u r h
 
   module _ {mid : List LockList} (struck : Strikes ls mid t r (parents_of s.graph r)) where
-    pub can_free : (told : Told) → CanTell told (λ u. is_among_waiters u (s.queue r)) → CanEnd (books_of l.seats mid told) (s.queue r)
+    pub can_free : (told : Told) → CanTellWaiters s r told → CanEnd (books_of l.seats mid told) (s.queue r)
     can_free told tell = record {
       kept = record { few = may.act.exact.sound.few; len = struck.len ∙ may.act.exact.sound.lists; by_slot = tell.by_slot };
       distinct = distinct_once (s.queue r) (λ u h. let w = waits_there s may.act.orderly u r h in ((u, w.0), (may.act.orderly.one_wait u r w.0 w.1).0));

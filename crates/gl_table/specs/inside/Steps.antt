@@ -23,7 +23,7 @@ use Rattle.gl_model.specs.declared.answers.Notice.TheVariants as notice
 use Rattle.gl_model.specs.declared.txn.Status.TheVariants.{Active}
 use Rattle.gl_table.specs.declared.ledger.Ledger.{Ledger}
 use Rattle.gl_table.specs.inside.Ledger.{Agrees, AreExact, AreSound, CountsHeld, state_in}
-use Rattle.gl_table.specs.inside.Slots.{AreKept, Books, HasRoomAt, IsShedding, counted_by, held_by, unlisted_by}
+use Rattle.gl_table.specs.inside.Slots.{AreKept, Books, CanTell, HasRoomAt, IsShedding, counted_by, held_by, unlisted_by}
 
 -- the ledger is in order over a graph, and exact for these slots; the lists of others may be out
 pub record AreExactFor (g : View) (l : Ledger) (who : ℕ → Type 0) : Type 0 where
@@ -31,6 +31,14 @@ pub record AreExactFor (g : View) (l : Ledger) (who : ℕ → Type 0) : Type 0 w
   pub orderly : IsOrderly (state_in g l)
   pub agree : (u : ℕ) → who u → Agrees (state_in g l) l.lists.items u
   pub count : (u : ℕ) → who u → CountsHeld (state_in g l) l.lists.items u
+
+-- more can be told to those who wait for n, who were told nothing yet
+abbrev pub CanTellWaiters : State → NodeId → Told → Type 0
+CanTellWaiters s n list = CanTell list (λ u. is_among_waiters u (s.queue n))
+
+-- those who waited for n were told that it is gone
+abbrev pub TellsGone : State → NodeId → Told → Told → Type 0
+TellsGone s n list list' = IsTold s.txns (λ u. is_among_waiters u (s.queue n)) (λ u. notice.Gone) list list'
 
 -- a wait of t, who is there, can be over: t was told nothing yet, and more can be told
 pub record CanEndAt (b : Books) (t : ℕ) : Type 0 where

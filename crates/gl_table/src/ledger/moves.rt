@@ -1,13 +1,13 @@
 //! A node that moved: what follows for who moved it, and for those who wait on it.
 
-ghost use Rattle.std.specs.Prelude.{◌≡◌, ◌<◌, ◌≤◌, ◌+◌, ◌^◌, ◌==◌, [], ℕ, Some, if◌then◌else◌, not, true};
+ghost use Rattle.std.specs.Prelude.{◌≡◌, ◌<◌, ◌≤◌, ◌+◌, ◌^◌, ◌==◌, [], ℕ, if◌then◌else◌, not, true};
 ghost use Rattle.std.specs.List.{count_by, filter};
 ghost use Rattle.gl_modes.specs.declared.mode.Mode.TheVariants.{NL};
 ghost use Rattle.gl_modes.specs.declared.node.NodeId.{NodeId as Node};
 ghost use Rattle.gl_modes.specs.Nodes.{same_node};
 ghost use Rattle.gl_graph.specs.Graph.{parents_of};
 ghost use Rattle.gl_graph.specs.View.{graph_of};
-ghost use Rattle.gl_header.specs.Header.{fits, front, holds, is_among_waiters, without_waiter};
+ghost use Rattle.gl_header.specs.Header.{front, is_among_waiters, without_waiter};
 ghost use Rattle.gl_header.specs.State.{slot_limit};
 ghost use Rattle.gl_slots.specs.Slots.{has_slot};
 ghost use Rattle.gl_model.specs.declared.answers.Notice.TheVariants as notice;
@@ -18,8 +18,8 @@ ghost use Rattle.indexmap.specs.IndexMap.{spare};
 ghost use Rattle.gl_modes.specs.Modes.{same_mode};
 ghost use Rattle.gl_listed.specs.Lists.{count_of, is_listed, mode_of, unlisted};
 ghost use Rattle.gl_table.specs.inside.Ledger.{state_in};
-ghost use Rattle.gl_table.specs.inside.Steps.{AreAgreed, AreShutOut, CanEndAt, CanRecount, HasMoved, Recounts};
-ghost use Rattle.gl_table.specs.inside.Slots.{CanTell, WaitsEnd, as_left, books_of, counted_by, room_by};
+ghost use Rattle.gl_table.specs.inside.Steps.{AreAgreed, AreShutOut, CanEndAt, CanRecount, CanTellWaiters, HasMoved, Recounts};
+ghost use Rattle.gl_table.specs.inside.Slots.{WaitsEnd, as_left, books_of, counted_by, room_by};
 
 use crate::ledger::Ledger;
 use crate::ledger::leave::end_wait;
@@ -104,7 +104,7 @@ impl Ledger {
     fn turn_away(&mut self, graph: &Graph, node: NodeId, told: &mut Told)
         requires agreed { AreAgreed graph.now self.old }
         requires shut_out { AreShutOut (state_in graph.now self.old) node }
-        requires tell { CanTell told.old.items (λ u. is_among_waiters u ((state_in graph.now self.old).queue node)) }
+        requires tell { CanTellWaiters (state_in graph.now self.old) node told.old.items }
         ensures moved { HasMoved graph.now node self.old self.new told.old.items told.new.items }
         ensures counts { (u : ℕ) (q : Node) → counted_by self.new.lists.items u q ≡ counted_by self.old.lists.items u q }
     {

@@ -1,17 +1,17 @@
 //! Locks on records that come and go.
 
 ghost use Rattle.gl_slots.specs.Limit.{most_slots};
-ghost use Rattle.std.specs.Prelude.{◌≡◌, ◌≢◌, ◌<◌, ℕ, [], IfErr, IfOk, None, Some, length, true};
+ghost use Rattle.std.specs.Prelude.{◌≡◌, ◌≢◌, ◌<◌, ℕ, [], IfErr, IfOk, length, true};
 ghost use Rattle.gl_modes.specs.Nodes.{same_node};
 ghost use Rattle.gl_modes.specs.declared.mode.Mode.TheVariants.{NL};
 ghost use Rattle.gl_modes.specs.declared.refusal.Refusal.{Refusal as ARefusal};
 ghost use Rattle.gl_graph.specs.View.{graph_of};
 ghost use Rattle.gl_header.specs.Header.{holds, is_among_waiters};
 ghost use Rattle.gl_model.specs.Calls.{departed, goes_with};
-ghost use Rattle.gl_table.specs.inside.Slots.{CanEnd, CanTell, WaitsEnd, as_left, books_of, counted_by};
-ghost use Rattle.gl_model.specs.Tellings.{IsBySlot, IsTold, notices_in};
+ghost use Rattle.gl_table.specs.inside.Slots.{CanEnd, WaitsEnd, as_left, books_of, counted_by};
+ghost use Rattle.gl_model.specs.Tellings.{IsBySlot, notices_in};
 ghost use Rattle.gl_table.specs.inside.Ledger.{AreExact, KeepsLocks, state_in};
-ghost use Rattle.gl_table.specs.inside.Steps.{IsBranchLeftTo, IsFresh, IsLeftTo, IsPrepared, MayAct};
+ghost use Rattle.gl_table.specs.inside.Steps.{CanTellWaiters, IsBranchLeftTo, IsFresh, IsLeftTo, IsPrepared, MayAct, TellsGone};
 ghost use Rattle.gl_model.specs.State.{members, with_grant};
 ghost use Rattle.gl_model.specs.declared.answers.Notice.TheVariants as notice;
 
@@ -53,11 +53,10 @@ impl Ledger {
         requires act { MayAct graph.now self.old slot }
         requires left { IsLeftTo (state_in graph.now self.old) slot node }
         requires holds { holds (members (state_in graph.now self.old) node) slot ≡ true }
-        requires tell { CanTell told.old.items (λ u. is_among_waiters u ((state_in graph.now self.old).queue node)) }
+        requires tell { CanTellWaiters (state_in graph.now self.old) node told.old.items }
         ensures exact { AreExact graph.now self.new }
         ensures state { state_in graph.now self.new ≡ departed (state_in graph.now self.old) (λ q. same_node q node) (graph_of graph.now) }
-        ensures tells { IsTold (state_in graph.now self.old).txns (λ u. is_among_waiters u ((state_in graph.now self.old).queue node))
-            (λ u. notice.Gone) told.old.items told.new.items }
+        ensures tells { TellsGone (state_in graph.now self.old) node told.old.items told.new.items }
     {
         graph.law();
         strike(&mut self.lists, slot, node, graph.parents(node));
@@ -92,11 +91,10 @@ impl Ledger {
     pub(crate) fn vacate_branch(&mut self, graph: &Graph, slot: Slot, node: NodeId, told: &mut Told)
         requires act { MayAct graph.now self.old slot }
         requires branch { IsBranchLeftTo (state_in graph.now self.old) slot node }
-        requires tell { CanTell told.old.items (λ u. is_among_waiters u ((state_in graph.now self.old).queue node)) }
+        requires tell { CanTellWaiters (state_in graph.now self.old) node told.old.items }
         ensures exact { AreExact graph.now self.new }
         ensures state { state_in graph.now self.new ≡ departed (state_in graph.now self.old) (goes_with (graph_of graph.now) node) (graph_of graph.now) }
-        ensures tells { IsTold (state_in graph.now self.old).txns (λ u. is_among_waiters u ((state_in graph.now self.old).queue node))
-            (λ u. notice.Gone) told.old.items told.new.items }
+        ensures tells { TellsGone (state_in graph.now self.old) node told.old.items told.new.items }
     {
         graph.law();
         for interval in graph.intervals(node) {

@@ -1,9 +1,8 @@
-use Rattle.gl_table.proofs.Words.{◌∙◌, ◌≡◌, Active, ap, departed, false, graph_of, is_among_waiters, IsTold, NodeId, same_mode, shape_of, Some, state_in}
-use Rattle.gl_table.proofs.Words.{state_of, status_of, subst, sym, TableView, Told, told, true, view_of, X, ℕ}
+use Rattle.gl_table.proofs.Words.{◌∙◌, ◌≡◌, Active, ap, departed, false, graph_of, NodeId, same_mode, shape_of, Some, state_in, state_of, status_of, subst}
+use Rattle.gl_table.proofs.Words.{sym, TableView, TellsGone, Told, told, true, view_of, X, ℕ}
 use Rattle.gl_graph.specs.Refusals.{is_in_use}
 use Rattle.gl_graph.specs.Shapes.{is_movable_shape}
 use Rattle.gl_model.specs.Calls.{dropped, goes_with}
-use Rattle.gl_model.specs.declared.answers.Notice.TheVariants as notice
 use Rattle.gl_table.proofs.calls.Departing.{AreGone, stands_departed, state_departed, told_departed}
 use Rattle.gl_table.proofs.calls.Dropping.{branch_gone, branch_left}
 use Rattle.gl_table.proofs.calls.Stands.{as_it_was, may_act, MayStand, with_locks}
@@ -71,7 +70,7 @@ pub returns-clause-told : goal.returns-clause-told
 returns-clause-told c =
     let at = (goal.at.returns-clause-told c).After-remove_node in
     let s = state_of (view_of c.self.inside) in
-    let tells = subst (λ (list : Told). IsTold s.txns (λ u. is_among_waiters u (s.queue c.args.n)) (λ u. notice.Gone) list c.vacate_branch.new.told.items)
+    let tells = subst (λ (list : Told). TellsGone s c.args.n list c.vacate_branch.new.told.items)
     c.requires.empty c.vacate_branch.ensures.tells in
     told_departed c.self.inside c.self.invariant (goes_with (graph_of c.self.inside.locks.graph) c.args.n) c.args.n c.vacate_branch.new.self
     c.remove_node.new.self (gone at) c.vacate_branch.ensures.state c.vacate_branch.new.told.items tells

@@ -1,7 +1,5 @@
-use Rattle.gl_table.proofs.Words.{◌∙◌, ◌≡◌, Active, ap, deleted, departed, graph_of, holds, is_among_waiters, is_record_shape, IsTold, members, NodeId}
-use Rattle.gl_table.proofs.Words.{rec_live, same_mode, same_node, shape_of, Some, state_in, state_of, status_of, subst, sym, TableView, Told, told, true}
-use Rattle.gl_table.proofs.Words.{view_of, X}
-use Rattle.gl_model.specs.declared.answers.Notice.TheVariants as notice
+use Rattle.gl_table.proofs.Words.{◌∙◌, ◌≡◌, Active, ap, deleted, departed, graph_of, holds, is_record_shape, members, NodeId, rec_live, same_mode, same_node}
+use Rattle.gl_table.proofs.Words.{shape_of, Some, state_in, state_of, status_of, subst, sym, TableView, TellsGone, Told, told, true, view_of, X}
 use Rattle.gl_table.proofs.inside.Vacated.{record-childless}
 use Rattle.gl_table.proofs.calls.Departing.{AreGone, stands_departed, state_departed, told_departed}
 use Rattle.gl_table.proofs.calls.Records.{held_alone, record_gone}
@@ -58,7 +56,7 @@ pub returns-clause-told : goal.returns-clause-told
 returns-clause-told c =
     let at = (goal.at.returns-clause-told c).After-remove_record in
     let s = state_of (view_of c.self.inside) in
-    let tells = subst (λ (list : Told). IsTold s.txns (λ u. is_among_waiters u (s.queue c.args.rec)) (λ u. notice.Gone) list c.vacate.new.told.items)
+    let tells = subst (λ (list : Told). TellsGone s c.args.rec list c.vacate.new.told.items)
     c.requires.empty c.vacate.ensures.tells in
     told_departed c.self.inside c.self.invariant (λ q. same_node q c.args.rec) c.args.rec c.vacate.new.self c.remove_record.new.self (gone at)
     c.vacate.ensures.state c.vacate.new.told.items tells
