@@ -92,6 +92,8 @@ pub use Rattle.gl_lock_lists.specs.Lists.{count_in, count_of, covered_in, entry_
 unfoldable pub use Rattle.gl_lock_lists.specs.Apart.{IsApart}
 pub use Rattle.gl_table.specs.inside.Ledger.{Agrees, AreExact, AreNew, AreSound, CountsHeld, KeepsLocks, state_in, state_on}
 pub use Rattle.gl_table.specs.inside.Locks.{state_at}
+pub use Rattle.gl_table.specs.inside.Steps.{AreAgreed, AreExactFor, AreShutOut, CanAsk, CanEndAt, CanRecount, CanTellWaiters, HasAsked, HasGrant, HasMoved}
+pub use Rattle.gl_table.specs.inside.Steps.{IsBranchLeftTo, IsFresh, IsLeftTo, IsPrepared, IsReleased, MayAct, Recounts, TellsGone}
 pub use Rattle.gl_table.specs.inside.Seating.{IsSeating}
 pub use Rattle.gl_table.specs.inside.Seats.{is_free, is_free_at, SeatList, txn_in, txns_of}
 pub use Rattle.gl_table.specs.inside.Sound.{IsSafe, IsSound, view_of}

@@ -1,7 +1,7 @@
 //! The ledger of locks: the headers of all nodes, and by slot the transactions with their lists.
 
 ghost use Rattle.gl_slots.specs.Limit.{most_slots};
-ghost use Rattle.std.specs.Prelude.{◌≡◌, ◌<◌, ◌≤◌, ◌==◌, ℕ, IfOk, None, Some, false, length, not, slice_get, true, if◌then◌else◌};
+ghost use Rattle.std.specs.Prelude.{◌≡◌, ◌<◌, ◌≤◌, ◌==◌, ℕ, IfOk, None, Some, false, length, slice_get, true, if◌then◌else◌};
 ghost use Rattle.std.specs.Option.{option_map};
 ghost use Rattle.indexmap.specs.IndexMap.{keys};
 ghost use Rattle.gl_modes.specs.declared.mode.Mode.TheVariants.{NL};
@@ -13,11 +13,12 @@ ghost use Rattle.gl_graph.specs.View.{graph_of};
 ghost use Rattle.gl_header.specs.Header.{holds, is_among_waiters};
 ghost use Rattle.gl_model.specs.Calls.{unlocked};
 ghost use Rattle.gl_model.specs.State.{is_write, front_at, is_waiting_at, pumped, without_wait, members, with_grant};
-ghost use Rattle.gl_table.specs.inside.Ledger.{Agrees, AreSound, CountsHeld, state_in, AreNew};
-ghost use Rattle.gl_model.specs.Lawful.{IsOrderly, effect_on};
+ghost use Rattle.gl_table.specs.inside.Ledger.{AreSound, state_in, AreNew};
+ghost use Rattle.gl_table.specs.inside.Steps.{AreExactFor, CanTellWaiters};
+ghost use Rattle.gl_model.specs.Lawful.{effect_on};
 ghost use Rattle.gl_table.specs.inside.Seats.{txn_in, txns_of};
 ghost use Rattle.gl_table.specs.Table.{row_of};
-ghost use Rattle.gl_table.specs.inside.Slots.{CanEnd, CanHold, CanTell, Wakes, WakesLists, books_of, by_list, counted_by, held_by};
+ghost use Rattle.gl_table.specs.inside.Slots.{CanEnd, CanHold, Wakes, WakesLists, books_of, by_list, counted_by, held_by};
 ghost use Rattle.gl_model.specs.Tellings.{IsBySlot, WakesTold, notices_in};
 
 use crate::effective::effective;
@@ -169,15 +170,10 @@ impl Ledger {
         granted: &mut GrantList,
         told: &mut Told,
     )
-        requires sound { AreSound self.old }
-        requires orderly { IsOrderly (state_in graph.now self.old) }
+        requires waiters { AreExactFor graph.now self.old (λ u. is_among_waiters u ((state_in graph.now self.old).queue node) ≡ true) }
         requires holds { holds (members (state_in graph.now self.old) node) slot ≡ true }
         requires no_wait { is_among_waiters slot ((state_in graph.now self.old).queue node) ≡ false }
-        requires agree { (u : ℕ) → is_among_waiters u ((state_in graph.now self.old).queue node) ≡ true
-            → Agrees (state_in graph.now self.old) self.old.lists.items u }
-        requires count { (u : ℕ) → is_among_waiters u ((state_in graph.now self.old).queue node) ≡ true
-            → CountsHeld (state_in graph.now self.old) self.old.lists.items u }
-        requires tell { CanTell told.old.items (λ u. is_among_waiters u ((state_in graph.now self.old).queue node)) }
+        requires tell { CanTellWaiters (state_in graph.now self.old) node told.old.items }
         ensures sound { AreSound self.new }
         ensures state { state_in graph.now self.new ≡ unlocked (state_in graph.now self.old) slot node }
         ensures lists { WakesLists self.old.lists.items node (parents_of (graph_of graph.now) node)
@@ -200,13 +196,8 @@ impl Ledger {
         status: Status,
         told: &mut Told,
     )
-        requires sound { AreSound self.old }
-        requires orderly { IsOrderly (state_in graph.now self.old) }
+        requires waiters { AreExactFor graph.now self.old (λ u. is_among_waiters u ((state_in graph.now self.old).queue node) ≡ true) }
         requires waits { is_waiting_at (state_in graph.now self.old) slot node ≡ true }
-        requires agree { (u : ℕ) → is_among_waiters u ((state_in graph.now self.old).queue node) ≡ true
-            → Agrees (state_in graph.now self.old) self.old.lists.items u }
-        requires count { (u : ℕ) → is_among_waiters u ((state_in graph.now self.old).queue node) ≡ true
-            → CountsHeld (state_in graph.now self.old) self.old.lists.items u }
         requires by_slot { IsBySlot told.old.items }
         requires untold { (u : ℕ) → is_among_waiters u ((state_in graph.now self.old).queue node) ≡ true → (u == slot) ≡ false
             → notices_in told.old.items u ≡ None }

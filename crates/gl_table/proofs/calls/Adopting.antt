@@ -1,9 +1,9 @@
 -- A record is adopted in a table, and one transaction holds it: what holds of the fields still does. For the call that does both.
-use Rattle.gl_table.proofs.Words.{Active, ap, are_compatible, AreExact, Graph, graph_of, HasNoCycle, if◌then◌else◌, intends_over, is_at_least, is_live}
-use Rattle.gl_table.proofs.Words.{is_some, IsAdopted, IsBorn, IsLawful, IsSound, List, members, Mode, NL-compatible, Node, node_at, NodeId, None, number_same}
-use Rattle.gl_table.proofs.Words.{Option, parents_in, parents_of, Rec, record_parents, record_refusal, refl, Refusal, Refuses, rule_refusal, S, same_mode}
-use Rattle.gl_table.proofs.Words.{shape_of, Some, State, state_in, state_of, status_of, subst, sym, true, View, view_of, with_grant, with_graph, with_key, X}
-use Rattle.gl_table.proofs.Words.{ℕ, ◌+◌, ◌||◌, ◌∙◌, ◌≡◌}
+use Rattle.gl_table.proofs.Words.{◌+◌, ◌||◌, ◌∙◌, ◌≡◌, Active, ap, are_compatible, AreExact, Graph, graph_of, HasNoCycle, if◌then◌else◌, intends_over}
+use Rattle.gl_table.proofs.Words.{is_at_least, is_live, is_some, IsAdopted, IsBorn, IsFresh, IsLawful, IsSound, List, members, Mode, NL-compatible, Node}
+use Rattle.gl_table.proofs.Words.{node_at, NodeId, None, number_same, Option, parents_in, parents_of, Rec, record_parents, record_refusal, refl, Refusal}
+use Rattle.gl_table.proofs.Words.{Refuses, rule_refusal, S, same_mode, shape_of, Some, State, state_in, state_of, status_of, subst, sym, true, View, view_of}
+use Rattle.gl_table.proofs.Words.{with_grant, with_graph, with_key, X, ℕ}
 use Rattle.std.specs.Prelude.{Ok}
 use Rattle.gl_modes.proofs.ModeLemmas.{supremum-above}
 use Rattle.gl_modes.specs.declared.mode.Mode.TheVariants.{NL}
@@ -19,7 +19,7 @@ use Rattle.gl_model.proofs.law.Tests.{rule_met}
 use Rattle.gl_table.specs.declared.ledger.Ledger.{Ledger}
 use Rattle.gl_table.specs.declared.table.Table.TheInside.{Inside}
 use Rattle.gl_table.proofs.calls.Law.{suited-stands}
-use Rattle.gl_table.proofs.calls.Records.{adopted-suits, record_unheld}
+use Rattle.gl_table.proofs.calls.Records.{adopted-suits, record_fresh}
 use Rattle.gl_table.proofs.calls.Stands.{MayStand, stands, with_locks}
 
 -- the record that was adopted lives, under its parents
@@ -58,7 +58,14 @@ module _ (i : Inside) (sound : IsSound i) (f : NodeId) (keys : List ℕ) (free :
     stands_adopted = suited-stands i sound v (adopted-suits i sound v n f keys free adopted)
 
     unheld : (u : ℕ) → before.held u n ≡ NL
-    unheld = record_unheld i sound f keys free w n born
+    unheld = (record_fresh i sound f keys free w n born).unheld
+
+    pub adopted_fresh : IsFresh (state_in v i.locks.ledger) n
+    adopted_fresh = record {
+      live = adopted_lives (graph_of i.locks.graph) (graph_of v) n f keys adopted;
+      unheld = unheld;
+      unawaited = (record_fresh i sound f keys free w n born).unawaited;
+    }
 
     -- the slot holds it
     module _ (t : ℕ) (m : Mode) (ledger : Ledger) (is : state_in v ledger ≡ with_grant (state_in v i.locks.ledger) t n m) where

@@ -1,10 +1,10 @@
 -- Nodes go from a table with all locks on them: what it makes of the table. For the calls that take nodes away.
-use Rattle.gl_table.proofs.Words.{[], ◌∙◌, ◌≡◌, Active, addressed, age_in, age_of, Agrees, AreSound, Bool, children_that, clash, CountsHeld, departed, false}
-use Rattle.gl_table.proofs.Words.{Graph, graph_of, HasNoCycle, holds, if◌then◌else◌, is_among_waiters, is_live, IsLawful, IsOrderly, IsSound}
-use Rattle.gl_table.proofs.Words.{IsTold, members, Mode, NL, NodeId, None, not, not_true, notice_of, Option, same_mode, Some, split, State, state_at, state_in}
-use Rattle.gl_table.proofs.Words.{refl, state_of, status_in, subst, sym, Told, told, told_from, told_to, true, Txn, TxnId, View, view_of, Waiting, ap, ℕ}
+use Rattle.gl_table.proofs.Words.{[], ◌∙◌, ◌≡◌, Active, addressed, age_in, age_of, Agrees, ap, AreExact, Bool, children_that, clash, CountsHeld, departed}
+use Rattle.gl_table.proofs.Words.{false, Graph, graph_of, HasNoCycle, holds, if◌then◌else◌, is_among_waiters, is_live, IsLawful, IsOrderly, IsSound, members}
+use Rattle.gl_table.proofs.Words.{Mode, NL, NodeId, None, not, not_true, notice_of, Option, refl, same_mode, Some, split, State, state_at, state_in}
+use Rattle.gl_table.proofs.Words.{state_of, status_in, subst, sym, TellsGone, Told, told, told_from, told_to, true, Txn, TxnId, View, view_of, Waiting, ℕ}
 use Rattle.gl_modes.proofs.NodeLemmas.{same_node-refl}
-use Rattle.gl_model.specs.Calls.{freed_among, none_among}
+use Rattle.gl_model.specs.Calls.{freed_among, held_children, none_among}
 use Rattle.gl_model.specs.State.{waits_at}
 use Rattle.gl_model.specs.declared.answers.Notice.TheVariants as notice
 use Rattle.gl_model.specs.declared.txn.Status.{Status}
@@ -80,15 +80,15 @@ module _ (i : Inside) (sound : IsSound i) (goes : NodeId → Bool) (n : NodeId) 
   pub state_departed : with_locks i (state_in v ledger) ≡ departed s goes (graph_of v)
   state_departed = ap {A = State} (with_locks i) on_locks
 
-  pub stands_departed : AreSound ledger → ((u : ℕ) → Agrees (departed l goes (graph_of i.locks.graph)) ledger.lists.items u)
-      → ((u : ℕ) → CountsHeld (departed l goes (graph_of i.locks.graph)) ledger.lists.items u) → MayStand i v ledger
-  stands_departed sorted agrees counts = stands i v ledger (record {
+  pub stands_departed : AreExact i.locks.graph ledger → MayStand i v ledger
+  stands_departed exact = stands i v ledger (record {
     lawful = subst IsLawful (sym state_departed) (departed_lawful s sound.lawful goes (graph_of v) are.away);
     no_cycle = λ at. subst HasNoCycle (sym state_departed) (departed-no_cycle s goes (graph_of v) (sound.no_cycle at));
   }) (record {
-    sound = sorted;
-    agree = λ u. subst (λ x. Agrees x ledger.lists.items u) (sym on_locks) (over (agrees u));
-    count = λ u. subst (λ x. CountsHeld x ledger.lists.items u) (sym on_locks) (λ p. counts u p ∙ sym (are.children (held u) (unheld u) p));
+    sound = exact.sound;
+    agree = λ u. subst (λ x. Agrees x ledger.lists.items u) (sym on_locks) (over (subst (λ (x : State). Agrees x ledger.lists.items u) is (exact.agree u)));
+    count = λ u. subst (λ x. CountsHeld x ledger.lists.items u) (sym on_locks) (λ p. exact.count u p ∙ ap (λ (x : State). held_children x u p) is
+        ∙ sym (are.children (held u) (unheld u) p));
   })
     where
       held : ℕ → NodeId → Bool
@@ -100,7 +100,7 @@ module _ (i : Inside) (sound : IsSound i) (goes : NodeId → Bool) (n : NodeId) 
       over : {u : ℕ} → Agrees (departed l goes (graph_of i.locks.graph)) ledger.lists.items u → Agrees (departed l goes (graph_of v)) ledger.lists.items u
       over a = record { modes = a.modes; listed = a.listed; room = a.room }
 
-  pub told_departed : (list : Told) → IsTold l.txns (λ u. is_among_waiters u (s.queue n)) (λ u. notice.Gone) [] list
+  pub told_departed : (list : Told) → TellsGone l n [] list
       → list ≡ told s (with_locks i (state_in v ledger))
   told_departed list tells =
       told_is s (with_locks i (state_in v ledger)) list sound.lawful i.locks.sound.few tells.by_slot

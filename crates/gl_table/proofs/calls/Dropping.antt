@@ -1,13 +1,10 @@
 -- A node is dropped from a table, or an index is made that its maker holds: what it makes of the table. For those calls.
 use Rattle.gl_table.proofs.Words.{[], ◌&&◌, ◌+◌, ◌==◌, ◌||◌, ◌∙◌, ◌∷◌, ◌≡◌, Active, and_both, ap, ap₂, AreExact, arith, Bool, children_that, clash, cond}
-use Rattle.gl_table.proofs.Words.{count_by}
-use Rattle.gl_table.proofs.Words.{count_cons, false, filter, first_not_ix, Graph, graph_of, HasNoCycle, IfOk, if◌then◌else◌, is_among_waiters, is_at_least}
-use Rattle.gl_table.proofs.Words.{is_child}
-use Rattle.gl_table.proofs.Words.{is_live, IsIndexBorn, IsLawful, IsSound, List, list_all, list_any, Mode, nat_tests, NL, node_at, NodeId, nodes, nodes_live}
-use Rattle.gl_table.proofs.Words.{None, not}
-use Rattle.gl_table.proofs.Words.{not_true, OnErr, parents_in, refl, Refusal, Refuses, Result, rules, same_mode, same_node, same_node-refl, same_number}
-use Rattle.gl_table.proofs.Words.{shape_of, Some}
-use Rattle.gl_table.proofs.Words.{split, State, state_in, state_of, status_of, subst, sym, true, View, view_of, with_grant, with_graph, X, ℕ}
+use Rattle.gl_table.proofs.Words.{count_by, count_cons, false, filter, first_not_ix, Graph, graph_of, HasNoCycle, IfOk, if◌then◌else◌, is_among_waiters}
+use Rattle.gl_table.proofs.Words.{is_at_least, is_child, is_live, IsBranchLeftTo, IsFresh, IsIndexBorn, IsLawful, IsSound, List, list_all, list_any, Mode}
+use Rattle.gl_table.proofs.Words.{nat_tests, NL, node_at, NodeId, nodes, nodes_live, None, not, not_true, OnErr, parents_in, refl, Refusal, Refuses, Result}
+use Rattle.gl_table.proofs.Words.{rules, same_mode, same_mode-equal, same_node, same_node-refl, same_number, shape_of, Some, split, State, state_in}
+use Rattle.gl_table.proofs.Words.{state_of, status_of, subst, sym, true, View, view_of, with_grant, with_graph, X, ℕ}
 use Rattle.gl_modes.proofs.Words.{no, or_elim, or_left}
 use Rattle.gl_modes.proofs.NodeLemmas.{same_node-equal}
 use Rattle.gl_modes.specs.declared.mode.Mode.TheVariants.{IS, IX}
@@ -102,7 +99,7 @@ module _ (s : State) (law : IsLawful s) (t : ℕ) (n : NodeId) (movable : is_mov
   held_is m h = search rules
 
   -- nobody else holds the node or a child of it
-  pub branch_alone : (u : ℕ) (q : NodeId) → (u == t) ≡ false → goes_with s.graph n q ≡ true → s.held u q ≡ NL
+  branch_alone : (u : ℕ) (q : NodeId) → (u == t) ≡ false → goes_with s.graph n q ≡ true → s.held u q ≡ NL
   branch_alone u q other e =
       or_elim (same_node n q) (is_child s.graph n q) e
       (λ here. ap (s.held u) (sym (same_node-equal n q here)) ∙ held_alone s law t n holding u other)
@@ -118,7 +115,7 @@ module _ (s : State) (law : IsLawful s) (t : ℕ) (n : NodeId) (movable : is_mov
       ∙ ap (λ v. is_among_waiters v (s.queue q)) (sym (same_number u t e)) ∙ h))
       (λ e. nl_below (s.held u n) (held_alone s law t n holding u e) (holds_parent u q wait.0 c (law.waits_intend u q wait.0 wait.1).0))
 
-  pub branch_unawaited : (q : NodeId) → is_child s.graph n q ≡ true → s.queue q ≡ []
+  branch_unawaited : (q : NodeId) → is_child s.graph n q ≡ true → s.queue q ≡ []
   branch_unawaited q c = by (s.queue q) (λ u h. no_waiter u q c h)
     where
       by : (ws : List (ℕ × Mode)) → ((u : ℕ) → is_among_waiters u ws ≡ true → ⊥) → ws ≡ []
@@ -127,6 +124,15 @@ module _ (s : State) (law : IsLawful s) (t : ℕ) (n : NodeId) (movable : is_mov
         where
           same_slot : (k : ℕ) → (k == k) ≡ true
           same_slot k = grind (arith, nat_tests)
+
+  pub branch_left : IsBranchLeftTo s t n
+  branch_left = record {
+    movable = movable;
+    free = free;
+    holding = ap (λ m. not (same_mode m NL)) (same_mode-equal (s.held t n) X holding);
+    alone = branch_alone;
+    unawaited = branch_unawaited;
+  }
 
   -- what goes
   pub branch_gone : (g' : Graph) → g' ≡ without_branch s.graph n → AreGone s (goes_with s.graph n) g' n
@@ -158,14 +164,12 @@ module _ (i : Inside) (sound : IsSound i) (ps : List NodeId) (f : NodeId) (bs : 
       (λ n free' born. roomy_index-grows before sound.lawful ps f bs (reindex_unrefused before.graph ps f bs free) (graph_of v) n born)
 
   module _ (n : NodeId) (born : IsIndexBorn (graph_of i.locks.graph) (graph_of v) n ps f bs) where
-    pub index_lives : is_live (graph_of v) n ≡ true
-    index_lives = index-live before sound.lawful ps f bs (reindex_unrefused before.graph ps f bs free) (graph_of v) n born
-
-    pub index_unheld : (u : ℕ) → before.held u n ≡ NL
-    index_unheld = index-unheld before sound.lawful ps f bs (reindex_unrefused before.graph ps f bs free) (graph_of v) n born
-
-    pub index_unawaited : before.queue n ≡ []
-    index_unawaited = index-unawaited before sound.lawful ps f bs (reindex_unrefused before.graph ps f bs free) (graph_of v) n born
+    pub index_fresh : IsFresh (state_in v i.locks.ledger) n
+    index_fresh = record {
+      live = index-live before sound.lawful ps f bs (reindex_unrefused before.graph ps f bs free) (graph_of v) n born;
+      unheld = index-unheld before sound.lawful ps f bs (reindex_unrefused before.graph ps f bs free) (graph_of v) n born;
+      unawaited = index-unawaited before sound.lawful ps f bs (reindex_unrefused before.graph ps f bs free) (graph_of v) n born;
+    }
 
     -- the slot holds it
     module _ (t : ℕ) (ledger : Ledger) (is : state_in v ledger ≡ with_grant (state_in v i.locks.ledger) t n X) where

@@ -1,10 +1,12 @@
 -- What a lock that is granted, and one that waits, makes of a table. For the calls that lock.
-use Rattle.gl_table.proofs.Words.{[], ◌==◌, ◌∙◌, ◌∷◌, ◌≡◌, Active, ap, AreExact, arith, Asked, AtBlock, Bool, ByWatcher, clash, Deadlock, Detect, enqueued}
-use Rattle.gl_table.proofs.Words.{enters_at, Err, false, first_refusal, granted, HasNoCycle, held_of, if◌then◌else◌, is_granted_at, IsLawful, IsOrderly}
-use Rattle.gl_table.proofs.Words.{IsSound, KeepsLocks, length, lock_tests, locked_as, LocksKeeping, Mode, nat_tests, NodeId, None, number_same, Ok, OnErr, OnOk}
-use Rattle.gl_table.proofs.Words.{Option, passed_then, queue_of, refl, Refusal, refused_first, Refuses, Result, same_node-refl, Some, split, State, state_at}
-use Rattle.gl_table.proofs.Words.{state_in, state_of, status_of, subst, sym, TableView, Told, told_but, true, try_tests, TxnId, txns_of, verdict, Victims}
-use Rattle.gl_table.proofs.Words.{view_of, WaitSettles, WaitSettlesKeeping, wanted, would_block, ℕ}
+use Rattle.gl_table.proofs.Words.{[], ◌==◌, ◌∙◌, ◌∷◌, ◌≡◌, Active, ap, AreExact, arith, Asked, AtBlock, Bool, ByWatcher, CanAsk, clash, Deadlock, Detect}
+use Rattle.gl_table.proofs.Words.{enqueued, enters_at, Err, false, first_refusal, granted, graph_of, HasAsked, HasGrant, HasNoCycle, held_by, held_of, IfOk}
+use Rattle.gl_table.proofs.Words.{if◌then◌else◌, is_granted_at, IsLawful, IsOrderly, IsSound, KeepsLocks, length, List, lock_tests, locked_as, LocksKeeping}
+use Rattle.gl_table.proofs.Words.{MayAct, Mode, nat_tests, NL, NodeId, None, number_same, Ok, OnErr, OnOk, Option, parents_of, passed_then, queue_of, refl}
+use Rattle.gl_table.proofs.Words.{Refusal, refused_first, Refuses, Result, same_mode, same_node-refl, Some, split, State, state_at, state_in, state_of}
+use Rattle.gl_table.proofs.Words.{status_of, subst, sym, TableView, Told, told_but, true, try_tests, TxnId, txns_of, verdict, Victims, view_of, WaitSettles}
+use Rattle.gl_table.proofs.Words.{WaitSettlesKeeping, wanted, would_block, ℕ}
+use Rattle.gl_model.proofs.law.Tests.{mode_fits}
 use Rattle.gl_table.specs.declared.table.Table.TheInside.{Inside}
 use Rattle.gl_model.specs.Calls.{Locks}
 use Rattle.gl_modes.specs.declared.refusal.Refusal.TheVariants as no
@@ -12,7 +14,7 @@ use Rattle.gl_table.specs.declared.ledger.Ledger.{Ledger}
 use Rattle.gl_table.specs.declared.locks.Locks as code
 use Rattle.gl_model.specs.declared.answers.Locked.TheVariants as locked
 use Rattle.gl_table.proofs.calls.Calls.{keeping_also, over, settled_also}
-use Rattle.gl_table.proofs.calls.Stands.{IsLaw, MayStand, orderly_over, stands, with_locks}
+use Rattle.gl_table.proofs.calls.Stands.{as_it_was, IsLaw, may_act, MayStand, orderly_over, stands, with_locks}
 use Rattle.gl_model.proofs.law.Lock.{granted-lawful, granted-no_cycle, locks-lawful, locks-no_cycle, may_lock, MayLock, waiting-lawful}
 use Rattle.gl_model.proofs.telling.Fronts.{enters-most}
 use Rattle.gl_model.proofs.telling.Lists.{told_but_same, told_nothing}
@@ -62,6 +64,19 @@ module _ (i : Inside) (sound : IsSound i) (t : TxnId) (n : NodeId) (m : Mode) wh
   pub same_enters : is_granted_at i.locks.ledger.headers.entries t.slot n m ≡ enters_at s t.slot n m
   same_enters = sym (enters-most l i.locks.orderly i.locks.sound.few t.slot n (wanted l t.slot n m))
 
+  -- where nothing stands against a lock it can be asked for
+  pub may_ask : MayLock s t n m → MayAct i.locks.graph i.locks.ledger t.slot
+  may_ask may = may_act i.locks.graph i.locks.ledger (as_it_was i sound).law t.slot may.active
+
+  pub can_ask : MayLock s t n m → (held : Mode) (parents : List NodeId) → held ≡ held_by i.locks.ledger.lists.items t.slot n
+      → parents ≡ parents_of (graph_of i.locks.graph) n → CanAsk i.locks.graph i.locks.ledger t.slot n m held parents
+  can_ask may held parents held_is parents_are = record {
+    live = may.live;
+    lock = λ e. clash (ap (λ x. same_mode x NL) e) (mode_fits s sound.lawful t.slot n m may.not_bad).0;
+    held_is = held_is;
+    parents_are = parents_are;
+  }
+
   -- the grant was made
   module _ (may : MayLock s t n m) (fits : enters_at s t.slot n m ≡ true) (ledger : Ledger)
       (is : state_in i.locks.graph ledger ≡ granted l t.slot n m) where
@@ -91,15 +106,20 @@ module _ (i : Inside) (sound : IsSound i) (t : TxnId) (n : NodeId) (m : Mode) wh
 
   -- it was granted, or nothing but room was made
   pub stands_tried : (r : Result Mode Refusal) (ledger : Ledger) → MayLock s t n m → enters_at s t.slot n m ≡ true
-      → OnOk r (state_in i.locks.graph ledger ≡ granted l t.slot n m) → OnErr r (KeepsLocks i.locks.ledger ledger)
+      → IfOk r (λ given. HasGrant l (state_in i.locks.graph ledger) t.slot n m given) → OnErr r (KeepsLocks i.locks.ledger ledger)
       → AreExact i.locks.graph ledger → MayStand i i.locks.graph ledger
-  stands_tried (Ok x) ledger may fits ok err exact = stands_granted may fits ledger ok exact
+  stands_tried (Ok x) ledger may fits ok err exact = stands_granted may fits ledger ok.state exact
   stands_tried (Err x) ledger may fits ok err exact = stands_kept ledger err exact
 
-  pub state_tried : (r : Result Mode Refusal) (ledger : Ledger) → OnOk r (state_in i.locks.graph ledger ≡ granted l t.slot n m)
+  pub state_tried : (r : Result Mode Refusal) (ledger : Ledger) → IfOk r (λ given. HasGrant l (state_in i.locks.graph ledger) t.slot n m given)
       → OnOk r (with_locks i (state_in i.locks.graph ledger) ≡ granted s t.slot n m)
-  state_tried (Ok x) ledger ok = ap {A = State} (with_locks i) ok
+  state_tried (Ok x) ledger ok = ap {A = State} (with_locks i) ok.state
   state_tried (Err x) ledger ok = ok
+
+  pub mode_tried : (r : Result Mode Refusal) (ledger : Ledger) → IfOk r (λ given. HasGrant l (state_in i.locks.graph ledger) t.slot n m given)
+      → IfOk r (λ given. given ≡ wanted s t.slot n m)
+  mode_tried (Ok x) ledger ok = ok.mode
+  mode_tried (Err x) ledger ok = ok
 
 -- what a try answers once the tests of a lock passed, by what the header says
 pub decided : (i : Inside) (sound : IsSound i) (v : TableView) → view_of i ≡ v → (t : TxnId) (n : NodeId) (m : Mode)
@@ -202,14 +222,12 @@ module _ (i : Inside) (sound : IsSound i) (t : TxnId) (n : NodeId) (m : Mode) (m
 -- whatever an ask came to, the locks keep their law
 pub law_asked : (i : Inside) (sound : IsSound i) (t : TxnId) (n : NodeId) (m : Mode) → MayLock (state_of (view_of i)) t n m → (ledger : Ledger)
     (r : Result Asked Refusal)
-    → OnOk r (enters_at (state_at i.locks) t.slot n m ≡ true → state_in i.locks.graph ledger ≡ granted (state_at i.locks) t.slot n m)
-    → OnOk r (enters_at (state_at i.locks) t.slot n m ≡ false
-    → state_in i.locks.graph ledger ≡ enqueued (state_at i.locks) t.slot n (wanted (state_at i.locks) t.slot n m))
+    → IfOk r (λ asked. HasAsked (state_at i.locks) (state_in i.locks.graph ledger) t.slot n m asked)
     → OnErr r (KeepsLocks i.locks.ledger ledger) → AreExact i.locks.graph ledger → IsLaw i.locks.graph ledger
-law_asked i sound t n m may ledger (Ok a) granted waits err exact =
-    split (enters_at (state_of (view_of i)) t.slot n m) (λ e. (stands_granted i sound t n m may e ledger (granted e) exact).law)
-    (λ e. law_waiting i sound t n m may e ledger (waits e) exact)
-law_asked i sound t n m may ledger (Err r) granted waits err exact = (stands_kept i sound t n m ledger err exact).law
+law_asked i sound t n m may ledger (Ok a) asked err exact =
+    split (enters_at (state_of (view_of i)) t.slot n m) (λ e. (stands_granted i sound t n m may e ledger (asked.enters e) exact).law)
+    (λ e. law_waiting i sound t n m may e ledger (asked.waits e) exact)
+law_asked i sound t n m may ledger (Err r) asked err exact = (stands_kept i sound t n m ledger err exact).law
 
 -- what is refused is so whatever it would have answered
 pub refuses_err : (A B : Type 0) (o : Option Refusal) (r : Refusal) → Refuses {T = A} o (Err r) → Refuses {T = B} o (Err r)

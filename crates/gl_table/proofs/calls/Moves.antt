@@ -1,16 +1,18 @@
 -- A node moved and the locks followed: what it makes of a table. For the calls that move.
-use Rattle.gl_table.proofs.Words.{[], ⊎_elim, ◌&&◌, ◌+◌, ◌<◌, ◌==◌, ◌^◌, ◌||◌, ◌∙◌, ◌∷◌, ◌≡◌, ◌≤◌, Active, Agrees, and_both, ap, ap₂, AreInnerParents, AreSound}
-use Rattle.gl_table.proofs.Words.{arith, at_least-not_NL, Bool, children_that, count_by, count_by-le-length, count_none, counted_by, CountsHeld, false}
-use Rattle.gl_table.proofs.Words.{first_cycle, fits, fits-limit, Graph, graph_of, HasNoCycle, held_children, holds, if◌then◌else◌, is_among_waiters}
-use Rattle.gl_table.proofs.Words.{is_at_least, is_listed, is_live, is_movable_shape, is_record_shape, IsBySlot, IsLawful, IsOrderly, IsSound, IX, least_parents}
-use Rattle.gl_table.proofs.Words.{List, list_all, listed_by, LockList, members, Mode, moved_to, need_exclusive, need_new_parents, NL, Node, NodeId, None, not}
-use Rattle.gl_table.proofs.Words.{not_true, notices_in, Option, option_map_or, other_number, parents_of, refl, rekeyed, rekeyed_parents, same_mode, same_node}
-use Rattle.gl_table.proofs.Words.{same_number, shape_of, slice_get, slot_limit, Some, some_given, split, State, state_in, state_of, state_on, status_of, stays}
-use Rattle.gl_table.proofs.Words.{subst, sym, TableView, Told, told, told_to, true, unlisted, unlisted_by, View, view_of, with_parents, X, ℕ}
+use Rattle.gl_table.proofs.Words.{[], ◌&&◌, ◌+◌, ◌<◌, ◌==◌, ◌^◌, ◌||◌, ◌∙◌, ◌∷◌, ◌≡◌, ◌≤◌, Active, Agrees, and_both, ap, ap₂, AreAgreed, AreInnerParents}
+use Rattle.gl_table.proofs.Words.{AreShutOut, arith, at_least-not_NL, Bool, CanRecount, children_that, count_by, count_by-le-length, count_none, counted_by}
+use Rattle.gl_table.proofs.Words.{CountsHeld, false, first_cycle, fits-limit, Graph, graph_of, HasMoved, HasNoCycle, held_children, holds, if◌then◌else◌}
+use Rattle.gl_table.proofs.Words.{is_among_waiters, is_at_least, is_listed, is_live, is_movable_shape, is_record_shape, IsLawful, IsOrderly, IsSound, IX}
+use Rattle.gl_table.proofs.Words.{least_parents, List, list_all, listed_by, LockList, members, Mode, moved_to, need_exclusive, need_new_parents, NL, Node}
+use Rattle.gl_table.proofs.Words.{NodeId, None, not, not_true, Option, option_map_or, other_number, parents_of, Recounts, refl, rekeyed, rekeyed_parents}
+use Rattle.gl_table.proofs.Words.{same_mode, same_node, same_number, shape_of, slice_get, slot_limit, Some, some_given, split, State, state_in, state_of}
+use Rattle.gl_table.proofs.Words.{state_on, status_of, stays, subst, sym, TableView, Told, told, told_to, true, unlisted, unlisted_by, View, view_of}
+use Rattle.gl_table.proofs.Words.{with_parents, X, ⊎_elim, ℕ}
 use Rattle.gl_table.specs.declared.ledger.Ledger.{Ledger}
 use Rattle.gl_table.specs.declared.table.Table.TheInside.{Inside}
 use Rattle.gl_model.proofs.law.Orderly.{lawful_orderly}
 use Rattle.gl_table.proofs.calls.Stands.{MayStand, stands, with_locks}
+use Rattle.gl_table.proofs.inside.Marked.{list_there}
 use Rattle.gl_table.proofs.inside.TurnedAway.{is_lost, moved_notice, moved_told}
 use Rattle.gl_model.proofs.law.Effects.{x_is}
 use Rattle.gl_model.proofs.law.Move.{changed_keeps, HoldsNode, HoldsParents, live_kept, may_be_moved, may_be_rekeyed, moved-no_cycle, moved_node, Moves}
@@ -53,7 +55,7 @@ module _ (i : Inside) (sound : IsSound i) (t : ℕ) (n : NodeId) (was is : Node)
   here : parents_of g' n ≡ is.parents
   here = new_parents s t n was is g' m
 
-  pub orderly_moved : IsOrderly l
+  orderly_moved : IsOrderly l
   orderly_moved =
       let o = i.locks.orderly in
       record {
@@ -65,25 +67,28 @@ module _ (i : Inside) (sound : IsSound i) (t : ℕ) (n : NodeId) (was is : Node)
         below = o.below;
       }
 
-  pub agree_moved : (u : ℕ) → Agrees l i.locks.ledger.lists.items u
+  agree_moved : (u : ℕ) → Agrees l i.locks.ledger.lists.items u
   agree_moved u = let old = i.locks.agree u in record { modes = old.modes; listed = old.listed; room = old.room }
 
-  pub bare_moved : (u : ℕ) → is_among_waiters u (l.queue n) ≡ true → l.held u n ≡ NL
-  bare_moved = waiter_bare s sound.lawful t n is.parents m.active m.right
+  pub agreed_moved : AreAgreed v i.locks.ledger
+  agreed_moved = record { sound = i.locks.sound; orderly = orderly_moved; agree = agree_moved }
 
-  pub stuck_moved : list_all (λ w. not (fits slot_limit (members l n) w.0 w.1)) (l.queue n) ≡ true
-  stuck_moved = waiters_stuck s sound.lawful t n is.parents m.active m.right slot_limit
-      (λ u w. fits-limit s.most (members s n) u w i.locks.sound.few (members_within l orderly_moved n))
+  pub shut_moved : AreShutOut l n
+  shut_moved = record {
+    newcomers = waiter_bare s sound.lawful t n is.parents m.active m.right;
+    stuck = waiters_stuck s sound.lawful t n is.parents m.active m.right slot_limit
+        (λ u w. fits-limit s.most (members s n) u w i.locks.sound.few (members_within l orderly_moved n));
+  }
 
   -- the mover's old parents are counted
-  pub counted_moved : holds (members l n) t ≡ true → (q : NodeId) → count_by (same_node q) (parents_of s.graph n) ≤ counted_by i.locks.ledger.lists.items t q
+  counted_moved : holds (members l n) t ≡ true → (q : NodeId) → count_by (same_node q) (parents_of s.graph n) ≤ counted_by i.locks.ledger.lists.items t q
   counted_moved held q =
       let some = parents_counted n (λ c. holds (members s c) t) s.graph sound.lawful.graph (node_there s t n was is g' m) held q in
       let count = i.locks.count t q in
       omega arith
 
   -- and its new parents are listed
-  pub listed_moved : unlisted_by i.locks.ledger.lists.items t (parents_of g' n) ≡ 0
+  listed_moved : unlisted_by i.locks.ledger.lists.items t (parents_of g' n) ≡ 0
   listed_moved = none_unlisted i.locks.ledger.lists.items t (parents_of g' n)
       (subst (λ (ps : List NodeId). list_all (listed_by i.locks.ledger.lists.items t) ps ≡ true) (sym here) (⊎_elim
       (λ (a : HoldsNode s t n is.parents). all_listed l i.locks.ledger.lists.items t (agree_moved t) (λ k. is_at_least k IX)
@@ -91,7 +96,7 @@ module _ (i : Inside) (sound : IsSound i) (t : ℕ) (n : NodeId) (was is : Node)
       is.parents a.new) (λ (b : HoldsParents s t n is.parents). all_listed l i.locks.ledger.lists.items t (agree_moved t) (λ k. same_mode k X)
       (λ k h. at_least-not_NL k IX (x_is k h) refl) is.parents b.new) m.right))
 
-  pub few_moved : (q : NodeId) → counted_by i.locks.ledger.lists.items t q + count_by (same_node q) (parents_of g' n) < 2 ^ 32
+  few_moved : (q : NodeId) → counted_by i.locks.ledger.lists.items t q + count_by (same_node q) (parents_of g' n) < 2 ^ 32
   few_moved q =
       let count = i.locks.count t q in
       let few = children_few s.graph sound.lawful.graph (λ c. holds (members s c) t) q in
@@ -99,19 +104,25 @@ module _ (i : Inside) (sound : IsSound i) (t : ℕ) (n : NodeId) (was is : Node)
       let eight = parents_few g' m.lawful n in
       omega arith
 
+  pub recount_moved : (old : List NodeId) → old ≡ parents_of s.graph n → CanRecount l i.locks.ledger.lists.items t n old (parents_of g' n)
+  recount_moved old before = record {
+    slot = list_there i.locks.ledger g' i.locks.sound orderly_moved t m.active;
+    counted = λ h q. subst (λ (ps : List NodeId). count_by (same_node q) ps ≤ counted_by i.locks.ledger.lists.items t q) (sym before) (counted_moved h q);
+    listed = listed_moved;
+    few = few_moved;
+  }
+
   -- the locks followed
-  module _ (ledger : Ledger) (state : state_on g' ledger ≡ moved_to l n (parents_of g' n) g') where
+  module _ (ledger : Ledger) (list : Told) (has : HasMoved v n i.locks.ledger ledger [] list) where
     pub state_moved : with_locks i (state_in v ledger) ≡ moved_to s n is.parents g'
-    state_moved = ap {A = State} (with_locks i) state ∙ ap (λ ps. moved_to s n ps g') here
+    state_moved = ap {A = State} (with_locks i) has.state ∙ ap (λ ps. moved_to s n ps g') here
 
     abbrev holding : ℕ → NodeId → Bool
     holding u c = holds (members s c) u
 
     -- the mover's counts were changed, and nobody else holds the node
-    pub counts_moved : (old : List NodeId) → old ≡ parents_of s.graph n
-        → ((u : ℕ) (q : NodeId) → counted_by ledger.lists.items u q + (if (u == t) && holds (members l n) t then count_by (same_node q) old else 0)
-        ≡ counted_by i.locks.ledger.lists.items u q + (if (u == t) && holds (members l n) t then count_by (same_node q) (parents_of g' n) else 0)) → (u : ℕ)
-        → CountsHeld (state_on g' ledger) ledger.lists.items u
+    counts_moved : (old : List NodeId) → old ≡ parents_of s.graph n → Recounts l i.locks.ledger.lists.items t n old (parents_of g' n) ledger.lists.items
+        → (u : ℕ) → CountsHeld (state_on g' ledger) ledger.lists.items u
     counts_moved old before counts u p =
         let moved = children_moved s.graph g' sound.lawful.graph m.lawful n (nodes_kept s t n was is g' m) (others_parents s t n was is g' m)
         (node_there s t n was is g' m) (live n ∙ node_there s t n was is g' m) (holding u) p in
@@ -125,21 +136,20 @@ module _ (i : Inside) (sound : IsSound i) (t : ℕ) (n : NodeId) (was is : Node)
         ∙ counts u p) in
         let count = i.locks.count u p in
         let now : counted_by ledger.lists.items u p ≡ children_that g' (holding u) p = omega arith in
-        now ∙ ap (λ (x : State). held_children x u p) (sym state)
+        now ∙ ap (λ (x : State). held_children x u p) (sym has.state)
 
-    pub stands_moved : AreSound ledger → ((u : ℕ) → Agrees (state_on g' ledger) ledger.lists.items u)
-        → ((u : ℕ) → CountsHeld (state_on g' ledger) ledger.lists.items u) → MayStand i v ledger
-    stands_moved are agrees counts = stands i v ledger (record {
+    pub stands_moved : (old : List NodeId) → old ≡ parents_of s.graph n
+        → Recounts l i.locks.ledger.lists.items t n old (parents_of g' n) ledger.lists.items → MayStand i v ledger
+    stands_moved old before counts = stands i v ledger (record {
       lawful = subst IsLawful (sym state_moved) (changed_keeps s t n was is g' m sound.lawful);
       no_cycle = λ at. subst HasNoCycle (sym state_moved) (moved-no_cycle s sound.lawful n is.parents g' (sound.no_cycle at));
-    }) (record { sound = are; agree = agrees; count = counts })
+    }) (record { sound = has.sound; agree = has.agree; count = counts_moved old before counts })
 
-    pub told_moved : (list : Told) → IsBySlot list → ((u : ℕ)
-        → notices_in list u ≡ (if is_lost l n (stays l (parents_of g' n)) u then moved_notice l u else None)) → list ≡ told s (with_locks i (state_in v ledger))
-    told_moved list by_slot tells =
-        told_is s (with_locks i (state_in v ledger)) list sound.lawful i.locks.sound.few by_slot
-        (λ u. tells u ∙ ap (λ ps. if is_lost s n (stays s ps) u then moved_notice s u else None) here
-        ∙ sym (moved_told s (lawful_orderly s sound.lawful) n is.parents g' bare_moved (λ x h. live n ∙ node_there s t n was is g' m) u)
+    pub told_moved : list ≡ told s (with_locks i (state_in v ledger))
+    told_moved =
+        told_is s (with_locks i (state_in v ledger)) list sound.lawful i.locks.sound.few has.tells.by_slot
+        (λ u. has.tells.notices u ∙ ap (λ ps. if is_lost s n (stays s ps) u then moved_notice s u else None) here
+        ∙ sym (moved_told s (lawful_orderly s sound.lawful) n is.parents g' shut_moved.newcomers (λ x h. live n ∙ node_there s t n was is g' m) u)
         ∙ sym (ap (λ x. told_to s x u) state_moved))
 
 -- what a call may do by what it requires, once the graph's call is done

@@ -1,15 +1,14 @@
 -- Records come and go, and children are shed: what it makes of a table. For those calls.
 use Rattle.gl_slots.specs.Limit.{most_slots}
-use Rattle.gl_table.proofs.Words.{[], ◌&&◌, ◌+◌, ◌-◌, ◌==◌, ◌||◌, ◌∙◌, ◌∷◌, ◌≡◌, ◌≤◌, Active, Agrees, and_both, ap, are_compatible}
-use Rattle.gl_table.proofs.Words.{AreExact, arith, Bool, children_that, clash, cond, count_by, count_cons, CountsHeld, covered_children}
-use Rattle.gl_table.proofs.Words.{false, first_not_ix, granted_at, Graph, graph_of, HasNoCycle, held_children, holds, holds_child, IfOk, if◌then◌else◌}
-use Rattle.gl_table.proofs.Words.{is_at_least, is_child, is_covered, is_idle, is_live, is_record_shape, is_some, is_wait}
-use Rattle.gl_table.proofs.Words.{IsAdopted, IsBorn, IsLawful, IsRoomyRecord, IsSound, KeepsLocks, keys, length, List, list_all, listed}
-use Rattle.gl_table.proofs.Words.{members, Mode, nat_tests, NL, NodeId, nodes, None, not, not_true, notices_in, number_same, OnErr, Option}
-use Rattle.gl_table.proofs.Words.{other_number, parents_of, Rec, record_parents, record_refusal, record_unrefused, refl, Refusal, Refuses, Result, rules, S}
-use Rattle.gl_table.proofs.Words.{same_mode, same_mode-equal, same_node-refl, same_number, shape_of, shed, Some, split, State, state_at, state_in, state_of}
-use Rattle.gl_table.proofs.Words.{state_on, status_of, subst, sym, TellsOthers, Told, told, true, unwrap_or, View}
-use Rattle.gl_table.proofs.Words.{view_of, with_grant, with_graph, with_key, without_node, X, ℕ}
+use Rattle.gl_table.proofs.Words.{[], ◌&&◌, ◌+◌, ◌-◌, ◌==◌, ◌||◌, ◌∙◌, ◌∷◌, ◌≡◌, ◌≤◌, Active, Agrees, and_both, ap, are_compatible, AreExact, arith, Bool}
+use Rattle.gl_table.proofs.Words.{children_that, clash, cond, count_by, count_cons, CountsHeld, covered_children, false, first_not_ix, granted_at, Graph}
+use Rattle.gl_table.proofs.Words.{graph_of, HasNoCycle, held_children, holds, holds_child, IfOk, if◌then◌else◌, is_at_least, is_child, is_covered, is_idle}
+use Rattle.gl_table.proofs.Words.{is_live, is_record_shape, is_some, is_wait, IsAdopted, IsBorn, IsFresh, IsLawful, IsRoomyRecord, IsSound, KeepsLocks, keys}
+use Rattle.gl_table.proofs.Words.{length, List, list_all, listed, members, Mode, nat_tests, NL, NodeId, nodes, None, not, not_true, notices_in, number_same}
+use Rattle.gl_table.proofs.Words.{OnErr, Option, other_number, parents_of, Rec, record_parents, record_refusal, record_unrefused, refl, Refusal, Refuses}
+use Rattle.gl_table.proofs.Words.{Result, rules, S, same_mode, same_mode-equal, same_node-refl, same_number, shape_of, shed, Some, split, State, state_at}
+use Rattle.gl_table.proofs.Words.{state_in, state_of, state_on, status_of, subst, sym, TellsOthers, Told, told, true, unwrap_or, View, view_of, with_grant}
+use Rattle.gl_table.proofs.Words.{with_graph, with_key, without_node, X, ℕ}
 use Rattle.gl_model.proofs.queues.Walks.{same}
 use Rattle.gl_table.specs.declared.ledger.Ledger.{Ledger}
 use Rattle.gl_table.specs.declared.locks.Locks.{Locks}
@@ -107,14 +106,12 @@ module _ (i : Inside) (sound : IsSound i) (f : NodeId) (keys : List ℕ) (free :
       (λ n free' born. record-grows before sound.lawful f keys roomy_record.file roomy_record.each roomy_record.room (graph_of v) n born)
 
   module _ (n : NodeId) (born : IsBorn (graph_of i.locks.graph) (graph_of v) n (Rec keys) (record_parents (graph_of i.locks.graph) f keys)) where
-    pub record_lives : is_live (graph_of v) n ≡ true
-    record_lives = born-live before sound.lawful f keys roomy_record.file roomy_record.each roomy_record.room (graph_of v) n born
-
-    pub record_unheld : (u : ℕ) → before.held u n ≡ NL
-    record_unheld = born-unheld before sound.lawful f keys roomy_record.file roomy_record.each roomy_record.room (graph_of v) n born
-
-    pub record_unawaited : before.queue n ≡ []
-    record_unawaited = born-unawaited before sound.lawful f keys roomy_record.file roomy_record.each roomy_record.room (graph_of v) n born
+    pub record_fresh : IsFresh (state_in v i.locks.ledger) n
+    record_fresh = record {
+      live = born-live before sound.lawful f keys roomy_record.file roomy_record.each roomy_record.room (graph_of v) n born;
+      unheld = born-unheld before sound.lawful f keys roomy_record.file roomy_record.each roomy_record.room (graph_of v) n born;
+      unawaited = born-unawaited before sound.lawful f keys roomy_record.file roomy_record.each roomy_record.room (graph_of v) n born;
+    }
 
     -- the slot holds it
     module _ (t : ℕ) (ledger : Ledger) (is : state_in v ledger ≡ with_grant (state_in v i.locks.ledger) t n X) where

@@ -1,5 +1,6 @@
 -- When a ledger over a graph may stand in a table. For the calls that write either.
-use Rattle.gl_table.proofs.Words.{Agrees, AreExact, AreSound, CountsHeld, Detect, IsLawful, IsOrderly, IsSafe, IsSound, State, state_in, Victims, View, ℕ}
+use Rattle.gl_table.proofs.Words.{◌≡◌, Active, Agrees, AreExact, AreSound, CountsHeld, Detect, IsLawful, IsOrderly, IsSafe, IsSound, MayAct, Some, State}
+use Rattle.gl_table.proofs.Words.{state_in, status_of, Victims, View, ℕ}
 use Rattle.gl_model.proofs.law.Orderly.{lawful_orderly}
 use Rattle.gl_table.specs.declared.ledger.Ledger.{Ledger}
 use Rattle.gl_table.specs.declared.table.Table.TheInside.{Inside}
@@ -39,6 +40,14 @@ pub stands : (i : Inside) (v : View) (l : Ledger) → IsSafe (with_locks i (stat
 stands i v l safe exact = record {
   safe = safe;
   law = record { orderly = orderly_over (state_in v l) i.detect i.victims i.begins safe.lawful; sound = exact.sound; agree = exact.agree; count = exact.count };
+}
+
+-- where somebody is active there, it may act
+pub may_act : (v : View) (l : Ledger) → IsLaw v l → (t : ℕ) → status_of (state_in v l) t ≡ Some Active → MayAct v l t
+may_act v l law t active = record {
+  exact = record { sound = law.sound; agree = law.agree; count = law.count };
+  orderly = law.orderly;
+  active = active;
 }
 
 -- as its own does

@@ -1,14 +1,15 @@
 -- What an ask that is granted leaves, also of a node that nobody held, and that a node has its key alone. For asks and new records.
 use Rattle.gl_slots.specs.Limit.{most_slots}
-use Rattle.gl_table.proofs.Words.{[], ⊎_elim, ◌&&◌, ◌+◌, ◌<◌, ◌==◌, ◌^◌, ◌||◌, ◌∙◌, ◌∷◌, ◌≡◌, ◌≢◌, ◌≤◌, Active, Agrees, and-false, ap, ap₂, AreHeaders}
-use Rattle.gl_table.proofs.Words.{AreSound, arith, Asked, Bool, cases_of, children_that, clash, count_by, count_by-le-length, count_of, counted_by, CountsHeld}
-use Rattle.gl_table.proofs.Words.{enters, enters_at, Entries, false, fun_ext, granted, Graph, HasItsKey, HasRoom, HasRoomAt, header_at, header_or_new}
+use Rattle.gl_table.proofs.Words.{[], ◌&&◌, ◌+◌, ◌<◌, ◌==◌, ◌^◌, ◌||◌, ◌∙◌, ◌∷◌, ◌≡◌, ◌≢◌, ◌≤◌, Active, Agrees, and-false, ap, ap₂, AreHeaders, AreSound}
+use Rattle.gl_table.proofs.Words.{arith, Asked, Bool, cases_of, children_that, clash, count_by, count_by-le-length, count_of, counted_by, CountsHeld, enters}
+use Rattle.gl_table.proofs.Words.{enters_at, Entries, false, fun_ext, granted, Graph, graph_of, HasItsKey, HasRoom, HasRoomAt, header_at, header_or_new}
 use Rattle.gl_table.proofs.Words.{HeaderState, held_children, held_of, holds, if◌then◌else◌, is_among_waiters, is_empty, is_granted_at, is_listed, is_live}
-use Rattle.gl_table.proofs.Words.{is_wait, is_waiter, IsFreeKey, IsLawfulGraph, IsOneHolder, IsOrderly, KeepsLists, length, List, list_any, LockList}
-use Rattle.gl_table.proofs.Words.{members, members_at, members_of, Mode, mode_of, nat_tests, NL, NodeId, not, not-true, not_NL, number_same, or-false, or_left}
-use Rattle.gl_table.proofs.Words.{parents_of, queue_of, refl, same_mode, same_node, same_node-equal, same_node-from_equal, same_node-refl, same_number}
-use Rattle.gl_table.proofs.Words.{slice_index_or, slot_limit, Some, spare, split, State, state_on, status_of, subst, supremum, supremum-not_NL, sym, true}
-use Rattle.gl_table.proofs.Words.{unlisted, Waiter, wanted, with_grant, with_members, with_mode, with_waiters, ℕ}
+use Rattle.gl_table.proofs.Words.{is_wait, is_waiter, IsFreeKey, IsFresh, IsLawfulGraph, IsOneHolder, IsOrderly, KeepsLists, length, List, list_any}
+use Rattle.gl_table.proofs.Words.{LockList, MayAct, members, members_at, members_of, Mode, mode_of, nat_tests, NL, NodeId, not, not-true, not_NL}
+use Rattle.gl_table.proofs.Words.{number_same, or-false, or_left, parents_of, queue_of, refl, same_mode, same_node, same_node-equal, same_node-from_equal}
+use Rattle.gl_table.proofs.Words.{same_node-refl, same_number, slice_index_or, slot_limit, Some, spare, split, State, state_in, state_on, status_of, subst}
+use Rattle.gl_table.proofs.Words.{supremum, supremum-not_NL, sym, true, unlisted, View, Waiter, wanted, with_grant, with_members, with_mode, with_waiters}
+use Rattle.gl_table.proofs.Words.{⊎_elim, ℕ}
 use Rattle.gl_table.specs.declared.ledger.Ledger.{Ledger}
 use Rattle.gl_header.specs.declared.header.Asked.TheVariants as asked
 use Rattle.gl_header.proofs.Changed.{nobody-enters, with_waiters-same}
@@ -21,14 +22,6 @@ use Rattle.gl_header.proofs.Unused.{unused-false}
 
 -- What is known of an active slot that asks for a node, and of its list.
 
--- the slot is active, and the lists say what the headers say
-pub record MayAsk (g : Graph) (l : Ledger) (t : ℕ) : Type 0 where
-  pub sound : AreSound l
-  pub orderly : IsOrderly (state_on g l)
-  pub agree : (u : ℕ) → Agrees (state_on g l) l.lists.items u
-  pub count : (u : ℕ) → CountsHeld (state_on g l) l.lists.items u
-  pub active : status_of (state_on g l) t ≡ Some Active
-
 -- room was made in the list of the slot, if it was wanted; all says what it said
 pub record HasMadeRoom (l l' : Ledger) (t : ℕ) (wanted : Bool) : Type 0 where
   pub headers : l'.headers ≡ l.headers
@@ -40,36 +33,39 @@ pub record HasMadeRoom (l l' : Ledger) (t : ℕ) (wanted : Bool) : Type 0 where
 pub state-same : (g : Graph) (l l' : Ledger) → l'.headers.entries ≡ l.headers.entries → l'.seats ≡ l.seats → state_on g l' ≡ state_on g l
 state-same g l l' headers seats = λ i. record (state_on g (record l { seats = seats i })) { held = held_of (headers i); queue = queue_of (headers i) }
 
-pub room-state : (g : Graph) (l l' : Ledger) (t : ℕ) (wanted : Bool) → HasMadeRoom l l' t wanted → state_on g l' ≡ state_on g l
-room-state g l l' t wanted made = state-same g l l' (ap (λ h. h.entries) made.headers) made.seats
+pub room-state : (g : View) (l l' : Ledger) (t : ℕ) (wanted : Bool) → HasMadeRoom l l' t wanted → state_in g l' ≡ state_in g l
+room-state g l l' t wanted made = state-same (graph_of g) l l' (ap (λ h. h.entries) made.headers) made.seats
 
-pub room-may_ask : (g : Graph) (l l' : Ledger) (t : ℕ) (wanted : Bool) → HasMadeRoom l l' t wanted → MayAsk g l t → MayAsk g l' t
+pub room-may_ask : (g : View) (l l' : Ledger) (t : ℕ) (wanted : Bool) → HasMadeRoom l l' t wanted → MayAct g l t → MayAct g l' t
 room-may_ask g l l' t wanted made may = record {
-  sound = record {
-    few = subst (λ (k : ℕ). k ≤ most_slots) (sym seats) may.sound.few;
-    lists = made.lists.len ∙ may.sound.lists ∙ sym seats;
+  exact = record {
+    sound = record {
+      few = subst (λ (k : ℕ). k ≤ most_slots) (sym seats) may.exact.sound.few;
+      lists = made.lists.len ∙ may.exact.sound.lists ∙ sym seats;
+    };
+    agree = λ u. subst (λ s. Agrees s l'.lists.items u) (sym same) (keeps-agrees (state_in g l) l.lists.items l'.lists.items u made.lists (may.exact.agree u));
+    count = λ u. subst (λ s. CountsHeld s l'.lists.items u) (sym same)
+        (keeps-counts (state_in g l) l.lists.items l'.lists.items u made.lists (may.exact.count u));
   };
   orderly = subst IsOrderly (sym same) may.orderly;
-  agree = λ u. subst (λ s. Agrees s l'.lists.items u) (sym same) (keeps-agrees (state_on g l) l.lists.items l'.lists.items u made.lists (may.agree u));
-  count = λ u. subst (λ s. CountsHeld s l'.lists.items u) (sym same) (keeps-counts (state_on g l) l.lists.items l'.lists.items u made.lists (may.count u));
   active = ap (λ s. status_of s t) same ∙ may.active;
 }
   where
-    same : state_on g l' ≡ state_on g l
+    same : state_in g l' ≡ state_in g l
     same = room-state g l l' t wanted made
 
     seats : length l'.seats.items ≡ length l.seats.items
     seats = ap (λ x. length x.items) made.seats
 
-module _ (g : Graph) (l : Ledger) (t : ℕ) (may : MayAsk g l t) where
+module _ (g : View) (l : Ledger) (t : ℕ) (may : MayAct g l t) where
   abbrev s : State
-  s = state_on g l
+  s = state_in g l
 
   pub slot-below : t < length l.seats.items
   slot-below = may.orderly.below t (txn_there (s.txns t) Active may.active)
 
   pub slot-listed : t < length l.lists.items
-  slot-listed = subst (λ (k : ℕ). t < k) (sym may.sound.lists) slot-below
+  slot-listed = subst (λ (k : ℕ). t < k) (sym may.exact.sound.lists) slot-below
 
   pub active-waits_nowhere : (q : NodeId) → is_among_waiters t (s.queue q) ≡ false
   active-waits_nowhere q = split (is_among_waiters t (s.queue q)) (λ h. let w = waiting_is (status_of s t) q (may.orderly.waits_are t q h) in
@@ -78,14 +74,14 @@ module _ (g : Graph) (l : Ledger) (t : ℕ) (may : MayAsk g l t) where
   -- its list has what it holds
   module _ (x : LockList) (at : x ≡ slice_index_or l.lists.items t x) where
     pub own-mode : (q : NodeId) → mode_of x q ≡ s.held t q
-    own-mode q = sym (by_list-at (λ y. mode_of y q) NL l.lists.items t x slot-listed at) ∙ (may.agree t).modes q
+    own-mode q = sym (by_list-at (λ y. mode_of y q) NL l.lists.items t x slot-listed at) ∙ (may.exact.agree t).modes q
 
     pub own-listed : (q : NodeId) → is_listed x q ≡ holds (members s q) t
-    own-listed q = sym (by_list-at (λ y. is_listed y q) false l.lists.items t x slot-listed at) ∙ (may.agree t).listed q
+    own-listed q = sym (by_list-at (λ y. is_listed y q) false l.lists.items t x slot-listed at) ∙ (may.exact.agree t).listed q
         ∙ ap (λ b. holds (members s q) t || b) (active-waits_nowhere q) ∙ or-false (holds (members s q) t)
 
     pub own-count : (q : NodeId) → count_of x q ≡ held_children s t q
-    own-count q = sym (by_list-at (λ y. count_of y q) 0 l.lists.items t x slot-listed at) ∙ may.count t q
+    own-count q = sym (by_list-at (λ y. count_of y q) 0 l.lists.items t x slot-listed at) ∙ may.exact.count t q
 
     pub own-room : HasRoomAt l.lists.items t → HasRoom x
     own-room room = (
@@ -94,52 +90,54 @@ module _ (g : Graph) (l : Ledger) (t : ℕ) (may : MayAsk g l t) where
     )
 
     -- one child more of each of these can be counted
-    pub own-few : IsLawfulGraph g → (n q : NodeId) → count_of x q + count_by (same_node q) (parents_of g n) < 2 ^ 32
+    pub own-few : IsLawfulGraph (graph_of g) → (n q : NodeId) → count_of x q + count_by (same_node q) (parents_of (graph_of g) n) < 2 ^ 32
     own-few law n q =
         let count = own-count q in
-        let children = children_few g law (λ c. holds (members s c) t) q in
-        let once = count_by-le-length (same_node q) (parents_of g n) in
-        let few = few_parents g law n in
+        let children = children_few (graph_of g) law (λ c. holds (members s c) t) q in
+        let once = count_by-le-length (same_node q) (parents_of (graph_of g) n) in
+        let few = few_parents (graph_of g) law n in
         omega arith
 
 -- a list with room for nine has room for the parents of a node
-pub parents-room : (g : Graph) → IsLawfulGraph g → (n : NodeId) (x : LockList) → 9 ≤ spare x.loose → unlisted x (parents_of g n) ≤ spare x.loose
+pub parents-room : (g : View) → IsLawfulGraph (graph_of g) → (n : NodeId) (x : LockList) → 9 ≤ spare x.loose
+    → unlisted x (parents_of (graph_of g) n) ≤ spare x.loose
 parents-room g law n x room =
-    let some = count_by-le-length (λ p. not (is_listed x p)) (parents_of g n) in
-    let few = few_parents g law n in
+    let some = count_by-le-length (λ p. not (is_listed x p)) (parents_of (graph_of g) n) in
+    let few = few_parents (graph_of g) law n in
     omega arith
 
 -- room was made for an ask, which a conversion that is granted at once does not need; the flags say whether the slot holds the node, and whether the ask is
 -- granted at once
-pub record IsReady (g : Graph) (l l' : Ledger) (t : ℕ) (n : NodeId) (m : Mode) (held now : Bool) : Type 0 where
-  pub may : MayAsk g l' t
-  pub same : state_on g l' ≡ state_on g l
+pub record IsReady (g : View) (l l' : Ledger) (t : ℕ) (n : NodeId) (m : Mode) (held now : Bool) : Type 0 where
+  pub may : MayAct g l' t
+  pub same : state_in g l' ≡ state_in g l
   pub room : (held && now) ≡ false → HasRoomAt l'.lists.items t
-  pub enters : enters slot_limit (members_at l'.headers.entries n) (queue_of l'.headers.entries n) t (wanted (state_on g l') t n m) ≡ now
-  pub is_held : holds (members (state_on g l') n) t ≡ held
+  pub enters : enters slot_limit (members_at l'.headers.entries n) (queue_of l'.headers.entries n) t (wanted (state_in g l') t n m) ≡ now
+  pub is_held : holds (members (state_in g l') n) t ≡ held
 
-pub is_ready : (g : Graph) (l l' : Ledger) (t : ℕ) (n : NodeId) (m : Mode) (held now : Bool) → MayAsk g l t → enters_at (state_on g l) t n m ≡ now
-    → held ≡ holds (members (state_on g l) n) t → HasMadeRoom l l' t (not (held && now)) → IsReady g l l' t n m held now
+pub is_ready : (g : View) (l l' : Ledger) (t : ℕ) (n : NodeId) (m : Mode) (held now : Bool) → MayAct g l t → enters_at (state_in g l) t n m ≡ now
+    → held ≡ holds (members (state_in g l) n) t → HasMadeRoom l l' t (not (held && now)) → IsReady g l l' t n m held now
 is_ready g l l' t n m held now may enters held_is made = record {
   may = may_now;
   same = same;
   room = λ e. made.room (ap not e);
-  enters = sym (enters-most (state_on g l') may_now.orderly may_now.sound.few t n (wanted (state_on g l') t n m)) ∙ ap (λ s. enters_at s t n m) same ∙ enters;
+  enters = sym (enters-most (state_in g l') may_now.orderly may_now.exact.sound.few t n (wanted (state_in g l') t n m))
+      ∙ ap (λ s. enters_at s t n m) same ∙ enters;
   is_held = ap (λ s. holds (members s n) t) same ∙ sym held_is;
 }
   where
-    same : state_on g l' ≡ state_on g l
+    same : state_in g l' ≡ state_in g l
     same = room-state g l l' t (not (held && now)) made
 
-    may_now : MayAsk g l' t
+    may_now : MayAct g l' t
     may_now = room-may_ask g l l' t (not (held && now)) made may
 
 -- what the header of a node says of an ask is what the state says
-pub says_is : (g : Graph) (l : Ledger) (t : ℕ) (n : NodeId) (m : Mode) → MayAsk g l t → is_granted_at l.headers.entries t n m ≡ enters_at (state_on g l) t n m
-says_is g l t n m may = sym (enters-most (state_on g l) may.orderly may.sound.few t n (wanted (state_on g l) t n m))
+pub says_is : (g : View) (l : Ledger) (t : ℕ) (n : NodeId) (m : Mode) → MayAct g l t → is_granted_at l.headers.entries t n m ≡ enters_at (state_in g l) t n m
+says_is g l t n m may = sym (enters-most (state_in g l) may.orderly may.exact.sound.few t n (wanted (state_in g l) t n m))
 
 -- room was made in the lists alone
-module _ {g : Graph} {l : Ledger} (l' : Ledger) {t : ℕ} (may : MayAsk g l t) (rest : l' ≡ record l { lists = l'.lists })
+module _ {g : View} {l : Ledger} (l' : Ledger) {t : ℕ} (may : MayAct g l t) (rest : l' ≡ record l { lists = l'.lists })
     (lists : KeepsLists l.lists.items l'.lists.items) where
   only_room : (wanted : Bool) → (wanted ≡ true → HasRoomAt l'.lists.items t) → HasMadeRoom l l' t wanted
   only_room wanted room = record { headers = ap (λ x. x.headers) rest; seats = ap (λ x. x.seats) rest; lists = lists; room = room }
@@ -147,17 +145,17 @@ module _ {g : Graph} {l : Ledger} (l' : Ledger) {t : ℕ} (may : MayAsk g l t) (
   none_wanted : HasMadeRoom l l' t false
   none_wanted = only_room false (λ e. absurd (cc))
 
-  pub roomy_may : MayAsk g l' t
+  pub roomy_may : MayAct g l' t
   roomy_may = room-may_ask g l l' t false none_wanted may
 
-  pub roomy_same : state_on g l' ≡ state_on g l
+  pub roomy_same : state_in g l' ≡ state_in g l
   roomy_same = room-state g l l' t false none_wanted
 
-  pub roomy_says : (n : NodeId) (m : Mode) → is_granted_at l'.headers.entries t n m ≡ enters_at (state_on g l) t n m
+  pub roomy_says : (n : NodeId) (m : Mode) → is_granted_at l'.headers.entries t n m ≡ enters_at (state_in g l) t n m
   roomy_says n m = says_is g l' t n m roomy_may ∙ ap (λ s. enters_at s t n m) roomy_same
 
   -- so the ask can be carried out, whatever it comes to
-  pub roomy_ready : (n : NodeId) (m : Mode) (held now : Bool) → held ≡ holds (members (state_on g l) n) t → enters_at (state_on g l) t n m ≡ now
+  pub roomy_ready : (n : NodeId) (m : Mode) (held now : Bool) → held ≡ holds (members (state_in g l) n) t → enters_at (state_in g l) t n m ≡ now
       → ((held && is_granted_at l.headers.entries t n m) ≡ false → HasRoomAt l'.lists.items t) → IsReady g l l' t n m held now
   roomy_ready n m held now is at room =
       is_ready g l l' t n m held now may at is (only_room (not (held && now))
@@ -253,15 +251,15 @@ pub answer-waits : (enters : Bool) (a : Asked) (m : Mode) → a ≡ (if enters t
 answer-waits enters a m h1 h2 = grind (arith, nat_tests)
 
 -- what an ask for m leaves, granted as w
-pub record IsGranted (g : Graph) (l l' : Ledger) (t : ℕ) (n : NodeId) (m w : Mode) : Type 0 where
+pub record IsGranted (g : View) (l l' : Ledger) (t : ℕ) (n : NodeId) (m w : Mode) : Type 0 where
   pub sound : AreSound l'
-  pub mode : w ≡ wanted (state_on g l) t n m
-  pub state : state_on g l' ≡ granted (state_on g l) t n m
-  pub agree : (u : ℕ) → Agrees (state_on g l') l'.lists.items u
-  pub count : (u : ℕ) → CountsHeld (state_on g l') l'.lists.items u
+  pub mode : w ≡ wanted (state_in g l) t n m
+  pub state : state_in g l' ≡ granted (state_in g l) t n m
+  pub agree : (u : ℕ) → Agrees (state_in g l') l'.lists.items u
+  pub count : (u : ℕ) → CountsHeld (state_in g l') l'.lists.items u
 
 -- room was made, the headers were asked, and the list was written
-module _ {g : Graph} {l r : Ledger} (l' : Ledger) {t : ℕ} {n : NodeId} {m : Mode} {old : Bool} (ready : IsReady g l r t n m old true) (a : Asked)
+module _ {g : View} {l r : Ledger} (l' : Ledger) {t : ℕ} {n : NodeId} {m : Mode} {old : Bool} (ready : IsReady g l r t n m old true) (a : Asked)
     (w : Mode) where
   abbrev want : Mode
   want = supremum (held_of r.headers.entries t n) m
@@ -269,21 +267,22 @@ module _ {g : Graph} {l r : Ledger} (l' : Ledger) {t : ℕ} {n : NodeId} {m : Mo
   abbrev enters_now : Bool
   enters_now = enters slot_limit (members_at r.headers.entries n) (queue_of r.headers.entries n) t want
 
-  pub is_granted : IsLawfulGraph g → is_live g n ≡ true → m ≢ NL → a ≡ (if enters_now then asked.Granted want else asked.Waiting) → a ≡ asked.Granted w
+  pub is_granted : IsLawfulGraph (graph_of g) → is_live (graph_of g) n ≡ true → m ≢ NL → a ≡ (if enters_now then asked.Granted want else asked.Waiting)
+      → a ≡ asked.Granted w
       → (enters_now ≡ true → (held_of l'.headers.entries ≡ with_members (held_of r.headers.entries) n (with_mode (members_at r.headers.entries n) t want))
       × (queue_of l'.headers.entries ≡ queue_of r.headers.entries))
-      → l'.seats ≡ r.seats → HasNode r.lists.items l'.lists.items t n w → CountsGrant (state_on g r) r.lists.items l'.lists.items t n → IsGranted g l l' t n m w
+      → l'.seats ≡ r.seats → HasNode r.lists.items l'.lists.items t n w → CountsGrant (state_in g r) r.lists.items l'.lists.items t n → IsGranted g l l' t n m w
   is_granted law live lock answer is changed seats has counts = record {
     sound = record {
-      few = subst (λ (k : ℕ). k ≤ most_slots) (ap (λ x. length x.items) (sym seats)) ready.may.sound.few;
-      lists = has.len ∙ ready.may.sound.lists ∙ ap (λ x. length x.items) (sym seats);
+      few = subst (λ (k : ℕ). k ≤ most_slots) (ap (λ x. length x.items) (sym seats)) ready.may.exact.sound.few;
+      lists = has.len ∙ ready.may.exact.sound.lists ∙ ap (λ x. length x.items) (sym seats);
     };
     mode = mode ∙ ap (λ s. wanted s t n m) ready.same;
     state = state ∙ ap₂ (λ s x. with_grant s t n x) ready.same (mode ∙ ap (λ s. wanted s t n m) ready.same);
     agree = λ u. subst (λ s. Agrees s l'.lists.items u) (sym state)
-        (grant-agrees (state_on g r) r.lists.items l'.lists.items t n w locks ready.may.active has u (ready.may.agree u));
+        (grant-agrees (state_in g r) r.lists.items l'.lists.items t n w locks ready.may.active has u (ready.may.exact.agree u));
     count = λ u. subst (λ s. CountsHeld s l'.lists.items u) (sym state)
-        (grant-counts (state_on g r) r.lists.items l'.lists.items t n w law live locks counts u (ready.may.count u));
+        (grant-counts (state_in g r) r.lists.items l'.lists.items t n w law live locks counts u (ready.may.exact.count u));
   }
     where
       mode : w ≡ want
@@ -292,17 +291,17 @@ module _ {g : Graph} {l r : Ledger} (l' : Ledger) {t : ℕ} {n : NodeId} {m : Mo
       locks : w ≢ NL
       locks e = clash (ap (λ x. same_mode x NL) (sym mode ∙ e)) (supremum-not_NL (held_of r.headers.entries t n) m (not_NL m lock))
 
-      state : state_on g l' ≡ with_grant (state_on g r) t n w
-      state = λ i. record (state_on g (record r { seats = seats i })) {
+      state : state_in g l' ≡ with_grant (state_in g r) t n w
+      state = λ i. record (state_in g (record r { seats = seats i })) {
         held = ((changed ready.enters).0 ∙ with_members-grant (held_of r.headers.entries) t n want
-            ∙ ap (λ x. (with_grant (state_on g r) t n x).held) (sym mode)) i;
+            ∙ ap (λ x. (with_grant (state_in g r) t n x).held) (sym mode)) i;
         queue = (changed ready.enters).1 i;
       }
 
 -- A node that nobody holds and nobody waits for comes to be held by one slot.
 
-module _ (g : Graph) (l : Ledger) (t : ℕ) (n : NodeId) (m : Mode) (may : MayAsk g l t) (unheld : (u : ℕ) → (state_on g l).held u n ≡ NL)
-    (unawaited : (state_on g l).queue n ≡ []) (room : HasRoomAt l.lists.items t) where
+module _ (g : View) (l : Ledger) (t : ℕ) (n : NodeId) (m : Mode) (may : MayAct g l t) (fresh : IsFresh (state_in g l) n)
+    (room : HasRoomAt l.lists.items t) where
   abbrev wanted_new : Mode
   wanted_new = supremum (held_of l.headers.entries t n) m
 
@@ -312,20 +311,20 @@ module _ (g : Graph) (l : Ledger) (t : ℕ) (n : NodeId) (m : Mode) (may : MayAs
     may = may;
     same = refl;
     room = λ e. room;
-    enters = (λ i. enters slot_limit (λ u. unheld u i) (unawaited i) t wanted_new) ∙ nobody-enters slot_limit t wanted_new;
-    is_held = ap (λ x. not (same_mode x NL)) (unheld t);
+    enters = (λ i. enters slot_limit (λ u. fresh.unheld u i) (fresh.unawaited i) t wanted_new) ∙ nobody-enters slot_limit t wanted_new;
+    is_held = ap (λ x. not (same_mode x NL)) (fresh.unheld t);
   }
 
   -- its header was put in, and the slot's list was written
-  pub is_placed : IsLawfulGraph g → is_live g n ≡ true → m ≢ NL → (h : HeaderState) → IsOneHolder h t m → wanted_new ≡ m → (l' : Ledger)
+  pub is_placed : IsLawfulGraph (graph_of g) → m ≢ NL → (h : HeaderState) → IsOneHolder h t m → wanted_new ≡ m → (l' : Ledger)
       → held_of l'.headers.entries ≡ with_members (held_of l.headers.entries) n (members_of h)
       → queue_of l'.headers.entries ≡ with_waiters (queue_of l.headers.entries) n h.queue → l'.seats ≡ l.seats
-      → HasNode l.lists.items l'.lists.items t n m → CountsGrant (state_on g l) l.lists.items l'.lists.items t n → IsGranted g l l' t n m m
-  is_placed law live lock h one want_is l' held queue seats has counts =
-      is_granted l' ready (asked.Granted m) m law live lock
+      → HasNode l.lists.items l'.lists.items t n m → CountsGrant (state_in g l) l.lists.items l'.lists.items t n → IsGranted g l l' t n m m
+  is_placed law lock h one want_is l' held queue seats has counts =
+      is_granted l' ready (asked.Granted m) m law fresh.live lock
       (ap asked.Granted (sym want_is) ∙ sym (ap (λ b. if b then asked.Granted wanted_new else asked.Waiting) ready.enters)) refl (λ enters. (
-        held ∙ ap (with_members (held_of l.headers.entries) n) (one.members ∙ (λ i. with_mode (λ u. sym (unheld u) i) t (sym want_is i))),
-        queue ∙ ap (with_waiters (queue_of l.headers.entries) n) one.queue ∙ with_waiters-same (queue_of l.headers.entries) n [] (sym unawaited),
+        held ∙ ap (with_members (held_of l.headers.entries) n) (one.members ∙ (λ i. with_mode (λ u. sym (fresh.unheld u) i) t (sym want_is i))),
+        queue ∙ ap (with_waiters (queue_of l.headers.entries) n) one.queue ∙ with_waiters-same (queue_of l.headers.entries) n [] (sym fresh.unawaited),
       )) seats has counts
 
 -- Who has a header is held or waited for, and so lives: of each key one node at most has a header. For asks and new records.
@@ -352,10 +351,10 @@ module _ {g : Graph} (l : Ledger) (all : AreHeaders l.headers.entries) (orderly 
   }
 
   -- and where nobody holds or awaits it, the key is free
-  pub free_key : (n : NodeId) → is_live g n ≡ true → ((u : ℕ) → held_of hs u n ≡ NL) → queue_of hs n ≡ [] → IsFreeKey hs n.key
-  free_key n live unheld unawaited = record {
+  pub free_key : (n : NodeId) → IsFresh (state_on g l) n → IsFreeKey hs n.key
+  free_key n fresh = record {
     none = λ q same. cases_of (header_at hs q) (λ none. none)
-        (λ h has. let here = ap (header_at hs) (sym (law.keys_differ q n (header_lives q h has) live same)) ∙ has in
-        ⊎_elim (λ t. clash t.1 (ap (λ m. not (same_mode m NL)) (ap (λ o. members_of (header_or_new o) t.0) (sym here) ∙ unheld t.0)))
-        (λ some. clash (ap is_empty (ap (λ o. (header_or_new o).queue) (sym here) ∙ unawaited)) some) (unused-false h (all.used n h here)));
+        (λ h has. let here = ap (header_at hs) (sym (law.keys_differ q n (header_lives q h has) fresh.live same)) ∙ has in
+        ⊎_elim (λ t. clash t.1 (ap (λ m. not (same_mode m NL)) (ap (λ o. members_of (header_or_new o) t.0) (sym here) ∙ fresh.unheld t.0)))
+        (λ some. clash (ap is_empty (ap (λ o. (header_or_new o).queue) (sym here) ∙ fresh.unawaited)) some) (unused-false h (all.used n h here)));
   }

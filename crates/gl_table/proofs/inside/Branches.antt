@@ -1,17 +1,14 @@
 -- The locks on a node that is in no use go, and those on its children, one by one: what is left. For nodes that are dropped.
-use Rattle.gl_table.proofs.Words.{[], ◌&&◌, ◌+◌, ◌++◌, ◌<◌, ◌==◌, ◌||◌, ◌∙◌, ◌∷◌, ◌≡◌, Active, age_in, ap, ap₂, AreExact, arith, Bool, clash, departed}
-use Rattle.gl_table.proofs.Words.{false, fun_ext, held_children, holds, if◌then◌else◌, is_among_waiters, is_child, is_live, IsBySlot, IsLawfulGraph}
-use Rattle.gl_table.proofs.Words.{IsOrderly, IsTold, length, List, list_any, members, Mode, NL, NodeId, nodes, nodes_live, None, not, not_true, notices_in}
-use Rattle.gl_table.proofs.Words.{Option, parents_in, refl, same_mode, same_node, same_node-equal, same_node-refl, same_node-sym, is_some, shape_of, Some}
-use Rattle.gl_table.proofs.Words.{split, State}
-use Rattle.gl_table.proofs.Words.{state_in, status_in, status_of, sym, take, Told, true, Txn, View, Waiting, ℕ, slice_get, slice_index_or, count_none, suc}
-use Rattle.gl_table.proofs.Words.{zero, get_or, ◌≤◌}
+use Rattle.gl_table.proofs.Words.{[], ◌&&◌, ◌++◌, ◌+◌, ◌<◌, ◌==◌, ◌||◌, ◌∙◌, ◌∷◌, ◌≡◌, ◌≤◌, Active, age_in, ap, ap₂, AreExact, arith, Bool, clash}
+use Rattle.gl_table.proofs.Words.{count_none, departed, false, fun_ext, get_or, held_children, holds, if◌then◌else◌, is_among_waiters, is_child, is_live}
+use Rattle.gl_table.proofs.Words.{is_some, IsBranchLeftTo, IsBySlot, IsLawfulGraph, IsLeftTo, IsOrderly, length, List, list_any, MayAct, members, Mode, NL}
+use Rattle.gl_table.proofs.Words.{NodeId, nodes, nodes_live, None, not, not_true, notices_in, Option, parents_in, refl, same_mode, same_node}
+use Rattle.gl_table.proofs.Words.{same_node-equal, same_node-refl, same_node-sym, shape_of, slice_get, slice_index_or, Some, split, State, state_in}
+use Rattle.gl_table.proofs.Words.{status_in, status_of, subst, suc, sym, take, TellsGone, Told, true, Txn, View, Waiting, zero, ℕ}
 use Rattle.gl_modes.proofs.Words.{no, or_elim, or_left, or_right, some_is}
 use Rattle.std.proofs.lemmas.List.{take_more}
 use Rattle.std.proofs.lemmas.List.Folds.{list_any-append}
 use Rattle.gl_graph.specs.Graph.{interval_at, Node, node_at}
-use Rattle.gl_graph.specs.Refusals.{is_in_use}
-use Rattle.gl_graph.specs.Shapes.{is_movable_shape}
 use Rattle.gl_graph.proofs.Branch.{apart_from, at_child, child_at, children_are, movable_no_interval}
 use Rattle.gl_model.specs.Calls.{freed_among, goes_with, none_among}
 use Rattle.gl_model.specs.State.{waits_at}
@@ -72,11 +69,7 @@ pub record MayClear (s : State) (t : ℕ) (n : NodeId) (xs : List NodeId) : Type
   pub law : IsLawfulGraph s.graph
   pub orderly : IsOrderly s
   pub active : status_of s t ≡ Some Active
-  pub movable : is_movable_shape (shape_of s.graph n) ≡ true
-  pub free : is_in_use s.graph n ≡ false
-  pub holding : holds (members s n) t ≡ true
-  pub alone : (u : ℕ) (q : NodeId) → (u == t) ≡ false → goes_with s.graph n q ≡ true → s.held u q ≡ NL
-  pub unawaited : (q : NodeId) → is_child s.graph n q ≡ true → s.queue q ≡ []
+  pub branch : IsBranchLeftTo s t n
   pub each : (place : ℕ) → slice_get xs place ≡ interval_at s.graph n place
 
 module _ {s : State} {t : ℕ} {n : NodeId} {xs : List NodeId} (may : MayClear s t n xs) where
@@ -85,15 +78,15 @@ module _ {s : State} {t : ℕ} {n : NodeId} {xs : List NodeId} (may : MayClear s
   before k = departed s (λ q. list_any (same_node q) (take k xs)) s.graph
 
   child_is : (q : NodeId) → list_any (same_node q) xs ≡ true → is_child s.graph n q ≡ true
-  child_is q h = let it = among_item xs q h in at_child s.graph may.law n may.movable may.free it.0 q (sym (may.each it.0) ∙ it.1)
+  child_is q h = let it = among_item xs q h in at_child s.graph may.law n may.branch.movable may.branch.free it.0 q (sym (may.each it.0) ∙ it.1)
 
   is_listed_child : (q : NodeId) → is_child s.graph n q ≡ true → list_any (same_node q) xs ≡ true
-  is_listed_child q c = let it = child_at s.graph may.law n may.movable may.free q c in item_among xs it.0 q (may.each it.0 ∙ it.1)
+  is_listed_child q c = let it = child_at s.graph may.law n may.branch.movable may.branch.free q c in item_among xs it.0 q (may.each it.0 ∙ it.1)
 
   -- the node is no child of its own
   not_itself : list_any (same_node n) xs ≡ false
-  not_itself = not_true _ (λ h. no (sym (movable_no_interval (shape_of s.graph n) may.movable)
-      ∙ (children_are s.graph may.law n may.movable may.free n (child_is n h)).1))
+  not_itself = not_true _ (λ h. no (sym (movable_no_interval (shape_of s.graph n) may.branch.movable)
+      ∙ (children_are s.graph may.law n may.branch.movable may.branch.free n (child_is n h)).1))
 
   whole : (q : NodeId) → (same_node q n || list_any (same_node q) xs) ≡ goes_with s.graph n q
   whole q = ap₂ (λ a b. a || b) (same_node-sym q n)
@@ -110,28 +103,35 @@ module _ {s : State} {t : ℕ} {n : NodeId} {xs : List NodeId} (may : MayClear s
         by (suc j) (y ∷ ys) h' =
             or_elim (same_node q y) (list_any (same_node q) (take j ys)) h' (λ here. or_left _ _ here) (λ there. or_right _ _ (by j ys there))
 
-    pub before_orderly : IsOrderly (before k)
+    before_orderly : IsOrderly (before k)
     before_orderly = cleared_orderly s may.orderly (λ q. list_any (same_node q) (take k xs))
 
-    pub before_active : status_of (before k) t ≡ Some Active
+    before_active : status_of (before k) t ≡ Some Active
     before_active = by (s.txns t) may.active
       where
         by : (x : Option Txn) → status_in x ≡ Some Active → status_in (freed_among (λ q. list_any (same_node q) (take k xs)) x) ≡ Some Active
         by None h = absurd (cc h)
         by (Some x) h = let is : x.status ≡ Active = cc in ap (λ st. Some (none_among (λ q. list_any (same_node q) (take k xs)) st)) is
 
-    pub before_alone : (u : ℕ) (q : NodeId) → (u == t) ≡ false → goes_with s.graph n q ≡ true → (before k).held u q ≡ NL
-    before_alone u q e g = split (list_any (same_node q) (take k xs)) (λ h. if-true _ h) (λ h. if-false _ h ∙ may.alone u q e g)
+    pub before_act : (g : View) (l : Ledger) → AreExact g l → state_in g l ≡ before k → MayAct g l t
+    before_act g l exact is = record {
+      exact = exact;
+      orderly = subst IsOrderly (sym is) before_orderly;
+      active = ap (λ (x : State). status_of x t) is ∙ before_active;
+    }
+
+    before_alone : (u : ℕ) (q : NodeId) → (u == t) ≡ false → goes_with s.graph n q ≡ true → (before k).held u q ≡ NL
+    before_alone u q e g = split (list_any (same_node q) (take k xs)) (λ h. if-true _ h) (λ h. if-false _ h ∙ may.branch.alone u q e g)
 
     pub before_unawaited : (q : NodeId) → is_child s.graph n q ≡ true → (before k).queue q ≡ []
-    before_unawaited q c = split (list_any (same_node q) (take k xs)) (λ h. if-true _ h) (λ h. if-false _ h ∙ may.unawaited q c)
+    before_unawaited q c = split (list_any (same_node q) (take k xs)) (λ h. if-true _ h) (λ h. if-false _ h ∙ may.branch.unawaited q c)
 
     -- one of the children
     module _ (x : NodeId) (at : slice_get xs k ≡ Some x) where
       pub child_here : is_child s.graph n x ≡ true
       child_here = child_is x (item_among xs k x at)
 
-      pub child_live : is_live s.graph x ≡ true
+      child_live : is_live s.graph x ≡ true
       child_live = by child_here
         where
           by : is_child s.graph n x ≡ true → is_live s.graph x ≡ true
@@ -141,10 +141,17 @@ module _ {s : State} {t : ℕ} {n : NodeId} {xs : List NodeId} (may : MayClear s
               there None h = h
               there (Some y) h = refl
 
-      pub childless : (u : ℕ) → held_children (before k) u x ≡ 0
+      childless : (u : ℕ) → held_children (before k) u x ≡ 0
       childless u = count_none (is_live s.graph) (λ c. is_child s.graph x c && holds (members (before k) c) u) (nodes s.graph) (nodes_live s.graph)
           (λ c on. ap (λ b. b && holds (members (before k) c) u) (not_true (is_child s.graph x c)
-          (λ h. apart_from s.graph may.law n may.movable may.free c x h child_here)))
+          (λ h. apart_from s.graph may.law n may.branch.movable may.branch.free c x h child_here)))
+
+      pub child_left : (now : State) → now ≡ before k → IsLeftTo now t x
+      child_left now is = subst (λ (y : State). IsLeftTo y t x) (sym is) (record {
+        live = child_live;
+        childless = childless;
+        alone = λ u e. before_alone u x e (or_right (same_node n x) _ child_here);
+      })
 
       low : k < length xs
       low = by k xs at
@@ -187,11 +194,19 @@ module _ {s : State} {t : ℕ} {n : NodeId} {xs : List NodeId} (may : MayClear s
     pub end_queue : (before k).queue n ≡ s.queue n
     end_queue = if-false _ (ap (list_any (same_node n)) all ∙ not_itself)
 
-    pub end_childless : (u : ℕ) → held_children (before k) u n ≡ 0
+    end_childless : (u : ℕ) → held_children (before k) u n ≡ 0
     end_childless u = count_none (is_live s.graph) (λ c. is_child s.graph n c && holds (members (before k) c) u) (nodes s.graph) (nodes_live s.graph)
         (λ c on. split (is_child s.graph n c)
         (λ h. ap₂ (λ a b. a && b) h (ap (λ b. not (same_mode (if b then NL else s.held u c) NL)) (ap (list_any (same_node c)) all ∙ is_listed_child c h)))
         (λ h. ap (λ b. b && holds (members (before k) c) u) h))
+
+    -- so the node itself can be vacated
+    pub end_left : (now : State) → now ≡ before k → is_live s.graph n ≡ true → IsLeftTo now t n
+    end_left now is live = subst (λ (y : State). IsLeftTo y t n) (sym is) (record {
+      live = live;
+      childless = end_childless;
+      alone = λ u e. before_alone k u n e (or_left _ _ (same_node-refl n));
+    })
 
     pub end_whole : departed (before k) (λ q. same_node q n) s.graph ≡ departed s (goes_with s.graph n) s.graph
     end_whole = departed_twice s (λ q. list_any (same_node q) (take k xs)) (λ q. same_node q n)
@@ -207,8 +222,7 @@ pub record IsClearing (g : View) (s : State) (xs : List NodeId) (k : ℕ) (l : L
 
 -- in the end those who waited for the node are told
 pub told_after : (s now : State) (n : NodeId) (first mid list : Told) → now.queue n ≡ s.queue n → ((u : ℕ) → age_in (now.txns u) ≡ age_in (s.txns u))
-    → ((u : ℕ) → notices_in mid u ≡ notices_in first u) → IsTold now.txns (λ u. is_among_waiters u (now.queue n)) (λ u. notice.Gone) mid list
-    → IsTold s.txns (λ u. is_among_waiters u (s.queue n)) (λ u. notice.Gone) first list
+    → ((u : ℕ) → notices_in mid u ≡ notices_in first u) → TellsGone now n mid list → TellsGone s n first list
 told_after s now n first mid list queue ages same tells = record {
   by_slot = tells.by_slot;
   notices = λ u. tells.notices u ∙ ap₂ (λ b x. if b then Some (record { slot = u; age = age_in (now.txns u) }, notice.Gone) else x)

@@ -1,10 +1,10 @@
 -- What an ask that waits leaves. For asks.
 use Rattle.gl_slots.specs.Limit.{most_slots}
-use Rattle.gl_table.proofs.Words.{◌&&◌, ◌+◌, ◌<◌, ◌==◌, ◌||◌, ◌∙◌, ◌≡◌, ◌≤◌, Agrees, and_both, ap, ap₂, AreSound, arith, Bool, count_of, counted_by, CountsHeld}
-use Rattle.gl_table.proofs.Words.{enqueued, enters, Entries, false, fun_ext, Graph, held_of, holds, if◌then◌else◌, is_among_waiters, is_listed, is_wait, length}
-use Rattle.gl_table.proofs.Words.{List, LockList, members, members_at, Mode, mode_of, nat_tests, NodeId, number_same, Option, other_number, placed, queue_of}
-use Rattle.gl_table.proofs.Words.{refl, restatus, room_by, same_node, same_node-equal, same_number, Seat, slice_index_or, slice_set, slot_limit, spare, split}
-use Rattle.gl_table.proofs.Words.{State, state_on, status_in, subst, supremum, sym, true, txns_of, Waiting, wanted, with_waiters, ℕ}
+use Rattle.gl_table.proofs.Words.{◌&&◌, ◌+◌, ◌<◌, ◌==◌, ◌||◌, ◌∙◌, ◌≡◌, ◌≤◌, Agrees, and_both, ap, ap₂, AreSound, arith, Bool, count_of, counted_by}
+use Rattle.gl_table.proofs.Words.{CountsHeld, enqueued, enters, Entries, false, fun_ext, held_of, holds, if◌then◌else◌, is_among_waiters, is_listed, is_wait}
+use Rattle.gl_table.proofs.Words.{length, List, LockList, members, members_at, Mode, mode_of, nat_tests, NodeId, number_same, Option, other_number, placed}
+use Rattle.gl_table.proofs.Words.{queue_of, refl, restatus, room_by, same_node, same_node-equal, same_number, Seat, slice_index_or, slice_set, slot_limit}
+use Rattle.gl_table.proofs.Words.{spare, split, State, state_in, status_in, subst, supremum, sym, true, txns_of, View, Waiting, wanted, with_waiters, ℕ}
 use Rattle.gl_table.specs.declared.ledger.Ledger.{Ledger}
 use Rattle.gl_table.proofs.inside.Asks.{active-waits_nowhere, IsReady}
 use Rattle.gl_table.proofs.inside.Slots.{by_list-set, counts-entered, has_node-set, HasNode, none_more}
@@ -72,14 +72,14 @@ has_wait-set ls t x x' lt at n held modes listed counts room = record {
     no_more b k = grind (arith, nat_tests)
 
 -- what an ask for m leaves that waits
-pub record IsEnqueued (g : Graph) (l l' : Ledger) (t : ℕ) (n : NodeId) (m : Mode) : Type 0 where
+pub record IsEnqueued (g : View) (l l' : Ledger) (t : ℕ) (n : NodeId) (m : Mode) : Type 0 where
   pub sound : AreSound l'
-  pub state : state_on g l' ≡ enqueued (state_on g l) t n (wanted (state_on g l) t n m)
-  pub agree : (u : ℕ) → Agrees (state_on g l') l'.lists.items u
-  pub count : (u : ℕ) → CountsHeld (state_on g l') l'.lists.items u
+  pub state : state_in g l' ≡ enqueued (state_in g l) t n (wanted (state_in g l) t n m)
+  pub agree : (u : ℕ) → Agrees (state_in g l') l'.lists.items u
+  pub count : (u : ℕ) → CountsHeld (state_in g l') l'.lists.items u
 
 -- room was made, the headers were asked, the node was listed, and the status was written
-module _ (g : Graph) (l r l' : Ledger) (t : ℕ) (n : NodeId) (m w : Mode) (held : Bool) (ready : IsReady g l r t n m held false) (hs : Entries)
+module _ (g : View) (l r l' : Ledger) (t : ℕ) (n : NodeId) (m w : Mode) (held : Bool) (ready : IsReady g l r t n m held false) (hs : Entries)
     (seats : List (Option Seat)) where
   abbrev want : Mode
   want = supremum (held_of r.headers.entries t n) m
@@ -92,20 +92,21 @@ module _ (g : Graph) (l r l' : Ledger) (t : ℕ) (n : NodeId) (m w : Mode) (held
       → HasWait r.lists.items l'.lists.items t n (held_of r.headers.entries t n) → IsEnqueued g l l' t n m
   is_enqueued entries changed same len txns wants has = record {
     sound = record {
-      few = subst (λ (k : ℕ). k ≤ most_slots) (sym count) ready.may.sound.few;
-      lists = has.node.len ∙ ready.may.sound.lists ∙ sym count;
+      few = subst (λ (k : ℕ). k ≤ most_slots) (sym count) ready.may.exact.sound.few;
+      lists = has.node.len ∙ ready.may.exact.sound.lists ∙ sym count;
     };
     state = state ∙ ap (λ s. enqueued s t n (wanted s t n m)) ready.same;
     agree = λ u. subst (λ s. Agrees s l'.lists.items u) (sym state)
-        (enqueue-agrees (state_on g r) t n want (active-waits_nowhere g r t ready.may n) r.lists.items l'.lists.items has.node has.room u (ready.may.agree u));
-    count = λ u. subst (λ s. CountsHeld s l'.lists.items u) (sym state) (λ p. has.counts u p ∙ ready.may.count u p);
+        (enqueue-agrees (state_in g r) t n want (active-waits_nowhere g r t ready.may n) r.lists.items l'.lists.items has.node has.room u
+        (ready.may.exact.agree u));
+    count = λ u. subst (λ s. CountsHeld s l'.lists.items u) (sym state) (λ p. has.counts u p ∙ ready.may.exact.count u p);
   }
     where
       count : length l'.seats.items ≡ length r.seats.items
       count = len ∙ ap length same
 
-      state : state_on g l' ≡ enqueued (state_on g r) t n want
-      state = λ i. record (state_on g r) {
+      state : state_in g l' ≡ enqueued (state_in g r) t n want
+      state = λ i. record (state_in g r) {
         txns = (fun_ext txns ∙ ap₂ (λ x ss. λ u. if u == t then restatus (Waiting n x) (txns_of ss t) else txns_of ss u) wants same) i;
         held = (ap held_of entries ∙ (changed ready.enters).0) i;
         queue = (ap queue_of entries ∙ (changed ready.enters).1) i;

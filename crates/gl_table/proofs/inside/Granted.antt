@@ -1,14 +1,14 @@
 -- Headers, seats and lists once a node granted from its front. For releases and withdrawn waits.
 use Rattle.gl_slots.specs.Limit.{most_slots}
-use Rattle.gl_table.proofs.Words.{[], ◌&&◌, ◌+◌, ◌<◌, ◌==◌, ◌||◌, ◌∙◌, ◌≡◌, ◌≢◌, ◌≤◌, Active, after_grants, Agrees, and-false, and_both, ap, ap₂, AreSound}
-use Rattle.gl_table.proofs.Words.{arith, books_of, Bool, CanEnd, CanHold, children_that, clash, count_by, count_by-le-length, CountsHeld, drop, false, front}
-use Rattle.gl_table.proofs.Words.{front-limit, front_at, fun_ext, granted_at, Graph, held_by, held_children, holds, if◌then◌else◌, is_among_waiters}
-use Rattle.gl_table.proofs.Words.{is_distinct, is_listed, is_live, is_wait, IsBySlot, IsLawfulGraph, IsOrderly, IsWithin, length, List, LockList, Members}
-use Rattle.gl_table.proofs.Words.{members, Mode, mode_given, nat_tests, NL, NodeId, None, not, not_true, notices_in, Option, option_map_or, or_left, or_right}
-use Rattle.gl_table.proofs.Words.{parents_of, pumped, refl, restatus, same_mode, same_mode-equal, same_node, same_node-equal, same_node-refl, same_node-sym}
-use Rattle.gl_table.proofs.Words.{same_number, slice_get, slot_limit, Some, split, State, state_on, Status, status_of, subst, sym, Told, true, Txn, unlisted}
-use Rattle.gl_table.proofs.Words.{unlisted_by, Waiter, Waiting, WaitWell, WakesLists, with_grant, with_members, with_mode, with_waiters, without_wait}
-use Rattle.gl_table.proofs.Words.{without_waiter, woken, ℕ}
+use Rattle.gl_table.proofs.Words.{[], ◌&&◌, ◌+◌, ◌<◌, ◌==◌, ◌||◌, ◌∙◌, ◌≡◌, ◌≢◌, ◌≤◌, Active, after_grants, Agrees, and-false, and_both, ap, ap₂}
+use Rattle.gl_table.proofs.Words.{AreExactFor, arith, books_of, Bool, CanEnd, CanHold, children_that, clash, count_by, count_by-le-length, CountsHeld, drop}
+use Rattle.gl_table.proofs.Words.{false, front, front-limit, front_at, fun_ext, granted_at, graph_of, held_by, held_children, holds, if◌then◌else◌}
+use Rattle.gl_table.proofs.Words.{is_among_waiters, is_distinct, is_listed, is_live, is_wait, IsBySlot, IsLawfulGraph, IsOrderly, IsWithin, length, List}
+use Rattle.gl_table.proofs.Words.{LockList, Members, members, Mode, mode_given, nat_tests, NL, NodeId, None, not, not_true, notices_in, Option}
+use Rattle.gl_table.proofs.Words.{option_map_or, or_left, or_right, parents_of, pumped, refl, restatus, same_mode, same_mode-equal, same_node}
+use Rattle.gl_table.proofs.Words.{same_node-equal, same_node-refl, same_node-sym, same_number, slice_get, slot_limit, Some, split, State, state_in, Status}
+use Rattle.gl_table.proofs.Words.{status_of, subst, sym, Told, true, Txn, unlisted, unlisted_by, View, Waiter, Waiting, WaitWell, WakesLists, with_grant}
+use Rattle.gl_table.proofs.Words.{with_members, with_mode, with_waiters, without_wait, without_waiter, woken, ℕ}
 use Rattle.gl_table.specs.declared.ledger.Ledger.{Ledger}
 use Rattle.gl_table.proofs.inside.Slots.{none_more}
 use Rattle.gl_table.proofs.inside.Woken.{given_or_held}
@@ -192,27 +192,27 @@ can_hold_there s o law n ls u h lt agree count =
     }
 
 -- the front of a node may be woken, in a state b whose waiters there are among those of the locks
-pub can_wake_front : (g : Graph) (l : Ledger) → IsLawfulGraph g → AreSound l → IsOrderly (state_on g l) → (n : NodeId) (b : State) → WaitWell b n
-    → ((u : ℕ) → is_among_waiters u (b.queue n) ≡ true → is_among_waiters u ((state_on g l).queue n) ≡ true)
-    → ((u : ℕ) → is_among_waiters u ((state_on g l).queue n) ≡ true → Agrees (state_on g l) l.lists.items u)
-    → ((u : ℕ) → is_among_waiters u ((state_on g l).queue n) ≡ true → CountsHeld (state_on g l) l.lists.items u)
+pub can_wake_front : (g : View) (l : Ledger) (n : NodeId) → AreExactFor g l (λ u. is_among_waiters u ((state_in g l).queue n) ≡ true)
+    → IsLawfulGraph (graph_of g) → (b : State) → WaitWell b n
+    → ((u : ℕ) → is_among_waiters u (b.queue n) ≡ true → is_among_waiters u ((state_in g l).queue n) ≡ true)
     → (told : Told) → IsBySlot told → ((u : ℕ) → is_among_waiters u (b.queue n) ≡ true → notices_in told u ≡ None)
     → (ws : List Waiter) → ws ≡ front_at b n → CanEnd (books_of l.seats l.lists.items told) ws
-    × ((u : ℕ) → is_among_waiters u ws ≡ true → CanHold l.lists.items u n (parents_of g n))
-can_wake_front g l law sound o n b well stand agree count told by_slot untold ws front = (
+    × ((u : ℕ) → is_among_waiters u ws ≡ true → CanHold l.lists.items u n (parents_of (graph_of g) n))
+can_wake_front g l n are law b well stand told by_slot untold ws front = (
   record {
-    kept = record { few = sound.few; len = sound.lists; by_slot = by_slot };
+    kept = record { few = are.sound.few; len = are.sound.lists; by_slot = by_slot };
     distinct = ap is_distinct front ∙ front_distinct b n well;
     below = λ u h. below u (stand u (stands u h));
     untold = λ u h. untold u (stands u h);
   },
   λ u h.
       let there = stand u (stands u h) in
-      can_hold_there (state_on g l) o law n l.lists.items u there (subst (λ (k : ℕ). u < k) (sym sound.lists) (below u there)) (agree u there) (count u there),
+      can_hold_there (state_in g l) are.orderly law n l.lists.items u there (subst (λ (k : ℕ). u < k) (sym are.sound.lists) (below u there))
+      (are.agree u there) (are.count u there),
 )
   where
     stands : (u : ℕ) → is_among_waiters u ws ≡ true → is_among_waiters u (b.queue n) ≡ true
     stands u h = front_stands b n well u (ap (is_among_waiters u) (sym front) ∙ h)
 
-    below : (u : ℕ) → is_among_waiters u ((state_on g l).queue n) ≡ true → u < length l.seats.items
-    below u h = waiters_below (state_on g l) o n u h
+    below : (u : ℕ) → is_among_waiters u ((state_in g l).queue n) ≡ true → u < length l.seats.items
+    below u h = waiters_below (state_in g l) are.orderly n u h

@@ -1,11 +1,11 @@
 -- Marked children are released one after the other. For escalations.
-use Rattle.gl_table.proofs.Words.{[], ◌&&◌, ◌+◌, ◌<◌, ◌==◌, ◌||◌, ◌∙◌, ◌∷◌, ◌≡◌, ◌≤◌, Active, Agrees, and_both, any_counted, ap, ap₂, AreSound, arith}
-use Rattle.gl_table.proofs.Words.{Bool, clash, cond, count_by, count_cons, count_of, CountsHeld, covered_in, false, front_at, fun_ext, Graph, holds}
-use Rattle.gl_table.proofs.Words.{holds_child, if◌then◌else◌, is_child, is_covered, is_listed, is_some, is_wait, IsLawfulGraph, IsOrderly, IsShedding}
-use Rattle.gl_table.proofs.Words.{length, List, list_all, list_any, listed, LockList, lookup, map, members, Mode, mode_of, nat_lt, nat_tests, NL, NodeId}
-use Rattle.gl_table.proofs.Words.{nodes, NoneMarkedFrom, not, not-true, not_true, or-false, or_no, parents_of, pumped, refl, same_mode, same_node}
-use Rattle.gl_table.proofs.Words.{same_node-equal, same_number, shed, slice_get, slice_index_or, slice_set, Some, split, State, state_on, status_of, subst, suc}
-use Rattle.gl_table.proofs.Words.{sym, Told, true, unlocked, WakesLists, WakesTold, with_grant, woken, X, zero, ℕ}
+use Rattle.gl_table.proofs.Words.{[], ◌&&◌, ◌+◌, ◌<◌, ◌==◌, ◌||◌, ◌∙◌, ◌∷◌, ◌≡◌, ◌≤◌, Active, Agrees, and_both, any_counted, ap, ap₂, AreSound, arith, Bool}
+use Rattle.gl_table.proofs.Words.{clash, cond, count_by, count_cons, count_of, CountsHeld, covered_in, false, front_at, fun_ext, Graph, holds, holds_child}
+use Rattle.gl_table.proofs.Words.{if◌then◌else◌, is_child, is_covered, is_listed, is_some, is_wait, IsLawfulGraph, IsOrderly, IsReleased, IsShedding, length}
+use Rattle.gl_table.proofs.Words.{List, list_all, list_any, listed, LockList, lookup, map, members, Mode, mode_of, nat_lt, nat_tests, NL, NodeId, nodes}
+use Rattle.gl_table.proofs.Words.{NoneMarkedFrom, not, not-true, not_true, or-false, or_no, parents_of, pumped, refl, same_mode, same_node, same_node-equal}
+use Rattle.gl_table.proofs.Words.{same_number, shed, slice_get, slice_index_or, slice_set, Some, split, State, state_on, status_of, subst, suc, sym, Told}
+use Rattle.gl_table.proofs.Words.{true, unlocked, WakesLists, WakesTold, with_grant, woken, X, zero, ℕ}
 use Rattle.gl_table.specs.declared.ledger.Ledger.{Ledger}
 use Rattle.gl_table.proofs.inside.Departures.{fewer_held, held_after, holds_after, IsLeaving, leaving_one, left_by, taken_from}
 use Rattle.gl_table.proofs.inside.Slots.{agrees-set, by_list-at, counts-set, own_list}
@@ -171,12 +171,18 @@ module _ (s : State) (o : IsOrderly s) (t : ℕ) (active : status_of s t ≡ Som
     }
 
   -- the list is put back
-  module _ (s0 : State) (n : NodeId) (ls : List LockList) (l : LockList) (lt : t < length ls) (is : IsShedding s0 s t n l) (modes : (q : NodeId)
-      → mode_of l q ≡ s.held t q) where
+  module _ (s0 : State) (n : NodeId) (ls : List LockList) (l : LockList) (lt : t < length ls) (is : IsReleased s0 s t n l) where
     back_agrees : Agrees s (slice_set ls t l) t
     back_agrees = record {
-      modes = λ q. own_list ls t l lt (λ x. mode_of x q) NL ∙ modes q;
-      listed = λ q. grind (arith, nat_tests, own_list ls t l lt (λ x. is_listed x q) false, is.listed q, in_no_queue s o t (ap is_wait active) q, held_alone q);
+      modes = λ q. own_list ls t l lt (λ x. mode_of x q) NL ∙ is.modes q;
+      listed = λ q. grind (
+        arith,
+        nat_tests,
+        own_list ls t l lt (λ x. is_listed x q) false,
+        is.marked.listed q,
+        in_no_queue s o t (ap is_wait active) q,
+        held_alone q,
+      );
       room = λ h. clash h (ap is_wait active);
     }
 
@@ -185,7 +191,7 @@ module _ (s : State) (o : IsOrderly s) (t : ℕ) (active : status_of s t ≡ Som
         (λ e. agrees-set ls t l lt u e s (agree u e))
 
     back_counts : CountsHeld s (slice_set ls t l) t
-    back_counts p = own_list ls t l lt (λ x. count_of x p) 0 ∙ is.counts p
+    back_counts p = own_list ls t l lt (λ x. count_of x p) 0 ∙ is.marked.counts p
 
     pub counts-back : ((u : ℕ) → (u == t) ≡ false → CountsHeld s ls u) → (u : ℕ) → CountsHeld s (slice_set ls t l) u
     counts-back count u = split (u == t) (λ e. subst (CountsHeld s (slice_set ls t l)) (sym (same_number u t e)) back_counts)

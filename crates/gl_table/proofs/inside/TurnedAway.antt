@@ -1,15 +1,15 @@
 -- Waits on one node that end without a grant, one after the other, and what is told. For moves.
-use Rattle.gl_table.proofs.Words.{[], ◌&&◌, ◌<◌, ◌==◌, ◌||◌, ◌∙◌, ◌∷◌, ◌≡◌, ◌≤◌, Active, addressed, age_in, age_of, Agrees, and-false, and-not_self, and-true}
-use Rattle.gl_table.proofs.Words.{and_both, ap, ap₂, AreKept, arith, as_left, books_of, Bool, both, clash, false, filter, fits, freed, freed_unless, front}
-use Rattle.gl_table.proofs.Words.{fun_ext, Graph, held_of, if◌then◌else◌, intends_over, is_among_waiters, is_live, is_wait, is_waiter, IsOrderly, length, List}
-use Rattle.gl_table.proofs.Words.{list_all, LockList, members, members_at, Mode, mode_of, moved_to, nat_tests, NL, NodeId, None, none_but, not, not-true}
-use Rattle.gl_table.proofs.Words.{not_true, notice_of, notices_in, Option, or-false, or_right, queue_of, refl, restatus, room_by, same_mode, same_mode-equal}
-use Rattle.gl_table.proofs.Words.{same_node, same_node-equal, same_node-refl, same_number, slice_index_or, slot_limit, Some, some_is, split, State, state_on}
-use Rattle.gl_table.proofs.Words.{status_in, status_of, stays, subst, sym, Told, told_from, told_to, true, Txn, TxnId, Waiter, Waiting, WaitsEnd, with_waiters}
-use Rattle.gl_table.proofs.Words.{without_waiter, ℕ}
+use Rattle.gl_table.proofs.Words.{[], ◌&&◌, ◌<◌, ◌==◌, ◌||◌, ◌∙◌, ◌∷◌, ◌≡◌, ◌≤◌, Active, addressed, age_in, age_of, Agrees, and-false, and-not_self}
+use Rattle.gl_table.proofs.Words.{and-true, and_both, ap, ap₂, AreAgreed, AreKept, AreSound, arith, as_left, books_of, Bool, both, CanEndAt, CanTellWaiters}
+use Rattle.gl_table.proofs.Words.{clash, false, filter, fits, freed, freed_unless, front, fun_ext, Graph, held_of, if◌then◌else◌, intends_over}
+use Rattle.gl_table.proofs.Words.{is_among_waiters, is_live, is_wait, is_waiter, IsOrderly, length, List, list_all, LockList, members, members_at, Mode}
+use Rattle.gl_table.proofs.Words.{mode_of, moved_to, nat_tests, NL, NodeId, None, none_but, not, not-true, not_true, notice_of, Option, or-false, or_right}
+use Rattle.gl_table.proofs.Words.{queue_of, refl, restatus, room_by, same_mode, same_mode-equal, same_node, same_node-equal, same_node-refl, same_number}
+use Rattle.gl_table.proofs.Words.{slice_index_or, slot_limit, Some, some_is, split, State, state_in, status_in, status_of, stays, subst, sym, Told}
+use Rattle.gl_table.proofs.Words.{told_from, told_to, true, Txn, TxnId, View, Waiter, Waiting, WaitsEnd, with_waiters, without_waiter, ℕ}
 use Rattle.gl_model.specs.declared.answers.Notice.TheVariants as notice
 use Rattle.gl_table.proofs.inside.Slots.{by_list-at}
-use Rattle.gl_table.proofs.inside.Woken.{agrees_given_up, ends_more, ends_none, seat_still, untold_still}
+use Rattle.gl_table.proofs.inside.Woken.{agrees_given_up, ends_more, ends_none, kept_still, seat_still, untold_still}
 use Rattle.gl_table.specs.declared.ledger.Ledger.{Ledger}
 use Rattle.gl_model.proofs.law.Strays.{all_filtered, all_of_some, all_or_chosen, among_failing, filter_all, stuck_front, without_chosen}
 use Rattle.gl_model.proofs.law.Takes.{restatus_is}
@@ -83,13 +83,19 @@ pub record IsTurning (l l' : Ledger) (n : NodeId) (s : State) (f : Waiter → Bo
   pub over : WaitsEnd (books_of l.seats l.lists.items told) n (λ u. is_lost s n f u && not (pending u)) as_left (λ u. notice.Moved)
       (books_of l'.seats l'.lists.items told')
 
-module _ (g : Graph) (l : Ledger) (o : IsOrderly (state_on g l)) (n : NodeId) (f : Waiter → Bool) (told : Told)
-    (kept : AreKept (books_of l.seats l.lists.items told)) where
+module _ {g : View} {l : Ledger} (agreed : AreAgreed g l) (n : NodeId) {told : Told}
+    (tell : CanTellWaiters (state_in g l) n told) where
   abbrev s : State
-  s = state_on g l
+  s = state_in g l
 
-  pub turning_begins : (pending : ℕ → Bool) → ((u : ℕ) → pending u ≡ is_lost s n f u) → IsTurning l l n s f pending told told
-  turning_begins pending all = record {
+  o : IsOrderly s
+  o = agreed.orderly
+
+  kept : AreKept (books_of l.seats l.lists.items told)
+  kept = record { few = agreed.sound.few; len = agreed.sound.lists; by_slot = tell.by_slot }
+
+  pub turning_begins : {f : Waiter → Bool} (pending : ℕ → Bool) → ((u : ℕ) → pending u ≡ is_lost s n f u) → IsTurning l l n s f pending told told
+  turning_begins {f} pending all = record {
     held = refl;
     here = sym (filter_all (λ w. f w || pending w.0) (s.queue n) (all_or_chosen f pending (s.queue n) (λ u h. all u ∙ h)));
     there = λ q e. refl;
@@ -97,7 +103,7 @@ module _ (g : Graph) (l : Ledger) (o : IsOrderly (state_on g l)) (n : NodeId) (f
     over = ends_none _ (λ u. ap (λ b. is_lost s n f u && not b) (all u) ∙ and-not_self (is_lost s n f u)) kept;
   }
 
-  module _ {l' : Ledger} {pending : ℕ → Bool} {mid : Told} (is : IsTurning l l' n s f pending told mid) where
+  module _ {l' : Ledger} {f : Waiter → Bool} {pending : ℕ → Bool} {mid : Told} (is : IsTurning l l' n s f pending told mid) where
     -- a pending slot
     module _ (t : ℕ) (member : pending t ≡ true) where
       lost : is_lost s n f t ≡ true
@@ -109,8 +115,12 @@ module _ (g : Graph) (l : Ledger) (o : IsOrderly (state_on g l)) (n : NodeId) (f
       fresh : (is_lost s n f t && not (pending t)) ≡ false
       fresh = ap (λ b. is_lost s n f t && not b) member ∙ and-false (is_lost s n f t)
 
-      pub turned_below : t < length l'.seats.items
-      turned_below = seat_still is.over t fresh (waiters_below s o n t stood)
+      pub turned_can : CanEndAt (books_of l'.seats l'.lists.items mid) t
+      turned_can = record {
+        kept = kept_still is.over kept;
+        seated = seat_still is.over t fresh (waiters_below s o n t stood);
+        untold = untold_still is.over t fresh (tell.untold t stood);
+      }
 
       pub turned_waits : is_among_waiters t (queue_of l'.headers.entries n) ≡ true
       turned_waits = let w = lost_waits s o n f t lost in
@@ -124,11 +134,8 @@ module _ (g : Graph) (l : Ledger) (o : IsOrderly (state_on g l)) (n : NodeId) (f
           ∙ stuck_front slot_limit (members s n) (without_waiter t (filter (λ v. f v || pending v.0) (s.queue n)))
           (all_filtered _ (λ w. not (is_waiter t w)) _ (all_filtered _ (λ v. f v || pending v.0) (s.queue n) stuck))
 
-      pub turned_room : Agrees s l.lists.items t → 9 ≤ room_by l'.lists.items t
-      turned_room agree = subst (λ (k : ℕ). 9 ≤ k) (sym (is.over.lists.rooms t fresh)) (agree.room (ap is_wait (lost_waits s o n f t lost).1))
-
-      pub turned_untold : ((u : ℕ) → is_among_waiters u (s.queue n) ≡ true → notices_in told u ≡ None) → notices_in mid t ≡ None
-      turned_untold untold = untold_still is.over t fresh (untold t stood)
+      pub turned_room : 9 ≤ room_by l'.lists.items t
+      turned_room = subst (λ (k : ℕ). 9 ≤ k) (sym (is.over.lists.rooms t fresh)) ((agreed.agree t).room (ap is_wait (lost_waits s o n f t lost).1))
 
       -- its wait ends
       pub turning_one : {next : Ledger} {told' : Told} (pending' : ℕ → Bool) → ((x : ℕ) → pending' x ≡ (pending x && not (x == t)))
@@ -155,8 +162,11 @@ module _ (g : Graph) (l : Ledger) (o : IsOrderly (state_on g l)) (n : NodeId) (f
       turned_over = subst (λ (who : ℕ → Bool). WaitsEnd (books_of l.seats l.lists.items told) n who as_left (λ u. notice.Moved)
           (books_of l'.seats l'.lists.items mid)) (fun_ext (λ u. ap (λ b. is_lost s n f u && not b) (none u) ∙ and-true (is_lost s n f u))) is.over
 
+      pub turned_sound : AreSound l'
+      turned_sound = let is_kept = kept_still is.over kept in record { few = is_kept.few; lists = is_kept.len }
+
       -- the waits on n that fail the test are out of its queue, and their owners are active
-      pub turning_ends : state_on g l' ≡ record s {
+      pub turning_ends : state_in g l' ≡ record s {
         queue = λ q. if same_node q n then filter f (s.queue q) else s.queue q;
         txns = λ u. freed_unless (λ v. is_among_waiters v (filter f (s.queue n))) n u (s.txns u);
       }
@@ -173,10 +183,10 @@ module _ (g : Graph) (l : Ledger) (o : IsOrderly (state_on g l)) (n : NodeId) (f
           queue : (q : NodeId) → queue_of l'.headers.entries q ≡ (if same_node q n then filter f (s.queue q) else s.queue q)
           queue q = grind (arith, nat_tests, same_node-equal)
 
-      pub turned_agrees : ((u : ℕ) → is_among_waiters u (s.queue n) ≡ true → s.held u n ≡ NL) → (u : ℕ) → Agrees s l.lists.items u
-          → Agrees (state_on g l') l'.lists.items u
-      turned_agrees bare u agree = subst (λ x. Agrees x l'.lists.items u) (sym turning_ends)
-          (agrees_given_up s _ n (is_lost s n f) (λ v h. bare v (lost_stood s o n f v h)) (λ v q. refl) queue (left_txn s o n f) turned_over.lists u agree)
+      pub turned_agrees : ((u : ℕ) → is_among_waiters u (s.queue n) ≡ true → s.held u n ≡ NL) → (u : ℕ) → Agrees (state_in g l') l'.lists.items u
+      turned_agrees bare u = subst (λ x. Agrees x l'.lists.items u) (sym turning_ends)
+          (agrees_given_up s _ n (is_lost s n f) (λ v h. bare v (lost_stood s o n f v h)) (λ v q. refl) queue (left_txn s o n f) turned_over.lists u
+          (agreed.agree u))
         where
           queue : (v : ℕ) (q : NodeId) → is_among_waiters v (if same_node q n then filter f (s.queue q) else s.queue q)
               ≡ (if is_lost s n f v && same_node q n then false else is_among_waiters v (s.queue q))

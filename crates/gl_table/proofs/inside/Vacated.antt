@@ -1,13 +1,14 @@
 -- The locks on a node go: the lists agree. For nodes that are taken away.
-use Rattle.gl_slots.specs.Limit.{most_slots}
-use Rattle.gl_table.proofs.Words.{[], ◌&&◌, ◌+◌, ◌<◌, ◌==◌, ◌||◌, ◌∙◌, ◌≡◌, ◌≤◌, Active, Agrees, and-false, and_both, ap, ap₂, arith, as_left, Bool, CanEnd}
-use Rattle.gl_table.proofs.Words.{CanStrike, children_that, clash, cond, count_by, count_none, count_same, count_there, counted_by, CountsHeld, departed, false}
-use Rattle.gl_table.proofs.Words.{freed, fun_ext, Graph, held_children, holds, if◌then◌else◌, is_among_waiters, is_child, is_live, is_record_shape, is_wait}
-use Rattle.gl_table.proofs.Words.{is_waiting_at, IsBySlot, IsLawfulGraph, IsOrderly, IsWritten, length, List, list_any, live_node, LockList, members, Mode}
-use Rattle.gl_table.proofs.Words.{nat_tests, NL, node_at, NodeId, nodes, nodes_live, None, not, not_true, notices_in, number_same, Option, parent_plain}
-use Rattle.gl_table.proofs.Words.{parents_in, parents_of, rec_live, rec_not_plain, refl, restatus, same_mode, same_node, same_node-equal, same_node-refl}
-use Rattle.gl_table.proofs.Words.{same_number, Seat, shape_of, Some, split, State, status_in, status_of, Strikes, subst, sym, Told, true, Txn, waits_at}
-use Rattle.gl_table.proofs.Words.{was_there, with_grant, without_node, ℕ}
+use Rattle.gl_table.proofs.Words.{[], ◌&&◌, ◌+◌, ◌==◌, ◌||◌, ◌∙◌, ◌≡◌, ◌≤◌, Active, Agrees, and-false, and_both, ap, ap₂, arith, as_left, books_of, Bool}
+use Rattle.gl_table.proofs.Words.{CanEnd, CanStrike, CanTellWaiters, children_that, clash, cond, count_by, count_none, count_same, count_there, counted_by}
+use Rattle.gl_table.proofs.Words.{CountsHeld, departed, false, freed, fun_ext, Graph, graph_of, held_children, holds, if◌then◌else◌, is_among_waiters}
+use Rattle.gl_table.proofs.Words.{is_child, is_live, is_record_shape, is_wait, is_waiting_at, IsLawfulGraph, IsLeftTo, IsWritten, List, list_any, live_node}
+use Rattle.gl_table.proofs.Words.{LockList, MayAct, members, Mode, nat_tests, NL, node_at, NodeId, nodes, nodes_live, None, not, not_true, number_same}
+use Rattle.gl_table.proofs.Words.{Option, parent_plain, parents_in, parents_of, rec_live, rec_not_plain, refl, restatus, same_mode, same_node}
+use Rattle.gl_table.proofs.Words.{same_node-equal, same_node-refl, same_number, shape_of, Some, split, State, state_in, status_in, status_of, Strikes, subst}
+use Rattle.gl_table.proofs.Words.{sym, Told, true, Txn, View, waits_at, was_there, with_grant, without_node, ℕ}
+use Rattle.gl_table.specs.declared.ledger.Ledger.{Ledger}
+use Rattle.gl_table.proofs.inside.Marked.{list_there}
 use Rattle.gl_model.proofs.queues.Counts.{children_down}
 use Rattle.gl_model.proofs.queues.Edits.{freed_other}
 use Rattle.gl_table.proofs.inside.Slots.{none_if, none_more}
@@ -39,19 +40,20 @@ freed_here : (r : NodeId) (x : Option Txn) → waits_at (status_in x) r ≡ true
 freed_here r None h = clash h refl
 freed_here r (Some x) h = grind (arith, nat_tests)
 
--- the slot alone holds the node, nobody holds a child of it, and the lists say what the state says
-pub record MayVacate (s : State) (t : ℕ) (r : NodeId) (ls : List LockList) : Type 0 where
-  pub orderly : IsOrderly s
-  pub law : IsLawfulGraph s.graph
-  pub active : status_of s t ≡ Some Active
-  pub live : is_live s.graph r ≡ true
-  pub childless : (u : ℕ) → held_children s u r ≡ 0
-  pub holding : holds (members s r) t ≡ true
-  pub alone : (u : ℕ) → (u == t) ≡ false → s.held u r ≡ NL
-  pub agree : (u : ℕ) → Agrees s ls u
-  pub count : (u : ℕ) → CountsHeld s ls u
+-- the slot, which may act, alone holds the node, and nobody holds a child of it
+pub record MayVacate (g : View) (l : Ledger) (t : ℕ) (r : NodeId) : Type 0 where
+  pub law : IsLawfulGraph (graph_of g)
+  pub act : MayAct g l t
+  pub left : IsLeftTo (state_in g l) t r
+  pub holding : holds (members (state_in g l) r) t ≡ true
 
-module _ {s : State} {t : ℕ} {r : NodeId} {ls : List LockList} (may : MayVacate s t r ls) where
+module _ {g : View} {l : Ledger} {t : ℕ} {r : NodeId} (may : MayVacate g l t r) where
+  abbrev s : State
+  s = state_in g l
+
+  abbrev ls : List LockList
+  ls = l.lists.items
+
   abbrev after : State
   after = departed s (λ q. same_node q r) s.graph
 
@@ -65,54 +67,58 @@ module _ {s : State} {t : ℕ} {r : NodeId} {ls : List LockList} (may : MayVacat
   -- each parent has one child less that the slot holds
   less : (p : NodeId) → held_children after t p + count_by (same_node p) (parents_of s.graph r) ≡ held_children s t p
   less p =
-      children_down s.graph may.law (λ c. holds (members s c) t) (λ c. holds (members after c) t) r may.live may.holding (gone t)
+      children_down s.graph may.law (λ c. holds (members s c) t) (λ c. holds (members after c) t) r may.left.live may.holding (gone t)
       (λ q e. ap (λ m. not (same_mode m NL)) (held_other t q e)) p
 
   -- and the children that others hold are those that they held
   others : (u : ℕ) → (u == t) ≡ false → (p : NodeId) → held_children after u p ≡ held_children s u p
   others u e p = ap (λ f. children_that s.graph f p) (fun_ext (λ q. ap (λ m. not (same_mode m NL)) (split (same_node q r)
-      (λ k. if-true _ k ∙ sym (ap (s.held u) (same_node-equal q r k) ∙ may.alone u e)) (λ k. held_other u q k))))
+      (λ k. if-true _ k ∙ sym (ap (s.held u) (same_node-equal q r k) ∙ may.left.alone u e)) (λ k. held_other u q k))))
 
-  pub can_strike : t < length ls → CanStrike ls t r (parents_of s.graph r)
-  can_strike lt = record {
-    slot = lt;
-    childless = may.count t r ∙ may.childless t;
-    some = λ q. subst (λ (k : ℕ). count_by (same_node q) (parents_of s.graph r) ≤ k) (sym (may.count t q)) (let l = less q in omega arith);
+  pub can_strike : CanStrike ls t r (parents_of s.graph r)
+  can_strike = record {
+    slot = list_there l (graph_of g) may.act.exact.sound may.act.orderly t may.act.active;
+    childless = may.act.exact.count t r ∙ may.left.childless t;
+    some = λ q. subst (λ (k : ℕ). count_by (same_node q) (parents_of s.graph r) ≤ k) (sym (may.act.exact.count t q)) (let l = less q in omega arith);
   }
 
   pub txns_freed : (u : ℕ) → (if is_among_waiters u (s.queue r) then restatus Active (s.txns u) else s.txns u) ≡ freed r (s.txns u)
-  txns_freed u = split (is_among_waiters u (s.queue r)) (λ e. if-true _ e ∙ sym (freed_here r (s.txns u) (may.orderly.waits_are u r e))) (λ e. if-false _ e
-      ∙ sym (freed_other r (s.txns u) (not_true (is_waiting_at s u r) (λ w. clash (stands_there s may.orderly u r w) e))))
+  txns_freed u = split (is_among_waiters u (s.queue r)) (λ e. if-true _ e ∙ sym (freed_here r (s.txns u) (may.act.orderly.waits_are u r e))) (λ e. if-false _ e
+      ∙ sym (freed_other r (s.txns u) (not_true (is_waiting_at s u r) (λ w. clash (stands_there s may.act.orderly u r w) e))))
 
   waiter_other : (u : ℕ) → is_among_waiters u (s.queue r) ≡ true → (u == t) ≡ false
-  waiter_other u h = stands_other s may.orderly t (ap is_wait may.active) u r h
+  waiter_other u h = stands_other s may.act.orderly t (ap is_wait may.act.active) u r h
 
   module _ {mid : List LockList} (struck : Strikes ls mid t r (parents_of s.graph r)) where
-    pub can_free : (seats : List (Option Seat)) (told : Told) → length seats ≡ s.most → length seats ≤ most_slots → length ls ≡ length seats → IsBySlot told
-        → ((u : ℕ) → is_among_waiters u (s.queue r) ≡ true → notices_in told u ≡ None) → CanEnd (record { seats = seats; lists = mid; told = told }) (s.queue r)
-    can_free seats told most few len by_slot untold = record {
-      kept = record { few = few; len = struck.len ∙ len; by_slot = by_slot };
-      distinct = distinct_once (s.queue r) (λ u h. let w = waits_there s may.orderly u r h in ((u, w.0), (may.orderly.one_wait u r w.0 w.1).0));
-      below = λ u h. subst (λ (k : ℕ). u < k) (sym most) (waiters_below s may.orderly r u h);
-      untold = untold;
+    pub can_free : (told : Told) → CanTellWaiters s r told → CanEnd (books_of l.seats mid told) (s.queue r)
+    can_free told tell = record {
+      kept = record { few = may.act.exact.sound.few; len = struck.len ∙ may.act.exact.sound.lists; by_slot = tell.by_slot };
+      distinct = distinct_once (s.queue r) (λ u h. let w = waits_there s may.act.orderly u r h in ((u, w.0), (may.act.orderly.one_wait u r w.0 w.1).0));
+      below = waiters_below s may.act.orderly r;
+      untold = tell.untold;
     }
 
     pub waiter_childless : (u : ℕ) → is_among_waiters u (s.queue r) ≡ true → counted_by mid u r ≡ 0
     waiter_childless u h = none_more (counted_by mid u r) ∙ ap (λ b. counted_by mid u r + (if b then count_by (same_node r) (parents_of s.graph r) else 0))
-        (sym (waiter_other u h)) ∙ struck.counts u r ∙ may.count u r ∙ may.childless u
+        (sym (waiter_other u h)) ∙ struck.counts u r ∙ may.act.exact.count u r ∙ may.left.childless u
 
     -- once it is struck from its holder's list nobody's list holds it
     struck_agrees : (u : ℕ) → Agrees (with_grant s t r NL) mid u
     struck_agrees u = record {
-      modes = λ q. struck.modes u q ∙ ap (λ m. if (u == t) && same_node q r then NL else m) ((may.agree u).modes q);
-      listed = λ q. struck.listed u q ∙ ap (λ m. if (u == t) && same_node q r then false else m) ((may.agree u).listed q)
+      modes = λ q. struck.modes u q ∙ ap (λ m. if (u == t) && same_node q r then NL else m) ((may.act.exact.agree u).modes q);
+      listed = λ q. struck.listed u q ∙ ap (λ m. if (u == t) && same_node q r then false else m) ((may.act.exact.agree u).listed q)
           ∙ by ((u == t) && same_node q r) (s.held u q) (is_among_waiters u (s.queue q)) (absent q);
       room = λ h. subst (λ (k : ℕ). 9 ≤ k) (sym (struck.rooms u (not_true (u == t) (λ e. clash h (ap (λ v. is_wait (status_of s v)) (same_number u t e)
-          ∙ ap is_wait may.active))))) ((may.agree u).room h);
+          ∙ ap is_wait may.act.active))))) ((may.act.exact.agree u).room h);
     }
       where
         absent : (q : NodeId) → ((u == t) && same_node q r) ≡ true → is_among_waiters u (s.queue q) ≡ false
-        absent q h = grind (arith, nat_tests, same_number u t (and_both (u == t) (same_node q r) h).0, in_no_queue s may.orderly t (ap is_wait may.active) q)
+        absent q h = grind (
+          arith,
+          nat_tests,
+          same_number u t (and_both (u == t) (same_node q r) h).0,
+          in_no_queue s may.act.orderly t (ap is_wait may.act.active) q,
+        )
 
         by : (k : Bool) (m : Mode) (a : Bool) → (k ≡ true → a ≡ false) → (if k then false else (not (same_mode m NL) || a))
             ≡ (not (same_mode (if k then NL else m) NL) || a)
@@ -121,8 +127,8 @@ module _ {s : State} {t : ℕ} {r : NodeId} {ls : List LockList} (may : MayVacat
     module _ {ls' : List LockList} (left : IsWritten mid r (λ u. is_among_waiters u (s.queue r)) as_left ls') where
       pub agrees_vacated : (u : ℕ) → Agrees after ls' u
       agrees_vacated u = agrees_given_up (with_grant s t r NL) after r (λ v. is_among_waiters v (s.queue r))
-          (λ v h. ap (λ b. if b && same_node r r then NL else s.held v r) (waiter_other v h) ∙ may.alone v (waiter_other v h))
-          (λ v q. by (v == t) (same_node q r) (s.held v q) (λ e k. ap (s.held v) (same_node-equal q r k) ∙ may.alone v e))
+          (λ v h. ap (λ b. if b && same_node r r then NL else s.held v r) (waiter_other v h) ∙ may.left.alone v (waiter_other v h))
+          (λ v q. by (v == t) (same_node q r) (s.held v q) (λ e k. ap (s.held v) (same_node-equal q r k) ∙ may.left.alone v e))
           queue (λ v. sym (txns_freed v)) left u (struck_agrees u)
         where
           by : (a k : Bool) (m : Mode) → (a ≡ false → k ≡ true → m ≡ NL) → (if k then NL else m) ≡ (if a && k then NL else m)
@@ -141,14 +147,14 @@ module _ {s : State} {t : ℕ} {r : NodeId} {ls : List LockList} (may : MayVacat
       own_counts : (p : NodeId) → counted_by mid t p ≡ held_children after t p
       own_counts p =
           let now = sym (ap (λ b. counted_by mid t p + (if b then count_by (same_node p) (parents_of s.graph r) else 0)) (number_same t t refl))
-          ∙ struck.counts t p ∙ may.count t p in
+          ∙ struck.counts t p ∙ may.act.exact.count t p in
           let l = less p in
           omega arith
 
       other_counts : (u : ℕ) → (u == t) ≡ false → (p : NodeId) → counted_by mid u p ≡ held_children after u p
       other_counts u e p =
           let now = sym (ap (λ b. counted_by mid u p + (if b then count_by (same_node p) (parents_of s.graph r) else 0)) e) ∙ struck.counts u p
-          ∙ may.count u p in
+          ∙ may.act.exact.count u p in
           let same = others u e p in
           omega arith
 

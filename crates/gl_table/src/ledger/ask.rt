@@ -1,18 +1,14 @@
 //! Asking for a node: granted at once, or queued.
 
-ghost use Rattle.std.specs.Prelude.{◌&&◌, ◌<◌, ◌≡◌, ◌≢◌, IfErr, IfOk, IsOk, OnErr, OnOk, Some, false, length, true};
-ghost use Rattle.gl_graph.specs.Graph.{is_live, parents_of};
-ghost use Rattle.gl_graph.specs.View.{graph_of};
+ghost use Rattle.std.specs.Prelude.{◌&&◌, ◌<◌, ◌≡◌, IfErr, IfOk, IsOk, OnErr, OnOk, false, length, true};
 ghost use Rattle.gl_header.specs.Header.{holds};
 ghost use Rattle.gl_header.specs.Headers.{is_granted_at};
-ghost use Rattle.gl_model.specs.Calls.{asked_at, enqueued, enters_at, granted, wanted};
-ghost use Rattle.gl_model.specs.Lawful.{IsOrderly};
-ghost use Rattle.gl_model.specs.State.{members, status_of};
-ghost use Rattle.gl_model.specs.declared.txn.Status.TheVariants.{Active};
-ghost use Rattle.gl_modes.specs.declared.mode.Mode.TheVariants.{NL};
+ghost use Rattle.gl_model.specs.Calls.{enters_at};
+ghost use Rattle.gl_model.specs.State.{members};
 ghost use Rattle.gl_modes.specs.declared.refusal.Refusal.{Refusal as ARefusal};
 ghost use Rattle.gl_table.specs.inside.Ledger.{AreExact, KeepsLocks, state_in};
-ghost use Rattle.gl_table.specs.inside.Slots.{HasRoomAt, KeepsLists, held_by};
+ghost use Rattle.gl_table.specs.inside.Slots.{HasRoomAt, KeepsLists};
+ghost use Rattle.gl_table.specs.inside.Steps.{CanAsk, HasAsked, HasGrant, MayAct};
 
 use crate::ledger::Ledger;
 use crate::seat::Seat;
@@ -82,19 +78,10 @@ impl Ledger {
         held: Mode,
         parents: &[NodeId],
     ) -> Result<Asked, Refusal>
-        requires exact { AreExact graph.now self.old }
-        requires orderly { IsOrderly (state_in graph.now self.old) }
-        requires active { status_of (state_in graph.now self.old) slot ≡ Some Active }
-        requires live { is_live (graph_of graph.now) node ≡ true }
-        requires lock { mode ≢ NL }
-        requires held { held ≡ held_by self.old.lists.items slot node }
-        requires parents { parents.now ≡ parents_of (graph_of graph.now) node }
+        requires act { MayAct graph.now self.old slot }
+        requires can { CanAsk graph.now self.old slot node mode held parents.now }
         ensures exact { AreExact graph.now self.new }
-        ensures answer { IfOk result (λ asked. asked ≡ asked_at (state_in graph.now self.old) slot node mode) }
-        ensures granted { OnOk result (enters_at (state_in graph.now self.old) slot node mode ≡ true
-            → state_in graph.now self.new ≡ granted (state_in graph.now self.old) slot node mode) }
-        ensures waits { OnOk result (enters_at (state_in graph.now self.old) slot node mode ≡ false
-            → state_in graph.now self.new ≡ enqueued (state_in graph.now self.old) slot node (wanted (state_in graph.now self.old) slot node mode)) }
+        ensures asked { IfOk result (λ asked. HasAsked (state_in graph.now self.old) (state_in graph.now self.new) slot node mode asked) }
         ensures err { OnErr result (KeepsLocks self.old self.new) }
         ensures no_memory { IfErr result (λ refusal. refusal ≡ ARefusal.NoMemory) }
         ensures held { holds (members (state_in graph.now self.old) node) slot ≡ true
@@ -136,17 +123,11 @@ impl Ledger {
         held: Mode,
         parents: &[NodeId],
     ) -> Result<Mode, Refusal>
-        requires exact { AreExact graph.now self.old }
-        requires orderly { IsOrderly (state_in graph.now self.old) }
-        requires active { status_of (state_in graph.now self.old) slot ≡ Some Active }
-        requires live { is_live (graph_of graph.now) node ≡ true }
-        requires lock { mode ≢ NL }
-        requires held { held ≡ held_by self.old.lists.items slot node }
-        requires parents { parents.now ≡ parents_of (graph_of graph.now) node }
+        requires act { MayAct graph.now self.old slot }
+        requires can { CanAsk graph.now self.old slot node mode held parents.now }
         requires enters { enters_at (state_in graph.now self.old) slot node mode ≡ true }
         ensures exact { AreExact graph.now self.new }
-        ensures mode { IfOk result (λ m. m ≡ wanted (state_in graph.now self.old) slot node mode) }
-        ensures state { OnOk result (state_in graph.now self.new ≡ granted (state_in graph.now self.old) slot node mode) }
+        ensures granted { IfOk result (λ given. HasGrant (state_in graph.now self.old) (state_in graph.now self.new) slot node mode given) }
         ensures err { OnErr result (KeepsLocks self.old self.new) }
         ensures no_memory { IfErr result (λ refusal. refusal ≡ ARefusal.NoMemory) }
         ensures held { holds (members (state_in graph.now self.old) node) slot ≡ true → IsOk result }

@@ -1,17 +1,19 @@
 //! Nodes leave the list of a slot: one by one, all of them, or those that are covered.
 
+<<<<<<< HEAD
 ghost use Rattle.std.specs.Prelude.{ℕ, ◌<◌, ◌==◌, ◌≡◌, None, Some, false, length};
 ghost use Rattle.gl_header.specs.Header.{is_among_waiters};
 ghost use Rattle.gl_lock_lists.specs.Lists.{mode_of};
 ghost use Rattle.gl_model.specs.Calls.{released, shed};
+=======
+ghost use Rattle.std.specs.Prelude.{◌<◌, ◌==◌, ◌≡◌, Some, false, length};
+>>>>>>> b24fbf346ffdc8bcf211ffca02c6822b4a2c8f84
 ghost use Rattle.gl_model.specs.Lawful.{IsOrderly};
-ghost use Rattle.gl_model.specs.State.{is_wait, status_of, with_txn};
-ghost use Rattle.gl_model.specs.Tellings.{notices_in, told};
+ghost use Rattle.gl_model.specs.State.{is_wait, status_of};
 ghost use Rattle.gl_model.specs.declared.txn.Status.TheVariants.{Active};
-ghost use Rattle.gl_modes.specs.declared.mode.Mode.TheVariants.{NL};
-ghost use Rattle.gl_modes.specs.declared.node.NodeId.{NodeId as Node};
-ghost use Rattle.gl_table.specs.inside.Ledger.{Agrees, AreExact, AreSound, CountsHeld, state_in};
-ghost use Rattle.gl_table.specs.inside.Slots.{AreKept, CanStrike, CanTell, IsShedding, Strikes, TellsOthers, WaitsEnd, as_left, books_of, counted_by, room_by};
+ghost use Rattle.gl_table.specs.inside.Ledger.{AreExact, state_in};
+ghost use Rattle.gl_table.specs.inside.Steps.{AreExactFor, CanEndAt, HasLeftAll, IsReleased};
+ghost use Rattle.gl_table.specs.inside.Slots.{CanStrike, CanTell, IsShedding, Strikes, TellsOthers, WaitsEnd, as_left, books_of, counted_by, room_by};
 
 use crate::ledger::Ledger;
 use crate::seats::Seats;
@@ -44,10 +46,8 @@ pub(crate) fn end_wait(
     node: NodeId,
     why: Notice,
 )
-    requires kept { AreKept (books_of seats.old lists.old.items told.old.items) }
-    requires seated { slot < length seats.old.items }
+    requires can { CanEndAt (books_of seats.old lists.old.items told.old.items) slot }
     requires room { 0 < counted_by lists.old.items slot node → 0 < room_by lists.old.items slot }
-    requires untold { notices_in told.old.items slot ≡ None }
     ensures { WaitsEnd (books_of seats.old lists.old.items told.old.items) node (λ u. u == slot) as_left (λ u. why)
         (books_of seats.new lists.new.items told.new.items) }
 {
@@ -64,14 +64,8 @@ impl Ledger {
         requires seated { slot < length self.old.seats.items }
         requires quiet { is_wait (status_of (state_in graph.now self.old) slot) ≡ false }
         requires tell { CanTell told.old.items (λ u. is_wait (status_of (state_in graph.now self.old) u)) }
-        ensures sound { AreSound self.new }
-        ensures orderly { IsOrderly (state_in graph.now self.new) }
-        ensures len { length self.new.seats.items ≡ length self.old.seats.items }
-        ensures state { released (state_in graph.now self.old) slot ≡ with_txn (state_in graph.now self.new) slot None }
-        ensures free { (n : Node) → (state_in graph.now self.new).held slot n ≡ NL }
-        ensures out { (n : Node) → is_among_waiters slot ((state_in graph.now self.new).queue n) ≡ false }
-        ensures agree { (u : ℕ) → (u == slot) ≡ false → Agrees (state_in graph.now self.new) self.new.lists.items u }
-        ensures count { (u : ℕ) → (u == slot) ≡ false → CountsHeld (state_in graph.now self.new) self.new.lists.items u }
+        ensures others { AreExactFor graph.now self.new (λ u. (u == slot) ≡ false) }
+        ensures left { HasLeftAll (state_in graph.now self.old) (state_in graph.now self.new) slot }
         ensures tells { TellsOthers slot (state_in graph.now self.old) (state_in graph.now self.new) told.old.items told.new.items }
     {
         graph.law();
@@ -90,21 +84,12 @@ impl Ledger {
         list: &mut LockList,
         told: &mut Told,
     )
-        requires sound { AreSound self.old }
-        requires orderly { IsOrderly (state_in graph.now self.old) }
-        requires agree { (u : ℕ) → (u == slot) ≡ false → Agrees (state_in graph.now self.old) self.old.lists.items u }
-        requires count { (u : ℕ) → (u == slot) ≡ false → CountsHeld (state_in graph.now self.old) self.old.lists.items u }
+        requires others { AreExactFor graph.now self.old (λ u. (u == slot) ≡ false) }
         requires active { status_of (state_in graph.now self.old) slot ≡ Some Active }
         requires marked { IsShedding (state_in graph.now self.old) (state_in graph.now self.old) slot node list.old }
         requires tell { CanTell told.old.items (λ u. is_wait (status_of (state_in graph.now self.old) u)) }
-        ensures sound { AreSound self.new }
-        ensures orderly { IsOrderly (state_in graph.now self.new) }
-        ensures state { state_in graph.now self.new ≡ shed (state_in graph.now self.old) slot node }
-        ensures agree { (u : ℕ) → (u == slot) ≡ false → Agrees (state_in graph.now self.new) self.new.lists.items u }
-        ensures count { (u : ℕ) → (u == slot) ≡ false → CountsHeld (state_in graph.now self.new) self.new.lists.items u }
-        ensures active { status_of (state_in graph.now self.new) slot ≡ Some Active }
-        ensures marked { IsShedding (state_in graph.now self.old) (state_in graph.now self.new) slot node list.new }
-        ensures modes { (q : Node) → mode_of list.new q ≡ (state_in graph.now self.new).held slot q }
+        ensures others { AreExactFor graph.now self.new (λ u. (u == slot) ≡ false) }
+        ensures released { IsReleased (state_in graph.now self.old) (state_in graph.now self.new) slot node list.new }
         ensures tells { TellsOthers slot (state_in graph.now self.old) (state_in graph.now self.new) told.old.items told.new.items }
     {
         graph.law();

@@ -1,26 +1,33 @@
 //! A node that moved: what follows for who moved it, and for those who wait on it.
 
-ghost use Rattle.std.specs.Prelude.{◌≡◌, ◌<◌, ◌≤◌, ◌+◌, ◌^◌, ◌&&◌, ◌==◌, [], ℕ, None, Some, if◌then◌else◌, length, not, true};
-ghost use Rattle.std.specs.List.{count_by, filter, list_all};
+ghost use Rattle.std.specs.Prelude.{◌≡◌, ◌<◌, ◌≤◌, ◌+◌, ◌^◌, ◌==◌, [], ℕ, if◌then◌else◌, not, true};
+ghost use Rattle.std.specs.List.{count_by, filter};
 ghost use Rattle.gl_modes.specs.declared.mode.Mode.TheVariants.{NL};
 ghost use Rattle.gl_modes.specs.declared.node.NodeId.{NodeId as Node};
 ghost use Rattle.gl_modes.specs.Nodes.{same_node};
 ghost use Rattle.gl_graph.specs.Graph.{parents_of};
 ghost use Rattle.gl_graph.specs.View.{graph_of};
-ghost use Rattle.gl_header.specs.Header.{fits, front, holds, is_among_waiters, without_waiter};
+ghost use Rattle.gl_header.specs.Header.{front, is_among_waiters, without_waiter};
 ghost use Rattle.gl_header.specs.State.{slot_limit};
 ghost use Rattle.gl_slots.specs.Slots.{has_slot};
 ghost use Rattle.gl_model.specs.declared.answers.Notice.TheVariants as notice;
-ghost use Rattle.gl_model.specs.Calls.{moved_to, stays};
+ghost use Rattle.gl_model.specs.Calls.{stays};
 ghost use Rattle.gl_header.specs.Headers.{held_of, members_at, queue_of, with_waiters};
-ghost use Rattle.gl_model.specs.State.{intends_over, members};
+ghost use Rattle.gl_model.specs.State.{intends_over};
 ghost use Rattle.indexmap.specs.IndexMap.{spare};
 ghost use Rattle.gl_modes.specs.Modes.{same_mode};
+<<<<<<< HEAD
 ghost use Rattle.gl_lock_lists.specs.Lists.{count_of, is_listed, mode_of, unlisted};
 ghost use Rattle.gl_table.specs.inside.Ledger.{Agrees, AreSound, state_in};
 ghost use Rattle.gl_model.specs.Lawful.{IsOrderly};
 ghost use Rattle.gl_table.specs.inside.Slots.{AreKept, CanTell, WaitsEnd, as_left, books_of, counted_by, room_by, unlisted_by};
 ghost use Rattle.gl_model.specs.Tellings.{IsTold, notices_in};
+=======
+ghost use Rattle.gl_lock_lists.specs.Lists.{count_of, is_listed, mode_of, unlisted};
+ghost use Rattle.gl_table.specs.inside.Ledger.{state_in};
+ghost use Rattle.gl_table.specs.inside.Steps.{AreAgreed, AreShutOut, CanEndAt, CanRecount, CanTellWaiters, HasMoved, Recounts};
+ghost use Rattle.gl_table.specs.inside.Slots.{WaitsEnd, as_left, books_of, counted_by, room_by};
+>>>>>>> b24fbf346ffdc8bcf211ffca02c6822b4a2c8f84
 
 use crate::ledger::Ledger;
 use crate::ledger::leave::end_wait;
@@ -88,29 +95,12 @@ impl Ledger {
         old: &[NodeId],
     )
         requires empty { told.old.items ≡ [] }
-        requires sound { AreSound self.old }
-        requires orderly { IsOrderly (state_in graph.now self.old) }
-        requires agree { (u : ℕ) → Agrees (state_in graph.now self.old) self.old.lists.items u }
-        requires slot { slot < length self.old.lists.items }
-        requires newcomers { (u : ℕ) → is_among_waiters u ((state_in graph.now self.old).queue node) ≡ true → (state_in graph.now self.old).held u node ≡ NL }
-        requires stuck { list_all (λ w. not (fits slot_limit (members (state_in graph.now self.old) node) w.0 w.1))
-            ((state_in graph.now self.old).queue node) ≡ true }
-        requires counted { holds (members (state_in graph.now self.old) node) slot ≡ true → (q : Node)
-            → count_by (same_node q) old.now ≤ counted_by self.old.lists.items slot q }
-        requires listed { unlisted_by self.old.lists.items slot (parents_of (graph_of graph.now) node) ≡ 0 }
-        requires few { (q : Node) → counted_by self.old.lists.items slot q + count_by (same_node q) (parents_of (graph_of graph.now) node) < 2 ^ 32 }
-        ensures sound { AreSound self.new }
-        ensures state { state_in graph.now self.new ≡ moved_to (state_in graph.now self.old) node (parents_of (graph_of graph.now) node) (graph_of graph.now) }
-        ensures agree { (u : ℕ) → Agrees (state_in graph.now self.new) self.new.lists.items u }
-        ensures counts { (u : ℕ) (q : Node) →
-            counted_by self.new.lists.items u q + (if (u == slot) && holds (members (state_in graph.now self.old) node) slot
-            then count_by (same_node q) old.now else 0)
-            ≡ counted_by self.old.lists.items u q + (if (u == slot) && holds (members (state_in graph.now self.old) node) slot
-            then count_by (same_node q) (parents_of (graph_of graph.now) node) else 0) }
-        ensures tells { IsTold (state_in graph.now self.old).txns
-            (λ u. is_among_waiters u (filter (λ w. not (stays (state_in graph.now self.old) (parents_of (graph_of graph.now) node) w))
-            ((state_in graph.now self.old).queue node)))
-            (λ u. notice.Moved) [] told.new.items }
+        requires agreed { AreAgreed graph.now self.old }
+        requires shut_out { AreShutOut (state_in graph.now self.old) node }
+        requires recount { CanRecount (state_in graph.now self.old) self.old.lists.items slot node old.now (parents_of (graph_of graph.now) node) }
+        ensures moved { HasMoved graph.now node self.old self.new [] told.new.items }
+        ensures counts { Recounts (state_in graph.now self.old) self.old.lists.items slot node old.now (parents_of (graph_of graph.now) node)
+            self.new.lists.items }
     {
         let list = &mut self.lists[slot as usize];
         recount(list, node, old, graph.parents(node));
@@ -120,21 +110,11 @@ impl Ledger {
     /// Ends the waits on a node that do not meet the rule of the graph: who waited so is active, and
     /// told that the node moved. The others keep their order. No waiter fits, so nobody is granted.
     fn turn_away(&mut self, graph: &Graph, node: NodeId, told: &mut Told)
-        requires sound { AreSound self.old }
-        requires orderly { IsOrderly (state_in graph.now self.old) }
-        requires agree { (u : ℕ) → Agrees (state_in graph.now self.old) self.old.lists.items u }
-        requires newcomers { (u : ℕ) → is_among_waiters u ((state_in graph.now self.old).queue node) ≡ true → (state_in graph.now self.old).held u node ≡ NL }
-        requires stuck { list_all (λ w. not (fits slot_limit (members (state_in graph.now self.old) node) w.0 w.1))
-            ((state_in graph.now self.old).queue node) ≡ true }
-        requires tell { CanTell told.old.items (λ u. is_among_waiters u ((state_in graph.now self.old).queue node)) }
-        ensures sound { AreSound self.new }
-        ensures state { state_in graph.now self.new ≡ moved_to (state_in graph.now self.old) node (parents_of (graph_of graph.now) node) (graph_of graph.now) }
-        ensures agree { (u : ℕ) → Agrees (state_in graph.now self.new) self.new.lists.items u }
+        requires agreed { AreAgreed graph.now self.old }
+        requires shut_out { AreShutOut (state_in graph.now self.old) node }
+        requires tell { CanTellWaiters (state_in graph.now self.old) node told.old.items }
+        ensures moved { HasMoved graph.now node self.old self.new told.old.items told.new.items }
         ensures counts { (u : ℕ) (q : Node) → counted_by self.new.lists.items u q ≡ counted_by self.old.lists.items u q }
-        ensures tells { IsTold (state_in graph.now self.old).txns
-            (λ u. is_among_waiters u (filter (λ w. not (stays (state_in graph.now self.old) (parents_of (graph_of graph.now) node) w))
-            ((state_in graph.now self.old).queue node)))
-            (λ u. notice.Moved) told.old.items told.new.items }
     {
         let mut strays = self.strays(graph, node);
         while let Some(slot) = strays.take_lowest() {
@@ -144,9 +124,7 @@ impl Ledger {
 
     /// The slots that wait on a node for a mode that does not meet the rule of the graph.
     fn strays(&self, graph: &Graph, node: NodeId) -> Slots
-        requires sound { AreSound self.now }
-        requires orderly { IsOrderly (state_in graph.now self.now) }
-        requires agree { (u : ℕ) → Agrees (state_in graph.now self.now) self.now.lists.items u }
+        requires agreed { AreAgreed graph.now self.now }
         ensures { (u : ℕ) → has_slot result u ≡ is_among_waiters u
             (filter (λ w. not (stays (state_in graph.now self.now) (parents_of (graph_of graph.now) node) w)) (queue_of self.now.headers.entries node)) }
     {
@@ -163,12 +141,10 @@ impl Ledger {
     /// Ends a wait of a slot that holds nothing on the node, where nobody at the front of what is left
     /// can be granted. The slot is active, and told that the node moved.
     fn turn_one_away(&mut self, slot: Slot, node: NodeId, told: &mut Told)
-        requires kept { AreKept (books_of self.old.seats self.old.lists.items told.old.items) }
-        requires seated { slot < length self.old.seats.items }
+        requires can { CanEndAt (books_of self.old.seats self.old.lists.items told.old.items) slot }
         requires waits { is_among_waiters slot (queue_of self.old.headers.entries node) ≡ true }
         requires front_waits { front slot_limit (members_at self.old.headers.entries node) (without_waiter slot (queue_of self.old.headers.entries node)) ≡ [] }
         requires room { 9 ≤ room_by self.old.lists.items slot }
-        requires untold { notices_in told.old.items slot ≡ None }
         ensures held { held_of self.new.headers.entries ≡ held_of self.old.headers.entries }
         ensures queue { queue_of self.new.headers.entries ≡ with_waiters (queue_of self.old.headers.entries) node
             (without_waiter slot (queue_of self.old.headers.entries node)) }

@@ -1,25 +1,19 @@
 //! Locks on records that come and go.
 
 ghost use Rattle.gl_slots.specs.Limit.{most_slots};
-ghost use Rattle.std.specs.Prelude.{◌≡◌, ◌≢◌, ◌<◌, ◌==◌, ℕ, [], IfErr, IfOk, None, OnOk, Some, false, length, true};
+ghost use Rattle.std.specs.Prelude.{◌≡◌, ◌≢◌, ◌<◌, ℕ, [], IfErr, IfOk, length, true};
 ghost use Rattle.gl_modes.specs.Nodes.{same_node};
 ghost use Rattle.gl_modes.specs.declared.mode.Mode.TheVariants.{NL};
 ghost use Rattle.gl_modes.specs.declared.refusal.Refusal.{Refusal as ARefusal};
-ghost use Rattle.gl_graph.specs.Graph.{is_child, is_live, shape_of};
-ghost use Rattle.gl_graph.specs.Refusals.{is_in_use};
-ghost use Rattle.gl_graph.specs.Shapes.{is_movable_shape};
 ghost use Rattle.gl_graph.specs.View.{graph_of};
 ghost use Rattle.gl_header.specs.Header.{holds, is_among_waiters};
-ghost use Rattle.gl_model.specs.Calls.{departed, goes_with, held_children};
-ghost use Rattle.gl_modes.specs.declared.node.NodeId.{NodeId as Node};
-ghost use Rattle.gl_table.specs.inside.Slots.{CanEnd, CanTell, HasRoomAt, WaitsEnd, as_left, books_of, counted_by};
-ghost use Rattle.gl_model.specs.Tellings.{IsBySlot, IsTold, notices_in};
-ghost use Rattle.gl_table.specs.inside.Ledger.{Agrees, AreExact, AreSound, CountsHeld, KeepsLocks, state_in};
-ghost use Rattle.gl_model.specs.Lawful.{IsOrderly};
-ghost use Rattle.gl_header.specs.Headers.{IsOneHolder};
-ghost use Rattle.gl_model.specs.State.{members, status_of, with_grant};
+ghost use Rattle.gl_model.specs.Calls.{departed, goes_with};
+ghost use Rattle.gl_table.specs.inside.Slots.{CanEnd, WaitsEnd, as_left, books_of, counted_by};
+ghost use Rattle.gl_model.specs.Tellings.{IsBySlot, notices_in};
+ghost use Rattle.gl_table.specs.inside.Ledger.{AreExact, KeepsLocks, state_in};
+ghost use Rattle.gl_table.specs.inside.Steps.{CanTellWaiters, IsBranchLeftTo, IsFresh, IsLeftTo, IsPrepared, MayAct, TellsGone};
+ghost use Rattle.gl_model.specs.State.{members, with_grant};
 ghost use Rattle.gl_model.specs.declared.answers.Notice.TheVariants as notice;
-ghost use Rattle.gl_model.specs.declared.txn.Status.TheVariants.{Active};
 
 use crate::ledger::Ledger;
 use crate::ledger::ask::make_room;
@@ -56,20 +50,13 @@ impl Ledger {
     /// Takes all locks on a node away that an active slot holds and nobody else, and of which nobody holds a
     /// child. Those who wait for it are active again, and are told that it is gone.
     pub(crate) fn vacate(&mut self, graph: &Graph, slot: Slot, node: NodeId, told: &mut Told)
-        requires exact { AreExact graph.now self.old }
-        requires orderly { IsOrderly (state_in graph.now self.old) }
-        requires active { status_of (state_in graph.now self.old) slot ≡ Some Active }
-        requires live { is_live (graph_of graph.now) node ≡ true }
-        requires childless { (u : ℕ) → held_children (state_in graph.now self.old) u node ≡ 0 }
+        requires act { MayAct graph.now self.old slot }
+        requires left { IsLeftTo (state_in graph.now self.old) slot node }
         requires holds { holds (members (state_in graph.now self.old) node) slot ≡ true }
-        requires alone { (u : ℕ) → (u == slot) ≡ false → (state_in graph.now self.old).held u node ≡ NL }
-        requires tell { CanTell told.old.items (λ u. is_among_waiters u ((state_in graph.now self.old).queue node)) }
+        requires tell { CanTellWaiters (state_in graph.now self.old) node told.old.items }
+        ensures exact { AreExact graph.now self.new }
         ensures state { state_in graph.now self.new ≡ departed (state_in graph.now self.old) (λ q. same_node q node) (graph_of graph.now) }
-        ensures sound { AreSound self.new }
-        ensures agree { (u : ℕ) → Agrees (departed (state_in graph.now self.old) (λ q. same_node q node) (graph_of graph.now)) self.new.lists.items u }
-        ensures count { (u : ℕ) → CountsHeld (departed (state_in graph.now self.old) (λ q. same_node q node) (graph_of graph.now)) self.new.lists.items u }
-        ensures tells { IsTold (state_in graph.now self.old).txns (λ u. is_among_waiters u ((state_in graph.now self.old).queue node))
-            (λ u. notice.Gone) told.old.items told.new.items }
+        ensures tells { TellsGone (state_in graph.now self.old) node told.old.items told.new.items }
     {
         graph.law();
         strike(&mut self.lists, slot, node, graph.parents(node));
@@ -84,12 +71,8 @@ impl Ledger {
     /// Takes the lock on a node away that an active slot may hold, and nobody else. Nobody waits for the node or
     /// holds a child of it, so nobody is told.
     fn clear(&mut self, graph: &Graph, slot: Slot, node: NodeId, told: &mut Told)
-        requires exact { AreExact graph.now self.old }
-        requires orderly { IsOrderly (state_in graph.now self.old) }
-        requires active { status_of (state_in graph.now self.old) slot ≡ Some Active }
-        requires live { is_live (graph_of graph.now) node ≡ true }
-        requires childless { (u : ℕ) → held_children (state_in graph.now self.old) u node ≡ 0 }
-        requires alone { (u : ℕ) → (u == slot) ≡ false → (state_in graph.now self.old).held u node ≡ NL }
+        requires act { MayAct graph.now self.old slot }
+        requires left { IsLeftTo (state_in graph.now self.old) slot node }
         requires unawaited { (state_in graph.now self.old).queue node ≡ [] }
         requires by_slot { IsBySlot told.old.items }
         ensures exact { AreExact graph.now self.new }
@@ -106,20 +89,12 @@ impl Ledger {
     /// intervals. An active slot holds the node, nobody else holds any of them, and nobody waits for a child.
     /// Those who wait for the node are active again, and are told that it is gone.
     pub(crate) fn vacate_branch(&mut self, graph: &Graph, slot: Slot, node: NodeId, told: &mut Told)
-        requires exact { AreExact graph.now self.old }
-        requires orderly { IsOrderly (state_in graph.now self.old) }
-        requires active { status_of (state_in graph.now self.old) slot ≡ Some Active }
-        requires movable { is_movable_shape (shape_of (graph_of graph.now) node) ≡ true }
-        requires free { is_in_use (graph_of graph.now) node ≡ false }
-        requires holds { holds (members (state_in graph.now self.old) node) slot ≡ true }
-        requires alone { (u : ℕ) (q : Node) → (u == slot) ≡ false → goes_with (graph_of graph.now) node q ≡ true
-            → (state_in graph.now self.old).held u q ≡ NL }
-        requires unawaited { (q : Node) → is_child (graph_of graph.now) node q ≡ true → (state_in graph.now self.old).queue q ≡ [] }
-        requires tell { CanTell told.old.items (λ u. is_among_waiters u ((state_in graph.now self.old).queue node)) }
+        requires act { MayAct graph.now self.old slot }
+        requires branch { IsBranchLeftTo (state_in graph.now self.old) slot node }
+        requires tell { CanTellWaiters (state_in graph.now self.old) node told.old.items }
         ensures exact { AreExact graph.now self.new }
         ensures state { state_in graph.now self.new ≡ departed (state_in graph.now self.old) (goes_with (graph_of graph.now) node) (graph_of graph.now) }
-        ensures tells { IsTold (state_in graph.now self.old).txns (λ u. is_among_waiters u ((state_in graph.now self.old).queue node))
-            (λ u. notice.Gone) told.old.items told.new.items }
+        ensures tells { TellsGone (state_in graph.now self.old) node told.old.items told.new.items }
     {
         graph.law();
         for interval in graph.intervals(node) {
@@ -140,10 +115,8 @@ impl Ledger {
         requires slot { slot < length self.old.lists.items }
         requires below { slot < most_slots }
         requires lock { mode ≢ NL }
-        ensures header { IfOk result (λ prepared. IsOneHolder prepared slot mode) }
+        ensures ready { IfOk result (λ prepared. IsPrepared self.new slot key mode prepared) }
         ensures kept { KeepsLocks self.old self.new }
-        ensures headers_room { OnOk result (key < self.new.headers.room) }
-        ensures lists_room { OnOk result (HasRoomAt self.new.lists.items slot) }
         ensures no_memory { IfErr result (λ refusal. refusal ≡ ARefusal.NoMemory) }
     {
         make_room(&mut self.lists, slot)?;
@@ -160,16 +133,10 @@ impl Ledger {
         mode: Mode,
         prepared: Prepared,
     )
-        requires exact { AreExact graph.now self.old }
-        requires orderly { IsOrderly (state_in graph.now self.old) }
-        requires active { status_of (state_in graph.now self.old) slot ≡ Some Active }
-        requires live { is_live (graph_of graph.now) node ≡ true }
-        requires unheld { (u : ℕ) → (state_in graph.now self.old).held u node ≡ NL }
-        requires unawaited { (state_in graph.now self.old).queue node ≡ [] }
+        requires act { MayAct graph.now self.old slot }
+        requires fresh { IsFresh (state_in graph.now self.old) node }
         requires lock { mode ≢ NL }
-        requires header { IsOneHolder prepared slot mode }
-        requires headers_room { node.key < self.old.headers.room }
-        requires lists_room { HasRoomAt self.old.lists.items slot }
+        requires ready { IsPrepared self.old slot node.key mode prepared }
         ensures exact { AreExact graph.now self.new }
         ensures state { state_in graph.now self.new ≡ with_grant (state_in graph.now self.old) slot node mode }
     {

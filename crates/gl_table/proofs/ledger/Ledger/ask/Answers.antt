@@ -1,10 +1,10 @@
-use Rattle.gl_table.proofs.Words.{◌&&◌, ◌+◌, ◌<◌, ◌^◌, ◌∙◌, ◌≡◌, ◌≤◌, Agrees, and-false, ap, ap₂, AreHeaders, arith, Asked, asked_at, clash, count_by, count_of}
-use Rattle.gl_table.proofs.Words.{CountsHeld, enters_at, false, graph_of, held_of, holds, if◌then◌else◌, is_granted_at, members, mode_of, NL, not, not-false}
-use Rattle.gl_table.proofs.Words.{not-true, parents_of, refl, rules, same_mode, same_node, spare, state_in, subst, supremum, sym, true, unlisted, wanted}
-use Rattle.gl_table.proofs.Words.{with_item, ℕ}
+use Rattle.gl_table.proofs.Words.{◌&&◌, ◌+◌, ◌<◌, ◌^◌, ◌∙◌, ◌≡◌, ◌≤◌, Agrees, and-false, ap, ap₂, AreHeaders, arith, Asked, asked_at, clash, count_by}
+use Rattle.gl_table.proofs.Words.{count_of, CountsHeld, enters_at, false, graph_of, held_of, holds, if◌then◌else◌, is_granted_at, MayAct, members, mode_of}
+use Rattle.gl_table.proofs.Words.{NL, not, not-false, not-true, parents_of, refl, rules, same_mode, same_node, spare, state_in, subst, supremum, sym, true}
+use Rattle.gl_table.proofs.Words.{unlisted, wanted, with_item, ℕ}
 use Rattle.gl_header.specs.declared.header.Asked.TheVariants as asked
 use Rattle.gl_table.specs.declared.ledger.Ledger.{Ledger}
-use Rattle.gl_table.proofs.inside.Asks.{answer-enters, answer-waits, is_granted, IsGranted, MayAsk, own-few, own-listed, own-mode, own-room}
+use Rattle.gl_table.proofs.inside.Asks.{answer-enters, answer-waits, is_granted, IsGranted, own-few, own-listed, own-mode, own-room}
 use Rattle.gl_table.proofs.inside.Asks.{parents-room, roomy_may, roomy_ready, roomy_same, roomy_says, says_is, slot-listed, state-same}
 use Rattle.gl_table.proofs.inside.Enqueues.{has_wait-set, HasWait, is_enqueued, IsEnqueued}
 use Rattle.gl_table.proofs.inside.Asks.{its_key}
@@ -14,32 +14,23 @@ use Rattle.gl_table.proofs.ledger.Ledger.ask.Goals.{After-make_room_to_ask, Afte
 use Rattle.gl_table.proofs.ledger.Ledger.ask.Goals.{else-not-is_member}
 use Rattle.gl_table.proofs.ledger.Ledger.ask.Goals as goal
 
-may : (c : After-make_room_to_ask) → MayAsk (graph_of c.args.graph.now) c.args.self.now c.args.slot
-may c = record {
-  sound = c.requires.exact.sound;
-  orderly = c.requires.orderly;
-  agree = c.requires.exact.agree;
-  count = c.requires.exact.count;
-  active = c.requires.active;
-}
-
 -- whether the slot holds the node, as its list says
 member_is : (c : After-make_room_to_ask) → c.ne-is_member.result ≡ holds (members (state_in c.args.graph.now c.args.self.now) c.args.node) c.args.slot
 member_is c =
     let is : c.ne-is_member.result ≡ not (same_mode c.args.held NL) = search rules in
-    is ∙ ap (λ m. not (same_mode m NL)) (c.requires.held ∙ (c.requires.exact.agree c.args.slot).modes c.args.node)
+    is ∙ ap (λ m. not (same_mode m NL)) (c.requires.can.held_is ∙ (c.requires.act.exact.agree c.args.slot).modes c.args.node)
 
 -- with the room that was made, all is as it was
 
-may_now : (c : After-make_room_to_ask) → MayAsk (graph_of c.args.graph.now) c.make_room_to_ask.new.self c.args.slot
-may_now c = roomy_may c.make_room_to_ask.new.self (may c) c.make_room_to_ask.ensures.rest c.make_room_to_ask.ensures.kept
+may_now : (c : After-make_room_to_ask) → MayAct c.args.graph.now c.make_room_to_ask.new.self c.args.slot
+may_now c = roomy_may c.make_room_to_ask.new.self c.requires.act c.make_room_to_ask.ensures.rest c.make_room_to_ask.ensures.kept
 
 same : (c : After-make_room_to_ask) → state_in c.args.graph.now c.make_room_to_ask.new.self ≡ state_in c.args.graph.now c.args.self.now
-same c = roomy_same c.make_room_to_ask.new.self (may c) c.make_room_to_ask.ensures.rest c.make_room_to_ask.ensures.kept
+same c = roomy_same c.make_room_to_ask.new.self c.requires.act c.make_room_to_ask.ensures.rest c.make_room_to_ask.ensures.kept
 
 says : (c : After-make_room_to_ask) → is_granted_at c.make_room_to_ask.new.self.headers.entries c.args.slot c.args.node c.args.mode
     ≡ enters_at (state_in c.args.graph.now c.args.self.now) c.args.slot c.args.node c.args.mode
-says c = roomy_says c.make_room_to_ask.new.self (may c) c.make_room_to_ask.ensures.rest c.make_room_to_ask.ensures.kept c.args.node c.args.mode
+says c = roomy_says c.make_room_to_ask.new.self c.requires.act c.make_room_to_ask.ensures.rest c.make_room_to_ask.ensures.kept c.args.node c.args.mode
 
 member_now : (c : After-make_room_to_ask) → holds (members (state_in c.args.graph.now c.make_room_to_ask.new.self) c.args.node) c.args.slot
     ≡ c.ne-is_member.result
@@ -57,28 +48,28 @@ pub ask-requires-clause-alone : goal.ask-requires-clause-alone
 ask-requires-clause-alone c = let p = (goal.at.ask-requires-clause-alone c).After-make_room_to_ask in
     its_key c.make_room_to_ask.new.self
     (subst AreHeaders (sym (ap (λ (x : Ledger). x.headers.entries) c.make_room_to_ask.ensures.rest)) c.law-2.ensures.headers) (may_now p).orderly
-    c.law.ensures.lawful c.args.node c.requires.live
+    c.law.ensures.lawful c.args.node c.requires.can.live
 
 -- the refusals
 
 pub returns-in_err-make_room_to_ask-clause-exact : goal.returns-in_err-make_room_to_ask-clause-exact
 returns-in_err-make_room_to_ask-clause-exact c = let m = may_now (goal.at.returns-in_err-make_room_to_ask-clause-exact c).After-make_room_to_ask in
-    record { sound = m.sound; agree = m.agree; count = m.count }
+    m.exact
 
 pub returns-in_err-make_room_to_ask-clause-held : goal.returns-in_err-make_room_to_ask-clause-held
 returns-in_err-make_room_to_ask-clause-held c =
     let p = (goal.at.returns-in_err-make_room_to_ask-clause-held c).After-make_room_to_ask in
     λ h e. clash (c.in_err-make_room_to_ask.ensures.at_once
-    (ap₂ (λ x y. x && y) (member_is p ∙ h) (says_is (graph_of c.args.graph.now) c.args.self.now c.args.slot c.args.node c.args.mode (may p) ∙ e))) refl
+    (ap₂ (λ x y. x && y) (member_is p ∙ h) (says_is c.args.graph.now c.args.self.now c.args.slot c.args.node c.args.mode c.requires.act ∙ e))) refl
 
 pub returns-in_err-asked-clause-exact : goal.returns-in_err-asked-clause-exact
 returns-in_err-asked-clause-exact c =
     let m = may_now (goal.at.returns-in_err-asked-clause-exact c).After-make_room_to_ask in let l = c.make_room_to_ask.new.self in
     let same = sym (state-same (graph_of c.args.graph.now) l (record l { headers = c.ask.new.self }) c.in_err-asked.ensures.err refl) in
     record {
-      sound = record { few = m.sound.few; lists = m.sound.lists };
-      agree = λ u. subst (λ s. Agrees s l.lists.items u) same (m.agree u);
-      count = λ u. subst (λ s. CountsHeld s l.lists.items u) same (m.count u);
+      sound = record { few = m.exact.sound.few; lists = m.exact.sound.lists };
+      agree = λ u. subst (λ s. Agrees s l.lists.items u) same (m.exact.agree u);
+      count = λ u. subst (λ s. CountsHeld s l.lists.items u) same (m.exact.count u);
     }
 
 pub returns-in_err-asked-clause-held : goal.returns-in_err-asked-clause-held
@@ -91,18 +82,18 @@ returns-in_err-asked-clause-held c =
 pub set_mode-requires : goal.set_mode-requires
 set_mode-requires c =
     let p = (goal.at.set_mode-requires c).After-make_room_to_ask in
-    own-listed (graph_of c.args.graph.now) c.make_room_to_ask.new.self c.args.slot (may_now p) c.index_mut-list.result.now c.index_mut-list.ensures.value
+    own-listed c.args.graph.now c.make_room_to_ask.new.self c.args.slot (may_now p) c.index_mut-list.result.now c.index_mut-list.ensures.value
     c.args.node ∙ member_now p ∙ c.if-is_member.true
 
 pub enter-requires-clause-new : goal.enter-requires-clause-new
 enter-requires-clause-new c =
     let p = (goal.at.enter-requires-clause-new c).After-make_room_to_ask in
-    own-listed (graph_of c.args.graph.now) c.make_room_to_ask.new.self c.args.slot (may_now p) c.index_mut-list.result.now c.index_mut-list.ensures.value
+    own-listed c.args.graph.now c.make_room_to_ask.new.self c.args.slot (may_now p) c.index_mut-list.result.now c.index_mut-list.ensures.value
     c.args.node ∙ member_now p ∙ c.if-is_member.false
 
 pub enter-requires-clause-room : goal.enter-requires-clause-room
 enter-requires-clause-room c =
-    (own-room (graph_of c.args.graph.now) c.make_room_to_ask.new.self c.args.slot (may_now (goal.at.enter-requires-clause-room c).After-make_room_to_ask)
+    (own-room c.args.graph.now c.make_room_to_ask.new.self c.args.slot (may_now (goal.at.enter-requires-clause-room c).After-make_room_to_ask)
     c.index_mut-list.result.now c.index_mut-list.ensures.value
     (c.in_ok-make_room_to_ask.ensures.room (ap (λ b. b && is_granted_at c.args.self.now.headers.entries c.args.slot c.args.node c.args.mode)
     c.if-is_member.false))).0
@@ -110,86 +101,86 @@ enter-requires-clause-room c =
 pub count_up-requires-clause-room : goal.count_up-requires-clause-room
 count_up-requires-clause-room c =
     let x = c.index_mut-list.result.now in
-    let room = (own-room (graph_of c.args.graph.now) c.make_room_to_ask.new.self c.args.slot
+    let room = (own-room c.args.graph.now c.make_room_to_ask.new.self c.args.slot
     (may_now (goal.at.count_up-requires-clause-room c).After-make_room_to_ask) x c.index_mut-list.ensures.value
     (c.in_ok-make_room_to_ask.ensures.room (ap (λ b. b && is_granted_at c.args.self.now.headers.entries c.args.slot c.args.node c.args.mode)
     c.if-is_member.false))).1 in
     let kept = c.enter.ensures.room in
-    subst (λ ps. unlisted c.enter.new.self ps ≤ spare c.enter.new.self.loose) (sym c.requires.parents)
-    (parents-room (graph_of c.args.graph.now) c.law.ensures.lawful c.args.node c.enter.new.self (omega arith))
+    subst (λ ps. unlisted c.enter.new.self ps ≤ spare c.enter.new.self.loose) (sym c.requires.can.parents_are)
+    (parents-room c.args.graph.now c.law.ensures.lawful c.args.node c.enter.new.self (omega arith))
 
 pub count_up-requires-clause-few : goal.count_up-requires-clause-few
 count_up-requires-clause-few c =
     let p = (goal.at.count_up-requires-clause-few c).After-make_room_to_ask in
-    λ q h. subst (λ ps. count_of c.enter.new.self q + count_by (same_node q) ps < 2 ^ 32) (sym c.requires.parents)
+    λ q h. subst (λ ps. count_of c.enter.new.self q + count_by (same_node q) ps < 2 ^ 32) (sym c.requires.can.parents_are)
     (subst (λ (k : ℕ). k + count_by (same_node q) (parents_of (graph_of c.args.graph.now) c.args.node) < 2 ^ 32) (sym (c.enter.ensures.counts q))
-    (own-few (graph_of c.args.graph.now) c.make_room_to_ask.new.self c.args.slot (may_now p) c.index_mut-list.result.now c.index_mut-list.ensures.value
+    (own-few c.args.graph.now c.make_room_to_ask.new.self c.args.slot (may_now p) c.index_mut-list.result.now c.index_mut-list.ensures.value
     c.law.ensures.lawful c.args.node q))
 
 pub enter-requires-then-not-is_member-clause-new : goal.enter-requires-then-not-is_member-clause-new
 enter-requires-then-not-is_member-clause-new c =
     let p = (goal.at.enter-requires-then-not-is_member-clause-new c).After-make_room_to_ask in
-    own-listed (graph_of c.args.graph.now) c.make_room_to_ask.new.self c.args.slot (may_now p) c.index_mut-list.result.now c.index_mut-list.ensures.value
+    own-listed c.args.graph.now c.make_room_to_ask.new.self c.args.slot (may_now p) c.index_mut-list.result.now c.index_mut-list.ensures.value
     c.args.node ∙ member_now p ∙ c.if-not-is_member.true
 
 pub enter-requires-then-not-is_member-clause-room : goal.enter-requires-then-not-is_member-clause-room
 enter-requires-then-not-is_member-clause-room c =
-    (own-room (graph_of c.args.graph.now) c.make_room_to_ask.new.self c.args.slot
+    (own-room c.args.graph.now c.make_room_to_ask.new.self c.args.slot
     (may_now (goal.at.enter-requires-then-not-is_member-clause-room c).After-make_room_to_ask) c.index_mut-list.result.now c.index_mut-list.ensures.value
     (c.in_ok-make_room_to_ask.ensures.room (ap (λ b. b && is_granted_at c.args.self.now.headers.entries c.args.slot c.args.node c.args.mode)
     c.if-not-is_member.true))).0
 
 -- a conversion is granted: its list has the mode
-put_raised : (c : After-set_mode) → MayAsk (graph_of c.args.graph.now) c.args.self.now c.args.slot
+put_raised : (c : After-set_mode) → MayAct c.args.graph.now c.args.self.now c.args.slot
     → c.ne-is_member.result ≡ holds (members (state_in c.args.graph.now c.args.self.now) c.args.node) c.args.slot
-    → IsGranted (graph_of c.args.graph.now) c.args.self.now
+    → IsGranted c.args.graph.now c.args.self.now
     (record c.make_room_to_ask.new.self { headers = c.ask.new.self; lists = with_item c.make_room_to_ask.new.self.lists c.args.slot c.set_mode.new.self })
     c.args.slot c.args.node c.args.mode c.in-Granted.wanted
-put_raised c m held = let g = graph_of c.args.graph.now in let l = c.make_room_to_ask.new.self in let t = c.args.slot in let n = c.args.node in
+put_raised c m held = let g = c.args.graph.now in let l = c.make_room_to_ask.new.self in let t = c.args.slot in let n = c.args.node in
     let x = c.index_mut-list.result.now in let x' = c.set_mode.new.self in
     let now = sym (roomy_says l m c.make_room_to_ask.ensures.rest c.make_room_to_ask.ensures.kept n c.args.mode)
     ∙ answer-enters _ _ _ _ c.in_ok-asked.ensures.answer c.in-Granted.is in
     let r = roomy_ready l m c.make_room_to_ask.ensures.rest c.make_room_to_ask.ensures.kept n c.args.mode c.ne-is_member.result true held
     now c.in_ok-make_room_to_ask.ensures.room in
     let listed = slot-listed g l t r.may in
-    is_granted _ r c.in_ok-asked.asked c.in-Granted.wanted c.law.ensures.lawful c.requires.live
-    c.requires.lock c.in_ok-asked.ensures.answer c.in-Granted.is c.in_ok-asked.ensures.granted refl
+    is_granted _ r c.in_ok-asked.asked c.in-Granted.wanted c.law.ensures.lawful c.requires.can.live
+    c.requires.can.lock c.in_ok-asked.ensures.answer c.in-Granted.is c.in_ok-asked.ensures.granted refl
     (has_node-set l.lists.items t x x' listed c.index_mut-list.ensures.value n c.in-Granted.wanted c.set_mode.ensures.modes
     (λ q. c.set_mode.ensures.listed q ∙ also_listed x n (own-listed g l t r.may x c.index_mut-list.ensures.value n ∙ r.is_held ∙ c.if-is_member.true) q))
     (counts-entered l.lists.items t x x' listed c.index_mut-list.ensures.value
-    (λ q. if same_mode (held_of l.headers.entries t n) NL then count_by (same_node q) (parents_of g n) else 0)
+    (λ q. if same_mode (held_of l.headers.entries t n) NL then count_by (same_node q) (parents_of (graph_of g) n) else 0)
     (λ q. c.set_mode.ensures.counts q ∙ none_more (count_of x q)
-    ∙ ap (λ b. count_of x q + (if b then count_by (same_node q) (parents_of g n) else 0)) (sym (not-true _ (r.is_held ∙ c.if-is_member.true)))))
+    ∙ ap (λ b. count_of x q + (if b then count_by (same_node q) (parents_of (graph_of g) n) else 0)) (sym (not-true _ (r.is_held ∙ c.if-is_member.true)))))
 
 -- a newcomer is granted: its list has the node
-put_new : (c : After-count_up) → MayAsk (graph_of c.args.graph.now) c.args.self.now c.args.slot
+put_new : (c : After-count_up) → MayAct c.args.graph.now c.args.self.now c.args.slot
     → c.ne-is_member.result ≡ holds (members (state_in c.args.graph.now c.args.self.now) c.args.node) c.args.slot
-    → IsGranted (graph_of c.args.graph.now) c.args.self.now
+    → IsGranted c.args.graph.now c.args.self.now
     (record c.make_room_to_ask.new.self { headers = c.ask.new.self; lists = with_item c.make_room_to_ask.new.self.lists c.args.slot c.count_up.new.self })
     c.args.slot c.args.node c.args.mode c.in-Granted-2.wanted
-put_new c m held = let g = graph_of c.args.graph.now in let l = c.make_room_to_ask.new.self in let t = c.args.slot in let n = c.args.node in
+put_new c m held = let g = c.args.graph.now in let l = c.make_room_to_ask.new.self in let t = c.args.slot in let n = c.args.node in
     let x = c.index_mut-list.result.now in let x' = c.count_up.new.self in
     let now = sym (roomy_says l m c.make_room_to_ask.ensures.rest c.make_room_to_ask.ensures.kept n c.args.mode)
     ∙ answer-enters _ _ _ _ c.in_ok-asked.ensures.answer c.in-Granted-2.is in
     let r = roomy_ready l m c.make_room_to_ask.ensures.rest c.make_room_to_ask.ensures.kept n c.args.mode c.ne-is_member.result true held
     now c.in_ok-make_room_to_ask.ensures.room in
     let listed = slot-listed g l t r.may in
-    is_granted _ r c.in_ok-asked.asked c.in-Granted-2.wanted c.law.ensures.lawful c.requires.live
-    c.requires.lock c.in_ok-asked.ensures.answer c.in-Granted-2.is c.in_ok-asked.ensures.granted refl
+    is_granted _ r c.in_ok-asked.asked c.in-Granted-2.wanted c.law.ensures.lawful c.requires.can.live
+    c.requires.can.lock c.in_ok-asked.ensures.answer c.in-Granted-2.is c.in_ok-asked.ensures.granted refl
     (has_node-set l.lists.items t x x' listed c.index_mut-list.ensures.value n c.in-Granted-2.wanted
     (λ q. c.count_up.ensures.modes q ∙ c.enter.ensures.modes q) (λ q. c.count_up.ensures.listed q ∙ c.enter.ensures.listed q))
     (counts-entered l.lists.items t x x' listed c.index_mut-list.ensures.value
-    (λ q. if same_mode (held_of l.headers.entries t n) NL then count_by (same_node q) (parents_of g n) else 0)
-    (λ q. c.count_up.ensures.counts q ∙ ap₂ (λ k ps. k + count_by (same_node q) ps) (c.enter.ensures.counts q) c.requires.parents
-    ∙ ap (λ b. count_of x q + (if b then count_by (same_node q) (parents_of g n) else 0)) (sym (not-false _ (r.is_held ∙ c.if-is_member.false)))))
+    (λ q. if same_mode (held_of l.headers.entries t n) NL then count_by (same_node q) (parents_of (graph_of g) n) else 0)
+    (λ q. c.count_up.ensures.counts q ∙ ap₂ (λ k ps. k + count_by (same_node q) ps) (c.enter.ensures.counts q) c.requires.can.parents_are
+    ∙ ap (λ b. count_of x q + (if b then count_by (same_node q) (parents_of (graph_of g) n) else 0)) (sym (not-false _ (r.is_held ∙ c.if-is_member.false)))))
 
 -- the list of one who waits has the node
-listed : (c : After-set_status) → MayAsk (graph_of c.args.graph.now) c.make_room_to_ask.new.self c.args.slot
+listed : (c : After-set_status) → MayAct c.args.graph.now c.make_room_to_ask.new.self c.args.slot
     → holds (members (state_in c.args.graph.now c.make_room_to_ask.new.self) c.args.node) c.args.slot ≡ c.ne-is_member.result
     → is_granted_at c.args.self.now.headers.entries c.args.slot c.args.node c.args.mode ≡ false
     → HasWait c.make_room_to_ask.new.self.lists.items c.if-not-is_member.self.lists.items c.args.slot c.args.node
     (held_of c.make_room_to_ask.new.self.headers.entries c.args.slot c.args.node)
-listed c m is blocked = let g = graph_of c.args.graph.now in let l = c.make_room_to_ask.new.self in let t = c.args.slot in let n = c.args.node in
+listed c m is blocked = let g = c.args.graph.now in let l = c.make_room_to_ask.new.self in let t = c.args.slot in let n = c.args.node in
     let x = c.index_mut-list.result.now in let at = c.index_mut-list.ensures.value in
     let held = held_of l.headers.entries t n in
     let there = slot-listed g l t m in
@@ -213,69 +204,56 @@ same_headers c = elim c.if-not-is_member.branch [ then-not-is_member w ↦ ap (�
 same_seats : (c : After-set_status) → c.if-not-is_member.self.seats ≡ c.make_room_to_ask.new.self.seats
 same_seats c = elim c.if-not-is_member.branch [ then-not-is_member w ↦ ap (λ y. y.seats) w.self-is | else-not-is_member w ↦ ap (λ y. y.seats) w.self-is ]
 
-blocks : (c : After-set_status) → MayAsk (graph_of c.args.graph.now) c.args.self.now c.args.slot
+blocks : (c : After-set_status) → MayAct c.args.graph.now c.args.self.now c.args.slot
     → enters_at (state_in c.args.graph.now c.args.self.now) c.args.slot c.args.node c.args.mode ≡ false
 blocks c m =
     sym (roomy_says c.make_room_to_ask.new.self m c.make_room_to_ask.ensures.rest
     c.make_room_to_ask.ensures.kept c.args.node c.args.mode) ∙ answer-waits _ _ _ c.in_ok-asked.ensures.answer c.in-Waiting.is
 
 -- it waits
-put : (c : After-set_status) → MayAsk (graph_of c.args.graph.now) c.args.self.now c.args.slot
+put : (c : After-set_status) → MayAct c.args.graph.now c.args.self.now c.args.slot
     → c.ne-is_member.result ≡ holds (members (state_in c.args.graph.now c.args.self.now) c.args.node) c.args.slot
-    → IsEnqueued (graph_of c.args.graph.now) c.args.self.now (record c.if-not-is_member.self { seats = c.set_status.new.self }) c.args.slot c.args.node
+    → IsEnqueued c.args.graph.now c.args.self.now (record c.if-not-is_member.self { seats = c.set_status.new.self }) c.args.slot c.args.node
     c.args.mode
-put c m held = let g = graph_of c.args.graph.now in let l = c.make_room_to_ask.new.self in let t = c.args.slot in let n = c.args.node in
+put c m held = let g = c.args.graph.now in let l = c.make_room_to_ask.new.self in let t = c.args.slot in let n = c.args.node in
     let r = roomy_ready l m c.make_room_to_ask.ensures.rest c.make_room_to_ask.ensures.kept n c.args.mode c.ne-is_member.result false held
     (blocks c m) c.in_ok-make_room_to_ask.ensures.room in
     is_enqueued g c.args.self.now l (record c.if-not-is_member.self { seats = c.set_status.new.self }) t n c.args.mode c.sup-wanted.result _ r
     c.ask.new.self.entries c.if-not-is_member.self.seats.items
     (ap (λ h. h.entries) (same_headers c)) c.in_ok-asked.ensures.waits (ap (λ x. x.items) (same_seats c)) c.set_status.ensures.len c.set_status.ensures.txns
-    (c.sup-wanted.ensures ∙ ap (λ k. supremum k c.args.mode) (c.requires.held ∙ (m.agree t).modes n
+    (c.sup-wanted.ensures ∙ ap (λ k. supremum k c.args.mode) (c.requires.can.held_is ∙ (m.exact.agree t).modes n
     ∙ ap (λ s. s.held t n) (sym (roomy_same l m c.make_room_to_ask.ensures.rest c.make_room_to_ask.ensures.kept))))
     (listed c r.may r.is_held (says_is g c.args.self.now t n c.args.mode m ∙ blocks c m))
 
 pub returns-in-Granted-clause-exact : goal.returns-in-Granted-clause-exact
 returns-in-Granted-clause-exact c = let at = goal.at.returns-in-Granted-clause-exact c in let p = at.After-make_room_to_ask in
-    let now = put_raised at.After-set_mode (may p) (member_is p) in record { sound = now.sound; agree = now.agree; count = now.count }
+    let now = put_raised at.After-set_mode c.requires.act (member_is p) in record { sound = now.sound; agree = now.agree; count = now.count }
 
-pub returns-in-Granted-clause-answer : goal.returns-in-Granted-clause-answer
-returns-in-Granted-clause-answer c = answer_is (goal.at.returns-in-Granted-clause-answer c).After-make_room_to_ask _ c.in_ok-asked.ensures.answer
-
-pub returns-in-Granted-clause-granted : goal.returns-in-Granted-clause-granted
-returns-in-Granted-clause-granted c = let at = goal.at.returns-in-Granted-clause-granted c in
-    let p = at.After-make_room_to_ask in λ e. (put_raised at.After-set_mode (may p) (member_is p)).state
-
-pub returns-in-Granted-clause-waits : goal.returns-in-Granted-clause-waits
-returns-in-Granted-clause-waits c = let at = goal.at.returns-in-Granted-clause-waits c in
-    let p = at.After-make_room_to_ask in λ e. clash (sym (says p) ∙ answer-enters _ _ _ _ c.in_ok-asked.ensures.answer c.in-Granted.is) e
+pub returns-in-Granted-clause-asked : goal.returns-in-Granted-clause-asked
+returns-in-Granted-clause-asked c = let at = goal.at.returns-in-Granted-clause-asked c in let p = at.After-make_room_to_ask in record {
+  answered = answer_is p _ c.in_ok-asked.ensures.answer;
+  enters = λ e. (put_raised at.After-set_mode c.requires.act (member_is p)).state;
+  waits = λ e. clash (sym (says p) ∙ answer-enters _ _ _ _ c.in_ok-asked.ensures.answer c.in-Granted.is) e;
+}
 
 pub returns-in-Granted-2-clause-exact : goal.returns-in-Granted-2-clause-exact
 returns-in-Granted-2-clause-exact c = let at = goal.at.returns-in-Granted-2-clause-exact c in let p = at.After-make_room_to_ask in
-    let now = put_new at.After-count_up (may p) (member_is p) in record { sound = now.sound; agree = now.agree; count = now.count }
+    let now = put_new at.After-count_up c.requires.act (member_is p) in record { sound = now.sound; agree = now.agree; count = now.count }
 
-pub returns-in-Granted-2-clause-answer : goal.returns-in-Granted-2-clause-answer
-returns-in-Granted-2-clause-answer c = answer_is (goal.at.returns-in-Granted-2-clause-answer c).After-make_room_to_ask _ c.in_ok-asked.ensures.answer
-
-pub returns-in-Granted-2-clause-granted : goal.returns-in-Granted-2-clause-granted
-returns-in-Granted-2-clause-granted c = let at = goal.at.returns-in-Granted-2-clause-granted c in
-    let p = at.After-make_room_to_ask in λ e. (put_new at.After-count_up (may p) (member_is p)).state
-
-pub returns-in-Granted-2-clause-waits : goal.returns-in-Granted-2-clause-waits
-returns-in-Granted-2-clause-waits c = let at = goal.at.returns-in-Granted-2-clause-waits c in
-    let p = at.After-make_room_to_ask in λ e. clash (sym (says p) ∙ answer-enters _ _ _ _ c.in_ok-asked.ensures.answer c.in-Granted-2.is) e
+pub returns-in-Granted-2-clause-asked : goal.returns-in-Granted-2-clause-asked
+returns-in-Granted-2-clause-asked c = let at = goal.at.returns-in-Granted-2-clause-asked c in let p = at.After-make_room_to_ask in record {
+  answered = answer_is p _ c.in_ok-asked.ensures.answer;
+  enters = λ e. (put_new at.After-count_up c.requires.act (member_is p)).state;
+  waits = λ e. clash (sym (says p) ∙ answer-enters _ _ _ _ c.in_ok-asked.ensures.answer c.in-Granted-2.is) e;
+}
 
 pub returns-after-not-is_member-clause-exact : goal.returns-after-not-is_member-clause-exact
 returns-after-not-is_member-clause-exact c = let at = goal.at.returns-after-not-is_member-clause-exact c in let p = at.After-make_room_to_ask in
-    let now = put at.After-set_status (may p) (member_is p) in record { sound = now.sound; agree = now.agree; count = now.count }
+    let now = put at.After-set_status c.requires.act (member_is p) in record { sound = now.sound; agree = now.agree; count = now.count }
 
-pub returns-after-not-is_member-clause-answer : goal.returns-after-not-is_member-clause-answer
-returns-after-not-is_member-clause-answer c = answer_is (goal.at.returns-after-not-is_member-clause-answer c).After-make_room_to_ask _
-    c.in_ok-asked.ensures.answer
-
-pub returns-after-not-is_member-clause-granted : goal.returns-after-not-is_member-clause-granted
-returns-after-not-is_member-clause-granted c = let at = goal.at.returns-after-not-is_member-clause-granted c in
-    let p = at.After-make_room_to_ask in λ e. clash e (blocks at.After-set_status (may p))
-
-pub returns-after-not-is_member-clause-waits : goal.returns-after-not-is_member-clause-waits
-returns-after-not-is_member-clause-waits c = let at = goal.at.returns-after-not-is_member-clause-waits c in
-    let p = at.After-make_room_to_ask in λ e. (put at.After-set_status (may p) (member_is p)).state
+pub returns-after-not-is_member-clause-asked : goal.returns-after-not-is_member-clause-asked
+returns-after-not-is_member-clause-asked c = let at = goal.at.returns-after-not-is_member-clause-asked c in let p = at.After-make_room_to_ask in record {
+  answered = answer_is p _ c.in_ok-asked.ensures.answer;
+  enters = λ e. clash e (blocks at.After-set_status c.requires.act);
+  waits = λ e. (put at.After-set_status c.requires.act (member_is p)).state;
+}

@@ -1,6 +1,6 @@
 use Rattle.gl_table.proofs.Words.{◌&&◌, ◌==◌, ◌∙◌, ◌≡◌, ap, books_of, Bool, CanEnd, CanHold, false, front, front_at, graph_of, held_of, if◌then◌else◌}
-use Rattle.gl_table.proofs.Words.{is_among_waiters, List, members, NL, NodeId, parents_of, queue_of, refl, same_node, slot_limit, State, state_in, subst, sym}
-use Rattle.gl_table.proofs.Words.{true, txns_of, Waiter, Wakes, with_grant, with_mode, ℕ}
+use Rattle.gl_table.proofs.Words.{is_among_waiters, List, members, NL, NodeId, parents_of, queue_of, refl, same_node, slot_limit, State, state_in, subst}
+use Rattle.gl_table.proofs.Words.{sym, true, txns_of, Waiter, Wakes, with_grant, with_mode, ℕ}
 use Rattle.gl_table.proofs.inside.Granted.{can_wake_front, held-pumped, members-with_grant, pumped_by_fields, queue-pumped, released_front}
 use Rattle.gl_model.proofs.telling.Fronts.{well_granted, woken_front}
 use Rattle.gl_table.proofs.ledger.Ledger.drop_and_wake.Goals.{After-as_slice}
@@ -11,11 +11,10 @@ can_wake : (c : After-as_slice) → CanEnd (books_of c.args.self.now.seats c.arg
     → CanHold c.args.self.now.lists.items u c.args.node (parents_of (graph_of c.args.graph.now) c.args.node))
 can_wake c =
     let s = state_in c.args.graph.now c.args.self.now in
-    can_wake_front (graph_of c.args.graph.now) c.args.self.now c.law.ensures.lawful c.requires.sound c.requires.orderly c.args.node
-    (with_grant s c.args.slot c.args.node NL)
-    (well_granted s c.requires.orderly c.args.slot c.args.node NL c.args.node) (λ u h. h) c.requires.agree c.requires.count c.args.told.now.items
-    c.requires.tell.by_slot c.requires.tell.untold _
-    (c.as_slice.ensures.value ∙ c.drop_grant.ensures.granted ∙ released_front s c.requires.orderly c.requires.sound.few c.args.slot c.args.node)
+    can_wake_front c.args.graph.now c.args.self.now c.args.node c.requires.waiters c.law.ensures.lawful (with_grant s c.args.slot c.args.node NL)
+    (well_granted s c.requires.waiters.orderly c.args.slot c.args.node NL c.args.node) (λ u h. h) c.args.told.now.items c.requires.tell.by_slot
+    c.requires.tell.untold _ (c.as_slice.ensures.value ∙ c.drop_grant.ensures.granted ∙ released_front s c.requires.waiters.orderly
+    c.requires.waiters.sound.few c.args.slot c.args.node)
 
 pub wake_granted-requires-clause-can : goal.wake_granted-requires-clause-can
 wake_granted-requires-clause-can c = (can_wake (goal.at.wake_granted-requires-clause-can c).After-as_slice).0
@@ -32,7 +31,7 @@ dropped c = with_grant (before c) c.args.slot c.args.node NL
 -- the front that was granted
 front_is : (c : goal.After-wake_granted) → front slot_limit (with_mode (members (before c) c.args.node) c.args.slot NL) ((before c).queue c.args.node)
     ≡ front_at (dropped c) c.args.node
-front_is c = released_front (before c) c.requires.orderly c.requires.sound.few c.args.slot c.args.node
+front_is c = released_front (before c) c.requires.waiters.orderly c.requires.waiters.sound.few c.args.slot c.args.node
 
 woken : (c : goal.After-wake_granted) → Wakes (books_of c.args.self.now.seats c.args.self.now.lists.items c.args.told.now.items) c.args.node
     (parents_of (before c).graph c.args.node) (front_at (dropped c) c.args.node)
@@ -48,7 +47,7 @@ returns-clause-state c =
     (txns_of c.wake_granted.new.self.seats.items) _ (ap held_of c.wake_granted.ensures.headers ∙ c.drop_grant.ensures.held
     ∙ held-pumped b c.args.node (before c).held _ _ (members-with_grant (before c) c.args.slot c.args.node NL) (front_is c) apart)
     (ap queue_of c.wake_granted.ensures.headers ∙ c.drop_grant.ensures.queue ∙ queue-pumped b c.args.node (before c).queue _ (front_is c) (λ q e. refl))
-    (λ u. (woken c).txns u ∙ sym (woken_front b c.args.node (well_granted (before c) c.requires.orderly c.args.slot c.args.node NL c.args.node) u))
+    (λ u. (woken c).txns u ∙ sym (woken_front b c.args.node (well_granted (before c) c.requires.waiters.orderly c.args.slot c.args.node NL c.args.node) u))
     (woken c).len
   where
     apart : (u : ℕ) (q : NodeId) → same_node q c.args.node ≡ false → (before c).held u q ≡ (dropped c).held u q

@@ -1,6 +1,6 @@
-use Rattle.gl_table.proofs.Words.{◌&&◌, ◌<◌, ◌==◌, ◌||◌, ◌∙◌, ◌≡◌, Agrees, ap, count_by, CountsHeld, false, graph_of, holds, is_among_waiters, is_listed}
-use Rattle.gl_table.proofs.Words.{is_wait, length, length-set, LockList, members, NodeId, nodes, not, or-false, same_node, slice_set, State, state_in}
-use Rattle.gl_table.proofs.Words.{status_in, subst, sym, true, ℕ}
+use Rattle.gl_table.proofs.Words.{◌&&◌, ◌<◌, ◌==◌, ◌||◌, ◌∙◌, ◌≡◌, ap, AreExactFor, count_by, false, graph_of, holds, is_among_waiters, is_listed, is_wait}
+use Rattle.gl_table.proofs.Words.{length, length-set, LockList, members, NodeId, nodes, not, or-false, same_node, State, state_in, status_in, subst, sym}
+use Rattle.gl_table.proofs.Words.{true, with_item, ℕ}
 use Rattle.gl_table.proofs.inside.Departures.{holds_after, IsLeaving, leaving_begins, leaving_fewer, leaving_one, leaving_out, left_released}
 use Rattle.gl_table.proofs.inside.Slots.{agrees-set, by_list-at, counts-set, popped-listed}
 use Rattle.gl_lock_lists.proofs.Children.{nl_is}
@@ -30,38 +30,36 @@ holding : (c : After-index_mut) (n : NodeId) → is_listed c.index_mut.result.no
 holding c n = sym (by_list-at (λ l. is_listed l n) false c.loop-node.self.lists.items c.args.slot c.index_mut.result.now (seated c) c.index_mut.ensures.value)
     ∙ c.loop-node.invariant.listed n
 
--- all others have what they hold, whatever is written in its list
-others : (c : After-index_mut) (l : LockList) (u : ℕ) → (u == c.args.slot) ≡ false → Agrees (now c) (slice_set c.loop-node.self.lists.items c.args.slot l) u
-others c l u e = agrees-set c.loop-node.self.lists.items c.args.slot l (seated c) u e (now c) (c.loop-node.invariant.leaving.agree u e)
-
-others_count : (c : After-index_mut) (l : LockList) (u : ℕ) → (u == c.args.slot) ≡ false
-    → CountsHeld (now c) (slice_set c.loop-node.self.lists.items c.args.slot l) u
-others_count c l u e = counts-set c.loop-node.self.lists.items c.args.slot l (seated c) u e (now c) (c.loop-node.invariant.leaving.count u e)
+-- whatever is written in its list, the ledger is exact for all others
+written : (c : After-index_mut) (l : LockList)
+    → AreExactFor c.args.graph.now (record c.loop-node.self { lists = with_item c.loop-node.self.lists c.args.slot l }) (λ u. (u == c.args.slot) ≡ false)
+written c l =
+    let is = c.loop-node.invariant in
+    let ls = c.loop-node.self.lists.items in
+    record {
+      sound = record { few = is.sound.few; lists = length-set ls c.args.slot l ∙ is.sound.lists };
+      orderly = is.leaving.orderly;
+      agree = λ u e. agrees-set ls c.args.slot l (seated c) u e (now c) (is.leaving.agree u e);
+      count = λ u e. counts-set ls c.args.slot l (seated c) u e (now c) (is.leaving.count u e);
+    }
 
 another : (c : After-index_mut) (u : ℕ) (n : NodeId) → is_among_waiters u ((now c).queue n) ≡ true → (u == c.args.slot) ≡ false
 another c u n h = let is = c.loop-node.invariant.leaving in
     stands_other (now c) is.orderly c.args.slot (ap (λ x. is_wait (status_in x)) is.txn ∙ c.requires.quiet) u n h
 
-pub drop_and_wake-requires-clause-sound : goal.drop_and_wake-requires-clause-sound
-drop_and_wake-requires-clause-sound c =
-    let is = c.loop-node.invariant.sound in
-    let ls = c.loop-node.self.lists.items in
-    let lt = seated (goal.at.drop_and_wake-requires-clause-sound c).After-index_mut in
-    record {
-      few = is.few;
-      lists = length-set ls c.args.slot c.pop.new.self ∙ is.lists;
-    }
-
 pub drop_and_wake-requires-clause-holds : goal.drop_and_wake-requires-clause-holds
 drop_and_wake-requires-clause-holds c = sym (holding (goal.at.drop_and_wake-requires-clause-holds c).After-index_mut c.in-Some.node) ∙ c.in-Some.ensures.was
 
-pub drop_and_wake-requires-clause-agree : goal.drop_and_wake-requires-clause-agree
-drop_and_wake-requires-clause-agree c = let p = (goal.at.drop_and_wake-requires-clause-agree c).After-index_mut in
-    λ u h. others p c.pop.new.self u (another p u c.in-Some.node h)
-
-pub drop_and_wake-requires-clause-count : goal.drop_and_wake-requires-clause-count
-drop_and_wake-requires-clause-count c = let p = (goal.at.drop_and_wake-requires-clause-count c).After-index_mut in
-    λ u h. others_count p c.pop.new.self u (another p u c.in-Some.node h)
+pub drop_and_wake-requires-clause-waiters : goal.drop_and_wake-requires-clause-waiters
+drop_and_wake-requires-clause-waiters c =
+    let p = (goal.at.drop_and_wake-requires-clause-waiters c).After-index_mut in
+    let is = written p c.pop.new.self in
+    record {
+      sound = is.sound;
+      orderly = is.orderly;
+      agree = λ u h. is.agree u (another p u c.in-Some.node h);
+      count = λ u h. is.count u (another p u c.in-Some.node h);
+    }
 
 pub drop_and_wake-requires-clause-tell : goal.drop_and_wake-requires-clause-tell
 drop_and_wake-requires-clause-tell c = let is = c.loop-node.invariant.leaving in record {
@@ -89,23 +87,27 @@ loop-node-preserved c =
           ∙ sym (ap (λ (x : State). holds (members x q) c.args.slot) ends.state ∙ holds_after left c.requires.quiet c.in-Some.node held q);
       leaving = subst (λ (x : State). IsLeaving (state_in c.args.graph.now c.args.self.now) x c.args.slot c.drop_and_wake.new.self.lists.items
           c.args.told.now.items c.drop_and_wake.new.told.items) (sym ends.state)
-          (leaving_one left c.requires.quiet c.in-Some.node held c.law.ensures.lawful (others p c.pop.new.self) (others_count p c.pop.new.self) ends.lists
-          ends.tells);
+          (leaving_one left c.requires.quiet c.in-Some.node held c.law.ensures.lawful (written p c.pop.new.self).agree (written p c.pop.new.self).count
+          ends.lists ends.tells);
     }
 
 -- in the end the list is empty
 none : (c : After-index_mut) → ((q : NodeId) → is_listed c.index_mut.result.now q ≡ false) → (q : NodeId) → holds (members (now c) q) c.args.slot ≡ false
 none c empty q = sym (holding c q) ∙ empty q
 
-pub returns-clause-state : goal.returns-clause-state
-returns-clause-state c = let p = (goal.at.returns-clause-state c).After-index_mut in
-    left_released c.loop-node.invariant.leaving c.requires.quiet c.requires.orderly (none p c.in_default.ensures.none)
+pub returns-clause-others : goal.returns-clause-others
+returns-clause-others c = written (goal.at.returns-clause-others c).After-index_mut c.pop.new.self
 
-pub returns-clause-free : goal.returns-clause-free
-returns-clause-free c = let p = (goal.at.returns-clause-free c).After-index_mut in λ q. nl_is ((now p).held c.args.slot q) (none p c.in_default.ensures.none q)
-
-pub returns-clause-out : goal.returns-clause-out
-returns-clause-out c = leaving_out c.loop-node.invariant.leaving c.requires.quiet
+pub returns-clause-left : goal.returns-clause-left
+returns-clause-left c =
+    let p = (goal.at.returns-clause-left c).After-index_mut in
+    let is = c.loop-node.invariant.leaving in
+    record {
+      most = is.most;
+      state = left_released is c.requires.quiet c.requires.orderly (none p c.in_default.ensures.none);
+      free = λ q. nl_is ((now p).held c.args.slot q) (none p c.in_default.ensures.none q);
+      out = leaving_out is c.requires.quiet;
+    }
 
 pub returns-clause-tells : goal.returns-clause-tells
 returns-clause-tells c = let is = c.loop-node.invariant.leaving in

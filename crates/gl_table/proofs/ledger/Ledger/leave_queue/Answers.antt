@@ -1,6 +1,6 @@
-use Rattle.gl_table.proofs.Words.{◌∙◌, ◌≡◌, ap, books_of, CanEnd, CanHold, false, front, front_at, graph_of, held_of, is_among_waiters, List, members, not_true}
-use Rattle.gl_table.proofs.Words.{number_other, parents_of, pumped, queue_of, refl, same_node, same_node-sym, slot_limit, State, state_in, subst, sym, true}
-use Rattle.gl_table.proofs.Words.{txns_of, Waiter, WaitWell, Wakes, without_wait, without_waiter, ℕ}
+use Rattle.gl_table.proofs.Words.{◌∙◌, ◌≡◌, ap, books_of, CanEnd, CanHold, false, front, front_at, graph_of, held_of, is_among_waiters, List, members}
+use Rattle.gl_table.proofs.Words.{not_true, number_other, parents_of, pumped, queue_of, refl, same_node, same_node-sym, slot_limit, State, state_in, subst}
+use Rattle.gl_table.proofs.Words.{sym, true, txns_of, Waiter, WaitWell, Wakes, without_wait, without_waiter, ℕ}
 use Rattle.gl_table.proofs.inside.Granted.{can_wake_front, held-pumped, pumped_by_fields, queue-pumped, status_last, withdrawn_front}
 use Rattle.gl_model.proofs.queues.Edits.{out_of_without, without_none}
 use Rattle.gl_model.proofs.telling.Fronts.{front_stands, stands_only, stands_there, waits_only, well_without, woken_front}
@@ -8,19 +8,19 @@ use Rattle.gl_table.proofs.ledger.Ledger.leave_queue.Goals.{After-as_slice}
 use Rattle.gl_table.proofs.ledger.Ledger.leave_queue.Goals as goal
 
 pub drop_wait-requires : goal.drop_wait-requires
-drop_wait-requires c = stands_there (state_in c.args.graph.now c.args.self.now) c.requires.orderly c.args.slot c.args.node c.requires.waits
+drop_wait-requires c = stands_there (state_in c.args.graph.now c.args.self.now) c.requires.waiters.orderly c.args.slot c.args.node c.requires.waits
 
 can_wake : (c : After-as_slice) → CanEnd (books_of c.args.self.now.seats c.args.self.now.lists.items c.args.told.now.items) c.as_slice.result.now
     × ((u : ℕ) → is_among_waiters u c.as_slice.result.now ≡ true
     → CanHold c.args.self.now.lists.items u c.args.node (parents_of (graph_of c.args.graph.now) c.args.node))
 can_wake c =
     let s = state_in c.args.graph.now c.args.self.now in
-    can_wake_front (graph_of c.args.graph.now) c.args.self.now c.law.ensures.lawful c.requires.sound c.requires.orderly c.args.node
-    (without_wait s c.args.slot c.args.status)
-    (well_without s c.requires.orderly c.args.slot c.args.status c.args.node) (λ u h. (out_of_without c.args.slot u (s.queue c.args.node) h).0) c.requires.agree
-    c.requires.count c.args.told.now.items c.requires.by_slot
+    can_wake_front c.args.graph.now c.args.self.now c.args.node c.requires.waiters c.law.ensures.lawful (without_wait s c.args.slot c.args.status)
+    (well_without s c.requires.waiters.orderly c.args.slot c.args.status c.args.node) (λ u h. (out_of_without c.args.slot u (s.queue c.args.node) h).0)
+    c.args.told.now.items c.requires.by_slot
     (λ u h. let was = out_of_without c.args.slot u (s.queue c.args.node) h in c.requires.untold u was.0 (number_other u c.args.slot was.1)) _
-    (c.as_slice.ensures.value ∙ c.drop_wait.ensures.granted ∙ withdrawn_front s c.requires.orderly c.requires.sound.few c.args.slot c.args.node c.args.status)
+    (c.as_slice.ensures.value ∙ c.drop_wait.ensures.granted ∙ withdrawn_front s c.requires.waiters.orderly c.requires.waiters.sound.few c.args.slot
+    c.args.node c.args.status)
 
 pub wake_granted-requires-clause-can : goal.wake_granted-requires-clause-can
 wake_granted-requires-clause-can c = (can_wake (goal.at.wake_granted-requires-clause-can c).After-as_slice).0
@@ -37,7 +37,7 @@ left c = without_wait (before c) c.args.slot c.args.status
 -- the front that was granted
 front_is : (c : goal.After-set_status) → front slot_limit (members (before c) c.args.node) (without_waiter c.args.slot ((before c).queue c.args.node))
     ≡ front_at (left c) c.args.node
-front_is c = withdrawn_front (before c) c.requires.orderly c.requires.sound.few c.args.slot c.args.node c.args.status
+front_is c = withdrawn_front (before c) c.requires.waiters.orderly c.requires.waiters.sound.few c.args.slot c.args.node c.args.status
 
 woken : (c : goal.After-set_status) → Wakes (books_of c.args.self.now.seats c.args.self.now.lists.items c.args.told.now.items) c.args.node
     (parents_of (before c).graph c.args.node) (front_at (left c) c.args.node)
@@ -47,7 +47,7 @@ woken c = subst (λ (ws : List Waiter). Wakes (books_of c.args.self.now.seats c.
     (c.as_slice.ensures.value ∙ c.drop_wait.ensures.granted ∙ front_is c) c.wake_granted.ensures.wakes
 
 well : (c : goal.After-set_status) → WaitWell (left c) c.args.node
-well c = well_without (before c) c.requires.orderly c.args.slot c.args.status c.args.node
+well c = well_without (before c) c.requires.waiters.orderly c.args.slot c.args.status c.args.node
 
 -- who left is not granted
 out : (c : goal.After-set_status) → is_among_waiters c.args.slot (front_at (left c) c.args.node) ≡ false
@@ -63,7 +63,7 @@ returns-clause-state c =
     (txns_of c.set_status.new.self.items) _
     (ap held_of c.wake_granted.ensures.headers ∙ c.drop_wait.ensures.held ∙ held-pumped b n s.held _ _ refl (front_is c) (λ u q e. refl))
     (ap queue_of c.wake_granted.ensures.headers ∙ c.drop_wait.ensures.queue ∙ queue-pumped b n s.queue _ (front_is c) (λ q e. sym
-    (without_none c.args.slot (s.queue q) (stands_only s c.requires.orderly c.args.slot n c.requires.waits q (same_node-sym n q ∙ e)))))
+    (without_none c.args.slot (s.queue q) (stands_only s c.requires.waiters.orderly c.args.slot n c.requires.waits q (same_node-sym n q ∙ e)))))
     (λ u. status_last s c.args.slot c.args.status (front_at b n) _ _ (out c) (woken c).txns c.set_status.ensures.txns u ∙ sym (woken_front b n (well c) u))
     (c.set_status.ensures.len ∙ (woken c).len) ∙ ap (pumped b) (sym (waits_only s c.args.slot n c.requires.waits))
 

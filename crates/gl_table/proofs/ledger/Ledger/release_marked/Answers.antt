@@ -1,5 +1,5 @@
-use Rattle.gl_table.proofs.Words.{◌∙◌, and-not_self, ap, arith, clash, holds, is_wait, keys, members, none_some}
-use Rattle.gl_table.proofs.Words.{slice_get_past, State, state_in, status_in, subst, sym}
+use Rattle.gl_table.proofs.Words.{◌∙◌, and-not_self, ap, arith, clash, holds, is_wait, keys, members, none_some, slice_get_past, State, state_in, status_in}
+use Rattle.gl_table.proofs.Words.{subst, sym, ℕ}
 use Rattle.gl_model.proofs.telling.Fronts.{stands_other, waits_there}
 use Rattle.gl_table.proofs.inside.Departures.{leaving_begins}
 use Rattle.gl_table.proofs.inside.Marked.{IsReleasing, marked_childless, marked_counted, releasing_ends, releasing_modes, releasing_one}
@@ -7,12 +7,12 @@ use Rattle.gl_table.proofs.ledger.Ledger.release_marked.Goals as goal
 
 pub loop-at-init : goal.loop-at-init
 loop-at-init c = record {
-  sound = c.requires.sound;
+  sound = c.requires.others.sound;
   within = omega arith;
   passed = λ i n le at. absurd (none_some (sym (slice_get_past (keys c.args.list.now.entries) i (omega arith)) ∙ at));
   releasing = record {
-    leaving = leaving_begins (state_in c.args.graph.now c.args.self.now) c.args.slot c.args.self.now.lists.items c.args.told.now.items c.requires.orderly
-        c.requires.agree c.requires.count c.requires.tell;
+    leaving = leaving_begins (state_in c.args.graph.now c.args.self.now) c.args.slot c.args.self.now.lists.items c.args.told.now.items c.requires.others.orderly
+        c.requires.others.agree c.requires.others.count c.requires.tell;
     marked = c.requires.marked;
     covered = λ q h. clash h (and-not_self (holds (members (state_in c.args.graph.now c.args.self.now) q) c.args.slot));
   };
@@ -25,15 +25,12 @@ pub take_marked-requires-clause-counted : goal.take_marked-requires-clause-count
 take_marked-requires-clause-counted c = λ n q listed mark.
     marked_counted c.loop-at.invariant.releasing (ap is_wait c.requires.active) c.law.ensures.lawful n listed q
 
-pub drop_and_wake-requires-clause-agree : goal.drop_and_wake-requires-clause-agree
-drop_and_wake-requires-clause-agree c = let is = c.loop-at.invariant.releasing.leaving in
-    λ u h. is.agree u (stands_other (state_in c.args.graph.now c.loop-at.self) is.orderly c.args.slot
-    (ap (λ x. is_wait (status_in x)) is.txn ∙ ap is_wait c.requires.active) u c.in-Some.child h)
-
-pub drop_and_wake-requires-clause-count : goal.drop_and_wake-requires-clause-count
-drop_and_wake-requires-clause-count c = let is = c.loop-at.invariant.releasing.leaving in
-    λ u h. is.count u (stands_other (state_in c.args.graph.now c.loop-at.self) is.orderly c.args.slot
-    (ap (λ x. is_wait (status_in x)) is.txn ∙ ap is_wait c.requires.active) u c.in-Some.child h)
+pub drop_and_wake-requires-clause-waiters : goal.drop_and_wake-requires-clause-waiters
+drop_and_wake-requires-clause-waiters c =
+    let is = c.loop-at.invariant.releasing.leaving in
+    let other = λ (u : ℕ). stands_other (state_in c.args.graph.now c.loop-at.self) is.orderly c.args.slot
+    (ap (λ x. is_wait (status_in x)) is.txn ∙ ap is_wait c.requires.active) u c.in-Some.child in
+    record { sound = c.loop-at.invariant.sound; orderly = is.orderly; agree = λ u h. is.agree u (other u h); count = λ u h. is.count u (other u h) }
 
 pub drop_and_wake-requires-clause-tell : goal.drop_and_wake-requires-clause-tell
 drop_and_wake-requires-clause-tell c = let is = c.loop-at.invariant.releasing.leaving in record {
@@ -53,12 +50,18 @@ loop-at-preserved-in-Some c = record {
       c.drop_and_wake.ensures.lists c.drop_and_wake.ensures.tells);
 }
 
-pub returns-clause-state : goal.returns-clause-state
-returns-clause-state c = releasing_ends c.loop-at.invariant.releasing (λ i n le at. c.loop-at.invariant.passed i n (omega arith) at)
+pub returns-clause-others : goal.returns-clause-others
+returns-clause-others c = let is = c.loop-at.invariant.releasing.leaving in
+    record { sound = c.loop-at.invariant.sound; orderly = is.orderly; agree = is.agree; count = is.count }
+
+pub returns-clause-released : goal.returns-clause-released
+returns-clause-released c = let is = c.loop-at.invariant.releasing in record {
+  state = releasing_ends is (λ i n le at. c.loop-at.invariant.passed i n (omega arith) at);
+  active = ap status_in is.leaving.txn ∙ c.requires.active;
+  marked = is.marked;
+  modes = releasing_modes is (λ i n le at. c.loop-at.invariant.passed i n (omega arith) at);
+}
 
 pub returns-clause-tells : goal.returns-clause-tells
 returns-clause-tells c = let is = c.loop-at.invariant.releasing.leaving in
     record { by_slot = is.by_slot; others = λ s way same. (is.tells s way same).1; own = is.own }
-
-pub returns-clause-modes : goal.returns-clause-modes
-returns-clause-modes c = releasing_modes c.loop-at.invariant.releasing (λ i n le at. c.loop-at.invariant.passed i n (omega arith) at)

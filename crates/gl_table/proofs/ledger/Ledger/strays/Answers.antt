@@ -1,5 +1,5 @@
-use Rattle.gl_table.proofs.Words.{◌+◌, ◌<◌, ◌∙◌, ◌≡◌, ap, arith, Bool, graph_of, intends_over, length, List, mode_of, NL, NodeId}
-use Rattle.gl_table.proofs.Words.{not, parents_of, queue_of, refl, slice_index_or, State, state_in, stays, subst, sym, take, Waiter, ℕ}
+use Rattle.gl_table.proofs.Words.{◌+◌, ◌<◌, ◌∙◌, ◌≡◌, ap, arith, Bool, graph_of, intends_over, length, List, mode_of, NL, NodeId, not, parents_of, queue_of}
+use Rattle.gl_table.proofs.Words.{refl, slice_index_or, State, state_in, stays, subst, sym, take, Waiter, ℕ}
 use Rattle.gl_table.proofs.inside.TurnedAway.{allowed_stays}
 use Rattle.gl_model.proofs.law.Strays.{among_at, IsSetOf, set-with, set-without}
 use Rattle.gl_model.proofs.telling.Fronts.{waiters_below}
@@ -10,17 +10,17 @@ pub index-list-requires : goal.index-list-requires
 index-list-requires c =
     let s : State = state_in c.args.graph.now c.args.self.now in
     let queue = c.queue-slot-items.ensures in
-    let low = waiters_below s c.requires.orderly c.args.node _
+    let low = waiters_below s c.requires.agreed.orderly c.args.node _
     (among_at _ (queue_of c.args.self.now.headers.entries c.args.node) c.loop-slot.slot-index (0, NL) queue c.loop-slot-test.true) in
-    omega (arith, c.requires.sound.lists, c.args.self.now.lists.ok.0)
+    omega (arith, c.requires.agreed.sound.lists, c.args.self.now.lists.ok.0)
 
 pub insert-requires : goal.insert-requires
 insert-requires c =
     let s : State = state_in c.args.graph.now c.args.self.now in
     let queue = c.queue-slot-items.ensures in
-    let low = waiters_below s c.requires.orderly c.args.node _
+    let low = waiters_below s c.requires.agreed.orderly c.args.node _
     (among_at _ (queue_of c.args.self.now.headers.entries c.args.node) c.loop-slot.slot-index (0, NL) queue c.loop-slot-test.true) in
-    omega (arith, c.requires.sound.few)
+    omega (arith, c.requires.agreed.sound.few)
 
 pub loop-slot-preserved : goal.loop-slot-preserved
 loop-slot-preserved c =
@@ -31,12 +31,12 @@ loop-slot-preserved c =
     let i = c.loop-slot.slot-index in
     let w : Waiter = slice_index_or q i (0, NL) in
     let queue = c.queue-slot-items.ensures in
-    let low = waiters_below s c.requires.orderly c.args.node _
+    let low = waiters_below s c.requires.agreed.orderly c.args.node _
     (among_at _ (queue_of c.args.self.now.headers.entries c.args.node) i (0, NL) queue c.loop-slot-test.true) in
-    let within : w.0 < length c.args.self.now.lists.items = subst (λ (k : ℕ). w.0 < k) (sym c.requires.sound.lists) low in
+    let within : w.0 < length c.args.self.now.lists.items = subst (λ (k : ℕ). w.0 < k) (sym c.requires.agreed.sound.lists) low in
     let allowed : intends_over (mode_of c.index-list.result.now) c.parents.result.now w.1 ≡ stays s ps w =
     ap (λ (xs : List NodeId). intends_over (mode_of c.index-list.result.now) xs w.1) c.parents.ensures
-    ∙ allowed_stays s c.args.self.now.lists.items ps w c.index-list.result.now within c.index-list.ensures (c.requires.agree w.0) in
+    ∙ allowed_stays s c.args.self.now.lists.items ps w c.index-list.result.now within c.index-list.ensures (c.requires.agreed.agree w.0) in
     elim c.if-not-is_allowed.branch [
       | then-not-is_allowed b ↦
           subst (IsSetOf f (take (i + 1) q)) (sym b.strays-is)

@@ -16,20 +16,16 @@ among c = is_among_all c.args.waiters.now c.loop-waiter.waiter-index (0, NL) c.l
 fresh : (c : In-loop-waiter) → is_among_waiters (slot c) (take c.loop-waiter.waiter-index c.args.waiters.now) ≡ false
 fresh c = none_before c.args.waiters.now c.loop-waiter.waiter-index (0, NL) c.requires.can.distinct c.loop-waiter-test.true
 
-pub end_wait-requires-clause-kept : goal.end_wait-requires-clause-kept
-end_wait-requires-clause-kept c = kept_still c.loop-waiter.invariant c.requires.can.kept
-
-pub end_wait-requires-clause-seated : goal.end_wait-requires-clause-seated
-end_wait-requires-clause-seated c = let p = (goal.at.end_wait-requires-clause-seated c).In-loop-waiter in
-    seat_still c.loop-waiter.invariant _ (fresh p) (c.requires.can.below _ (among p))
+pub end_wait-requires-clause-can : goal.end_wait-requires-clause-can
+end_wait-requires-clause-can c = let p = (goal.at.end_wait-requires-clause-can c).In-loop-waiter in record {
+  kept = kept_still c.loop-waiter.invariant c.requires.can.kept;
+  seated = seat_still c.loop-waiter.invariant _ (fresh p) (c.requires.can.below _ (among p));
+  untold = untold_still c.loop-waiter.invariant _ (fresh p) (c.requires.can.untold _ (among p));
+}
 
 pub end_wait-requires-clause-room : goal.end_wait-requires-clause-room
 end_wait-requires-clause-room c = let p = (goal.at.end_wait-requires-clause-room c).In-loop-waiter in
     let none = count_still c.loop-waiter.invariant _ (fresh p) c.args.node ∙ c.requires.childless _ (among p) in λ some. absurd (omega arith)
-
-pub end_wait-requires-clause-untold : goal.end_wait-requires-clause-untold
-end_wait-requires-clause-untold c = let p = (goal.at.end_wait-requires-clause-untold c).In-loop-waiter in
-    untold_still c.loop-waiter.invariant _ (fresh p) (c.requires.can.untold _ (among p))
 
 pub loop-waiter-preserved : goal.loop-waiter-preserved
 loop-waiter-preserved c = let p = (goal.at.loop-waiter-preserved c).In-loop-waiter in

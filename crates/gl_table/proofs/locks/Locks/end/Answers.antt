@@ -9,40 +9,39 @@ use Rattle.gl_table.proofs.locks.Locks.end.Goals as goal
 pub invariant_of-self : goal.invariant_of-self
 invariant_of-self c =
     let left = c.leave_all.new.self in
-    let was = c.leave_all.ensures.sound in
+    let gone = c.leave_all.ensures.left in
+    let others = c.leave_all.ensures.others in
     let now : State = state_in c.args.self.now.graph left in
-    let seated : c.args.slot < length left.seats.items = subst (λ (k : ℕ). c.args.slot < k) (sym c.leave_all.ensures.len) c.requires.seated in
-    let listed : c.args.slot < length left.lists.items = subst (λ (k : ℕ). c.args.slot < k) (sym was.lists) seated in
+    let seated : c.args.slot < length left.seats.items = subst (λ (k : ℕ). c.args.slot < k) (sym gone.most) c.requires.seated in
+    let listed : c.args.slot < length left.lists.items = subst (λ (k : ℕ). c.args.slot < k) (sym others.sound.lists) seated in
     let seats : length left.seats.items ≡ length c.leave.new.self.items = sym (ap length c.leave.ensures ∙ length-set left.seats.items c.args.slot None) in
     let bare : IsBare c.clear.new.self = record { listed = c.clear.ensures.listed; counts = c.clear.ensures.counts } in
     let freed = sym (state-freed now left.seats.items c.leave.new.self.items c.args.slot seated c.leave.ensures) in
     record {
-      orderly = subst IsOrderly freed (orderly-gone now c.args.slot c.leave_all.ensures.free c.leave_all.ensures.out left.lists.items c.clear.new.self listed
-          bare c.leave_all.ensures.orderly);
+      orderly = subst IsOrderly freed (orderly-gone now c.args.slot gone.free gone.out left.lists.items c.clear.new.self listed bare
+          others.orderly);
       sound = record {
-        few = subst (λ (k : ℕ). k ≤ most_slots) seats was.few;
-        lists = length-set left.lists.items c.args.slot c.clear.new.self ∙ was.lists ∙ seats;
+        few = subst (λ (k : ℕ). k ≤ most_slots) seats others.sound.few;
+        lists = length-set left.lists.items c.args.slot c.clear.new.self ∙ others.sound.lists ∙ seats;
       };
       agree = λ u. subst (λ (x : State). Agrees x (slice_set left.lists.items c.args.slot c.clear.new.self) u) freed
-          (agrees-gone now c.args.slot c.leave_all.ensures.free c.leave_all.ensures.out left.lists.items c.clear.new.self listed bare c.leave_all.ensures.agree
-          u);
-      count = counts-gone now c.args.slot c.leave_all.ensures.free c.leave_all.ensures.out left.lists.items c.clear.new.self listed bare
-          c.leave_all.ensures.count;
+          (agrees-gone now c.args.slot gone.free gone.out left.lists.items c.clear.new.self listed bare others.agree u);
+      count = counts-gone now c.args.slot gone.free gone.out left.lists.items c.clear.new.self listed bare others.count;
     }
 
 pub returns-clause-state : goal.returns-clause-state
 returns-clause-state c =
     let left = c.leave_all.new.self in
-    let seated : c.args.slot < length left.seats.items = subst (λ (k : ℕ). c.args.slot < k) (sym c.leave_all.ensures.len) c.requires.seated in
+    let seated : c.args.slot < length left.seats.items = subst (λ (k : ℕ). c.args.slot < k) (sym c.leave_all.ensures.left.most) c.requires.seated in
     state-freed (state_in c.args.self.now.graph left) left.seats.items c.leave.new.self.items c.args.slot seated c.leave.ensures
-    ∙ sym c.leave_all.ensures.state
+    ∙ sym c.leave_all.ensures.left.state
 
 pub returns-clause-tells : goal.returns-clause-tells
 returns-clause-tells c =
     let left = c.leave_all.new.self in
     let was = c.leave_all.ensures.tells in
     let now : State = state_in c.args.self.now.graph left in
-    let seated : c.args.slot < length left.seats.items = subst (λ (k : ℕ). c.args.slot < k) (sym c.leave_all.ensures.len) c.requires.seated in
+    let seated : c.args.slot < length left.seats.items = subst (λ (k : ℕ). c.args.slot < k) (sym c.leave_all.ensures.left.most) c.requires.seated in
     record {
       by_slot = was.by_slot;
       others = λ s way same u e. was.others s way same u e

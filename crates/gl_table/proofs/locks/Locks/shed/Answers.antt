@@ -13,24 +13,17 @@ mark_covered-requires c =
           (l.agree c.args.slot) (l.count c.args.slot);
     }
 
-pub release_marked-requires-clause-sound : goal.release_marked-requires-clause-sound
-release_marked-requires-clause-sound c =
+pub release_marked-requires-clause-others : goal.release_marked-requires-clause-others
+release_marked-requires-clause-others c =
     let l = c.args.self.now in
+    let ls = l.ledger.lists.items in
     let there = list_there l.ledger (graph_of l.graph) l.sound l.orderly c.args.slot c.requires.active in
     record {
-      few = l.sound.few;
-      lists = length-set l.ledger.lists.items c.args.slot c.replace-list.new.dest ∙ l.sound.lists;
+      sound = record { few = l.sound.few; lists = length-set ls c.args.slot c.replace-list.new.dest ∙ l.sound.lists };
+      orderly = l.orderly;
+      agree = λ u e. agrees-set ls c.args.slot c.replace-list.new.dest there u e (state_at l) (l.agree u);
+      count = λ u e. counts-set ls c.args.slot c.replace-list.new.dest there u e (state_at l) (l.count u);
     }
-
-pub release_marked-requires-clause-agree : goal.release_marked-requires-clause-agree
-release_marked-requires-clause-agree c = λ u e. let l = c.args.self.now in
-    agrees-set l.ledger.lists.items c.args.slot c.replace-list.new.dest
-    (list_there l.ledger (graph_of l.graph) l.sound l.orderly c.args.slot c.requires.active) u e (state_at l) (l.agree u)
-
-pub release_marked-requires-clause-count : goal.release_marked-requires-clause-count
-release_marked-requires-clause-count c = λ u e. let l = c.args.self.now in
-    counts-set l.ledger.lists.items c.args.slot c.replace-list.new.dest
-    (list_there l.ledger (graph_of l.graph) l.sound l.orderly c.args.slot c.requires.active) u e (state_at l) (l.count u)
 
 pub release_marked-requires-clause-marked : goal.release_marked-requires-clause-marked
 release_marked-requires-clause-marked c =
@@ -44,18 +37,14 @@ release_marked-requires-clause-marked c =
 pub invariant_of-self : goal.invariant_of-self
 invariant_of-self c =
     let left = c.release_marked.new.self in
-    let ends = c.release_marked.ensures in
     let now : State = state_in c.args.self.now.graph left in
     let before : State = state_at c.args.self.now in
-    let there = list_there left (graph_of c.args.self.now.graph) ends.sound ends.orderly c.args.slot ends.active in
+    let others = c.release_marked.ensures.others in
+    let is = c.release_marked.ensures.released in
+    let there = list_there left (graph_of c.args.self.now.graph) others.sound others.orderly c.args.slot is.active in
     record {
-      orderly = ends.orderly;
-      sound = record {
-        few = ends.sound.few;
-        lists = length-set left.lists.items c.args.slot c.release_marked.new.list ∙ ends.sound.lists;
-      };
-      agree = agrees-back now ends.orderly c.args.slot ends.active before c.args.node left.lists.items c.release_marked.new.list there ends.marked ends.modes
-          ends.agree;
-      count = counts-back now ends.orderly c.args.slot ends.active before c.args.node left.lists.items c.release_marked.new.list there ends.marked ends.modes
-          ends.count;
+      orderly = others.orderly;
+      sound = record { few = others.sound.few; lists = length-set left.lists.items c.args.slot c.release_marked.new.list ∙ others.sound.lists };
+      agree = agrees-back now others.orderly c.args.slot is.active before c.args.node left.lists.items c.release_marked.new.list there is others.agree;
+      count = counts-back now others.orderly c.args.slot is.active before c.args.node left.lists.items c.release_marked.new.list there is others.count;
     }

@@ -1,11 +1,11 @@
-use Rattle.gl_table.proofs.Words.{◌∙◌, ◌≡◌, Active, ap, AreExact, first_not_ix, graph_of, IsIndexBorn, NodeId, None, Option}
-use Rattle.gl_table.proofs.Words.{Refusal, Refuses, Some, State, state_in, state_of, status_of, subst, sym, TableView, view_of, with_grant, with_graph, X}
+use Rattle.gl_table.proofs.Words.{◌∙◌, ◌≡◌, Active, ap, AreExact, first_not_ix, graph_of, IsIndexBorn, IsPrepared, NodeId, None, Option, Refusal, Refuses}
+use Rattle.gl_table.proofs.Words.{Some, State, state_in, state_of, status_of, subst, sym, TableView, view_of, with_grant, with_graph, X, ℕ}
 use Rattle.gl_table.specs.declared.ledger.Ledger.{Ledger}
 use Rattle.gl_table.specs.declared.table.Table.TheInside.{Inside}
-use Rattle.gl_table.proofs.calls.Dropping.{index_lives, index_unawaited, index_unheld, stands_indexed, stands_placed_index, state_indexed}
+use Rattle.gl_table.proofs.calls.Dropping.{index_fresh, stands_indexed, stands_placed_index, state_indexed}
 use Rattle.gl_table.proofs.calls.Records.{same_state, stands_roomy}
 use Rattle.gl_graph.specs.Refusals.{reindex_refusal}
-use Rattle.gl_table.proofs.calls.Stands.{MayStand, put}
+use Rattle.gl_table.proofs.calls.Stands.{may_act, MayStand, put}
 use Rattle.gl_table.proofs.table.Table.add_index_held.Goals.{After-add_index_unrefused, After-prepare}
 use Rattle.gl_table.proofs.table.Table.add_index_held.Goals as goal
 
@@ -49,27 +49,18 @@ invariant_of-locks-in-Break-branch-2 c = (asked (goal.at.invariant_of-locks-in-B
 pub invariant_of-self-in_err-index : goal.invariant_of-self-in_err-index
 invariant_of-self-in_err-index c = (asked (goal.at.invariant_of-self-in_err-index c).After-add_index_unrefused).safe
 
-pub place-requires-clause-orderly : goal.place-requires-clause-orderly
-place-requires-clause-orderly c = (asked (goal.at.place-requires-clause-orderly c).After-add_index_unrefused).law.orderly
+pub place-requires-clause-act : goal.place-requires-clause-act
+place-requires-clause-act c = let at = (goal.at.place-requires-clause-act c).After-add_index_unrefused in
+    may_act _ c.prepare.new.self (asked at).law c.args.t.slot (ap (λ (s : State). status_of s c.args.t.slot) (same at) ∙ c.requires.active)
 
-pub place-requires-clause-exact : goal.place-requires-clause-exact
-place-requires-clause-exact c = let law = (asked (goal.at.place-requires-clause-exact c).After-add_index_unrefused).law in
-    record { sound = law.sound; agree = law.agree; count = law.count }
-
-pub place-requires-clause-live : goal.place-requires-clause-live
-place-requires-clause-live c = let at = (goal.at.place-requires-clause-live c).After-add_index_unrefused in
-    index_lives (roomy at) (ready at).safe c.args.parents.now c.args.file c.args.bounds.now (free at) c.add_index_unrefused.new.self c.in_ok-index.index
+pub place-requires-clause-fresh : goal.place-requires-clause-fresh
+place-requires-clause-fresh c = let at = (goal.at.place-requires-clause-fresh c).After-add_index_unrefused in
+    index_fresh (roomy at) (ready at).safe c.args.parents.now c.args.file c.args.bounds.now (free at) c.add_index_unrefused.new.self c.in_ok-index.index
     c.in_ok-index.ensures.made
 
-pub place-requires-clause-unheld : goal.place-requires-clause-unheld
-place-requires-clause-unheld c = let at = (goal.at.place-requires-clause-unheld c).After-add_index_unrefused in
-    index_unheld (roomy at) (ready at).safe c.args.parents.now c.args.file c.args.bounds.now (free at) c.add_index_unrefused.new.self c.in_ok-index.index
-    c.in_ok-index.ensures.made
-
-pub place-requires-clause-unawaited : goal.place-requires-clause-unawaited
-place-requires-clause-unawaited c = let at = (goal.at.place-requires-clause-unawaited c).After-add_index_unrefused in
-    index_unawaited (roomy at) (ready at).safe c.args.parents.now c.args.file c.args.bounds.now (free at) c.add_index_unrefused.new.self c.in_ok-index.index
-    c.in_ok-index.ensures.made
+pub place-requires-clause-ready : goal.place-requires-clause-ready
+place-requires-clause-ready c = subst (λ (k : ℕ). IsPrepared c.prepare.new.self c.args.t.slot k X c.in_ok-prepared.prepared)
+    (c.next_key.ensures ∙ sym c.in_ok-index.ensures.key) c.in_ok-prepared.ensures.ready
 
 -- the slot holds it
 placed : (c : After-add_index_unrefused) (n : NodeId)

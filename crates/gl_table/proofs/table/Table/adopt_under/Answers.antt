@@ -1,11 +1,11 @@
-use Rattle.gl_table.proofs.Words.{Active, ap, AreExact, graph_of, is_live, IsBorn, NodeId, None, Option, Rec, record_parents, record_refusal, Refusal}
-use Rattle.gl_table.proofs.Words.{Refuses, rule_refusal, Some, State, state_in, state_of, status_of, subst, sym, TableView, true, View, view_of, with_grant}
-use Rattle.gl_table.proofs.Words.{with_graph, ◌∙◌, ◌≡◌}
+use Rattle.gl_table.proofs.Words.{◌∙◌, ◌≡◌, Active, ap, AreExact, graph_of, IsBorn, IsPrepared, NodeId, None, Option, Rec, record_parents, record_refusal}
+use Rattle.gl_table.proofs.Words.{Refusal, Refuses, rule_refusal, Some, State, state_in, state_of, status_of, subst, sym, TableView, View, view_of}
+use Rattle.gl_table.proofs.Words.{with_grant, with_graph, ℕ}
 use Rattle.gl_table.specs.declared.ledger.Ledger.{Ledger}
 use Rattle.gl_table.specs.declared.table.Table.TheInside.{Inside}
-use Rattle.gl_table.proofs.calls.Adopting.{adopted, adopted_lives, file_stands, stands_adopted, stands_locked, state_adopted}
-use Rattle.gl_table.proofs.calls.Records.{record_unawaited, record_unheld, same_state, stands_grown, stands_roomy}
-use Rattle.gl_table.proofs.calls.Stands.{MayStand, put, with_locks}
+use Rattle.gl_table.proofs.calls.Adopting.{adopted_fresh, file_stands, stands_adopted, stands_locked, state_adopted}
+use Rattle.gl_table.proofs.calls.Records.{same_state, stands_grown, stands_roomy}
+use Rattle.gl_table.proofs.calls.Stands.{may_act, MayStand, put, with_locks}
 use Rattle.gl_graph.specs.Changes.{marked}
 use Rattle.gl_table.proofs.table.Table.adopt_under.Goals.{After-add_record_under, After-prepare}
 use Rattle.gl_table.proofs.table.Table.adopt_under.Goals as goal
@@ -67,11 +67,6 @@ module _ (c : After-add_record_under) (n : NodeId)
   adopts : MayStand (roomy c) v c.prepare.new.self
   adopts = stands_adopted (roomy c) (ready c).safe c.args.file c.args.keys.now (free c) c.add_record_under.new.self n born v after
 
-  lives : is_live (graph_of v) n ≡ true
-  lives =
-      adopted_lives (graph_of c.self.inside.locks.graph) (graph_of v) n c.args.file c.args.keys.now
-      (adopted (roomy c) (ready c).safe c.args.file c.args.keys.now (free c) c.add_record_under.new.self n born v after)
-
   -- the slot holds it
   module _ (l : Ledger) (is : state_in v l ≡ with_grant (state_in v c.prepare.new.self) c.args.t.slot n c.args.mode) where
     placed : AreExact v l → MayStand (roomy c) v l
@@ -86,26 +81,19 @@ module _ (c : After-add_record_under) (n : NodeId)
         state_adopted (roomy c) (ready c).safe c.args.file c.args.keys.now (free c) c.add_record_under.new.self n born v after c.args.t.slot c.args.mode l is
         ∙ ap (λ (s : State). with_grant (with_graph s (graph_of v)) c.args.t.slot n c.args.mode) (same c)
 
-pub place-requires-clause-orderly : goal.place-requires-clause-orderly
-place-requires-clause-orderly c = let at = (goal.at.place-requires-clause-orderly c).After-add_record_under in
-    (adopts at c.in_ok-rec.rec c.in_ok-rec.ensures.made c.mark_adopted.new.self c.mark_adopted.ensures.marked).law.orderly
+pub place-requires-clause-act : goal.place-requires-clause-act
+place-requires-clause-act c = let at = (goal.at.place-requires-clause-act c).After-add_record_under in
+    may_act _ c.prepare.new.self (adopts at c.in_ok-rec.rec c.in_ok-rec.ensures.made c.mark_adopted.new.self c.mark_adopted.ensures.marked).law
+    c.args.t.slot (ap (λ (s : State). status_of s c.args.t.slot) (same at) ∙ c.requires.active)
 
-pub place-requires-clause-exact : goal.place-requires-clause-exact
-place-requires-clause-exact c = let at = (goal.at.place-requires-clause-exact c).After-add_record_under in
-    let law = (adopts at c.in_ok-rec.rec c.in_ok-rec.ensures.made c.mark_adopted.new.self c.mark_adopted.ensures.marked).law in
-    record { sound = law.sound; agree = law.agree; count = law.count }
+pub place-requires-clause-fresh : goal.place-requires-clause-fresh
+place-requires-clause-fresh c = let at = (goal.at.place-requires-clause-fresh c).After-add_record_under in
+    adopted_fresh (roomy at) (ready at).safe c.args.file c.args.keys.now (free at) c.add_record_under.new.self c.in_ok-rec.rec c.in_ok-rec.ensures.made
+    c.mark_adopted.new.self c.mark_adopted.ensures.marked
 
-pub place-requires-clause-live : goal.place-requires-clause-live
-place-requires-clause-live c = let at = (goal.at.place-requires-clause-live c).After-add_record_under in
-    lives at c.in_ok-rec.rec c.in_ok-rec.ensures.made c.mark_adopted.new.self c.mark_adopted.ensures.marked
-
-pub place-requires-clause-unheld : goal.place-requires-clause-unheld
-place-requires-clause-unheld c = let at = (goal.at.place-requires-clause-unheld c).After-add_record_under in
-    record_unheld (roomy at) (ready at).safe c.args.file c.args.keys.now (free at) c.add_record_under.new.self c.in_ok-rec.rec c.in_ok-rec.ensures.made
-
-pub place-requires-clause-unawaited : goal.place-requires-clause-unawaited
-place-requires-clause-unawaited c = let at = (goal.at.place-requires-clause-unawaited c).After-add_record_under in
-    record_unawaited (roomy at) (ready at).safe c.args.file c.args.keys.now (free at) c.add_record_under.new.self c.in_ok-rec.rec c.in_ok-rec.ensures.made
+pub place-requires-clause-ready : goal.place-requires-clause-ready
+place-requires-clause-ready c = subst (λ (k : ℕ). IsPrepared c.prepare.new.self c.args.t.slot k c.args.mode c.in_ok-prepared.prepared)
+    (c.next_key.ensures ∙ sym c.in_ok-rec.ensures.key) c.in_ok-prepared.ensures.ready
 
 pub invariant_of-self-2 : goal.invariant_of-self-2
 invariant_of-self-2 c = (placed (goal.at.invariant_of-self-2 c).After-add_record_under c.in_ok-rec.rec c.in_ok-rec.ensures.made c.mark_adopted.new.self

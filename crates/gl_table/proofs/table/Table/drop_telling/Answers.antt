@@ -1,13 +1,11 @@
-use Rattle.gl_table.proofs.Words.{◌∙◌, ◌≡◌, Active, Agrees, ap, CountsHeld, departed, false, graph_of, is_among_waiters, IsTold, NodeId, same_mode, shape_of}
-use Rattle.gl_table.proofs.Words.{Some, state_in, state_of, status_of, subst}
-use Rattle.gl_table.proofs.Words.{sym, TableView, Told, told, true, view_of, X}
+use Rattle.gl_table.proofs.Words.{◌∙◌, ◌≡◌, Active, ap, departed, false, graph_of, NodeId, same_mode, shape_of, Some, state_in, state_of, status_of, subst}
+use Rattle.gl_table.proofs.Words.{sym, TableView, TellsGone, Told, told, true, view_of, X, ℕ}
 use Rattle.gl_graph.specs.Refusals.{is_in_use}
 use Rattle.gl_graph.specs.Shapes.{is_movable_shape}
 use Rattle.gl_model.specs.Calls.{dropped, goes_with}
-use Rattle.gl_model.specs.declared.answers.Notice.TheVariants as notice
 use Rattle.gl_table.proofs.calls.Departing.{AreGone, stands_departed, state_departed, told_departed}
-use Rattle.gl_table.proofs.calls.Dropping.{branch_alone, branch_gone, branch_unawaited}
-use Rattle.gl_table.proofs.calls.Stands.{MayStand, with_locks}
+use Rattle.gl_table.proofs.calls.Dropping.{branch_gone, branch_left}
+use Rattle.gl_table.proofs.calls.Stands.{as_it_was, may_act, MayStand, with_locks}
 use Rattle.gl_table.specs.declared.table.Table.TheInside.{Inside}
 use Rattle.gl_table.proofs.table.Table.drop_telling.Goals.{After-remove_node}
 use Rattle.gl_table.proofs.table.Table.drop_telling.Goals as goal
@@ -19,21 +17,25 @@ movable i v n is h = subst (λ (x : TableView). is_movable_shape (shape_of (stat
 free : (i : Inside) (v : TableView) (n : NodeId) → view_of i ≡ v → is_in_use (state_of v).graph n ≡ false → is_in_use (graph_of i.locks.graph) n ≡ false
 free i v n is h = subst (λ (x : TableView). is_in_use (state_of x).graph n ≡ false) (sym is) h
 
-pub vacate_branch-requires-clause-alone : goal.vacate_branch-requires-clause-alone
-vacate_branch-requires-clause-alone c =
-    branch_alone (state_of (view_of c.self.inside)) c.self.invariant.lawful c.args.t.slot c.args.n
-    (movable c.self.inside c.args.self.now c.args.n c.self.view_is c.requires.movable)
-    (free c.self.inside c.args.self.now c.args.n c.self.view_is c.requires.free)
-    (subst (λ (v : TableView). status_of (state_of v) c.args.t.slot ≡ Some Active) (sym c.self.view_is) c.requires.active)
-    (subst (λ (v : TableView). same_mode ((state_of v).held c.args.t.slot c.args.n) X ≡ true) (sym c.self.view_is) c.requires.exclusive)
+active : (i : Inside) (v : TableView) (t : ℕ) → view_of i ≡ v → status_of (state_of v) t ≡ Some Active → status_of (state_of (view_of i)) t ≡ Some Active
+active i v t is h = subst (λ (x : TableView). status_of (state_of x) t ≡ Some Active) (sym is) h
 
-pub vacate_branch-requires-clause-unawaited : goal.vacate_branch-requires-clause-unawaited
-vacate_branch-requires-clause-unawaited c =
-    branch_unawaited (state_of (view_of c.self.inside)) c.self.invariant.lawful c.args.t.slot c.args.n
+exclusive : (i : Inside) (v : TableView) (t : ℕ) (n : NodeId) → view_of i ≡ v → same_mode ((state_of v).held t n) X ≡ true
+    → same_mode ((state_of (view_of i)).held t n) X ≡ true
+exclusive i v t n is h = subst (λ (x : TableView). same_mode ((state_of x).held t n) X ≡ true) (sym is) h
+
+pub vacate_branch-requires-clause-act : goal.vacate_branch-requires-clause-act
+vacate_branch-requires-clause-act c = may_act c.self.inside.locks.graph c.self.inside.locks.ledger (as_it_was c.self.inside c.self.invariant).law c.args.t.slot
+    (active c.self.inside c.args.self.now c.args.t.slot c.self.view_is c.requires.active)
+
+pub vacate_branch-requires-clause-branch : goal.vacate_branch-requires-clause-branch
+vacate_branch-requires-clause-branch c =
+    let is = branch_left (state_of (view_of c.self.inside)) c.self.invariant.lawful c.args.t.slot c.args.n
     (movable c.self.inside c.args.self.now c.args.n c.self.view_is c.requires.movable)
     (free c.self.inside c.args.self.now c.args.n c.self.view_is c.requires.free)
-    (subst (λ (v : TableView). status_of (state_of v) c.args.t.slot ≡ Some Active) (sym c.self.view_is) c.requires.active)
-    (subst (λ (v : TableView). same_mode ((state_of v).held c.args.t.slot c.args.n) X ≡ true) (sym c.self.view_is) c.requires.exclusive)
+    (active c.self.inside c.args.self.now c.args.t.slot c.self.view_is c.requires.active)
+    (exclusive c.self.inside c.args.self.now c.args.t.slot c.args.n c.self.view_is c.requires.exclusive) in
+    record { movable = is.movable; free = is.free; holding = is.holding; alone = is.alone; unawaited = is.unawaited }
 
 gone : (c : After-remove_node)
     → AreGone (state_of (view_of c.self.inside)) (goes_with (graph_of c.self.inside.locks.graph) c.args.n) (graph_of c.remove_node.new.self) c.args.n
@@ -41,16 +43,14 @@ gone c =
     branch_gone (state_of (view_of c.self.inside)) c.self.invariant.lawful c.args.t.slot c.args.n
     (movable c.self.inside c.args.self.now c.args.n c.self.view_is c.requires.movable)
     (free c.self.inside c.args.self.now c.args.n c.self.view_is c.requires.free)
-    (subst (λ (v : TableView). status_of (state_of v) c.args.t.slot ≡ Some Active) (sym c.self.view_is) c.requires.active)
-    (subst (λ (v : TableView). same_mode ((state_of v).held c.args.t.slot c.args.n) X ≡ true) (sym c.self.view_is) c.requires.exclusive)
+    (active c.self.inside c.args.self.now c.args.t.slot c.self.view_is c.requires.active)
+    (exclusive c.self.inside c.args.self.now c.args.t.slot c.args.n c.self.view_is c.requires.exclusive)
     (graph_of c.remove_node.new.self) c.remove_node.ensures.removed
 
 stand : (c : After-remove_node) → MayStand c.self.inside c.remove_node.new.self c.vacate_branch.new.self
 stand c =
     stands_departed c.self.inside c.self.invariant (goes_with (graph_of c.self.inside.locks.graph) c.args.n) c.args.n c.vacate_branch.new.self
-    c.remove_node.new.self (gone c) c.vacate_branch.ensures.state c.vacate_branch.ensures.exact.sound
-    (λ u. subst (λ x. Agrees x c.vacate_branch.new.self.lists.items u) c.vacate_branch.ensures.state (c.vacate_branch.ensures.exact.agree u))
-    (λ u. subst (λ x. CountsHeld x c.vacate_branch.new.self.lists.items u) c.vacate_branch.ensures.state (c.vacate_branch.ensures.exact.count u))
+    c.remove_node.new.self (gone c) c.vacate_branch.ensures.state c.vacate_branch.ensures.exact
 
 pub invariant_of-self : goal.invariant_of-self
 invariant_of-self c = (stand (goal.at.invariant_of-self c).After-remove_node).safe
@@ -70,7 +70,7 @@ pub returns-clause-told : goal.returns-clause-told
 returns-clause-told c =
     let at = (goal.at.returns-clause-told c).After-remove_node in
     let s = state_of (view_of c.self.inside) in
-    let tells = subst (λ (list : Told). IsTold s.txns (λ u. is_among_waiters u (s.queue c.args.n)) (λ u. notice.Gone) list c.vacate_branch.new.told.items)
+    let tells = subst (λ (list : Told). TellsGone s c.args.n list c.vacate_branch.new.told.items)
     c.requires.empty c.vacate_branch.ensures.tells in
     told_departed c.self.inside c.self.invariant (goes_with (graph_of c.self.inside.locks.graph) c.args.n) c.args.n c.vacate_branch.new.self
     c.remove_node.new.self (gone at) c.vacate_branch.ensures.state c.vacate_branch.new.told.items tells

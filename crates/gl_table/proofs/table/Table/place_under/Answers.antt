@@ -1,9 +1,10 @@
-use Rattle.gl_table.proofs.Words.{◌∙◌, ◌≡◌, Active, ap, AreExact, first_not_ix, graph_of, IsBorn, NodeId, None, Option, Rec, record_parents, record_refusal}
-use Rattle.gl_table.proofs.Words.{Refusal, Refuses, Some, State, state_in, state_of, status_of, subst, sym, TableView, view_of, with_grant, with_graph, X}
+use Rattle.gl_table.proofs.Words.{◌∙◌, ◌≡◌, Active, ap, AreExact, first_not_ix, graph_of, IsBorn, IsPrepared, NodeId, None, Option, Rec, record_parents}
+use Rattle.gl_table.proofs.Words.{record_refusal, Refusal, Refuses, Some, State, state_in, state_of, status_of, subst, sym, TableView, view_of, with_grant}
+use Rattle.gl_table.proofs.Words.{with_graph, X, ℕ}
 use Rattle.gl_table.specs.declared.ledger.Ledger.{Ledger}
 use Rattle.gl_table.specs.declared.table.Table.TheInside.{Inside}
-use Rattle.gl_table.proofs.calls.Records.{record_lives, record_unawaited, record_unheld, same_state, stands_grown, stands_placed, stands_roomy, state_placed}
-use Rattle.gl_table.proofs.calls.Stands.{MayStand, put}
+use Rattle.gl_table.proofs.calls.Records.{record_fresh, same_state, stands_grown, stands_placed, stands_roomy, state_placed}
+use Rattle.gl_table.proofs.calls.Stands.{may_act, MayStand, put}
 use Rattle.gl_table.proofs.table.Table.place_under.Goals.{After-add_record_under, After-prepare}
 use Rattle.gl_table.proofs.table.Table.place_under.Goals as goal
 
@@ -52,24 +53,17 @@ add_record_under-requires-clause-parents c = c.requires.parents
 pub invariant_of-self-in_err-rec : goal.invariant_of-self-in_err-rec
 invariant_of-self-in_err-rec c = (asked (goal.at.invariant_of-self-in_err-rec c).After-add_record_under).safe
 
-pub place-requires-clause-orderly : goal.place-requires-clause-orderly
-place-requires-clause-orderly c = (asked (goal.at.place-requires-clause-orderly c).After-add_record_under).law.orderly
+pub place-requires-clause-act : goal.place-requires-clause-act
+place-requires-clause-act c = let at = (goal.at.place-requires-clause-act c).After-add_record_under in
+    may_act _ c.prepare.new.self (asked at).law c.args.t.slot (ap (λ (s : State). status_of s c.args.t.slot) (same at) ∙ c.requires.active)
 
-pub place-requires-clause-exact : goal.place-requires-clause-exact
-place-requires-clause-exact c = let law = (asked (goal.at.place-requires-clause-exact c).After-add_record_under).law in
-    record { sound = law.sound; agree = law.agree; count = law.count }
+pub place-requires-clause-fresh : goal.place-requires-clause-fresh
+place-requires-clause-fresh c = let at = (goal.at.place-requires-clause-fresh c).After-add_record_under in
+    record_fresh (roomy at) (ready at).safe c.args.file c.args.keys.now (free at) c.add_record_under.new.self c.in_ok-rec.rec c.in_ok-rec.ensures.made
 
-pub place-requires-clause-live : goal.place-requires-clause-live
-place-requires-clause-live c = let at = (goal.at.place-requires-clause-live c).After-add_record_under in
-    record_lives (roomy at) (ready at).safe c.args.file c.args.keys.now (free at) c.add_record_under.new.self c.in_ok-rec.rec c.in_ok-rec.ensures.made
-
-pub place-requires-clause-unheld : goal.place-requires-clause-unheld
-place-requires-clause-unheld c = let at = (goal.at.place-requires-clause-unheld c).After-add_record_under in
-    record_unheld (roomy at) (ready at).safe c.args.file c.args.keys.now (free at) c.add_record_under.new.self c.in_ok-rec.rec c.in_ok-rec.ensures.made
-
-pub place-requires-clause-unawaited : goal.place-requires-clause-unawaited
-place-requires-clause-unawaited c = let at = (goal.at.place-requires-clause-unawaited c).After-add_record_under in
-    record_unawaited (roomy at) (ready at).safe c.args.file c.args.keys.now (free at) c.add_record_under.new.self c.in_ok-rec.rec c.in_ok-rec.ensures.made
+pub place-requires-clause-ready : goal.place-requires-clause-ready
+place-requires-clause-ready c = subst (λ (k : ℕ). IsPrepared c.prepare.new.self c.args.t.slot k X c.in_ok-prepared.prepared)
+    (c.next_key.ensures ∙ sym c.in_ok-rec.ensures.key) c.in_ok-prepared.ensures.ready
 
 -- the slot holds it
 placed : (c : After-add_record_under) (n : NodeId)

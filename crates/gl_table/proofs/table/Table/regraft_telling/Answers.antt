@@ -1,7 +1,6 @@
-use Rattle.gl_table.proofs.Words.{◌∙◌, ◌≡◌, ◌≤◌, ap, count_by, counted_by, CountsHeld, first_cycle, graph_of, List, moved_to, Node, NodeId, same_node, state_in}
-use Rattle.gl_table.proofs.Words.{state_of, subst, sym, TableView, told, view_of, with_parents, ℕ}
-use Rattle.gl_table.proofs.calls.Moves.{agree_moved, bare_moved, counted_moved, counts_moved, few_moved, listed_moved, move_call, orderly_moved, stands_moved}
-use Rattle.gl_table.proofs.calls.Moves.{state_moved, stuck_moved, told_moved}
+use Rattle.gl_table.proofs.Words.{◌∙◌, ◌≡◌, ap, first_cycle, graph_of, moved_to, Node, state_in, state_of, sym, TableView, told, view_of, with_parents}
+use Rattle.gl_table.proofs.calls.Moves.{agreed_moved, move_call, recount_moved, shut_moved, stands_moved}
+use Rattle.gl_table.proofs.calls.Moves.{state_moved, told_moved}
 use Rattle.gl_model.proofs.law.Move.{moved_node, Moves}
 use Rattle.gl_table.proofs.calls.Stands.{MayStand, with_locks}
 use Rattle.gl_table.proofs.table.Table.regraft_telling.Goals.{After-follow}
@@ -22,45 +21,23 @@ made c =
     (ap (λ (v : TableView). first_cycle (graph_of v.graph) c.args.n c.args.parents.now) (sym c.self.view_is) ∙ c.in_ok-set_parents.ensures.clear)
     (moved_graph c)
 
-pub follow-requires-clause-orderly : goal.follow-requires-clause-orderly
-follow-requires-clause-orderly c = let m = made c in
-    orderly_moved c.self.inside c.self.invariant c.args.t.slot c.args.n m.0 (after c m.0) c.set_parents.new.self m.1
+pub follow-requires-clause-agreed : goal.follow-requires-clause-agreed
+follow-requires-clause-agreed c = let m = made c in
+    agreed_moved c.self.inside c.self.invariant c.args.t.slot c.args.n m.0 (after c m.0) c.set_parents.new.self m.1
 
-pub follow-requires-clause-agree : goal.follow-requires-clause-agree
-follow-requires-clause-agree c = let m = made c in
-    agree_moved c.self.inside c.self.invariant c.args.t.slot c.args.n m.0 (after c m.0) c.set_parents.new.self m.1
+pub follow-requires-clause-shut_out : goal.follow-requires-clause-shut_out
+follow-requires-clause-shut_out c = let m = made c in
+    shut_moved c.self.inside c.self.invariant c.args.t.slot c.args.n m.0 (after c m.0) c.set_parents.new.self m.1
 
-pub follow-requires-clause-newcomers : goal.follow-requires-clause-newcomers
-follow-requires-clause-newcomers c = let m = made c in
-    bare_moved c.self.inside c.self.invariant c.args.t.slot c.args.n m.0 (after c m.0) c.set_parents.new.self m.1
-
-pub follow-requires-clause-stuck : goal.follow-requires-clause-stuck
-follow-requires-clause-stuck c = let m = made c in
-    stuck_moved c.self.inside c.self.invariant c.args.t.slot c.args.n m.0 (after c m.0) c.set_parents.new.self m.1
-
-pub follow-requires-clause-counted : goal.follow-requires-clause-counted
-follow-requires-clause-counted c = λ h q.
-    let m = made c in
-    subst (λ (ps : List NodeId). count_by (same_node q) ps ≤ counted_by c.self.inside.locks.ledger.lists.items c.args.t.slot q)
-    (sym (c.as_slice.ensures.value ∙ c.parents_before-old.ensures))
-    (counted_moved c.self.inside c.self.invariant c.args.t.slot c.args.n m.0 (after c m.0) c.set_parents.new.self m.1 h q)
-
-pub follow-requires-clause-listed : goal.follow-requires-clause-listed
-follow-requires-clause-listed c = let m = made c in
-    listed_moved c.self.inside c.self.invariant c.args.t.slot c.args.n m.0 (after c m.0) c.set_parents.new.self m.1
-
-pub follow-requires-clause-few : goal.follow-requires-clause-few
-follow-requires-clause-few c = let m = made c in few_moved c.self.inside c.self.invariant c.args.t.slot c.args.n m.0 (after c m.0) c.set_parents.new.self m.1
-
-counted : (c : After-follow) → (u : ℕ) → CountsHeld (state_in c.set_parents.new.self c.follow.new.self) c.follow.new.self.lists.items u
-counted c = let m = made c.before in
-    counts_moved c.self.inside c.self.invariant c.args.t.slot c.args.n m.0 (after c.before m.0) c.set_parents.new.self m.1 c.follow.new.self
-    c.follow.ensures.state c.as_slice.result.now (c.as_slice.ensures.value ∙ c.parents_before-old.ensures) c.follow.ensures.counts
+pub follow-requires-clause-recount : goal.follow-requires-clause-recount
+follow-requires-clause-recount c = let m = made c in
+    recount_moved c.self.inside c.self.invariant c.args.t.slot c.args.n m.0 (after c m.0) c.set_parents.new.self m.1 c.as_slice.result.now
+    (c.as_slice.ensures.value ∙ c.parents_before-old.ensures)
 
 stand : (c : After-follow) → MayStand c.self.inside c.set_parents.new.self c.follow.new.self
 stand c = let m = made c.before in
     stands_moved c.self.inside c.self.invariant c.args.t.slot c.args.n m.0 (after c.before m.0) c.set_parents.new.self m.1 c.follow.new.self
-    c.follow.ensures.state c.follow.ensures.sound c.follow.ensures.agree (counted c)
+    c.follow.new.told.items c.follow.ensures.moved c.as_slice.result.now (c.as_slice.ensures.value ∙ c.parents_before-old.ensures) c.follow.ensures.counts
 
 pub invariant_of-self-2 : goal.invariant_of-self-2
 invariant_of-self-2 c = (stand (goal.at.invariant_of-self-2 c).After-follow).safe
@@ -71,12 +48,13 @@ invariant_of-locks-2 c = (stand (goal.at.invariant_of-locks-2 c).After-follow).l
 pub returns-clause-state : goal.returns-clause-state
 returns-clause-state c = let at = (goal.at.returns-clause-state c).After-follow in let m = made at.before in
     state_moved c.self.inside c.self.invariant c.args.t.slot c.args.n m.0 (after at.before m.0) c.set_parents.new.self m.1 c.follow.new.self
-    c.follow.ensures.state ∙ ap (λ (v : TableView). moved_to (state_of v) c.args.n c.args.parents.now (graph_of c.set_parents.new.self)) c.self.view_is
+    c.follow.new.told.items c.follow.ensures.moved
+    ∙ ap (λ (v : TableView). moved_to (state_of v) c.args.n c.args.parents.now (graph_of c.set_parents.new.self)) c.self.view_is
     ∙ ap (moved_to (state_of c.args.self.now) c.args.n c.args.parents.now) (moved_graph at.before)
 
 pub returns-clause-told : goal.returns-clause-told
 returns-clause-told c = let at = (goal.at.returns-clause-told c).After-follow in let m = made at.before in
     told_moved c.self.inside c.self.invariant c.args.t.slot c.args.n m.0 (after at.before m.0) c.set_parents.new.self m.1 c.follow.new.self
-    c.follow.ensures.state c.follow.new.told.items c.follow.ensures.tells.by_slot c.follow.ensures.tells.notices
+    c.follow.new.told.items c.follow.ensures.moved
     ∙ ap (λ (v : TableView). told (state_of v) (with_locks c.self.inside (state_in c.set_parents.new.self c.follow.new.self)))
     c.self.view_is

@@ -1,7 +1,7 @@
-use Rattle.gl_table.proofs.Words.{◌∙◌, ◌≡◌, Err, false, first_refusal, granted, lock_tests, Mode, None, none_some, OnOk, Option, refl, Refusal, Refuses, rules}
-use Rattle.gl_table.proofs.Words.{Some, state_in, state_of, subst, sym, TableView, true, try_tests, view_of}
+use Rattle.gl_table.proofs.Words.{◌∙◌, ◌≡◌, Err, false, first_refusal, granted, IfOk, lock_tests, Mode, None, none_some, OnOk, Option, refl, Refusal}
+use Rattle.gl_table.proofs.Words.{Refuses, rules, Some, state_in, state_of, subst, sym, TableView, true, try_tests, view_of, wanted}
 use Rattle.gl_modes.specs.declared.refusal.Refusal.TheVariants as no
-use Rattle.gl_table.proofs.calls.Locking.{decided, may_lock_by, same_enters, stands_tried, state_tried, tests-seen, try_refused}
+use Rattle.gl_table.proofs.calls.Locking.{can_ask, decided, may_ask, may_lock_by, mode_tried, same_enters, stands_tried, state_tried, tests-seen, try_refused}
 use Rattle.gl_table.proofs.calls.Stands.{MayStand, with_locks}
 use Rattle.gl_model.proofs.law.Lock.{MayLock}
 use Rattle.gl_table.proofs.table.Table.try_lock.Goals.{After-grant, In_err-held, In_ok-held}
@@ -34,6 +34,17 @@ returns-then-not-would_grant-clause-held c =
     (passed (goal.at.returns-then-not-would_grant-clause-held c).In_ok-held) false c.if-not-would_grant.ensures in
     λ passes. absurd (none_some (sym passes ∙ is))
 
+may : (c : In_ok-held) → MayLock (state_of (view_of c.self.inside)) c.args.t c.args.n c.args.mode
+may c = subst (λ (v : TableView). MayLock (state_of v) c.args.t c.args.n c.args.mode) (sym c.self.view_is)
+    (may_lock_by (state_of c.args.self.now) c.args.t c.args.n c.args.mode (passed c))
+
+pub grant-requires-clause-act : goal.grant-requires-clause-act
+grant-requires-clause-act c = may_ask c.self.inside c.self.invariant c.args.t c.args.n c.args.mode (may (goal.at.grant-requires-clause-act c).In_ok-held)
+
+pub grant-requires-clause-can : goal.grant-requires-clause-can
+grant-requires-clause-can c = can_ask c.self.inside c.self.invariant c.args.t c.args.n c.args.mode (may (goal.at.grant-requires-clause-can c).In_ok-held)
+    c.in_ok-held.held _ c.in_ok-held.ensures.held c.in_ok-held.ensures.parents
+
 pub grant-requires-clause-enters : goal.grant-requires-clause-enters
 grant-requires-clause-enters c = sym (same_enters c.self.inside c.self.invariant c.args.t c.args.n c.args.mode) ∙ sym c.if-not-would_grant.ensures
 
@@ -42,11 +53,7 @@ stand : (c : After-grant) → MayLock (state_of (view_of c.self.inside)) c.args.
 stand c may =
     stands_tried c.self.inside c.self.invariant c.args.t c.args.n c.args.mode c.grant.result c.grant.new.self may
     (sym (same_enters c.self.inside c.self.invariant c.args.t c.args.n c.args.mode) ∙ sym c.if-not-would_grant.ensures)
-    c.grant.ensures.state c.grant.ensures.err c.grant.ensures.exact
-
-may : (c : In_ok-held) → MayLock (state_of (view_of c.self.inside)) c.args.t c.args.n c.args.mode
-may c = subst (λ (v : TableView). MayLock (state_of v) c.args.t c.args.n c.args.mode) (sym c.self.view_is)
-    (may_lock_by (state_of c.args.self.now) c.args.t c.args.n c.args.mode (passed c))
+    c.grant.ensures.granted c.grant.ensures.err c.grant.ensures.exact
 
 pub invariant_of-self-2 : goal.invariant_of-self-2
 invariant_of-self-2 c = let at = goal.at.invariant_of-self-2 c in (stand at.After-grant (may at.In_ok-held)).safe
@@ -58,7 +65,12 @@ pub returns-clause-state : goal.returns-clause-state
 returns-clause-state c =
     subst (λ (v : TableView). OnOk c.grant.result (with_locks c.self.inside (state_in c.self.inside.locks.graph c.grant.new.self)
     ≡ granted (state_of v) c.args.t.slot c.args.n c.args.mode)) c.self.view_is
-    (state_tried c.self.inside c.self.invariant c.args.t c.args.n c.args.mode c.grant.result c.grant.new.self c.grant.ensures.state)
+    (state_tried c.self.inside c.self.invariant c.args.t c.args.n c.args.mode c.grant.result c.grant.new.self c.grant.ensures.granted)
+
+pub returns-clause-mode : goal.returns-clause-mode
+returns-clause-mode c =
+    subst (λ (v : TableView). IfOk c.grant.result (λ m. m ≡ wanted (state_of v) c.args.t.slot c.args.n c.args.mode)) c.self.view_is
+    (mode_tried c.self.inside c.self.invariant c.args.t c.args.n c.args.mode c.grant.result c.grant.new.self c.grant.ensures.granted)
 
 pub returns-clause-refuses : goal.returns-clause-refuses
 returns-clause-refuses c =
