@@ -114,7 +114,7 @@ impl Naive {
     pub fn held_children(&self, t: TxnId, n: NodeId) -> Result<Vec<NodeId>, Refusal> {
         let mut found = Vec::new(self.alloc);
         for node in self.lists.nodes.iter() {
-            if self.lists.is_child(node.id, n) && self.held(t, node.id) != NL {
+            if self.held(t, node.id) != NL && self.lists.is_child(node.id, n) {
                 put(&mut found, node.id)?;
             }
         }

@@ -144,8 +144,8 @@ impl Work {
     fn looks_at_lock(&self, rt: &impl Abort, t: TxnId, n: NodeId) {
         let mode = self.naive.held(t, n);
         same(rt, self.manager.mode_on(t, n), Some(mode));
-        let children = allowed(rt, self.naive.held_children(t, n));
         if let Some(count) = self.manager.children(t, n) {
+            let children = allowed(rt, self.naive.held_children(t, n));
             same(
                 rt,
                 (self.asked, n, count as usize),
