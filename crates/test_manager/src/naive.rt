@@ -66,6 +66,14 @@ fn writes(mode: Mode) -> bool {
     matches!(mode, IX | SIX | X)
 }
 
+/// Whether this is the transaction.
+fn is_of(living: Option<Living>, t: TxnId) -> bool {
+    match living {
+        Some(living) => living.id == t,
+        None => false,
+    }
+}
+
 /// The wait of a transaction among these.
 fn wait_among(waits: &[Claim], t: TxnId) -> Option<Claim> {
     for wait in waits {
@@ -420,7 +428,7 @@ impl Naive {
     /// Takes the wait of a victim out. Its locks stay.
     fn condemn(&mut self, t: TxnId) -> Result<(), Refusal> {
         for slot in 0..TXNS {
-            if matches!(self.living[slot], Some(living) if living.id == t) {
+            if is_of(self.living[slot], t) {
                 self.living[slot] = Some(Living {
                     id: t,
                     condemned: true,
@@ -459,7 +467,7 @@ impl Naive {
 
     fn end(&mut self, t: TxnId) -> Result<Answer, Refusal> {
         for slot in 0..TXNS {
-            if matches!(self.living[slot], Some(living) if living.id == t) {
+            if is_of(self.living[slot], t) {
                 self.living[slot] = None;
             }
         }

@@ -1,13 +1,6 @@
 //! Nodes leave the list of a slot: one by one, all of them, or those that are covered.
 
-<<<<<<< HEAD
-ghost use Rattle.std.specs.Prelude.{ℕ, ◌<◌, ◌==◌, ◌≡◌, None, Some, false, length};
-ghost use Rattle.gl_header.specs.Header.{is_among_waiters};
-ghost use Rattle.gl_lock_lists.specs.Lists.{mode_of};
-ghost use Rattle.gl_model.specs.Calls.{released, shed};
-=======
 ghost use Rattle.std.specs.Prelude.{◌<◌, ◌==◌, ◌≡◌, Some, false, length};
->>>>>>> b24fbf346ffdc8bcf211ffca02c6822b4a2c8f84
 ghost use Rattle.gl_model.specs.Lawful.{IsOrderly};
 ghost use Rattle.gl_model.specs.State.{is_wait, status_of};
 ghost use Rattle.gl_model.specs.declared.txn.Status.TheVariants.{Active};

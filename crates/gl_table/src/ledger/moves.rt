@@ -16,18 +16,10 @@ ghost use Rattle.gl_header.specs.Headers.{held_of, members_at, queue_of, with_wa
 ghost use Rattle.gl_model.specs.State.{intends_over};
 ghost use Rattle.indexmap.specs.IndexMap.{spare};
 ghost use Rattle.gl_modes.specs.Modes.{same_mode};
-<<<<<<< HEAD
-ghost use Rattle.gl_lock_lists.specs.Lists.{count_of, is_listed, mode_of, unlisted};
-ghost use Rattle.gl_table.specs.inside.Ledger.{Agrees, AreSound, state_in};
-ghost use Rattle.gl_model.specs.Lawful.{IsOrderly};
-ghost use Rattle.gl_table.specs.inside.Slots.{AreKept, CanTell, WaitsEnd, as_left, books_of, counted_by, room_by, unlisted_by};
-ghost use Rattle.gl_model.specs.Tellings.{IsTold, notices_in};
-=======
 ghost use Rattle.gl_lock_lists.specs.Lists.{count_of, is_listed, mode_of, unlisted};
 ghost use Rattle.gl_table.specs.inside.Ledger.{state_in};
 ghost use Rattle.gl_table.specs.inside.Steps.{AreAgreed, AreShutOut, CanEndAt, CanRecount, CanTellWaiters, HasMoved, Recounts};
 ghost use Rattle.gl_table.specs.inside.Slots.{WaitsEnd, as_left, books_of, counted_by, room_by};
->>>>>>> b24fbf346ffdc8bcf211ffca02c6822b4a2c8f84
 
 use crate::ledger::Ledger;
 use crate::ledger::leave::end_wait;
