@@ -36,7 +36,7 @@ use crate::group::Group;
 use gl_modes::{Mode, Refusal, sup};
 use gl_slots::{Slot, Slots};
 use smallvec::SmallVec;
-use std::alloc::Global;
+use std::alloc::{AllocError, Global};
 use std::marker::Model;
 
 /// The answer of `ask`.
@@ -199,17 +199,32 @@ impl Header {
         ensures at_once { is_granted self.old slot mode ≡ true → IsOk result }
         ensures lawful { IsLawfulHeader self.new }
     {
+        match self.enter_or_wait(slot, mode) {
+            Ok(asked) => Ok(asked),
+            Err(_) => Err(Refusal::NoMemory),
+        }
+    }
+
+    /// As `ask`.
+    pub(crate) fn enter_or_wait(&mut self, slot: Slot, mode: Mode) -> Result<Asked, AllocError>
+        requires below { slot < most_slots }
+        requires not_waiting { is_among_waiters slot self.old.queue ≡ false }
+        requires lock { mode ≢ Mode.NL }
+        ensures answer { IfOk result (λ answer. answer ≡ asked self.old slot mode) }
+        ensures members { OnOk result (members_of self.new ≡ asked_members self.old slot mode) }
+        ensures queue { OnOk result (self.new.queue ≡ asked_queue self.old slot mode) }
+        ensures err { OnErr result (self.new ≡ self.old) }
+        ensures at_once { is_granted self.old slot mode ≡ true → IsOk result }
+        ensures lawful { IsLawfulHeader self.new }
+    {
         let held = self.mode_of(slot);
         let wanted = sup(held, mode);
         if self.enters(slot, held, wanted) {
             self.granted.hold(slot, wanted);
-            Ok(Asked::Granted(wanted))
-        } else {
-            let Ok(()) = enqueue(&self.granted, &mut self.queue, slot, wanted) else {
-                return Err(Refusal::NoMemory);
-            };
-            Ok(Asked::Waiting)
+            return Ok(Asked::Granted(wanted));
         }
+        enqueue(&self.granted, &mut self.queue, slot, wanted)?;
+        Ok(Asked::Waiting)
     }
 
     /// Gives a slot this mode, where nobody holds and nobody waits. It takes no memory.

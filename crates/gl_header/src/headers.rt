@@ -266,15 +266,14 @@ impl Headers {
             → is_granted_at self.old.entries slot node mode ≡ true
             → IsOk result }
     {
-        grow(&mut self.places, node.key)?;
-        ask_at(
-            &mut self.places[node.key],
-            self.alloc,
-            &mut self.spare,
-            node.birth,
-            slot,
-            mode,
-        )
+        let Ok(()) = grow(&mut self.places, node.key) else {
+            return Err(Refusal::NoMemory);
+        };
+        let place = &mut self.places[node.key];
+        let Ok(asked) = ask_at(place, self.alloc, &mut self.spare, node.birth, slot, mode) else {
+            return Err(Refusal::NoMemory);
+        };
+        Ok(asked)
     }
 
     /// Takes a grant away, and grants from the front of the node's queue. The list is filled anew with
@@ -349,7 +348,9 @@ impl Headers {
         ensures holder { IfOk result (λ prepared. IsOneHolder prepared slot mode) }
         ensures no_memory { IfErr result (λ refusal. refusal ≡ ARefusal.NoMemory) }
     {
-        grow(&mut self.places, key)?;
+        let Ok(()) = grow(&mut self.places, key) else {
+            return Err(Refusal::NoMemory);
+        };
         Ok(Prepared { slot, mode })
     }
 

@@ -1,10 +1,9 @@
 //! One place: what stands at the key of a node, and the boxes that wait for a node.
 
 ghost use Rattle.gl_slots.specs.Limit.{most_slots};
-ghost use Rattle.std.specs.Prelude.{◌≡◌, ◌≢◌, ◌<◌, ◌≤◌, ℕ, [], IfErr, IfOk, IsOk, OnErr, OnOk, false, length, true};
+ghost use Rattle.std.specs.Prelude.{◌≡◌, ◌≢◌, ◌<◌, ◌≤◌, ℕ, [], IfOk, IsOk, OnErr, OnOk, false, length, true};
 ghost use Rattle.std.specs.List.{All};
 ghost use Rattle.gl_modes.specs.declared.mode.Mode.TheVariants.{NL};
-ghost use Rattle.gl_modes.specs.declared.refusal.Refusal.{Refusal as ARefusal};
 ghost use Rattle.gl_header.specs.Answers.{asked};
 ghost use Rattle.gl_header.specs.Header.{
   front,
@@ -40,9 +39,9 @@ ghost use Rattle.std.specs.Global.{Global};
 
 use crate::changes::GrantList;
 use crate::header::{Asked, Header};
-use gl_modes::{Mode, Refusal, sup};
+use gl_modes::{Mode, sup};
 use gl_slots::Slot;
-use std::alloc::Global;
+use std::alloc::{AllocError, Global};
 use std::mem;
 
 /// What stands at the key of a node, in 16 bytes.
@@ -94,13 +93,12 @@ pub(crate) fn seen_in(place: &Place, birth: u64) -> Seen<'_>
 
 /// Makes places up to that of a key. It takes memory before it changes anything.
 #[inline]
-pub(crate) fn grow(places: &mut Vec<Place>, key: usize) -> Result<(), Refusal>
+pub(crate) fn grow(places: &mut Vec<Place>, key: usize) -> Result<(), AllocError>
     ensures kept { (k : ℕ) → place_at places.new.items k ≡ place_at places.old.items k }
     ensures entries { entries_in places.new.items ≡ entries_in places.old.items }
     ensures room { OnOk result (key < length places.new.items) }
     ensures grows { length places.old.items ≤ length places.new.items }
     ensures there { key < length places.old.items → IsOk result }
-    ensures no_memory { IfErr result (λ refusal. refusal ≡ ARefusal.NoMemory) }
 {
     if key < places.len() {
         return Ok(()); // As mostly.
@@ -111,30 +109,30 @@ pub(crate) fn grow(places: &mut Vec<Place>, key: usize) -> Result<(), Refusal>
 /// Makes places up to that of a key, which has none yet.
 #[cold]
 #[inline(never)]
-fn add_places(places: &mut Vec<Place>, key: usize) -> Result<(), Refusal>
+fn add_places(places: &mut Vec<Place>, key: usize) -> Result<(), AllocError>
     requires { length places.old.items ≤ key }
     ensures kept { (k : ℕ) → place_at places.new.items k ≡ place_at places.old.items k }
     ensures entries { entries_in places.new.items ≡ entries_in places.old.items }
     ensures room { OnOk result (key < length places.new.items) }
     ensures grows { length places.old.items ≤ length places.new.items }
-    ensures no_memory { IfErr result (λ refusal. refusal ≡ ARefusal.NoMemory) }
 {
     let Some(len) = key.checked_add(1) else {
-        return Err(Refusal::NoMemory);
+        return Err(AllocError);
     };
-    match places.resize_with(len, || Place::Free) {
-        Ok(()) => Ok(()),
-        Err(_) => Err(Refusal::NoMemory),
-    }
+    places.resize_with(len, || Place::Free)?;
+    Ok(())
 }
 
 /// A box whose header nobody uses yet, for a node of this birth: one that waits, or else a new one.
-fn take_box(alloc: Global, spare: &mut Vec<Box<Shared>>, birth: u64) -> Result<Box<Shared>, Refusal>
+fn take_box(
+    alloc: Global,
+    spare: &mut Vec<Box<Shared>>,
+    birth: u64,
+) -> Result<Box<Shared>, AllocError>
     requires { All IsIdle spare.old.items }
     ensures spare { All IsIdle spare.new.items }
     ensures idle { IfOk result IsIdle }
     ensures birth { IfOk result (λ b. b.value.birth ≡ birth) }
-    ensures no_memory { IfErr result (λ refusal. refusal ≡ ARefusal.NoMemory) }
 {
     if let Some(mut here) = spare.pop() {
         here.birth = birth;
@@ -144,7 +142,7 @@ fn take_box(alloc: Global, spare: &mut Vec<Box<Shared>>, birth: u64) -> Result<B
     header.law();
     match Box::new(alloc, Shared { birth, header }) {
         Ok(here) => Ok(here),
-        Err(_) => Err(Refusal::NoMemory),
+        Err(_) => Err(AllocError),
     }
 }
 
@@ -156,13 +154,12 @@ fn share(
     birth: u64,
     slot: Slot,
     mode: Mode,
-) -> Result<Box<Shared>, Refusal>
+) -> Result<Box<Shared>, AllocError>
     requires spare { All IsIdle spare.old.items }
     requires below { slot < most_slots }
     requires lock { mode ≢ NL }
     ensures spare { All IsIdle spare.new.items }
     ensures held { IfOk result (IsHeldBox birth slot mode) }
-    ensures no_memory { IfErr result (λ refusal. refusal ≡ ARefusal.NoMemory) }
 {
     let mut here = take_box(alloc, spare, birth)?;
     here.header.hold_first(slot, mode);
@@ -170,8 +167,7 @@ fn share(
 }
 
 /// Asks at a place that has the node of this birth, or none: a first holder and its conversions stand
-/// there in place, a second slot takes a box. The only refusal is `NoMemory`, and then the place stays
-/// as it is.
+/// there in place, a second slot takes a box. Where there is no memory, the place stays as it is.
 pub(crate) fn ask_at(
     place: &mut Place,
     alloc: Global,
@@ -179,7 +175,7 @@ pub(crate) fn ask_at(
     birth: u64,
     slot: Slot,
     mode: Mode,
-) -> Result<Asked, Refusal>
+) -> Result<Asked, AllocError>
     requires place { IsPlace place.old }
     requires own { IsOf birth place.old }
     requires spare { All IsIdle spare.old.items }
@@ -190,7 +186,6 @@ pub(crate) fn ask_at(
     ensures answer { IfOk result (λ answer. answer ≡ asked (header_of (stands place.old)) slot mode) }
     ensures stands { OnOk result (IsAskedPlace place.old birth slot mode place.new) }
     ensures err { OnErr result (place.new ≡ place.old) }
-    ensures no_memory { IfErr result (λ refusal. refusal ≡ ARefusal.NoMemory) }
     ensures member { holds (members_by place.old) slot ≡ true → is_granted (header_of (stands place.old)) slot mode ≡ true → IsOk result }
 {
     match place {
@@ -213,11 +208,11 @@ pub(crate) fn ask_at(
             ..
         } => {
             let mut here = share(alloc, spare, birth, *holder, *held)?;
-            let asked = here.header.ask(slot, mode)?;
+            let asked = here.header.enter_or_wait(slot, mode)?;
             *place = Place::Shared(here);
             Ok(asked)
         }
-        Place::Shared(here) => here.header.ask(slot, mode),
+        Place::Shared(here) => here.header.enter_or_wait(slot, mode),
     }
 }
 

@@ -75,7 +75,7 @@ share-requires-clause-lock c = alone-lock c.in-Held.holder c.in-Held.held
 -- a refusal in a box leaves it as it was
 pub returns-in-Shared-clause-err : goal.returns-in-Shared-clause-err
 returns-in-Shared-clause-err c =
-    on_err_weaker c.ask-in-Shared.result
+    on_err_weaker c.enter_or_wait-in-Shared.result
     (λ h. ap (λ w. Shared (with_value c.in-Shared.here record { birth = c.deref_mut-in-Shared.result.now.birth; header = w })) h
     ∙ (ap (λ (x : SharedBox). Shared (with_value c.in-Shared.here x)) c.deref_mut-in-Shared.ensures.value ∙ sym c.in-Shared.is))
-    c.ask-in-Shared.ensures.err
+    c.enter_or_wait-in-Shared.ensures.err

@@ -1,88 +1,75 @@
-use Rattle.std.proofs.Common.{◌≡◌, ◌∙◌, ap, refl, subst, sym}
-use Rattle.std.proofs.lemmas.Result.{on_ok_weaker}
-use Rattle.std.specs.Prelude.{IfOk, slice_set}
+use Rattle.std.proofs.Common.{◌≡◌, ◌∙◌, ap, refl}
 use Rattle.gl_modes.proofs.Words.{clash}
 use Rattle.gl_header.specs.Answers.{asked}
 use Rattle.gl_header.specs.Header.{holds, is_among_waiters}
 use Rattle.gl_header.specs.Places.{ArePlaces, entries_in}
 use Rattle.gl_header.specs.State.{HeaderState, is_granted, members_of}
-use Rattle.gl_header.proofs.AtPlace.{IsAt, asked-changed, asked-places, at_index, entries_are, held_place, is_asked, is_at-alone, same_again}
+use Rattle.gl_header.proofs.AtPlace.{IsAt, asked-changed, asked-places, entries_are, held_place, is_asked, is_at-alone}
 use Rattle.gl_header.proofs.ByKey.{places-same}
-use Rattle.gl_header.proofs.Changed.{asked-granted, asked-waits, by_answer}
-use Rattle.gl_header.proofs.headers.Headers.ask.Goals.{After-index_mut}
+use Rattle.gl_header.proofs.Changed.{asked-granted, asked-waits}
+use Rattle.gl_header.proofs.headers.Headers.ask.Goals.{After-index_mut-place}
 use Rattle.gl_header.proofs.headers.Headers.ask.Goals as goal
 
-pub invariant_of-self : goal.invariant_of-self
-invariant_of-self c = record { places = places-same _ _ c.grow.ensures.kept c.self.invariant.places; spare = c.self.invariant.spare }
-
 -- the node of a member has its place already
-pub returns-in_err-grow-clause-member : goal.returns-in_err-grow-clause-member
-returns-in_err-grow-clause-member c = λ member granted.
-    clash (c.in_err-grow.ensures.there (held_place c.self.inside.places.items c.self.invariant.places c.args.self.now.entries (entries_are c.self.view_is)
+pub returns-in_default-clause-member : goal.returns-in_default-clause-member
+returns-in_default-clause-member c = λ member granted.
+    clash (c.in_default.ensures.there (held_place c.self.inside.places.items c.self.invariant.places c.args.self.now.entries (entries_are c.self.view_is)
     c.args.node c.args.slot member)) refl
 
 -- the places, once there is one for the node
 
-grown : (c : After-index_mut) → ArePlaces c.grow.new.places.items
+grown : (c : After-index_mut-place) → ArePlaces c.grow.new.places.items
 grown c = places-same _ _ c.grow.ensures.kept c.self.invariant.places
 
-same : (c : After-index_mut) → entries_in c.grow.new.places.items ≡ c.args.self.now.entries
+same : (c : After-index_mut-place) → entries_in c.grow.new.places.items ≡ c.args.self.now.entries
 same c = c.grow.ensures.entries ∙ entries_are c.self.view_is
 
-here : (c : After-index_mut) → IsAt c.grow.new.places.items c.args.self.now.entries c.args.node c.index_mut.result.now
+here : (c : After-index_mut-place) → IsAt c.grow.new.places.items c.args.self.now.entries c.args.node c.index_mut-place.result.now
 here c = is_at-alone c.grow.new.places.items (grown c) c.args.self.now.entries (same c) c.args.node c.requires.alone
-    c.index_mut.result.now c.in_ok-grow.ensures.room c.index_mut.ensures.value
+    c.index_mut-place.result.now c.in-Ok.ensures.room c.index_mut-place.ensures.value
 
 pub ask_at-requires-clause-place : goal.ask_at-requires-clause-place
-ask_at-requires-clause-place c = (here (goal.at.ask_at-requires-clause-place c).After-index_mut).place
+ask_at-requires-clause-place c = (here (goal.at.ask_at-requires-clause-place c).After-index_mut-place).place
 
 pub ask_at-requires-clause-own : goal.ask_at-requires-clause-own
-ask_at-requires-clause-own c = (here (goal.at.ask_at-requires-clause-own c).After-index_mut).own
+ask_at-requires-clause-own c = (here (goal.at.ask_at-requires-clause-own c).After-index_mut-place).own
 
 pub ask_at-requires-clause-not_waiting : goal.ask_at-requires-clause-not_waiting
 ask_at-requires-clause-not_waiting c =
-    ap (λ (h : HeaderState). is_among_waiters c.args.slot h.queue) (here (goal.at.ask_at-requires-clause-not_waiting c).After-index_mut).header
+    ap (λ (h : HeaderState). is_among_waiters c.args.slot h.queue) (here (goal.at.ask_at-requires-clause-not_waiting c).After-index_mut-place).header
     ∙ c.requires.not_waiting
 
+pub returns-in_default-ask_at-clause-member : goal.returns-in_default-ask_at-clause-member
+returns-in_default-ask_at-clause-member c = let i = here (goal.at.returns-in_default-ask_at-clause-member c).After-index_mut-place in λ member granted.
+    c.in_default-ask_at.ensures.member
+    (ap (λ (h : HeaderState). holds (members_of h) c.args.slot) i.header ∙ member)
+    (ap (λ h. is_granted h c.args.slot c.args.mode) i.header ∙ granted)
+
 pub invariant_of-self-2 : goal.invariant_of-self-2
-invariant_of-self-2 c = let s = (goal.at.invariant_of-self-2 c).After-index_mut in
+invariant_of-self-2 c = let s = (goal.at.invariant_of-self-2 c).After-index_mut-place in
     record {
-      places = by_answer _ _ c.ask_at.result c.ask_at.ensures.stands c.ask_at.ensures.err
-          (λ says. asked-places c.grow.new.places.items (grown s) c.args.self.now.entries (same s) c.args.node
-          c.index_mut.result.now (here s) c.args.slot c.args.mode c.requires.lock c.ask_at.new.place says)
-          (λ stays. subst ArePlaces (sym (ap (slice_set c.grow.new.places.items c.args.node.key) (stays
-          ∙ sym (at_index c.grow.new.places.items c.args.node.key c.index_mut.result.now c.in_ok-grow.ensures.room c.index_mut.ensures.value))
-          ∙ same_again c.grow.new.places.items c.args.node.key)) (grown s));
+      places = asked-places c.grow.new.places.items (grown s) c.args.self.now.entries (same s) c.args.node
+          c.index_mut-place.result.now (here s) c.args.slot c.args.mode c.requires.lock c.ask_at.new.place c.in-Ok-ask_at.ensures.stands;
       spare = c.ask_at.ensures.spare;
     }
 
 pub returns-clause-answer : goal.returns-clause-answer
 returns-clause-answer c =
-    subst (λ h. IfOk c.ask_at.result (λ answer. answer ≡ asked h c.args.slot c.args.mode))
-    (here (goal.at.returns-clause-answer c).After-index_mut).header c.ask_at.ensures.answer
+    c.in-Ok-ask_at.ensures.answer
+    ∙ ap (λ h. asked h c.args.slot c.args.mode) (here (goal.at.returns-clause-answer c).After-index_mut-place).header
 
 pub returns-clause-granted : goal.returns-clause-granted
-returns-clause-granted c = let s = (goal.at.returns-clause-granted c).After-index_mut in
-    on_ok_weaker c.ask_at.result
-    (λ says. asked-granted c.args.self.now.entries _ c.args.node c.args.slot c.args.mode says.header
+returns-clause-granted c = let s = (goal.at.returns-clause-granted c).After-index_mut-place in let says = c.in-Ok-ask_at.ensures.stands in
+    asked-granted c.args.self.now.entries _ c.args.node c.args.slot c.args.mode says.header
     (asked-changed c.grow.new.places.items (grown s) c.args.self.now.entries (same s) c.args.node
-    c.index_mut.result.now (here s) c.args.slot c.args.mode c.requires.lock c.ask_at.new.place says)
+    c.index_mut-place.result.now (here s) c.args.slot c.args.mode c.requires.lock c.ask_at.new.place says)
     (is_asked c.grow.new.places.items (grown s) c.args.self.now.entries (same s) c.args.node
-    c.index_mut.result.now (here s) c.args.slot c.args.mode c.requires.lock c.ask_at.new.place says))
-    c.ask_at.ensures.stands
+    c.index_mut-place.result.now (here s) c.args.slot c.args.mode c.requires.lock c.ask_at.new.place says)
 
 pub returns-clause-waits : goal.returns-clause-waits
-returns-clause-waits c = let s = (goal.at.returns-clause-waits c).After-index_mut in
-    on_ok_weaker c.ask_at.result
-    (λ says. asked-waits c.args.self.now.entries _ c.args.node c.args.slot c.args.mode says.header
+returns-clause-waits c = let s = (goal.at.returns-clause-waits c).After-index_mut-place in let says = c.in-Ok-ask_at.ensures.stands in
+    asked-waits c.args.self.now.entries _ c.args.node c.args.slot c.args.mode says.header
     (asked-changed c.grow.new.places.items (grown s) c.args.self.now.entries (same s) c.args.node
-    c.index_mut.result.now (here s) c.args.slot c.args.mode c.requires.lock c.ask_at.new.place says)
+    c.index_mut-place.result.now (here s) c.args.slot c.args.mode c.requires.lock c.ask_at.new.place says)
     (is_asked c.grow.new.places.items (grown s) c.args.self.now.entries (same s) c.args.node
-    c.index_mut.result.now (here s) c.args.slot c.args.mode c.requires.lock c.ask_at.new.place says))
-    c.ask_at.ensures.stands
-
-pub returns-clause-member : goal.returns-clause-member
-returns-clause-member c = let i = here (goal.at.returns-clause-member c).After-index_mut in λ member granted.
-    c.ask_at.ensures.member
-    (ap (λ (h : HeaderState). holds (members_of h) c.args.slot) i.header ∙ member)
-    (ap (λ h. is_granted h c.args.slot c.args.mode) i.header ∙ granted)
+    c.index_mut-place.result.now (here s) c.args.slot c.args.mode c.requires.lock c.ask_at.new.place says)

@@ -7,7 +7,7 @@ use Rattle.gl_header.specs.Sound.{IsLawful, state_of}
 use Rattle.gl_header.specs.State.{HeaderState, is_granted, members_of, slot_limit, wanted}
 use Rattle.gl_header.proofs.Lawful.{lawful}
 use Rattle.gl_header.proofs.Asks.{lawful-by, lawful-granted, lawful-waiting, queue-waiting}
-use Rattle.gl_header.proofs.header.Header.ask.Goals as goal
+use Rattle.gl_header.proofs.header.Header.enter_or_wait.Goals as goal
 
 -- granted at once
 
@@ -33,14 +33,14 @@ returns-then-enters-clause-lawful c = lawful _ _ c.hold.ensures.group (granted c
 
 -- a wait
 
-pub returns-in_default-clause-lawful : goal.returns-in_default-clause-lawful
-returns-in_default-clause-lawful c =
+pub returns-in_err-enqueue-clause-lawful : goal.returns-in_err-enqueue-clause-lawful
+returns-in_err-enqueue-clause-lawful c =
     lawful c.self.inside.granted _ c.self.invariant.group
     (lawful-by (held_by c.self.inside.granted)
-    (held_by c.self.inside.granted) c.enqueue.new.queue.items c.self.inside.queue.items refl c.in_default.ensures.err c.self.invariant.lawful)
+    (held_by c.self.inside.granted) c.enqueue.new.queue.items c.self.inside.queue.items refl c.in_err-enqueue.ensures.err c.self.invariant.lawful)
 
-pub invariant_of-self-else-enters : goal.invariant_of-self-else-enters
-invariant_of-self-else-enters c =
+pub invariant_of-self-2 : goal.invariant_of-self-2
+invariant_of-self-2 c =
     let free : is_among_waiters c.args.slot c.self.inside.queue.items ≡ false
     = subst (λ (x : HeaderState). is_among_waiters c.args.slot x.queue ≡ false) (sym c.self.view_is) c.requires.not_waiting in
     let w : c.sup-wanted.result ≡ wanted (state_of c.self.inside) c.args.slot c.args.mode
@@ -53,11 +53,11 @@ invariant_of-self-else-enters c =
     record {
       group = c.self.invariant.group;
       lawful = lawful-waiting (state_of c.self.inside) c.args.slot c.args.mode c.sup-wanted.result c.enqueue.new.queue.items c.self.invariant.lawful
-          free c.requires.below c.requires.lock g w c.in-Ok.ensures.ok;
+          free c.requires.below c.requires.lock g w c.in_ok-enqueue.ensures.ok;
     }
 
-pub returns-in-Ok-clause-queue : goal.returns-in-Ok-clause-queue
-returns-in-Ok-clause-queue c =
+pub returns-clause-queue : goal.returns-clause-queue
+returns-clause-queue c =
     let g : is_granted c.args.self.now c.args.slot c.args.mode ≡ false =
     sym (c.enters.ensures ∙ ap (λ m. enters slot_limit (members_of c.args.self.now) c.args.self.now.queue c.args.slot m)
     (c.sup-wanted.ensures ∙ ap (λ x. supremum x c.args.mode) c.mode_of-held.ensures)) ∙ c.if-enters.false in
@@ -66,8 +66,8 @@ returns-in-Ok-clause-queue c =
     subst (λ (x : HeaderState). is_granted x c.args.slot c.args.mode ≡ false → c.sup-wanted.result ≡ wanted x c.args.slot c.args.mode
     → c.enqueue.new.queue.items ≡ asked_queue x c.args.slot c.args.mode) c.self.view_is
     (λ k v. queue-waiting (state_of c.self.inside) c.args.slot c.args.mode c.sup-wanted.result c.enqueue.new.queue.items
-    c.self.invariant.lawful.orderly k v c.in-Ok.ensures.ok) g w
+    c.self.invariant.lawful.orderly k v c.in_ok-enqueue.ensures.ok) g w
 
-pub returns-in-Ok-clause-lawful : goal.returns-in-Ok-clause-lawful
-returns-in-Ok-clause-lawful c =
-    let s = invariant_of-self-else-enters c in lawful _ _ s.group s.lawful
+pub returns-clause-lawful : goal.returns-clause-lawful
+returns-clause-lawful c =
+    let s = invariant_of-self-2 c in lawful _ _ s.group s.lawful
