@@ -5,9 +5,9 @@ bodies, those in must-fail/ and those in wrong/.
 Each is an edit of code that the crate's contracts must refuse. Edits of different functions are applied to one copy of
 their crate, and the functions that they change are checked over the proved libraries that `rt ci` has left. Where these
 pass, their callers are checked, and then the whole crate, with one edit at a time. Prints a line for each: `refused`
-with the function that is not proved, `not refused`, or `bad` where it cannot be applied or read. The last line is 'N
-refused, M not refused, of K'; M counts all that were tried and not refused, and 'L left' is said where time was over. The
-status is 1 unless M is 0.
+with the function that is not proved, `not refused`, or `bad` where it cannot be applied or read, which is said of all,
+chosen or not. The last line is 'N refused, M not refused, of K'; M counts all that were tried and not refused and all
+that are bad, and 'L left' is said where time was over. The status is 1 unless M is 0.
 
 Without a choice all are tried. Choices add up, and leave out what stands in must-fail/, which `rt ci` tries:
 --named     those that docs/PROMISES.md names;
@@ -336,7 +336,7 @@ def main(words):
     with concurrent.futures.ThreadPoolExecutor(at_once or jobs()) as pool:
         tried = [pool.submit(attempt_all, it) for it in grouped([it for it in asked if not it.why])]
         tried += [pool.submit(unless_late, it) for it in grouped([it for it in anew if not it.why])]
-        bad = [(it, "bad", it.why) for it in asked + anew if it.why]
+        bad = [(it, "bad", it.why) for it in every if it.why]
         for edit, what, why in (one for group in [bad, *(it.result() for it in concurrent.futures.as_completed(tried))] for one in group):
             refused, lacking, left = refused + (what == "refused"), lacking + (what not in ("refused", "left")), left + (what == "left")
             if what != "left":
