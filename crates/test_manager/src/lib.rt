@@ -1,6 +1,6 @@
 //! Tests alone: stories of a few transactions with every answer that is wanted, over one table and over one manager:
 //! paths, rows and what is counted; two engines that do the same work, in one of which all rows stand and in the
-//! other each has a node for as long as it is locked; schemas that change beside plain lists; and watchers of a window.
+//! other each has a node for as long as it is locked; and watchers of a window.
 #![tactic(auto)]
 
 #[cfg(test)]
@@ -16,15 +16,9 @@ mod deadlocks;
 #[cfg(test)]
 mod limits;
 #[cfg(test)]
-mod lists;
-#[cfg(test)]
-mod naive;
-#[cfg(test)]
 mod named;
 #[cfg(test)]
 mod paths;
-#[cfg(test)]
-mod random_schemas;
 #[cfg(test)]
 mod readers;
 #[cfg(test)]
@@ -43,8 +37,6 @@ mod standing;
 mod story;
 #[cfg(test)]
 mod table;
-#[cfg(test)]
-mod tally;
 #[cfg(test)]
 mod twins;
 #[cfg(test)]
