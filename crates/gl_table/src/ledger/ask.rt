@@ -18,19 +18,16 @@ use gl_lock_lists::LockList;
 use gl_model::{Locked, Status};
 use gl_modes::{Mode, NodeId, Refusal, sup};
 use gl_slots::Slot;
+use std::alloc::AllocError;
 
 /// Makes room in the list of a slot for one node more, and for the counts of its parents.
 #[inline]
-pub(crate) fn make_room(lists: &mut Vec<LockList>, slot: Slot) -> Result<(), Refusal>
+pub(crate) fn make_room(lists: &mut Vec<LockList>, slot: Slot) -> Result<(), AllocError>
     requires { slot < length lists.old.items }
     ensures kept { KeepsLists lists.old.items lists.new.items }
     ensures ok { OnOk result (HasRoomAt lists.new.items slot) }
-    ensures no_memory { IfErr result (λ refusal. refusal ≡ ARefusal.NoMemory) }
 {
-    match lists[slot as usize].make_room() {
-        Ok(()) => Ok(()),
-        Err(_) => Err(Refusal::NoMemory),
-    }
+    lists[slot as usize].make_room()
 }
 
 impl Ledger {
@@ -43,22 +40,21 @@ impl Ledger {
         node: NodeId,
         mode: Mode,
         is_member: bool,
-    ) -> Result<(), Refusal>
+    ) -> Result<(), AllocError>
         requires { slot < length self.old.lists.items }
         ensures rest { self.new ≡ record self.old { lists = self.new.lists } }
         ensures kept { KeepsLists self.old.lists.items self.new.lists.items }
         ensures room { OnOk result ((is_member && is_granted_at self.old.headers.entries slot node mode) ≡ false
             → HasRoomAt self.new.lists.items slot) }
         ensures at_once { (is_member && is_granted_at self.old.headers.entries slot node mode) ≡ true → IsOk result }
-        ensures no_memory { IfErr result (λ refusal. refusal ≡ ARefusal.NoMemory) }
     {
         match make_room(&mut self.lists, slot) {
             Ok(()) => Ok(()),
-            Err(refusal) => {
+            Err(no_memory) => {
                 if is_member && self.headers.would_grant(slot, node, mode) {
                     Ok(())
                 } else {
-                    Err(refusal)
+                    Err(no_memory)
                 }
             }
         }
@@ -90,7 +86,9 @@ impl Ledger {
         graph.law();
         self.headers.law();
         let is_member = held != Mode::NL;
-        self.make_room_to_ask(slot, node, mode, is_member)?;
+        let Ok(()) = self.make_room_to_ask(slot, node, mode, is_member) else {
+            return Err(Refusal::NoMemory);
+        };
         let asked = self.headers.ask(slot, node, mode)?;
         let list = &mut self.lists[slot as usize];
         match asked {

@@ -119,7 +119,9 @@ impl Ledger {
         ensures kept { KeepsLocks self.old self.new }
         ensures no_memory { IfErr result (λ refusal. refusal ≡ ARefusal.NoMemory) }
     {
-        make_room(&mut self.lists, slot)?;
+        let Ok(()) = make_room(&mut self.lists, slot) else {
+            return Err(Refusal::NoMemory);
+        };
         self.headers.prepare(key, slot, mode)
     }
 

@@ -52,14 +52,14 @@ ask-requires-clause-alone c = let p = (goal.at.ask-requires-clause-alone c).Afte
 
 -- the refusals
 
-pub returns-in_err-make_room_to_ask-clause-exact : goal.returns-in_err-make_room_to_ask-clause-exact
-returns-in_err-make_room_to_ask-clause-exact c = let m = may_now (goal.at.returns-in_err-make_room_to_ask-clause-exact c).After-make_room_to_ask in
+pub returns-in_default-clause-exact : goal.returns-in_default-clause-exact
+returns-in_default-clause-exact c = let m = may_now (goal.at.returns-in_default-clause-exact c).After-make_room_to_ask in
     m.exact
 
-pub returns-in_err-make_room_to_ask-clause-held : goal.returns-in_err-make_room_to_ask-clause-held
-returns-in_err-make_room_to_ask-clause-held c =
-    let p = (goal.at.returns-in_err-make_room_to_ask-clause-held c).After-make_room_to_ask in
-    λ h e. clash (c.in_err-make_room_to_ask.ensures.at_once
+pub returns-in_default-clause-held : goal.returns-in_default-clause-held
+returns-in_default-clause-held c =
+    let p = (goal.at.returns-in_default-clause-held c).After-make_room_to_ask in
+    λ h e. clash (c.in_default.ensures.at_once
     (ap₂ (λ x y. x && y) (member_is p ∙ h) (says_is c.args.graph.now c.args.self.now c.args.slot c.args.node c.args.mode c.requires.act ∙ e))) refl
 
 pub returns-in_err-asked-clause-exact : goal.returns-in_err-asked-clause-exact
@@ -95,7 +95,7 @@ pub enter-requires-clause-room : goal.enter-requires-clause-room
 enter-requires-clause-room c =
     (own-room c.args.graph.now c.make_room_to_ask.new.self c.args.slot (may_now (goal.at.enter-requires-clause-room c).After-make_room_to_ask)
     c.index_mut-list.result.now c.index_mut-list.ensures.value
-    (c.in_ok-make_room_to_ask.ensures.room (ap (λ b. b && is_granted_at c.args.self.now.headers.entries c.args.slot c.args.node c.args.mode)
+    (c.in-Ok.ensures.room (ap (λ b. b && is_granted_at c.args.self.now.headers.entries c.args.slot c.args.node c.args.mode)
     c.if-is_member.false))).0
 
 pub count_up-requires-clause-room : goal.count_up-requires-clause-room
@@ -103,7 +103,7 @@ count_up-requires-clause-room c =
     let x = c.index_mut-list.result.now in
     let room = (own-room c.args.graph.now c.make_room_to_ask.new.self c.args.slot
     (may_now (goal.at.count_up-requires-clause-room c).After-make_room_to_ask) x c.index_mut-list.ensures.value
-    (c.in_ok-make_room_to_ask.ensures.room (ap (λ b. b && is_granted_at c.args.self.now.headers.entries c.args.slot c.args.node c.args.mode)
+    (c.in-Ok.ensures.room (ap (λ b. b && is_granted_at c.args.self.now.headers.entries c.args.slot c.args.node c.args.mode)
     c.if-is_member.false))).1 in
     let kept = c.enter.ensures.room in
     subst (λ ps. unlisted c.enter.new.self ps ≤ spare c.enter.new.self.loose) (sym c.requires.can.parents_are)
@@ -127,7 +127,7 @@ pub enter-requires-then-not-is_member-clause-room : goal.enter-requires-then-not
 enter-requires-then-not-is_member-clause-room c =
     (own-room c.args.graph.now c.make_room_to_ask.new.self c.args.slot
     (may_now (goal.at.enter-requires-then-not-is_member-clause-room c).After-make_room_to_ask) c.index_mut-list.result.now c.index_mut-list.ensures.value
-    (c.in_ok-make_room_to_ask.ensures.room (ap (λ b. b && is_granted_at c.args.self.now.headers.entries c.args.slot c.args.node c.args.mode)
+    (c.in-Ok.ensures.room (ap (λ b. b && is_granted_at c.args.self.now.headers.entries c.args.slot c.args.node c.args.mode)
     c.if-not-is_member.true))).0
 
 -- a conversion is granted: its list has the mode
@@ -141,7 +141,7 @@ put_raised c m held = let g = c.args.graph.now in let l = c.make_room_to_ask.new
     let now = sym (roomy_says l m c.make_room_to_ask.ensures.rest c.make_room_to_ask.ensures.kept n c.args.mode)
     ∙ answer-enters _ _ _ _ c.in_ok-asked.ensures.answer c.in-Granted.is in
     let r = roomy_ready l m c.make_room_to_ask.ensures.rest c.make_room_to_ask.ensures.kept n c.args.mode c.ne-is_member.result true held
-    now c.in_ok-make_room_to_ask.ensures.room in
+    now c.in-Ok.ensures.room in
     let listed = slot-listed g l t r.may in
     is_granted _ r c.in_ok-asked.asked c.in-Granted.wanted c.law.ensures.lawful c.requires.can.live
     c.requires.can.lock c.in_ok-asked.ensures.answer c.in-Granted.is c.in_ok-asked.ensures.granted refl
@@ -163,7 +163,7 @@ put_new c m held = let g = c.args.graph.now in let l = c.make_room_to_ask.new.se
     let now = sym (roomy_says l m c.make_room_to_ask.ensures.rest c.make_room_to_ask.ensures.kept n c.args.mode)
     ∙ answer-enters _ _ _ _ c.in_ok-asked.ensures.answer c.in-Granted-2.is in
     let r = roomy_ready l m c.make_room_to_ask.ensures.rest c.make_room_to_ask.ensures.kept n c.args.mode c.ne-is_member.result true held
-    now c.in_ok-make_room_to_ask.ensures.room in
+    now c.in-Ok.ensures.room in
     let listed = slot-listed g l t r.may in
     is_granted _ r c.in_ok-asked.asked c.in-Granted-2.wanted c.law.ensures.lawful c.requires.can.live
     c.requires.can.lock c.in_ok-asked.ensures.answer c.in-Granted-2.is c.in_ok-asked.ensures.granted refl
@@ -184,7 +184,7 @@ listed c m is blocked = let g = c.args.graph.now in let l = c.make_room_to_ask.n
     let x = c.index_mut-list.result.now in let at = c.index_mut-list.ensures.value in
     let held = held_of l.headers.entries t n in
     let there = slot-listed g l t m in
-    let room = (own-room g l t m x at (c.in_ok-make_room_to_ask.ensures.room (ap (λ b. c.ne-is_member.result && b) blocked
+    let room = (own-room g l t m x at (c.in-Ok.ensures.room (ap (λ b. c.ne-is_member.result && b) blocked
     ∙ and-false c.ne-is_member.result))).1 in
     elim c.if-not-is_member.branch [
       | then-not-is_member w ↦ subst (λ ls. HasWait l.lists.items ls.items t n held) (sym (ap (λ y. y.lists) w.self-is))
@@ -217,7 +217,7 @@ put : (c : After-set_status) → MayAct c.args.graph.now c.args.self.now c.args.
     c.args.mode
 put c m held = let g = c.args.graph.now in let l = c.make_room_to_ask.new.self in let t = c.args.slot in let n = c.args.node in
     let r = roomy_ready l m c.make_room_to_ask.ensures.rest c.make_room_to_ask.ensures.kept n c.args.mode c.ne-is_member.result false held
-    (blocks c m) c.in_ok-make_room_to_ask.ensures.room in
+    (blocks c m) c.in-Ok.ensures.room in
     is_enqueued g c.args.self.now l (record c.if-not-is_member.self { seats = c.set_status.new.self }) t n c.args.mode c.sup-wanted.result _ r
     c.ask.new.self.entries c.if-not-is_member.self.seats.items
     (ap (λ h. h.entries) (same_headers c)) c.in_ok-asked.ensures.waits (ap (λ x. x.items) (same_seats c)) c.set_status.ensures.len c.set_status.ensures.txns
