@@ -16,7 +16,7 @@ Without a choice all are tried. Choices add up, and leave out what stands in mus
 --minutes M of the processor, behind which no more is begun of what has just changed (none is said: all of it);
 --share K/N the K-th of N shares: N runs try all.
 Proofs run side by side, one a processor where 3 GB are free for each."""
-import concurrent.futures, hashlib, os, re, resource, shutil, subprocess, sys, tempfile
+import concurrent.futures, hashlib, itertools, os, re, resource, shutil, subprocess, sys, tempfile
 
 TOP = os.path.dirname(os.path.dirname(os.path.abspath(__file__)))
 # As many edits at most stand in one copy: more save little, and fewer end sooner side by side.
@@ -337,7 +337,8 @@ def main(words):
         tried = [pool.submit(attempt_all, it) for it in grouped([it for it in asked if not it.why])]
         tried += [pool.submit(unless_late, it) for it in grouped([it for it in anew if not it.why])]
         bad = [(it, "bad", it.why) for it in every if it.why]
-        for edit, what, why in (one for group in [bad, *(it.result() for it in concurrent.futures.as_completed(tried))] for one in group):
+        ended = (it.result() for it in concurrent.futures.as_completed(tried))
+        for edit, what, why in itertools.chain(bad, itertools.chain.from_iterable(ended)):
             refused, lacking, left = refused + (what == "refused"), lacking + (what not in ("refused", "left")), left + (what == "left")
             if what != "left":
                 print(f"{what} {edit.name}: {why}", flush=True)
