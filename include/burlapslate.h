@@ -10,7 +10,8 @@
  * BS_WAITING, and a later call of another transaction tells its end by a notice. Two managers share
  * nothing, and a board is a value of its own, which any thread may read. A bs_watcher is used by one thread at
  * a time as well, but bs_look and bs_watch_end need no mutex: they go on while others use the manager. No call
- * may be made from a signal handler, or from the forked child of a process with threads.
+ * may be made from a signal handler, or from the forked child of a process with threads. A manager that is const can
+ * only be asked, as one that a shared table lends: but two threads may not ask at once.
  *
  * WHAT YOU KEEP. Beside what a call says:
  *   - a bs_manager is BS_NO_MANAGER_HERE, which is all zero, before the first call with it; from then on
@@ -30,7 +31,7 @@
  * which of them may stay. All fields that a call does not speak of are zero. Where several refusals hold, the first
  * of these is answered:
  *   - BS_NULL_POINTER;
- *   - BS_OTHER_SLOTS, of the calls that name it;
+ *   - BS_OTHER_VERSION, and then BS_OTHER_SLOTS, of the calls that name them;
  *   - BS_BAD_NUMBER, where the call says that it comes first of all;
  *   - BS_NO_MANAGER;
  *   - BS_ROWS_BY_NUMBER, BS_NOT_ROWS;
@@ -44,6 +45,8 @@
  *
  * MEMORY. Calls that end something or give something back take no memory and cannot fail for want of it:
  * unlock, cancel, commit, abort, settle, delete, rekey, escalate, of nodes and of rows; and drop. Others say so.
+ *
+ * ZERO. An option that is 0 is as usual. A name that is all zero names nothing.
  *
  * STACK. To make a manager takes some 140 kilobytes of stack, any other call 20 at most. With 1,024 slots it takes two
  * megabytes, and what reads a board or finds a deadlock 0.7: give the thread so much.
@@ -63,8 +66,11 @@ extern "C" {
 /* The version of what is declared here. The first number rises where a program has to be changed for it, or the second
  * while the first is 0. The second rises where something is added, the third where neither. */
 #define BS_VERSION_MAJOR 0
-#define BS_VERSION_MINOR 13
+#define BS_VERSION_MINOR 14
 #define BS_VERSION_PATCH 0
+
+/* The same as one number, which is greater for a later version. */
+#define BS_VERSION (BS_VERSION_MAJOR * 1000000 + BS_VERSION_MINOR * 1000 + BS_VERSION_PATCH)
 
 /* How many transactions can live at once, and so how many notices a call can have. A library can be built for another
  * number, and is then installed with headers that have it here. */
@@ -76,7 +82,7 @@ extern "C" {
 /* How many watchers a manager can have at once. */
 #define BS_MOST_WATCHERS 8
 
-/* What a call comes to. Refusals are 1 to 23, of the manager, and 64 to 73, of this library. */
+/* What a call comes to. Refusals are 1 to 23, of the manager, and 64 to 74, of this library. */
 typedef uint32_t bs_status;
 enum bs_statuses {
   BS_DONE = 0,
@@ -113,14 +119,15 @@ enum bs_statuses {
   BS_NOT_MADE = 39,       /* not answered here: of a command in a list, it was not made */
   BS_NULL_POINTER = 64,   /* a pointer is null */
   BS_NO_MANAGER = 65,     /* no manager was made at this place, or it was ended */
-  BS_BAD_NUMBER = 66,     /* a number names no mode or way of detection, or a count is out of range */
+  BS_BAD_NUMBER = 66,     /* a number names nothing of its kind, or a count is out of range */
   BS_IN_USE = 67,         /* there is a manager, or a watcher, at this place already */
   BS_NO_PLACE = 68,       /* there are fewer than that */
   BS_NO_WATCHER = 69,     /* no watcher was made at this place, or it was ended */
   BS_TOO_MANY_WATCHERS = 70, /* as many watch already as may */
   BS_ROWS_BY_NUMBER = 71, /* the file is one of rows: its records come, go and change by calls about rows alone */
   BS_NOT_ROWS = 72,       /* the file is none of rows */
-  BS_OTHER_SLOTS = 73     /* the library was built for another number of slots than BS_SLOTS */
+  BS_OTHER_SLOTS = 73,    /* the library was built for another number of slots than BS_SLOTS */
+  BS_OTHER_VERSION = 74   /* the library is of another version than the headers of the program */
 };
 
 /* Lock modes, from none to exclusive. Of what different transactions hold on one node, BS_IS goes with all
@@ -238,6 +245,15 @@ typedef struct bs_deadlock {
   bs_stuck at[BS_SLOTS]; /* these, by rising slot: the first `count` places */
 } bs_deadlock;
 
+/* What a manager is made with. A number that is 0 is as usual. */
+typedef struct bs_options {
+  uint32_t detect;       /* of enum bs_detects; BS_AT_BLOCK as usual */
+  uint32_t victims;      /* of enum bs_choices; BS_YOUNGEST as usual */
+  uint32_t transactions; /* how many may live at once, 1 to BS_SLOTS; BS_SLOTS as usual */
+  uint32_t nodes;        /* how many may live at once, 1 to 2^31, records and intervals among them; 65,536 as usual */
+  uint32_t bounds;       /* how many an index may have at most, 1 to 2^31; 256 as usual */
+} bs_options;
+
 /* What a manager has been doing since it was made, in commands that it accepted. Each of these is a count
  * that stops at the greatest uint64_t. */
 typedef struct bs_counts {
@@ -246,7 +262,7 @@ typedef struct bs_counts {
   uint64_t waited;            /* locks that were answered with a wait */
   uint64_t conversions;       /* asks of a node that the transaction held already, where not refused */
   uint64_t granted_later;     /* waits that ended with a grant */
-  uint64_t victims;           /* transactions that were condemned to end a deadlock */
+  uint64_t condemned;         /* transactions that were condemned to end a deadlock */
   uint64_t moved;             /* waits that ended since the node moved */
   uint64_t gone;              /* waits that ended since the node is gone */
   uint64_t escalations;       /* escalations that were done */
@@ -255,112 +271,32 @@ typedef struct bs_counts {
   uint64_t longest_queue;     /* the most that waited for one node at once, behind a lock that waits for it */
 } bs_counts;
 
-/* ------------------------------------------------------------------------------------------------
- * The calls of the library, which the functions below make.
- */
+/* The version of the library, as BS_VERSION is that of these headers. */
+uint32_t bs_version(void);
 
+/* The calls of the library, and what the functions below share. A program uses none of it. */
 #include "burlapslate_calls.h"
-
-/* The reply of a call with a null pointer. */
-static inline bs_reply bs_null(void) {
-  bs_reply reply = { BS_NULL_POINTER, BS_NL, { 0, 0 }, { 0, 0 }, 0, 0, 0, BS_NL };
-  return reply;
-}
-
-/* The slots of a call with a null pointer. */
-static inline bs_found bs_none_found(void) {
-  bs_found found = { BS_NULL_POINTER, { { 0 } } };
-  return found;
-}
-
-/* A reply that says no more than this. */
-static inline bs_reply bs_only(bs_status status) {
-  bs_reply reply = bs_null();
-  reply.status = status;
-  return reply;
-}
-
-/* Whether the library knows this header's sizes. */
-static inline bool bs_fits(void) { return bs_call_slots() == BS_SLOTS; }
-
-/* Whether one of these is null. The notices are emptied ahead of all else, so that none of an earlier call is left where
- * this one is refused. */
-static inline bool bs_lacks(const bs_manager *manager, bs_notices *told) {
-  if (told != NULL) told->count = 0;
-  return told == NULL || manager == NULL;
-}
-
-/* A list that is not null, for a list that may be null where its count is 0. */
-static inline const bs_node *bs_nodes(const bs_node *list) {
-  static const bs_node none = { 0, 0 };
-  return list == NULL ? &none : list;
-}
-
-static inline const uint64_t *bs_numbers(const uint64_t *list) {
-  static const uint64_t none = 0;
-  return list == NULL ? &none : list;
-}
 
 /* ------------------------------------------------------------------------------------------------
  * Managers.
  */
 
-/* Makes a manager at a place that has none, for `most` transactions at once, 1 to BS_SLOTS, with a way of
- * detection of enum bs_detects; of those in a deadlock the youngest falls. Refused with BS_OTHER_SLOTS, which is that
- * the program was compiled with the headers of another library, BS_IN_USE, BS_BAD_NUMBER, BS_NO_MEMORY. Takes memory,
- * more for more transactions. */
-static inline bs_reply bs_make(bs_manager *manager, uint32_t detect, uint32_t most) {
-  if (manager == NULL) return bs_null();
-  return bs_fits() ? bs_call_make(manager, detect, most) : bs_only(BS_OTHER_SLOTS);
-}
-
-/* As bs_make, with a choice of victims of enum bs_choices. */
-static inline bs_reply bs_make_choosing(bs_manager *manager, uint32_t detect, uint32_t victims, uint32_t most) {
-  if (manager == NULL) return bs_null();
-  return bs_fits() ? bs_call_make_choosing(manager, detect, victims, most) : bs_only(BS_OTHER_SLOTS);
-}
-
-/* What a manager is made with. The size is that of the struct that its maker knows; what lies behind it, and a
- * number that is 0, is as usual. */
-typedef struct bs_options {
-  size_t size;           /* sizeof(bs_options) */
-  uint32_t detect;       /* of enum bs_detects; BS_AT_BLOCK as usual */
-  uint32_t victims;      /* of enum bs_choices; BS_YOUNGEST as usual */
-  uint32_t transactions; /* how many may live at once, 1 to BS_SLOTS; BS_SLOTS as usual */
-  uint32_t nodes;        /* how many may live at once, 1 to 2^31, records and intervals among them; 65,536 as usual */
-  uint32_t bounds;       /* how many an index may have at most, 1 to 2^31; 256 as usual */
-} bs_options;
-
-/* Options as usual. */
-static inline bs_options bs_usual(void) {
-  bs_options options = { sizeof(bs_options), 0, 0, 0, 0, 0 };
-  return options;
-}
-
-/* The options of a maker who may know fewer. */
-static inline bs_options bs_known(const bs_options *given) {
-  bs_options options = bs_usual();
-  if (given != NULL) memcpy(&options, given, given->size < sizeof options ? given->size : sizeof options);
-  if (options.transactions == 0) options.transactions = BS_SLOTS;
-  if (options.nodes == 0) options.nodes = 65536;
-  if (options.bounds == 0) options.bounds = 256;
-  return options;
-}
-
-/* Makes a manager as bs_make_choosing, by options; where they are null it is one as usual. Refused with
- * BS_OTHER_SLOTS, BS_IN_USE, BS_BAD_NUMBER, BS_NO_MEMORY. Memory for nodes is taken as they are made. */
-static inline bs_reply bs_make_with(bs_manager *manager, const bs_options *given) {
-  bs_options options = bs_known(given);
-  if (manager == NULL) return bs_null();
-  if (!bs_fits()) return bs_only(BS_OTHER_SLOTS);
-  return bs_call_make_with(manager, options.detect, options.victims, options.transactions, options.nodes,
-                           options.bounds);
+/* Makes a manager at a place that has none, by options; where they are null it is one as usual. Takes memory, more for
+ * more transactions; that for nodes is taken as they are made. Refused with BS_NULL_POINTER; with BS_OTHER_VERSION and
+ * BS_OTHER_SLOTS, which are that the program was compiled with the headers of another library; with BS_IN_USE,
+ * BS_BAD_NUMBER, BS_NO_MEMORY. A version is another where its first number is, or its second. */
+static inline bs_reply bs_make(bs_manager *manager, const bs_options *options) {
+  bs_options chosen = bs_call_chosen(options, sizeof *options);
+  bs_status misfit = bs_call_misfit();
+  if (manager == NULL) return bs_call_null();
+  if (misfit != BS_DONE) return bs_call_only(misfit);
+  return bs_call_make_with(manager, chosen.detect, chosen.victims, chosen.transactions, chosen.nodes, chosen.bounds);
 }
 
 /* Ends a manager, whatever its transactions do, and gives back all memory that it took. Its place has
  * no manager then, and may be used for another. Costs a walk over all that it has. */
 static inline bs_reply bs_end(bs_manager *manager) {
-  return manager == NULL ? bs_null() : bs_call_end(manager);
+  return manager == NULL ? bs_call_null() : bs_call_end(manager);
 }
 
 /* ------------------------------------------------------------------------------------------------
@@ -372,35 +308,35 @@ static inline bs_reply bs_end(bs_manager *manager) {
  * BS_NO_SUCH_NODE, BS_BAD_PARENTS, BS_TOO_MANY_NODES; with BS_BAD_NUMBER, first of all, where there are
  * more than 8 parents. Costs a look-up for each parent. */
 static inline bs_reply bs_add_inner(bs_manager *manager, const bs_node *parents, size_t count) {
-  if (manager == NULL || (parents == NULL && count != 0)) return bs_null();
-  return bs_call_add_inner(manager, bs_nodes(parents), count);
+  if (manager == NULL || (parents == NULL && count != 0)) return bs_call_null();
+  return bs_call_add_inner(manager, bs_call_nodes(parents), count);
 }
 
 /* A new file of records, under 1 to 8 different inner nodes. Its records are named by their nodes. Refused as
  * bs_add_inner. */
 static inline bs_reply bs_add_file(bs_manager *manager, const bs_node *parents, size_t count) {
-  if (manager == NULL || (parents == NULL && count != 0)) return bs_null();
-  return bs_call_add_file(manager, bs_nodes(parents), count);
+  if (manager == NULL || (parents == NULL && count != 0)) return bs_call_null();
+  return bs_call_add_file(manager, bs_call_nodes(parents), count);
 }
 
 /* A new file of rows, under 1 to 8 different inner nodes. Each of its records is a row, which the engine names by a
  * number of its own, and comes, goes and gets other keys by the calls about rows alone. A file is of records or of rows
  * for good. Refused as bs_add_inner; BS_NO_MEMORY may come before all refusals but BS_BAD_NUMBER and BS_NO_MANAGER. */
 static inline bs_reply bs_add_row_file(bs_manager *manager, const bs_node *parents, size_t count) {
-  if (manager == NULL || (parents == NULL && count != 0)) return bs_null();
-  return bs_call_row_file(manager, bs_nodes(parents), count);
+  if (manager == NULL || (parents == NULL && count != 0)) return bs_call_null();
+  return bs_call_row_file(manager, bs_call_nodes(parents), count);
 }
 
 /* A new index of a file that has no records, and of which no row ever had a node by bs_adopt or bs_lock_row; else
  * bs_index_by makes one. It lies under 1 to 8 different inner nodes. It has up to 256 bounds, or up to the number that
- * was chosen by bs_make_with. Bounds rise from above 0: interval 0 has the keys below the first bound, interval i those
+ * was chosen at its making. Bounds rise from above 0: interval 0 has the keys below the first bound, interval i those
  * from bound i - 1 on. Each interval is a node. Refused with BS_NO_SUCH_NODE, BS_BAD_PARENTS (also where the file has 7
  * indexes), BS_FILE_IN_USE, BS_BAD_KEYS, BS_TOO_MANY_NODES (its intervals count); with BS_BAD_NUMBER, first of all,
  * where there are more than 8 parents. Costs a step for each bound. */
 static inline bs_reply bs_add_index(bs_manager *manager, const bs_node *parents, size_t count, bs_node file,
                                     const uint64_t *bounds, size_t bound_count) {
-  if (manager == NULL || (parents == NULL && count != 0) || (bounds == NULL && bound_count != 0)) return bs_null();
-  return bs_call_add_index(manager, bs_nodes(parents), count, file, bs_numbers(bounds), bound_count);
+  if (manager == NULL || (parents == NULL && count != 0) || (bounds == NULL && bound_count != 0)) return bs_call_null();
+  return bs_call_add_index(manager, bs_call_nodes(parents), count, file, bs_call_numbers(bounds), bound_count);
 }
 
 /* ------------------------------------------------------------------------------------------------
@@ -409,7 +345,7 @@ static inline bs_reply bs_add_index(bs_manager *manager, const bs_node *parents,
 
 /* A new transaction, in `txn`. Refused with BS_TOO_MANY_TXNS. Takes memory. */
 static inline bs_reply bs_begin(bs_manager *manager) {
-  return manager == NULL ? bs_null() : bs_call_begin(manager);
+  return manager == NULL ? bs_call_null() : bs_call_begin(manager);
 }
 
 /* Asks for a mode on a node: to read (BS_IS, BS_S) intentions to read or more are needed on one parent, to
@@ -427,7 +363,7 @@ static inline bs_reply bs_begin(bs_manager *manager) {
  * memory, but for a node that the transaction holds already, granted at once. Costs one look-up of the node
  * and one for each parent; where it waits with detection at block a search along the waits too. */
 static inline bs_reply bs_lock(bs_manager *manager, bs_txn txn, bs_node node, bs_mode mode, bs_notices *told) {
-  return bs_lacks(manager, told) ? bs_null() : bs_call_lock(manager, txn, node, mode, told);
+  return bs_call_lacks(manager, told) ? bs_call_null() : bs_call_lock(manager, txn, node, mode, told);
 }
 
 /* Locks a node with what has to be held above it. That is intentions, root first: to write on all parents, to read
@@ -440,39 +376,39 @@ static inline bs_reply bs_lock(bs_manager *manager, bs_txn txn, bs_node node, bs
  * BS_NO_MEMORY or BS_WORN_OUT comes behind some of the locks: these stay. Costs its locks, and a look at each node
  * above for each of them. */
 static inline bs_reply bs_lock_path(bs_manager *manager, bs_txn txn, bs_node node, bs_mode mode, bs_notices *told) {
-  return bs_lacks(manager, told) ? bs_null() : bs_call_lock_path(manager, txn, node, mode, told);
+  return bs_call_lacks(manager, told) ? bs_call_null() : bs_call_lock_path(manager, txn, node, mode, told);
 }
 
 /* As bs_lock, but where the lock cannot be granted at once it is refused with BS_WOULD_BLOCK, after the
  * other refusals. It never waits and tells nobody. */
 static inline bs_reply bs_try(bs_manager *manager, bs_txn txn, bs_node node, bs_mode mode) {
-  return manager == NULL ? bs_null() : bs_call_try(manager, txn, node, mode);
+  return manager == NULL ? bs_call_null() : bs_call_try(manager, txn, node, mode);
 }
 
 /* Releases one node of which the transaction holds no child, also none that it may read by another parent.
  * Refused with BS_NO_SUCH_TXN, BS_TXN_WAITING, BS_TXN_CONDEMNED, BS_NO_SUCH_NODE, BS_NOT_HELD,
  * BS_HELD_CHILD. Costs a look-up, and a step for each waiter that is granted. */
 static inline bs_reply bs_unlock(bs_manager *manager, bs_txn txn, bs_node node, bs_notices *told) {
-  return bs_lacks(manager, told) ? bs_null() : bs_call_unlock(manager, txn, node, told);
+  return bs_call_lacks(manager, told) ? bs_call_null() : bs_call_unlock(manager, txn, node, told);
 }
 
-/* Takes the wait of a transaction back. The transaction itself is told nothing: where another thread
- * sleeps for it, tell that one. Refused with BS_NO_SUCH_TXN, BS_TXN_CONDEMNED, BS_NOT_WAITING. */
+/* Takes the wait of a transaction back. A row that it waited for is let go. The transaction itself is told nothing:
+ * where another thread sleeps for it, tell that one. Refused with BS_NO_SUCH_TXN, BS_TXN_CONDEMNED, BS_NOT_WAITING. */
 static inline bs_reply bs_cancel(bs_manager *manager, bs_txn txn, bs_notices *told) {
-  return bs_lacks(manager, told) ? bs_null() : bs_call_cancel(manager, txn, told);
+  return bs_call_lacks(manager, told) ? bs_call_null() : bs_call_cancel_rows(manager, txn, told);
 }
 
-/* Ends a transaction and releases everything. Refused with BS_NO_SUCH_TXN, BS_TXN_WAITING,
+/* Ends a transaction and releases everything, its rows among it. Refused with BS_NO_SUCH_TXN, BS_TXN_WAITING,
  * BS_TXN_CONDEMNED. Costs a step for each lock and each waiter that is granted. */
 static inline bs_reply bs_commit(bs_manager *manager, bs_txn txn, bs_notices *told) {
-  return bs_lacks(manager, told) ? bs_null() : bs_call_commit(manager, txn, told);
+  return bs_call_lacks(manager, told) ? bs_call_null() : bs_call_commit_rows(manager, txn, told);
 }
 
-/* Ends a transaction whatever it is doing, and releases everything. It undoes nothing: a record that was
- * inserted stays, and one that was deleted or moved stays so. The transaction itself is told nothing: where
+/* Ends a transaction whatever it is doing, and releases everything, its rows among it. It undoes nothing: a record that
+ * was inserted stays, and one that was deleted or moved stays so. The transaction itself is told nothing: where
  * another thread sleeps for it, tell that one. Refused with BS_NO_SUCH_TXN. */
 static inline bs_reply bs_abort(bs_manager *manager, bs_txn txn, bs_notices *told) {
-  return bs_lacks(manager, told) ? bs_null() : bs_call_abort(manager, txn, told);
+  return bs_call_lacks(manager, told) ? bs_call_null() : bs_call_abort_rows(manager, txn, told);
 }
 
 /* Condemns who is to fall for the transaction, by the choice of victims, until it is on no cycle of waits.
@@ -480,17 +416,17 @@ static inline bs_reply bs_abort(bs_manager *manager, bs_txn txn, bs_notices *tol
  * stood behind it may be told BS_TOLD_GRANTED. It is how a watcher ends deadlocks. Refused with
  * BS_NO_SUCH_TXN. */
 static inline bs_reply bs_settle(bs_manager *manager, bs_txn txn, bs_notices *told) {
-  return bs_lacks(manager, told) ? bs_null() : bs_call_settle(manager, txn, told);
+  return bs_call_lacks(manager, told) ? bs_call_null() : bs_call_settle(manager, txn, told);
 }
 
 /* Raises the lock of a node. Where the transaction holds a child to write (BS_IX, BS_SIX, BS_X) the lock is
  * joined with BS_X, else with BS_S, so that BS_IX becomes BS_SIX. Then it releases the children whose locks that
- * implies and of which it holds no children. `mode` is what is now held, `released` and `kept` how many held
+ * implies and of which it holds no children; rows that it released are let go. `mode` is what is now held, `released` and `kept` how many held
  * children went and stayed. Whoever has locks further down escalates there first. It never waits, and passes
  * whoever does. Refused with BS_NO_SUCH_TXN, BS_TXN_WAITING, BS_TXN_CONDEMNED, BS_NO_SUCH_NODE,
  * BS_BAD_PARENTS (a record), BS_NOT_HELD, BS_WOULD_BLOCK. Costs a step for each lock of the transaction. */
 static inline bs_reply bs_escalate(bs_manager *manager, bs_txn txn, bs_node node, bs_notices *told) {
-  return bs_lacks(manager, told) ? bs_null() : bs_call_escalate(manager, txn, node, told);
+  return bs_call_lacks(manager, told) ? bs_call_null() : bs_call_escalate_rows(manager, txn, node, told);
 }
 
 /* ------------------------------------------------------------------------------------------------
@@ -503,15 +439,15 @@ static inline bs_reply bs_escalate(bs_manager *manager, bs_txn txn, bs_node node
  * BS_NO_SUCH_TXN, BS_TXN_WAITING, BS_TXN_CONDEMNED, BS_NO_SUCH_NODE, BS_BAD_PARENTS (no file), BS_BAD_KEYS,
  * BS_NEED_PARENTS (a parent not itself held in IX or more), BS_TOO_MANY_NODES. Takes memory. */
 static inline bs_reply bs_insert(bs_manager *manager, bs_txn txn, bs_node file, const uint64_t *keys, size_t count) {
-  if (manager == NULL || (keys == NULL && count != 0)) return bs_null();
-  return bs_call_insert(manager, txn, file, bs_numbers(keys), count);
+  if (manager == NULL || (keys == NULL && count != 0)) return bs_call_null();
+  return bs_call_insert(manager, txn, file, bs_call_numbers(keys), count);
 }
 
 /* Takes a record away that the transaction holds in X by a lock on the record itself, as an insert leaves
  * one; X above it is not enough. Who waits for it is told BS_TOLD_GONE. Refused with BS_NO_SUCH_TXN,
  * BS_TXN_WAITING, BS_TXN_CONDEMNED, BS_NO_SUCH_NODE, BS_BAD_PARENTS (no record), BS_NEED_EXCLUSIVE. */
 static inline bs_reply bs_delete(bs_manager *manager, bs_txn txn, bs_node record, bs_notices *told) {
-  return bs_lacks(manager, told) ? bs_null() : bs_call_delete(manager, txn, record, told);
+  return bs_call_lacks(manager, told) ? bs_call_null() : bs_call_delete(manager, txn, record, told);
 }
 
 /* A new record of a file, in `node`, as bs_insert makes one, but for no transaction: nobody holds it, and no locks are
@@ -519,14 +455,14 @@ static inline bs_reply bs_delete(bs_manager *manager, bs_txn txn, bs_node record
  * file is made but by bs_index_by. Refused with BS_NO_SUCH_NODE, BS_BAD_PARENTS (no file), BS_BAD_KEYS,
  * BS_TOO_MANY_NODES. Takes memory. */
 static inline bs_reply bs_adopt(bs_manager *manager, bs_node file, const uint64_t *keys, size_t count) {
-  if (manager == NULL || (keys == NULL && count != 0)) return bs_null();
-  return bs_call_adopt(manager, file, bs_numbers(keys), count);
+  if (manager == NULL || (keys == NULL && count != 0)) return bs_call_null();
+  return bs_call_adopt(manager, file, bs_call_numbers(keys), count);
 }
 
 /* Takes a record away that nobody holds and nobody waits for. Refused with BS_NO_SUCH_NODE, BS_BAD_PARENTS (no
  * record), BS_RECORD_IN_USE. */
 static inline bs_reply bs_forget(bs_manager *manager, bs_node record) {
-  return manager == NULL ? bs_null() : bs_call_forget(manager, record);
+  return manager == NULL ? bs_call_null() : bs_call_forget(manager, record);
 }
 
 /* Gives a record another key for one index, and so another interval. Its parents are the file and an interval of
@@ -536,7 +472,7 @@ static inline bs_reply bs_forget(bs_manager *manager, bs_node record) {
  * BS_NEED_PARENTS. */
 static inline bs_reply bs_rekey(bs_manager *manager, bs_txn txn, bs_node record, bs_node index, uint64_t key,
                                 bs_notices *told) {
-  return bs_lacks(manager, told) ? bs_null() : bs_call_rekey(manager, txn, record, index, key, told);
+  return bs_call_lacks(manager, told) ? bs_call_null() : bs_call_rekey(manager, txn, record, index, key, told);
 }
 
 /* Gives an inner node, a file or an index other parents. Lawful with X on the node and IX or more on the new
@@ -547,8 +483,8 @@ static inline bs_reply bs_rekey(bs_manager *manager, bs_txn txn, bs_node record,
  * parents. */
 static inline bs_reply bs_move(bs_manager *manager, bs_txn txn, bs_node node, const bs_node *parents, size_t count,
                                bs_notices *told) {
-  if (bs_lacks(manager, told) || (parents == NULL && count != 0)) return bs_null();
-  return bs_call_move(manager, txn, node, bs_nodes(parents), count, told);
+  if (bs_call_lacks(manager, told) || (parents == NULL && count != 0)) return bs_call_null();
+  return bs_call_move(manager, txn, node, bs_call_nodes(parents), count, told);
 }
 
 /* ------------------------------------------------------------------------------------------------
@@ -564,7 +500,7 @@ static inline bs_reply bs_move(bs_manager *manager, bs_txn txn, bs_node node, co
  * a record), BS_NEED_EXCLUSIVE, and then with BS_HAS_CHILDREN (an inner node) or BS_FILE_IN_USE (a file or an index).
  * Costs a look-up or two for the node and for each of its intervals. */
 static inline bs_reply bs_drop(bs_manager *manager, bs_txn txn, bs_node node, bs_notices *told) {
-  return bs_lacks(manager, told) ? bs_null() : bs_call_drop(manager, txn, node, told);
+  return bs_call_lacks(manager, told) ? bs_call_null() : bs_call_drop(manager, txn, node, told);
 }
 
 /* A new index of a file of which no record stands now, in `node`, with parents and bounds as bs_add_index takes them.
@@ -576,17 +512,18 @@ static inline bs_reply bs_drop(bs_manager *manager, bs_txn txn, bs_node node, bs
  * memory. Costs a step for each bound. */
 static inline bs_reply bs_index_by(bs_manager *manager, bs_txn txn, const bs_node *parents, size_t count, bs_node file,
                                    const uint64_t *bounds, size_t bound_count) {
-  if (manager == NULL || (parents == NULL && count != 0) || (bounds == NULL && bound_count != 0)) return bs_null();
-  return bs_call_index_by(manager, txn, bs_nodes(parents), count, file, bs_numbers(bounds), bound_count);
+  if (manager == NULL || (parents == NULL && count != 0) || (bounds == NULL && bound_count != 0)) return bs_call_null();
+  return bs_call_index_by(manager, txn, bs_call_nodes(parents), count, file, bs_call_numbers(bounds), bound_count);
 }
 
 /* ------------------------------------------------------------------------------------------------
  * Rows by the engine's own numbers. A row is a file of bs_add_row_file and a number, any number at all. Of another
  * file, or of a node that is none, calls about a row are refused with BS_NOT_ROWS.
  *
- * A row has a node while some transaction holds it or waits for it. bs_lock_row makes the node. The other calls named
- * `row` or `rows` take it away behind the last who holds it or waits for it. No row has two nodes, and no two rows have
- * one. By its node a row is locked and asked after as any record is.
+ * A row has a node while some transaction holds it or waits for it. bs_lock_row makes the node. bs_unlock_row,
+ * bs_rekey_row, bs_commit, bs_abort, bs_cancel and bs_escalate let a row go: they take its node away behind the last who
+ * holds it or waits for it. No row has two nodes, and no two rows have one. By its node a row is locked and asked after
+ * as any record is.
  *
  * The keys are the row's own, one for each index of its file in the order of making. Only the engine knows them. It
  * reads them before it locks the row, and looks at them again behind each grant. Where they are others by then it gives
@@ -596,9 +533,9 @@ static inline bs_reply bs_index_by(bs_manager *manager, bs_txn txn, const bs_nod
  * deleted is locked in BS_X too, and keeps its lock, its node and its number until its transaction ends: nobody else
  * gets the row, or its number, before the commit.
  *
- * bs_commit, bs_abort, bs_cancel, bs_escalate and bs_unlock let no row go: its node stands on then, and goes when the
- * row is next let go. Each call is one command, and each node that comes or goes by it is one more. A call named `rows`
- * goes over all rows that its transaction asked for: a look-up for each, and a step for each node that goes.
+ * bs_unlock, of the row's node, lets no row go: that stands on then, and goes when the row is next let go. Each call is
+ * one command, and each node that comes or goes by it is one more. What ends a transaction, and an escalation and a
+ * cancel, goes over all rows that the transaction asked for: a look-up for each, and a step for each node that goes.
  */
 
 /* Locks a row by its node, as bs_lock locks a node. A row without a node gets one with these keys; so does one whose
@@ -617,46 +554,26 @@ static inline bs_reply bs_index_by(bs_manager *manager, bs_txn txn, const bs_nod
  * Takes memory. */
 static inline bs_reply bs_lock_row(bs_manager *manager, bs_txn txn, bs_node file, uint64_t number, const uint64_t *keys,
                                    size_t count, bs_mode mode, bs_notices *told) {
-  if (bs_lacks(manager, told) || (keys == NULL && count != 0)) return bs_null();
-  return bs_call_lock_row(manager, txn, file, number, bs_numbers(keys), count, mode, told);
+  if (bs_call_lacks(manager, told) || (keys == NULL && count != 0)) return bs_call_null();
+  return bs_call_lock_row(manager, txn, file, number, bs_call_numbers(keys), count, mode, told);
 }
 
 /* Releases a row, as bs_unlock releases its node, which goes where nobody else holds it or waits for it. A row without
  * a node is refused as a node that is gone, here and in the call below. */
 static inline bs_reply bs_unlock_row(bs_manager *manager, bs_txn txn, bs_node file, uint64_t number, bs_notices *told) {
-  return bs_lacks(manager, told) ? bs_null() : bs_call_unlock_row(manager, txn, file, number, told);
+  return bs_call_lacks(manager, told) ? bs_call_null() : bs_call_unlock_row(manager, txn, file, number, told);
 }
 
 /* Gives a row another key for one index, as bs_rekey does its node. */
 static inline bs_reply bs_rekey_row(bs_manager *manager, bs_txn txn, bs_node file, uint64_t number, bs_node index,
                                     uint64_t key, bs_notices *told) {
-  return bs_lacks(manager, told) ? bs_null() : bs_call_rekey_row(manager, txn, file, number, index, key, told);
-}
-
-/* As bs_commit, and the rows that it held are let go. */
-static inline bs_reply bs_commit_rows(bs_manager *manager, bs_txn txn, bs_notices *told) {
-  return bs_lacks(manager, told) ? bs_null() : bs_call_commit_rows(manager, txn, told);
-}
-
-/* As bs_abort, and the rows that it held or waited for are let go. */
-static inline bs_reply bs_abort_rows(bs_manager *manager, bs_txn txn, bs_notices *told) {
-  return bs_lacks(manager, told) ? bs_null() : bs_call_abort_rows(manager, txn, told);
-}
-
-/* As bs_cancel, and a row that it waited for is let go. */
-static inline bs_reply bs_cancel_rows(bs_manager *manager, bs_txn txn, bs_notices *told) {
-  return bs_lacks(manager, told) ? bs_null() : bs_call_cancel_rows(manager, txn, told);
-}
-
-/* As bs_escalate, of any node, and the rows that it released are let go. */
-static inline bs_reply bs_escalate_rows(bs_manager *manager, bs_txn txn, bs_node node, bs_notices *told) {
-  return bs_lacks(manager, told) ? bs_null() : bs_call_escalate_rows(manager, txn, node, told);
+  return bs_call_lacks(manager, told) ? bs_call_null() : bs_call_rekey_row(manager, txn, file, number, index, key, told);
 }
 
 /* The node of a row, in `node`, for questions and for bs_verdict. Refused with BS_NO_SUCH_NODE where it has none, also
  * where its file is none of rows. It changes nothing and takes no memory. */
-static inline bs_reply bs_row_node(bs_manager *manager, bs_node file, uint64_t number) {
-  return manager == NULL ? bs_null() : bs_call_row_node(manager, file, number);
+static inline bs_reply bs_row_node(const bs_manager *manager, bs_node file, uint64_t number) {
+  return bs_call_can_ask(manager) ? bs_call_row_node(manager, file, number) : bs_call_unasked(manager);
 }
 
 /* ------------------------------------------------------------------------------------------------
@@ -669,15 +586,16 @@ static inline bs_reply bs_row_node(bs_manager *manager, bs_node file, uint64_t n
  * and the wait is over. Refused with BS_NO_SUCH_TXN, and with BS_NOT_WAITING where it does not wait for the
  * node and no notice tells why, as after a cancel. Refused with BS_BAD_NUMBER, first of all, where the mode is no
  * number of enum bs_modes. */
-static inline bs_reply bs_verdict(bs_manager *manager, bs_txn txn, bs_node node, bs_mode mode) {
-  return manager == NULL ? bs_null() : bs_call_verdict(manager, txn, node, mode);
+static inline bs_reply bs_verdict(const bs_manager *manager, bs_txn txn, bs_node node, bs_mode mode) {
+  if (manager != NULL && mode > BS_X) return bs_call_only(BS_BAD_NUMBER);
+  return bs_call_can_ask(manager) ? bs_call_verdict(manager, txn, node, mode) : bs_call_unasked(manager);
 }
 
 /* The slots whose wait the last command that was accepted may have ended: whose sleepers are to be woken. Those
  * are the slots that it told, and that which a cancel or an abort names; no other transaction's wait was ended
  * by it. A refused command and a question leave them as they are. */
-static inline bs_found bs_ended(bs_manager *manager) {
-  return manager == NULL ? bs_none_found() : bs_call_ended(manager);
+static inline bs_found bs_ended(const bs_manager *manager) {
+  return bs_call_can_ask(manager) ? bs_call_ended(manager) : bs_call_none_found(bs_call_unasked(manager).status);
 }
 
 /* ------------------------------------------------------------------------------------------------
@@ -689,23 +607,28 @@ static inline bs_found bs_ended(bs_manager *manager) {
  */
 
 /* Makes a watcher of a manager at a place that has none, which knows the board of this moment. Refused with
- * BS_IN_USE, BS_TOO_MANY_WATCHERS, BS_NO_MEMORY; for want of memory the other watchers may be shown the board
- * of this moment all the same. Takes memory. Costs what bs_read_board does. */
+ * BS_OTHER_VERSION, BS_OTHER_SLOTS, BS_IN_USE, BS_TOO_MANY_WATCHERS, BS_NO_MEMORY; for want of memory the other watchers
+ * may be shown the board of this moment all the same. Takes memory. Costs what bs_read_board does. */
 static inline bs_reply bs_watch(bs_manager *manager, bs_watcher *watcher) {
-  return manager == NULL || watcher == NULL ? bs_null() : bs_call_watch(manager, watcher);
+  bs_status misfit = bs_call_misfit();
+  if (manager == NULL || watcher == NULL) return bs_call_null();
+  return misfit == BS_DONE ? bs_call_watch(manager, watcher) : bs_call_only(misfit);
 }
 
 /* The last board that was shown, written into `board`: whole, and never older than what this watcher was given
  * before. With detection at block it has no suspect. It needs no mutex, never waits, and takes no memory. Of a
- * manager that was ended it is the last that it showed. Refused with BS_NO_WATCHER; nothing is written then. */
+ * manager that was ended it is the last that it showed. Refused with BS_OTHER_VERSION, BS_OTHER_SLOTS, BS_NO_WATCHER;
+ * nothing is written then. */
 static inline bs_reply bs_look(bs_watcher *watcher, bs_board *board) {
-  return watcher == NULL || board == NULL ? bs_null() : bs_call_look(watcher, board);
+  bs_status misfit = bs_call_misfit();
+  if (watcher == NULL || board == NULL) return bs_call_null();
+  return misfit == BS_DONE ? bs_call_look(watcher, board) : bs_call_only(misfit);
 }
 
 /* Ends a watcher, with no mutex. Its place has none then, and may be used for another. Refused with
  * BS_NO_WATCHER. */
 static inline bs_reply bs_watch_end(bs_watcher *watcher) {
-  return watcher == NULL ? bs_null() : bs_call_watch_end(watcher);
+  return watcher == NULL ? bs_call_null() : bs_call_watch_end(watcher);
 }
 
 /* ------------------------------------------------------------------------------------------------
@@ -715,99 +638,84 @@ static inline bs_reply bs_watch_end(bs_watcher *watcher) {
 
 /* The group mode of a node in `mode`: the least that covers all that is held on it. Refused with
  * BS_NO_SUCH_NODE. */
-static inline bs_reply bs_group(bs_manager *manager, bs_node node) {
-  return manager == NULL ? bs_null() : bs_call_group(manager, node);
+static inline bs_reply bs_group(const bs_manager *manager, bs_node node) {
+  return bs_call_can_ask(manager) ? bs_call_group(manager, node) : bs_call_unasked(manager);
 }
 
 /* The mode in which a transaction holds a node in `mode`, BS_NL for none. Refused with BS_NO_SUCH_TXN,
  * BS_NO_SUCH_NODE. */
-static inline bs_reply bs_held(bs_manager *manager, bs_txn txn, bs_node node) {
-  return manager == NULL ? bs_null() : bs_call_held(manager, txn, node);
+static inline bs_reply bs_held(const bs_manager *manager, bs_txn txn, bs_node node) {
+  return bs_call_can_ask(manager) ? bs_call_held(manager, txn, node) : bs_call_unasked(manager);
 }
 
 /* What a transaction may do to a node by all its locks together, in `mode`: BS_NL, BS_S or BS_X.
  * Refused with BS_NO_SUCH_TXN, BS_NO_SUCH_NODE. Takes memory, and looks at each ancestor. */
-static inline bs_reply bs_effective(bs_manager *manager, bs_txn txn, bs_node node) {
-  return manager == NULL ? bs_null() : bs_call_effective(manager, txn, node);
+static inline bs_reply bs_effective(const bs_manager *manager, bs_txn txn, bs_node node) {
+  return bs_call_can_ask(manager) ? bs_call_effective(manager, txn, node) : bs_call_unasked(manager);
 }
 
-/* BS_WAITING with the node for which a transaction waits in `node` and the wanted mode in `mode`, what is
- * held and what was asked joined; else BS_NOT_WAITING, also where it does not live. */
-static inline bs_reply bs_waiting(bs_manager *manager, bs_txn txn) {
-  return manager == NULL ? bs_null() : bs_call_waiting(manager, txn);
-}
-
-/* How many children of a node a transaction holds, in `count`. Refused with BS_NOT_HELD where it does
- * not live or does not hold the node itself, also where it holds children of it by another parent. */
-static inline bs_reply bs_children(bs_manager *manager, bs_txn txn, bs_node node) {
-  return manager == NULL ? bs_null() : bs_call_children(manager, txn, node);
+/* How many children of a node a transaction holds, in `count`. Refused with BS_NO_SUCH_TXN, BS_NO_SUCH_NODE, and with
+ * BS_NOT_HELD where it does not hold the node itself, also where it holds children of it by another parent. */
+static inline bs_reply bs_children(const bs_manager *manager, bs_txn txn, bs_node node) {
+  bs_reply reply;
+  if (!bs_call_can_ask(manager)) return bs_call_unasked(manager);
+  reply = bs_call_children(manager, txn, node);
+  return reply.status == BS_NOT_HELD ? bs_call_not_held(manager, txn, node) : reply;
 }
 
 /* What a node is, in `count`, of enum bs_kinds. Refused with BS_NO_SUCH_NODE. */
-static inline bs_reply bs_kind(bs_manager *manager, bs_node node) {
-  return manager == NULL ? bs_null() : bs_call_kind(manager, node);
+static inline bs_reply bs_kind(const bs_manager *manager, bs_node node) {
+  return bs_call_can_ask(manager) ? bs_call_kind(manager, node) : bs_call_unasked(manager);
 }
 
 /* A parent of a node in `node`, by its place from 0 on; of a record first its file and then, for each
- * index, an interval. Refused with BS_NO_PLACE where there are fewer, or the node does not live. */
-static inline bs_reply bs_parent(bs_manager *manager, bs_node node, size_t place) {
-  return manager == NULL ? bs_null() : bs_call_parent(manager, node, place);
+ * index, an interval. Refused with BS_NO_SUCH_NODE, and with BS_NO_PLACE where there are fewer. */
+static inline bs_reply bs_parent(const bs_manager *manager, bs_node node, size_t place) {
+  if (!bs_call_can_ask(manager)) return bs_call_unasked(manager);
+  return bs_call_of_kind(manager, bs_call_parent(manager, node, place), node, 0);
 }
 
-/* A key of a record in `count`, by the place of its index. Refused with BS_NO_PLACE where there are
- * fewer, or the name names no record. */
-static inline bs_reply bs_key(bs_manager *manager, bs_node record, size_t place) {
-  return manager == NULL ? bs_null() : bs_call_key(manager, record, place);
+/* A key of a record in `count`, by the place of its index. Refused with BS_NO_SUCH_NODE where the name names no record,
+ * and with BS_NO_PLACE where there are fewer. */
+static inline bs_reply bs_key(const bs_manager *manager, bs_node record, size_t place) {
+  if (!bs_call_can_ask(manager)) return bs_call_unasked(manager);
+  return bs_call_of_kind(manager, bs_call_key(manager, record, place), record, BS_RECORD);
 }
 
 /* An index of a file in `node`, by its place in the order of making. Refused with BS_NO_SUCH_NODE where
- * the name names no file, and BS_NO_PLACE. */
-static inline bs_reply bs_index(bs_manager *manager, bs_node file, size_t place) {
-  return manager == NULL ? bs_null() : bs_call_index(manager, file, place);
+ * the name names no file, and with BS_NO_PLACE where there are fewer. */
+static inline bs_reply bs_index(const bs_manager *manager, bs_node file, size_t place) {
+  return bs_call_can_ask(manager) ? bs_call_index(manager, file, place) : bs_call_unasked(manager);
 }
 
-/* An interval of an index in `node`, by its place. Refused with BS_NO_PLACE where there are fewer, or
- * the name names no index. */
-static inline bs_reply bs_interval(bs_manager *manager, bs_node index, size_t place) {
-  return manager == NULL ? bs_null() : bs_call_interval(manager, index, place);
+/* An interval of an index in `node`, by its place. Refused with BS_NO_SUCH_NODE where the name names no index, and with
+ * BS_NO_PLACE where there are fewer. */
+static inline bs_reply bs_interval(const bs_manager *manager, bs_node index, size_t place) {
+  if (!bs_call_can_ask(manager)) return bs_call_unasked(manager);
+  return bs_call_of_kind(manager, bs_call_interval(manager, index, place), index, BS_INDEX);
 }
 
 /* The interval of an index in which a key lies, in `node`. Refused with BS_NO_SUCH_NODE where the name
  * names no index. Costs a binary search. */
-static inline bs_reply bs_interval_of(bs_manager *manager, bs_node index, uint64_t key) {
-  return manager == NULL ? bs_null() : bs_call_interval_of(manager, index, key);
+static inline bs_reply bs_interval_of(const bs_manager *manager, bs_node index, uint64_t key) {
+  return bs_call_can_ask(manager) ? bs_call_interval_of(manager, index, key) : bs_call_unasked(manager);
 }
 
 /* The place of an interval in its index, in `count`. Refused with BS_NO_SUCH_NODE where the name names
  * no interval. */
-static inline bs_reply bs_place(bs_manager *manager, bs_node interval) {
-  return manager == NULL ? bs_null() : bs_call_place(manager, interval);
+static inline bs_reply bs_place(const bs_manager *manager, bs_node interval) {
+  return bs_call_can_ask(manager) ? bs_call_place(manager, interval) : bs_call_unasked(manager);
 }
 
 /* Whether a file has records: 1 or 0 in `count`. Refused with BS_NO_SUCH_NODE where the name names no
  * file. */
-static inline bs_reply bs_has_records(bs_manager *manager, bs_node file) {
-  return manager == NULL ? bs_null() : bs_call_has_records(manager, file);
+static inline bs_reply bs_has_records(const bs_manager *manager, bs_node file) {
+  return bs_call_can_ask(manager) ? bs_call_has_records(manager, file) : bs_call_unasked(manager);
 }
 
 /* How many nodes live, in `count`. */
-static inline bs_reply bs_len(bs_manager *manager) {
-  return manager == NULL ? bs_null() : bs_call_len(manager);
-}
-
-/* How many commands were accepted, in `count`: all that were neither refused nor questions. */
-static inline bs_reply bs_accepted(bs_manager *manager) {
-  return manager == NULL ? bs_null() : bs_call_accepted(manager);
-}
-
-/* How deadlocks are found, in `count`, of enum bs_detects. */
-static inline bs_reply bs_detect(bs_manager *manager) {
-  return manager == NULL ? bs_null() : bs_call_detect(manager);
-}
-
-/* Whom a deadlock takes, in `count`, of enum bs_choices. */
-static inline bs_reply bs_victims(bs_manager *manager) {
-  return manager == NULL ? bs_null() : bs_call_victims(manager);
+static inline bs_reply bs_len(const bs_manager *manager) {
+  return bs_call_can_ask(manager) ? bs_call_len(manager) : bs_call_unasked(manager);
 }
 
 /* ------------------------------------------------------------------------------------------------
@@ -815,99 +723,84 @@ static inline bs_reply bs_victims(bs_manager *manager) {
  * no memory; all that is asked between two commands is of one moment.
  */
 
-/* How many transactions may live at once, in `count`: their slots are those below. */
-static inline bs_reply bs_most(bs_manager *manager) {
-  return manager == NULL ? bs_null() : bs_call_most(manager);
-}
-
-/* How many nodes may live at once, in `count`. */
-static inline bs_reply bs_most_nodes(bs_manager *manager) {
-  return manager == NULL ? bs_null() : bs_call_most_nodes(manager);
-}
-
-/* How many bounds an index may have, in `count`. */
-static inline bs_reply bs_most_bounds(bs_manager *manager) {
-  return manager == NULL ? bs_null() : bs_call_most_bounds(manager);
-}
-
-/* What a manager was made with, into `options`; where it is refused they are as usual. */
-static inline bs_reply bs_limits(bs_manager *manager, bs_options *options) {
-  bs_reply reply = bs_null();
-  if (options != NULL) *options = bs_usual();
-  if (manager == NULL || options == NULL) return reply;
-  reply = bs_call_detect(manager);
-  options->detect = (uint32_t)reply.count;
-  if (reply.status != BS_DONE) return reply;
+/* What a manager was made with, written into `options`, with a number for each that was as usual. Where it is refused
+ * nothing is written. The slots of its transactions are those below `transactions`. */
+static inline bs_reply bs_limits(const bs_manager *manager, bs_options *options) {
+  if (options == NULL) return bs_call_null();
+  if (!bs_call_can_ask(manager)) return bs_call_unasked(manager);
+  options->detect = (uint32_t)bs_call_detect(manager).count;
   options->victims = (uint32_t)bs_call_victims(manager).count;
   options->transactions = (uint32_t)bs_call_most(manager).count;
   options->nodes = (uint32_t)bs_call_most_nodes(manager).count;
   options->bounds = (uint32_t)bs_call_most_bounds(manager).count;
-  return reply;
+  return bs_call_only(BS_DONE);
 }
 
 /* The transaction in a slot, in `txn`. Refused with BS_BAD_NUMBER, first of all, where the slot is
  * BS_SLOTS or more, and with BS_NO_PLACE where it is free. */
-static inline bs_reply bs_living(bs_manager *manager, uint32_t slot) {
-  return manager == NULL ? bs_null() : bs_call_living(manager, slot);
+static inline bs_reply bs_living(const bs_manager *manager, uint32_t slot) {
+  if (manager != NULL && slot >= BS_SLOTS) return bs_call_only(BS_BAD_NUMBER);
+  return bs_call_can_ask(manager) ? bs_call_living(manager, slot) : bs_call_unasked(manager);
 }
 
 /* What a transaction is doing, in `count`, of enum bs_doings; where it waits, the node in `node` and the wanted
  * mode in `mode`, what is held and what was asked joined. Refused with BS_NO_SUCH_TXN. */
-static inline bs_reply bs_doing(bs_manager *manager, bs_txn txn) {
-  return manager == NULL ? bs_null() : bs_call_doing(manager, txn);
+static inline bs_reply bs_doing(const bs_manager *manager, bs_txn txn) {
+  return bs_call_can_ask(manager) ? bs_call_doing(manager, txn) : bs_call_unasked(manager);
 }
 
 /* How many nodes a transaction holds or waits for, in `count`. Refused with BS_NO_SUCH_TXN. */
-static inline bs_reply bs_lock_count(bs_manager *manager, bs_txn txn) {
-  return manager == NULL ? bs_null() : bs_call_lock_count(manager, txn);
+static inline bs_reply bs_lock_count(const bs_manager *manager, bs_txn txn) {
+  return bs_call_can_ask(manager) ? bs_call_lock_count(manager, txn) : bs_call_unasked(manager);
 }
 
 /* A node that a transaction holds or waits for, by its place from 0 on, in `node`. In `mode` is the mode in which it
  * is held, BS_NL where it is only waited for. In `wanted` is the wanted mode, BS_NL where it is not waited for. In
  * `count` is how many of its children are held. Each such node has one place; a command may change the places.
- * Refused with BS_NO_PLACE where there are fewer, or the transaction does not live. */
-static inline bs_reply bs_lock_at(bs_manager *manager, bs_txn txn, size_t place) {
-  return manager == NULL ? bs_null() : bs_call_lock_at(manager, txn, place);
+ * Refused with BS_NO_SUCH_TXN, and with BS_NO_PLACE where there are fewer. */
+static inline bs_reply bs_lock_at(const bs_manager *manager, bs_txn txn, size_t place) {
+  bs_reply reply;
+  if (!bs_call_can_ask(manager)) return bs_call_unasked(manager);
+  reply = bs_call_lock_at(manager, txn, place);
+  return reply.status == BS_NO_PLACE && bs_call_doing(manager, txn).status != BS_DONE ? bs_call_only(BS_NO_SUCH_TXN) : reply;
 }
 
 /* The slots of those who hold a node. Refused with BS_NO_SUCH_NODE. */
-static inline bs_found bs_holders(bs_manager *manager, bs_node node) {
-  return manager == NULL ? bs_none_found() : bs_call_holders(manager, node);
-}
-
-/* The mode in which the transaction of a slot holds a node, in `mode`; BS_NL for none. Refused with
- * BS_BAD_NUMBER, first of all, where the slot is BS_SLOTS or more. */
-static inline bs_reply bs_mode_at(bs_manager *manager, uint32_t slot, bs_node node) {
-  return manager == NULL ? bs_null() : bs_call_mode_at(manager, slot, node);
+static inline bs_found bs_holders(const bs_manager *manager, bs_node node) {
+  if (!bs_call_can_ask(manager)) return bs_call_none_found(bs_call_unasked(manager).status);
+  return bs_call_holders(manager, node);
 }
 
 /* How many transactions wait for a node, in `count`. Refused with BS_NO_SUCH_NODE. */
-static inline bs_reply bs_queue_len(bs_manager *manager, bs_node node) {
-  return manager == NULL ? bs_null() : bs_call_queue_len(manager, node);
+static inline bs_reply bs_queue_len(const bs_manager *manager, bs_node node) {
+  return bs_call_can_ask(manager) ? bs_call_queue_len(manager, node) : bs_call_unasked(manager);
 }
 
 /* Who waits for a node, by its place in the queue from 0 on, the first to be granted first, in `txn`, and the
  * wanted mode in `mode`. Refused with BS_NO_SUCH_NODE, and with BS_NO_PLACE where there are fewer. */
-static inline bs_reply bs_queue_at(bs_manager *manager, bs_node node, size_t place) {
-  return manager == NULL ? bs_null() : bs_call_queue_at(manager, node, place);
+static inline bs_reply bs_queue_at(const bs_manager *manager, bs_node node, size_t place) {
+  return bs_call_can_ask(manager) ? bs_call_queue_at(manager, node, place) : bs_call_unasked(manager);
 }
 
 /* The slots of those for whom a transaction waits: who holds the node in a mode that does not go with the
  * wanted one, and who stands ahead in its queue; none where it does not wait. Refused with BS_NO_SUCH_TXN. */
-static inline bs_found bs_waits_for(bs_manager *manager, bs_txn txn) {
-  return manager == NULL ? bs_none_found() : bs_call_waits_for(manager, txn);
+static inline bs_found bs_waits_for(const bs_manager *manager, bs_txn txn) {
+  if (!bs_call_can_ask(manager)) return bs_call_none_found(bs_call_unasked(manager).status);
+  return bs_call_waits_for(manager, txn);
 }
 
 /* The deadlock of which the last victim fell, as it was when that was condemned, written into `deadlock`. Its
  * transactions may have ended since. Refused with BS_NO_PLACE where nobody ever fell; nothing is written then.
  * Costs a copy of its rows. */
-static inline bs_reply bs_last_deadlock(bs_manager *manager, bs_deadlock *deadlock) {
-  return manager == NULL || deadlock == NULL ? bs_null() : bs_call_last_deadlock(manager, deadlock);
+static inline bs_reply bs_last_deadlock(const bs_manager *manager, bs_deadlock *deadlock) {
+  if (deadlock == NULL) return bs_call_null();
+  return bs_call_can_ask(manager) ? bs_call_last_deadlock(manager, deadlock) : bs_call_unasked(manager);
 }
 
 /* What the manager has been doing since it was made, written into `counts`. */
-static inline bs_reply bs_counters(bs_manager *manager, bs_counts *counts) {
-  return manager == NULL || counts == NULL ? bs_null() : bs_call_counters(manager, counts);
+static inline bs_reply bs_counters(const bs_manager *manager, bs_counts *counts) {
+  if (counts == NULL) return bs_call_null();
+  return bs_call_can_ask(manager) ? bs_call_counters(manager, counts) : bs_call_unasked(manager);
 }
 
 /* ------------------------------------------------------------------------------------------------
@@ -915,39 +808,38 @@ static inline bs_reply bs_counters(bs_manager *manager, bs_counts *counts) {
  * its mutex. A board may be older than what is; to settle a suspect of an old board does no harm.
  */
 
-/* The board of this moment, written into `board`; where it is refused nothing is written. Costs a step
- * for each transaction, and two passes over each queue. */
-static inline bs_reply bs_read_board(bs_manager *manager, bs_board *board) {
-  return manager == NULL || board == NULL ? bs_null() : bs_call_board(manager, board);
-}
-
-/* No slots, since the library does not know this header's sizes. */
-static inline bs_found bs_none_fits(void) {
-  bs_found found = bs_none_found();
-  found.status = BS_OTHER_SLOTS;
-  return found;
+/* The board of this moment, written into `board`; where it is refused nothing is written. Refused with
+ * BS_OTHER_VERSION, BS_OTHER_SLOTS. Costs a step for each transaction, and two passes over each queue. */
+static inline bs_reply bs_read_board(const bs_manager *manager, bs_board *board) {
+  bs_status misfit = bs_call_misfit();
+  if (board == NULL) return bs_call_null();
+  if (!bs_call_can_ask(manager)) return bs_call_unasked(manager);
+  return misfit == BS_DONE ? bs_call_board(manager, board) : bs_call_only(misfit);
 }
 
 /* The slots on a cycle of waits with this slot, which are those that it reaches by waits and that reach it;
- * none where it is on none. Refused with BS_NULL_POINTER, BS_OTHER_SLOTS, and BS_BAD_NUMBER where the slot is BS_SLOTS
- * or more. Costs at most a step for each slot that it reaches, twice. */
+ * none where it is on none. Refused with BS_NULL_POINTER, BS_OTHER_VERSION, BS_OTHER_SLOTS, and BS_BAD_NUMBER where the
+ * slot is BS_SLOTS or more. Costs at most a step for each slot that it reaches, twice. */
 static inline bs_found bs_on_cycle(const bs_board *board, uint32_t slot) {
-  if (board == NULL) return bs_none_found();
-  return bs_fits() ? bs_call_on_cycle(board, slot) : bs_none_fits();
+  bs_status misfit = bs_call_misfit();
+  if (board == NULL) return bs_call_none_found(BS_NULL_POINTER);
+  return misfit == BS_DONE ? bs_call_on_cycle(board, slot) : bs_call_none_found(misfit);
 }
 
-/* The slots that are on any cycle of waits. Refused with BS_NULL_POINTER, BS_OTHER_SLOTS. Costs a pass over the rows
- * where nobody waits, else a step for each slot and each that waits. */
+/* The slots that are on any cycle of waits. Refused with BS_NULL_POINTER, BS_OTHER_VERSION, BS_OTHER_SLOTS. Costs a pass
+ * over the rows where nobody waits, else a step for each slot and each that waits. */
 static inline bs_found bs_suspects(const bs_board *board) {
-  if (board == NULL) return bs_none_found();
-  return bs_fits() ? bs_call_suspects(board) : bs_none_fits();
+  bs_status misfit = bs_call_misfit();
+  if (board == NULL) return bs_call_none_found(BS_NULL_POINTER);
+  return misfit == BS_DONE ? bs_call_suspects(board) : bs_call_none_found(misfit);
 }
 
-/* The youngest of these slots in `count`, of equal ages the lowest. Refused with BS_NULL_POINTER, BS_OTHER_SLOTS, and
- * with BS_NO_PLACE where there is none. */
+/* The youngest of these slots in `count`, of equal ages the lowest. Refused with BS_NULL_POINTER, BS_OTHER_VERSION,
+ * BS_OTHER_SLOTS, and with BS_NO_PLACE where there is none. */
 static inline bs_reply bs_youngest(const bs_board *board, bs_slots slots) {
-  if (board == NULL) return bs_null();
-  return bs_fits() ? bs_call_youngest(board, &slots) : bs_only(BS_OTHER_SLOTS);
+  bs_status misfit = bs_call_misfit();
+  if (board == NULL) return bs_call_null();
+  return misfit == BS_DONE ? bs_call_youngest(board, &slots) : bs_call_only(misfit);
 }
 
 /* Whether a set has a slot, of any number. */
@@ -1016,6 +908,7 @@ static inline const char *bs_text(bs_status status) {
     case BS_ROWS_BY_NUMBER: return "RowsByNumber";
     case BS_NOT_ROWS: return "NotRows";
     case BS_OTHER_SLOTS: return "OtherSlots";
+    case BS_OTHER_VERSION: return "OtherVersion";
     default: return "?";
   }
 }

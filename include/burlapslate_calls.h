@@ -1,6 +1,7 @@
 /*
- * burlapslate_calls.h: the calls of the library. A program makes none of them: it uses the functions of burlapslate.h,
- * each of which tests its pointers for null, and then makes the calls that stand in it.
+ * burlapslate_calls.h: the calls of the library, and what the functions of burlapslate.h share. A program uses none of it:
+ * it calls the functions of burlapslate.h, each of which tests its pointers for null, and then makes the calls that stand
+ * in it.
  */
 #ifndef BURLAPSLATE_CALLS_H
 #define BURLAPSLATE_CALLS_H
@@ -9,8 +10,6 @@
 #error "include burlapslate.h, whose functions make these calls"
 #endif
 
-bs_reply bs_call_make(bs_manager *manager, uint32_t detect, uint32_t most);
-bs_reply bs_call_make_choosing(bs_manager *manager, uint32_t detect, uint32_t victims, uint32_t most);
 bs_reply bs_call_make_with(bs_manager *manager, uint32_t detect, uint32_t victims, uint32_t most, uint32_t nodes,
                            uint32_t bounds);
 bs_reply bs_call_end(bs_manager *manager);
@@ -24,10 +23,6 @@ bs_reply bs_call_lock(bs_manager *manager, bs_txn txn, bs_node node, bs_mode mod
 bs_reply bs_call_lock_path(bs_manager *manager, bs_txn txn, bs_node node, bs_mode mode, bs_notices *told);
 bs_reply bs_call_try(bs_manager *manager, bs_txn txn, bs_node node, bs_mode mode);
 bs_reply bs_call_unlock(bs_manager *manager, bs_txn txn, bs_node node, bs_notices *told);
-bs_reply bs_call_escalate(bs_manager *manager, bs_txn txn, bs_node node, bs_notices *told);
-bs_reply bs_call_cancel(bs_manager *manager, bs_txn txn, bs_notices *told);
-bs_reply bs_call_commit(bs_manager *manager, bs_txn txn, bs_notices *told);
-bs_reply bs_call_abort(bs_manager *manager, bs_txn txn, bs_notices *told);
 bs_reply bs_call_settle(bs_manager *manager, bs_txn txn, bs_notices *told);
 bs_reply bs_call_insert(bs_manager *manager, bs_txn txn, bs_node file, const uint64_t *keys, size_t count);
 bs_reply bs_call_delete(bs_manager *manager, bs_txn txn, bs_node record, bs_notices *told);
@@ -48,47 +43,131 @@ bs_reply bs_call_commit_rows(bs_manager *manager, bs_txn txn, bs_notices *told);
 bs_reply bs_call_abort_rows(bs_manager *manager, bs_txn txn, bs_notices *told);
 bs_reply bs_call_cancel_rows(bs_manager *manager, bs_txn txn, bs_notices *told);
 bs_reply bs_call_escalate_rows(bs_manager *manager, bs_txn txn, bs_node node, bs_notices *told);
-bs_reply bs_call_row_node(bs_manager *manager, bs_node file, uint64_t number);
-bs_reply bs_call_verdict(bs_manager *manager, bs_txn txn, bs_node node, bs_mode mode);
-bs_found bs_call_ended(bs_manager *manager);
+bs_reply bs_call_row_node(const bs_manager *manager, bs_node file, uint64_t number);
+bs_reply bs_call_verdict(const bs_manager *manager, bs_txn txn, bs_node node, bs_mode mode);
+bs_found bs_call_ended(const bs_manager *manager);
 bs_reply bs_call_watch(bs_manager *manager, bs_watcher *watcher);
 bs_reply bs_call_look(bs_watcher *watcher, bs_board *board);
 bs_reply bs_call_watch_end(bs_watcher *watcher);
-bs_reply bs_call_group(bs_manager *manager, bs_node node);
-bs_reply bs_call_held(bs_manager *manager, bs_txn txn, bs_node node);
-bs_reply bs_call_effective(bs_manager *manager, bs_txn txn, bs_node node);
-bs_reply bs_call_waiting(bs_manager *manager, bs_txn txn);
-bs_reply bs_call_children(bs_manager *manager, bs_txn txn, bs_node node);
-bs_reply bs_call_kind(bs_manager *manager, bs_node node);
-bs_reply bs_call_parent(bs_manager *manager, bs_node node, size_t place);
-bs_reply bs_call_key(bs_manager *manager, bs_node record, size_t place);
-bs_reply bs_call_index(bs_manager *manager, bs_node file, size_t place);
-bs_reply bs_call_interval(bs_manager *manager, bs_node index, size_t place);
-bs_reply bs_call_interval_of(bs_manager *manager, bs_node index, uint64_t key);
-bs_reply bs_call_place(bs_manager *manager, bs_node interval);
-bs_reply bs_call_has_records(bs_manager *manager, bs_node file);
-bs_reply bs_call_len(bs_manager *manager);
-bs_reply bs_call_accepted(bs_manager *manager);
-bs_reply bs_call_detect(bs_manager *manager);
-bs_reply bs_call_victims(bs_manager *manager);
-bs_reply bs_call_most(bs_manager *manager);
-bs_reply bs_call_most_nodes(bs_manager *manager);
-bs_reply bs_call_most_bounds(bs_manager *manager);
-bs_reply bs_call_living(bs_manager *manager, uint32_t slot);
-bs_reply bs_call_doing(bs_manager *manager, bs_txn txn);
-bs_reply bs_call_lock_count(bs_manager *manager, bs_txn txn);
-bs_reply bs_call_lock_at(bs_manager *manager, bs_txn txn, size_t place);
-bs_found bs_call_holders(bs_manager *manager, bs_node node);
-bs_reply bs_call_mode_at(bs_manager *manager, uint32_t slot, bs_node node);
-bs_reply bs_call_queue_len(bs_manager *manager, bs_node node);
-bs_reply bs_call_queue_at(bs_manager *manager, bs_node node, size_t place);
-bs_found bs_call_waits_for(bs_manager *manager, bs_txn txn);
-bs_reply bs_call_last_deadlock(bs_manager *manager, bs_deadlock *deadlock);
-bs_reply bs_call_counters(bs_manager *manager, bs_counts *counts);
-bs_reply bs_call_board(bs_manager *manager, bs_board *board);
+bs_reply bs_call_group(const bs_manager *manager, bs_node node);
+bs_reply bs_call_held(const bs_manager *manager, bs_txn txn, bs_node node);
+bs_reply bs_call_effective(const bs_manager *manager, bs_txn txn, bs_node node);
+bs_reply bs_call_children(const bs_manager *manager, bs_txn txn, bs_node node);
+bs_reply bs_call_kind(const bs_manager *manager, bs_node node);
+bs_reply bs_call_parent(const bs_manager *manager, bs_node node, size_t place);
+bs_reply bs_call_key(const bs_manager *manager, bs_node record, size_t place);
+bs_reply bs_call_index(const bs_manager *manager, bs_node file, size_t place);
+bs_reply bs_call_interval(const bs_manager *manager, bs_node index, size_t place);
+bs_reply bs_call_interval_of(const bs_manager *manager, bs_node index, uint64_t key);
+bs_reply bs_call_place(const bs_manager *manager, bs_node interval);
+bs_reply bs_call_has_records(const bs_manager *manager, bs_node file);
+bs_reply bs_call_len(const bs_manager *manager);
+bs_reply bs_call_accepted(const bs_manager *manager);
+bs_reply bs_call_detect(const bs_manager *manager);
+bs_reply bs_call_victims(const bs_manager *manager);
+bs_reply bs_call_most(const bs_manager *manager);
+bs_reply bs_call_most_nodes(const bs_manager *manager);
+bs_reply bs_call_most_bounds(const bs_manager *manager);
+bs_reply bs_call_living(const bs_manager *manager, uint32_t slot);
+bs_reply bs_call_doing(const bs_manager *manager, bs_txn txn);
+bs_reply bs_call_lock_count(const bs_manager *manager, bs_txn txn);
+bs_reply bs_call_lock_at(const bs_manager *manager, bs_txn txn, size_t place);
+bs_found bs_call_holders(const bs_manager *manager, bs_node node);
+bs_reply bs_call_queue_len(const bs_manager *manager, bs_node node);
+bs_reply bs_call_queue_at(const bs_manager *manager, bs_node node, size_t place);
+bs_found bs_call_waits_for(const bs_manager *manager, bs_txn txn);
+bs_reply bs_call_last_deadlock(const bs_manager *manager, bs_deadlock *deadlock);
+bs_reply bs_call_counters(const bs_manager *manager, bs_counts *counts);
+bs_reply bs_call_board(const bs_manager *manager, bs_board *board);
 bs_found bs_call_on_cycle(const bs_board *board, uint32_t slot);
 bs_found bs_call_suspects(const bs_board *board);
 bs_reply bs_call_youngest(const bs_board *board, const bs_slots *slots);
 uint32_t bs_call_slots(void);
+
+/* Those of a table. */
+struct bs_table;
+bs_reply bs_call_table_make(struct bs_table **table, const bs_options *options, size_t size);
+bs_status bs_call_table_shut(struct bs_table *table);
+bs_reply bs_call_table_watch(struct bs_table *table, bs_watcher *watcher);
+
+/* A reply that says no more than this. */
+static inline bs_reply bs_call_only(bs_status status) {
+  bs_reply reply = { BS_DONE, BS_NL, { 0, 0 }, { 0, 0 }, 0, 0, 0, BS_NL };
+  reply.status = status;
+  return reply;
+}
+
+/* The reply of a call with a null pointer. */
+static inline bs_reply bs_call_null(void) {
+  return bs_call_only(BS_NULL_POINTER);
+}
+
+/* The slots of a call that is refused so. */
+static inline bs_found bs_call_none_found(bs_status status) {
+  bs_found found = { BS_DONE, { { 0 } } };
+  found.status = status;
+  return found;
+}
+
+/* Whether the library is that of this header, and knows its sizes. The third number of a version is of no weight: it
+ * rises where nothing is added, and nothing has to be changed. */
+static inline bs_status bs_call_misfit(void) {
+  if (bs_version() / 1000u != BS_VERSION / 1000u) return BS_OTHER_VERSION;
+  return bs_call_slots() == BS_SLOTS ? BS_DONE : BS_OTHER_SLOTS;
+}
+
+/* Whether one of these is null. The notices are emptied ahead of all else, so that none of an earlier call is left where
+ * this one is refused. */
+static inline bool bs_call_lacks(const bs_manager *manager, bs_notices *told) {
+  if (told != NULL) told->count = 0;
+  return told == NULL || manager == NULL;
+}
+
+/* Whether there is a manager to be asked. The library takes a manager out of its place while it answers: so a place that
+ * never had one, and may be a constant, is looked at here alone. */
+static inline bool bs_call_can_ask(const bs_manager *manager) {
+  return manager != NULL && manager->is_open;
+}
+
+/* The reply where there is none. */
+static inline bs_reply bs_call_unasked(const bs_manager *manager) {
+  return bs_call_only(manager == NULL ? BS_NULL_POINTER : BS_NO_MANAGER);
+}
+
+/* A list that is not null, for a list that may be null where its count is 0. */
+static inline const bs_node *bs_call_nodes(const bs_node *list) {
+  static const bs_node none = { 0, 0 };
+  return list == NULL ? &none : list;
+}
+
+static inline const uint64_t *bs_call_numbers(const uint64_t *list) {
+  static const uint64_t none = 0;
+  return list == NULL ? &none : list;
+}
+
+/* The options of a maker who may know fewer, with a number for each that is as usual. */
+static inline bs_options bs_call_chosen(const bs_options *given, size_t size) {
+  bs_options options = { 0, 0, 0, 0, 0 };
+  if (given != NULL) memcpy(&options, given, size < sizeof options ? size : sizeof options);
+  if (options.transactions == 0) options.transactions = BS_SLOTS;
+  if (options.nodes == 0) options.nodes = 65536;
+  if (options.bounds == 0) options.bounds = 256;
+  return options;
+}
+
+/* A reply about a place of a node, which is to be of this kind where that is not 0. That there are fewer places says
+ * nothing of the node. */
+static inline bs_reply bs_call_of_kind(const bs_manager *manager, bs_reply reply, bs_node node, uint64_t kind) {
+  bs_reply is;
+  if (reply.status != BS_NO_PLACE) return reply;
+  is = bs_call_kind(manager, node);
+  return is.status == BS_DONE && (kind == 0 || is.count == kind) ? reply : bs_call_only(BS_NO_SUCH_NODE);
+}
+
+/* Why a node is not held. */
+static inline bs_reply bs_call_not_held(const bs_manager *manager, bs_txn txn, bs_node node) {
+  bs_reply held = bs_call_held(manager, txn, node);
+  return held.status == BS_DONE ? bs_call_only(BS_NOT_HELD) : held;
+}
 
 #endif
