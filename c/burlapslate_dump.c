@@ -5,100 +5,100 @@
 
 #include <stdlib.h>
 
-enum { PART = 256 };
+enum { DUMP_PART = 256 };
 
 /* A transaction in a dump; what it waits for, and whom. */
-typedef struct dumped_txn {
+typedef struct dump_txn {
   bs_txn txn;
   bs_reply doing;
   uint64_t kind; /* of the node that it waits for; 0: it is gone */
   bs_slots waits_for;
-} dumped_txn;
+} dump_txn;
 
 /* What a dump has copied, a part at a time: of a manager that its caller holds, or of that of a table, whose latch is
  * held for each part. */
-typedef struct dumped {
+typedef struct dump_copy {
   const bs_manager *manager; /* null where it is a table's */
   bs_table *table;
   bs_counts counts; /* these are of one moment, with the last deadlock */
   uint64_t nodes, most;
   size_t txn_count;
-  dumped_txn txns[BS_SLOTS];
+  dump_txn txns[BS_SLOTS];
   bool has_deadlock;
   bs_deadlock last;
   uint64_t last_kinds[BS_SLOTS];
   size_t lock_count; /* some locks of a transaction */
-  bs_reply locks[PART];
-  uint64_t lock_kinds[PART];
+  bs_reply locks[DUMP_PART];
+  uint64_t lock_kinds[DUMP_PART];
   bs_slots holders; /* who holds a node, in which modes, and its queue */
   bs_mode held[BS_SLOTS];
   size_t waiter_count;
   bs_reply waiters[BS_SLOTS];
-} dumped;
+} dump_copy;
 
 /* The manager, for a part; null where the table was ended. */
-static const bs_manager *hold(dumped *copy) {
+static const bs_manager *dump_hold(dump_copy *copy) {
   return copy->manager != NULL ? copy->manager : bs_table_hold(copy->table);
 }
 
-static void let_go(dumped *copy) {
+static void dump_let_go(dump_copy *copy) {
   if (copy->manager == NULL) bs_table_let_go(copy->table);
 }
 
 /* What a node is; 0: it is gone. */
-static uint64_t kind_or_gone(const bs_manager *m, bs_node node) {
+static uint64_t dump_kind_or_gone(const bs_manager *m, bs_node node) {
   bs_reply kind = bs_kind(m, node);
   return kind.status == BS_DONE ? kind.count : 0;
 }
 
-static void copy_txns(const bs_manager *m, dumped *copy) {
+static void dump_copy_txns(const bs_manager *m, dump_copy *copy) {
   uint32_t slot;
   copy->txn_count = 0;
   for (slot = 0; slot < BS_SLOTS; slot++) {
     bs_reply living = bs_living(m, slot);
-    dumped_txn *to = &copy->txns[copy->txn_count];
+    dump_txn *to = &copy->txns[copy->txn_count];
     if (living.status != BS_DONE) continue;
     to->txn = living.txn;
     to->doing = bs_doing(m, to->txn);
-    to->kind = kind_or_gone(m, to->doing.node);
+    to->kind = dump_kind_or_gone(m, to->doing.node);
     to->waits_for = bs_waits_for(m, to->txn).slots;
     copy->txn_count++;
   }
 }
 
 /* The part that is of one moment. */
-static void copy_first(const bs_manager *m, dumped *copy) {
+static void dump_copy_first(const bs_manager *m, dump_copy *copy) {
   bs_options limits = { 0, 0, 0, 0, 0 };
   size_t i;
   bs_counters(m, &copy->counts);
   copy->nodes = bs_len(m).count;
   bs_limits(m, &limits);
   copy->most = limits.transactions;
-  copy_txns(m, copy);
+  dump_copy_txns(m, copy);
   copy->has_deadlock = bs_last_deadlock(m, &copy->last).status == BS_DONE;
   if (!copy->has_deadlock) return;
-  for (i = 0; i < copy->last.count; i++) copy->last_kinds[i] = kind_or_gone(m, copy->last.at[i].node);
+  for (i = 0; i < copy->last.count; i++) copy->last_kinds[i] = dump_kind_or_gone(m, copy->last.at[i].node);
 }
 
 /* Some locks of a transaction, from a place on. */
-static void copy_locks(const bs_manager *m, bs_txn txn, size_t place, dumped *copy) {
+static void dump_copy_locks(const bs_manager *m, bs_txn txn, size_t place, dump_copy *copy) {
   size_t i;
-  for (i = 0; i < PART; i++) {
+  for (i = 0; i < DUMP_PART; i++) {
     copy->locks[i] = bs_lock_at(m, txn, place + i);
     if (copy->locks[i].status != BS_DONE) break;
-    copy->lock_kinds[i] = kind_or_gone(m, copy->locks[i].node);
+    copy->lock_kinds[i] = dump_kind_or_gone(m, copy->locks[i].node);
   }
   copy->lock_count = i;
 }
 
 /* The queue in which a transaction is the first; none where it is in none, or behind others. */
-static void copy_queue(const bs_manager *m, dumped_txn *of, dumped *copy) {
+static void dump_copy_queue(const bs_manager *m, dump_txn *of, dump_copy *copy) {
   uint32_t slot;
   copy->waiter_count = 0;
   of->doing = bs_doing(m, of->txn);
   if (of->doing.status != BS_DONE || of->doing.count != BS_WAITS) return;
   if (bs_queue_at(m, of->doing.node, 0).txn.slot != of->txn.slot) return;
-  of->kind = kind_or_gone(m, of->doing.node);
+  of->kind = dump_kind_or_gone(m, of->doing.node);
   copy->holders = bs_holders(m, of->doing.node).slots;
   for (slot = 0; slot < BS_SLOTS; slot++) copy->held[slot] = bs_held(m, bs_living(m, slot).txn, of->doing.node).mode;
   while (copy->waiter_count < BS_SLOTS) {
@@ -109,78 +109,78 @@ static void copy_queue(const bs_manager *m, dumped_txn *of, dumped *copy) {
 }
 
 /* A node: what it is, and its name, as KEY/BIRTH. */
-static void put_node(bs_node node, uint64_t kind, FILE *out) {
+static void dump_put_node(bs_node node, uint64_t kind, FILE *out) {
   fprintf(out, "%s %llu/%llu", kind == 0 ? "gone" : bs_kind_text(kind), (unsigned long long)node.key,
           (unsigned long long)node.birth);
 }
 
-static void put_slots(bs_slots slots, FILE *out) {
+static void dump_put_slots(bs_slots slots, FILE *out) {
   uint32_t slot;
   for (slot = 0; slot < BS_SLOTS; slot++) {
     if (bs_has(slots, slot)) fprintf(out, " %lu", (unsigned long)slot);
   }
 }
 
-static void put_count(uint64_t count, const char *what, FILE *out) {
+static void dump_put_count(uint64_t count, const char *what, FILE *out) {
   fprintf(out, "%-12llu %s\n", (unsigned long long)count, what);
 }
 
-static void put_counters(const dumped *copy, FILE *out) {
+static void dump_put_counters(const dump_copy *copy, FILE *out) {
   const bs_counts *counts = &copy->counts;
   fprintf(out, "Counters, since the table was made:\n");
-  put_count(counts->accepted, "commands were accepted", out);
-  put_count(counts->granted, "locks were granted at once", out);
-  put_count(counts->waited, "locks were left waiting", out);
-  put_count(counts->conversions, "locks were of a node that was held already", out);
-  put_count(counts->granted_later, "waits ended with a grant", out);
-  put_count(counts->condemned, "transactions were condemned to end a deadlock", out);
-  put_count(counts->moved, "waits ended since the node moved", out);
-  put_count(counts->gone, "waits ended since the node was gone", out);
-  put_count(counts->escalations, "escalations were done", out);
-  put_count(counts->released_children, "locks were released by them", out);
-  put_count(counts->most_waiting, "transactions waited at once, at most", out);
-  put_count(counts->longest_queue, "waited for one node at once, at most", out);
-  put_count(copy->nodes, "nodes live", out);
-  put_count(copy->most, "transactions may live at once", out);
+  dump_put_count(counts->accepted, "commands were accepted", out);
+  dump_put_count(counts->granted, "locks were granted at once", out);
+  dump_put_count(counts->waited, "locks were left waiting", out);
+  dump_put_count(counts->conversions, "locks were of a node that was held already", out);
+  dump_put_count(counts->granted_later, "waits ended with a grant", out);
+  dump_put_count(counts->condemned, "transactions were condemned to end a deadlock", out);
+  dump_put_count(counts->moved, "waits ended since the node moved", out);
+  dump_put_count(counts->gone, "waits ended since the node was gone", out);
+  dump_put_count(counts->escalations, "escalations were done", out);
+  dump_put_count(counts->released_children, "locks were released by them", out);
+  dump_put_count(counts->most_waiting, "transactions waited at once, at most", out);
+  dump_put_count(counts->longest_queue, "waited for one node at once, at most", out);
+  dump_put_count(copy->nodes, "nodes live", out);
+  dump_put_count(copy->most, "transactions may live at once", out);
 }
 
 /* The name of what a transaction does, of enum bs_doings. */
-static const char *doing_text(uint64_t doing) {
+static const char *dump_doing_text(uint64_t doing) {
   static const char *const texts[] = { "?", "active", "waits", "condemned" };
   return doing <= BS_CONDEMNED ? texts[doing] : "?";
 }
 
-static void put_txn(const dumped_txn *of, FILE *out) {
+static void dump_put_txn(const dump_txn *of, FILE *out) {
   fprintf(out, "%4u %12llu %s", (unsigned)of->txn.slot, (unsigned long long)of->txn.age,
-          doing_text(of->doing.count));
+          dump_doing_text(of->doing.count));
   if (of->doing.count == BS_WAITS) {
     fprintf(out, "     %-4s ", bs_mode_text(of->doing.mode));
-    put_node(of->doing.node, of->kind, out);
+    dump_put_node(of->doing.node, of->kind, out);
     fprintf(out, ", behind");
-    put_slots(of->waits_for, out);
+    dump_put_slots(of->waits_for, out);
   }
   fprintf(out, "\n");
 }
 
 /* Locks of a transaction: what it holds, and in the column behind it what it waits for. */
-static void put_some_locks(bs_txn txn, const dumped *copy, FILE *out) {
+static void dump_put_some_locks(bs_txn txn, const dump_copy *copy, FILE *out) {
   size_t i;
   for (i = 0; i < copy->lock_count; i++) {
     const bs_reply *lock = &copy->locks[i];
     fprintf(out, "%4u %12llu %-4s %-5s %8llu ", (unsigned)txn.slot, (unsigned long long)txn.age,
             bs_mode_text(lock->mode), lock->wanted == BS_NL ? "-" : bs_mode_text(lock->wanted),
             (unsigned long long)lock->count);
-    put_node(lock->node, copy->lock_kinds[i], out);
+    dump_put_node(lock->node, copy->lock_kinds[i], out);
     fprintf(out, "\n");
   }
 }
 
 /* A queue: who holds its node, and who waits for it. */
-static void put_one_queue(const dumped_txn *first, const dumped *copy, FILE *out) {
+static void dump_put_one_queue(const dump_txn *first, const dump_copy *copy, FILE *out) {
   uint32_t slot;
   size_t place;
   if (copy->waiter_count == 0) return;
-  put_node(first->doing.node, first->kind, out);
+  dump_put_node(first->doing.node, first->kind, out);
   fprintf(out, "\n");
   for (slot = 0; slot < BS_SLOTS; slot++) {
     if (!bs_has(copy->holders, slot)) continue;
@@ -192,7 +192,7 @@ static void put_one_queue(const dumped_txn *first, const dumped *copy, FILE *out
   }
 }
 
-static void put_deadlock(const dumped *copy, FILE *out) {
+static void dump_put_deadlock(const dump_copy *copy, FILE *out) {
   const bs_deadlock *last = &copy->last;
   size_t i;
   fprintf(out, "\nLast deadlock:\n");
@@ -205,46 +205,46 @@ static void put_deadlock(const dumped *copy, FILE *out) {
   for (i = 0; i < last->count; i++) {
     fprintf(out, "%4u %12llu %-5s ", (unsigned)last->at[i].txn.slot, (unsigned long long)last->at[i].txn.age,
             bs_mode_text(last->at[i].mode));
-    put_node(last->at[i].node, copy->last_kinds[i], out);
+    dump_put_node(last->at[i].node, copy->last_kinds[i], out);
     fprintf(out, ", behind");
-    put_slots(last->at[i].waits_for, out);
+    dump_put_slots(last->at[i].waits_for, out);
     fprintf(out, "\n");
   }
 }
 
 /* The locks of a transaction, a part at a time. False: the table was ended. */
-static bool dump_locks(bs_txn txn, dumped *copy, FILE *out) {
+static bool dump_locks(bs_txn txn, dump_copy *copy, FILE *out) {
   size_t place = 0;
   do {
-    const bs_manager *m = hold(copy);
+    const bs_manager *m = dump_hold(copy);
     if (m == NULL) return false;
-    copy_locks(m, txn, place, copy);
-    let_go(copy);
-    put_some_locks(txn, copy, out);
+    dump_copy_locks(m, txn, place, copy);
+    dump_let_go(copy);
+    dump_put_some_locks(txn, copy, out);
     place += copy->lock_count;
-  } while (copy->lock_count == PART);
+  } while (copy->lock_count == DUMP_PART);
   return true;
 }
 
-static bool dump_queue(dumped_txn *first, dumped *copy, FILE *out) {
-  const bs_manager *m = hold(copy);
+static bool dump_queue(dump_txn *first, dump_copy *copy, FILE *out) {
+  const bs_manager *m = dump_hold(copy);
   if (m == NULL) return false;
-  copy_queue(m, first, copy);
-  let_go(copy);
-  put_one_queue(first, copy, out);
+  dump_copy_queue(m, first, copy);
+  dump_let_go(copy);
+  dump_put_one_queue(first, copy, out);
   return true;
 }
 
 /* Each part is copied, and then written. False: the table was ended. */
-static bool dump_parts(dumped *copy, FILE *out) {
-  const bs_manager *m = hold(copy);
+static bool dump_parts(dump_copy *copy, FILE *out) {
+  const bs_manager *m = dump_hold(copy);
   size_t i;
   if (m == NULL) return false;
-  copy_first(m, copy);
-  let_go(copy);
-  put_counters(copy, out);
+  dump_copy_first(m, copy);
+  dump_let_go(copy);
+  dump_put_counters(copy, out);
   fprintf(out, "\nTransactions:\nslot          age doing     waits for\n");
-  for (i = 0; i < copy->txn_count; i++) put_txn(&copy->txns[i], out);
+  for (i = 0; i < copy->txn_count; i++) dump_put_txn(&copy->txns[i], out);
   fprintf(out, "\nLocks by transaction:\nslot          age mode wants children node\n");
   for (i = 0; i < copy->txn_count; i++) {
     if (!dump_locks(copy->txns[i].txn, copy, out)) return false;
@@ -253,12 +253,12 @@ static bool dump_parts(dumped *copy, FILE *out) {
   for (i = 0; i < copy->txn_count; i++) {
     if (!dump_queue(&copy->txns[i], copy, out)) return false;
   }
-  put_deadlock(copy, out);
+  dump_put_deadlock(copy, out);
   return true;
 }
 
 static bs_reply dump_of(const bs_manager *held, bs_table *table, FILE *out) {
-  dumped *copy = (dumped *)malloc(sizeof *copy);
+  dump_copy *copy = (dump_copy *)malloc(sizeof *copy);
   bool is_whole;
   if (copy == NULL) return bs_call_only(BS_NO_MEMORY);
   copy->manager = held;

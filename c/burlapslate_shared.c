@@ -4,10 +4,10 @@
  *
  * The library is proved: what each command does and whom it tells, what became of a wait (bs_verdict), whose sleepers are
  * to be woken (bs_ended), that a look gives a whole board and never an older one. Written in C here, and tested: the mutex
- * and the conditions, and the line of those who sleep for a slot. They are in enter, round each call; wake, behind each
- * command; hand_on, behind what may have ended a transaction; sleep_for_lock, where a lock waits; sleep_in_line, where a
- * begin does; bs_table_end; and watch_over, the thread that watches. All else here makes calls of burlapslate.h between
- * these.
+ * and the conditions, and the line of those who sleep for a slot. They are in table_enter, round each call; table_wake,
+ * behind each command; table_hand_on, behind what may have ended a transaction; table_sleep, where a lock waits;
+ * table_sleep_in_line, where a begin does; bs_table_end; and table_watch_over, the thread that watches. All else here makes
+ * calls of burlapslate.h between these.
  */
 #include "burlapslate_shared.h"
 
@@ -17,42 +17,42 @@
 #include <stdlib.h>
 
 /* One who sleeps for a slot, in the frame of its own call: its place in the line, and what its begin was answered. */
-typedef struct turn {
-  struct turn *ahead, *behind;
+typedef struct table_turn {
+  struct table_turn *ahead, *behind;
   bs_reply begun;      /* BS_WAITING: its turn has not come */
   pthread_cond_t came;
-} turn;
+} table_turn;
 
 /* One who sleeps on a path, in the frame of its own call. */
-typedef struct way {
+typedef struct table_way {
   bs_txn txn;
   bs_node at;        /* the node that it waits for: that of the path, or one above it */
   bs_mode mode;      /* the mode in which it wants that */
   bool is_last;      /* it is that of the path */
   bool is_cancelled;
-} way;
+} table_way;
 
 /* The time at which each wait of a transaction ends at last; of age 0 there is none. */
-typedef struct deadline {
+typedef struct table_deadline {
   uint64_t age;
   struct timespec time;
-} deadline;
+} table_deadline;
 
 /* A table is ending as soon as it is to wake all who sleep, and ended when its manager is gone. */
-typedef enum stage { OPEN = 0, ENDING, ENDED } stage;
+typedef enum table_stage { TABLE_OPEN = 0, TABLE_ENDING, TABLE_ENDED } table_stage;
 
 /* All but `latch` and `holder` is read and written with the latch held. */
 struct bs_table {
   pthread_mutex_t latch;
   pthread_t holder;               /* who holds the table by bs_table_hold; 0: nobody */
-  stage stage;
+  table_stage stage;
   bs_manager manager;
   bs_notices told;                /* by the last command whose caller wanted no list */
   bs_notices more;                /* by a further lock of a path in a list */
   pthread_cond_t ended[BS_SLOTS]; /* by slot: a wait may be over */
-  way *ways[BS_SLOTS];            /* by slot: who sleeps on a path */
-  deadline deadlines[BS_SLOTS];   /* by slot: of the transaction of this age, and of no later one */
-  turn *first, *last;             /* the line of those who sleep for a slot, by their arrival */
+  table_way *ways[BS_SLOTS];            /* by slot: who sleeps on a path */
+  table_deadline deadlines[BS_SLOTS];   /* by slot: of the transaction of this age, and of no later one */
+  table_turn *first, *last;             /* the line of those who sleep for a slot, by their arrival */
   size_t sleepers;                /* how many threads sleep, for a lock or for a slot */
   uint64_t waited;                /* how many commands had been accepted when the last lock was left waiting */
   pthread_cond_t left;            /* the last who slept has left an ending table */
@@ -70,43 +70,43 @@ struct bs_table {
 
 /* Whether this thread holds the table by bs_table_hold. Nobody but a thread itself writes its name there, so what another
  * thread writes meanwhile makes no difference. */
-static bool holds(bs_table *table) {
+static bool table_holds(bs_table *table) {
   pthread_t holder = __atomic_load_n(&table->holder, __ATOMIC_RELAXED);
   return holder != 0 && pthread_equal(holder, pthread_self());
 }
 
 /* Takes the latch of a table, and answers whether the table is open; where it is not, the latch is not held. */
-static bool enter(bs_table *table) {
-  if (table == NULL || holds(table)) return false;
+static bool table_enter(bs_table *table) {
+  if (table == NULL || table_holds(table)) return false;
   pthread_mutex_lock(&table->latch);
-  if (table->stage == OPEN) return true;
+  if (table->stage == TABLE_OPEN) return true;
   pthread_mutex_unlock(&table->latch);
   return false;
 }
 
-static bs_reply leave(bs_table *table, bs_reply reply) {
+static bs_reply table_leave(bs_table *table, bs_reply reply) {
   pthread_mutex_unlock(&table->latch);
   return reply;
 }
 
 /* Why a table was not entered. */
-static bs_status shut(bs_table *table) {
+static bs_status table_shut(bs_table *table) {
   if (table == NULL) return BS_NULL_POINTER;
-  return holds(table) ? BS_IN_USE : BS_NO_MANAGER;
+  return table_holds(table) ? BS_IN_USE : BS_NO_MANAGER;
 }
 
-static bs_reply no_table(bs_table *table) {
-  return bs_call_only(shut(table));
+static bs_reply table_no_table(bs_table *table) {
+  return bs_call_only(table_shut(table));
 }
 
 bs_status bs_call_table_shut(bs_table *table) {
-  if (!enter(table)) return shut(table);
+  if (!table_enter(table)) return table_shut(table);
   pthread_mutex_unlock(&table->latch);
   return BS_DONE;
 }
 
 /* Wakes who sleeps for a slot of these, of which the first is `first`. */
-static void wake_word(bs_table *table, uint64_t word, size_t first) {
+static void table_wake_word(bs_table *table, uint64_t word, size_t first) {
   size_t slot;
   for (slot = first; word != 0; slot++, word >>= 1) {
     if ((word & 1) != 0) pthread_cond_broadcast(&table->ended[slot]);
@@ -116,13 +116,13 @@ static void wake_word(bs_table *table, uint64_t word, size_t first) {
 /* Behind a command that was answered so: wakes those whose wait it may have ended. Where a wait began by it, who
  * watches is woken too. bs_ended says whose wait that is. It is not asked where there is nobody: where the command was
  * refused, or told nobody and ends no wait by name. A cancel and an abort end one by name. */
-static void wake(bs_table *table, bs_status status, const bs_notices *told, bool by_name) {
+static void table_wake(bs_table *table, bs_status status, const bs_notices *told, bool by_name) {
   bool is_accepted = status == BS_DONE || status == BS_WAITING || status == BS_VICTIM || status == BS_ON_THE_WAY ||
                      status == BS_OTHER_KEYS;
   if (is_accepted && (by_name || told->count > 0)) {
     bs_slots ended = bs_ended(&table->manager).slots;
     size_t i;
-    for (i = 0; i < BS_SLOTS / 64; i++) wake_word(table, ended.words[i], i * 64);
+    for (i = 0; i < BS_SLOTS / 64; i++) table_wake_word(table, ended.words[i], i * 64);
   }
   if (status == BS_WAITING) {
     table->waited = bs_call_accepted(&table->manager).count;
@@ -132,7 +132,7 @@ static void wake(bs_table *table, bs_status status, const bs_notices *told, bool
 
 /* Sleeps on a condition, with the latch held before and behind it, to a time at most where that is not null: whether
  * that is over, by ETIMEDOUT. The thread's cancellation is held off: it would keep the latch. */
-static int doze(bs_table *table, pthread_cond_t *on, const struct timespec *until) {
+static int table_doze(bs_table *table, pthread_cond_t *on, const struct timespec *until) {
   int state, late;
   pthread_setcancelstate(PTHREAD_CANCEL_DISABLE, &state);
   late = until == NULL ? pthread_cond_wait(on, &table->latch) : pthread_cond_timedwait(on, &table->latch, until);
@@ -141,22 +141,22 @@ static int doze(bs_table *table, pthread_cond_t *on, const struct timespec *unti
 }
 
 /* One who slept has the latch again, and leaves. */
-static void woken(bs_table *table) {
+static void table_woken(bs_table *table) {
   table->sleepers--;
-  if (table->stage == ENDING && table->sleepers == 0) pthread_cond_signal(&table->left);
+  if (table->stage == TABLE_ENDING && table->sleepers == 0) pthread_cond_signal(&table->left);
 }
 
 /* Takes back the wait of one whose time is over, and answers so. */
-static bs_reply time_out(bs_table *table, bs_txn txn) {
+static bs_reply table_time_out(bs_table *table, bs_txn txn) {
   bs_reply reply = bs_cancel(&table->manager, txn, &table->told);
-  wake(table, reply.status, &table->told, true);
+  table_wake(table, reply.status, &table->told, true);
   if (reply.status == BS_DONE) reply.status = BS_TIMED_OUT;
   return reply;
 }
 
 /* The time at which a wait that begins now ends at last: the earlier of the call's and the transaction's own, or null. */
-static const struct timespec *earlier(const bs_table *table, bs_txn txn, const struct timespec *until) {
-  const deadline *own = &table->deadlines[txn.slot];
+static const struct timespec *table_earlier(const bs_table *table, bs_txn txn, const struct timespec *until) {
+  const table_deadline *own = &table->deadlines[txn.slot];
   if (own->age != txn.age) return until;
   if (until == NULL || own->time.tv_sec < until->tv_sec) return &own->time;
   return own->time.tv_sec == until->tv_sec && own->time.tv_nsec < until->tv_nsec ? &own->time : until;
@@ -165,11 +165,11 @@ static const struct timespec *earlier(const bs_table *table, bs_txn txn, const s
 /* Of a lock that was answered BS_WAITING: sleeps, with the latch held before and behind it, until it has its verdict,
  * or the time is over, or the table ends. What became of the wait is asked before the clock. The time is copied: a
  * deadline that another thread sets meanwhile is of later waits. */
-static bs_reply sleep_for_lock(bs_table *table, bs_txn txn, bs_node node, bs_mode mode, const struct timespec *until) {
+static bs_reply table_sleep(bs_table *table, bs_txn txn, bs_node node, bs_mode mode, const struct timespec *until) {
   struct timespec time;
   bs_reply reply = bs_call_only(BS_WAITING);
   int late = 0;
-  until = earlier(table, txn, until);
+  until = table_earlier(table, txn, until);
   if (until != NULL) {
     time = *until;
     until = &time;
@@ -177,21 +177,21 @@ static bs_reply sleep_for_lock(bs_table *table, bs_txn txn, bs_node node, bs_mod
   table->sleepers++;
   while (reply.status == BS_WAITING) {
     if (late == ETIMEDOUT) {
-      reply = time_out(table, txn);
+      reply = table_time_out(table, txn);
       break;
     }
-    late = doze(table, &table->ended[txn.slot], until);
-    reply = table->stage == ENDING ? no_table(table) : bs_verdict(&table->manager, txn, node, mode);
+    late = table_doze(table, &table->ended[txn.slot], until);
+    reply = table->stage == TABLE_ENDING ? table_no_table(table) : bs_verdict(&table->manager, txn, node, mode);
   }
-  woken(table);
+  table_woken(table);
   return reply;
 }
 
 /* Asks for a lock, with the latch held, and sleeps until its end. */
-static bs_reply lock_inside(bs_table *table, bs_txn txn, bs_node node, bs_mode mode, const struct timespec *until) {
+static bs_reply table_lock_inside(bs_table *table, bs_txn txn, bs_node node, bs_mode mode, const struct timespec *until) {
   bs_reply reply = bs_lock(&table->manager, txn, node, mode, &table->told);
-  wake(table, reply.status, &table->told, false);
-  if (reply.status == BS_WAITING) reply = sleep_for_lock(table, txn, node, mode, until);
+  table_wake(table, reply.status, &table->told, false);
+  if (reply.status == BS_WAITING) reply = table_sleep(table, txn, node, mode, until);
   return reply;
 }
 
@@ -200,7 +200,7 @@ static bs_reply lock_inside(bs_table *table, bs_txn txn, bs_node node, bs_mode m
  */
 
 /* A condition whose times are of the clock that is never set. */
-static void make_steady(pthread_cond_t *cond) {
+static void table_make_steady(pthread_cond_t *cond) {
   pthread_condattr_t steady;
   pthread_condattr_init(&steady);
   pthread_condattr_setclock(&steady, CLOCK_MONOTONIC);
@@ -208,7 +208,7 @@ static void make_steady(pthread_cond_t *cond) {
   pthread_condattr_destroy(&steady);
 }
 
-static void join_line(bs_table *table, turn *own) {
+static void table_join_line(bs_table *table, table_turn *own) {
   own->ahead = table->last;
   own->behind = NULL;
   if (table->last == NULL) table->first = own;
@@ -216,7 +216,7 @@ static void join_line(bs_table *table, turn *own) {
   table->last = own;
 }
 
-static void leave_line(bs_table *table, turn *own) {
+static void table_leave_line(bs_table *table, table_turn *own) {
   if (own->ahead == NULL) table->first = own->behind;
   else own->ahead->behind = own->behind;
   if (own->behind == NULL) table->last = own->ahead;
@@ -226,41 +226,41 @@ static void leave_line(bs_table *table, turn *own) {
 /* Behind what may have ended a transaction: begins for those who sleep for a slot, in their order, while one is free.
  * So no hold of the latch leaves a slot free while somebody sleeps for one. And no turn can be lost: one whose time is
  * over has begun by then, or stands in the line still. */
-static void hand_on(bs_table *table) {
+static void table_hand_on(bs_table *table) {
   while (table->first != NULL) {
-    turn *next = table->first;
+    table_turn *next = table->first;
     bs_reply begun = bs_begin(&table->manager);
     if (begun.status == BS_TOO_MANY_TXNS) return;
     next->begun = begun;
-    leave_line(table, next);
+    table_leave_line(table, next);
     pthread_cond_signal(&next->came);
   }
 }
 
 /* Sleeps for a slot, with the latch held before and behind it, until somebody has begun for the one who sleeps, or the
  * time is over, or the table ends. Whether it has begun is asked before the clock. */
-static bs_reply sleep_in_line(bs_table *table, const struct timespec *until) {
-  turn own;
+static bs_reply table_sleep_in_line(bs_table *table, const struct timespec *until) {
+  table_turn own;
   int late = 0;
   own.begun = bs_call_only(BS_WAITING);
-  make_steady(&own.came);
-  join_line(table, &own);
+  table_make_steady(&own.came);
+  table_join_line(table, &own);
   table->sleepers++;
-  while (own.begun.status == BS_WAITING && late != ETIMEDOUT && table->stage == OPEN) {
-    late = doze(table, &own.came, until);
+  while (own.begun.status == BS_WAITING && late != ETIMEDOUT && table->stage == TABLE_OPEN) {
+    late = table_doze(table, &own.came, until);
   }
   if (own.begun.status == BS_WAITING) {
-    leave_line(table, &own);
+    table_leave_line(table, &own);
     own.begun.status = BS_TIMED_OUT;
   }
-  if (table->stage == ENDING) own.begun = no_table(table);
-  woken(table);
+  if (table->stage == TABLE_ENDING) own.begun = table_no_table(table);
+  table_woken(table);
   pthread_cond_destroy(&own.came);
   return own.begun;
 }
 
 /* The time by CLOCK_MONOTONIC that lies so far ahead. */
-static struct timespec ahead_by(uint64_t seconds, uint32_t nanoseconds) {
+static struct timespec table_ahead(uint64_t seconds, uint32_t nanoseconds) {
   struct timespec time;
   clock_gettime(CLOCK_MONOTONIC, &time);
   time.tv_sec += (time_t)seconds;
@@ -273,41 +273,41 @@ static struct timespec ahead_by(uint64_t seconds, uint32_t nanoseconds) {
 }
 
 struct timespec bs_after(uint64_t milliseconds) {
-  return ahead_by(milliseconds / 1000u, (uint32_t)(milliseconds % 1000u) * 1000000u);
+  return table_ahead(milliseconds / 1000u, (uint32_t)(milliseconds % 1000u) * 1000000u);
 }
 
 /* Whether this is a time: null, or with nanoseconds below a second. */
-static bool is_time(const struct timespec *until) {
+static bool table_is_time(const struct timespec *until) {
   return until == NULL || (until->tv_nsec >= 0 && until->tv_nsec < 1000000000L);
 }
 
 /* The list that a command fills: the caller's, or else the table's own. */
-static bs_notices *list_of(bs_table *table, bs_notices *told) {
+static bs_notices *table_list_of(bs_table *table, bs_notices *told) {
   return told == NULL ? &table->told : told;
 }
 
 /* Where there is no table nobody is told. */
-static bs_reply tell_none(bs_table *table, bs_notices *told) {
+static bs_reply table_tell_none(bs_table *table, bs_notices *told) {
   if (told != NULL) told->count = 0;
-  return no_table(table);
+  return table_no_table(table);
 }
 
 /* The body of a function that makes one call with the manager; of one whose call tells somebody. */
-#define ASK(table, call)                      \
+#define TABLE_ASK(table, call)                      \
   bs_reply reply;                             \
-  if (!enter(table)) return no_table(table);  \
+  if (!table_enter(table)) return table_no_table(table);  \
   reply = call;                               \
   pthread_mutex_unlock(&(table)->latch);      \
   return reply
 
-#define TELL(table, told, by_name, call)            \
+#define TABLE_TELL(table, told, by_name, call)            \
   bs_notices *list;                                 \
   bs_reply reply;                                   \
-  if (!enter(table)) return tell_none(table, told); \
-  list = list_of(table, told);                      \
+  if (!table_enter(table)) return table_tell_none(table, told); \
+  list = table_list_of(table, told);                      \
   reply = call;                                     \
-  wake(table, reply.status, list, by_name);         \
-  hand_on(table);                                   \
+  table_wake(table, reply.status, list, by_name);         \
+  table_hand_on(table);                                   \
   pthread_mutex_unlock(&(table)->latch);            \
   return reply
 
@@ -316,20 +316,20 @@ static bs_reply tell_none(bs_table *table, bs_notices *told) {
  */
 
 /* A new table, with no manager yet; null where memory is refused. */
-static bs_table *new_table(void) {
+static bs_table *table_new_table(void) {
   bs_table *table = (bs_table *)malloc(sizeof *table);
   size_t slot;
   if (table == NULL) return NULL;
   memset(table, 0, sizeof *table);
   pthread_mutex_init(&table->latch, NULL);
-  for (slot = 0; slot < BS_SLOTS; slot++) make_steady(&table->ended[slot]);
-  make_steady(&table->left);
-  make_steady(&table->began);
-  make_steady(&table->over);
+  for (slot = 0; slot < BS_SLOTS; slot++) table_make_steady(&table->ended[slot]);
+  table_make_steady(&table->left);
+  table_make_steady(&table->began);
+  table_make_steady(&table->over);
   return table;
 }
 
-static void free_table(bs_table *table) {
+static void table_free_table(bs_table *table) {
   size_t slot;
   for (slot = 0; slot < BS_SLOTS; slot++) pthread_cond_destroy(&table->ended[slot]);
   pthread_cond_destroy(&table->left);
@@ -344,17 +344,17 @@ bs_reply bs_call_table_make(bs_table **table, const bs_options *options, size_t 
   bs_table *made;
   bs_reply reply;
   if (*table != NULL) return bs_call_only(BS_IN_USE);
-  made = new_table();
+  made = table_new_table();
   if (made == NULL) return bs_call_only(BS_NO_MEMORY);
   reply = bs_make(&made->manager, &chosen);
   if (reply.status == BS_DONE) *table = made;
-  else free_table(made);
+  else table_free_table(made);
   return reply;
 }
 
 /* Wakes all who sleep with a table that ends. */
-static void wake_all(bs_table *table) {
-  turn *each;
+static void table_wake_all(bs_table *table) {
+  table_turn *each;
   size_t slot;
   for (slot = 0; slot < BS_SLOTS; slot++) pthread_cond_broadcast(&table->ended[slot]);
   for (each = table->first; each != NULL; each = each->behind) pthread_cond_signal(&each->came);
@@ -365,16 +365,16 @@ static void wake_all(bs_table *table) {
 bs_reply bs_table_end(bs_table *table) {
   bs_reply reply;
   int state;
-  if (!enter(table)) return no_table(table);
+  if (!table_enter(table)) return table_no_table(table);
   pthread_setcancelstate(PTHREAD_CANCEL_DISABLE, &state);
-  table->stage = ENDING;
-  wake_all(table);
+  table->stage = TABLE_ENDING;
+  table_wake_all(table);
   pthread_mutex_unlock(&table->latch);
   if (table->is_watched) pthread_join(table->watch, NULL);
   pthread_mutex_lock(&table->latch);
-  while (table->sleepers > 0) doze(table, &table->left, NULL);
+  while (table->sleepers > 0) table_doze(table, &table->left, NULL);
   reply = bs_end(&table->manager);
-  table->stage = ENDED;
+  table->stage = TABLE_ENDED;
   pthread_mutex_unlock(&table->latch);
   pthread_setcancelstate(state, &state);
   return reply;
@@ -383,12 +383,12 @@ bs_reply bs_table_end(bs_table *table) {
 bs_reply bs_table_free(bs_table **table) {
   bool is_ended;
   if (table == NULL || *table == NULL) return bs_call_null();
-  if (holds(*table)) return bs_call_only(BS_IN_USE);
+  if (table_holds(*table)) return bs_call_only(BS_IN_USE);
   pthread_mutex_lock(&(*table)->latch);
-  is_ended = (*table)->stage == ENDED;
+  is_ended = (*table)->stage == TABLE_ENDED;
   pthread_mutex_unlock(&(*table)->latch);
   if (!is_ended) return bs_call_only(BS_IN_USE);
-  free_table(*table);
+  table_free_table(*table);
   *table = NULL;
   return bs_call_only(BS_DONE);
 }
@@ -398,20 +398,20 @@ bs_reply bs_table_free(bs_table **table) {
  */
 
 bs_reply bs_table_add_inner(bs_table *table, const bs_node *parents, size_t count) {
-  ASK(table, bs_add_inner(&table->manager, parents, count));
+  TABLE_ASK(table, bs_add_inner(&table->manager, parents, count));
 }
 
 bs_reply bs_table_add_file(bs_table *table, const bs_node *parents, size_t count) {
-  ASK(table, bs_add_file(&table->manager, parents, count));
+  TABLE_ASK(table, bs_add_file(&table->manager, parents, count));
 }
 
 bs_reply bs_table_add_row_file(bs_table *table, const bs_node *parents, size_t count) {
-  ASK(table, bs_add_row_file(&table->manager, parents, count));
+  TABLE_ASK(table, bs_add_row_file(&table->manager, parents, count));
 }
 
 bs_reply bs_table_add_index(bs_table *table, const bs_node *parents, size_t count, bs_node file, const uint64_t *bounds,
                             size_t bound_count) {
-  ASK(table, bs_add_index(&table->manager, parents, count, file, bounds, bound_count));
+  TABLE_ASK(table, bs_add_index(&table->manager, parents, count, file, bounds, bound_count));
 }
 
 /* ------------------------------------------------------------------------------------------------
@@ -419,61 +419,61 @@ bs_reply bs_table_add_index(bs_table *table, const bs_node *parents, size_t coun
  */
 
 bs_reply bs_table_begin(bs_table *table) {
-  ASK(table, bs_begin(&table->manager));
+  TABLE_ASK(table, bs_begin(&table->manager));
 }
 
 bs_reply bs_table_begin_in_turn(bs_table *table, const struct timespec *until) {
   bs_reply reply;
-  if (!enter(table)) return no_table(table);
-  if (!is_time(until)) return leave(table, bs_call_only(BS_BAD_NUMBER));
+  if (!table_enter(table)) return table_no_table(table);
+  if (!table_is_time(until)) return table_leave(table, bs_call_only(BS_BAD_NUMBER));
   reply = bs_begin(&table->manager);
-  if (reply.status == BS_TOO_MANY_TXNS) reply = sleep_in_line(table, until);
+  if (reply.status == BS_TOO_MANY_TXNS) reply = table_sleep_in_line(table, until);
   pthread_mutex_unlock(&table->latch);
   return reply;
 }
 
 bs_reply bs_table_deadline(bs_table *table, bs_txn txn, const struct timespec *until) {
   bs_reply reply;
-  if (!enter(table)) return no_table(table);
-  if (!is_time(until)) return leave(table, bs_call_only(BS_BAD_NUMBER));
+  if (!table_enter(table)) return table_no_table(table);
+  if (!table_is_time(until)) return table_leave(table, bs_call_only(BS_BAD_NUMBER));
   reply = bs_doing(&table->manager, txn);
-  if (reply.status != BS_DONE) return leave(table, reply);
+  if (reply.status != BS_DONE) return table_leave(table, reply);
   table->deadlines[txn.slot].age = until == NULL ? 0 : txn.age;
   if (until != NULL) table->deadlines[txn.slot].time = *until;
-  return leave(table, bs_call_only(BS_DONE));
+  return table_leave(table, bs_call_only(BS_DONE));
 }
 
 bs_reply bs_table_lock(bs_table *table, bs_txn txn, bs_node node, bs_mode mode, const struct timespec *until) {
   bs_reply reply;
-  if (!enter(table)) return no_table(table);
-  if (!is_time(until)) return leave(table, bs_call_only(BS_BAD_NUMBER));
-  reply = lock_inside(table, txn, node, mode, until);
+  if (!table_enter(table)) return table_no_table(table);
+  if (!table_is_time(until)) return table_leave(table, bs_call_only(BS_BAD_NUMBER));
+  reply = table_lock_inside(table, txn, node, mode, until);
   pthread_mutex_unlock(&table->latch);
   return reply;
 }
 
 bs_reply bs_table_await(bs_table *table, bs_txn txn, bs_node node, bs_mode mode, const struct timespec *until) {
   bs_reply reply;
-  if (!enter(table)) return no_table(table);
-  if (!is_time(until)) return leave(table, bs_call_only(BS_BAD_NUMBER));
+  if (!table_enter(table)) return table_no_table(table);
+  if (!table_is_time(until)) return table_leave(table, bs_call_only(BS_BAD_NUMBER));
   reply = bs_verdict(&table->manager, txn, node, mode);
-  if (reply.status == BS_WAITING) reply = sleep_for_lock(table, txn, node, mode, until);
+  if (reply.status == BS_WAITING) reply = table_sleep(table, txn, node, mode, until);
   pthread_mutex_unlock(&table->latch);
   return reply;
 }
 
 bs_reply bs_table_try(bs_table *table, bs_txn txn, bs_node node, bs_mode mode) {
-  ASK(table, bs_try(&table->manager, txn, node, mode));
+  TABLE_ASK(table, bs_try(&table->manager, txn, node, mode));
 }
 
 bs_reply bs_table_unlock(bs_table *table, bs_txn txn, bs_node node, bs_notices *told) {
-  TELL(table, told, false, bs_unlock(&table->manager, txn, node, list));
+  TABLE_TELL(table, told, false, bs_unlock(&table->manager, txn, node, list));
 }
 
 /* Behind a cancel: where the wait was over by then, but its sleeper would wake to wait for the next node of its path,
  * the path is to end in place of that. */
-static bs_reply cancel_path(bs_table *table, bs_txn txn, bs_reply cancelled) {
-  way *path = cancelled.status == BS_NOT_WAITING && txn.slot < BS_SLOTS ? table->ways[txn.slot] : NULL;
+static bs_reply table_cancel_path(bs_table *table, bs_txn txn, bs_reply cancelled) {
+  table_way *path = cancelled.status == BS_NOT_WAITING && txn.slot < BS_SLOTS ? table->ways[txn.slot] : NULL;
   bs_status end;
   if (path == NULL || path->txn.age != txn.age) return cancelled;
   end = bs_verdict(&table->manager, txn, path->at, path->mode).status;
@@ -484,42 +484,42 @@ static bs_reply cancel_path(bs_table *table, bs_txn txn, bs_reply cancelled) {
 }
 
 bs_reply bs_table_cancel(bs_table *table, bs_txn txn, bs_notices *told) {
-  TELL(table, told, true, cancel_path(table, txn, bs_cancel(&table->manager, txn, list)));
+  TABLE_TELL(table, told, true, table_cancel_path(table, txn, bs_cancel(&table->manager, txn, list)));
 }
 
 bs_reply bs_table_commit(bs_table *table, bs_txn txn, bs_notices *told) {
-  TELL(table, told, false, bs_commit(&table->manager, txn, list));
+  TABLE_TELL(table, told, false, bs_commit(&table->manager, txn, list));
 }
 
 bs_reply bs_table_abort(bs_table *table, bs_txn txn, bs_notices *told) {
-  TELL(table, told, true, bs_abort(&table->manager, txn, list));
+  TABLE_TELL(table, told, true, bs_abort(&table->manager, txn, list));
 }
 
 bs_reply bs_table_settle(bs_table *table, bs_txn txn, bs_notices *told) {
-  TELL(table, told, false, bs_settle(&table->manager, txn, list));
+  TABLE_TELL(table, told, false, bs_settle(&table->manager, txn, list));
 }
 
 bs_reply bs_table_escalate(bs_table *table, bs_txn txn, bs_node node, bs_notices *told) {
-  TELL(table, told, false, bs_escalate(&table->manager, txn, node, list));
+  TABLE_TELL(table, told, false, bs_escalate(&table->manager, txn, node, list));
 }
 
-static bool is_same_node(bs_node one, bs_node other) {
+static bool table_is_same_node(bs_node one, bs_node other) {
   return one.key == other.key && one.birth == other.birth;
 }
 
 /* Makes the call bs_lock_path with the latch held, and sleeps where that waits. */
-static bs_reply path_inside(bs_table *table, bs_txn txn, bs_node node, bs_mode mode, const struct timespec *until) {
+static bs_reply table_path_inside(bs_table *table, bs_txn txn, bs_node node, bs_mode mode, const struct timespec *until) {
   bs_reply reply = bs_lock_path(&table->manager, txn, node, mode, &table->told);
-  way path;
-  wake(table, reply.status, &table->told, false);
+  table_way path;
+  table_wake(table, reply.status, &table->told, false);
   if (reply.status != BS_WAITING) return reply;
   path.txn = txn;
   path.at = reply.node;
   path.mode = bs_doing(&table->manager, txn).mode;
-  path.is_last = is_same_node(path.at, node);
+  path.is_last = table_is_same_node(path.at, node);
   path.is_cancelled = false;
   table->ways[txn.slot] = &path;
-  reply = sleep_for_lock(table, txn, path.at, path.mode, until);
+  reply = table_sleep(table, txn, path.at, path.mode, until);
   if (table->ways[txn.slot] == &path) table->ways[txn.slot] = NULL;
   if (reply.status != BS_MOVED && (reply.status != BS_DONE || path.is_last)) return reply;
   return bs_call_only(path.is_cancelled ? BS_NOT_WAITING : BS_ON_THE_WAY);
@@ -527,10 +527,10 @@ static bs_reply path_inside(bs_table *table, bs_txn txn, bs_node node, bs_mode m
 
 bs_reply bs_table_lock_path(bs_table *table, bs_txn txn, bs_node node, bs_mode mode, const struct timespec *until) {
   bs_reply reply;
-  if (!enter(table)) return no_table(table);
-  if (!is_time(until)) return leave(table, bs_call_only(BS_BAD_NUMBER));
+  if (!table_enter(table)) return table_no_table(table);
+  if (!table_is_time(until)) return table_leave(table, bs_call_only(BS_BAD_NUMBER));
   do {
-    reply = path_inside(table, txn, node, mode, until);
+    reply = table_path_inside(table, txn, node, mode, until);
   } while (reply.status == BS_ON_THE_WAY);
   pthread_mutex_unlock(&table->latch);
   return reply;
@@ -541,37 +541,37 @@ bs_reply bs_table_lock_path(bs_table *table, bs_txn txn, bs_node node, bs_mode m
  */
 
 bs_reply bs_table_insert(bs_table *table, bs_txn txn, bs_node file, const uint64_t *keys, size_t count) {
-  ASK(table, bs_insert(&table->manager, txn, file, keys, count));
+  TABLE_ASK(table, bs_insert(&table->manager, txn, file, keys, count));
 }
 
 bs_reply bs_table_delete(bs_table *table, bs_txn txn, bs_node record, bs_notices *told) {
-  TELL(table, told, false, bs_delete(&table->manager, txn, record, list));
+  TABLE_TELL(table, told, false, bs_delete(&table->manager, txn, record, list));
 }
 
 bs_reply bs_table_adopt(bs_table *table, bs_node file, const uint64_t *keys, size_t count) {
-  ASK(table, bs_adopt(&table->manager, file, keys, count));
+  TABLE_ASK(table, bs_adopt(&table->manager, file, keys, count));
 }
 
 bs_reply bs_table_forget(bs_table *table, bs_node record) {
-  ASK(table, bs_forget(&table->manager, record));
+  TABLE_ASK(table, bs_forget(&table->manager, record));
 }
 
 bs_reply bs_table_rekey(bs_table *table, bs_txn txn, bs_node record, bs_node index, uint64_t key, bs_notices *told) {
-  TELL(table, told, false, bs_rekey(&table->manager, txn, record, index, key, list));
+  TABLE_TELL(table, told, false, bs_rekey(&table->manager, txn, record, index, key, list));
 }
 
 bs_reply bs_table_move(bs_table *table, bs_txn txn, bs_node node, const bs_node *parents, size_t count,
                        bs_notices *told) {
-  TELL(table, told, false, bs_move(&table->manager, txn, node, parents, count, list));
+  TABLE_TELL(table, told, false, bs_move(&table->manager, txn, node, parents, count, list));
 }
 
 bs_reply bs_table_drop(bs_table *table, bs_txn txn, bs_node node, bs_notices *told) {
-  TELL(table, told, false, bs_drop(&table->manager, txn, node, list));
+  TABLE_TELL(table, told, false, bs_drop(&table->manager, txn, node, list));
 }
 
 bs_reply bs_table_index_by(bs_table *table, bs_txn txn, const bs_node *parents, size_t count, bs_node file,
                            const uint64_t *bounds, size_t bound_count) {
-  ASK(table, bs_index_by(&table->manager, txn, parents, count, file, bounds, bound_count));
+  TABLE_ASK(table, bs_index_by(&table->manager, txn, parents, count, file, bounds, bound_count));
 }
 
 /* ------------------------------------------------------------------------------------------------
@@ -579,56 +579,56 @@ bs_reply bs_table_index_by(bs_table *table, bs_txn txn, const bs_node *parents, 
  */
 
 /* A row as a call names it. */
-typedef struct row_name {
+typedef struct table_row {
   bs_node file;
   uint64_t number;
   const uint64_t *keys;
   size_t count;
-} row_name;
+} table_row;
 
 /* Asks for a row with the latch held. */
-static bs_reply ask_row(bs_table *table, bs_txn txn, const row_name *row, bs_mode mode) {
+static bs_reply table_ask_row(bs_table *table, bs_txn txn, const table_row *row, bs_mode mode) {
   bs_reply reply =
       bs_lock_row(&table->manager, txn, row->file, row->number, row->keys, row->count, mode, &table->told);
-  wake(table, reply.status, &table->told, false);
+  table_wake(table, reply.status, &table->told, false);
   return reply;
 }
 
 /* Asks for a row, and sleeps where it has to be waited for. Behind the grant it is asked for again: what became of the wait
  * says nothing of its keys. */
-static bs_reply row_inside(bs_table *table, bs_txn txn, const row_name *row, bs_mode mode, const struct timespec *until) {
-  bs_reply reply = ask_row(table, txn, row, mode);
+static bs_reply table_row_inside(bs_table *table, bs_txn txn, const table_row *row, bs_mode mode, const struct timespec *until) {
+  bs_reply reply = table_ask_row(table, txn, row, mode);
   bs_node node = reply.node;
   if (reply.status != BS_WAITING) return reply;
-  reply = sleep_for_lock(table, txn, node, mode, until);
+  reply = table_sleep(table, txn, node, mode, until);
   if (reply.status != BS_DONE) return reply;
   reply.node = node;
-  if (ask_row(table, txn, row, mode).status != BS_DONE) reply.status = BS_OTHER_KEYS;
+  if (table_ask_row(table, txn, row, mode).status != BS_DONE) reply.status = BS_OTHER_KEYS;
   return reply;
 }
 
 bs_reply bs_table_lock_row(bs_table *table, bs_txn txn, bs_node file, uint64_t number, const uint64_t *keys,
                            size_t count, bs_mode mode, const struct timespec *until) {
-  row_name row;
+  table_row row;
   bs_reply reply;
   row.file = file;
   row.number = number;
   row.keys = keys;
   row.count = count;
-  if (!enter(table)) return no_table(table);
-  if (!is_time(until)) return leave(table, bs_call_only(BS_BAD_NUMBER));
-  reply = row_inside(table, txn, &row, mode, until);
+  if (!table_enter(table)) return table_no_table(table);
+  if (!table_is_time(until)) return table_leave(table, bs_call_only(BS_BAD_NUMBER));
+  reply = table_row_inside(table, txn, &row, mode, until);
   pthread_mutex_unlock(&table->latch);
   return reply;
 }
 
 bs_reply bs_table_unlock_row(bs_table *table, bs_txn txn, bs_node file, uint64_t number, bs_notices *told) {
-  TELL(table, told, false, bs_unlock_row(&table->manager, txn, file, number, list));
+  TABLE_TELL(table, told, false, bs_unlock_row(&table->manager, txn, file, number, list));
 }
 
 bs_reply bs_table_rekey_row(bs_table *table, bs_txn txn, bs_node file, uint64_t number, bs_node index, uint64_t key,
                             bs_notices *told) {
-  TELL(table, told, false, bs_rekey_row(&table->manager, txn, file, number, index, key, list));
+  TABLE_TELL(table, told, false, bs_rekey_row(&table->manager, txn, file, number, index, key, list));
 }
 
 /* ------------------------------------------------------------------------------------------------
@@ -636,7 +636,7 @@ bs_reply bs_table_rekey_row(bs_table *table, bs_txn txn, bs_node file, uint64_t 
  */
 
 /* Adds what a later command told: that is others, since whoever is told waits no more. */
-static void tell_too(bs_notices *told, const bs_notices *more) {
+static void table_tell_too(bs_notices *told, const bs_notices *more) {
   size_t i;
   for (i = 0; i < more->count && told->count < BS_SLOTS; i++) {
     size_t place = told->count++;
@@ -647,26 +647,26 @@ static void tell_too(bs_notices *told, const bs_notices *more) {
 
 /* A path in a list. Where others fell for a lock above it goes on, as a path that may sleep does: they are woken, and no
  * command of theirs comes between. */
-static bs_reply path_made(bs_table *table, const bs_command *c, bs_txn txn, bs_notices *told) {
+static bs_reply table_path_made(bs_table *table, const bs_command *c, bs_txn txn, bs_notices *told) {
   bs_reply reply = bs_lock_path(&table->manager, txn, c->node, c->mode, told);
   while (reply.status == BS_ON_THE_WAY) {
-    wake(table, reply.status, told, false);
+    table_wake(table, reply.status, told, false);
     reply = bs_lock_path(&table->manager, txn, c->node, c->mode, &table->more);
-    tell_too(told, &table->more);
+    table_tell_too(told, &table->more);
   }
   return reply;
 }
 
 /* Makes a command of those that ask for locks, or give them back. */
-static bs_reply lock_made(bs_table *table, const bs_command *c, bs_txn txn, bs_notices *told) {
+static bs_reply table_lock_made(bs_table *table, const bs_command *c, bs_txn txn, bs_notices *told) {
   bs_manager *m = &table->manager;
   switch (c->kind) {
     case BS_DO_LOCK: return bs_lock(m, txn, c->node, c->mode, told);
-    case BS_DO_LOCK_PATH: return path_made(table, c, txn, told);
+    case BS_DO_LOCK_PATH: return table_path_made(table, c, txn, told);
     case BS_DO_TRY: return bs_try(m, txn, c->node, c->mode);
     case BS_DO_UNLOCK: return bs_unlock(m, txn, c->node, told);
     case BS_DO_ESCALATE: return bs_escalate(m, txn, c->node, told);
-    case BS_DO_CANCEL: return cancel_path(table, txn, bs_cancel(m, txn, told));
+    case BS_DO_CANCEL: return table_cancel_path(table, txn, bs_cancel(m, txn, told));
     case BS_DO_COMMIT: return bs_commit(m, txn, told);
     case BS_DO_ABORT: return bs_abort(m, txn, told);
     case BS_DO_SETTLE: return bs_settle(m, txn, told);
@@ -677,7 +677,7 @@ static bs_reply lock_made(bs_table *table, const bs_command *c, bs_txn txn, bs_n
 }
 
 /* Makes a command. A slot that the list has freed is for those who sleep for one. */
-static bs_reply made(bs_table *table, const bs_command *c, bs_txn txn, bs_notices *told) {
+static bs_reply table_made(bs_table *table, const bs_command *c, bs_txn txn, bs_notices *told) {
   bs_manager *m = &table->manager;
   switch (c->kind) {
     case BS_DO_BEGIN: return table->first != NULL ? bs_call_only(BS_TOO_MANY_TXNS) : bs_begin(m);
@@ -694,26 +694,26 @@ static bs_reply made(bs_table *table, const bs_command *c, bs_txn txn, bs_notice
     case BS_DO_ADD_ROW_FILE: return bs_add_row_file(m, c->parents, c->parent_count);
     case BS_DO_ADD_INDEX: return bs_add_index(m, c->parents, c->parent_count, c->file, c->bounds, c->bound_count);
     case BS_DO_INDEX_BY: return bs_index_by(m, txn, c->parents, c->parent_count, c->file, c->bounds, c->bound_count);
-    default: return lock_made(table, c, txn, told);
+    default: return table_lock_made(table, c, txn, told);
   }
 }
 
 /* Of those behind the first that was not done. */
-static void not_made(bs_command *commands, size_t count) {
+static void table_not_made(bs_command *commands, size_t count) {
   size_t i;
   for (i = 0; i < count; i++) commands[i].reply = bs_call_only(BS_NOT_MADE);
 }
 
 /* Makes the next command of a list, and writes its reply. */
-static bs_status run_next(bs_table *table, bs_command *next, bs_txn begun) {
+static bs_status table_run_next(bs_table *table, bs_command *next, bs_txn begun) {
   bs_txn none = bs_begun();
   bs_txn txn = next->txn.slot == none.slot && next->txn.age == none.age ? begun : next->txn;
-  bs_notices *told = list_of(table, next->told);
+  bs_notices *told = table_list_of(table, next->told);
   bool by_name;
   told->count = 0;
   by_name = next->kind == BS_DO_CANCEL || next->kind == BS_DO_ABORT;
-  next->reply = made(table, next, txn, told);
-  wake(table, next->reply.status, told, by_name);
+  next->reply = table_made(table, next, txn, told);
+  table_wake(table, next->reply.status, told, by_name);
   if (next->reply.status == BS_WAITING) {
     next->reply = bs_doing(&table->manager, txn);
     next->reply.status = BS_WAITING;
@@ -726,20 +726,20 @@ size_t bs_table_run(bs_table *table, bs_command *commands, size_t count) {
   bs_txn begun = bs_begun();
   size_t done = 0;
   if (commands == NULL || count == 0) return 0;
-  if (!enter(table)) {
-    commands[0].reply = tell_none(table, commands[0].told);
-    not_made(commands + 1, count - 1);
+  if (!table_enter(table)) {
+    commands[0].reply = table_tell_none(table, commands[0].told);
+    table_not_made(commands + 1, count - 1);
     return 0;
   }
   while (done < count) {
     bs_command *next = &commands[done];
-    if (run_next(table, next, begun) != BS_DONE) break;
+    if (table_run_next(table, next, begun) != BS_DONE) break;
     if (next->kind == BS_DO_BEGIN) begun = next->reply.txn;
     done++;
   }
-  hand_on(table);
+  table_hand_on(table);
   pthread_mutex_unlock(&table->latch);
-  if (done < count) not_made(commands + done + 1, count - done - 1);
+  if (done < count) table_not_made(commands + done + 1, count - done - 1);
   return done;
 }
 
@@ -748,17 +748,17 @@ size_t bs_table_run(bs_table *table, bs_command *commands, size_t count) {
  */
 
 const bs_manager *bs_table_hold(bs_table *table) {
-  if (!enter(table)) return NULL;
+  if (!table_enter(table)) return NULL;
   __atomic_store_n(&table->holder, pthread_self(), __ATOMIC_RELAXED);
   return &table->manager;
 }
 
 bs_reply bs_table_let_go(bs_table *table) {
   if (table == NULL) return bs_call_null();
-  if (!holds(table)) return bs_call_only(BS_NOT_HELD);
+  if (!table_holds(table)) return bs_call_only(BS_NOT_HELD);
   __atomic_store_n(&table->holder, 0, __ATOMIC_RELAXED);
-  hand_on(table);
-  return leave(table, bs_call_only(BS_DONE));
+  table_hand_on(table);
+  return table_leave(table, bs_call_only(BS_DONE));
 }
 
 /* ------------------------------------------------------------------------------------------------
@@ -766,20 +766,20 @@ bs_reply bs_table_let_go(bs_table *table) {
  */
 
 bs_reply bs_call_table_watch(bs_table *table, bs_watcher *watcher) {
-  ASK(table, bs_watch(&table->manager, watcher));
+  TABLE_ASK(table, bs_watch(&table->manager, watcher));
 }
 
 /* Sleeps for some nanoseconds, but no longer than the table lives. The latch is held before and behind it. */
-static void rest(bs_table *table, uint64_t nanoseconds) {
+static void table_rest(bs_table *table, uint64_t nanoseconds) {
   struct timespec until;
   if (nanoseconds == 0) return;
-  until = ahead_by(nanoseconds / 1000000000u, (uint32_t)(nanoseconds % 1000000000u));
-  while (table->stage == OPEN && pthread_cond_timedwait(&table->over, &table->latch, &until) != ETIMEDOUT) continue;
+  until = table_ahead(nanoseconds / 1000000000u, (uint32_t)(nanoseconds % 1000000000u));
+  while (table->stage == TABLE_OPEN && pthread_cond_timedwait(&table->over, &table->latch, &until) != ETIMEDOUT) continue;
 }
 
 /* Settles every suspect of a board, the youngest first, with the latch held. Who is settled, and who is told, is taken
  * off the board: so nobody is settled whose cycles are open by then. */
-static void settle_all(bs_table *table, bs_board *board) {
+static void table_settle_all(bs_table *table, bs_board *board) {
   static const bs_slots none = { { 0 } };
   bs_reply youngest = bs_youngest(board, bs_suspects(board).slots);
   while (youngest.status == BS_DONE) {
@@ -787,7 +787,7 @@ static void settle_all(bs_table *table, bs_board *board) {
     size_t i;
     suspect.slot = (uint32_t)youngest.count;
     suspect.age = board->ages[youngest.count];
-    wake(table, bs_settle(&table->manager, suspect, &table->told).status, &table->told, false);
+    table_wake(table, bs_settle(&table->manager, suspect, &table->told).status, &table->told, false);
     board->rows[suspect.slot] = none;
     for (i = 0; i < table->told.count; i++) board->rows[table->told.at[i].txn.slot] = none;
     youngest = bs_youngest(board, bs_suspects(board).slots);
@@ -797,13 +797,13 @@ static void settle_all(bs_table *table, bs_board *board) {
 /* The thread that watches. No cycle of waits closes but by a lock that is left waiting: so it sleeps until there was
  * one since the last board that it settled. A board that is older than the last of these could not be shown, for want
  * of memory: then it is read with the latch, which takes none. */
-static void *watch_over(void *place) {
+static void *table_watch_over(void *place) {
   bs_table *table = (bs_table *)place;
   bs_board board;
   uint64_t seen = 0; /* it never falls: all waits up to this count of commands are settled */
   memset(&board, 0, sizeof board);
   pthread_mutex_lock(&table->latch);
-  while (table->stage == OPEN) {
+  while (table->stage == TABLE_OPEN) {
     if (table->waited <= seen) {
       pthread_cond_wait(&table->began, &table->latch);
       continue;
@@ -812,11 +812,11 @@ static void *watch_over(void *place) {
     pthread_mutex_unlock(&table->latch);
     bs_look(&table->eye, &board);
     pthread_mutex_lock(&table->latch);
-    if (table->stage != OPEN) break;
+    if (table->stage != TABLE_OPEN) break;
     if (board.epoch < seen) bs_read_board(&table->manager, &board);
     seen = board.epoch;
-    settle_all(table, &board);
-    rest(table, table->pace);
+    table_settle_all(table, &board);
+    table_rest(table, table->pace);
   }
   pthread_mutex_unlock(&table->latch);
   bs_watch_end(&table->eye);
@@ -825,7 +825,7 @@ static void *watch_over(void *place) {
 
 /* Starts the thread that watches, whether it could be. It takes no signals that are the process's, but for those that a
  * fault of its own raises: these cannot wait. */
-static bool start_watch(bs_table *table) {
+static bool table_start_watch(bs_table *table) {
   static const int faults[] = { SIGSEGV, SIGBUS, SIGFPE, SIGILL, SIGTRAP };
   sigset_t blocked, before;
   size_t i;
@@ -833,23 +833,23 @@ static bool start_watch(bs_table *table) {
   sigfillset(&blocked);
   for (i = 0; i < sizeof faults / sizeof faults[0]; i++) sigdelset(&blocked, faults[i]);
   pthread_sigmask(SIG_SETMASK, &blocked, &before);
-  is_started = pthread_create(&table->watch, NULL, watch_over, table) == 0;
+  is_started = pthread_create(&table->watch, NULL, table_watch_over, table) == 0;
   pthread_sigmask(SIG_SETMASK, &before, NULL);
   return is_started;
 }
 
 bs_reply bs_table_watch_thread(bs_table *table, uint64_t pace) {
   bs_reply reply;
-  if (!enter(table)) return no_table(table);
+  if (!table_enter(table)) return table_no_table(table);
   reply = bs_watch(&table->manager, &table->eye);
-  if (reply.status != BS_DONE) return leave(table, reply);
+  if (reply.status != BS_DONE) return table_leave(table, reply);
   table->pace = pace;
-  table->is_watched = start_watch(table);
+  table->is_watched = table_start_watch(table);
   if (!table->is_watched) {
     bs_watch_end(&table->eye);
     reply.status = BS_NO_MEMORY;
   }
-  return leave(table, reply);
+  return table_leave(table, reply);
 }
 
 /* ------------------------------------------------------------------------------------------------
@@ -857,5 +857,5 @@ bs_reply bs_table_watch_thread(bs_table *table, uint64_t pace) {
  */
 
 uint32_t bs_version(void) {
-  return BS_VERSION;
+  return BS_CALL_VERSION;
 }

@@ -69,18 +69,12 @@ extern "C" {
 #define BS_VERSION_MINOR 14
 #define BS_VERSION_PATCH 0
 
-/* The same as one number, which is greater for a later version. */
-#define BS_VERSION (BS_VERSION_MAJOR * 1000000 + BS_VERSION_MINOR * 1000 + BS_VERSION_PATCH)
-
 /* How many transactions can live at once, and so how many notices a call can have. A library can be built for another
  * number, and is then installed with headers that have it here. */
 #define BS_SLOTS 128
 
-/* How many parents a node can have. */
-#define BS_MOST_PARENTS 8
-
-/* How many watchers a manager can have at once. */
-#define BS_MOST_WATCHERS 8
+/* How many parents a node can have, and how many watchers a manager can have at once. */
+enum { BS_MOST_PARENTS = 8, BS_MOST_WATCHERS = 8 };
 
 /* What a call comes to. Refusals are 1 to 23, of the manager, and 64 to 74, of this library. */
 typedef uint32_t bs_status;
@@ -271,7 +265,7 @@ typedef struct bs_counts {
   uint64_t longest_queue;     /* the most that waited for one node at once, behind a lock that waits for it */
 } bs_counts;
 
-/* The version of the library, as BS_VERSION is that of these headers. */
+/* The version of the library as one number: a million times the first, a thousand times the second, and the third. */
 uint32_t bs_version(void);
 
 /* The calls of the library, and what the functions below share. A program uses none of it. */

@@ -109,10 +109,13 @@ static inline bs_found bs_call_none_found(bs_status status) {
   return found;
 }
 
+/* The version of this header, as bs_version answers that of the library. */
+#define BS_CALL_VERSION (BS_VERSION_MAJOR * 1000000u + BS_VERSION_MINOR * 1000u + BS_VERSION_PATCH)
+
 /* Whether the library is that of this header, and knows its sizes. The third number of a version is of no weight: it
  * rises where nothing is added, and nothing has to be changed. */
 static inline bs_status bs_call_misfit(void) {
-  if (bs_version() / 1000u != BS_VERSION / 1000u) return BS_OTHER_VERSION;
+  if (bs_version() / 1000 != BS_CALL_VERSION / 1000) return BS_OTHER_VERSION;
   return bs_call_slots() == BS_SLOTS ? BS_DONE : BS_OTHER_SLOTS;
 }
 

@@ -14,8 +14,8 @@ trap 'rm -rf "$work"' EXIT
 
 if [ -z "${BURLAPSLATE_LIBS:-}" ]; then
   mapfile -t libraries < <("$top/tools/c_library.sh" 2>"$work/log")
-  [ "${#libraries[@]}" -eq 2 ] || { cat "$work/log" >&2; exit 1; }
-  export BURLAPSLATE_LIBS=${libraries[0]}:${libraries[1]}
+  [ "${#libraries[@]}" -eq 3 ] || { cat "$work/log" >&2; exit 1; }
+  BURLAPSLATE_LIBS=$(IFS=: && echo "${libraries[*]}") && export BURLAPSLATE_LIBS
 fi
 export CARGO_TARGET_DIR=${CARGO_TARGET_DIR:-$work/target}
 cd "$top/rust/burlapslate" || exit 2

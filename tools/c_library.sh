@@ -1,10 +1,10 @@
 #!/usr/bin/env bash
 # c_library.sh [--look | --headers] [--slots N]: builds the library for C where it is not there or older than its sources,
-# and prints what a program over include/burlapslate.h is linked with: the library, and the toolchain's calls for memory.
-# `rt` is to be found by PATH. With --look it builds nothing, and ends with status 1 where there is something to build.
-# With --headers it builds nothing, and prints the folder in which the headers of the library stand once it is built.
-# N is how many transactions can live at once: 128, or 1024. The library for 1024 is proved in out/slots-1024, over
-# gl_wide_slots, and stands there with its headers.
+# and prints what a program over include/burlapslate.h is linked with: what is written in C (c/), the proved library, and
+# the toolchain's calls for memory. `rt` is to be found by PATH. With --look it builds nothing, and ends with status 1
+# where there is something to prove. With --headers it builds nothing, and prints the folder in which the headers of the
+# library stand once it is built. N is how many transactions can live at once: 128, or 1024. The library for 1024 is
+# proved in out/slots-1024, over gl_wide_slots, and stands there with its headers. CC names another compiler than cc.
 set -uo pipefail
 top=$(cd "$(dirname "$0")/.." && pwd) || exit 2
 
@@ -34,6 +34,7 @@ case $slots in
 esac
 [ "$asked" != --headers ] || { echo "$built/include"; exit; }
 library=$built/crates/gl_c/out/libgl_c.a
+written=$built/c/out/libburlapslate_c.a
 rt=$(command -v rt) || { echo "c_library.sh: rt is not found" >&2; exit 2; }
 kit=$(dirname "$(dirname "$(readlink -f "$rt")")")
 
@@ -74,6 +75,27 @@ is_old() {
   [ ! -e "$library" ] || is_newer "$library" gl_c "${sources[@]}"
 }
 
+# is_c_old: whether what is written in C is not compiled, or older than its sources and the headers.
+is_c_old() {
+  [ ! -e "$written" ] || [ -n "$(find "$top"/c/*.c "$top"/include/*.h "$top/tools/c_library.sh" -newer "$written" -print -quit)" ]
+}
+
+# build_c: compiles what is written in C, so that it can be part of a shared library too. The archive comes to its place
+# whole, since others may build it at the same time.
+build_c() {
+  local work source status=0
+  work=$(mktemp -d) || return
+  for source in "$top"/c/*.c; do
+    # shellcheck disable=SC2086 # CC may have words behind the name.
+    ${CC:-cc} -std=c99 -D_POSIX_C_SOURCE=200809L -pthread -O2 -fPIC -Wall -Wextra -I"$built/include" -c \
+      -o "$work/$(basename "$source" .c).o" "$source" || status=1
+  done
+  [ "$status" -eq 0 ] && (cd "$work" && ${AR:-ar} rcsD archive.a ./*.o) && mkdir -p "${written%/*}" &&
+    cp "$work/archive.a" "$written.$$" && mv "$written.$$" "$written" || status=1
+  rm -rf "$work"
+  return "$status"
+}
+
 # build_wide: the library for more slots, in a copy of the crates.
 build_wide() {
   "$top/tools/wide_sources.sh" "$built" && cd "$built/crates/gl_c" && rt lib
@@ -94,4 +116,7 @@ if is_old; then
   echo "crates $sum library $(sha256sum <"$library" | cut -d ' ' -f 1)" >"${library%/*}/built_from" || exit 1
 fi
 [ "$slots" = 128 ] || "$top/tools/headers.sh" "$slots" "$built/include" || exit 1
-printf '%s\n%s\n' "$library" "$kit/c/liblibc_c.a"
+if is_c_old; then
+  build_c >&2 || exit 1
+fi
+printf '%s\n' "$written" "$library" "$kit/c/liblibc_c.a"

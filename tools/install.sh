@@ -39,7 +39,7 @@ if ! "$top/tools/c_library.sh" --look --slots "$slots" 2>"$work/log" && [ ! -s "
   echo "install.sh: the library is proved first: about half an hour on four processors, where nothing is proved yet" >&2
 fi
 mapfile -t libraries < <("$top/tools/c_library.sh" --slots "$slots" 2>"$work/log")
-[ "${#libraries[@]}" -eq 2 ] || { cat "$work/log" >&2; exit 1; }
+[ "${#libraries[@]}" -eq 3 ] || { cat "$work/log" >&2; exit 1; }
 
 # number NAME: what the header defines under this name.
 number() {
@@ -73,8 +73,8 @@ fill() {
     "$top/packaging/$1.in" >"$2/$1"
 }
 
-# join: makes one object of the library and the toolchain's calls for memory, in which the names of C alone are global,
-# so that it can stand beside another library of this toolchain.
+# join: makes one object of what is written in C, the proved library and the toolchain's calls for memory, in which the
+# names of C alone are global, so that it can stand beside another library of this toolchain.
 join() {
   ${LD:-ld} -r -o "$work/joined.o" --whole-archive "${libraries[@]}" &&
     ${OBJCOPY:-objcopy} --wildcard --keep-global-symbol='bs_*' --remove-section=.llvm_addrsig \

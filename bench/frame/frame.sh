@@ -19,7 +19,7 @@ trap 'rm -rf "$work"' EXIT
 slots=${SLOTS:-128}
 headers=$("$top/tools/c_library.sh" --headers --slots "$slots") || exit 2
 mapfile -t libraries < <("$top/tools/c_library.sh" --slots "$slots" 2>"$work/log")
-[ "${#libraries[@]}" -eq 2 ] || { cat "$work/log" >&2; exit 1; }
+[ "${#libraries[@]}" -eq 3 ] || { cat "$work/log" >&2; exit 1; }
 
 # compile PROGRAM WORD..: $work/PROGRAM, from sources and with options.
 compile() {

@@ -58,7 +58,7 @@ compile() {
 }
 
 mapfile -t libraries < <("$top/tools/c_library.sh" 2>"$work/log")
-[ "${#libraries[@]}" -eq 2 ] || { cat "$work/log" >&2; exit 1; }
+[ "${#libraries[@]}" -eq 3 ] || { cat "$work/log" >&2; exit 1; }
 cd "$here" || exit 2
 compile shard shard.c store.c redo.c decide.c wire.c fail.c
 compile coordinator coordinator.c stories.c phantom.c crowd.c remote.c gather.c decide.c wire.c fail.c

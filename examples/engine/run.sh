@@ -23,7 +23,7 @@ work=$(mktemp -d) || exit 2
 trap 'rm -rf "$work"' EXIT
 
 mapfile -t libraries < <("$top/tools/c_library.sh" --slots "$slots" 2>"$work/log")
-[ "${#libraries[@]}" -eq 2 ] || { cat "$work/log" >&2; exit 1; }
+[ "${#libraries[@]}" -eq 3 ] || { cat "$work/log" >&2; exit 1; }
 
 # shellcheck disable=SC2086 # CC may have words behind the name.
 $compiler -std=c99 -D_POSIX_C_SOURCE=200809L -pthread -Wall -Wextra -Werror -O1 -I"$headers" \

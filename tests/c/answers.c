@@ -3,13 +3,15 @@
 #include "burlapslate.h"
 #include "burlapslate_shared.h"
 
-static bs_table table = BS_NO_TABLE_HERE;
+#include <pthread.h>
+
+static bs_table *table;
 static bs_node node;
 
 static void *other(void *came) {
-  bs_txn txn = bs_table_begin(&table).txn;
-  if (bs_table_lock(&table, txn, node, BS_X).status != BS_DONE) return NULL;
-  return bs_table_commit(&table, txn, NULL).status == BS_DONE ? came : NULL;
+  bs_txn txn = bs_table_begin(table).txn;
+  if (bs_table_lock(table, txn, node, BS_X, NULL).status != BS_DONE) return NULL;
+  return bs_table_commit(table, txn, NULL).status == BS_DONE ? came : NULL;
 }
 
 #define WANTED(CALL, STATUS) \
@@ -22,7 +24,7 @@ static int deadlock(void) {
   bs_manager m = BS_NO_MANAGER_HERE;
   bs_notices told;
   WANTED(bs_begin(&m), BS_NO_MANAGER);
-  WANTED(bs_make(&m, BS_AT_BLOCK, BS_SLOTS), BS_DONE);
+  WANTED(bs_make(&m, NULL), BS_DONE);
   bs_node db = bs_add_inner(&m, NULL, 0).node;
   bs_txn a = bs_begin(&m).txn, b = bs_begin(&m).txn;
   WANTED(bs_lock(&m, a, db, BS_S, &told), BS_DONE);
@@ -37,19 +39,28 @@ static int deadlock(void) {
   return 0;
 }
 
+/* How many wait for the node. */
+static uint64_t waiters(void) {
+  const bs_manager *m = bs_table_hold(table);
+  uint64_t count = bs_queue_len(m, node).count;
+  bs_table_let_go(table);
+  return count;
+}
+
 /* One that sleeps until the other commits. */
 static int sleeper(void) {
   pthread_t thread;
   void *came = NULL;
-  WANTED(bs_table_make(&table, BS_AT_BLOCK, BS_YOUNGEST, BS_SLOTS), BS_DONE);
-  node = bs_table_add_inner(&table, NULL, 0).node;
-  bs_txn txn = bs_table_begin(&table).txn;
-  WANTED(bs_table_lock(&table, txn, node, BS_X), BS_DONE);
-  if (pthread_create(&thread, NULL, other, &table) != 0) return __LINE__;
-  while (bs_table_queue_len(&table, node).count == 0) continue;
-  WANTED(bs_table_commit(&table, txn, NULL), BS_DONE);
-  if (pthread_join(thread, &came) != 0 || came != &table) return __LINE__;
-  WANTED(bs_table_end(&table), BS_DONE);
+  WANTED(bs_table_make(&table, NULL), BS_DONE);
+  node = bs_table_add_inner(table, NULL, 0).node;
+  bs_txn txn = bs_table_begin(table).txn;
+  WANTED(bs_table_lock(table, txn, node, BS_X, NULL), BS_DONE);
+  if (pthread_create(&thread, NULL, other, table) != 0) return __LINE__;
+  while (waiters() == 0) continue;
+  WANTED(bs_table_commit(table, txn, NULL), BS_DONE);
+  if (pthread_join(thread, &came) != 0 || came != table) return __LINE__;
+  WANTED(bs_table_end(table), BS_DONE);
+  WANTED(bs_table_free(&table), BS_DONE);
   return 0;
 }
 

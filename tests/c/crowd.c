@@ -12,6 +12,7 @@
  * one moment agree with each other.
  */
 #include "burlapslate.h"
+#include "same.h"
 
 #include <sched.h>
 #include <stdlib.h>
@@ -22,8 +23,7 @@
  */
 
 enum kind {
-  BEGIN, LOCK, LOCK_PATH, LOCK_ROW, TRY, UNLOCK, UNLOCK_ROW, ESCALATE, ESCALATE_ROWS, CANCEL, CANCEL_ROWS, COMMIT,
-  COMMIT_ROWS, ABORT, ABORT_ROWS, SETTLE, INSERT, DELETE, REKEY, REKEY_ROW, MOVE, DROP, INDEX_BY, ADD_INNER, ADD_FILE,
+  BEGIN, LOCK, LOCK_PATH, LOCK_ROW, TRY, UNLOCK, UNLOCK_ROW, ESCALATE, CANCEL, COMMIT, ABORT, SETTLE, INSERT, DELETE, REKEY, REKEY_ROW, MOVE, DROP, INDEX_BY, ADD_INNER, ADD_FILE,
   ADD_ROW_FILE, ADD_INDEX, KINDS
 };
 
@@ -91,7 +91,7 @@ static bs_reply write_down(bs_manager *m, const struct call *call, bs_reply repl
   s->reply = reply;
   s->told_count = told == NULL ? 0 : told->count;
   s->told_sum = told == NULL ? 0 : sum_of(told);
-  s->accepted = bs_accepted(m).count;
+  s->accepted = accepted_by(m);
   return reply;
 }
 
@@ -107,13 +107,9 @@ static bs_reply made(bs_manager *m, const struct call *c, bs_notices *told) {
     case UNLOCK: return bs_unlock(m, c->txn, c->node, told);
     case UNLOCK_ROW: return bs_unlock_row(m, c->txn, c->node, c->row, told);
     case ESCALATE: return bs_escalate(m, c->txn, c->node, told);
-    case ESCALATE_ROWS: return bs_escalate_rows(m, c->txn, c->node, told);
     case CANCEL: return bs_cancel(m, c->txn, told);
-    case CANCEL_ROWS: return bs_cancel_rows(m, c->txn, told);
     case COMMIT: return bs_commit(m, c->txn, told);
-    case COMMIT_ROWS: return bs_commit_rows(m, c->txn, told);
     case ABORT: return bs_abort(m, c->txn, told);
-    case ABORT_ROWS: return bs_abort_rows(m, c->txn, told);
     case SETTLE: return bs_settle(m, c->txn, told);
     case INSERT: return bs_insert(m, c->txn, c->node, c->numbers, c->number_count);
     case DELETE: return bs_delete(m, c->txn, c->node, told);
@@ -277,10 +273,6 @@ static bs_reply served_index(bs_manager *m, enum kind kind, bs_txn txn, const bs
   served_lock_row(m, txn, file, row, keys, count, mode, told)
 #define bs_unlock_row(m, txn, file, row, told) served_unlock_row(m, txn, file, row, told)
 #define bs_rekey_row(m, txn, file, row, index, key, told) served_rekey_row(m, txn, file, row, index, key, told)
-#define bs_escalate_rows(m, txn, node, told) served_escalate(m, ESCALATE_ROWS, txn, node, told)
-#define bs_cancel_rows(m, txn, told) served_end(m, CANCEL_ROWS, txn, told)
-#define bs_commit_rows(m, txn, told) served_end(m, COMMIT_ROWS, txn, told)
-#define bs_abort_rows(m, txn, told) served_end(m, ABORT_ROWS, txn, told)
 #define bs_settle(m, txn, told) served_end(m, SETTLE, txn, told)
 #define bs_insert(m, txn, file, keys, count) served_insert(m, txn, file, keys, count)
 #define bs_delete(m, txn, record, told) served_delete(m, txn, record, told)
@@ -295,6 +287,7 @@ static bs_reply served_index(bs_manager *m, enum kind kind, bs_txn txn, const bs
 #define bs_add_index(m, parents, count, file, bounds, most) \
   served_index(m, ADD_INDEX, nobody, parents, count, file, bounds, most)
 
+#include "burlapslate_shared.c"
 #include "threads.h"
 
 /* ------------------------------------------------------------------------------------------------
@@ -306,10 +299,10 @@ static bs_reply served_index(bs_manager *m, enum kind kind, bs_txn txn, const bs
 enum { AREAS = 2, FILES = 4, INTERVALS = 3, RECORDS = 24, ROWS = 10, ACCOUNTS = 8, WATCHERS = 2, FEW_SLOTS = 16,
        THREADS = BS_SLOTS > 1000 ? 1000 : 128 };
 
-static bs_table table = BS_NO_TABLE_HERE;
+static bs_table *table;
 
 static bool is_handed_on(void) {
-  return table.in != NULL && table.in->first != NULL;
+  return table != NULL && table->first != NULL;
 }
 
 static bs_node root, areas[AREAS], files[FILES], indexes[FILES], intervals[FILES][INTERVALS], accounts[ACCOUNTS];
@@ -329,7 +322,7 @@ static void name_row_index(size_t i, bs_node index) {
   size_t j;
   pthread_mutex_lock(&names);
   row_indexes[i] = index;
-  for (j = 0; j < INTERVALS; j++) row_intervals[i][j] = DONE(bs_table_interval(&table, index, j)).node;
+  for (j = 0; j < INTERVALS; j++) row_intervals[i][j] = DONE(ASK(table, bs_interval, index, j)).node;
   pthread_mutex_unlock(&names);
 }
 
@@ -351,26 +344,26 @@ static bs_node row_interval(size_t i, size_t place) {
 
 static void make_row_file(size_t i) {
   bs_node area = areas[i % AREAS];
-  row_files[i] = DONE(bs_table_add_row_file(&table, &area, 1)).node;
-  name_row_index(i, DONE(bs_table_add_index(&table, &area, 1, row_files[i], bounds, INTERVALS - 1)).node);
+  row_files[i] = DONE(bs_table_add_row_file(table, &area, 1)).node;
+  name_row_index(i, DONE(bs_table_add_index(table, &area, 1, row_files[i], bounds, INTERVALS - 1)).node);
 }
 
 static void make_file(size_t i) {
   bs_node area = areas[i % AREAS];
-  bs_txn t = DONE(bs_table_begin(&table)).txn;
+  bs_txn t = DONE(bs_table_begin(table)).txn;
   size_t j;
-  files[i] = DONE(bs_table_add_file(&table, &area, 1)).node;
-  indexes[i] = DONE(bs_table_add_index(&table, &area, 1, files[i], bounds, INTERVALS - 1)).node;
+  files[i] = DONE(bs_table_add_file(table, &area, 1)).node;
+  indexes[i] = DONE(bs_table_add_index(table, &area, 1, files[i], bounds, INTERVALS - 1)).node;
   for (j = 0; j < INTERVALS; j++) {
-    intervals[i][j] = DONE(bs_table_interval(&table, indexes[i], j)).node;
-    DONE(bs_table_lock_path(&table, t, intervals[i][j], BS_IX, NULL));
+    intervals[i][j] = DONE(ASK(table, bs_interval, indexes[i], j)).node;
+    DONE(bs_table_lock_path(table, t, intervals[i][j], BS_IX, NULL));
   }
-  DONE(bs_table_lock_path(&table, t, files[i], BS_IX, NULL));
+  DONE(bs_table_lock_path(table, t, files[i], BS_IX, NULL));
   for (j = i; j < RECORDS; j += FILES) {
     uint64_t key = j * 11;
-    records[j] = DONE(bs_table_insert(&table, t, files[i], &key, 1)).node;
+    records[j] = DONE(bs_table_insert(table, t, files[i], &key, 1)).node;
   }
-  DONE(bs_table_commit(&table, t, NULL));
+  DONE(bs_table_commit(table, t, NULL));
 }
 
 static void set_up(uint32_t detect, uint32_t victims, uint32_t most) {
@@ -380,13 +373,13 @@ static void set_up(uint32_t detect, uint32_t victims, uint32_t most) {
   memset(changed, 0, sizeof changed);
   memset(free_game, 0, sizeof free_game);
   is_over = false;
-  DONE(bs_table_make(&table, detect, victims, most));
-  root = DONE(bs_table_add_inner(&table, NULL, 0)).node;
-  for (i = 0; i < AREAS; i++) areas[i] = DONE(bs_table_add_inner(&table, &root, 1)).node;
+  DONE(make_table(&table, detect, victims, most));
+  root = DONE(bs_table_add_inner(table, NULL, 0)).node;
+  for (i = 0; i < AREAS; i++) areas[i] = DONE(bs_table_add_inner(table, &root, 1)).node;
   for (i = 0; i < FILES; i++) make_file(i);
   for (i = 0; i < FILES; i++) make_row_file(i);
-  for (i = 0; i < ACCOUNTS; i++) accounts[i] = DONE(bs_table_add_inner(&table, &root, 1)).node;
-  if (detect == BS_BY_WATCHER) DONE(bs_table_watch_thread(&table, 0));
+  for (i = 0; i < ACCOUNTS; i++) accounts[i] = DONE(bs_table_add_inner(table, &root, 1)).node;
+  if (detect == BS_BY_WATCHER) DONE(bs_table_watch_thread(table, 0));
 }
 
 /* ------------------------------------------------------------------------------------------------
@@ -434,18 +427,18 @@ static bool same_reply(bs_reply a, bs_reply b) {
 
 /* What was answered to a call that cannot sleep is what was written down for it. */
 static bs_reply as_served(bs_reply reply) {
-  pthread_mutex_lock(&table.latch);
+  pthread_mutex_lock(&table->latch);
   WANT(same_reply(reply, log_of_calls[my_last].reply));
-  pthread_mutex_unlock(&table.latch);
+  pthread_mutex_unlock(&table->latch);
   return reply;
 }
 
 /* A cancel that finds no wait may end a path all the same. */
 static bs_reply as_cancelled(bs_reply reply) {
   bs_reply served = reply;
-  pthread_mutex_lock(&table.latch);
+  pthread_mutex_lock(&table->latch);
   if (log_of_calls[my_last].reply.status == BS_NOT_WAITING && reply.status == BS_DONE) served.status = BS_NOT_WAITING;
-  pthread_mutex_unlock(&table.latch);
+  pthread_mutex_unlock(&table->latch);
   as_served(served);
   return reply;
 }
@@ -453,18 +446,18 @@ static bs_reply as_cancelled(bs_reply reply) {
 /* A begin may have been served in another thread. */
 static bs_reply as_begun(bs_reply reply) {
   size_t i;
-  pthread_mutex_lock(&table.latch);
+  pthread_mutex_lock(&table->latch);
   i = log_count;
   while (i > 0 && (log_of_calls[i - 1].call.kind != BEGIN || !same_reply(reply, log_of_calls[i - 1].reply))) i--;
   WANT(i > 0);
-  pthread_mutex_unlock(&table.latch);
+  pthread_mutex_unlock(&table->latch);
   return reply;
 }
 
 /* The same of a lock. Where it slept, what it came to is noted; a wait that was given up has the cancel as its last. */
 static bs_reply as_slept(struct session *s, bs_reply reply) {
   struct served *last;
-  pthread_mutex_lock(&table.latch);
+  pthread_mutex_lock(&table->latch);
   last = &log_of_calls[my_last];
   if (reply.status == BS_TIMED_OUT) {
     WANT(last->call.kind == CANCEL && last->reply.status == BS_DONE);
@@ -476,7 +469,7 @@ static bs_reply as_slept(struct session *s, bs_reply reply) {
   } else {
     WANT(same_reply(reply, last->reply));
   }
-  pthread_mutex_unlock(&table.latch);
+  pthread_mutex_unlock(&table->latch);
   return reply;
 }
 
@@ -491,7 +484,7 @@ static bool is_asked_again(const struct served *slept, const struct served *last
 /* The same of a row's lock: the answer behind a grant is that of the call which asks again. */
 static bs_reply as_row_slept(struct session *s, bs_reply reply) {
   struct served *slept;
-  pthread_mutex_lock(&table.latch);
+  pthread_mutex_lock(&table->latch);
   slept = &log_of_calls[my_last_but_one];
   if (is_asked_again(slept, &log_of_calls[my_last])) {
     slept->has_slept = true;
@@ -499,18 +492,18 @@ static bs_reply as_row_slept(struct session *s, bs_reply reply) {
     slept->came.status = BS_DONE;
     s->slept++;
   }
-  pthread_mutex_unlock(&table.latch);
+  pthread_mutex_unlock(&table->latch);
   return as_slept(s, reply);
 }
 
 static bs_reply ask(struct session *s, bs_node node, bs_mode mode) {
   struct timespec until = moment_in(200 + (long)pick(s, 2000));
-  return as_slept(s, bs_table_lock_until(&table, s->txn, node, mode, pick(s, 4) == 0 ? &until : NULL));
+  return as_slept(s, bs_table_lock(table, s->txn, node, mode, pick(s, 4) == 0 ? &until : NULL));
 }
 
 static bs_reply ask_path(struct session *s, bs_node node, bs_mode mode) {
   struct timespec until = moment_in(200 + (long)pick(s, 4000));
-  return as_slept(s, bs_table_lock_path(&table, s->txn, node, mode, pick(s, 4) == 0 ? &until : NULL));
+  return as_slept(s, bs_table_lock_path(table, s->txn, node, mode, pick(s, 4) == 0 ? &until : NULL));
 }
 
 /* What is held above a row with this key, and then the row; what is wanting above a node with another key as well. */
@@ -521,7 +514,7 @@ static bs_reply ask_row_by(struct session *s, size_t i, uint64_t row, uint64_t k
   bs_reply reply = ask_path(s, row_interval(i, place), BS_IX);
   if (reply.status == BS_DONE) reply = ask_path(s, row_files[i], BS_IX);
   while (reply.status == BS_DONE) {
-    reply = as_row_slept(s, bs_table_lock_row(&table, s->txn, row_files[i], row, &key, 1, mode, limit));
+    reply = as_row_slept(s, bs_table_lock_row(table, s->txn, row_files[i], row, &key, 1, mode, limit));
     if (reply.status != BS_NEED_PARENTS) return reply;
     reply = ask_path(s, reply.node, BS_IX);
   }
@@ -547,8 +540,8 @@ static bs_reply ask_row(struct session *s, bs_mode mode) {
   if ((reply.status == BS_DONE || reply.status == BS_OTHER_KEYS) && reply.mode == BS_X) change(s, i, row);
   if (reply.status != BS_OTHER_KEYS) return reply;
   s->others++;
-  if (reply.mode == BS_S) return as_served(bs_table_unlock_row(&table, s->txn, row_files[i], row, NULL));
-  return as_served(bs_table_rekey_row(&table, s->txn, row_files[i], row, row_index(i), key, NULL));
+  if (reply.mode == BS_S) return as_served(bs_table_unlock_row(table, s->txn, row_files[i], row, NULL));
+  return as_served(bs_table_rekey_row(table, s->txn, row_files[i], row, row_index(i), key, NULL));
 }
 
 static bs_mode any_mode(struct session *s) {
@@ -576,7 +569,7 @@ static bs_reply insert(struct session *s) {
   bs_reply reply = ask_path(s, intervals[i][place], BS_IX);
   if (reply.status == BS_DONE) reply = ask_path(s, files[i], BS_IX);
   if (reply.status != BS_DONE) return reply;
-  reply = as_served(bs_table_insert(&table, s->txn, files[i], &key, 1));
+  reply = as_served(bs_table_insert(table, s->txn, files[i], &key, 1));
   if (reply.status != BS_DONE) return reply;
   pthread_mutex_lock(&names);
   records[pick(s, RECORDS)] = reply.node;
@@ -587,7 +580,7 @@ static bs_reply insert(struct session *s) {
 static bs_reply remove_record(struct session *s) {
   bs_node record = any_record(s);
   bs_reply reply = ask_path(s, record, BS_X);
-  return reply.status == BS_DONE ? as_served(bs_table_delete(&table, s->txn, record, NULL)) : reply;
+  return reply.status == BS_DONE ? as_served(bs_table_delete(table, s->txn, record, NULL)) : reply;
 }
 
 static bs_reply rekey(struct session *s) {
@@ -596,14 +589,14 @@ static bs_reply rekey(struct session *s) {
   bs_reply reply = ask_path(s, record, BS_X);
   if (reply.status == BS_DONE) reply = ask_path(s, intervals[i][place], BS_IX);
   if (reply.status != BS_DONE) return reply;
-  return as_served(bs_table_rekey(&table, s->txn, record, indexes[i], place * 100, NULL));
+  return as_served(bs_table_rekey(table, s->txn, record, indexes[i], place * 100, NULL));
 }
 
 static bs_reply move(struct session *s) {
   bs_node file = files[pick(s, FILES)], area = areas[pick(s, AREAS)];
   bs_reply reply = ask_path(s, file, BS_X);
   if (reply.status == BS_DONE) reply = ask_path(s, area, BS_IX);
-  return reply.status == BS_DONE ? as_served(bs_table_move(&table, s->txn, file, &area, 1, NULL)) : reply;
+  return reply.status == BS_DONE ? as_served(bs_table_move(table, s->txn, file, &area, 1, NULL)) : reply;
 }
 
 /* The index of a file of rows goes, and another is made, where no row stands. */
@@ -614,9 +607,10 @@ static bs_reply change_index(struct session *s) {
   bs_reply reply = ask_path(s, index, BS_X);
   if (reply.status == BS_DONE) reply = ask_path(s, row_files[i], BS_X);
   if (reply.status != BS_DONE) return reply;
-  list[0] = bs_do_index_by(s->txn, &area, 1, row_files[i], bounds, INTERVALS - 1);
-  list[1] = bs_do_drop(s->txn, index);
-  count = bs_table_run(&table, list, 2);
+  list[0] = (bs_command){ .kind = BS_DO_INDEX_BY, .txn = s->txn, .parents = &area, .parent_count = 1,
+                          .file = row_files[i], .bounds = bounds, .bound_count = INTERVALS - 1 };
+  list[1] = bs_do_at(BS_DO_DROP, s->txn, index, BS_NL);
+  count = bs_table_run(table, list, 2);
   if (count < 2) return as_served(list[count].reply);
   reply = as_served(list[1].reply);
   s->indexes++;
@@ -631,10 +625,8 @@ static bs_reply meddle(struct session *s) {
   whom = free_game[pick(s, THREADS)];
   pthread_mutex_unlock(&names);
   switch (pick(s, 6)) {
-    case 0: return as_served(bs_table_abort(&table, whom, NULL));
-    case 1: return as_served(bs_table_abort_rows(&table, whom, NULL));
-    case 2: return as_cancelled(bs_table_cancel_rows(&table, whom, NULL));
-    default: return as_cancelled(bs_table_cancel(&table, whom, NULL));
+    case 0: case 1: return as_served(bs_table_abort(table, whom, NULL));
+    default: return as_cancelled(bs_table_cancel(table, whom, NULL));
   }
 }
 
@@ -642,16 +634,43 @@ static bs_reply meddle(struct session *s) {
 static bs_reply run_list(struct session *s) {
   bs_command list[3];
   size_t i, count;
-  for (i = 0; i < 3; i++) list[i] = bs_do_lock(s->txn, i == 0 ? root : areas[i - 1], i == 2 ? BS_IX : BS_IS);
-  if (pick(s, 2) == 0) list[2] = bs_do_settle(s->txn);
-  count = bs_table_run(&table, list, 3);
+  for (i = 0; i < 3; i++) list[i] = bs_do_at(BS_DO_LOCK, s->txn, i == 0 ? root : areas[i - 1], i == 2 ? BS_IX : BS_IS);
+  if (pick(s, 2) == 0) list[2] = bs_do(BS_DO_SETTLE, s->txn);
+  count = bs_table_run(table, list, 3);
   if (count == 3) return as_served(list[2].reply);
   if (list[count].reply.status != BS_WAITING) return as_served(list[count].reply);
-  return as_slept(s, bs_table_await(&table, s->txn, list[count].node, list[count].mode, NULL));
+  return as_slept(s, bs_table_await(table, s->txn, list[count].node, list[count].mode, NULL));
+}
+
+/* A path and a row in one hold; what waits is awaited, and the list goes on. */
+static bs_reply run_rows(struct session *s) {
+  size_t i = pick(s, FILES), done = 0;
+  uint64_t row = pick(s, ROWS), key = row * 29;
+  bs_mode mode = pick(s, 2) == 0 ? BS_X : BS_S;
+  bs_command list[3];
+  bs_reply reply;
+  list[0] = bs_do_at(BS_DO_LOCK_PATH, s->txn, row_interval(i, key / 100), BS_IX);
+  list[1] = bs_do_at(BS_DO_LOCK_PATH, s->txn, row_files[i], BS_IX);
+  list[2] = bs_do(BS_DO_LOCK_ROW, s->txn);
+  list[2].file = row_files[i];
+  list[2].number = row;
+  list[2].keys = &key;
+  list[2].key_count = 1;
+  list[2].mode = mode;
+  for (;;) {
+    done += bs_table_run(table, list + done, 3 - done);
+    reply = list[done < 3 ? done : 2].reply;
+    if (reply.status != BS_WAITING) break;
+    reply = as_slept(s, bs_table_await(table, s->txn, reply.node, reply.mode, NULL));
+    if (reply.status != BS_DONE) return reply;
+  }
+  as_served(reply);
+  if (done >= 2 && (reply.status == BS_DONE || reply.status == BS_OTHER_KEYS) && reply.mode == BS_X) change(s, i, row);
+  return reply;
 }
 
 /* How often a transaction stands in a queue. */
-static size_t times_in_queue(bs_manager *m, bs_txn txn, bs_node node) {
+static size_t times_in_queue(const bs_manager *m, bs_txn txn, bs_node node) {
   bs_reply waiter;
   size_t place, times = 0;
   for (place = 0; (waiter = bs_queue_at(m, node, place)).status == BS_DONE; place++) {
@@ -662,13 +681,13 @@ static size_t times_in_queue(bs_manager *m, bs_txn txn, bs_node node) {
 }
 
 /* The listings of one transaction agree with each other. */
-static void audit_one(bs_manager *m, bs_txn txn, const bs_board *board) {
+static void audit_one(const bs_manager *m, bs_txn txn, const bs_board *board) {
   bs_reply doing = DONE(bs_doing(m, txn)), row;
   bs_slots behind = bs_waits_for(m, txn).slots;
   size_t place;
   for (place = 0; (row = bs_lock_at(m, txn, place)).status == BS_DONE; place++) {
     bool waits = doing.count == BS_WAITS && same_node(doing.node, row.node);
-    WANT(bs_mode_at(m, txn.slot, row.node).mode == row.mode && (row.mode != BS_NL || waits));
+    WANT(bs_held(m, txn, row.node).mode == row.mode && (row.mode != BS_NL || waits));
     WANT(row.wanted == (waits ? doing.mode : BS_NL));
     WANT(bs_has(bs_holders(m, row.node).slots, txn.slot) == (row.mode != BS_NL));
     WANT(row.mode == BS_NL || bs_children(m, txn, row.node).count == row.count);
@@ -681,7 +700,7 @@ static void audit_one(bs_manager *m, bs_txn txn, const bs_board *board) {
 /* All listings, of one moment. */
 static bs_reply audit(void) {
   static bs_board board; /* with the latch held */
-  bs_manager *m = bs_table_hold(&table);
+  const bs_manager *m = bs_table_hold(table);
   bs_reply reply = DONE(bs_read_board(m, &board));
   uint32_t slot;
   for (slot = 0; slot < BS_SLOTS; slot++) {
@@ -689,17 +708,17 @@ static bs_reply audit(void) {
     WANT((living.status == BS_DONE ? living.txn.age : 0) == board.ages[slot]);
     if (living.status == BS_DONE) audit_one(m, living.txn, &board);
   }
-  bs_table_let_go(&table);
+  bs_table_let_go(table);
   return reply;
 }
 
 static bs_reply any_command(struct session *s) {
   switch (pick(s, 32)) {
     case 0: return ask(s, any_node(s), any_mode(s));
-    case 1: return as_served(bs_table_try(&table, s->txn, any_node(s), any_mode(s)));
-    case 2: return as_served(bs_table_unlock(&table, s->txn, any_node(s), NULL));
-    case 3: return as_served(bs_table_escalate(&table, s->txn, any_node(s), NULL));
-    case 4: return as_served(bs_table_settle(&table, s->txn, NULL));
+    case 1: return as_served(bs_table_try(table, s->txn, any_node(s), any_mode(s)));
+    case 2: return as_served(bs_table_unlock(table, s->txn, any_node(s), NULL));
+    case 3: return as_served(bs_table_escalate(table, s->txn, any_node(s), NULL));
+    case 4: return as_served(bs_table_settle(table, s->txn, NULL));
     case 5: case 6: return insert(s);
     case 7: return remove_record(s);
     case 8: return rekey(s);
@@ -712,8 +731,8 @@ static bs_reply any_command(struct session *s) {
     case 18: return pick(s, 4) == 0 ? audit() : add(s);
     case 19: case 20: return ask_row(s, BS_X);
     case 21: case 22: return ask_row(s, BS_S);
-    case 23: return as_served(bs_table_unlock_row(&table, s->txn, row_files[pick(s, FILES)], pick(s, ROWS), NULL));
-    case 24: return as_served(bs_table_escalate_rows(&table, s->txn, any_node(s), NULL));
+    case 23: return as_served(bs_table_unlock_row(table, s->txn, row_files[pick(s, FILES)], pick(s, ROWS), NULL));
+    case 24: return run_rows(s);
     case 25: return change_index(s);
     default: return add(s);
   }
@@ -728,16 +747,15 @@ static void name_game(struct session *s, bool is_game) {
 static void one_transaction(struct session *s) {
   bs_status status = BS_DONE;
   size_t i, count = 1 + pick(s, 6);
-  s->txn = as_begun(DONE(bs_table_begin_until(&table, NULL))).txn;
+  s->txn = as_begun(DONE(bs_table_begin_in_turn(table, NULL))).txn;
   s->is_game = pick(s, 6) == 0;
   name_game(s, s->is_game);
   for (i = 0; i < count && status != BS_VICTIM && status != BS_TXN_CONDEMNED; i++) status = any_command(s).status;
   if (status == BS_VICTIM) s->victims++;
   name_game(s, false);
-  if (status == BS_VICTIM || pick(s, 8) == 0) status = as_served(bs_table_abort_rows(&table, s->txn, NULL)).status;
-  else if (pick(s, 8) == 0) status = as_served(bs_table_commit(&table, s->txn, NULL)).status;
-  else status = as_served(bs_table_commit_rows(&table, s->txn, NULL)).status;
-  if (status == BS_TXN_CONDEMNED) status = as_served(bs_table_abort(&table, s->txn, NULL)).status;
+  if (status == BS_VICTIM || pick(s, 8) == 0) status = as_served(bs_table_abort(table, s->txn, NULL)).status;
+  else status = as_served(bs_table_commit(table, s->txn, NULL)).status;
+  if (status == BS_TXN_CONDEMNED) status = as_served(bs_table_abort(table, s->txn, NULL)).status;
   WANT(status == BS_DONE || (status == BS_NO_SUCH_TXN && s->is_game));
 }
 
@@ -785,18 +803,18 @@ static void *look_on(void *arg) {
   bs_board board;
   uint64_t epoch = 0;
   memset(&board, 0, sizeof board);
-  DONE(bs_table_watch(&table, &watcher));
+  DONE(bs_table_watch(table, &watcher));
   while (goes_on()) {
     static const bs_slots none = { { 0 } };
     bs_slots suspects;
-    DONE(bs_table_look(&watcher, &board));
+    DONE(bs_look(&watcher, &board));
     WANT(board.epoch >= epoch && is_sound(&board));
     epoch = board.epoch;
     suspects = bs_suspects(&board).slots;
     WANT(!l->is_at_block || same_slots(suspects, none));
     l->looks++;
   }
-  DONE(bs_table_watch_end(&watcher));
+  DONE(bs_watch_end(&watcher));
   return NULL;
 }
 
@@ -825,7 +843,7 @@ static void compare_end(const bs_notice *n) {
 
 static void compare_named(const struct call *call) {
   const struct served *s = &log_of_calls[waiting_at[call->txn.slot]];
-  bool is_cancel = call->kind == CANCEL || call->kind == CANCEL_ROWS;
+  bool is_cancel = call->kind == CANCEL;
   if (!s->has_slept || !same_txn(s->call.txn, call->txn)) return;
   WANT(s->came.status == BS_NO_SUCH_TXN || (is_cancel && s->came.status == BS_NOT_WAITING));
 }
@@ -833,16 +851,16 @@ static void compare_named(const struct call *call) {
 static void replay_one(bs_manager *m, size_t at, bs_notices *told) {
   const struct served *s = &log_of_calls[at];
   bool is_by_txn = s->call.kind <= INDEX_BY && s->call.kind != BEGIN;
-  bool was_waiting = is_by_txn && (bs_waiting)(m, s->call.txn).status == BS_WAITING;
+  bool was_waiting = is_by_txn && wait_of(m, s->call.txn).status == BS_WAITING;
   bs_reply reply = made(m, &s->call, told);
   size_t i;
   WANT(same_reply(reply, s->reply));
   WANT(told->count == s->told_count && (told->count == 0 || sum_of(told) == s->told_sum));
-  WANT((bs_accepted)(m).count == s->accepted);
+  WANT(accepted_by(m) == s->accepted);
   if (reply.status == BS_WAITING) waiting_at[s->call.txn.slot] = at;
   for (i = 0; i < told->count; i++) compare_end(&told->at[i]);
   if (reply.status != BS_DONE || !was_waiting) return;
-  if (s->call.kind >= CANCEL && s->call.kind <= ABORT_ROWS) compare_named(&s->call);
+  if (s->call.kind >= CANCEL && s->call.kind <= ABORT) compare_named(&s->call);
 }
 
 /* Behind all sessions: a manager of one thread, asked the same, is the same. */
@@ -851,15 +869,17 @@ static void replay(uint32_t detect, uint32_t victims, uint32_t most) {
   static bs_board ours, theirs;
   bs_manager m = BS_NO_MANAGER_HERE;
   bs_counts counts, their_counts;
+  bs_options options;
   size_t i;
   memset(&counts, 0, sizeof counts);
   memset(&their_counts, 0, sizeof their_counts);
-  DONE(bs_make_choosing(&m, detect, victims, most));
+  options = options_of(detect, victims, most);
+  DONE(bs_make(&m, &options));
   for (i = 0; i < log_count; i++) replay_one(&m, i, &told);
-  DONE(bs_table_read_board(&table, &ours));
+  DONE(ASK(table, bs_read_board, &ours));
   DONE(bs_read_board(&m, &theirs));
   WANT(memcmp(&ours, &theirs, sizeof ours) == 0);
-  DONE(bs_table_counters(&table, &counts));
+  DONE(ASK(table, bs_counters, &counts));
   DONE(bs_counters(&m, &their_counts));
   WANT(memcmp(&counts, &their_counts, sizeof counts) == 0);
   for (i = 0; i < BS_SLOTS; i++) WANT(ours.ages[i] == 0);
@@ -917,7 +937,8 @@ static void crowd(const char *name, uint32_t detect, uint32_t victims, uint32_t 
   }
   replay(detect, victims, most);
   compare_additions(sessions);
-  DONE(bs_table_end(&table));
+  DONE(bs_table_end(table));
+  DONE(bs_table_free(&table));
   fprintf(stderr, "%s: %lu calls, %ld sleeps, %ld too late, %ld victims, %ld other keys, %ld new indexes, %ld looks\n",
           name, (unsigned long)log_count, slept, late, fell, others, changed_indexes, looks);
   printf("%s\n", name);

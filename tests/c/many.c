@@ -40,9 +40,9 @@ static bs_txn begin(void) {
 }
 
 static void make_graph(uint32_t nodes) {
-  bs_options options = bs_usual(), was;
+  bs_options options = { 0, 0, 0, 0, 0 }, was;
   options.nodes = nodes;
-  done(bs_make_with(&m, &options));
+  done(bs_make(&m, &options));
   done(bs_limits(&m, &was));
   WANT(was.nodes == nodes && was.transactions == BS_SLOTS && was.detect == BS_AT_BLOCK && was.victims == BS_YOUNGEST);
   db = done(bs_add_inner(&m, NULL, 0)).node;

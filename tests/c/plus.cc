@@ -2,32 +2,45 @@
 #include "burlapslate.h"
 #include "burlapslate_dump.h"
 
-static bs_table table = BS_NO_TABLE_HERE;
+#include <pthread.h>
+
+static bs_table *table;
 static bs_node root;
 
 static void *ask(void *arg) {
   bs_txn *txn = static_cast<bs_txn *>(arg);
-  bs_reply reply = bs_table_lock(&table, *txn, root, BS_X);
-  return reply.status == BS_DONE && bs_table_commit(&table, *txn, NULL).status == BS_DONE ? arg : NULL;
+  bs_reply reply = bs_table_lock(table, *txn, root, BS_X, NULL);
+  return reply.status == BS_DONE && bs_table_commit(table, *txn, NULL).status == BS_DONE ? arg : NULL;
+}
+
+static bool waits(bs_txn txn) {
+  uint64_t doing = bs_doing(bs_table_hold(table), txn).count;
+  bs_table_let_go(table);
+  return doing == BS_WAITS;
 }
 
 static bool shares() {
   pthread_t thread;
   void *came = NULL;
-  if (bs_table_make(&table, BS_BY_WATCHER, BS_FEWEST, 2).status != BS_DONE) return false;
-  root = bs_table_add_inner(&table, NULL, 0).node;
-  bs_txn a = bs_table_begin(&table).txn, b = bs_table_begin(&table).txn;
-  if (bs_table_watch_thread(&table, 0).status != BS_DONE) return false;
-  if (bs_table_lock(&table, a, root, BS_S).status != BS_DONE) return false;
+  bs_options options = {};
+  options.detect = BS_BY_WATCHER;
+  options.victims = BS_FEWEST;
+  options.transactions = 2;
+  if (bs_table_make(&table, &options).status != BS_DONE) return false;
+  root = bs_table_add_inner(table, NULL, 0).node;
+  bs_txn a = bs_table_begin(table).txn, b = bs_table_begin(table).txn;
+  if (bs_table_watch_thread(table, 0).status != BS_DONE) return false;
+  if (bs_table_lock(table, a, root, BS_S, NULL).status != BS_DONE) return false;
   if (pthread_create(&thread, NULL, ask, &b) != 0) return false;
-  while (bs_table_waiting(&table, b).status != BS_WAITING) continue;
-  bs_command commit = bs_do_commit(a);
-  if (bs_table_run(&table, &commit, 1) != 1) return false;
+  while (!waits(b)) continue;
+  bs_command list[2] = {};
+  list[0] = bs_do(BS_DO_COMMIT, a);
+  if (bs_table_run(table, list, 2) != 1 || list[1].reply.status != BS_BAD_NUMBER) return false;
   if (pthread_join(thread, &came) != 0 || came == NULL) return false;
   FILE *nowhere = fopen("/dev/null", "w");
-  bool is_written = nowhere != NULL && bs_table_dump(&table, nowhere).status == BS_DONE;
+  bool is_written = nowhere != NULL && bs_table_dump(table, nowhere).status == BS_DONE;
   if (nowhere != NULL) fclose(nowhere);
-  return is_written && bs_table_end(&table).status == BS_DONE;
+  return is_written && bs_table_end(table).status == BS_DONE && bs_table_free(&table).status == BS_DONE;
 }
 
 int main() {

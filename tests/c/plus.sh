@@ -12,7 +12,7 @@ work=$(mktemp -d) || exit 2
 trap 'rm -rf "$work"' EXIT
 
 mapfile -t libraries < <("$top/tools/c_library.sh" 2>"$work/log")
-[ "${#libraries[@]}" -eq 2 ] || { cat "$work/log" >&2; exit 1; }
+[ "${#libraries[@]}" -eq 3 ] || { cat "$work/log" >&2; exit 1; }
 # shellcheck disable=SC2086 # CXX may have words behind the name.
 $compiler -pthread -Wall -Wextra -Werror -I"$top/include" -o "$work/plus" "$top/tests/c/plus.cc" "${libraries[@]}" || exit 1
 timeout 60 "$work/plus" || exit 1

@@ -1,6 +1,6 @@
 #!/usr/bin/env bash
 # races.sh [TOOL..]: runs the stories of a shared table and a small crowd under tools that look for races: `tsan`
-# (ThreadSanitizer, which sees what is compiled here: the header and the programs), `helgrind` and `drd` (valgrind's,
+# (ThreadSanitizer, which sees what is compiled here: the table and the programs), `helgrind` and `drd` (valgrind's,
 # which see the library too); all three where none is named. `short` stands for the stories alone, under the first of
 # them that is found, which takes seconds: where none is, it ends with status 77, not tried. races.supp says what is no
 # race. Prints a line for each run. Ends with status 1 where one reports anything or a program fails; a tool that is not
@@ -10,7 +10,7 @@ top=$(cd "$(dirname "$0")/../.." && pwd) || exit 2
 work=$(mktemp -d) || exit 2
 trap 'rm -rf "$work"' EXIT
 read -r -a libraries <<<"${RACES_LIBS:-$("$top/tools/c_library.sh" | tr '\n' ' ')}"
-[ "${#libraries[@]}" -eq 2 ] || exit 1
+[ "${#libraries[@]}" -eq 3 ] || exit 1
 [ $# -gt 0 ] || set -- tsan helgrind drd
 
 # compile TO PROGRAM WORD..: from the source of its name in this folder.
@@ -20,7 +20,7 @@ compile() {
   [ "$2" != shared ] || with+=(-Wl,--wrap=malloc,--wrap=realloc,--wrap=free)
   # shellcheck disable=SC2086 # CC may have words behind the name.
   $compiler -std=c99 -D_POSIX_C_SOURCE=200809L -pthread -Wall -Wextra -g -O1 -I"$top/include" -o "$work/$1" \
-    "$top/tests/c/$2.c" "${libraries[@]}" "${with[@]}"
+    -I"$top/c" "$top/tests/c/$2.c" "${libraries[@]:1}" "${with[@]}"
 }
 
 # quiet NAME COMMAND WORD..: whether the command ends with status 0; the tools end with 66 where they report anything.

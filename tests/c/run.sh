@@ -1,16 +1,17 @@
 #!/usr/bin/env bash
 # run.sh [--slots N]: compiles the stories over the C library, and runs them. Prints a line for each story, of one thread
-# and of a shared table, and for each setting of a crowd. A program with the headers of another library is refused. Then it
-# plants four faults in the header of the shared table, which the stories must find. Ends with status 1 where something is
-# not as wanted; where there is no C compiler it says so, and ends with status 77: not tried. CC names another compiler
-# than cc. N is the number of slots of the library, 128 or 1024 (tools/c_library.sh); faults are planted for 128 alone.
+# and of a shared table, and for each setting of a crowd. A program with the headers of another library is refused, and
+# one that gives a command a manager that is lent is not compiled. Then it plants four faults in the shared table, which
+# the stories must find. Ends with status 1 where something is not as wanted; where there is no C compiler it says so, and
+# ends with status 77: not tried. CC names another compiler than cc. N is the number of slots of the library, 128 or 1024
+# (tools/c_library.sh); faults are planted for 128 alone.
 set -uo pipefail
 top=$(cd "$(dirname "$0")/../.." && pwd) || exit 2
 slots=128
 if [ "${1:-}" = --slots ] && [ $# -eq 2 ]; then
   slots=$2
 elif [ $# -ne 0 ]; then
-  sed -n '2,6s/^# //p' "$0" >&2
+  sed -n '2,7s/^# //p' "$0" >&2
   exit 2
 fi
 headers=$("$top/tools/c_library.sh" --headers --slots "$slots") || exit 2
@@ -23,24 +24,49 @@ work=$(mktemp -d) || exit 2
 trap 'rm -rf "$work"' EXIT
 
 mapfile -t libraries < <("$top/tools/c_library.sh" --slots "$slots" 2>"$work/log")
-[ "${#libraries[@]}" -eq 2 ] || { cat "$work/log" >&2; exit 1; }
+[ "${#libraries[@]}" -eq 3 ] || { cat "$work/log" >&2; exit 1; }
 
-# compile PROGRAM WORD..: from the source of its name in this folder.
+# compile PROGRAM WORD..: from the source of its name in this folder. Those that look into a table have its source in them.
 compile() {
+  local with=("${libraries[@]}")
+  case $1 in
+    shared | crowd) with=(-I"$top/c" "${libraries[@]:1}") ;;
+  esac
   # shellcheck disable=SC2086 # CC may have words behind the name.
   $compiler -std=c99 -D_POSIX_C_SOURCE=200809L -pthread -Wall -Wextra -Werror -O1 -I"$headers" -o "$work/$1" \
-    "$top/tests/c/$1.c" "${libraries[@]}" "${@:2}"
+    "$top/tests/c/$1.c" "${with[@]}" "${@:2}"
 }
 
-# Each call with a manager has its twin with a table, but for what the table asks itself.
-for name in $(sed -n 's/^static inline [a-z_]* bs_\([a-z_]*\)(bs_manager \*manager.*/\1/p' "$top/include/burlapslate.h"); do
-  case $name in
-    make_choosing | ended) continue ;;
-  esac
-  grep -q "bs_table_$name(bs_table \*table" "$top/include/burlapslate_shared.h" && continue
-  echo "tests/c: there is no bs_table_$name" >&2
+# fails WORD..: says so, and ends the run.
+fails() {
+  echo "tests/c: $*" >&2
   exit 1
+}
+
+# Each command with a manager has its twin with a table, and no question has one.
+for name in $(sed -n 's/^static inline [a-z_]* bs_\([a-z_]*\)(bs_manager \*manager.*/\1/p' "$headers/burlapslate.h"); do
+  grep -Eq "bs_table_$name\(bs_table \*{1,2}table" "$headers/burlapslate_shared.h" || fails "there is no bs_table_$name"
 done
+for name in $(sed -n 's/^static inline [a-z_]* bs_\([a-z_]*\)(const bs_manager \*manager.*/\1/p' "$headers/burlapslate.h"); do
+  ! grep -q "bs_table_$name(" "$headers/burlapslate_shared.h" || fails "there is a bs_table_$name"
+done
+"$top/tools/names.sh" || exit 1
+
+# lends CALL: whether a program compiles that makes this call with what a table lends.
+lends() {
+  # shellcheck disable=SC2086 # CC may have words behind the name.
+  $compiler -std=c99 -D_POSIX_C_SOURCE=200809L -Werror -fsyntax-only -I"$headers" "-DCALL=$1" "$top/tests/c/lent.c" \
+    2>"$work/log"
+}
+for call in 'bs_held(lent, txn, node)' 'bs_verdict(lent, txn, node, BS_X)' 'bs_ended(lent)' 'bs_dump(lent, stdout)'; do
+  lends "$call" || { cat "$work/log" >&2; fails "$call does not compile with a manager that is lent"; }
+done
+for call in 'bs_lock(lent, txn, node, BS_X, told)' 'bs_commit(lent, txn, told)' 'bs_begin(lent)' 'bs_end(lent)' \
+  'bs_watch(lent, NULL)' 'bs_make(lent, NULL)'; do
+  ! lends "$call" || fails "$call compiles with a manager that is lent"
+  grep -q 'qualifier' "$work/log" || fails "$call does not compile for another reason"
+done
+echo "what_is_lent_is_asked_alone"
 
 compile stories -Wl,--wrap=malloc,--wrap=realloc,--wrap=free || exit 1
 timeout 60 "$work/stories" || exit 1
@@ -53,11 +79,26 @@ compile crowd || exit 1
 few=()
 [ "$slots" = 128 ] || few=(1 60)
 timeout 200 "$work/crowd" "${few[@]}" 2>"$work/log" || { cat "$work/log" >&2; exit 1; }
-headers=$work/other other=1024
+
+# Headers of another library. The last number of a version makes no difference.
+ours=$headers headers=$work/other other=1024
 [ "$slots" = 128 ] || other=128
+# refused STATUS: a program with these headers is refused so.
+refused() {
+  compile other_headers "-DREFUSED=$1" || exit 1
+  timeout 60 "$work/other_headers" || exit 1
+}
+# with NUMBER VALUE: our headers, with another number of the version.
+with() {
+  cp "$ours"/*.h "$headers/" && sed -i "s/^#define BS_VERSION_$1 .*/#define BS_VERSION_$1 $2/" "$headers/burlapslate.h"
+}
 "$top/tools/headers.sh" "$other" "$headers" || exit 1
-compile other_slots || exit 1
-timeout 60 "$work/other_slots" || exit 1
+refused BS_OTHER_SLOTS
+sed -i 's/^#define BS_VERSION_MINOR .*/#define BS_VERSION_MINOR 999/' "$headers/burlapslate.h" && refused BS_OTHER_VERSION
+with MINOR 999 && refused BS_OTHER_VERSION
+with MAJOR 9 && refused BS_OTHER_VERSION
+with PATCH 999 && compile stories -Wl,--wrap=malloc,--wrap=realloc,--wrap=free || exit 1
+timeout 60 "$work/stories" >"$work/log" || fails "a library of another last number is refused"
 [ "$slots" = 128 ] || exit 0
 "$top/tests/c/faults.sh" commit-forgets-to-wake early-return row-is-not-asked-again begin-passes-the-line \
-  "${libraries[@]}" || exit 1
+  "${libraries[@]:1}" || exit 1

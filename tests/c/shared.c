@@ -17,11 +17,9 @@
 static int refused_begins;
 
 static bs_reply noted_begin(bs_manager *m) {
-  bs_reply refused = bs_null();
-  refused.status = BS_NO_MEMORY;
   if (refused_begins == 0) return bs_begin(m);
   refused_begins--;
-  return refused;
+  return bs_call_only(BS_NO_MEMORY);
 }
 
 #define bs_begin(m) noted_begin(m)
@@ -36,29 +34,30 @@ static int noted_cond_init(pthread_cond_t *cond, const pthread_condattr_t *attri
   return pthread_cond_init(cond, attributes);
 }
 
-static int noted_cond_destroy(pthread_cond_t *cond);
+static bs_reply noted_end(bs_manager *m);
 static int noted_fprintf(FILE *out, const char *format, ...) __attribute__((format(printf, 2, 3)));
 
 #define pthread_cond_init noted_cond_init
-#define pthread_cond_destroy noted_cond_destroy
+#define bs_end(m) noted_end(m)
 #define fprintf noted_fprintf
 
-#include "burlapslate_dump.h"
+#include "burlapslate_shared.c"
+#include "burlapslate_dump.c"
 
 #undef pthread_cond_init
-#undef pthread_cond_destroy
+#undef bs_end
 #undef fprintf
 #undef bs_begin
 
 #include "threads.h"
 
-/* Where the inside of an ending table goes, it is noted how many sleep on it still. */
-static const bs_table_inside *ending;
+/* Where the manager of an ending table goes, it is noted how many sleep on the table still. */
+static const bs_table *ending;
 static size_t asleep_at_end;
 
-static int noted_cond_destroy(pthread_cond_t *cond) {
-  if (ending != NULL && cond == &ending->ended[0]) asleep_at_end = ending->sleepers;
-  return pthread_cond_destroy(cond);
+static bs_reply noted_end(bs_manager *m) {
+  if (ending != NULL) asleep_at_end = ending->sleepers;
+  return bs_end(m);
 }
 
 /* ------------------------------------------------------------------------------------------------
@@ -66,7 +65,7 @@ static int noted_cond_destroy(pthread_cond_t *cond) {
  */
 
 /* A file under a root, with an index of two intervals, parted at 100, and a record in each. */
-static bs_table table = BS_NO_TABLE_HERE;
+static bs_table *table;
 
 /* Where the header makes text, nobody else uses the table: so its latch is free. */
 static size_t texts;
@@ -76,8 +75,8 @@ static int noted_fprintf(FILE *out, const char *format, ...) {
   va_list words;
   int written;
   if (!is_held) {
-    WANT(pthread_mutex_trylock(&table.latch) == 0);
-    pthread_mutex_unlock(&table.latch);
+    WANT(pthread_mutex_trylock(&table->latch) == 0);
+    pthread_mutex_unlock(&table->latch);
   }
   texts++;
   va_start(words, format);
@@ -89,26 +88,40 @@ static int noted_fprintf(FILE *out, const char *format, ...) {
 static bs_node root, file, by_key, below, above, low, high;
 static bs_notices told;
 
+static void close_table(void) {
+  DONE(bs_table_end(table));
+  DONE(bs_table_free(&table));
+}
+
+/* Ends it, and sees that nobody sleeps on it any more when its manager goes. */
+static void end_as_all_leave(void) {
+  ending = table;
+  asleep_at_end = SIZE_MAX;
+  DONE(bs_table_end(table));
+  ending = NULL;
+  WANT(asleep_at_end == 0);
+}
+
 static bs_txn begin(void) {
-  return DONE(bs_table_begin(&table)).txn;
+  return DONE(bs_table_begin(table)).txn;
 }
 
 static void set_up(uint32_t detect) {
   static const uint64_t bound = 100, keys[2] = { 50, 200 };
   bs_txn t;
-  DONE(bs_table_make(&table, detect, BS_YOUNGEST, BS_SLOTS));
-  root = DONE(bs_table_add_inner(&table, NULL, 0)).node;
-  file = DONE(bs_table_add_file(&table, &root, 1)).node;
-  by_key = DONE(bs_table_add_index(&table, &root, 1, file, &bound, 1)).node;
-  below = DONE(bs_table_interval(&table, by_key, 0)).node;
-  above = DONE(bs_table_interval_of(&table, by_key, 100)).node;
+  DONE(make_table(&table, detect, BS_YOUNGEST, BS_SLOTS));
+  root = DONE(bs_table_add_inner(table, NULL, 0)).node;
+  file = DONE(bs_table_add_file(table, &root, 1)).node;
+  by_key = DONE(bs_table_add_index(table, &root, 1, file, &bound, 1)).node;
+  below = DONE(ASK(table, bs_interval, by_key, 0)).node;
+  above = DONE(ASK(table, bs_interval_of, by_key, 100)).node;
   t = begin();
-  DONE(bs_table_lock_path(&table, t, file, BS_IX, NULL));
-  DONE(bs_table_lock_path(&table, t, below, BS_IX, NULL));
-  DONE(bs_table_lock_path(&table, t, above, BS_IX, NULL));
-  low = DONE(bs_table_insert(&table, t, file, &keys[0], 1)).node;
-  high = DONE(bs_table_insert(&table, t, file, &keys[1], 1)).node;
-  DONE(bs_table_commit(&table, t, NULL));
+  DONE(bs_table_lock_path(table, t, file, BS_IX, NULL));
+  DONE(bs_table_lock_path(table, t, below, BS_IX, NULL));
+  DONE(bs_table_lock_path(table, t, above, BS_IX, NULL));
+  low = DONE(bs_table_insert(table, t, file, &keys[0], 1)).node;
+  high = DONE(bs_table_insert(table, t, file, &keys[1], 1)).node;
+  DONE(bs_table_commit(table, t, NULL));
 }
 
 struct asker {
@@ -123,22 +136,22 @@ struct asker {
 
 static void *ask(void *arg) {
   struct asker *a = (struct asker *)arg;
-  if (a->by_path) a->reply = bs_table_lock_path(&table, a->txn, a->node, a->mode, a->until);
-  else a->reply = bs_table_lock_until(&table, a->txn, a->node, a->mode, a->until);
+  if (a->by_path) a->reply = bs_table_lock_path(table, a->txn, a->node, a->mode, a->until);
+  else a->reply = bs_table_lock(table, a->txn, a->node, a->mode, a->until);
   return NULL;
 }
 
 /* How many threads sleep in the table. */
 static size_t sleepers(void) {
   size_t count;
-  pthread_mutex_lock(&table.latch);
-  count = table.in->sleepers;
-  pthread_mutex_unlock(&table.latch);
+  pthread_mutex_lock(&table->latch);
+  count = table->sleepers;
+  pthread_mutex_unlock(&table->latch);
   return count;
 }
 
 static void await_wait(bs_txn txn) {
-  while (bs_table_waiting(&table, txn).status != BS_WAITING) nap();
+  while (wait_in(table, txn).status != BS_WAITING) nap();
 }
 
 static void ask_in_thread(struct asker *a, bs_txn txn, bs_node node, bs_mode mode, bool by_path) {
@@ -177,7 +190,7 @@ static bool is_told(size_t place, bs_txn txn, uint32_t kind) {
 }
 
 static void holds(bs_txn txn, bs_node node, bs_mode mode) {
-  WANT(bs_table_held(&table, txn, node).mode == mode);
+  WANT(ASK(table, bs_held, txn, node).mode == mode);
 }
 
 /* ------------------------------------------------------------------------------------------------
@@ -189,14 +202,14 @@ static void a_commit_grants(void) {
   bs_txn a, b, c;
   set_up(BS_AT_BLOCK);
   a = begin(), b = begin(), c = begin();
-  DONE(bs_table_lock(&table, a, root, BS_X));
+  DONE(bs_table_lock(table, a, root, BS_X, NULL));
   send(&one, b, root, BS_S);
   send(&two, c, root, BS_IS);
-  DONE(bs_table_commit(&table, a, &told));
+  DONE(bs_table_commit(table, a, &told));
   WANT(told.count == 2 && is_told(0, b, BS_TOLD_GRANTED) && is_told(1, c, BS_TOLD_GRANTED));
   WANT(back(&one, BS_DONE).mode == BS_S && back(&two, BS_DONE).mode == BS_IS);
   holds(b, root, BS_S);
-  DONE(bs_table_end(&table));
+  close_table();
 }
 
 static void an_unlock_grants(void) {
@@ -204,11 +217,11 @@ static void an_unlock_grants(void) {
   bs_txn a, b;
   set_up(BS_AT_BLOCK);
   a = begin(), b = begin();
-  DONE(bs_table_lock(&table, a, root, BS_X));
+  DONE(bs_table_lock(table, a, root, BS_X, NULL));
   send(&one, b, root, BS_X);
-  DONE(bs_table_unlock(&table, a, root, NULL));
+  DONE(bs_table_unlock(table, a, root, NULL));
   WANT(back(&one, BS_DONE).mode == BS_X);
-  DONE(bs_table_end(&table));
+  close_table();
 }
 
 /* One commit wakes all, also those in slots from 64 on. */
@@ -218,12 +231,12 @@ static void a_commit_wakes_all(void) {
   size_t i;
   set_up(BS_AT_BLOCK);
   a = begin();
-  DONE(bs_table_lock(&table, a, root, BS_X));
+  DONE(bs_table_lock(table, a, root, BS_X, NULL));
   for (i = 0; i < BS_SLOTS - 1; i++) send(&all[i], begin(), root, BS_IS);
-  DONE(bs_table_commit(&table, a, &told));
+  DONE(bs_table_commit(table, a, &told));
   WANT(told.count == BS_SLOTS - 1);
   for (i = 0; i < BS_SLOTS - 1; i++) WANT(back(&all[i], BS_DONE).mode == BS_IS);
-  DONE(bs_table_end(&table));
+  close_table();
 }
 
 /* The younger sleeps, and the older closes the cycle in this way. */
@@ -232,15 +245,15 @@ static void closes_a_cycle(void (*asks)(struct asker *a, bs_txn txn, bs_node nod
   bs_txn a, b;
   set_up(BS_AT_BLOCK);
   a = begin(), b = begin();
-  DONE(bs_table_lock(&table, a, root, BS_S));
-  DONE(bs_table_lock(&table, b, root, BS_S));
+  DONE(bs_table_lock(table, a, root, BS_S, NULL));
+  DONE(bs_table_lock(table, b, root, BS_S, NULL));
   send(&one, b, root, BS_X);
   asks(&two, a, root, BS_X);
   back(&one, BS_VICTIM);
-  ANSWERS(BS_TXN_CONDEMNED, bs_table_lock(&table, b, root, BS_S));
-  DONE(bs_table_abort(&table, b, NULL));
+  ANSWERS(BS_TXN_CONDEMNED, bs_table_lock(table, b, root, BS_S, NULL));
+  DONE(bs_table_abort(table, b, NULL));
   WANT(back(&two, BS_DONE).mode == BS_X);
-  DONE(bs_table_end(&table));
+  close_table();
 }
 
 static void a_lock_condemns(void) {
@@ -257,14 +270,14 @@ static void an_asker_falls(void) {
   bs_txn a, b;
   set_up(BS_AT_BLOCK);
   a = begin(), b = begin();
-  DONE(bs_table_lock(&table, a, root, BS_S));
-  DONE(bs_table_lock(&table, b, root, BS_S));
+  DONE(bs_table_lock(table, a, root, BS_S, NULL));
+  DONE(bs_table_lock(table, b, root, BS_S, NULL));
   send(&one, a, root, BS_X);
-  ANSWERS(BS_VICTIM, bs_table_lock(&table, b, root, BS_X));
-  DONE(bs_table_abort(&table, b, &told));
+  ANSWERS(BS_VICTIM, bs_table_lock(table, b, root, BS_X, NULL));
+  DONE(bs_table_abort(table, b, &told));
   WANT(told.count == 1 && is_told(0, a, BS_TOLD_GRANTED));
   back(&one, BS_DONE);
-  DONE(bs_table_end(&table));
+  close_table();
 }
 
 static void a_settle_condemns(void) {
@@ -272,16 +285,16 @@ static void a_settle_condemns(void) {
   bs_txn a, b;
   set_up(BS_BY_WATCHER);
   a = begin(), b = begin();
-  DONE(bs_table_lock(&table, a, root, BS_S));
-  DONE(bs_table_lock(&table, b, root, BS_S));
+  DONE(bs_table_lock(table, a, root, BS_S, NULL));
+  DONE(bs_table_lock(table, b, root, BS_S, NULL));
   send(&one, a, root, BS_X);
   send(&two, b, root, BS_X);
-  DONE(bs_table_settle(&table, a, &told));
+  DONE(bs_table_settle(table, a, &told));
   WANT(told.count == 1 && is_told(0, b, BS_TOLD_VICTIM));
   back(&two, BS_VICTIM);
-  DONE(bs_table_abort(&table, b, NULL));
+  DONE(bs_table_abort(table, b, NULL));
   back(&one, BS_DONE);
-  DONE(bs_table_end(&table));
+  close_table();
 }
 
 static void a_rekey_moves(void) {
@@ -289,16 +302,16 @@ static void a_rekey_moves(void) {
   bs_txn a, b;
   set_up(BS_AT_BLOCK);
   a = begin(), b = begin();
-  DONE(bs_table_lock_path(&table, a, low, BS_X, NULL));
-  DONE(bs_table_lock_path(&table, a, above, BS_IX, NULL));
-  DONE(bs_table_lock_path(&table, b, below, BS_IX, NULL));
-  DONE(bs_table_lock(&table, b, file, BS_IX));
+  DONE(bs_table_lock_path(table, a, low, BS_X, NULL));
+  DONE(bs_table_lock_path(table, a, above, BS_IX, NULL));
+  DONE(bs_table_lock_path(table, b, below, BS_IX, NULL));
+  DONE(bs_table_lock(table, b, file, BS_IX, NULL));
   send(&one, b, low, BS_X);
-  DONE(bs_table_rekey(&table, a, low, by_key, 150, &told));
+  DONE(bs_table_rekey(table, a, low, by_key, 150, &told));
   WANT(told.count == 1 && is_told(0, b, BS_TOLD_MOVED));
   back(&one, BS_MOVED);
-  WANT(bs_table_key(&table, low, 0).count == 150);
-  DONE(bs_table_end(&table));
+  WANT(ASK(table, bs_key, low, 0).count == 150);
+  close_table();
 }
 
 static void a_file_moves(void) {
@@ -306,16 +319,16 @@ static void a_file_moves(void) {
   bs_node other;
   bs_txn a, b;
   set_up(BS_AT_BLOCK);
-  other = DONE(bs_table_add_inner(&table, NULL, 0)).node;
+  other = DONE(bs_table_add_inner(table, NULL, 0)).node;
   a = begin(), b = begin();
-  DONE(bs_table_lock_path(&table, a, file, BS_X, NULL));
-  DONE(bs_table_lock(&table, a, other, BS_IX));
-  DONE(bs_table_lock(&table, b, root, BS_IS));
+  DONE(bs_table_lock_path(table, a, file, BS_X, NULL));
+  DONE(bs_table_lock(table, a, other, BS_IX, NULL));
+  DONE(bs_table_lock(table, b, root, BS_IS, NULL));
   send(&one, b, file, BS_S);
-  DONE(bs_table_move(&table, a, file, &other, 1, NULL));
+  DONE(bs_table_move(table, a, file, &other, 1, NULL));
   back(&one, BS_MOVED);
-  WANT(same_node(bs_table_parent(&table, file, 0).node, other));
-  DONE(bs_table_end(&table));
+  WANT(same_node(ASK(table, bs_parent, file, 0).node, other));
+  close_table();
 }
 
 static void a_record_goes(void) {
@@ -323,13 +336,13 @@ static void a_record_goes(void) {
   bs_txn a, b;
   set_up(BS_AT_BLOCK);
   a = begin(), b = begin();
-  DONE(bs_table_lock_path(&table, a, low, BS_X, NULL));
+  DONE(bs_table_lock_path(table, a, low, BS_X, NULL));
   send_by_path(&one, b, low, BS_S);
-  DONE(bs_table_delete(&table, a, low, &told));
+  DONE(bs_table_delete(table, a, low, &told));
   WANT(told.count == 1 && is_told(0, b, BS_TOLD_GONE));
   back(&one, BS_GONE);
-  ANSWERS(BS_NO_SUCH_NODE, bs_table_kind(&table, low));
-  DONE(bs_table_end(&table));
+  ANSWERS(BS_NO_SUCH_NODE, ASK(table, bs_kind, low));
+  close_table();
 }
 
 /* An escalation releases a child, for which a reader waits that came by another parent. */
@@ -339,25 +352,25 @@ static void a_drop_ends_sleeps(void) {
   bs_node area, under;
   bs_txn a, b, c;
   set_up(BS_AT_BLOCK);
-  area = DONE(bs_table_add_inner(&table, &root, 1)).node;
-  under = DONE(bs_table_add_file(&table, &area, 1)).node;
+  area = DONE(bs_table_add_inner(table, &root, 1)).node;
+  under = DONE(bs_table_add_file(table, &area, 1)).node;
   a = begin(), b = begin(), c = begin();
-  DONE(bs_table_lock_path(&table, a, under, BS_X, NULL));
-  DONE(bs_table_lock(&table, a, area, BS_X));
-  DONE(bs_table_lock(&table, b, root, BS_IS));
+  DONE(bs_table_lock_path(table, a, under, BS_X, NULL));
+  DONE(bs_table_lock(table, a, area, BS_X, NULL));
+  DONE(bs_table_lock(table, b, root, BS_IS, NULL));
   send(&one, b, area, BS_S);
   send_by_path(&two, c, under, BS_X);
-  ANSWERS(BS_HAS_CHILDREN, bs_table_drop(&table, a, area, NULL));
-  DONE(bs_table_drop(&table, a, under, &told));
+  ANSWERS(BS_HAS_CHILDREN, bs_table_drop(table, a, area, NULL));
+  DONE(bs_table_drop(table, a, under, &told));
   WANT(told.count == 0);
-  DONE(bs_table_drop(&table, a, area, &told));
+  DONE(bs_table_drop(table, a, area, &told));
   WANT(told.count == 2 && is_told(0, b, BS_TOLD_GONE) && is_told(1, c, BS_TOLD_GONE));
   back(&one, BS_GONE);
   back(&two, BS_GONE);
   holds(c, root, BS_IX);
-  ANSWERS(BS_NO_SUCH_NODE, bs_table_lock_path(&table, c, under, BS_X, NULL));
-  ANSWERS(BS_NO_SUCH_NODE, bs_table_lock(&table, b, area, BS_S));
-  DONE(bs_table_end(&table));
+  ANSWERS(BS_NO_SUCH_NODE, bs_table_lock_path(table, c, under, BS_X, NULL));
+  ANSWERS(BS_NO_SUCH_NODE, bs_table_lock(table, b, area, BS_S, NULL));
+  close_table();
 }
 
 static void grants_by(bs_reply (*escalate)(bs_table *, bs_txn, bs_node, bs_notices *)) {
@@ -366,22 +379,22 @@ static void grants_by(bs_reply (*escalate)(bs_table *, bs_txn, bs_node, bs_notic
   bs_reply reply;
   bs_txn a, b;
   set_up(BS_AT_BLOCK);
-  parents[0] = DONE(bs_table_add_inner(&table, &root, 1)).node;
-  parents[1] = DONE(bs_table_add_inner(&table, &root, 1)).node;
-  child = DONE(bs_table_add_inner(&table, parents, 2)).node;
+  parents[0] = DONE(bs_table_add_inner(table, &root, 1)).node;
+  parents[1] = DONE(bs_table_add_inner(table, &root, 1)).node;
+  child = DONE(bs_table_add_inner(table, parents, 2)).node;
   a = begin(), b = begin();
-  DONE(bs_table_lock_path(&table, a, child, BS_IX, NULL));
-  DONE(bs_table_lock_path(&table, b, parents[1], BS_IS, NULL));
+  DONE(bs_table_lock_path(table, a, child, BS_IX, NULL));
+  DONE(bs_table_lock_path(table, b, parents[1], BS_IS, NULL));
   send(&one, b, child, BS_S);
-  reply = DONE(escalate(&table, a, parents[0], NULL));
+  reply = DONE(escalate(table, a, parents[0], NULL));
   WANT(reply.mode == BS_X && reply.released == 1);
   WANT(back(&one, BS_DONE).mode == BS_S);
-  DONE(bs_table_end(&table));
+  close_table();
 }
 
 static void an_escalation_grants(void) {
   grants_by(bs_table_escalate);
-  grants_by(bs_table_escalate_rows);
+  grants_by(bs_table_escalate);
 }
 
 /* Another thread takes the wait back: the transaction is active then. */
@@ -390,14 +403,14 @@ static void a_cancel_ends_a_sleep(void) {
   bs_txn a, b;
   set_up(BS_AT_BLOCK);
   a = begin(), b = begin();
-  DONE(bs_table_lock(&table, a, root, BS_X));
+  DONE(bs_table_lock(table, a, root, BS_X, NULL));
   send(&one, b, root, BS_X);
-  DONE(bs_table_cancel(&table, b, &told));
+  DONE(bs_table_cancel(table, b, &told));
   WANT(told.count == 0);
   back(&one, BS_NOT_WAITING);
-  ANSWERS(BS_WOULD_BLOCK, bs_table_try(&table, b, root, BS_IS));
-  ANSWERS(BS_NOT_WAITING, bs_table_cancel(&table, b, NULL));
-  DONE(bs_table_end(&table));
+  ANSWERS(BS_WOULD_BLOCK, bs_table_try(table, b, root, BS_IS));
+  ANSWERS(BS_NOT_WAITING, bs_table_cancel(table, b, NULL));
+  close_table();
 }
 
 /* And who stood behind it is granted. */
@@ -406,13 +419,13 @@ static void a_cancel_grants(void) {
   bs_txn a, b, c;
   set_up(BS_AT_BLOCK);
   a = begin(), b = begin(), c = begin();
-  DONE(bs_table_lock(&table, a, root, BS_S));
+  DONE(bs_table_lock(table, a, root, BS_S, NULL));
   send(&one, b, root, BS_X);
   send(&two, c, root, BS_S);
-  DONE(bs_table_cancel(&table, b, NULL));
+  DONE(bs_table_cancel(table, b, NULL));
   back(&one, BS_NOT_WAITING);
   back(&two, BS_DONE);
-  DONE(bs_table_end(&table));
+  close_table();
 }
 
 /* Another thread ends the transaction, and one that begins then may have its slot. */
@@ -421,20 +434,20 @@ static void an_abort_ends_a_sleep(void) {
   bs_txn a, b, c;
   set_up(BS_AT_BLOCK);
   a = begin(), b = begin();
-  DONE(bs_table_lock(&table, a, root, BS_X));
+  DONE(bs_table_lock(table, a, root, BS_X, NULL));
   send(&one, b, root, BS_X);
-  DONE(bs_table_abort(&table, b, NULL));
+  DONE(bs_table_abort(table, b, NULL));
   c = begin();
   WANT(c.slot == b.slot && c.age != b.age);
   back(&one, BS_NO_SUCH_TXN);
-  DONE(bs_table_end(&table));
+  close_table();
 }
 
 /* A thread leaves its transaction open and ends. */
 static void *leave_open(void *arg) {
   bs_txn *left = (bs_txn *)arg;
   *left = begin();
-  DONE(bs_table_lock_path(&table, *left, low, BS_X, NULL));
+  DONE(bs_table_lock_path(table, *left, low, BS_X, NULL));
   return NULL;
 }
 
@@ -447,9 +460,9 @@ static void a_thread_dies(void) {
   start(&thread, leave_open, &left);
   join(thread);
   send_by_path(&one, b, low, BS_X);
-  DONE(bs_table_abort(&table, left, NULL));
+  DONE(bs_table_abort(table, left, NULL));
   WANT(back(&one, BS_DONE).mode == BS_X);
-  DONE(bs_table_end(&table));
+  close_table();
 }
 
 /* It sleeps on through wakes that are none, and through what others do elsewhere. */
@@ -459,21 +472,21 @@ static void an_idle_wake(void) {
   int i;
   set_up(BS_AT_BLOCK);
   a = begin(), b = begin();
-  DONE(bs_table_lock_path(&table, a, low, BS_X, NULL));
+  DONE(bs_table_lock_path(table, a, low, BS_X, NULL));
   send_by_path(&one, b, low, BS_S);
   for (i = 0; i < 500; i++) {
-    pthread_mutex_lock(&table.latch);
-    pthread_cond_broadcast(&table.in->ended[b.slot]);
-    pthread_mutex_unlock(&table.latch);
+    pthread_mutex_lock(&table->latch);
+    pthread_cond_broadcast(&table->ended[b.slot]);
+    pthread_mutex_unlock(&table->latch);
     c = begin();
-    DONE(bs_table_lock_path(&table, c, high, BS_X, NULL));
-    DONE(bs_table_commit(&table, c, NULL));
-    ANSWERS(BS_WAITING, bs_table_waiting(&table, b));
+    DONE(bs_table_lock_path(table, c, high, BS_X, NULL));
+    DONE(bs_table_commit(table, c, NULL));
+    ANSWERS(BS_WAITING, wait_in(table, b));
   }
   WANT(one.reply.status == 0 && one.reply.mode == BS_NL);
-  DONE(bs_table_commit(&table, a, NULL));
+  DONE(bs_table_commit(table, a, NULL));
   WANT(back(&one, BS_DONE).mode == BS_S);
-  DONE(bs_table_end(&table));
+  close_table();
 }
 
 /* A thread that is cancelled in its sleep sleeps on, and ends behind its call. */
@@ -486,7 +499,7 @@ struct cancelled {
 
 static void *sleep_to_the_end(void *arg) {
   struct cancelled *c = (struct cancelled *)arg;
-  c->reply = c->begins ? bs_table_begin_until(&table, NULL) : bs_table_lock(&table, c->txn, root, BS_X);
+  c->reply = c->begins ? bs_table_begin_in_turn(table, NULL) : bs_table_lock(table, c->txn, root, BS_X, NULL);
   pthread_testcancel();
   return NULL;
 }
@@ -496,20 +509,20 @@ static void a_thread_is_cancelled(bool begins) {
   void *came = NULL;
   bs_txn a;
   memset(&c, 0, sizeof c);
-  DONE(bs_table_make(&table, BS_AT_BLOCK, BS_YOUNGEST, 2));
-  root = DONE(bs_table_add_inner(&table, NULL, 0)).node;
+  DONE(make_table(&table, BS_AT_BLOCK, BS_YOUNGEST, 2));
+  root = DONE(bs_table_add_inner(table, NULL, 0)).node;
   a = begin(), c.txn = begin();
   c.begins = begins;
-  DONE(bs_table_lock(&table, a, root, BS_X));
+  DONE(bs_table_lock(table, a, root, BS_X, NULL));
   start(&c.thread, sleep_to_the_end, &c);
   while (sleepers() != 1) nap();
   WANT(pthread_cancel(c.thread) == 0);
   nap();
   WANT(sleepers() == 1);
-  DONE(bs_table_commit(&table, a, NULL));
+  DONE(bs_table_commit(table, a, NULL));
   WANT(pthread_join(c.thread, &came) == 0 && came == PTHREAD_CANCELED);
   DONE(c.reply);
-  DONE(bs_table_end(&table));
+  close_table();
 }
 
 static void a_thread_is_cancelled_in_its_sleep(void) {
@@ -540,11 +553,11 @@ static void a_time_ahead(void) {
   size_t i, ms;
   for (i = 0; i < sizeof far / sizeof *far; i++) {
     struct timespec before = moment_in(0), time = bs_after(far[i]);
-    WANT(bs_is_time(&time) && lies_behind(&before, &time, far[i]));
+    WANT(table_is_time(&time) && lies_behind(&before, &time, far[i]));
   }
   for (ms = 0; ms < 1000; ms++) {
     struct timespec time = bs_after(ms);
-    WANT(bs_is_time(&time));
+    WANT(table_is_time(&time));
   }
 }
 
@@ -554,23 +567,23 @@ static void a_time_comes(void) {
   bs_txn a, b, c;
   set_up(BS_AT_BLOCK);
   a = begin(), b = begin(), c = begin();
-  DONE(bs_table_lock(&table, a, root, BS_S));
-  ANSWERS(BS_TIMED_OUT, bs_table_lock_until(&table, b, root, BS_X, &until));
+  DONE(bs_table_lock(table, a, root, BS_S, NULL));
+  ANSWERS(BS_TIMED_OUT, bs_table_lock(table, b, root, BS_X, &until));
   WANT(is_over(&until));
-  ANSWERS(BS_NOT_WAITING, bs_table_waiting(&table, b));
-  DONE(bs_table_lock_until(&table, b, root, BS_IS, &until));
+  ANSWERS(BS_NOT_WAITING, wait_in(table, b));
+  DONE(bs_table_lock(table, b, root, BS_IS, &until));
   wrong.tv_nsec = 1000000000;
-  ANSWERS(BS_BAD_NUMBER, bs_table_lock_until(&table, b, root, BS_IS, &wrong));
-  ANSWERS(BS_BAD_NUMBER, bs_table_await(&table, b, root, BS_IS, &wrong));
-  ANSWERS(BS_BAD_NUMBER, bs_table_lock_path(&table, b, root, BS_IS, &wrong));
+  ANSWERS(BS_BAD_NUMBER, bs_table_lock(table, b, root, BS_IS, &wrong));
+  ANSWERS(BS_BAD_NUMBER, bs_table_await(table, b, root, BS_IS, &wrong));
+  ANSWERS(BS_BAD_NUMBER, bs_table_lock_path(table, b, root, BS_IS, &wrong));
   wrong.tv_nsec = -1;
-  ANSWERS(BS_BAD_NUMBER, bs_table_lock_until(&table, b, root, BS_IS, &wrong));
+  ANSWERS(BS_BAD_NUMBER, bs_table_lock(table, b, root, BS_IS, &wrong));
   send(&two, b, root, BS_X);
   until = moment_in(1000);
-  ANSWERS(BS_TIMED_OUT, bs_table_lock_until(&table, c, root, BS_IS, &until));
-  DONE(bs_table_commit(&table, a, NULL));
+  ANSWERS(BS_TIMED_OUT, bs_table_lock(table, c, root, BS_IS, &until));
+  DONE(bs_table_commit(table, a, NULL));
   back(&two, BS_DONE);
-  DONE(bs_table_end(&table));
+  close_table();
 }
 
 /* Each wait of a transaction ends at its own time at the latest, and no wait of the next one in its slot does. */
@@ -580,33 +593,33 @@ static void a_deadline_of_its_own(void) {
   bs_txn a, b, c;
   set_up(BS_AT_BLOCK);
   a = begin(), b = begin();
-  DONE(bs_table_lock(&table, a, root, BS_X));
-  DONE(bs_table_deadline(&table, b, &soon));
-  ANSWERS(BS_TIMED_OUT, bs_table_lock(&table, b, root, BS_S));
+  DONE(bs_table_lock(table, a, root, BS_X, NULL));
+  DONE(bs_table_deadline(table, b, &soon));
+  ANSWERS(BS_TIMED_OUT, bs_table_lock(table, b, root, BS_S, NULL));
   WANT(is_over(&soon));
-  ANSWERS(BS_TIMED_OUT, bs_table_lock_until(&table, b, root, BS_S, &far));
-  ANSWERS(BS_TIMED_OUT, bs_table_lock_path(&table, b, root, BS_S, NULL));
-  DONE(bs_table_deadline(&table, b, &far));
+  ANSWERS(BS_TIMED_OUT, bs_table_lock(table, b, root, BS_S, &far));
+  ANSWERS(BS_TIMED_OUT, bs_table_lock_path(table, b, root, BS_S, NULL));
+  DONE(bs_table_deadline(table, b, &far));
   soon = moment_in(2000);
-  ANSWERS(BS_TIMED_OUT, bs_table_lock_until(&table, b, root, BS_S, &soon));
+  ANSWERS(BS_TIMED_OUT, bs_table_lock(table, b, root, BS_S, &soon));
   wrong.tv_nsec = 1000000000;
-  ANSWERS(BS_BAD_NUMBER, bs_table_deadline(&table, b, &wrong));
-  DONE(bs_table_deadline(&table, b, &soon));
-  DONE(bs_table_deadline(&table, b, NULL));
+  ANSWERS(BS_BAD_NUMBER, bs_table_deadline(table, b, &wrong));
+  DONE(bs_table_deadline(table, b, &soon));
+  DONE(bs_table_deadline(table, b, NULL));
   send(&two, b, root, BS_S);
-  DONE(bs_table_commit(&table, a, NULL));
+  DONE(bs_table_commit(table, a, NULL));
   back(&two, BS_DONE);
-  DONE(bs_table_deadline(&table, b, &soon));
-  DONE(bs_table_commit(&table, b, NULL));
-  ANSWERS(BS_NO_SUCH_TXN, bs_table_deadline(&table, b, &soon));
+  DONE(bs_table_deadline(table, b, &soon));
+  DONE(bs_table_commit(table, b, NULL));
+  ANSWERS(BS_NO_SUCH_TXN, bs_table_deadline(table, b, &soon));
   a = begin(), c = begin();
   WANT(c.slot == b.slot);
-  DONE(bs_table_lock(&table, a, root, BS_X));
+  DONE(bs_table_lock(table, a, root, BS_X, NULL));
   send(&two, c, root, BS_S);
-  DONE(bs_table_commit(&table, a, NULL));
+  DONE(bs_table_commit(table, a, NULL));
   back(&two, BS_DONE);
-  DONE(bs_table_end(&table));
-  ANSWERS(BS_NO_MANAGER, bs_table_deadline(&table, c, &soon));
+  close_table();
+  ANSWERS(BS_NO_MANAGER, bs_table_deadline(table, c, &soon));
 }
 
 /* Whose time comes wakes who stood behind it. */
@@ -616,7 +629,7 @@ static void a_time_comes_and_grants(void) {
   bs_txn a, b, c;
   set_up(BS_AT_BLOCK);
   a = begin(), b = begin(), c = begin();
-  DONE(bs_table_lock(&table, a, root, BS_S));
+  DONE(bs_table_lock(table, a, root, BS_S, NULL));
   memset(&one, 0, sizeof one);
   one.txn = b, one.node = root, one.mode = BS_X, one.until = &until;
   two = one;
@@ -626,18 +639,19 @@ static void a_time_comes_and_grants(void) {
   start(&two.thread, ask, &two);
   back(&one, BS_TIMED_OUT);
   WANT(back(&two, BS_DONE).mode == BS_S);
-  DONE(bs_table_end(&table));
+  close_table();
 }
 
-/* Takes the latch while a transaction waits; null where its wait, the first of the table, is over already. */
+/* Takes the latch while a transaction waits, and answers the manager for a command too; null where its wait, the first of
+ * the table, is over already. */
 static bs_manager *hold_in_wait(bs_txn txn) {
   bs_counts counts;
   memset(&counts, 0, sizeof counts);
   for (;;) {
-    bs_manager *m = bs_table_hold(&table);
-    if (bs_waiting(m, txn).status == BS_WAITING) return m;
+    const bs_manager *m = bs_table_hold(table);
+    if (wait_of(m, txn).status == BS_WAITING) return &table->manager;
     DONE(bs_counters(m, &counts));
-    bs_table_let_go(&table);
+    bs_table_let_go(table);
     if (counts.waited > 0) return NULL;
     nap();
   }
@@ -652,7 +666,7 @@ static bool grants_behind_the_time(long microseconds) {
   bs_txn a, b;
   set_up(BS_AT_BLOCK);
   a = begin(), b = begin();
-  DONE(bs_table_lock(&table, a, root, BS_X));
+  DONE(bs_table_lock(table, a, root, BS_X, NULL));
   until = moment_in(microseconds);
   memset(&one, 0, sizeof one);
   one.txn = b, one.node = root, one.mode = BS_X, one.until = &until;
@@ -662,11 +676,11 @@ static bool grants_behind_the_time(long microseconds) {
     while (!is_over(&until)) nap();
     nap();
     DONE(bs_commit(m, a, &told)); /* Nobody is woken for it. */
-    bs_table_let_go(&table);
+    bs_table_let_go(table);
   }
   WANT(back(&one, m == NULL ? BS_TIMED_OUT : BS_DONE).mode == (m == NULL ? BS_NL : BS_X));
   holds(b, root, m == NULL ? BS_NL : BS_X);
-  DONE(bs_table_end(&table));
+  close_table();
   return m != NULL;
 }
 
@@ -685,22 +699,22 @@ static void times_and_grants(void) {
     bs_txn a = begin(), b = begin();
     struct timespec until = moment_in(60 + (long)roll(&dice, 60)), pause = { 0, 0 };
     struct asker one;
-    DONE(bs_table_lock(&table, a, root, BS_X));
+    DONE(bs_table_lock(table, a, root, BS_X, NULL));
     memset(&one, 0, sizeof one);
     one.txn = b, one.node = root, one.mode = BS_X, one.until = &until;
     start(&one.thread, ask, &one);
     pause.tv_nsec = (long)roll(&dice, 80000);
     nanosleep(&pause, NULL);
-    DONE(bs_table_commit(&table, a, NULL));
+    DONE(bs_table_commit(table, a, NULL));
     join(one.thread);
     WANT(one.reply.status == BS_DONE || one.reply.status == BS_TIMED_OUT);
     holds(b, root, one.reply.status == BS_DONE ? BS_X : BS_NL);
     if (one.reply.status == BS_DONE) granted++;
     else late++;
-    DONE(bs_table_commit(&table, b, NULL));
+    DONE(bs_table_commit(table, b, NULL));
   }
   WANT(granted + late == 200);
-  DONE(bs_table_end(&table));
+  close_table();
 }
 
 /* ------------------------------------------------------------------------------------------------
@@ -709,8 +723,8 @@ static void times_and_grants(void) {
 
 /* A table with so many slots, and a root alone. */
 static void set_up_slots(uint32_t most) {
-  DONE(bs_table_make(&table, BS_AT_BLOCK, BS_YOUNGEST, most));
-  root = DONE(bs_table_add_inner(&table, NULL, 0)).node;
+  DONE(make_table(&table, BS_AT_BLOCK, BS_YOUNGEST, most));
+  root = DONE(bs_table_add_inner(table, NULL, 0)).node;
 }
 
 /* One who begins in a thread of its own. */
@@ -722,7 +736,7 @@ struct beginner {
 
 static void *begin_in_turn(void *arg) {
   struct beginner *b = (struct beginner *)arg;
-  b->reply = bs_table_begin_until(&table, b->until);
+  b->reply = bs_table_begin_in_turn(table, b->until);
   return NULL;
 }
 
@@ -748,25 +762,22 @@ static bs_txn begun(struct beginner *b) {
 }
 
 /* The calls that end a transaction, by their numbers: each hands its slot on. */
-enum { WAYS_TO_END = 7 };
+enum { WAYS_TO_END = 5 };
 
 static void end_by(int way, bs_txn txn) {
   bs_command list[1];
-  bs_manager *m;
   switch (way) {
-    case 0: DONE(bs_table_commit(&table, txn, NULL)); break;
-    case 1: DONE(bs_table_abort(&table, txn, NULL)); break;
-    case 2: DONE(bs_table_commit_rows(&table, txn, NULL)); break;
-    case 3: DONE(bs_table_abort_rows(&table, txn, NULL)); break;
-    case 4:
-    case 5:
-      list[0] = way == 4 ? bs_do_commit(txn) : bs_do_abort(txn);
-      WANT(bs_table_run(&table, list, 1) == 1);
+    case 0: DONE(bs_table_commit(table, txn, NULL)); break;
+    case 1: DONE(bs_table_abort(table, txn, NULL)); break;
+    case 2:
+    case 3:
+      list[0] = bs_do(way == 2 ? BS_DO_COMMIT : BS_DO_ABORT, txn);
+      WANT(bs_table_run(table, list, 1) == 1);
       break;
     default:
-      m = bs_table_hold(&table);
-      DONE(bs_commit(m, txn, &told));
-      bs_table_let_go(&table);
+      WANT(bs_table_hold(table) != NULL);
+      DONE(bs_commit(&table->manager, txn, &told));
+      DONE(bs_table_let_go(table));
   }
 }
 
@@ -777,7 +788,7 @@ static void a_begin_sleeps_for_a_slot(void) {
   bs_txn holder, next;
   int way;
   set_up_slots(1);
-  holder = DONE(bs_table_begin_until(&table, NULL)).txn;
+  holder = DONE(bs_table_begin_in_turn(table, NULL)).txn;
   for (way = 0; way < WAYS_TO_END; way++) {
     line_up(&one, 1);
     end_by(way, holder);
@@ -785,13 +796,14 @@ static void a_begin_sleeps_for_a_slot(void) {
     WANT(next.slot == holder.slot && next.age == holder.age + 1);
     holder = next;
   }
-  ANSWERS(BS_TIMED_OUT, bs_table_begin_until(&table, &past));
-  ANSWERS(BS_BAD_NUMBER, bs_table_begin_until(&table, &wrong));
-  DONE(bs_table_commit(&table, holder, NULL));
-  holder = DONE(bs_table_begin_until(&table, &past)).txn;
-  DONE(bs_table_end(&table));
-  ANSWERS(BS_NO_MANAGER, bs_table_begin_until(&table, NULL));
-  ANSWERS(BS_NULL_POINTER, bs_table_begin_until(NULL, NULL));
+  ANSWERS(BS_TIMED_OUT, bs_table_begin_in_turn(table, &past));
+  ANSWERS(BS_BAD_NUMBER, bs_table_begin_in_turn(table, &wrong));
+  DONE(bs_table_commit(table, holder, NULL));
+  holder = DONE(bs_table_begin_in_turn(table, &past)).txn;
+  DONE(bs_table_end(table));
+  ANSWERS(BS_NO_MANAGER, bs_table_begin_in_turn(table, NULL));
+  DONE(bs_table_free(&table));
+  ANSWERS(BS_NULL_POINTER, bs_table_begin_in_turn(NULL, NULL));
 }
 
 enum { MOST_BEGINNERS = BS_SLOTS < 500 ? 1000 : 2 * BS_SLOTS };
@@ -810,12 +822,12 @@ static long worked;
 
 static void *work_in_turn(void *arg) {
   struct worker *w = (struct worker *)arg;
-  bs_txn txn = DONE(bs_table_begin_until(&table, NULL)).txn;
+  bs_txn txn = DONE(bs_table_begin_in_turn(table, NULL)).txn;
   w->arrival = my_arrival;
   w->age = txn.age;
-  DONE(bs_table_lock(&table, txn, root, BS_X));
+  DONE(bs_table_lock(table, txn, root, BS_X, NULL));
   worked++;
-  DONE(bs_table_commit(&table, txn, NULL));
+  DONE(bs_table_commit(table, txn, NULL));
   return NULL;
 }
 
@@ -838,7 +850,7 @@ static void turns_over(uint32_t most) {
   for (i = 1; i <= 2 * half; i++) {
     start(&all[i - 1].thread, work_in_turn, &all[i - 1]);
     if (i == half) await_sleepers(half);
-    if (i > half && (i - half) * most >= (freed + 1) * half) DONE(bs_table_commit(&table, held[freed++], NULL));
+    if (i > half && (i - half) * most >= (freed + 1) * half) DONE(bs_table_commit(table, held[freed++], NULL));
   }
   for (i = 0; i < 2 * half; i++) join(all[i].thread);
   qsort(all, 2 * half, sizeof all[0], by_age);
@@ -849,8 +861,8 @@ static void turns_over(uint32_t most) {
     before = all[i].arrival;
     slept++;
   }
-  WANT(freed == most && worked == (long)(2 * half) && slept >= half && bs_table_living(&table, 0).status == BS_NO_PLACE);
-  DONE(bs_table_end(&table));
+  WANT(freed == most && worked == (long)(2 * half) && slept >= half && ASK(table, bs_living, 0).status == BS_NO_PLACE);
+  close_table();
 }
 
 static void turns_over_all_slots(void) {
@@ -872,22 +884,22 @@ static void a_later_begin_does_not_pass(void) {
   a = begin(), b = begin();
   line_up(&one, 1);
   line_up(&two, 2);
-  ANSWERS(BS_TOO_MANY_TXNS, bs_table_begin(&table));
-  list[0] = bs_do_commit(a), list[1] = bs_do_begin();
-  WANT(bs_table_run(&table, list, 2) == 1 && list[1].reply.status == BS_TOO_MANY_TXNS);
-  ANSWERS(BS_TOO_MANY_TXNS, bs_table_begin(&table));
-  ANSWERS(BS_TIMED_OUT, bs_table_begin_until(&table, &past));
+  ANSWERS(BS_TOO_MANY_TXNS, bs_table_begin(table));
+  list[0] = bs_do(BS_DO_COMMIT, a), list[1] = bs_do(BS_DO_BEGIN, bs_begun());
+  WANT(bs_table_run(table, list, 2) == 1 && list[1].reply.status == BS_TOO_MANY_TXNS);
+  ANSWERS(BS_TOO_MANY_TXNS, bs_table_begin(table));
+  ANSWERS(BS_TIMED_OUT, bs_table_begin_in_turn(table, &past));
   first = begun(&one);
   WANT(first.age == b.age + 1);
-  DONE(bs_table_commit(&table, b, NULL));
-  ANSWERS(BS_TOO_MANY_TXNS, bs_table_begin(&table));
+  DONE(bs_table_commit(table, b, NULL));
+  ANSWERS(BS_TOO_MANY_TXNS, bs_table_begin(table));
   WANT(begun(&two).age == first.age + 1);
-  list[0] = bs_do_commit(first);
+  list[0] = bs_do(BS_DO_COMMIT, first);
   for (i = 0; i < 3; i++) {
-    WANT(bs_table_run(&table, list, 2) == 2); /* Nobody sleeps for the slot any more. */
-    list[0] = bs_do_commit(list[1].reply.txn);
+    WANT(bs_table_run(table, list, 2) == 2); /* Nobody sleeps for the slot any more. */
+    list[0] = bs_do(BS_DO_COMMIT, list[1].reply.txn);
   }
-  DONE(bs_table_end(&table));
+  close_table();
 }
 
 /* A list may free several slots: each is handed on behind its last command. */
@@ -899,11 +911,11 @@ static void a_list_frees_slots(void) {
   a = begin(), b = begin();
   line_up(&one, 1);
   line_up(&two, 2);
-  list[0] = bs_do_commit(a), list[1] = bs_do_abort(b);
-  WANT(bs_table_run(&table, list, 2) == 2);
+  list[0] = bs_do(BS_DO_COMMIT, a), list[1] = bs_do(BS_DO_ABORT, b);
+  WANT(bs_table_run(table, list, 2) == 2);
   a = begun(&one);
   WANT(begun(&two).age == a.age + 1);
-  DONE(bs_table_end(&table));
+  close_table();
 }
 
 /* Whether the last of so many has come into the line before a time. */
@@ -933,16 +945,16 @@ static bool some_leave_the_line_in(long microseconds) {
   WANT(is_over(&until));
   await_sleepers(2);
   for (i = 1; i < 5 && is_in_time; i += 2) {
-    DONE(bs_table_commit(&table, holder, NULL));
+    DONE(bs_table_commit(table, holder, NULL));
     next = begun(&all[i]);
     WANT(next.age == holder.age + 1);
     holder = next;
   }
   if (is_in_time) {
-    DONE(bs_table_commit(&table, holder, NULL));
+    DONE(bs_table_commit(table, holder, NULL));
     begin();
   }
-  DONE(bs_table_end(&table));
+  close_table();
   for (i = 1; i < 5 && !is_in_time; i += 2) join(all[i].thread);
   return is_in_time;
 }
@@ -959,7 +971,6 @@ static bool begins_behind_the_time(long microseconds) {
   struct timespec until;
   struct beginner one;
   bool is_in_line = false;
-  bs_manager *m = NULL;
   bs_txn a;
   set_up_slots(1);
   a = begin();
@@ -967,19 +978,19 @@ static bool begins_behind_the_time(long microseconds) {
   start_to_begin(&one, &until);
   while (!is_in_line && !is_over(&until)) {
     nap();
-    m = bs_table_hold(&table);
-    is_in_line = table.in->first != NULL;
-    if (!is_in_line) bs_table_let_go(&table);
+    WANT(bs_table_hold(table) != NULL);
+    is_in_line = table->first != NULL;
+    if (!is_in_line) bs_table_let_go(table);
   }
   if (is_in_line) {
     while (!is_over(&until)) nap();
     nap();
-    DONE(bs_commit(m, a, &told));
-    bs_table_let_go(&table);
+    DONE(bs_commit(&table->manager, a, &told));
+    bs_table_let_go(table);
   }
   join(one.thread);
   WANT(one.reply.status == (is_in_line ? BS_DONE : BS_TIMED_OUT));
-  DONE(bs_table_end(&table));
+  close_table();
   return is_in_line;
 }
 
@@ -1000,15 +1011,15 @@ static void times_and_turns(void) {
     start_to_begin(&one, &until);
     pause.tv_nsec = (long)roll(&dice, 80000);
     nanosleep(&pause, NULL);
-    DONE(bs_table_commit(&table, a, NULL));
+    DONE(bs_table_commit(table, a, NULL));
     join(one.thread);
     WANT(one.reply.status == BS_DONE || one.reply.status == BS_TIMED_OUT);
     if (one.reply.status == BS_DONE) {
-      ANSWERS(BS_TOO_MANY_TXNS, bs_table_begin(&table));
-      DONE(bs_table_commit(&table, one.reply.txn, NULL));
+      ANSWERS(BS_TOO_MANY_TXNS, bs_table_begin(table));
+      DONE(bs_table_commit(table, one.reply.txn, NULL));
     }
   }
-  DONE(bs_table_end(&table));
+  close_table();
 }
 
 /* A table that ends wakes the line, and those who sleep for locks, and waits until all have left. */
@@ -1020,19 +1031,17 @@ static void an_end_with_a_line(void) {
   size_t i;
   set_up_slots(2);
   a = begin(), b = begin();
-  DONE(bs_table_lock(&table, a, root, BS_X));
+  DONE(bs_table_lock(table, a, root, BS_X, NULL));
   send(&asker, b, root, BS_X);
   for (i = 0; i < 200; i++) start_to_begin(&line[i], i % 2 == 0 ? &until : NULL);
   await_sleepers(201);
-  ending = table.in;
-  DONE(bs_table_end(&table));
-  ending = NULL;
-  WANT(asleep_at_end == 0);
+  end_as_all_leave();
   back(&asker, BS_NO_MANAGER);
   for (i = 0; i < 200; i++) {
     join(line[i].thread);
     ANSWERS(BS_NO_MANAGER, line[i].reply);
   }
+  DONE(bs_table_free(&table));
 }
 
 /* ------------------------------------------------------------------------------------------------
@@ -1045,26 +1054,26 @@ static void paths(void) {
   size_t i;
   set_up(BS_AT_BLOCK);
   a = begin(), b = begin();
-  WANT(DONE(bs_table_lock_path(&table, a, low, BS_X, NULL)).mode == BS_X);
+  WANT(DONE(bs_table_lock_path(table, a, low, BS_X, NULL)).mode == BS_X);
   holds(a, root, BS_IX), holds(a, file, BS_IX), holds(a, by_key, BS_IX), holds(a, below, BS_IX);
   holds(a, above, BS_NL);
-  WANT(DONE(bs_table_lock_path(&table, b, high, BS_S, NULL)).mode == BS_S);
+  WANT(DONE(bs_table_lock_path(table, b, high, BS_S, NULL)).mode == BS_S);
   holds(b, root, BS_IS), holds(b, file, BS_IS), holds(b, by_key, BS_NL), holds(b, above, BS_NL);
-  DONE(bs_table_commit(&table, b, NULL));
+  DONE(bs_table_commit(table, b, NULL));
   b = begin();
-  DONE(bs_table_lock_path(&table, b, above, BS_IS, NULL));
-  DONE(bs_table_lock_path(&table, b, high, BS_S, NULL));
+  DONE(bs_table_lock_path(table, b, above, BS_IS, NULL));
+  DONE(bs_table_lock_path(table, b, high, BS_S, NULL));
   holds(b, file, BS_NL);
-  WANT(DONE(bs_table_lock_path(&table, a, low, BS_S, NULL)).mode == BS_X);
-  ANSWERS(BS_BAD_MODE, bs_table_lock_path(&table, a, low, BS_IX, NULL));
-  ANSWERS(BS_BAD_NUMBER, bs_table_lock_path(&table, a, low, 6, NULL));
+  WANT(DONE(bs_table_lock_path(table, a, low, BS_S, NULL)).mode == BS_X);
+  ANSWERS(BS_BAD_MODE, bs_table_lock_path(table, a, low, BS_IX, NULL));
+  ANSWERS(BS_BAD_NUMBER, bs_table_lock_path(table, a, low, 6, NULL));
   chain[0] = root;
-  for (i = 1; i < 40; i++) chain[i] = DONE(bs_table_add_inner(&table, &chain[i - 1], 1)).node;
+  for (i = 1; i < 40; i++) chain[i] = DONE(bs_table_add_inner(table, &chain[i - 1], 1)).node;
   deep = chain[39];
-  DONE(bs_table_lock_path(&table, a, deep, BS_X, NULL));
+  DONE(bs_table_lock_path(table, a, deep, BS_X, NULL));
   for (i = 0; i < 39; i++) holds(a, chain[i], BS_IX);
   holds(a, deep, BS_X);
-  DONE(bs_table_end(&table));
+  close_table();
 }
 
 /* Each lock of a path is waited for in its turn. */
@@ -1073,16 +1082,16 @@ static void a_path_waits_twice(void) {
   bs_txn a, b, c;
   set_up(BS_AT_BLOCK);
   a = begin(), b = begin(), c = begin();
-  DONE(bs_table_lock_path(&table, a, low, BS_S, NULL));
-  DONE(bs_table_lock_path(&table, c, below, BS_S, NULL));
+  DONE(bs_table_lock_path(table, a, low, BS_S, NULL));
+  DONE(bs_table_lock_path(table, c, below, BS_S, NULL));
   send_by_path(&one, b, low, BS_X);
-  WANT(same_node(bs_table_waiting(&table, b).node, below));
-  DONE(bs_table_commit(&table, c, NULL));
-  while (!same_node(bs_table_waiting(&table, b).node, low)) nap();
-  DONE(bs_table_commit(&table, a, NULL));
+  WANT(same_node(wait_in(table, b).node, below));
+  DONE(bs_table_commit(table, c, NULL));
+  while (!same_node(wait_in(table, b).node, low)) nap();
+  DONE(bs_table_commit(table, a, NULL));
   WANT(back(&one, BS_DONE).mode == BS_X);
   holds(b, below, BS_IX);
-  DONE(bs_table_end(&table));
+  close_table();
 }
 
 /* A record that moves while its path is waited for is locked where it is then. */
@@ -1091,15 +1100,15 @@ static void a_path_moves(void) {
   bs_txn a, b;
   set_up(BS_AT_BLOCK);
   a = begin(), b = begin();
-  DONE(bs_table_lock_path(&table, a, low, BS_X, NULL));
-  DONE(bs_table_lock_path(&table, a, above, BS_IX, NULL));
+  DONE(bs_table_lock_path(table, a, low, BS_X, NULL));
+  DONE(bs_table_lock_path(table, a, above, BS_IX, NULL));
   send_by_path(&one, b, low, BS_X);
-  DONE(bs_table_rekey(&table, a, low, by_key, 150, &told));
+  DONE(bs_table_rekey(table, a, low, by_key, 150, &told));
   WANT(told.count == 1 && is_told(0, b, BS_TOLD_MOVED));
-  DONE(bs_table_commit(&table, a, NULL));
+  DONE(bs_table_commit(table, a, NULL));
   WANT(back(&one, BS_DONE).mode == BS_X);
   holds(b, above, BS_IX), holds(b, below, BS_IX);
-  DONE(bs_table_end(&table));
+  close_table();
 }
 
 /* A cancel that comes when a lock on the way was granted, and its sleeper is not awake yet, is not lost: the path
@@ -1110,17 +1119,17 @@ static void a_path_is_cancelled_on_its_way(void) {
   bs_txn a, b, c;
   set_up(BS_AT_BLOCK);
   a = begin(), b = begin(), c = begin();
-  DONE(bs_table_lock_path(&table, c, low, BS_S, NULL));
-  DONE(bs_table_lock(&table, a, root, BS_S));
+  DONE(bs_table_lock_path(table, c, low, BS_S, NULL));
+  DONE(bs_table_lock(table, a, root, BS_S, NULL));
   send_by_path(&one, b, low, BS_X);
-  list[0] = bs_do_commit(a), list[1] = bs_do_cancel(b), list[2] = bs_do_cancel(b);
-  WANT(bs_table_run(&table, list, 3) == 3);
+  list[0] = bs_do(BS_DO_COMMIT, a), list[1] = bs_do(BS_DO_CANCEL, b), list[2] = bs_do(BS_DO_CANCEL, b);
+  WANT(bs_table_run(table, list, 3) == 3);
   back(&one, BS_NOT_WAITING);
   WANT(one.reply.mode == BS_NL);
   holds(b, root, BS_IX), holds(b, file, BS_NL);
-  ANSWERS(BS_NOT_WAITING, bs_table_cancel(&table, b, NULL));
-  DONE(bs_table_commit(&table, b, NULL));
-  DONE(bs_table_end(&table));
+  ANSWERS(BS_NOT_WAITING, bs_table_cancel(table, b, NULL));
+  DONE(bs_table_commit(table, b, NULL));
+  close_table();
 }
 
 /* Where it was the last lock of the path, the path is done, and there is nothing to cancel. */
@@ -1130,12 +1139,12 @@ static void a_path_is_cancelled_at_its_end(void) {
   bs_txn a, b;
   set_up(BS_AT_BLOCK);
   a = begin(), b = begin();
-  DONE(bs_table_lock_path(&table, a, low, BS_S, NULL));
+  DONE(bs_table_lock_path(table, a, low, BS_S, NULL));
   send_by_path(&one, b, low, BS_X);
-  list[0] = bs_do_commit(a), list[1] = bs_do_cancel(b);
-  WANT(bs_table_run(&table, list, 2) == 1 && list[1].reply.status == BS_NOT_WAITING);
+  list[0] = bs_do(BS_DO_COMMIT, a), list[1] = bs_do(BS_DO_CANCEL, b);
+  WANT(bs_table_run(table, list, 2) == 1 && list[1].reply.status == BS_NOT_WAITING);
   WANT(back(&one, BS_DONE).mode == BS_X);
-  DONE(bs_table_end(&table));
+  close_table();
 }
 
 /* The record of a path has moved, and its sleeper would begin anew. */
@@ -1145,14 +1154,14 @@ static void a_path_that_moved_is_cancelled(void) {
   bs_txn a, b;
   set_up(BS_AT_BLOCK);
   a = begin(), b = begin();
-  DONE(bs_table_lock_path(&table, a, low, BS_X, NULL));
-  DONE(bs_table_lock_path(&table, a, above, BS_IX, NULL));
+  DONE(bs_table_lock_path(table, a, low, BS_X, NULL));
+  DONE(bs_table_lock_path(table, a, above, BS_IX, NULL));
   send_by_path(&one, b, low, BS_X);
-  list[0] = bs_do_rekey(a, low, by_key, 150), list[1] = bs_do_cancel(b);
-  WANT(bs_table_run(&table, list, 2) == 2);
+  list[0] = (bs_command){ .kind = BS_DO_REKEY, .txn = a, .node = low, .index = by_key, .key = 150 }, list[1] = bs_do(BS_DO_CANCEL, b);
+  WANT(bs_table_run(table, list, 2) == 2);
   back(&one, BS_NOT_WAITING);
   holds(b, low, BS_NL);
-  DONE(bs_table_end(&table));
+  close_table();
 }
 
 /* It ends at the first lock that comes to nothing, and what is above stays. */
@@ -1161,13 +1170,13 @@ static void a_path_ends_early(void) {
   bs_txn a, b;
   set_up(BS_AT_BLOCK);
   a = begin(), b = begin();
-  DONE(bs_table_lock_path(&table, a, file, BS_X, NULL));
+  DONE(bs_table_lock_path(table, a, file, BS_X, NULL));
   until = moment_in(1000);
-  ANSWERS(BS_TIMED_OUT, bs_table_lock_path(&table, b, low, BS_X, &until));
+  ANSWERS(BS_TIMED_OUT, bs_table_lock_path(table, b, low, BS_X, &until));
   holds(b, root, BS_IX), holds(b, low, BS_NL), holds(b, below, BS_NL);
-  DONE(bs_table_abort(&table, b, NULL));
-  ANSWERS(BS_NO_SUCH_TXN, bs_table_lock_path(&table, b, low, BS_X, NULL));
-  DONE(bs_table_end(&table));
+  DONE(bs_table_abort(table, b, NULL));
+  ANSWERS(BS_NO_SUCH_TXN, bs_table_lock_path(table, b, low, BS_X, NULL));
+  close_table();
 }
 
 /* ------------------------------------------------------------------------------------------------
@@ -1203,21 +1212,21 @@ static void write_key(uint64_t key) {
 static void set_up_rows(uint32_t detect) {
   static const uint64_t bound = 100;
   set_up(detect);
-  rows = DONE(bs_table_add_row_file(&table, &root, 1)).node;
-  by_row_key = DONE(bs_table_add_index(&table, &root, 1, rows, &bound, 1)).node;
-  rows_below = DONE(bs_table_interval(&table, by_row_key, 0)).node;
-  rows_above = DONE(bs_table_interval(&table, by_row_key, 1)).node;
+  rows = DONE(bs_table_add_row_file(table, &root, 1)).node;
+  by_row_key = DONE(bs_table_add_index(table, &root, 1, rows, &bound, 1)).node;
+  rows_below = DONE(ASK(table, bs_interval, by_row_key, 0)).node;
+  rows_above = DONE(ASK(table, bs_interval, by_row_key, 1)).node;
   page_key = OLD_KEY;
   is_there = true;
   amount = 0;
-  if (detect == BS_BY_WATCHER) DONE(bs_table_watch_thread(&table, 0));
+  if (detect == BS_BY_WATCHER) DONE(bs_table_watch_thread(table, 0));
 }
 
 /* What is held above a row that has this key. */
 static bs_reply lock_above(bs_txn t, uint64_t key) {
-  bs_reply reply = bs_table_lock_path(&table, t, rows, BS_IX, NULL);
-  bs_node interval = bs_table_interval_of(&table, by_row_key, key).node;
-  return reply.status == BS_DONE ? bs_table_lock_path(&table, t, interval, BS_IX, NULL) : reply;
+  bs_reply reply = bs_table_lock_path(table, t, rows, BS_IX, NULL);
+  bs_node interval = ASK(table, bs_interval_of, by_row_key, key).node;
+  return reply.status == BS_DONE ? bs_table_lock_path(table, t, interval, BS_IX, NULL) : reply;
 }
 
 static bs_txn begin_writer(uint64_t key) {
@@ -1227,7 +1236,7 @@ static bs_txn begin_writer(uint64_t key) {
 }
 
 static bs_reply ask_row(bs_txn t, uint64_t number, uint64_t key, const struct timespec *until) {
-  return bs_table_lock_row(&table, t, rows, number, &key, 1, BS_X, until);
+  return bs_table_lock_row(table, t, rows, number, &key, 1, BS_X, until);
 }
 
 /* Asks for a row by a key. Its node may have another: what is wanting above that is locked too. */
@@ -1236,7 +1245,7 @@ static bs_reply ask_row_by(bs_txn t, uint64_t number, uint64_t key) {
   while (reply.status == BS_DONE) {
     reply = ask_row(t, number, key, NULL);
     if (reply.status != BS_NEED_PARENTS) break;
-    reply = bs_table_lock_path(&table, t, reply.node, BS_IX, NULL);
+    reply = bs_table_lock_path(table, t, reply.node, BS_IX, NULL);
   }
   return reply;
 }
@@ -1265,7 +1274,7 @@ static void *ask_for_row(void *arg) {
     if (a->reply.status == BS_OTHER_KEYS) a->others++;
     if ((a->reply.status != BS_DONE && a->reply.status != BS_OTHER_KEYS) || read_key() == a->key) return NULL;
     a->anew++;
-    DONE(bs_table_unlock_row(&table, a->txn, rows, OLD_ROW, NULL));
+    DONE(bs_table_unlock_row(table, a->txn, rows, OLD_ROW, NULL));
   }
 }
 
@@ -1294,12 +1303,12 @@ static bs_node locked_row(bs_txn t, uint64_t number, uint64_t key) {
 }
 
 static bool has_node(uint64_t number) {
-  return bs_table_row_node(&table, rows, number).status == BS_DONE;
+  return ASK(table, bs_row_node, rows, number).status == BS_DONE;
 }
 
 static bool holds_row(bs_txn t, uint64_t number) {
-  bs_reply row = bs_table_row_node(&table, rows, number);
-  return row.status == BS_DONE && bs_table_held(&table, t, row.node).mode == BS_X;
+  bs_reply row = ASK(table, bs_row_node, rows, number);
+  return row.status == BS_DONE && ASK(table, bs_held, t, row.node).mode == BS_X;
 }
 
 static void a_row_is_slept_for(void) {
@@ -1310,14 +1319,14 @@ static void a_row_is_slept_for(void) {
   a = begin_writer(OLD_KEY), b = begin_writer(OLD_KEY);
   row = locked_row(a, 7, OLD_KEY);
   send_for_row(&one, b, 7, OLD_KEY);
-  DONE(bs_table_commit_rows(&table, a, &told));
+  DONE(bs_table_commit(table, a, &told));
   WANT(told.count == 1 && is_told(0, b, BS_TOLD_GRANTED));
   back_with_row(&one, BS_DONE);
   WANT(one.reply.mode == BS_X && same_node(one.reply.node, row));
   holds(b, row, BS_X);
-  DONE(bs_table_unlock_row(&table, b, rows, 7, NULL));
+  DONE(bs_table_unlock_row(table, b, rows, 7, NULL));
   WANT(!has_node(7));
-  DONE(bs_table_end(&table));
+  close_table();
 }
 
 /* Who slept for a row by other keys than its node's holds it too, and hears so. */
@@ -1329,13 +1338,13 @@ static void a_row_with_other_keys_is_slept_for(void) {
   a = begin_writer(NEW_KEY), b = begin_writer(NEW_KEY);
   row = locked_row(a, 7, NEW_KEY);
   send_for_row(&one, b, 7, OLD_KEY);
-  DONE(bs_table_unlock_row(&table, a, rows, 7, NULL));
+  DONE(bs_table_unlock_row(table, a, rows, 7, NULL));
   back_with_row(&one, BS_OTHER_KEYS);
   WANT(one.reply.mode == BS_X && same_node(one.reply.node, row));
   holds(b, row, BS_X);
   ANSWERS(BS_OTHER_KEYS, ask_row(b, 7, OLD_KEY, NULL));
   DONE(ask_row(b, 7, NEW_KEY, NULL));
-  DONE(bs_table_end(&table));
+  close_table();
 }
 
 /* A sleep for a row ends as any sleep does. */
@@ -1353,20 +1362,20 @@ static void how_a_sleep_for_a_row_ends(void) {
   until = moment_in(1000);
   ANSWERS(BS_TIMED_OUT, ask_row(b, 7, OLD_KEY, &until));
   send_for_row(&one, b, 7, OLD_KEY);
-  DONE(bs_table_cancel_rows(&table, b, NULL));
+  DONE(bs_table_cancel(table, b, NULL));
   back_with_row(&one, BS_NOT_WAITING);
   send_for_row(&one, b, 7, OLD_KEY);
-  DONE(bs_table_rekey_row(&table, a, rows, 7, by_row_key, NEW_KEY, NULL));
+  DONE(bs_table_rekey_row(table, a, rows, 7, by_row_key, NEW_KEY, NULL));
   back_with_row(&one, BS_MOVED);
   DONE(lock_above(b, NEW_KEY));
   send_for_row(&one, b, 7, NEW_KEY);
-  DONE(bs_table_abort_rows(&table, b, NULL));
+  DONE(bs_table_abort(table, b, NULL));
   back_with_row(&one, BS_NO_SUCH_TXN);
-  DONE(bs_table_commit_rows(&table, a, NULL));
+  DONE(bs_table_commit(table, a, NULL));
   WANT(!has_node(7));
-  DONE(bs_table_end(&table));
+  close_table();
   ANSWERS(BS_NO_MANAGER, ask_row(a, 7, OLD_KEY, NULL));
-  ANSWERS(BS_NO_MANAGER, bs_table_add_row_file(&table, &root, 1));
+  ANSWERS(BS_NO_MANAGER, bs_table_add_row_file(table, &root, 1));
 }
 
 /* A file of rows is dropped and made again in one list, while a writer sleeps for it: that one is told so, and its rows'
@@ -1380,24 +1389,24 @@ static void a_file_of_rows_is_dropped(void) {
   locked_row(a, 7, OLD_KEY);
   send_by_path(&one, b, rows, BS_X);
   send_by_path(&two, c, rows, BS_IX);
-  DONE(bs_table_commit_rows(&table, a, NULL));
+  DONE(bs_table_commit(table, a, NULL));
   back(&one, BS_DONE);
-  DONE(bs_table_lock_path(&table, b, by_row_key, BS_X, NULL));
-  ANSWERS(BS_FILE_IN_USE, bs_table_drop(&table, b, rows, NULL));
-  list[0] = bs_do_drop(b, by_row_key);
-  list[1] = bs_do_drop(b, rows);
+  DONE(bs_table_lock_path(table, b, by_row_key, BS_X, NULL));
+  ANSWERS(BS_FILE_IN_USE, bs_table_drop(table, b, rows, NULL));
+  list[0] = bs_do_at(BS_DO_DROP, b, by_row_key, BS_NL);
+  list[1] = bs_do_at(BS_DO_DROP, b, rows, BS_NL);
   list[1].told = &told;
-  list[2] = bs_do_add_row_file(&root, 1);
-  list[3] = bs_do_commit(b);
-  WANT(bs_table_run(&table, list, 4) == 4 && told.count == 1 && is_told(0, c, BS_TOLD_GONE));
+  list[2] = (bs_command){ .kind = BS_DO_ADD_ROW_FILE, .parents = &root, .parent_count = 1 };
+  list[3] = bs_do(BS_DO_COMMIT, b);
+  WANT(bs_table_run(table, list, 4) == 4 && told.count == 1 && is_told(0, c, BS_TOLD_GONE));
   back(&two, BS_GONE);
   ANSWERS(BS_NOT_ROWS, ask_row(c, 7, OLD_KEY, NULL));
   WANT(!same_node(list[2].reply.node, rows));
   rows = list[2].reply.node;
-  DONE(bs_table_lock_path(&table, c, rows, BS_IX, NULL));
-  DONE(bs_table_lock_row(&table, c, rows, 7, NULL, 0, BS_X, NULL));
-  DONE(bs_table_commit_rows(&table, c, NULL));
-  DONE(bs_table_end(&table));
+  DONE(bs_table_lock_path(table, c, rows, BS_IX, NULL));
+  DONE(bs_table_lock_row(table, c, rows, 7, NULL, 0, BS_X, NULL));
+  DONE(bs_table_commit(table, c, NULL));
+  close_table();
 }
 
 /* An index is dropped and made with finer bounds in one list. Who slept for it is told so, and who sleeps for the file
@@ -1410,24 +1419,24 @@ static void an_index_is_made_again(void) {
   bs_txn a, b, c;
   set_up_rows(BS_AT_BLOCK);
   a = begin(), b = begin(), c = begin();
-  DONE(bs_table_lock_path(&table, a, rows, BS_X, NULL));
-  DONE(bs_table_lock_path(&table, a, by_row_key, BS_X, NULL));
+  DONE(bs_table_lock_path(table, a, rows, BS_X, NULL));
+  DONE(bs_table_lock_path(table, a, by_row_key, BS_X, NULL));
   send_by_path(&one, b, rows_below, BS_S);
   send_by_path(&two, c, rows, BS_IX);
-  list[0] = bs_do_drop(a, by_row_key);
-  list[1] = bs_do_index_by(a, &root, 1, rows, finer, 3);
-  list[2] = bs_do_commit(a);
-  WANT(bs_table_run(&table, list, 3) == 3);
+  list[0] = bs_do_at(BS_DO_DROP, a, by_row_key, BS_NL);
+  list[1] = (bs_command){ .kind = BS_DO_INDEX_BY, .txn = a, .parents = &root, .parent_count = 1, .file = rows, .bounds = finer, .bound_count = 3 };
+  list[2] = bs_do(BS_DO_COMMIT, a);
+  WANT(bs_table_run(table, list, 3) == 3);
   back(&one, BS_GONE);
   back(&two, BS_DONE);
   by_row_key = list[1].reply.node;
-  days = DONE(bs_table_interval_of(&table, by_row_key, 120)).node;
-  WANT(bs_table_place(&table, days).count == 2);
-  DONE(bs_table_lock_path(&table, c, days, BS_IX, NULL));
+  days = DONE(ASK(table, bs_interval_of, by_row_key, 120)).node;
+  WANT(ASK(table, bs_place, days).count == 2);
+  DONE(bs_table_lock_path(table, c, days, BS_IX, NULL));
   DONE(ask_row(c, 7, 120, NULL));
-  DONE(bs_table_commit_rows(&table, c, NULL));
-  ANSWERS(BS_NO_SUCH_NODE, bs_table_lock_path(&table, b, rows_below, BS_S, NULL));
-  DONE(bs_table_end(&table));
+  DONE(bs_table_commit(table, c, NULL));
+  ANSWERS(BS_NO_SUCH_NODE, bs_table_lock_path(table, b, rows_below, BS_S, NULL));
+  close_table();
 }
 
 static void rows_that_change(void) {
@@ -1438,17 +1447,17 @@ static void rows_that_change(void) {
   a = begin_writer(OLD_KEY);
   DONE(lock_above(a, NEW_KEY));
   row = locked_row(a, 7, OLD_KEY);
-  WANT(same_node(bs_table_row_node(&table, rows, 7).node, row));
-  DONE(bs_table_rekey_row(&table, a, rows, 7, by_row_key, NEW_KEY, &told));
-  WANT(bs_table_key(&table, row, 0).count == NEW_KEY && told.count == 0);
-  DONE(bs_table_commit_rows(&table, a, NULL));
+  WANT(same_node(ASK(table, bs_row_node, rows, 7).node, row));
+  DONE(bs_table_rekey_row(table, a, rows, 7, by_row_key, NEW_KEY, &told));
+  WANT(ASK(table, bs_key, row, 0).count == NEW_KEY && told.count == 0);
+  DONE(bs_table_commit(table, a, NULL));
   WANT(!has_node(7));
   a = begin();
-  DONE(bs_table_lock_path(&table, a, rows, BS_IS, NULL));
-  DONE(bs_table_lock_row(&table, a, rows, 7, &page_key, 1, BS_S, NULL));
-  reply = DONE(bs_table_escalate_rows(&table, a, rows, NULL));
+  DONE(bs_table_lock_path(table, a, rows, BS_IS, NULL));
+  DONE(bs_table_lock_row(table, a, rows, 7, &page_key, 1, BS_S, NULL));
+  reply = DONE(bs_table_escalate(table, a, rows, NULL));
   WANT(reply.mode == BS_S && reply.released == 1 && !has_node(7));
-  DONE(bs_table_end(&table));
+  close_table();
 }
 
 /* Who falls sleeps for a row, and is woken though the asker by whom it fell is told of other keys. */
@@ -1459,18 +1468,18 @@ static void other_keys_by_the_fall_of_another(void) {
   bs_node other;
   bs_txn a, b, c;
   set_up_rows(BS_AT_BLOCK);
-  other = DONE(bs_table_add_inner(&table, NULL, 0)).node;
+  other = DONE(bs_table_add_inner(table, NULL, 0)).node;
   a = begin(), b = begin_writer(NEW_KEY), c = begin_writer(NEW_KEY);
-  DONE(bs_table_lock(&table, a, other, BS_X));
-  DONE(bs_table_lock_row(&table, b, rows, 7, &(uint64_t){ NEW_KEY }, 1, BS_S, NULL));
+  DONE(bs_table_lock(table, a, other, BS_X, NULL));
+  DONE(bs_table_lock_row(table, b, rows, 7, &(uint64_t){ NEW_KEY }, 1, BS_S, NULL));
   send_for_row(&one, c, 7, NEW_KEY);
   send(&two, b, other, BS_S);
-  DONE(bs_table_lock_path(&table, a, rows, BS_IS, NULL));
-  ANSWERS(BS_OTHER_KEYS, bs_table_lock_row(&table, a, rows, 7, &key, 1, BS_S, NULL));
+  DONE(bs_table_lock_path(table, a, rows, BS_IS, NULL));
+  ANSWERS(BS_OTHER_KEYS, bs_table_lock_row(table, a, rows, 7, &key, 1, BS_S, NULL));
   back_with_row(&one, BS_VICTIM);
-  DONE(bs_table_commit_rows(&table, a, NULL));
+  DONE(bs_table_commit(table, a, NULL));
   back(&two, BS_DONE);
-  DONE(bs_table_end(&table));
+  close_table();
 }
 
 enum { TURNS = 200 };
@@ -1481,14 +1490,14 @@ static void *insert_by_node(void *arg) {
   int i;
   for (i = 0; i < TURNS; i++) {
     bs_txn t = begin_writer(OLD_KEY);
-    bs_reply row = bs_table_row_node(&table, rows, 7);
-    ANSWERS(BS_ROWS_BY_NUMBER, bs_table_insert(&table, t, rows, &key, 1));
-    ANSWERS(BS_ROWS_BY_NUMBER, bs_table_adopt(&table, rows, &key, 1));
+    bs_reply row = ASK(table, bs_row_node, rows, 7);
+    ANSWERS(BS_ROWS_BY_NUMBER, bs_table_insert(table, t, rows, &key, 1));
+    ANSWERS(BS_ROWS_BY_NUMBER, bs_table_adopt(table, rows, &key, 1));
     if (row.status == BS_DONE) {
-      row = bs_table_forget(&table, row.node);
+      row = bs_table_forget(table, row.node);
       WANT(row.status == BS_ROWS_BY_NUMBER || row.status == BS_NO_SUCH_NODE); /* It may be gone by then. */
     }
-    DONE(bs_table_commit_rows(&table, t, NULL));
+    DONE(bs_table_commit(table, t, NULL));
   }
   return arg;
 }
@@ -1500,9 +1509,9 @@ static void *add_by_number(void *arg) {
     long before;
     DONE(ask_row(t, 7, OLD_KEY, NULL));
     before = amount;
-    WANT(bs_table_len(&table).count > 0);
+    WANT(ASK0(table, bs_len).count > 0);
     amount = before + 1;
-    DONE(bs_table_commit_rows(&table, t, NULL));
+    DONE(bs_table_commit(table, t, NULL));
   }
   return arg;
 }
@@ -1512,11 +1521,11 @@ static void two_ways_to_one_row(void) {
   uint64_t nodes;
   size_t i;
   set_up_rows(BS_AT_BLOCK);
-  nodes = bs_table_len(&table).count;
+  nodes = ASK0(table, bs_len).count;
   for (i = 0; i < 4; i++) start(&threads[i], i < 2 ? insert_by_node : add_by_number, NULL);
   for (i = 0; i < 4; i++) join(threads[i]);
-  WANT(amount == 2 * TURNS && !has_node(7) && bs_table_len(&table).count == nodes);
-  DONE(bs_table_end(&table));
+  WANT(amount == 2 * TURNS && !has_node(7) && ASK0(table, bs_len).count == nodes);
+  close_table();
 }
 
 /* One who deletes the row and has not ended yet: it ends once the other waits for the row. */
@@ -1532,10 +1541,10 @@ static void *delete_row(void *arg) {
   is_there = false;
   await_wait(d->other);
   if (d->commits) {
-    DONE(bs_table_commit_rows(&table, d->txn, NULL));
+    DONE(bs_table_commit(table, d->txn, NULL));
   } else {
     is_there = true;
-    DONE(bs_table_abort_rows(&table, d->txn, NULL));
+    DONE(bs_table_abort(table, d->txn, NULL));
   }
   return NULL;
 }
@@ -1553,7 +1562,7 @@ static void a_row_is_deleted(bool commits) {
   back_with_row(&one, BS_DONE);
   WANT(is_there == !commits && holds_row(d.other, 7));
   join(d.thread);
-  DONE(bs_table_end(&table));
+  close_table();
 }
 
 static void a_delete_that_commits(void) {
@@ -1575,18 +1584,18 @@ static void *move_row(void *arg) {
   struct mover *m = (struct mover *)arg;
   DONE(ask_row_by(m->txn, OLD_ROW, OLD_KEY));
   DONE(lock_above(m->txn, NEW_KEY));
-  DONE(bs_table_rekey_row(&table, m->txn, rows, OLD_ROW, by_row_key, NEW_KEY, NULL));
+  DONE(bs_table_rekey_row(table, m->txn, rows, OLD_ROW, by_row_key, NEW_KEY, NULL));
   await_wait(m->other);
   if (m->asks) DONE(ask_row_by(m->txn, 8, OLD_KEY));
   write_key(NEW_KEY);
-  DONE(bs_table_commit_rows(&table, m->txn, NULL));
+  DONE(bs_table_commit(table, m->txn, NULL));
   return NULL;
 }
 
 /* Whether the node of the row has the new key by now. */
 static bool is_rekeyed(void) {
-  bs_reply row = bs_table_row_node(&table, rows, OLD_ROW);
-  return row.status == BS_DONE && bs_table_key(&table, row.node, 0).count == NEW_KEY;
+  bs_reply row = ASK(table, bs_row_node, rows, OLD_ROW);
+  return row.status == BS_DONE && ASK(table, bs_key, row.node, 0).count == NEW_KEY;
 }
 
 /* Who read the old key waits for the row, is told of other keys behind the grant, and begins anew. */
@@ -1601,9 +1610,9 @@ static void a_mover_beside_an_old_key(void) {
   back_with_row(&one, BS_DONE);
   WANT(one.others == 1 && one.anew == 1 && one.key == NEW_KEY && holds_row(m.other, OLD_ROW));
   join(m.thread);
-  DONE(bs_table_commit_rows(&table, m.other, NULL));
+  DONE(bs_table_commit(table, m.other, NULL));
   WANT(!has_node(OLD_ROW));
-  DONE(bs_table_end(&table));
+  close_table();
 }
 
 /* The two wait for each other, and the younger falls. */
@@ -1617,10 +1626,10 @@ static void a_mover_in_a_cycle(uint32_t detect) {
   while (!is_rekeyed()) nap();
   start_asking(&one, m.other, OLD_ROW, OLD_KEY, true);
   back_with_row(&one, BS_VICTIM);
-  DONE(bs_table_abort_rows(&table, m.other, NULL));
+  DONE(bs_table_abort(table, m.other, NULL));
   join(m.thread);
   WANT(read_key() == NEW_KEY && !has_node(OLD_ROW) && !has_node(8));
-  DONE(bs_table_end(&table));
+  close_table();
 }
 
 static void a_mover_in_a_cycle_at_block(void) {
@@ -1660,7 +1669,7 @@ static void *write_late(void *arg) {
   reach(3);
   await_stage(4);
   WANT(read_key() != key);
-  DONE(bs_table_unlock_row(&table, w->txn, rows, OLD_ROW, NULL));
+  DONE(bs_table_unlock_row(table, w->txn, rows, OLD_ROW, NULL));
   w->looks = true;
   ask_for_row(w);
   amount++;
@@ -1681,10 +1690,10 @@ static void a_row_that_moved_unseen(void) {
   await_stage(1);
   DONE(ask_row_by(m.txn, OLD_ROW, OLD_KEY));
   DONE(lock_above(m.txn, NEW_KEY));
-  DONE(bs_table_rekey_row(&table, m.txn, rows, OLD_ROW, by_row_key, NEW_KEY, NULL));
+  DONE(bs_table_rekey_row(table, m.txn, rows, OLD_ROW, by_row_key, NEW_KEY, NULL));
   write_key(NEW_KEY);
-  DONE(bs_table_commit_rows(&table, m.txn, NULL));
-  DONE(bs_table_lock_path(&table, reader, rows_above, BS_S, NULL));
+  DONE(bs_table_commit(table, m.txn, NULL));
+  DONE(bs_table_lock_path(table, reader, rows_above, BS_S, NULL));
   before = amount;
   reach(2);
   await_stage(3);
@@ -1692,11 +1701,11 @@ static void a_row_that_moved_unseen(void) {
   WANT(holds_row(writer.txn, OLD_ROW)); /* The row lies in that interval: nothing but the look keeps the two apart. */
   reach(4);
   await_wait(writer.txn);
-  WANT(amount == before && same_node(bs_table_waiting(&table, writer.txn).node, rows_above));
-  DONE(bs_table_commit(&table, reader, NULL));
+  WANT(amount == before && same_node(wait_in(table, writer.txn).node, rows_above));
+  DONE(bs_table_commit(table, reader, NULL));
   back_with_row(&writer, BS_DONE);
   WANT(amount == before + 1 && writer.key == NEW_KEY && holds_row(writer.txn, OLD_ROW));
-  DONE(bs_table_end(&table));
+  close_table();
 }
 
 /* ------------------------------------------------------------------------------------------------
@@ -1710,39 +1719,39 @@ static void lists_of_commands(void) {
   bs_txn a, b;
   set_up(BS_AT_BLOCK);
   a = begin(), b = begin();
-  list[0] = bs_do_lock(a, root, BS_IX);
-  list[1] = bs_do_lock(a, file, BS_IX);
-  list[2] = bs_do_try(a, root, BS_X);
-  WANT(bs_table_run(&table, list, 3) == 3 && list[2].reply.mode == BS_X);
+  list[0] = bs_do_at(BS_DO_LOCK, a, root, BS_IX);
+  list[1] = bs_do_at(BS_DO_LOCK, a, file, BS_IX);
+  list[2] = bs_do_at(BS_DO_TRY, a, root, BS_X);
+  WANT(bs_table_run(table, list, 3) == 3 && list[2].reply.mode == BS_X);
   send(&one, b, root, BS_S);
-  list[0] = bs_do_unlock(a, file);
-  list[1] = bs_do_commit(a);
+  list[0] = bs_do_at(BS_DO_UNLOCK, a, file, BS_NL);
+  list[1] = bs_do(BS_DO_COMMIT, a);
   list[1].told = &first;
-  list[2] = bs_do_begin();
-  list[3] = bs_do_lock(a, root, BS_S);
-  list[4] = bs_do_begin();
+  list[2] = bs_do(BS_DO_BEGIN, bs_begun());
+  list[3] = bs_do_at(BS_DO_LOCK, a, root, BS_S);
+  list[4] = bs_do(BS_DO_BEGIN, bs_begun());
   list[4].reply.status = 99;
-  WANT(bs_table_run(&table, list, 5) == 3);
+  WANT(bs_table_run(table, list, 5) == 3);
   WANT(list[3].reply.status == BS_NO_SUCH_TXN && list[4].reply.status == BS_NOT_MADE);
   WANT(first.count == 1 && same_txn(first.at[0].txn, b));
   back(&one, BS_DONE);
   a = list[2].reply.txn;
-  list[0] = bs_do_lock(a, root, BS_IX);
-  list[1] = bs_do_lock(a, file, BS_X);
+  list[0] = bs_do_at(BS_DO_LOCK, a, root, BS_IX);
+  list[1] = bs_do_at(BS_DO_LOCK, a, file, BS_X);
   WANT(list[1].reply.status == BS_NOT_MADE);
-  WANT(bs_table_run(&table, list, 2) == 0 && list[0].reply.status == BS_WAITING);
+  WANT(bs_table_run(table, list, 2) == 0 && list[0].reply.status == BS_WAITING);
   WANT(list[1].reply.status == BS_NOT_MADE);
-  ANSWERS(BS_WAITING, bs_table_verdict(&table, a, root, BS_IX));
-  DONE(bs_table_commit(&table, b, NULL));
-  DONE(bs_table_verdict(&table, a, root, BS_IX));
-  WANT(DONE(bs_table_await(&table, a, root, BS_IX, NULL)).mode == BS_IX);
-  ANSWERS(BS_NOT_WAITING, bs_table_await(&table, a, file, BS_X, NULL));
-  DONE(bs_table_end(&table));
+  ANSWERS(BS_WAITING, ASK(table, bs_verdict, a, root, BS_IX));
+  DONE(bs_table_commit(table, b, NULL));
+  DONE(ASK(table, bs_verdict, a, root, BS_IX));
+  WANT(DONE(bs_table_await(table, a, root, BS_IX, NULL)).mode == BS_IX);
+  ANSWERS(BS_NOT_WAITING, bs_table_await(table, a, file, BS_X, NULL));
+  close_table();
   list[1].reply.status = BS_DONE;
-  WANT(bs_table_run(&table, list, 2) == 0 && list[0].reply.status == BS_NO_MANAGER);
+  WANT(bs_table_run(table, list, 2) == 0 && list[0].reply.status == BS_NO_MANAGER);
   WANT(list[1].reply.status == BS_NOT_MADE);
   WANT(bs_table_run(NULL, list, 2) == 0 && list[0].reply.status == BS_NULL_POINTER);
-  WANT(bs_table_run(&table, NULL, 2) == 0 && bs_table_run(&table, list, 0) == 0);
+  WANT(bs_table_run(table, NULL, 2) == 0 && bs_table_run(table, list, 0) == 0);
 }
 
 /* A whole transaction in a list, which is made again and again. */
@@ -1750,16 +1759,16 @@ static void lists_that_begin(void) {
   bs_command list[4];
   bs_txn before;
   set_up(BS_AT_BLOCK);
-  list[0] = bs_do_begin();
-  list[1] = bs_do_lock(bs_begun(), root, BS_IX);
-  list[2] = bs_do_lock(bs_begun(), file, BS_X);
-  list[3] = bs_do_commit(bs_begun());
-  WANT(bs_table_run(&table, list, 4) == 4 && list[2].reply.mode == BS_X);
+  list[0] = bs_do(BS_DO_BEGIN, bs_begun());
+  list[1] = bs_do_at(BS_DO_LOCK, bs_begun(), root, BS_IX);
+  list[2] = bs_do_at(BS_DO_LOCK, bs_begun(), file, BS_X);
+  list[3] = bs_do(BS_DO_COMMIT, bs_begun());
+  WANT(bs_table_run(table, list, 4) == 4 && list[2].reply.mode == BS_X);
   before = list[0].reply.txn;
-  WANT(bs_table_run(&table, list, 4) == 4 && list[0].reply.txn.age > before.age);
-  WANT(bs_table_run(&table, &list[1], 1) == 0 && list[1].reply.status == BS_NO_SUCH_TXN);
-  ANSWERS(BS_NO_SUCH_TXN, bs_table_abort(&table, list[0].reply.txn, NULL));
-  DONE(bs_table_end(&table));
+  WANT(bs_table_run(table, list, 4) == 4 && list[0].reply.txn.age > before.age);
+  WANT(bs_table_run(table, &list[1], 1) == 0 && list[1].reply.status == BS_NO_SUCH_TXN);
+  ANSWERS(BS_NO_SUCH_TXN, bs_table_abort(table, list[0].reply.txn, NULL));
+  close_table();
 }
 
 /* A list wakes whom it names. */
@@ -1769,15 +1778,15 @@ static void lists_that_name(void) {
   bs_txn a, b, c;
   set_up(BS_AT_BLOCK);
   a = begin(), b = begin(), c = begin();
-  DONE(bs_table_lock(&table, a, root, BS_X));
+  DONE(bs_table_lock(table, a, root, BS_X, NULL));
   send(&one, b, root, BS_X);
   send(&two, c, root, BS_X);
-  list[0] = bs_do_cancel(b);
-  list[1] = bs_do_abort(c);
-  WANT(bs_table_run(&table, list, 2) == 2);
+  list[0] = bs_do(BS_DO_CANCEL, b);
+  list[1] = bs_do(BS_DO_ABORT, c);
+  WANT(bs_table_run(table, list, 2) == 2);
   back(&one, BS_NOT_WAITING);
   back(&two, BS_NO_SUCH_TXN);
-  DONE(bs_table_end(&table));
+  close_table();
 }
 
 /* Each command can stand in a list. */
@@ -1787,61 +1796,63 @@ static void every_command(void) {
   bs_command list[7];
   bs_txn t, u;
   set_up(BS_AT_BLOCK);
-  list[0] = bs_do_add_inner(NULL, 0);
-  WANT(bs_table_run(&table, list, 1) == 1);
+  list[0] = (bs_command){ .kind = BS_DO_ADD_INNER };
+  WANT(bs_table_run(table, list, 1) == 1);
   top = list[0].reply.node;
-  list[0] = bs_do_add_file(&top, 1);
-  list[1] = bs_do_add_inner(&top, 1);
-  WANT(bs_table_run(&table, list, 2) == 2);
+  list[0] = (bs_command){ .kind = BS_DO_ADD_FILE, .parents = &top, .parent_count = 1 };
+  list[1] = (bs_command){ .kind = BS_DO_ADD_INNER, .parents = &top, .parent_count = 1 };
+  WANT(bs_table_run(table, list, 2) == 2);
   table_node = list[0].reply.node, under = list[1].reply.node;
-  list[0] = bs_do_add_index(&top, 1, table_node, &bound, 1);
-  list[1] = bs_do_begin();
-  list[2] = bs_do_begin();
-  WANT(bs_table_run(&table, list, 3) == 3);
+  list[0] = (bs_command){ .kind = BS_DO_ADD_INDEX, .parents = &top, .parent_count = 1, .file = table_node,
+                          .bounds = &bound, .bound_count = 1 };
+  list[1] = bs_do(BS_DO_BEGIN, bs_begun());
+  list[2] = bs_do(BS_DO_BEGIN, bs_begun());
+  WANT(bs_table_run(table, list, 3) == 3);
   index = list[0].reply.node, t = list[1].reply.txn, u = list[2].reply.txn;
-  DONE(bs_table_lock_path(&table, t, bs_table_interval(&table, index, 0).node, BS_X, NULL));
-  DONE(bs_table_lock_path(&table, t, bs_table_interval(&table, index, 1).node, BS_IX, NULL));
-  DONE(bs_table_lock_path(&table, t, table_node, BS_IX, NULL));
-  list[0] = bs_do_insert(t, table_node, &key, 1);
-  WANT(bs_table_run(&table, list, 1) == 1);
+  DONE(bs_table_lock_path(table, t, ASK(table, bs_interval, index, 0).node, BS_X, NULL));
+  DONE(bs_table_lock_path(table, t, ASK(table, bs_interval, index, 1).node, BS_IX, NULL));
+  DONE(bs_table_lock_path(table, t, table_node, BS_IX, NULL));
+  list[0] = (bs_command){ .kind = BS_DO_INSERT, .txn = t, .file = table_node, .keys = &key, .key_count = 1 };
+  WANT(bs_table_run(table, list, 1) == 1);
   record = list[0].reply.node;
-  list[0] = bs_do_escalate(t, table_node);
-  list[1] = bs_do_rekey(t, record, index, 8);
-  list[2] = bs_do_delete(t, record);
-  list[3] = bs_do_settle(t);
-  list[4] = bs_do_abort(u);
-  WANT(bs_table_run(&table, list, 2) == 1 && list[1].reply.status == BS_NEED_EXCLUSIVE);
-  list[0] = bs_do_lock(t, record, BS_X);
-  WANT(bs_table_run(&table, list, 2) == 2 && bs_table_key(&table, record, 0).count == 8);
-  list[1] = bs_do_try(t, record, BS_X);
-  WANT(bs_table_run(&table, list, 5) == 5);
-  WANT(bs_table_key(&table, record, 0).status == BS_NO_PLACE);
-  list[0] = bs_do_lock(t, table_node, BS_X);
-  list[1] = bs_do_lock(t, under, BS_IX);
-  list[2] = bs_do_move(t, table_node, &under, 1);
-  list[3] = bs_do_cancel(t);
-  WANT(bs_table_run(&table, list, 4) == 3 && list[3].reply.status == BS_NOT_WAITING);
-  list[0] = bs_do_add_row_file(&top, 1);
-  WANT(bs_table_run(&table, list, 1) == 1 && bs_table_kind(&table, list[0].reply.node).count == BS_FILE);
+  list[0] = bs_do_at(BS_DO_ESCALATE, t, table_node, BS_NL);
+  list[1] = (bs_command){ .kind = BS_DO_REKEY, .txn = t, .node = record, .index = index, .key = 8 };
+  list[2] = bs_do_at(BS_DO_DELETE, t, record, BS_NL);
+  list[3] = bs_do(BS_DO_SETTLE, t);
+  list[4] = bs_do(BS_DO_ABORT, u);
+  WANT(bs_table_run(table, list, 2) == 1 && list[1].reply.status == BS_NEED_EXCLUSIVE);
+  list[0] = bs_do_at(BS_DO_LOCK, t, record, BS_X);
+  WANT(bs_table_run(table, list, 2) == 2 && ASK(table, bs_key, record, 0).count == 8);
+  list[1] = bs_do_at(BS_DO_TRY, t, record, BS_X);
+  WANT(bs_table_run(table, list, 5) == 5);
+  WANT(ASK(table, bs_key, record, 0).status == BS_NO_SUCH_NODE);
+  list[0] = bs_do_at(BS_DO_LOCK, t, table_node, BS_X);
+  list[1] = bs_do_at(BS_DO_LOCK, t, under, BS_IX);
+  list[2] = (bs_command){ .kind = BS_DO_MOVE, .txn = t, .node = table_node, .parents = &under, .parent_count = 1 };
+  list[3] = bs_do(BS_DO_CANCEL, t);
+  WANT(bs_table_run(table, list, 4) == 3 && list[3].reply.status == BS_NOT_WAITING);
+  list[0] = (bs_command){ .kind = BS_DO_ADD_ROW_FILE, .parents = &top, .parent_count = 1 };
+  WANT(bs_table_run(table, list, 1) == 1 && ASK(table, bs_kind, list[0].reply.node).count == BS_FILE);
   table_node = list[0].reply.node;
-  ANSWERS(BS_ROWS_BY_NUMBER, bs_table_adopt(&table, table_node, NULL, 0));
-  list[0] = bs_do_begin();
-  list[1] = bs_do_lock(bs_begun(), top, BS_IX);
-  list[2] = bs_do_lock(bs_begun(), table_node, BS_X);
-  list[3] = bs_do_index_by(bs_begun(), &top, 1, table_node, &bound, 1);
-  list[4] = bs_do_commit(bs_begun());
-  WANT(bs_table_run(&table, list, 5) == 5);
+  ANSWERS(BS_ROWS_BY_NUMBER, bs_table_adopt(table, table_node, NULL, 0));
+  list[0] = bs_do(BS_DO_BEGIN, bs_begun());
+  list[1] = bs_do_at(BS_DO_LOCK, bs_begun(), top, BS_IX);
+  list[2] = bs_do_at(BS_DO_LOCK, bs_begun(), table_node, BS_X);
+  list[3] = (bs_command){ .kind = BS_DO_INDEX_BY, .txn = bs_begun(), .parents = &top, .parent_count = 1,
+                          .file = table_node, .bounds = &bound, .bound_count = 1 };
+  list[4] = bs_do(BS_DO_COMMIT, bs_begun());
+  WANT(bs_table_run(table, list, 5) == 5);
   index = list[3].reply.node;
-  WANT(same_node(bs_table_index(&table, table_node, 0).node, index));
-  list[3] = bs_do_lock(bs_begun(), index, BS_X);
-  list[4] = bs_do_drop(bs_begun(), index);
-  list[5] = bs_do_drop(bs_begun(), table_node);
-  list[6] = bs_do_commit(bs_begun());
-  WANT(bs_table_run(&table, list, 7) == 7 && bs_table_kind(&table, table_node).status == BS_NO_SUCH_NODE);
-  WANT(bs_table_run(&table, list, 7) == 2 && list[2].reply.status == BS_NO_SUCH_NODE);
-  list[0] = bs_do(99, t, root);
-  WANT(bs_table_run(&table, list, 1) == 0 && list[0].reply.status == BS_BAD_NUMBER);
-  DONE(bs_table_end(&table));
+  WANT(same_node(ASK(table, bs_index, table_node, 0).node, index));
+  list[3] = bs_do_at(BS_DO_LOCK, bs_begun(), index, BS_X);
+  list[4] = bs_do_at(BS_DO_DROP, bs_begun(), index, BS_NL);
+  list[5] = bs_do_at(BS_DO_DROP, bs_begun(), table_node, BS_NL);
+  list[6] = bs_do(BS_DO_COMMIT, bs_begun());
+  WANT(bs_table_run(table, list, 7) == 7 && ASK(table, bs_kind, table_node).status == BS_NO_SUCH_NODE);
+  WANT(bs_table_run(table, list, 7) == 2 && list[2].reply.status == BS_NO_SUCH_NODE);
+  list[0] = bs_do_at(99, t, root, BS_X);
+  WANT(bs_table_run(table, list, 1) == 0 && list[0].reply.status == BS_BAD_NUMBER);
+  close_table();
 }
 
 /* ------------------------------------------------------------------------------------------------
@@ -1858,21 +1869,21 @@ static void a_watcher_looks(void) {
   struct asker one;
   bs_txn a, b;
   set_up(BS_AT_BLOCK);
-  DONE(bs_table_watch(&table, &watcher));
+  DONE(bs_table_watch(table, &watcher));
   a = begin(), b = begin();
-  DONE(bs_table_lock(&table, a, root, BS_X));
+  DONE(bs_table_lock(table, a, root, BS_X, NULL));
   send(&one, b, root, BS_S);
-  DONE(bs_table_look(&watcher, &board));
+  DONE(bs_look(&watcher, &board));
   WANT(waits_on_board(&board, b, a) && !waits_on_board(&board, a, b));
-  WANT(board.epoch == bs_table_accepted(&table).count);
-  DONE(bs_table_commit(&table, a, NULL));
+  WANT(board.epoch == accepted_in(table));
+  DONE(bs_table_commit(table, a, NULL));
   back(&one, BS_DONE);
-  DONE(bs_table_look(&watcher, &board));
+  DONE(bs_look(&watcher, &board));
   WANT(!waits_on_board(&board, b, a) && board.ages[a.slot] == 0);
-  DONE(bs_table_end(&table));
-  DONE(bs_table_look(&watcher, &board));
-  DONE(bs_table_watch_end(&watcher));
-  ANSWERS(BS_NO_WATCHER, bs_table_look(&watcher, &board));
+  close_table();
+  DONE(bs_look(&watcher, &board));
+  DONE(bs_watch_end(&watcher));
+  ANSWERS(BS_NO_WATCHER, bs_look(&watcher, &board));
 }
 
 static void a_ninth_watcher(void) {
@@ -1881,16 +1892,16 @@ static void a_ninth_watcher(void) {
   size_t i;
   set_up(BS_BY_WATCHER);
   for (i = 0; i < 9; i++) all[i] = none;
-  for (i = 0; i < BS_MOST_WATCHERS; i++) DONE(bs_table_watch(&table, &all[i]));
-  ANSWERS(BS_TOO_MANY_WATCHERS, bs_table_watch(&table, &all[8]));
-  ANSWERS(BS_TOO_MANY_WATCHERS, bs_table_watch_thread(&table, 0));
-  ANSWERS(BS_IN_USE, bs_table_watch(&table, &all[0]));
-  DONE(bs_table_watch_end(&all[3]));
-  DONE(bs_table_watch_thread(&table, 0));
-  ANSWERS(BS_TOO_MANY_WATCHERS, bs_table_watch(&table, &all[8]));
-  ANSWERS(BS_IN_USE, bs_table_watch_thread(&table, 0));
-  DONE(bs_table_end(&table));
-  for (i = 0; i < 9; i++) bs_table_watch_end(&all[i]);
+  for (i = 0; i < BS_MOST_WATCHERS; i++) DONE(bs_table_watch(table, &all[i]));
+  ANSWERS(BS_TOO_MANY_WATCHERS, bs_table_watch(table, &all[8]));
+  ANSWERS(BS_TOO_MANY_WATCHERS, bs_table_watch_thread(table, 0));
+  ANSWERS(BS_IN_USE, bs_table_watch(table, &all[0]));
+  DONE(bs_watch_end(&all[3]));
+  DONE(bs_table_watch_thread(table, 0));
+  ANSWERS(BS_TOO_MANY_WATCHERS, bs_table_watch(table, &all[8]));
+  ANSWERS(BS_IN_USE, bs_table_watch_thread(table, 0));
+  close_table();
+  for (i = 0; i < 9; i++) bs_watch_end(&all[i]);
 }
 
 /* One of two watchers ends, and the other sees a wait that begins then. */
@@ -1905,17 +1916,17 @@ static void one_of_two_watchers_goes_on(void) {
     both[0] = both[1] = none;
     set_up(BS_BY_WATCHER);
     a = begin(), b = begin();
-    DONE(bs_table_lock(&table, a, root, BS_X));
-    DONE(bs_table_watch(&table, &both[0]));
-    DONE(bs_table_watch(&table, &both[1]));
-    DONE(bs_table_watch_end(&both[ends]));
+    DONE(bs_table_lock(table, a, root, BS_X, NULL));
+    DONE(bs_table_watch(table, &both[0]));
+    DONE(bs_table_watch(table, &both[1]));
+    DONE(bs_watch_end(&both[ends]));
     send(&one, b, root, BS_S);
-    DONE(bs_table_look(&both[1 - ends], &board));
+    DONE(bs_look(&both[1 - ends], &board));
     WANT(waits_on_board(&board, b, a));
-    DONE(bs_table_commit(&table, a, NULL));
+    DONE(bs_table_commit(table, a, NULL));
     back(&one, BS_DONE);
-    DONE(bs_table_watch_end(&both[1 - ends]));
-    DONE(bs_table_end(&table));
+    DONE(bs_watch_end(&both[1 - ends]));
+    close_table();
   }
 }
 
@@ -1927,22 +1938,22 @@ static void watchers_come_and_go(void) {
   bs_txn a, b;
   int i;
   set_up(BS_BY_WATCHER);
-  DONE(bs_table_watch(&table, &stays));
+  DONE(bs_table_watch(table, &stays));
   for (i = 0; i < BS_MOST_WATCHERS + 1; i++) {
     bs_watcher watcher = BS_NO_WATCHER_HERE;
-    DONE(bs_table_watch(&table, &watcher));
-    DONE(bs_table_look(&watcher, &board));
-    DONE(bs_table_watch_end(&watcher));
+    DONE(bs_table_watch(table, &watcher));
+    DONE(bs_look(&watcher, &board));
+    DONE(bs_watch_end(&watcher));
   }
   a = begin(), b = begin();
-  DONE(bs_table_lock(&table, a, root, BS_X));
+  DONE(bs_table_lock(table, a, root, BS_X, NULL));
   send(&one, b, root, BS_S);
-  DONE(bs_table_look(&stays, &board));
+  DONE(bs_look(&stays, &board));
   WANT(waits_on_board(&board, b, a));
-  DONE(bs_table_commit(&table, a, NULL));
+  DONE(bs_table_commit(table, a, NULL));
   back(&one, BS_DONE);
-  DONE(bs_table_watch_end(&stays));
-  DONE(bs_table_end(&table));
+  DONE(bs_watch_end(&stays));
+  close_table();
 }
 
 /* Watchers for which there was no memory keep no seat: a growth of a watch is refused eight times, and then eight watch. */
@@ -1955,21 +1966,21 @@ static void refused_watchers(void) {
   for (; refused; n++) {
     for (i = 0; i < BS_MOST_WATCHERS + 1; i++) all[i] = none;
     set_up(BS_BY_WATCHER);
-    DONE(bs_table_watch(&table, &all[0])); /* What the first takes for all is there from now on. */
-    DONE(bs_table_watch_end(&all[0]));
+    DONE(bs_table_watch(table, &all[0])); /* What the first takes for all is there from now on. */
+    DONE(bs_watch_end(&all[0]));
     for (i = 0; i < BS_MOST_WATCHERS && refused; i++) {
       bs_reply reply;
       refused_growth = n;
-      reply = bs_table_watch(&table, &all[0]);
+      reply = bs_table_watch(table, &all[0]);
       refused = refused_growth == 0;
       refused_growth = 0;
       ANSWERS(refused ? BS_NO_MEMORY : BS_DONE, reply);
-      if (!refused) DONE(bs_table_watch_end(&all[0]));
+      if (!refused) DONE(bs_watch_end(&all[0]));
     }
-    for (i = 0; i < BS_MOST_WATCHERS; i++) DONE(bs_table_watch(&table, &all[i]));
-    ANSWERS(BS_TOO_MANY_WATCHERS, bs_table_watch(&table, &all[BS_MOST_WATCHERS]));
-    for (i = 0; i < BS_MOST_WATCHERS; i++) DONE(bs_table_watch_end(&all[i]));
-    DONE(bs_table_end(&table));
+    for (i = 0; i < BS_MOST_WATCHERS; i++) DONE(bs_table_watch(table, &all[i]));
+    ANSWERS(BS_TOO_MANY_WATCHERS, bs_table_watch(table, &all[BS_MOST_WATCHERS]));
+    for (i = 0; i < BS_MOST_WATCHERS; i++) DONE(bs_watch_end(&all[i]));
+    close_table();
   }
   WANT(n > 2);
 }
@@ -1978,12 +1989,12 @@ static void refused_watchers(void) {
 static void a_thread_watches(uint64_t pace) {
   int i;
   set_up(BS_BY_WATCHER);
-  DONE(bs_table_watch_thread(&table, pace));
+  DONE(bs_table_watch_thread(table, pace));
   for (i = 0; i < 20; i++) {
     bs_txn a = begin(), b = begin();
     struct asker one, two;
-    DONE(bs_table_lock(&table, a, root, BS_S));
-    DONE(bs_table_lock(&table, b, root, BS_S));
+    DONE(bs_table_lock(table, a, root, BS_S, NULL));
+    DONE(bs_table_lock(table, b, root, BS_S, NULL));
     memset(&one, 0, sizeof one);
     one.txn = a, one.node = root, one.mode = BS_X, one.by_path = i % 4 < 2;
     two = one;
@@ -1992,11 +2003,11 @@ static void a_thread_watches(uint64_t pace) {
     if (i % 2 == 0) nap();
     start(&two.thread, ask, &two);
     back(&two, BS_VICTIM);
-    DONE(bs_table_abort(&table, b, NULL));
+    DONE(bs_table_abort(table, b, NULL));
     back(&one, BS_DONE);
-    DONE(bs_table_commit(&table, a, NULL));
+    DONE(bs_table_commit(table, a, NULL));
   }
-  DONE(bs_table_end(&table));
+  close_table();
 }
 
 static void a_thread_watches_without_rest(void) {
@@ -2012,11 +2023,11 @@ static void a_thread_rests_long(void) {
   struct asker one;
   bs_txn a, b;
   set_up(BS_BY_WATCHER);
-  DONE(bs_table_watch_thread(&table, UINT64_C(3600000000000)));
+  DONE(bs_table_watch_thread(table, UINT64_C(3600000000000)));
   a = begin(), b = begin();
-  DONE(bs_table_lock(&table, a, root, BS_X));
+  DONE(bs_table_lock(table, a, root, BS_X, NULL));
   send(&one, b, root, BS_X);
-  DONE(bs_table_end(&table));
+  close_table();
   back(&one, BS_NO_MANAGER);
 }
 
@@ -2036,7 +2047,7 @@ static void a_thread_watches_without_signals(void) {
   handled = 0;
   set_up(BS_BY_WATCHER);
   WANT(sigaction(SIGUSR1, &action, &before) == 0);
-  DONE(bs_table_watch_thread(&table, 0));
+  DONE(bs_table_watch_thread(table, 0));
   sigemptyset(&mine);
   sigaddset(&mine, SIGUSR1);
   WANT(pthread_sigmask(SIG_BLOCK, &mine, NULL) == 0);
@@ -2045,7 +2056,7 @@ static void a_thread_watches_without_signals(void) {
   WANT(handled == 0);
   WANT(pthread_sigmask(SIG_UNBLOCK, &mine, NULL) == 0);
   WANT(handled == SIGUSR1);
-  DONE(bs_table_end(&table));
+  close_table();
   WANT(sigaction(SIGUSR1, &before, NULL) == 0);
 }
 
@@ -2056,20 +2067,20 @@ static void a_thread_watches_without_memory(void) {
   uint64_t accepted;
   bs_txn a, b;
   set_up(BS_BY_WATCHER);
-  DONE(bs_table_watch_thread(&table, 0));
-  refuse_thread(table.in->watch);
+  DONE(bs_table_watch_thread(table, 0));
+  refuse_thread(table->watch);
   a = begin(), b = begin();
-  DONE(bs_table_lock(&table, a, root, BS_S));
-  DONE(bs_table_lock(&table, b, root, BS_S));
+  DONE(bs_table_lock(table, a, root, BS_S, NULL));
+  DONE(bs_table_lock(table, b, root, BS_S, NULL));
   send(&one, a, root, BS_X);
   start_asking_for(&two, b, root, BS_X);
   back(&two, BS_VICTIM);
-  accepted = bs_table_accepted(&table).count;
+  accepted = accepted_in(table);
   nanosleep(&pause, NULL);
-  WANT(bs_table_accepted(&table).count == accepted);
-  DONE(bs_table_abort(&table, b, NULL));
+  WANT(accepted_in(table) == accepted);
+  DONE(bs_table_abort(table, b, NULL));
   back(&one, BS_DONE);
-  DONE(bs_table_end(&table));
+  close_table();
   refuse_no_thread();
 }
 
@@ -2078,34 +2089,33 @@ static void a_thread_ends_all_it_sees(void) {
   struct timespec pause = { 0, 5000000 };
   struct asker one, two;
   bs_node both[2];
-  bs_manager *m;
   bs_txn t[4], a, b;
   size_t i;
   set_up(BS_BY_WATCHER);
-  both[0] = DONE(bs_table_add_inner(&table, NULL, 0)).node;
-  both[1] = DONE(bs_table_add_inner(&table, NULL, 0)).node;
+  both[0] = DONE(bs_table_add_inner(table, NULL, 0)).node;
+  both[1] = DONE(bs_table_add_inner(table, NULL, 0)).node;
   for (i = 0; i < 4; i++) {
     t[i] = begin();
-    DONE(bs_table_lock(&table, t[i], both[i % 2], BS_S));
+    DONE(bs_table_lock(table, t[i], both[i % 2], BS_S, NULL));
   }
-  DONE(bs_table_watch_thread(&table, UINT64_C(3600000000000)));
-  m = bs_table_hold(&table);
-  for (i = 0; i < 4; i++) ANSWERS(BS_WAITING, bs_lock(m, t[i], both[i % 2], BS_X, &told));
-  table.in->waited = bs_accepted(m).count;
-  pthread_cond_signal(&table.in->began);
-  bs_table_let_go(&table);
+  DONE(bs_table_watch_thread(table, UINT64_C(3600000000000)));
+  WANT(bs_table_hold(table) != NULL);
+  for (i = 0; i < 4; i++) ANSWERS(BS_WAITING, bs_lock(&table->manager, t[i], both[i % 2], BS_X, &told));
+  table->waited = accepted_by(&table->manager);
+  pthread_cond_signal(&table->began);
+  bs_table_let_go(table);
   for (i = 2; i < 4; i++) {
-    while (bs_table_doing(&table, t[i]).count != BS_CONDEMNED) nap();
+    while (ASK(table, bs_doing, t[i]).count != BS_CONDEMNED) nap();
   }
-  WANT(bs_table_doing(&table, t[0]).count == BS_WAITS && bs_table_doing(&table, t[1]).count == BS_WAITS);
+  WANT(ASK(table, bs_doing, t[0]).count == BS_WAITS && ASK(table, bs_doing, t[1]).count == BS_WAITS);
   a = begin(), b = begin();
-  DONE(bs_table_lock(&table, a, root, BS_S));
-  DONE(bs_table_lock(&table, b, root, BS_S));
+  DONE(bs_table_lock(table, a, root, BS_S, NULL));
+  DONE(bs_table_lock(table, b, root, BS_S, NULL));
   send(&one, a, root, BS_X);
   send(&two, b, root, BS_X);
   nanosleep(&pause, NULL);
-  WANT(bs_table_doing(&table, a).count == BS_WAITS && bs_table_doing(&table, b).count == BS_WAITS);
-  DONE(bs_table_end(&table));
+  WANT(ASK(table, bs_doing, a).count == BS_WAITS && ASK(table, bs_doing, b).count == BS_WAITS);
+  close_table();
   back(&one, BS_NO_MANAGER);
   back(&two, BS_NO_MANAGER);
 }
@@ -2124,17 +2134,17 @@ static void listings(void) {
   static bs_deadlock last;
   bs_counts counts;
   struct asker one, two;
-  bs_manager *m;
+  const bs_manager *m;
   bs_txn a, b, c;
   size_t place, rows = 0;
   set_up(BS_AT_BLOCK);
-  ANSWERS(BS_NO_PLACE, bs_table_last_deadlock(&table, &last));
+  ANSWERS(BS_NO_PLACE, ASK(table, bs_last_deadlock, &last));
   a = begin(), b = begin(), c = begin();
-  DONE(bs_table_lock_path(&table, a, low, BS_X, NULL));
+  DONE(bs_table_lock_path(table, a, low, BS_X, NULL));
   send_by_path(&one, b, low, BS_S);
   send_by_path(&two, c, low, BS_S);
-  m = bs_table_hold(&table);
-  WANT(bs_most(m).count == BS_SLOTS && same_txn(bs_living(m, a.slot).txn, a));
+  m = bs_table_hold(table);
+  WANT(limits_of(m).transactions == BS_SLOTS && same_txn(bs_living(m, a.slot).txn, a));
   WANT(bs_living(m, 5).status == BS_NO_PLACE && bs_living(m, BS_SLOTS).status == BS_BAD_NUMBER);
   WANT(bs_doing(m, a).count == BS_ACTIVE && bs_doing(m, b).count == BS_WAITS);
   WANT(bs_lock_count(m, a).count == 5 && bs_lock_count(m, b).count == 3);
@@ -2143,28 +2153,28 @@ static void listings(void) {
   }
   WANT(place == 5 && rows == 1);
   WANT(has_one(bs_holders(m, low).slots, a.slot));
-  WANT(bs_mode_at(m, a.slot, low).mode == BS_X && bs_mode_at(m, b.slot, low).mode == BS_NL);
+  WANT(bs_held(m, a, low).mode == BS_X && bs_held(m, b, low).mode == BS_NL);
   WANT(bs_queue_len(m, low).count == 2 && same_txn(bs_queue_at(m, low, 0).txn, b));
   WANT(same_txn(bs_queue_at(m, low, 1).txn, c) && bs_queue_at(m, low, 2).status == BS_NO_PLACE);
   WANT(bs_has(bs_waits_for(m, c).slots, a.slot) && bs_has(bs_waits_for(m, c).slots, b.slot));
-  bs_table_let_go(&table);
-  DONE(bs_table_counters(&table, &counts));
-  WANT(counts.waited == 2 && counts.accepted == bs_table_accepted(&table).count);
-  ANSWERS(BS_WAITING, bs_table_waiting(&table, b));
-  WANT(bs_table_queue_len(&table, low).count == 2 && bs_table_holders(&table, low).status == BS_DONE);
-  DONE(bs_table_commit(&table, a, NULL));
+  bs_table_let_go(table);
+  DONE(ASK(table, bs_counters, &counts));
+  WANT(counts.waited == 2 && counts.accepted == accepted_in(table));
+  ANSWERS(BS_WAITING, wait_in(table, b));
+  WANT(ASK(table, bs_queue_len, low).count == 2 && FIND(table, bs_holders, low).status == BS_DONE);
+  DONE(bs_table_commit(table, a, NULL));
   back(&one, BS_DONE), back(&two, BS_DONE);
   send_by_path(&one, b, low, BS_X);
-  ANSWERS(BS_VICTIM, bs_table_lock_path(&table, c, low, BS_X, NULL));
-  DONE(bs_table_last_deadlock(&table, &last));
+  ANSWERS(BS_VICTIM, bs_table_lock_path(table, c, low, BS_X, NULL));
+  DONE(ASK(table, bs_last_deadlock, &last));
   WANT(same_txn(last.victim, c) && last.count == 2);
   WANT(same_txn(last.at[0].txn, b) && same_node(last.at[0].node, low) && last.at[0].mode == BS_X);
   WANT(same_txn(last.at[1].txn, c) && bs_has(last.at[1].waits_for, b.slot) && bs_has(last.at[0].waits_for, c.slot));
-  DONE(bs_table_abort(&table, c, NULL));
+  DONE(bs_table_abort(table, c, NULL));
   back(&one, BS_DONE);
-  DONE(bs_table_counters(&table, &counts));
-  WANT(counts.victims == 1 && counts.granted_later == 3 && counts.most_waiting <= 2);
-  DONE(bs_table_end(&table));
+  DONE(ASK(table, bs_counters, &counts));
+  WANT(counts.condemned == 1 && counts.granted_later == 3 && counts.most_waiting <= 2);
+  close_table();
 }
 
 /* How many lines of a text begin so. */
@@ -2183,19 +2193,20 @@ static void a_dump(void) {
   WANT(text != NULL);
   set_up(BS_AT_BLOCK);
   a = begin(), b = begin();
-  DONE(bs_table_lock_path(&table, a, low, BS_X, NULL));
+  DONE(bs_table_lock_path(table, a, low, BS_X, NULL));
   send_by_path(&one, b, low, BS_S);
-  DONE(bs_table_dump(&table, text));
+  DONE(bs_table_dump(table, text));
   WANT(lines_with(text, "Counters") == 1 && lines_with(text, "Transactions:") == 1);
   WANT(lines_with(text, "   0 ") == 6 && lines_with(text, "   1 ") == 4);
   WANT(lines_with(text, "       1.        1 S") == 1 && lines_with(text, "    held         0 X") == 1);
   WANT(lines_with(text, "none") == 1);
-  DONE(bs_table_commit(&table, a, NULL));
+  DONE(bs_table_commit(table, a, NULL));
   back(&one, BS_DONE);
-  ANSWERS(BS_NULL_POINTER, bs_table_dump(&table, NULL));
+  ANSWERS(BS_NULL_POINTER, bs_table_dump(table, NULL));
   ANSWERS(BS_NULL_POINTER, bs_table_dump(NULL, text));
-  DONE(bs_table_end(&table));
-  ANSWERS(BS_NO_MANAGER, bs_table_dump(&table, text));
+  DONE(bs_table_end(table));
+  ANSWERS(BS_NO_MANAGER, bs_table_dump(table, text));
+  DONE(bs_table_free(&table));
   fclose(text);
   WANT(texts > 0);
 }
@@ -2211,7 +2222,7 @@ static bool same_text(FILE *one, FILE *other) {
   return a == b;
 }
 
-enum { MANY_LOCKS = 2 * BS_DUMP_LOCKS + 7 };
+enum { MANY_LOCKS = 2 * DUMP_PART + 7 };
 
 /* Its locks are copied in several parts. */
 static void a_long_dump(void) {
@@ -2222,21 +2233,21 @@ static void a_long_dump(void) {
   set_up(BS_AT_BLOCK);
   a = begin(), b = begin();
   for (i = 1; i < MANY_LOCKS; i++) {
-    DONE(bs_table_lock_path(&table, a, DONE(bs_table_add_inner(&table, &root, 1)).node, BS_X, NULL));
-    if (i >= BS_DUMP_LOCKS) continue;
-    DONE(bs_table_lock_path(&table, b, DONE(bs_table_add_inner(&table, &root, 1)).node, BS_X, NULL));
+    DONE(bs_table_lock_path(table, a, DONE(bs_table_add_inner(table, &root, 1)).node, BS_X, NULL));
+    if (i >= DUMP_PART) continue;
+    DONE(bs_table_lock_path(table, b, DONE(bs_table_add_inner(table, &root, 1)).node, BS_X, NULL));
   }
-  DONE(bs_table_dump(&table, text));
+  DONE(bs_table_dump(table, text));
   is_held = true;
-  DONE(bs_dump(bs_table_hold(&table), whole));
-  bs_table_let_go(&table);
+  DONE(bs_dump(bs_table_hold(table), whole));
+  bs_table_let_go(table);
   is_held = false;
   WANT(same_text(text, whole));
-  WANT(lines_with(text, "   0 ") == 1 + MANY_LOCKS && lines_with(text, "   1 ") == 1 + BS_DUMP_LOCKS);
+  WANT(lines_with(text, "   0 ") == 1 + MANY_LOCKS && lines_with(text, "   1 ") == 1 + DUMP_PART);
   refused_growth = 1;
-  ANSWERS(BS_NO_MEMORY, bs_table_dump(&table, text));
-  DONE(bs_table_end(&table));
-  ANSWERS(BS_NO_MANAGER, bs_table_dump(&table, text));
+  ANSWERS(BS_NO_MEMORY, bs_table_dump(table, text));
+  close_table();
+  ANSWERS(BS_NO_MANAGER, bs_table_dump(table, text));
   ANSWERS(BS_NULL_POINTER, bs_dump(NULL, text));
   fclose(text);
   fclose(whole);
@@ -2254,14 +2265,12 @@ static void an_end_with_sleepers(void) {
   size_t i;
   set_up(BS_AT_BLOCK);
   a = begin();
-  DONE(bs_table_lock(&table, a, root, BS_X));
+  DONE(bs_table_lock(table, a, root, BS_X, NULL));
   for (i = 0; i < SLEEPERS; i++) send_by_path(&askers[i], begin(), i % 2 == 0 ? low : high, BS_X);
-  ending = table.in;
-  DONE(bs_table_end(&table));
-  ending = NULL;
-  WANT(asleep_at_end == 0);
+  end_as_all_leave();
   for (i = 0; i < SLEEPERS; i++) back(&askers[i], BS_NO_MANAGER);
-  for (i = 0; i < SLEEPERS; i++) ANSWERS(BS_NO_MANAGER, bs_table_abort(&table, askers[i].txn, NULL));
+  for (i = 0; i < SLEEPERS; i++) ANSWERS(BS_NO_MANAGER, bs_table_abort(table, askers[i].txn, NULL));
+  DONE(bs_table_free(&table));
 }
 
 /* Threads that go on calling while the table ends. */
@@ -2269,8 +2278,8 @@ static void *call_on(void *arg) {
   long calls = 0;
   (void)arg;
   for (;;) {
-    bs_reply reply = bs_table_begin(&table);
-    if (reply.status == BS_DONE) reply = bs_table_lock_path(&table, reply.txn, low, BS_X, NULL);
+    bs_reply reply = bs_table_begin(table);
+    if (reply.status == BS_DONE) reply = bs_table_lock_path(table, reply.txn, low, BS_X, NULL);
     if (reply.status == BS_NO_MANAGER) return NULL;
     if (reply.status == BS_DONE && ++calls % 3 != 0) continue; /* It is left open, so that others sleep. */
   }
@@ -2281,71 +2290,123 @@ static void an_end_in_the_middle(void) {
   size_t i, round;
   for (round = 0; round < 20; round++) {
     set_up(BS_BY_WATCHER);
-    DONE(bs_table_watch_thread(&table, 0));
+    DONE(bs_table_watch_thread(table, 0));
     for (i = 0; i < 8; i++) start(&threads[i], call_on, NULL);
     nap();
-    DONE(bs_table_end(&table));
+    DONE(bs_table_end(table));
     for (i = 0; i < 8; i++) join(threads[i]);
+    DONE(bs_table_free(&table));
   }
 }
 
 static void a_table_by_options(void) {
-  bs_table t = BS_NO_TABLE_HERE;
-  bs_options options = bs_usual(), was = options;
+  bs_table *t = NULL;
+  bs_options options = { 0, 0, 0, 0, 0 }, was = options;
   options.transactions = 5;
   options.nodes = 70000;
   options.bounds = 300;
-  DONE(bs_table_make_with(&t, &options));
-  WANT(bs_table_most(&t).count == 5 && bs_table_most_nodes(&t).count == 70000 && bs_table_most_bounds(&t).count == 300);
-  DONE(bs_table_limits(&t, &was));
+  DONE(bs_table_make(&t, &options));
+  DONE(ASK(t, bs_limits, &was));
   WANT(was.transactions == 5 && was.nodes == 70000 && was.bounds == 300);
-  DONE(bs_table_end(&t));
+  DONE(bs_table_end(t));
+  DONE(bs_table_free(&t));
   options.bounds = UINT32_MAX;
-  ANSWERS(BS_BAD_NUMBER, bs_table_make_with(&t, &options));
-  ANSWERS(BS_NO_MANAGER, bs_table_most_bounds(&t));
-  ANSWERS(BS_NO_MANAGER, bs_table_limits(&t, &was));
-  WANT(was.bounds == 0 && was.size == sizeof was);
+  ANSWERS(BS_BAD_NUMBER, bs_table_make(&t, &options));
+  WANT(t == NULL);
+  ANSWERS(BS_BAD_NUMBER, make_table(&t, 2, BS_YOUNGEST, 1));
+  ANSWERS(BS_BAD_NUMBER, make_table(&t, BS_AT_BLOCK, 2, 1));
+  ANSWERS(BS_BAD_NUMBER, make_table(&t, BS_AT_BLOCK, BS_YOUNGEST, BS_SLOTS + 1));
+  WANT(t == NULL);
+  DONE(bs_table_make(&t, NULL));
+  DONE(ASK(t, bs_limits, &was));
+  WANT(was.transactions == BS_SLOTS && was.nodes == 65536 && was.bounds == 256);
+  DONE(bs_table_end(t));
+  DONE(bs_table_free(&t));
 }
 
-static void places_without_a_table(void) {
-  static bs_board board;
-  bs_table never = BS_NO_TABLE_HERE;
+/* Where there is no table, each call is refused so. */
+static void refuses_all(bs_table *none, bs_status status, bs_txn t) {
   bs_watcher watcher = BS_NO_WATCHER_HERE;
+  bs_command list[2];
+  FILE *text = tmpfile();
+  WANT(text != NULL);
+  told.count = 1;
+  ANSWERS(status, bs_table_commit(none, t, &told));
+  WANT(told.count == 0);
+  told.count = 1;
+  ANSWERS(status, bs_table_drop(none, t, root, &told));
+  WANT(told.count == 0);
+  ANSWERS(status, bs_table_begin(none));
+  ANSWERS(status, bs_table_begin_in_turn(none, NULL));
+  ANSWERS(status, bs_table_deadline(none, t, NULL));
+  ANSWERS(status, bs_table_lock(none, t, root, BS_X, NULL));
+  ANSWERS(status, bs_table_lock_path(none, t, root, BS_X, NULL));
+  ANSWERS(status, bs_table_await(none, t, root, BS_X, NULL));
+  ANSWERS(status, bs_table_lock_row(none, t, file, 1, NULL, 0, BS_X, NULL));
+  ANSWERS(status, bs_table_index_by(none, t, &root, 1, file, NULL, 0));
+  ANSWERS(status, bs_table_watch(none, &watcher));
+  ANSWERS(status, bs_table_watch_thread(none, 0));
+  ANSWERS(status, bs_table_dump(none, text));
+  ANSWERS(status, bs_table_end(none));
+  WANT(bs_table_hold(none) == NULL);
+  list[0] = bs_do(BS_DO_COMMIT, t), list[1] = list[0];
+  list[0].told = &told;
+  told.count = 1;
+  WANT(bs_table_run(none, list, 2) == 0 && list[0].reply.status == status && told.count == 0);
+  WANT(list[1].reply.status == BS_NOT_MADE);
+  fclose(text);
+}
+
+/* Null, and ended, and held by the thread that calls. */
+static void places_without_a_table(void) {
+  bs_table *never = NULL;
   bs_txn t = { 0, 0 };
-  ANSWERS(BS_NO_MANAGER, bs_table_deadline(&never, t, NULL));
-  ANSWERS(BS_NULL_POINTER, bs_table_deadline(NULL, t, NULL));
-  ANSWERS(BS_NO_MANAGER, bs_table_begin(&never));
-  ANSWERS(BS_NO_MANAGER, bs_table_end(&never));
-  ANSWERS(BS_NO_MANAGER, bs_table_watch(&never, &watcher));
-  ANSWERS(BS_NO_MANAGER, bs_table_watch_thread(&never, 0));
-  ANSWERS(BS_NO_MANAGER, bs_table_read_board(&never, &board));
-  WANT(bs_table_hold(&never) == NULL && bs_table_holders(&never, root).status == BS_NO_MANAGER);
-  ANSWERS(BS_BAD_NUMBER, bs_table_make(&never, 2, BS_YOUNGEST, 1));
-  ANSWERS(BS_BAD_NUMBER, bs_table_make(&never, BS_AT_BLOCK, BS_YOUNGEST, BS_SLOTS + 1));
-  ANSWERS(BS_NULL_POINTER, bs_table_make(NULL, BS_AT_BLOCK, BS_YOUNGEST, 1));
-  ANSWERS(BS_NULL_POINTER, bs_table_end(NULL));
+  refuses_all(NULL, BS_NULL_POINTER, t);
+  ANSWERS(BS_NULL_POINTER, bs_table_make(NULL, NULL));
+  ANSWERS(BS_NULL_POINTER, bs_table_free(NULL));
+  ANSWERS(BS_NULL_POINTER, bs_table_free(&never));
+  ANSWERS(BS_NULL_POINTER, bs_table_let_go(NULL));
   set_up(BS_AT_BLOCK);
-  ANSWERS(BS_IN_USE, bs_table_make(&table, BS_AT_BLOCK, BS_YOUNGEST, 1));
+  ANSWERS(BS_IN_USE, bs_table_make(&table, NULL));
+  ANSWERS(BS_IN_USE, bs_table_free(&table));
+  ANSWERS(BS_NOT_HELD, bs_table_let_go(table));
   t = begin();
-  DONE(bs_table_end(&table));
-  told.count = 1;
-  ANSWERS(BS_NO_MANAGER, bs_table_commit(&table, t, &told));
-  WANT(told.count == 0);
-  ANSWERS(BS_NO_MANAGER, bs_table_lock(&table, t, root, BS_X));
-  ANSWERS(BS_NO_MANAGER, bs_table_lock_path(&table, t, root, BS_X, NULL));
-  told.count = 1;
-  ANSWERS(BS_NO_MANAGER, bs_table_drop(&table, t, root, &told));
-  WANT(told.count == 0);
-  ANSWERS(BS_NO_MANAGER, bs_table_index_by(&table, t, &root, 1, file, NULL, 0));
-  ANSWERS(BS_NO_MANAGER, bs_table_end(&table));
-  told.count = 1;
-  ANSWERS(BS_NULL_POINTER, bs_table_commit(NULL, t, &told));
-  WANT(told.count == 0 && bs_table_waits_for(NULL, t).status == BS_NULL_POINTER);
-  bs_table_let_go(NULL);
-  bs_table_let_go(&never);
-  WANT(bs_table_hold(NULL) == NULL);
-  ANSWERS(BS_NULL_POINTER, bs_table_lock(NULL, t, root, BS_X));
-  ANSWERS(BS_NULL_POINTER, bs_table_lock_path(NULL, t, root, BS_X, NULL));
+  WANT(bs_table_hold(table) == &table->manager);
+  refuses_all(table, BS_IN_USE, t);
+  ANSWERS(BS_IN_USE, bs_table_free(&table));
+  DONE(bs_table_let_go(table));
+  ANSWERS(BS_NOT_HELD, bs_table_let_go(table));
+  DONE(bs_table_end(table));
+  refuses_all(table, BS_NO_MANAGER, t);
+  ANSWERS(BS_NOT_HELD, bs_table_let_go(table));
+  DONE(bs_table_free(&table));
+  WANT(table == NULL);
+}
+
+/* Another thread does not hold what this one holds: it waits for the latch, and cannot give it back. */
+static void *let_go_of_it(void *arg) {
+  (void)arg;
+  ANSWERS(BS_NOT_HELD, bs_table_let_go(table));
+  DONE(bs_table_begin(table));
+  return NULL;
+}
+
+static void a_table_is_lent(void) {
+  pthread_t other;
+  bs_counts before, counts;
+  const bs_manager *m;
+  set_up(BS_AT_BLOCK);
+  m = bs_table_hold(table);
+  memset(&before, 0, sizeof before), memset(&counts, 0, sizeof counts);
+  DONE(bs_counters(m, &before));
+  start(&other, let_go_of_it, NULL);
+  nap();
+  DONE(bs_counters(m, &counts));
+  WANT(counts.accepted == before.accepted);
+  DONE(bs_table_let_go(table));
+  join(other);
+  WANT(accepted_in(table) == before.accepted + 1);
+  close_table();
 }
 
 /* ------------------------------------------------------------------------------------------------
@@ -2356,11 +2417,14 @@ static void refused_tables(void) {
   bs_reply made = { BS_NO_MEMORY, BS_NL, { 0, 0 }, { 0, 0 }, 0, 0, 0, BS_NL };
   long n;
   for (n = 1; made.status == BS_NO_MEMORY; n++) {
-    bs_table t = BS_NO_TABLE_HERE;
+    bs_table *t = NULL;
     refused_growth = n;
-    made = bs_table_make(&t, BS_AT_BLOCK, BS_YOUNGEST, BS_SLOTS);
+    made = bs_table_make(&t, NULL);
     refused_growth = 0;
-    WANT(bs_table_end(&t).status == (made.status == BS_DONE ? BS_DONE : BS_NO_MANAGER));
+    WANT((t != NULL) == (made.status == BS_DONE));
+    if (t == NULL) continue;
+    DONE(bs_table_end(t));
+    DONE(bs_table_free(&t));
   }
   WANT(made.status == BS_DONE && n > 3);
 }
@@ -2375,23 +2439,23 @@ static bool refuses(long n) {
   set_up(BS_BY_WATCHER);
   t = begin();
   refused_growth = n;
-  reply = bs_table_lock_path(&table, t, low, BS_X, NULL);
-  if (reply.status == BS_NO_MEMORY) reply = bs_table_lock_path(&table, t, low, BS_X, NULL);
+  reply = bs_table_lock_path(table, t, low, BS_X, NULL);
+  if (reply.status == BS_NO_MEMORY) reply = bs_table_lock_path(table, t, low, BS_X, NULL);
   DONE(reply);
-  list[0] = bs_do_lock(t, above, BS_IX);
-  list[1] = bs_do_lock(t, high, BS_X);
-  if (bs_table_run(&table, list, 2) < 2) WANT(bs_table_run(&table, list, 2) == 2);
-  reply = bs_table_watch(&table, &watcher);
-  if (reply.status == BS_NO_MEMORY) reply = bs_table_watch(&table, &watcher);
+  list[0] = bs_do_at(BS_DO_LOCK, t, above, BS_IX);
+  list[1] = bs_do_at(BS_DO_LOCK, t, high, BS_X);
+  if (bs_table_run(table, list, 2) < 2) WANT(bs_table_run(table, list, 2) == 2);
+  reply = bs_table_watch(table, &watcher);
+  if (reply.status == BS_NO_MEMORY) reply = bs_table_watch(table, &watcher);
   DONE(reply);
-  reply = bs_table_watch_thread(&table, 0);
-  if (reply.status == BS_NO_MEMORY) reply = bs_table_watch_thread(&table, 0);
+  reply = bs_table_watch_thread(table, 0);
+  if (reply.status == BS_NO_MEMORY) reply = bs_table_watch_thread(table, 0);
   DONE(reply);
   refused = refused_growth == 0;
   refused_growth = 0;
-  DONE(bs_table_commit(&table, t, NULL));
-  DONE(bs_table_end(&table));
-  DONE(bs_table_watch_end(&watcher));
+  DONE(bs_table_commit(table, t, NULL));
+  close_table();
+  DONE(bs_watch_end(&watcher));
   return refused;
 }
 
@@ -2411,22 +2475,22 @@ static void refused_turns(void) {
   holder = begin();
   for (i = 0; i < 3; i++) line_up(&line[i], i + 1);
   refused_begins = 2;
-  DONE(bs_table_commit(&table, holder, NULL));
+  DONE(bs_table_commit(table, holder, NULL));
   for (i = 0; i < 2; i++) {
     join(line[i].thread);
     ANSWERS(BS_NO_MEMORY, line[i].reply);
   }
   holder = begun(&line[2]);
-  ANSWERS(BS_TOO_MANY_TXNS, bs_table_begin(&table));
+  ANSWERS(BS_TOO_MANY_TXNS, bs_table_begin(table));
   line_up(&line[0], 1);
   refused_begins = 1;
-  DONE(bs_table_commit(&table, holder, NULL));
+  DONE(bs_table_commit(table, holder, NULL));
   join(line[0].thread);
   ANSWERS(BS_NO_MEMORY, line[0].reply);
   refused_begins = 1;
-  ANSWERS(BS_NO_MEMORY, bs_table_begin_until(&table, NULL));
+  ANSWERS(BS_NO_MEMORY, bs_table_begin_in_turn(table, NULL));
   begin();
-  DONE(bs_table_end(&table));
+  close_table();
 }
 
 /* ------------------------------------------------------------------------------------------------
@@ -2527,6 +2591,7 @@ int main(int count, char **words) {
   TELL(an_end_in_the_middle);
   TELL(a_table_by_options);
   TELL(places_without_a_table);
+  TELL(a_table_is_lent);
   TELL(refused_tables);
   TELL(refused_growths);
   TELL(refused_turns);

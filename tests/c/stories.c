@@ -43,7 +43,7 @@ static bool is_told(size_t place, bs_txn txn, uint32_t kind) {
 
 /* Makes a manager at a place, with a root, which it answers. */
 static bs_node begin_manager(bs_manager *m, uint32_t detect) {
-  DONE(bs_make(m, detect, BS_SLOTS));
+  DONE(make_manager(m, detect, BS_SLOTS));
   return DONE(bs_add_inner(m, NULL, 0)).node;
 }
 
@@ -104,7 +104,7 @@ static void modes_join(void) {
   DONE(bs_commit(&m, a, &told));
   WANT(told.count == 0);
   WANT(bs_group(&m, root).mode == BS_NL);
-  WANT(bs_accepted(&m).count == 5);
+  WANT(accepted_by(&m) == 5);
   DONE(bs_end(&m));
 }
 
@@ -116,7 +116,7 @@ static void a_commit_grants(void) {
   DONE(bs_lock(&m, a, root, BS_X, &told));
   WANT(bs_lock(&m, b, root, BS_S, &told).status == BS_WAITING);
   WANT(bs_lock(&m, c, root, BS_S, &told).status == BS_WAITING);
-  wait = bs_waiting(&m, b);
+  wait = wait_of(&m, b);
   WANT(wait.status == BS_WAITING && wait.mode == BS_S && same_node(wait.node, root));
   WANT(bs_lock(&m, b, root, BS_S, &told).status == BS_TXN_WAITING);
   WANT(bs_try(&m, a, root, BS_X).status == BS_DONE);
@@ -124,7 +124,7 @@ static void a_commit_grants(void) {
   WANT(told.count == 2 && is_told(0, b, BS_TOLD_GRANTED) && is_told(1, c, BS_TOLD_GRANTED));
   WANT(told.at[0].mode == BS_S && same_node(told.at[0].node, root));
   WANT(bs_held(&m, b, root).mode == BS_S && bs_held(&m, c, root).mode == BS_S);
-  WANT(bs_waiting(&m, b).status == BS_NOT_WAITING);
+  WANT(wait_of(&m, b).status == BS_NOT_WAITING);
   DONE(bs_end(&m));
 }
 
@@ -169,11 +169,13 @@ static void a_deadlock_has_a_victim(void) {
 /* Two young readers hold what an old writer asks for, and wait for what it holds: who falls by a choice. */
 static bs_status asks_in_their_way(uint32_t choice) {
   bs_manager m = BS_NO_MANAGER_HERE;
+  bs_options options = { 0, 0, 0, 0, 0 };
   bs_node wanted_node, held;
   bs_txn a, b, c;
   bs_status status;
-  DONE(bs_make_choosing(&m, BS_AT_BLOCK, choice, BS_SLOTS));
-  WANT(bs_victims(&m).count == choice);
+  options.victims = choice;
+  DONE(bs_make(&m, &options));
+  WANT(limits_of(&m).victims == choice);
   wanted_node = DONE(bs_add_inner(&m, NULL, 0)).node;
   held = DONE(bs_add_inner(&m, NULL, 0)).node;
   a = begin(&m);
@@ -193,11 +195,11 @@ static bs_status asks_in_their_way(uint32_t choice) {
 
 static void a_choice_of_victims(void) {
   bs_manager m = BS_NO_MANAGER_HERE;
+  bs_options options = options_of(BS_AT_BLOCK, 2, 1);
   WANT(asks_in_their_way(BS_YOUNGEST) == BS_WAITING);
   WANT(asks_in_their_way(BS_FEWEST) == BS_VICTIM);
-  WANT(bs_make_choosing(&m, BS_AT_BLOCK, 2, 1).status == BS_BAD_NUMBER);
-  WANT(bs_make_choosing(NULL, BS_AT_BLOCK, 0, 1).status == BS_NULL_POINTER);
-  WANT(bs_victims(&m).status == BS_NO_MANAGER && bs_victims(NULL).status == BS_NULL_POINTER);
+  WANT(bs_make(&m, &options).status == BS_BAD_NUMBER);
+  WANT(bs_limits(&m, &options).status == BS_NO_MANAGER && bs_limits(NULL, &options).status == BS_NULL_POINTER);
 }
 
 static void an_older_asker_condemns_the_younger(void) {
@@ -218,7 +220,7 @@ static void a_watcher_settles(void) {
   bs_manager m = BS_NO_MANAGER_HERE;
   bs_node root = begin_manager(&m, BS_BY_WATCHER);
   bs_txn a = begin(&m), b = begin(&m);
-  WANT(bs_detect(&m).count == BS_BY_WATCHER);
+  WANT(limits_of(&m).detect == BS_BY_WATCHER);
   DONE(bs_lock(&m, a, root, BS_S, &told));
   DONE(bs_lock(&m, b, root, BS_S, &told));
   WANT(bs_lock(&m, a, root, BS_X, &told).status == BS_WAITING);
@@ -256,14 +258,14 @@ static void a_path_of_locks(void) {
   bs_node root = begin_manager(&m, BS_AT_BLOCK);
   struct file f = make_file(&m, root);
   bs_txn a = begin(&m), b = begin(&m);
-  uint64_t accepted = bs_accepted(&m).count;
+  uint64_t accepted = accepted_by(&m);
   bs_reply reply;
   WANT(bs_lock_path(&m, a, f.low, BS_IX, &told).status == BS_BAD_MODE && bs_held(&m, a, root).mode == BS_NL);
   WANT(DONE(bs_lock_path(&m, a, f.low, BS_X, &told)).mode == BS_X && told.count == 0);
   WANT(bs_held(&m, a, root).mode == BS_IX && bs_held(&m, a, f.file).mode == BS_IX);
   WANT(bs_held(&m, a, f.index).mode == BS_IX && bs_held(&m, a, f.below).mode == BS_IX);
-  WANT(bs_accepted(&m).count == accepted + 5);
-  WANT(DONE(bs_lock_path(&m, a, f.low, BS_S, &told)).mode == BS_X && bs_accepted(&m).count == accepted + 6);
+  WANT(accepted_by(&m) == accepted + 5);
+  WANT(DONE(bs_lock_path(&m, a, f.low, BS_S, &told)).mode == BS_X && accepted_by(&m) == accepted + 6);
   DONE(bs_lock_path(&m, b, f.high, BS_S, &told));
   WANT(bs_held(&m, b, f.file).mode == BS_IS && bs_held(&m, b, f.above).mode == BS_NL);
   DONE(bs_commit(&m, b, &told));
@@ -372,7 +374,7 @@ static void an_index_over_rows(void) {
   DONE(bs_lock_path(&m, a, rows, BS_IX, &told));
   DONE(bs_lock_path(&m, a, bs_interval(&m, bs_index(&m, rows, 0).node, 0).node, BS_IX, &told));
   DONE(bs_lock_row(&m, a, rows, 7, &(uint64_t){ 1 }, 1, BS_X, &told));
-  DONE(bs_commit_rows(&m, a, &told));
+  DONE(bs_commit(&m, a, &told));
   WANT(bs_has_records(&m, rows).count == 0 && bs_add_index(&m, &root, 1, rows, NULL, 0).status == BS_FILE_IN_USE);
   DONE(bs_end(&m));
 }
@@ -388,7 +390,7 @@ struct seen {
 static struct seen see(bs_manager *m) {
   struct seen s;
   memset(&s, 0, sizeof s);
-  s.accepted = bs_accepted(m).count;
+  s.accepted = accepted_by(m);
   s.nodes = bs_len(m).count;
   s.ended = bs_ended(m).slots;
   DONE(bs_counters(m, &s.counts));
@@ -443,7 +445,7 @@ static void a_row_by_its_number(void) {
   DONE(lock_row(&m, a, f, 1, 10, BS_X));
   DONE(lock_row(&m, a, f, 2, 110, BS_X));
   WANT(has_node(&m, f, 1) && has_node(&m, f, 2) && bs_len(&m).count == nodes + 2);
-  DONE(bs_commit_rows(&m, a, &told));
+  DONE(bs_commit(&m, a, &told));
   WANT(!has_node(&m, f, 1) && !has_node(&m, f, 2) && bs_len(&m).count == nodes && told.count == 0);
   DONE(bs_end(&m));
 }
@@ -460,7 +462,7 @@ static void a_row_by_its_node(void) {
   WANT(is_told(0, b, BS_TOLD_GRANTED) && DONE(ask_row(&m, b, f, 7, 70, BS_S)).mode == BS_S);
   DONE(bs_unlock(&m, b, row, &told));
   WANT(same_node(row, DONE(bs_row_node(&m, f.file, 7)).node) && bs_group(&m, row).mode == BS_NL);
-  DONE(bs_commit_rows(&m, b, &told));
+  DONE(bs_commit(&m, b, &told));
   WANT(!has_node(&m, f, 7) && bs_kind(&m, row).status == BS_NO_SUCH_NODE);
   DONE(bs_end(&m));
 }
@@ -474,14 +476,14 @@ static void a_row_is_waited_for(void) {
   WANT(reply.status == BS_WAITING && same_node(reply.node, row));
   WANT(bs_verdict(&m, b, row, BS_S).status == BS_WAITING);
   WANT(lock_row(&m, c, f, 7, 70, BS_X).status == BS_WAITING);
-  DONE(bs_cancel_rows(&m, c, &told));
+  DONE(bs_cancel(&m, c, &told));
   WANT(bs_has(bs_ended(&m).slots, c.slot) && told.count == 0 && has_node(&m, f, 7));
-  DONE(bs_commit_rows(&m, a, &told));
+  DONE(bs_commit(&m, a, &told));
   WANT(told.count == 1 && is_told(0, b, BS_TOLD_GRANTED) && same_node(told.at[0].node, row));
   WANT(bs_has(bs_ended(&m).slots, b.slot) && DONE(bs_verdict(&m, b, row, BS_S)).mode == BS_S);
   reply = DONE(ask_row(&m, b, f, 7, 70, BS_S));
   WANT(reply.mode == BS_S && same_node(reply.node, row) && told.count == 0);
-  DONE(bs_commit_rows(&m, b, &told));
+  DONE(bs_commit(&m, b, &told));
   WANT(!has_node(&m, f, 7));
   DONE(bs_end(&m));
 }
@@ -498,7 +500,7 @@ static void a_row_with_other_keys(void) {
   reply = ask_row(&m, b, f, 7, 70, BS_X);
   WANT(reply.status == BS_WAITING && same_node(reply.node, row) && reply.mode == BS_NL);
   WANT(ask_row(&m, a, f, 7, 70, BS_S).status == BS_OTHER_KEYS && bs_held(&m, a, row).mode == BS_X);
-  DONE(bs_commit_rows(&m, a, &told));
+  DONE(bs_commit(&m, a, &told));
   WANT(told.count == 1 && is_told(0, b, BS_TOLD_GRANTED) && bs_key(&m, row, 0).count == 150);
   reply = ask_row(&m, b, f, 7, 70, BS_X);
   WANT(reply.status == BS_OTHER_KEYS && reply.mode == BS_X && same_node(reply.node, row) && told.count == 0);
@@ -518,19 +520,19 @@ static void a_row_whose_node_stands(void) {
   bs_txn a = begin(&m), b = begin(&m);
   bs_node row = DONE(lock_row(&m, a, f, 7, 70, BS_X)).node, other;
   uint64_t accepted, nodes = bs_len(&m).count;
-  DONE(bs_commit(&m, a, &told));
+  DONE(bs_unlock(&m, a, row, &told));
   WANT(has_node(&m, f, 7));
   lock_above(&m, b, f, 150);
-  accepted = bs_accepted(&m).count;
+  accepted = accepted_by(&m);
   other = DONE(ask_row(&m, b, f, 7, 150, BS_X)).node;
-  WANT(bs_accepted(&m).count == accepted + 3 && bs_len(&m).count == nodes);
+  WANT(accepted_by(&m) == accepted + 3 && bs_len(&m).count == nodes);
   WANT(!same_node(row, other) && bs_kind(&m, row).status == BS_NO_SUCH_NODE);
   WANT(bs_key(&m, other, 0).count == 150 && same_node(bs_parent(&m, other, 1).node, f.above));
   DONE(bs_commit(&m, b, &told));
   b = begin(&m);
   lock_above(&m, b, f, 150);
   WANT(same_node(DONE(ask_row(&m, b, f, 7, 150, BS_X)).node, other));
-  DONE(bs_abort_rows(&m, b, &told));
+  DONE(bs_abort(&m, b, &told));
   WANT(!has_node(&m, f, 7));
   DONE(bs_end(&m));
 }
@@ -583,10 +585,10 @@ static void rows_are_refused(void) {
   WANT(ask_row(&m, a, f, 7, key, BS_IX).status == BS_BAD_MODE);
   WANT(bs_unlock_row(&m, a, f.file, 7, &told).status == BS_NO_SUCH_NODE);
   WANT(bs_rekey_row(&m, a, f.file, 7, f.index, 80, &told).status == BS_NO_SUCH_NODE);
-  WANT(bs_cancel_rows(&m, a, &told).status == BS_NOT_WAITING);
-  WANT(bs_commit_rows(&m, gone, &told).status == BS_NO_SUCH_TXN);
-  WANT(bs_abort_rows(&m, gone, &told).status == BS_NO_SUCH_TXN);
-  WANT(bs_escalate_rows(&m, a, f.file, &told).status == BS_NOT_HELD);
+  WANT(bs_cancel(&m, a, &told).status == BS_NOT_WAITING);
+  WANT(bs_commit(&m, gone, &told).status == BS_NO_SUCH_TXN);
+  WANT(bs_abort(&m, gone, &told).status == BS_NO_SUCH_TXN);
+  WANT(bs_escalate(&m, a, f.file, &told).status == BS_NOT_HELD);
   WANT(is_as(&m, &before) && !has_node(&m, f, 7));
   DONE(bs_add_index(&m, &f.root, 1, f.file, NULL, 0));
   DONE(bs_end(&m));
@@ -614,10 +616,10 @@ static void rows_with_nodes_are_refused(void) {
   WANT(bs_lock_row(&m, a, f.file, 7, NULL, 1, BS_X, &told).status == BS_NULL_POINTER);
   WANT(bs_lock_row(NULL, a, f.file, 7, &key, 1, BS_X, &told).status == BS_NULL_POINTER);
   WANT(bs_lock_row(&m, a, f.file, 7, &key, 1, BS_X, NULL).status == BS_NULL_POINTER);
-  WANT(bs_commit_rows(&m, a, NULL).status == BS_NULL_POINTER && bs_row_node(NULL, f.file, 7).status == BS_NULL_POINTER);
+  WANT(bs_commit(&m, a, NULL).status == BS_NULL_POINTER && bs_row_node(NULL, f.file, 7).status == BS_NULL_POINTER);
   WANT(is_as(&m, &before) && same_node(bs_row_node(&m, f.file, 7).node, row));
-  DONE(bs_commit(&m, a, &told));
-  DONE(bs_commit(&m, b, &told));
+  DONE(bs_unlock(&m, a, row, &told));
+  DONE(bs_unlock(&m, b, row, &told));
   before = see(&m);
   WANT(ask_row(&m, c, f, 7, 150, BS_X).status == BS_NEED_PARENTS && is_as(&m, &before));
   WANT(same_node(bs_row_node(&m, f.file, 7).node, row) && bs_key(&m, row, 0).count == 70);
@@ -633,10 +635,10 @@ static void a_deadlock_over_rows(void) {
   WANT(lock_row(&m, a, f, 2, 20, BS_X).status == BS_WAITING);
   reply = lock_row(&m, b, f, 1, 10, BS_X);
   WANT(reply.status == BS_VICTIM && same_node(reply.node, one));
-  DONE(bs_abort_rows(&m, b, &told));
+  DONE(bs_abort(&m, b, &told));
   WANT(told.count == 1 && is_told(0, a, BS_TOLD_GRANTED) && same_node(told.at[0].node, two));
   WANT(has_node(&m, f, 1) && has_node(&m, f, 2));
-  DONE(bs_commit_rows(&m, a, &told));
+  DONE(bs_commit(&m, a, &told));
   WANT(!has_node(&m, f, 1) && !has_node(&m, f, 2));
   DONE(bs_end(&m));
 }
@@ -656,7 +658,7 @@ static void other_keys_by_the_fall_of_another(void) {
   WANT(ask_row(&m, a, f, 7, 70, BS_S).status == BS_OTHER_KEYS);
   WANT(told.count == 1 && is_told(0, c, BS_TOLD_VICTIM));
   WANT(bs_has(bs_ended(&m).slots, c.slot) && bs_held(&m, a, row).mode == BS_S);
-  DONE(bs_abort_rows(&m, c, &told));
+  DONE(bs_abort(&m, c, &told));
   reply = ask_row(&m, a, f, 7, 150, BS_S);
   WANT(reply.status == BS_DONE && same_node(reply.node, row));
   DONE(bs_end(&m));
@@ -678,13 +680,13 @@ static void rows_come_and_go(void) {
   lock_above(&m, b, f, 150);
   WANT(ask_row(&m, b, f, 7, 80, BS_X).status == BS_WAITING);
   WANT(lock_row(&m, c, f, 7, 150, BS_X).status == BS_WAITING);
-  DONE(bs_commit_rows(&m, a, &told));
+  DONE(bs_commit(&m, a, &told));
   WANT(told.count == 1 && is_told(0, b, BS_TOLD_GRANTED) && !has_node(&m, f, 1));
   WANT(ask_row(&m, b, f, 7, 80, BS_X).status == BS_OTHER_KEYS);
-  DONE(bs_abort_rows(&m, b, &told));
+  DONE(bs_abort(&m, b, &told));
   WANT(told.count == 1 && is_told(0, c, BS_TOLD_GRANTED) && !has_node(&m, f, 3));
   DONE(ask_row(&m, c, f, 7, 150, BS_X));
-  DONE(bs_commit_rows(&m, c, &told));
+  DONE(bs_commit(&m, c, &told));
   WANT(!has_node(&m, f, 7) && bs_kind(&m, row).status == BS_NO_SUCH_NODE && bs_has_records(&m, f.file).count == 0);
   DONE(bs_end(&m));
 }
@@ -699,7 +701,7 @@ static void an_escalation_of_rows(void) {
   DONE(lock_row(&m, a, f, 2, 20, BS_S));
   DONE(bs_lock_path(&m, b, f.file, BS_IS, &told));
   DONE(ask_row(&m, b, f, 2, 20, BS_S));
-  reply = DONE(bs_escalate_rows(&m, a, f.file, &told));
+  reply = DONE(bs_escalate(&m, a, f.file, &told));
   WANT(reply.mode == BS_SIX && reply.released == 2 && !has_node(&m, f, 1) && has_node(&m, f, 2));
   DONE(bs_end(&m));
 }
@@ -862,7 +864,7 @@ static void a_node_is_dropped(void) {
   DONE(bs_drop(&m, a, file, &told));
   WANT(told.count == 2 && is_told(0, b, BS_TOLD_GONE) && is_told(1, c, BS_TOLD_GONE));
   WANT(bs_has(bs_ended(&m).slots, b.slot) && bs_has(bs_ended(&m).slots, c.slot));
-  WANT(bs_waiting(&m, b).status == BS_NOT_WAITING && bs_lock_count(&m, a).count == 1);
+  WANT(wait_of(&m, b).status == BS_NOT_WAITING && bs_lock_count(&m, a).count == 1);
   WANT(bs_lock_count(&m, b).count == 1 && DONE(bs_counters(&m, &counts)).status == BS_DONE && counts.gone == 2);
   do {
     next = DONE(bs_add_file(&m, &root, 1)).node;
@@ -933,7 +935,7 @@ static void a_file_of_rows_is_dropped(void) {
   while (next.key != f.file.key);
   WANT(bs_lock_row(&m, b, next, 7, NULL, 0, BS_X, &told).status == BS_NOT_ROWS);
   DONE(bs_adopt(&m, next, NULL, 0));
-  DONE(bs_commit_rows(&m, b, &told));
+  DONE(bs_commit(&m, b, &told));
   DONE(bs_end(&m));
 }
 
@@ -951,7 +953,7 @@ static void a_reader_by_another_index(void) {
   DONE(bs_lock_path(&m, a, f.index, BS_X, &told));
   WANT(bs_drop(&m, a, f.index, &told).status == BS_FILE_IN_USE);
   WANT(bs_lock_path(&m, a, other, BS_X, &told).status == BS_WAITING);
-  DONE(bs_commit_rows(&m, reader, &told));
+  DONE(bs_commit(&m, reader, &told));
   WANT(told.count == 1 && is_told(0, a, BS_TOLD_GRANTED));
   DONE(bs_drop(&m, a, f.index, &told));
   WANT(same_node(bs_index(&m, f.file, 0).node, other));
@@ -995,7 +997,7 @@ static void stale_names(void) {
   WANT(bs_lock(&m, b, nothing, BS_S, &told).status == BS_NO_SUCH_NODE);
   WANT(bs_lock(&m, b, made_up, BS_S, &told).status == BS_NO_SUCH_NODE);
   WANT(bs_add_inner(&m, &made_up, 1).status == BS_NO_SUCH_NODE);
-  WANT(bs_accepted(&m).count == 5);
+  WANT(accepted_by(&m) == 5);
   DONE(bs_end(&m));
 }
 
@@ -1018,15 +1020,15 @@ static void no_transaction_by(bs_manager *m, bs_txn none, const struct file *f) 
   WANT(bs_move(m, none, f->index, &f->root, 1, &told).status == BS_NO_SUCH_TXN);
   WANT(bs_drop(m, none, nothing, &told).status == BS_NO_SUCH_TXN);
   WANT(bs_index_by(m, none, &nothing, 1, nothing, NULL, 0).status == BS_NO_SUCH_TXN);
-  WANT(bs_commit_rows(m, none, &told).status == BS_NO_SUCH_TXN);
-  WANT(bs_abort_rows(m, none, &told).status == BS_NO_SUCH_TXN);
-  WANT(bs_cancel_rows(m, none, &told).status == BS_NO_SUCH_TXN);
-  WANT(bs_escalate_rows(m, none, f->file, &told).status == BS_NO_SUCH_TXN);
+  WANT(bs_commit(m, none, &told).status == BS_NO_SUCH_TXN);
+  WANT(bs_abort(m, none, &told).status == BS_NO_SUCH_TXN);
+  WANT(bs_cancel(m, none, &told).status == BS_NO_SUCH_TXN);
+  WANT(bs_escalate(m, none, f->file, &told).status == BS_NO_SUCH_TXN);
   WANT(bs_verdict(m, none, f->low, BS_X).status == BS_NO_SUCH_TXN);
   WANT(bs_held(m, none, f->low).status == BS_NO_SUCH_TXN && bs_effective(m, none, f->low).status == BS_NO_SUCH_TXN);
-  WANT(bs_waiting(m, none).status == BS_NOT_WAITING && bs_children(m, none, f->file).status == BS_NOT_HELD);
+  WANT(bs_children(m, none, f->file).status == BS_NO_SUCH_TXN);
   WANT(bs_doing(m, none).status == BS_NO_SUCH_TXN && bs_lock_count(m, none).status == BS_NO_SUCH_TXN);
-  WANT(bs_lock_at(m, none, 0).status == BS_NO_PLACE && bs_waits_for(m, none).status == BS_NO_SUCH_TXN);
+  WANT(bs_lock_at(m, none, 0).status == BS_NO_SUCH_TXN && bs_waits_for(m, none).status == BS_NO_SUCH_TXN);
 }
 
 /* The same of calls about rows. */
@@ -1046,15 +1048,14 @@ static void slots_that_are_none(void) {
   uint64_t before;
   size_t i;
   DONE(bs_lock_path(&m, a, f.low, BS_X, &told));
-  before = bs_accepted(&m).count;
+  before = accepted_by(&m);
   for (i = 0; i < sizeof beyond / sizeof beyond[0]; i++) {
     none.slot = beyond[i] + a.slot;
     no_transaction_by(&m, none, &f);
     no_row_by(&m, none, &rows);
     WANT(bs_living(&m, none.slot).status == BS_BAD_NUMBER);
-    WANT(bs_mode_at(&m, none.slot, f.low).status == BS_BAD_NUMBER);
   }
-  WANT(bs_accepted(&m).count == before && bs_held(&m, a, f.low).mode == BS_X);
+  WANT(accepted_by(&m) == before && bs_held(&m, a, f.low).mode == BS_X);
   DONE(bs_end(&m));
 }
 
@@ -1064,9 +1065,8 @@ static void numbers_out_of_range(void) {
   bs_manager m = BS_NO_MANAGER_HERE;
   bs_node root = begin_manager(&m, BS_AT_BLOCK);
   bs_txn a = begin(&m);
-  WANT(bs_make(&none, 2, 1).status == BS_BAD_NUMBER);
-  WANT(bs_make(&none, BS_AT_BLOCK, 0).status == BS_BAD_NUMBER);
-  WANT(bs_make(&none, BS_AT_BLOCK, BS_SLOTS + 1).status == BS_BAD_NUMBER);
+  WANT(make_manager(&none, 2, 1).status == BS_BAD_NUMBER);
+  WANT(make_manager(&none, BS_AT_BLOCK, BS_SLOTS + 1).status == BS_BAD_NUMBER);
   WANT(bs_lock(&m, a, root, 6, &told).status == BS_BAD_NUMBER);
   WANT(bs_try(&m, a, root, UINT32_MAX).status == BS_BAD_NUMBER);
   WANT(bs_lock(&m, a, root, BS_NL, &told).status == BS_BAD_MODE);
@@ -1078,32 +1078,42 @@ static void numbers_out_of_range(void) {
 
 static void options_are_taken(void) {
   bs_manager m = BS_NO_MANAGER_HERE, usual = BS_NO_MANAGER_HERE;
-  bs_options options = bs_usual(), was;
+  bs_options options = { 0, 0, 0, 0, 0 }, was = options;
   bs_node root;
+  DONE(bs_make(&usual, &options)); /* 0 is as usual in each of them */
+  was = limits_of(&usual);
+  WANT(was.detect == BS_AT_BLOCK && was.victims == BS_YOUNGEST && was.transactions == BS_SLOTS);
+  WANT(was.nodes == 65536 && was.bounds == 256);
+  DONE(bs_end(&usual));
   options.victims = BS_FEWEST;
   options.transactions = 2;
   options.nodes = 2;
-  DONE(bs_make_with(&m, &options));
+  DONE(bs_make(&m, &options));
   DONE(bs_limits(&m, &was));
-  WANT(was.size == sizeof was && was.detect == BS_AT_BLOCK && was.victims == BS_FEWEST);
-  WANT(was.transactions == 2 && was.nodes == 2 && was.bounds == 256 && bs_most_nodes(&m).count == 2);
+  WANT(was.detect == BS_AT_BLOCK && was.victims == BS_FEWEST);
+  WANT(was.transactions == 2 && was.nodes == 2 && was.bounds == 256);
   root = DONE(bs_add_inner(&m, NULL, 0)).node;
   DONE(bs_add_inner(&m, &root, 1));
   WANT(bs_add_inner(&m, &root, 1).status == BS_TOO_MANY_NODES);
-  WANT(bs_make_with(&m, &options).status == BS_IN_USE);
+  WANT(bs_make(&m, &options).status == BS_IN_USE);
   DONE(bs_end(&m));
   options.nodes = UINT32_MAX;
-  WANT(bs_make_with(&m, &options).status == BS_BAD_NUMBER);
-  options.size = offsetof(bs_options, nodes); /* of a maker who does not know of nodes */
-  DONE(bs_make_with(&m, &options));
-  WANT(bs_most_nodes(&m).count == 65536 && bs_most(&m).count == 2);
-  DONE(bs_end(&m));
-  DONE(bs_make_with(&usual, NULL));
-  WANT(bs_most_nodes(&usual).count == 65536 && bs_most(&usual).count == BS_SLOTS);
-  WANT(bs_make_with(NULL, NULL).status == BS_NULL_POINTER && bs_limits(&usual, NULL).status == BS_NULL_POINTER);
+  WANT(bs_make(&m, &options).status == BS_BAD_NUMBER);
+  DONE(bs_make(&usual, NULL));
+  WANT(limits_of(&usual).nodes == 65536 && limits_of(&usual).transactions == BS_SLOTS);
+  WANT(bs_make(NULL, NULL).status == BS_NULL_POINTER && bs_limits(&usual, NULL).status == BS_NULL_POINTER);
   DONE(bs_end(&usual));
   was.bounds = 7;
-  WANT(bs_limits(&usual, &was).status == BS_NO_MANAGER && was.bounds == 0 && was.size == sizeof was);
+  WANT(bs_limits(&usual, &was).status == BS_NO_MANAGER && was.bounds == 7);
+}
+
+/* A maker may know fewer options than the library, or more. */
+static void options_of_another_size(void) {
+  struct { bs_options known; uint32_t more; } longer = { { 0, 0, 0, 9, 7 }, 5 };
+  WANT(bs_call_chosen(&longer.known, sizeof longer).bounds == 7);
+  WANT(bs_call_chosen(&longer.known, offsetof(bs_options, bounds)).nodes == 9);
+  WANT(bs_call_chosen(&longer.known, offsetof(bs_options, bounds)).bounds == 256);
+  WANT(bs_call_chosen(NULL, sizeof longer).nodes == 65536);
 }
 
 /* A manager that is made by options has indexes of so many bounds, and of no more. */
@@ -1114,9 +1124,9 @@ static void has_bounds(const bs_options *options, uint32_t most) {
   uint64_t bounds[301];
   size_t at;
   for (at = 0; at < 301; at++) bounds[at] = at + 1;
-  DONE(bs_make_with(&m, options));
+  DONE(bs_make(&m, options));
   DONE(bs_limits(&m, &was));
-  WANT(was.bounds == most && bs_most_bounds(&m).count == most);
+  WANT(was.bounds == most);
   root = DONE(bs_add_inner(&m, NULL, 0)).node;
   file = DONE(bs_add_file(&m, &root, 1)).node;
   WANT(bs_add_index(&m, &root, 1, file, bounds, most + 1).status == BS_BAD_KEYS);
@@ -1127,7 +1137,7 @@ static void has_bounds(const bs_options *options, uint32_t most) {
 
 static void bounds_are_chosen_for_themselves(void) {
   bs_manager m = BS_NO_MANAGER_HERE;
-  bs_options options = bs_usual();
+  bs_options options = { 0, 0, 0, 0, 0 };
   has_bounds(NULL, 256);
   options.nodes = 70000;
   has_bounds(&options, 256);
@@ -1138,23 +1148,21 @@ static void bounds_are_chosen_for_themselves(void) {
   options.bounds = 1;
   has_bounds(&options, 1);
   options.bounds = (uint32_t)1 << 31;
-  DONE(bs_make_with(&m, &options));
-  WANT(bs_most_bounds(&m).count == (uint64_t)1 << 31);
+  DONE(bs_make(&m, &options));
+  WANT(limits_of(&m).bounds == (uint32_t)1 << 31);
   DONE(bs_end(&m));
   options.bounds++;
-  WANT(bs_make_with(&m, &options).status == BS_BAD_NUMBER);
-  options.size = offsetof(bs_options, bounds); /* of a maker who does not know of bounds */
-  has_bounds(&options, 256);
+  WANT(bs_make(&m, &options).status == BS_BAD_NUMBER);
 }
 
 static void intervals_are_nodes(void) {
   bs_manager m = BS_NO_MANAGER_HERE;
-  bs_options options = bs_usual();
+  bs_options options = { 0, 0, 0, 0, 0 };
   const uint64_t bounds[3] = { 1, 2, 3 };
   bs_node root, file, index;
   bs_txn a;
   options.nodes = 6;
-  DONE(bs_make_with(&m, &options));
+  DONE(bs_make(&m, &options));
   root = DONE(bs_add_inner(&m, NULL, 0)).node;
   file = DONE(bs_add_file(&m, &root, 1)).node;
   WANT(bs_add_index(&m, &root, 1, file, bounds, 3).status == BS_TOO_MANY_NODES);
@@ -1169,13 +1177,58 @@ static void intervals_are_nodes(void) {
   DONE(bs_end(&m));
 }
 
+/* A place that is a constant, and so never had a manager, is asked: nothing is written there. */
+static void a_constant_place(void) {
+  static const bs_manager never = BS_NO_MANAGER_HERE;
+  bs_node node = { 0, 0 };
+  bs_txn txn = { 0, 0 };
+  static bs_board board;
+  static bs_deadlock last;
+  bs_counts counts;
+  WANT(bs_len(&never).status == BS_NO_MANAGER && bs_held(&never, txn, node).status == BS_NO_MANAGER);
+  WANT(bs_group(&never, node).status == BS_NO_MANAGER && bs_kind(&never, node).status == BS_NO_MANAGER);
+  WANT(bs_effective(&never, txn, node).status == BS_NO_MANAGER && bs_children(&never, txn, node).status == BS_NO_MANAGER);
+  WANT(bs_parent(&never, node, 0).status == BS_NO_MANAGER && bs_key(&never, node, 0).status == BS_NO_MANAGER);
+  WANT(bs_index(&never, node, 0).status == BS_NO_MANAGER && bs_interval(&never, node, 0).status == BS_NO_MANAGER);
+  WANT(bs_interval_of(&never, node, 0).status == BS_NO_MANAGER && bs_place(&never, node).status == BS_NO_MANAGER);
+  WANT(bs_has_records(&never, node).status == BS_NO_MANAGER && bs_living(&never, 0).status == BS_NO_MANAGER);
+  WANT(bs_doing(&never, txn).status == BS_NO_MANAGER && bs_lock_count(&never, txn).status == BS_NO_MANAGER);
+  WANT(bs_lock_at(&never, txn, 0).status == BS_NO_MANAGER && bs_queue_len(&never, node).status == BS_NO_MANAGER);
+  WANT(bs_queue_at(&never, node, 0).status == BS_NO_MANAGER && bs_holders(&never, node).status == BS_NO_MANAGER);
+  WANT(bs_waits_for(&never, txn).status == BS_NO_MANAGER && bs_ended(&never).status == BS_NO_MANAGER);
+  WANT(bs_verdict(&never, txn, node, BS_X).status == BS_NO_MANAGER);
+  WANT(bs_verdict(&never, txn, node, 6).status == BS_BAD_NUMBER && bs_living(&never, BS_SLOTS).status == BS_BAD_NUMBER);
+  WANT(bs_row_node(&never, node, 0).status == BS_NO_MANAGER && bs_read_board(&never, &board).status == BS_NO_MANAGER);
+  WANT(bs_last_deadlock(&never, &last).status == BS_NO_MANAGER && bs_counters(&never, &counts).status == BS_NO_MANAGER);
+}
+
+/* A name that names nothing is refused so, whatever is asked of it; where there are fewer is another answer. */
+static void names_that_name_nothing(void) {
+  bs_node nothing = { 0, 0 };
+  bs_manager m = BS_NO_MANAGER_HERE;
+  bs_node root = begin_manager(&m, BS_AT_BLOCK);
+  struct file f = make_file(&m, root);
+  bs_txn a = begin(&m), gone = { 5, 0 };
+  WANT(bs_parent(&m, nothing, 0).status == BS_NO_SUCH_NODE && bs_parent(&m, f.low, 2).status == BS_NO_PLACE);
+  WANT(bs_key(&m, nothing, 0).status == BS_NO_SUCH_NODE && bs_key(&m, f.file, 0).status == BS_NO_SUCH_NODE);
+  WANT(bs_key(&m, f.low, 1).status == BS_NO_PLACE && bs_interval(&m, f.index, 2).status == BS_NO_PLACE);
+  WANT(bs_interval(&m, nothing, 0).status == BS_NO_SUCH_NODE && bs_interval(&m, f.file, 0).status == BS_NO_SUCH_NODE);
+  WANT(bs_index(&m, nothing, 0).status == BS_NO_SUCH_NODE && bs_index(&m, f.file, 1).status == BS_NO_PLACE);
+  WANT(bs_queue_at(&m, nothing, 0).status == BS_NO_SUCH_NODE && bs_queue_at(&m, f.file, 0).status == BS_NO_PLACE);
+  WANT(bs_lock_at(&m, gone, 0).status == BS_NO_SUCH_TXN && bs_lock_at(&m, a, 0).status == BS_NO_PLACE);
+  WANT(bs_children(&m, gone, f.file).status == BS_NO_SUCH_TXN && bs_children(&m, a, f.file).status == BS_NOT_HELD);
+  WANT(bs_children(&m, a, nothing).status == BS_NO_SUCH_NODE && bs_holders(&m, nothing).status == BS_NO_SUCH_NODE);
+  WANT(bs_doing(&m, gone).status == BS_NO_SUCH_TXN && bs_lock_count(&m, gone).status == BS_NO_SUCH_TXN);
+  DONE(bs_end(&m));
+}
+
 static void places_without_a_manager(void) {
   bs_manager never = BS_NO_MANAGER_HERE, m = BS_NO_MANAGER_HERE;
   bs_node root = begin_manager(&m, BS_AT_BLOCK);
   bs_txn a = begin(&m);
   WANT(bs_begin(&never).status == BS_NO_MANAGER && bs_len(&never).status == BS_NO_MANAGER);
   WANT(bs_end(&never).status == BS_NO_MANAGER);
-  WANT(bs_make(&m, BS_AT_BLOCK, 1).status == BS_IN_USE);
+  WANT(make_manager(&m, BS_AT_BLOCK, 1).status == BS_IN_USE);
   DONE(bs_lock(&m, a, root, BS_X, &told));
   DONE(bs_end(&m));
   WANT(bs_end(&m).status == BS_NO_MANAGER);
@@ -1185,7 +1238,7 @@ static void places_without_a_manager(void) {
   told.count = 1;
   WANT(bs_drop(&m, a, root, &told).status == BS_NO_MANAGER && told.count == 0);
   WANT(bs_index_by(&m, a, &root, 1, root, NULL, 0).status == BS_NO_MANAGER);
-  DONE(bs_make(&m, BS_AT_BLOCK, 1));
+  DONE(make_manager(&m, BS_AT_BLOCK, 1));
   WANT(bs_lock(&m, a, root, BS_X, &told).status == BS_NO_SUCH_TXN);
   begin(&m);
   WANT(bs_begin(&m).status == BS_TOO_MANY_TXNS);
@@ -1212,7 +1265,7 @@ static void a_refused_call_tells_nobody(void) {
   WANT(is_refused_and_empty(bs_drop(NULL, a, root, &told)));
   WANT(is_refused_and_empty(bs_lock(NULL, a, root, BS_X, &told)));
   WANT(is_refused_and_empty(bs_lock_path(NULL, a, root, BS_X, &told)));
-  WANT(is_refused_and_empty(bs_commit_rows(NULL, a, &told)));
+  WANT(is_refused_and_empty(bs_commit(NULL, a, &told)));
   DONE(bs_end(&m));
 }
 
@@ -1220,7 +1273,7 @@ static void null_pointers(void) {
   bs_manager m = BS_NO_MANAGER_HERE;
   bs_node root = begin_manager(&m, BS_AT_BLOCK);
   bs_txn a = begin(&m);
-  WANT(bs_make(NULL, BS_AT_BLOCK, 1).status == BS_NULL_POINTER && bs_end(NULL).status == BS_NULL_POINTER);
+  WANT(bs_make(NULL, NULL).status == BS_NULL_POINTER && bs_end(NULL).status == BS_NULL_POINTER);
   WANT(bs_begin(NULL).status == BS_NULL_POINTER && bs_len(NULL).status == BS_NULL_POINTER);
   WANT(bs_lock(&m, a, root, BS_X, NULL).status == BS_NULL_POINTER);
   WANT(bs_lock_path(&m, a, root, BS_X, NULL).status == BS_NULL_POINTER);
@@ -1258,20 +1311,20 @@ static void everybody_is_told(void) {
 
 /* A call whose growth is refused changes nothing, and is done when it is asked again. */
 static bs_node made_in_spite(bs_manager *m, bs_node root) {
-  uint64_t before = bs_accepted(m).count, nodes = bs_len(m).count;
+  uint64_t before = accepted_by(m), nodes = bs_len(m).count;
   bs_reply made = bs_add_inner(m, &root, 1);
   if (made.status == BS_NO_MEMORY) {
-    WANT(bs_accepted(m).count == before && bs_len(m).count == nodes);
+    WANT(accepted_by(m) == before && bs_len(m).count == nodes);
     made = bs_add_inner(m, &root, 1);
   }
   return DONE(made).node;
 }
 
 static void locked_in_spite(bs_manager *m, bs_txn t, bs_node node) {
-  uint64_t before = bs_accepted(m).count;
+  uint64_t before = accepted_by(m);
   bs_reply locked = bs_lock(m, t, node, BS_X, &told);
   if (locked.status == BS_NO_MEMORY) {
-    WANT(bs_accepted(m).count == before && bs_held(m, t, node).mode == BS_NL && told.count == 0);
+    WANT(accepted_by(m) == before && bs_held(m, t, node).mode == BS_NL && told.count == 0);
     locked = bs_lock(m, t, node, BS_X, &told);
   }
   DONE(locked);
@@ -1307,10 +1360,10 @@ static void refused_growths(void) {
 
 static bs_node index_in_spite(bs_manager *m, bs_txn t, bs_node root, bs_node file) {
   static const uint64_t bounds[2] = { 10, 20 };
-  uint64_t before = bs_accepted(m).count, nodes = bs_len(m).count;
+  uint64_t before = accepted_by(m), nodes = bs_len(m).count;
   bs_reply made = bs_index_by(m, t, &root, 1, file, bounds, 2);
   if (made.status == BS_NO_MEMORY) {
-    WANT(bs_accepted(m).count == before && bs_len(m).count == nodes && bs_index(m, file, 0).status == BS_NO_PLACE);
+    WANT(accepted_by(m) == before && bs_len(m).count == nodes && bs_index(m, file, 0).status == BS_NO_PLACE);
     made = bs_index_by(m, t, &root, 1, file, bounds, 2);
   }
   return DONE(made).node;
@@ -1390,10 +1443,10 @@ static bool refuses_row(long n) {
   row_in_spite(&m, c, f, 19, 80, BS_X, BS_WAITING);
   refused = refused_growth == 0;
   refused_growth = 0;
-  DONE(bs_commit_rows(&m, a, &told));
+  DONE(bs_commit(&m, a, &told));
   WANT(told.count == 1 && is_told(0, b, BS_TOLD_GRANTED));
-  DONE(bs_commit_rows(&m, b, &told));
-  DONE(bs_commit_rows(&m, c, &told));
+  DONE(bs_commit(&m, b, &told));
+  DONE(bs_commit(&m, c, &told));
   WANT(bs_len(&m).count == nodes && !has_node(&m, f, 0) && !has_node(&m, f, 19));
   DONE(bs_end(&m));
   return refused;
@@ -1440,7 +1493,7 @@ static long bytes_of_rows(bs_manager *m, struct file f, uint64_t from) {
     DONE(bs_lock_row(m, a, f.file, number, &key, 1, BS_X, &told));
   }
   locked = bytes_out();
-  DONE(bs_commit_rows(m, a, &told));
+  DONE(bs_commit(m, a, &told));
   return locked;
 }
 
@@ -1482,7 +1535,7 @@ static void refused_managers(void) {
   for (n = 1; made.status == BS_NO_MEMORY; n++) {
     bs_manager m = BS_NO_MANAGER_HERE;
     refused_growth = n;
-    made = bs_make(&m, BS_AT_BLOCK, 128);
+    made = make_manager(&m, BS_AT_BLOCK, 128);
     refused_growth = 0;
     WANT(bs_begin(&m).status == (made.status == BS_DONE ? BS_DONE : BS_NO_MANAGER));
     WANT(bs_end(&m).status == made.status || made.status == BS_NO_MEMORY);
@@ -1614,9 +1667,12 @@ int main(void) {
   TELL(slots_that_are_none);
   TELL(numbers_out_of_range);
   TELL(options_are_taken);
+  TELL(options_of_another_size);
   TELL(bounds_are_chosen_for_themselves);
   TELL(intervals_are_nodes);
   TELL(places_without_a_manager);
+  TELL(a_constant_place);
+  TELL(names_that_name_nothing);
   TELL(a_refused_call_tells_nobody);
   TELL(null_pointers);
   TELL(everybody_is_told);

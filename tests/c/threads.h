@@ -47,6 +47,29 @@ static void feed(unsigned seconds) {
   alarm(seconds);
 }
 
+/* Asks a question of the manager that a table lends. What it is asked about is no such question itself. */
+static __thread bs_reply asked;
+static __thread bs_found found;
+
+#define ASK0(table, question) (asked = question(bs_table_hold(table)), bs_table_let_go(table), asked)
+#define ASK(table, question, ...) (asked = question(bs_table_hold(table), __VA_ARGS__), bs_table_let_go(table), asked)
+#define FIND(table, question, ...) (found = question(bs_table_hold(table), __VA_ARGS__), bs_table_let_go(table), found)
+
+static inline bs_reply wait_in(bs_table *table, bs_txn txn) {
+  return ASK(table, wait_of, txn);
+}
+
+static inline uint64_t accepted_in(bs_table *table) {
+  uint64_t count = accepted_by(bs_table_hold(table));
+  bs_table_let_go(table);
+  return count;
+}
+
+static inline bs_reply make_table(bs_table **table, uint32_t detect, uint32_t victims, uint32_t most) {
+  bs_options options = options_of(detect, victims, most);
+  return bs_table_make(table, &options);
+}
+
 static inline void nap(void) {
   struct timespec time = { 0, 50000 };
   nanosleep(&time, NULL);
