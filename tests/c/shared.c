@@ -1789,6 +1789,164 @@ static void lists_that_name(void) {
   close_table();
 }
 
+/* A row with one key, for a list. */
+static bs_command row_command(uint32_t kind, bs_txn t, const uint64_t *key) {
+  bs_command command = bs_do(kind, t);
+  command.mode = BS_X;
+  command.file = rows;
+  command.number = OLD_ROW;
+  command.keys = key;
+  command.key_count = 1;
+  command.index = by_row_key;
+  command.key = NEW_KEY;
+  return command;
+}
+
+/* All that a session does to a row is one list, from its begin to its commit; and it is made again. */
+static void a_list_of_paths_and_rows(void) {
+  static const uint64_t key = OLD_KEY;
+  bs_txn t = bs_begun();
+  bs_command list[9];
+  int round;
+  set_up_rows(BS_AT_BLOCK);
+  list[0] = bs_do(BS_DO_BEGIN, t);
+  list[1] = bs_do_at(BS_DO_LOCK_PATH, t, rows_below, BS_IX);
+  list[2] = (bs_command){ .kind = BS_DO_LOCK_PATH, .txn = t, .node = rows_above, .mode = BS_IX };
+  list[3] = bs_do_at(BS_DO_LOCK_PATH, t, rows, BS_IX);
+  list[4] = row_command(BS_DO_LOCK_ROW, t, &key);
+  list[5] = row_command(BS_DO_REKEY_ROW, t, &key);
+  list[6] = row_command(BS_DO_UNLOCK_ROW, t, &key);
+  list[7] = row_command(BS_DO_LOCK_ROW, t, &key);
+  list[8] = bs_do(BS_DO_COMMIT, t);
+  for (round = 0; round < 3; round++) {
+    WANT(bs_table_run(table, list, 9) == 9 && !has_node(OLD_ROW));
+    WANT(list[1].reply.mode == BS_IX && list[4].reply.mode == BS_X && list[7].reply.mode == BS_X);
+    WANT(!same_node(list[4].reply.node, list[7].reply.node));
+  }
+  list[8] = row_command(BS_DO_LOCK_ROW, t, &key);
+  list[5] = list[8], list[5].number = 8;
+  list[6] = row_command(BS_DO_REKEY_ROW, t, &key), list[7] = list[6];
+  WANT(bs_table_run(table, list, 9) == 8 && list[8].reply.status == BS_OTHER_KEYS && list[8].reply.mode == BS_X);
+  close_table();
+}
+
+/* A path that waits on its way stops a list, which says for what. Behind the grant the list goes on from there. */
+static void a_path_waits_in_a_list(void) {
+  struct timespec past = moment_in(0);
+  bs_command list[3];
+  bs_txn a, b;
+  set_up(BS_AT_BLOCK);
+  a = begin(), b = begin();
+  DONE(bs_table_lock_path(table, a, file, BS_X, NULL));
+  list[0] = bs_do_at(BS_DO_LOCK_PATH, b, low, BS_X);
+  list[1] = bs_do_at(BS_DO_LOCK_PATH, b, high, BS_S);
+  list[2] = bs_do(BS_DO_COMMIT, b);
+  WANT(bs_table_run(table, list, 3) == 0 && list[0].reply.status == BS_WAITING);
+  WANT(same_node(list[0].reply.node, file) && list[0].reply.mode == BS_IX && list[0].reply.count == 0);
+  WANT(list[1].reply.status == BS_NOT_MADE && list[2].reply.status == BS_NOT_MADE);
+  WANT(bs_table_run(table, list, 3) == 0 && list[0].reply.status == BS_TXN_WAITING);
+  DONE(bs_table_commit(table, a, &told));
+  WANT(told.count == 1 && is_told(0, b, BS_TOLD_GRANTED));
+  DONE(bs_table_await(table, b, file, BS_IX, NULL));
+  WANT(bs_table_run(table, list, 3) == 3 && list[0].reply.mode == BS_X && list[1].reply.mode == BS_S);
+  a = begin(), b = begin();
+  DONE(bs_table_lock_path(table, a, low, BS_S, NULL));
+  list[0] = bs_do_at(BS_DO_LOCK_PATH, b, low, BS_X);
+  WANT(bs_table_run(table, list, 1) == 0 && same_node(list[0].reply.node, low) && list[0].reply.mode == BS_X);
+  ANSWERS(BS_TIMED_OUT, bs_table_await(table, b, low, BS_X, &past));
+  list[0] = bs_do_at(BS_DO_LOCK, b, low, BS_X);
+  WANT(bs_table_run(table, list, 1) == 0 && same_node(list[0].reply.node, low) && list[0].reply.mode == BS_X);
+  DONE(bs_table_cancel(table, b, NULL));
+  ANSWERS(BS_NOT_WAITING, bs_table_await(table, b, low, BS_X, NULL));
+  close_table();
+}
+
+/* So does a row. Behind the grant it is asked for again, and its keys may be others. */
+static void a_row_waits_in_a_list(void) {
+  static const uint64_t key = OLD_KEY, other_key = NEW_KEY;
+  bs_command list[2];
+  bs_txn a, b;
+  bs_node row;
+  set_up_rows(BS_AT_BLOCK);
+  a = begin_writer(OLD_KEY), b = begin_writer(OLD_KEY);
+  row = locked_row(a, OLD_ROW, OLD_KEY);
+  list[0] = row_command(BS_DO_LOCK_ROW, b, &key);
+  list[1] = row_command(BS_DO_UNLOCK_ROW, b, &key);
+  WANT(bs_table_run(table, list, 2) == 0 && list[0].reply.status == BS_WAITING && list[0].reply.mode == BS_X);
+  WANT(same_node(list[0].reply.node, row) && list[1].reply.status == BS_NOT_MADE);
+  DONE(bs_table_commit(table, a, NULL));
+  DONE(bs_table_await(table, b, row, BS_X, NULL));
+  list[0].keys = &other_key;
+  WANT(bs_table_run(table, list, 2) == 0 && list[0].reply.status == BS_OTHER_KEYS && list[0].reply.mode == BS_X);
+  WANT(same_node(list[0].reply.node, row) && list[1].reply.status == BS_NOT_MADE && holds_row(b, OLD_ROW));
+  list[0].keys = &key;
+  WANT(bs_table_run(table, list, 2) == 2 && !has_node(OLD_ROW));
+  close_table();
+}
+
+/* Two fall for locks of one path, each of whom sleeps, and the path goes on: its list has both, by rising slot. Who is told
+ * later stands in the lower slot. */
+static void a_path_goes_on_in_a_list(void) {
+  static bs_notices all;
+  struct asker one, two, three;
+  bs_node other, third;
+  bs_command list[2];
+  bs_txn a, b, c, d;
+  set_up(BS_AT_BLOCK);
+  other = DONE(bs_table_add_inner(table, NULL, 0)).node;
+  third = DONE(bs_table_add_inner(table, NULL, 0)).node;
+  a = begin(), d = begin(), b = begin(), c = begin();
+  DONE(bs_table_lock(table, a, other, BS_X, NULL));
+  DONE(bs_table_lock(table, a, third, BS_X, NULL));
+  DONE(bs_table_lock_path(table, b, root, BS_IS, NULL));
+  DONE(bs_table_lock_path(table, d, low, BS_S, NULL));
+  send(&one, b, other, BS_S);
+  send(&two, c, root, BS_X);
+  send(&three, d, third, BS_S);
+  list[0] = bs_do_at(BS_DO_LOCK_PATH, a, low, BS_X);
+  list[0].told = &all;
+  list[1] = bs_do_at(BS_DO_LOCK, a, high, BS_S);
+  WANT(bs_table_run(table, list, 2) == 0 && list[0].reply.status == BS_WAITING && same_node(list[0].reply.node, low));
+  WANT(all.count == 2 && same_txn(all.at[0].txn, d) && all.at[0].kind == BS_TOLD_VICTIM);
+  WANT(same_txn(all.at[1].txn, c) && all.at[1].kind == BS_TOLD_VICTIM && d.slot < c.slot);
+  back(&two, BS_VICTIM);
+  back(&three, BS_VICTIM);
+  DONE(bs_table_abort(table, d, NULL));
+  DONE(bs_table_await(table, a, low, BS_X, NULL));
+  WANT(bs_table_run(table, list, 2) == 2 && all.count == 0);
+  DONE(bs_table_abort(table, c, NULL));
+  DONE(bs_table_commit(table, a, NULL));
+  back(&one, BS_DONE);
+  close_table();
+}
+
+/* What is no command is refused by name, and so is one for a name that means nobody. */
+static void commands_that_are_none(void) {
+  static const bs_command nothing = { 0 };
+  bs_command list[3];
+  bs_txn a;
+  uint32_t kind;
+  set_up(BS_AT_BLOCK);
+  a = begin();
+  list[0] = nothing, list[1] = nothing, list[2] = bs_do(BS_DO_COMMIT, a);
+  WANT(bs_table_run(table, list, 3) == 0 && list[0].reply.status == BS_BAD_NUMBER);
+  WANT(list[1].reply.status == BS_NOT_MADE && list[2].reply.status == BS_NOT_MADE);
+  WANT(bs_do(BS_DO_COMMIT, a).reply.status == BS_NOT_MADE && bs_do_at(BS_DO_TRY, a, root, BS_X).reply.status == BS_NOT_MADE);
+  for (kind = BS_DO_REKEY_ROW + 1; kind != 0; kind <<= 1) {
+    list[0] = bs_do_at(kind, a, root, BS_X);
+    WANT(bs_table_run(table, list, 1) == 0 && list[0].reply.status == BS_BAD_NUMBER);
+  }
+  list[0] = bs_do(BS_DO_COMMIT, bs_begun()); /* with no begin ahead */
+  WANT(bs_table_run(table, list, 1) == 0 && list[0].reply.status == BS_NO_SUCH_TXN);
+  ANSWERS(BS_NO_SUCH_TXN, bs_table_commit(table, bs_begun(), NULL));
+  WANT(bs_table_run(table, NULL, 3) == 0 && bs_table_run(table, list, 0) == 0);
+  list[0] = bs_do(BS_DO_BEGIN, bs_begun()), list[1] = bs_do(BS_DO_COMMIT, bs_begun()), list[1].txn.age = 7;
+  WANT(bs_table_run(table, list, 2) == 1 && list[1].reply.status == BS_NO_SUCH_TXN);
+  list[1].txn.age = 0, list[1].txn.slot = 255;
+  WANT(bs_table_run(table, list, 2) == 1 && list[1].reply.status == BS_NO_SUCH_TXN);
+  close_table();
+}
+
 /* Each command can stand in a list. */
 static void every_command(void) {
   static const uint64_t bound = 7, key = 3;
@@ -2573,6 +2731,11 @@ int main(int count, char **words) {
   TELL(lists_that_begin);
   TELL(lists_that_name);
   TELL(every_command);
+  TELL(a_list_of_paths_and_rows);
+  TELL(a_path_waits_in_a_list);
+  TELL(a_row_waits_in_a_list);
+  TELL(a_path_goes_on_in_a_list);
+  TELL(commands_that_are_none);
   TELL(a_watcher_looks);
   TELL(a_ninth_watcher);
   TELL(one_of_two_watchers_goes_on);
