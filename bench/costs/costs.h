@@ -46,7 +46,7 @@ struct way {
 extern struct way ways[MOST_TOGETHER];
 extern bs_manager manager;
 extern bs_notices told;
-extern bs_table table;
+extern bs_table *table;
 extern bs_watcher watcher;
 
 /* A node and a transaction of the manager. */

@@ -22,11 +22,11 @@ static void round_by_manager(const struct way *way) {
 }
 
 static void round_by_calls(const struct way *way) {
-  bs_txn txn = DONE(bs_table_begin(&table)).txn;
+  bs_txn txn = DONE(bs_table_begin(table)).txn;
   size_t i;
-  for (i = 0; i < ABOVE; i++) DONE(bs_table_lock(&table, txn, way->above[i], BS_IX));
-  DONE(bs_table_lock(&table, txn, way->record, BS_X));
-  DONE(bs_table_commit(&table, txn, NULL));
+  for (i = 0; i < ABOVE; i++) DONE(bs_table_lock(table, txn, way->above[i], BS_IX, NULL));
+  DONE(bs_table_lock(table, txn, way->record, BS_X, NULL));
+  DONE(bs_table_commit(table, txn, NULL));
 }
 
 static MEASURED void measured_by_manager(long rounds) {
@@ -38,7 +38,7 @@ static MEASURED void measured_by_calls(const struct way *way, long rounds) {
 }
 
 static MEASURED void measured_by_lists(bs_command *list, long rounds) {
-  while (rounds-- > 0) WANT(bs_table_run(&table, list, ALL) == ALL);
+  while (rounds-- > 0) WANT(bs_table_run(table, list, ALL) == ALL);
 }
 
 uint64_t rounds_by_manager(size_t number, long rounds) {
@@ -60,10 +60,10 @@ uint64_t rounds_by_lists(size_t number, long rounds) {
   bs_command list[ALL];
   uint64_t start;
   size_t i;
-  list[0] = bs_do_begin();
-  for (i = 0; i < ABOVE; i++) list[1 + i] = bs_do_lock(bs_begun(), way->above[i], BS_IX);
-  list[ALL - 2] = bs_do_lock(bs_begun(), way->record, BS_X);
-  list[ALL - 1] = bs_do_commit(bs_begun());
+  list[0] = bs_do(BS_DO_BEGIN, bs_begun());
+  for (i = 0; i < ABOVE; i++) list[1 + i] = bs_do_at(BS_DO_LOCK, bs_begun(), way->above[i], BS_IX);
+  list[ALL - 2] = bs_do_at(BS_DO_LOCK, bs_begun(), way->record, BS_X);
+  list[ALL - 1] = bs_do(BS_DO_COMMIT, bs_begun());
   start = now();
   measured_by_lists(list, rounds);
   return now() - start;
@@ -81,15 +81,21 @@ uint64_t rounds_in_threads(size_t number, long rounds) {
  */
 
 static MEASURED void measured_boards(bs_board *board, long rounds) {
-  while (rounds-- > 0) DONE(bs_table_read_board(&table, board));
+  while (rounds-- > 0) {
+    DONE(bs_read_board(bs_table_hold(table), board));
+    DONE(bs_table_let_go(table));
+  }
 }
 
 static MEASURED void measured_questions(long rounds) {
-  while (rounds-- > 0) WANT(DONE(bs_table_group(&table, ways[0].record)).mode == BS_NL);
+  while (rounds-- > 0) {
+    WANT(DONE(bs_group(bs_table_hold(table), ways[0].record)).mode == BS_NL);
+    DONE(bs_table_let_go(table));
+  }
 }
 
 static MEASURED void measured_looks(bs_board *board, long rounds) {
-  while (rounds-- > 0) DONE(bs_table_look(&watcher, board));
+  while (rounds-- > 0) DONE(bs_look(&watcher, board));
 }
 
 uint64_t boards(size_t number, long rounds) {

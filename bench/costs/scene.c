@@ -7,27 +7,49 @@
 struct way ways[MOST_TOGETHER];
 bs_manager manager = BS_NO_MANAGER_HERE;
 bs_notices told;
-bs_table table = BS_NO_TABLE_HERE;
+bs_table *table;
 bs_watcher watcher = BS_NO_WATCHER_HERE;
 
 /* ------------------------------------------------------------------------------------------------
  * The doors.
  */
 
-static void open_manager(void) { DONE(bs_make(&manager, BS_AT_BLOCK, BS_SLOTS)); }
+static void open_manager(void) { DONE(bs_make(&manager, NULL)); }
 static void close_manager(void) { DONE(bs_end(&manager)); }
-static bs_reply served_by_manager(bs_command c) { return bs_command_made(&manager, &c, c.txn, &told); }
+
+/* The commands that make a scene. */
+static bs_reply served_by_manager(bs_command c) {
+  switch (c.kind) {
+    case BS_DO_BEGIN: return bs_begin(&manager);
+    case BS_DO_LOCK: return bs_lock(&manager, c.txn, c.node, c.mode, &told);
+    case BS_DO_COMMIT: return bs_commit(&manager, c.txn, &told);
+    case BS_DO_INSERT: return bs_insert(&manager, c.txn, c.file, c.keys, c.key_count);
+    case BS_DO_ADD_INNER: return bs_add_inner(&manager, c.parents, c.parent_count);
+    case BS_DO_ADD_FILE: return bs_add_file(&manager, c.parents, c.parent_count);
+    default: return bs_add_index(&manager, c.parents, c.parent_count, c.file, c.bounds, c.bound_count);
+  }
+}
+
 static bs_reply interval_by_manager(bs_node index, size_t place) { return bs_interval(&manager, index, place); }
 
 const struct door by_manager = { open_manager, served_by_manager, interval_by_manager, close_manager };
 
-static void open_table(void) { DONE(bs_table_make(&table, BS_AT_BLOCK, BS_YOUNGEST, BS_SLOTS)); }
-static void close_table(void) { DONE(bs_table_end(&table)); }
-static bs_reply interval_by_table(bs_node index, size_t place) { return bs_table_interval(&table, index, place); }
+static void open_table(void) { DONE(bs_table_make(&table, NULL)); }
+
+static void close_table(void) {
+  DONE(bs_table_end(table));
+  DONE(bs_table_free(&table));
+}
+
+static bs_reply interval_by_table(bs_node index, size_t place) {
+  bs_reply interval = bs_interval(bs_table_hold(table), index, place);
+  DONE(bs_table_let_go(table));
+  return interval;
+}
 
 /* A lock that waits is left waiting: nobody sleeps. */
 static bs_reply served_by_table(bs_command c) {
-  bs_table_run(&table, &c, 1);
+  bs_table_run(table, &c, 1);
   return c.reply;
 }
 
@@ -39,10 +61,10 @@ const struct door by_table = { open_table, served_by_table, interval_by_table, c
 
 static bs_node made(const struct door *door, bs_command command) { return DONE(door->serve(command)).node; }
 
-static bs_txn begun_by(const struct door *door) { return DONE(door->serve(bs_do_begin())).txn; }
+static bs_txn begun_by(const struct door *door) { return DONE(door->serve(bs_do(BS_DO_BEGIN, bs_begun()))).txn; }
 
 static void lock(const struct door *door, bs_txn txn, bs_node node, bs_mode mode) {
-  DONE(door->serve(bs_do_lock(txn, node, mode)));
+  DONE(door->serve(bs_do_at(BS_DO_LOCK, txn, node, mode)));
 }
 
 static void lock_above(const struct door *door, bs_txn txn, const struct way *way) {
@@ -55,20 +77,22 @@ static void make_way(const struct door *door, struct way *way) {
   static const uint64_t bound = 100, key = 50;
   bs_node *above = way->above;
   bs_txn txn = begun_by(door);
-  above[0] = made(door, bs_do_add_inner(NULL, 0));
-  above[1] = made(door, bs_do_add_file(&above[0], 1));
-  above[2] = made(door, bs_do_add_index(&above[0], 1, above[1], &bound, 1));
+  above[0] = made(door, (bs_command){ .kind = BS_DO_ADD_INNER });
+  above[1] = made(door, (bs_command){ .kind = BS_DO_ADD_FILE, .parents = &above[0], .parent_count = 1 });
+  above[2] = made(door, (bs_command){ .kind = BS_DO_ADD_INDEX, .parents = &above[0], .parent_count = 1,
+                                      .file = above[1], .bounds = &bound, .bound_count = 1 });
   above[3] = DONE(door->interval(above[2], 0)).node;
   lock_above(door, txn, way);
-  way->record = made(door, bs_do_insert(txn, above[1], &key, 1));
-  DONE(door->serve(bs_do_commit(txn)));
+  way->record = made(door, (bs_command){ .kind = BS_DO_INSERT, .txn = txn, .file = above[1], .keys = &key,
+                                         .key_count = 1 });
+  DONE(door->serve(bs_do(BS_DO_COMMIT, txn)));
 }
 
 /* One who holds a new root, and so many who wait for it. */
 static void queue_up(const struct door *door, size_t waiters) {
-  bs_node root = made(door, bs_do_add_inner(NULL, 0));
+  bs_node root = made(door, (bs_command){ .kind = BS_DO_ADD_INNER });
   lock(door, begun_by(door), root, BS_X);
-  while (waiters-- > 0) waits(door->serve(bs_do_lock(begun_by(door), root, BS_X)));
+  while (waiters-- > 0) waits(door->serve(bs_do_at(BS_DO_LOCK, begun_by(door), root, BS_X)));
 }
 
 static void join(const struct scene *scene) {
@@ -92,10 +116,10 @@ void open_scene(const struct scene *scene) {
   scene->door->open();
   for (i = 0; i < MOST_TOGETHER; i++) make_way(scene->door, &ways[i]);
   join(scene);
-  if (scene->is_watched) DONE(bs_table_watch(&table, &watcher));
+  if (scene->is_watched) DONE(bs_table_watch(table, &watcher));
 }
 
 void close_scene(const struct scene *scene) {
-  if (scene->is_watched) DONE(bs_table_watch_end(&watcher));
+  if (scene->is_watched) DONE(bs_watch_end(&watcher));
   if (scene->door != NULL) scene->door->close();
 }

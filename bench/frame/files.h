@@ -22,9 +22,9 @@ static bs_node interval_of(bs_node of) {
 
 /* Makes the manager, for so many nodes at once, and the nodes in it. */
 static void make_files(uint32_t nodes) {
-  bs_options options = bs_usual();
+  bs_options options = { 0 };
   options.nodes = nodes;
-  DONE(bs_make_with(&m, &options));
+  DONE(bs_make(&m, &options));
   db = DONE(bs_add_inner(&m, NULL, 0)).node;
   file = DONE(bs_add_file(&m, &db, 1)).node;
   below = interval_of(file);

@@ -61,8 +61,10 @@ static void set_up(void) {
 
 /* What an empty manager takes, for so many transactions. */
 static size_t empty_manager(uint32_t most) {
+  bs_options options = { 0 };
   size_t before = taken, with;
-  DONE(bs_make(&m, BS_AT_BLOCK, most));
+  options.transactions = most;
+  DONE(bs_make(&m, &options));
   with = taken - before;
   DONE(bs_end(&m));
   WANT(taken == before);
@@ -70,11 +72,12 @@ static size_t empty_manager(uint32_t most) {
 }
 
 static size_t empty_table(void) {
-  static bs_table table = BS_NO_TABLE_HERE;
+  bs_table *table = NULL;
   size_t before = taken, with;
-  DONE(bs_table_make(&table, BS_AT_BLOCK, BS_YOUNGEST, BS_SLOTS));
+  DONE(bs_table_make(&table, NULL));
   with = taken - before;
-  DONE(bs_table_end(&table));
+  DONE(bs_table_end(table));
+  DONE(bs_table_free(&table));
   WANT(taken == before);
   return with;
 }
@@ -119,7 +122,7 @@ static void lock_rows(size_t *with, size_t *behind) {
     DONE(bs_lock_row(&m, t, row_file, number, &number, 1, BS_X, &told));
   }
   *with = taken - before;
-  DONE(bs_commit_rows(&m, t, &told));
+  DONE(bs_commit(&m, t, &told));
   *behind = taken - before;
 }
 

@@ -55,7 +55,7 @@ static void make_records(size_t count) {
 
 static void set_up(const struct scene *scene) {
   size_t i;
-  DONE(bs_make(&manager, BS_AT_BLOCK, BS_SLOTS));
+  DONE(bs_make(&manager, NULL));
   inner[0] = DONE(bs_add_inner(&manager, NULL, 0)).node;
   inner[1] = DONE(bs_add_inner(&manager, &inner[0], 1)).node;
   inner[2] = DONE(bs_add_file(&manager, &inner[1], 1)).node;

@@ -6,9 +6,10 @@
 
 #include "burlapslate_shared.h"
 
+#include <pthread.h>
 #include <stdlib.h>
 
-static bs_table table = BS_NO_TABLE_HERE;
+static bs_table *table;
 static bs_node path[INNER_NODES];
 static bs_node own[MOST_CREW]; /* a record for each thread */
 static long rounds_each;
@@ -16,19 +17,21 @@ static long rounds_each;
 static void open_table(void) {
   bs_txn txn;
   size_t i;
-  DONE(bs_table_make(&table, BS_AT_BLOCK, BS_YOUNGEST, BS_SLOTS));
-  path[0] = DONE(bs_table_add_inner(&table, NULL, 0)).node;
-  path[1] = DONE(bs_table_add_inner(&table, &path[0], 1)).node;
-  path[2] = DONE(bs_table_add_file(&table, &path[1], 1)).node;
-  txn = DONE(bs_table_begin(&table)).txn;
-  DONE(bs_table_lock_path(&table, txn, path[2], BS_IX, NULL));
-  for (i = 0; i < MOST_CREW; i++) own[i] = DONE(bs_table_insert(&table, txn, path[2], NULL, 0)).node;
-  DONE(bs_table_commit(&table, txn, NULL));
+  DONE(bs_table_make(&table, NULL));
+  path[0] = DONE(bs_table_add_inner(table, NULL, 0)).node;
+  path[1] = DONE(bs_table_add_inner(table, &path[0], 1)).node;
+  path[2] = DONE(bs_table_add_file(table, &path[1], 1)).node;
+  txn = DONE(bs_table_begin(table)).txn;
+  DONE(bs_table_lock_path(table, txn, path[2], BS_IX, NULL));
+  for (i = 0; i < MOST_CREW; i++) own[i] = DONE(bs_table_insert(table, txn, path[2], NULL, 0)).node;
+  DONE(bs_table_commit(table, txn, NULL));
 }
 
 static void close_table(void) {
-  WANT(bs_table_group(&table, path[0]).mode == BS_NL);
-  DONE(bs_table_end(&table));
+  WANT(bs_group(bs_table_hold(table), path[0]).mode == BS_NL);
+  DONE(bs_table_let_go(table));
+  DONE(bs_table_end(table));
+  DONE(bs_table_free(&table));
 }
 
 enum { ALL = INNER_NODES + 3 };
@@ -36,18 +39,18 @@ enum { ALL = INNER_NODES + 3 };
 /* All of it in one hold of the latch: a list that is made in each round. */
 static void fill_list(bs_command *list, size_t number) {
   size_t i;
-  list[0] = bs_do_begin();
-  for (i = 0; i < INNER_NODES; i++) list[1 + i] = bs_do_lock(bs_begun(), path[i], BS_IX);
-  list[ALL - 2] = bs_do_lock(bs_begun(), own[number], BS_X);
-  list[ALL - 1] = bs_do_commit(bs_begun());
+  list[0] = bs_do(BS_DO_BEGIN, bs_begun());
+  for (i = 0; i < INNER_NODES; i++) list[1 + i] = bs_do_at(BS_DO_LOCK, bs_begun(), path[i], BS_IX);
+  list[ALL - 2] = bs_do_at(BS_DO_LOCK, bs_begun(), own[number], BS_X);
+  list[ALL - 1] = bs_do(BS_DO_COMMIT, bs_begun());
 }
 
 static void short_transaction(size_t number) {
-  bs_txn txn = DONE(bs_table_begin(&table)).txn;
+  bs_txn txn = DONE(bs_table_begin(table)).txn;
   size_t i;
-  for (i = 0; i < INNER_NODES; i++) DONE(bs_table_lock(&table, txn, path[i], BS_IX));
-  DONE(bs_table_lock(&table, txn, own[number], BS_X));
-  DONE(bs_table_commit(&table, txn, NULL));
+  for (i = 0; i < INNER_NODES; i++) DONE(bs_table_lock(table, txn, path[i], BS_IX, NULL));
+  DONE(bs_table_lock(table, txn, own[number], BS_X, NULL));
+  DONE(bs_table_commit(table, txn, NULL));
 }
 
 /* ------------------------------------------------------------------------------------------------
@@ -88,7 +91,7 @@ static void *look_on(void *arg) {
   WANT(board != NULL);
   while (goes_on()) {
     for (i = 0; i < 1000; i++) {
-      DONE(bs_table_look(watcher, board));
+      DONE(bs_look(watcher, board));
       WANT(board->epoch >= epoch);
       epoch = board->epoch;
     }
@@ -108,13 +111,13 @@ uint64_t table_watched(long rounds) {
   pthread_t thread;
   uint64_t taken;
   open_table();
-  DONE(bs_table_watch(&table, &watcher));
+  DONE(bs_table_watch(table, &watcher));
   set_over(false);
   WANT(pthread_create(&thread, NULL, look_on, &watcher) == 0);
   taken = measured_rounds(rounds);
   set_over(true);
   WANT(pthread_join(thread, NULL) == 0);
-  DONE(bs_table_watch_end(&watcher));
+  DONE(bs_watch_end(&watcher));
   close_table();
   return taken;
 }
@@ -132,7 +135,7 @@ static void work_at_once(size_t number) {
   bs_command list[ALL];
   long left = rounds_each;
   fill_list(list, number);
-  while (left-- > 0) WANT(bs_table_run(&table, list, ALL) == ALL);
+  while (left-- > 0) WANT(bs_table_run(table, list, ALL) == ALL);
 }
 
 static uint64_t crew_of(size_t count, long rounds, void (*body)(size_t number)) {
@@ -174,17 +177,17 @@ static bs_txn first[2];
 static void take_turns(size_t number) {
   bs_txn mine = first[number];
   long left = rounds_each;
-  if (number == 1) DONE(bs_table_await(&table, mine, path[0], BS_X, NULL));
+  if (number == 1) DONE(bs_table_await(table, mine, path[0], BS_X, NULL));
   while (left-- > 0) {
-    bs_txn next = DONE(bs_table_begin(&table)).txn;
+    bs_txn next = DONE(bs_table_begin(table)).txn;
     bs_command list[2];
-    list[0] = bs_do_commit(mine);
-    list[1] = bs_do_lock(next, path[0], BS_X);
-    WANT(bs_table_run(&table, list, 2) == 1 && list[1].reply.status == BS_WAITING);
-    DONE(bs_table_await(&table, next, path[0], BS_X, NULL));
+    list[0] = bs_do(BS_DO_COMMIT, mine);
+    list[1] = bs_do_at(BS_DO_LOCK, next, path[0], BS_X);
+    WANT(bs_table_run(table, list, 2) == 1 && list[1].reply.status == BS_WAITING);
+    DONE(bs_table_await(table, next, path[0], BS_X, NULL));
     mine = next;
   }
-  DONE(bs_table_commit(&table, mine, NULL));
+  DONE(bs_table_commit(table, mine, NULL));
 }
 
 uint64_t table_wait(long rounds) {
@@ -192,11 +195,11 @@ uint64_t table_wait(long rounds) {
   uint64_t taken;
   open_table();
   rounds_each = rounds / 2;
-  first[0] = DONE(bs_table_begin(&table)).txn;
-  first[1] = DONE(bs_table_begin(&table)).txn;
-  DONE(bs_table_lock(&table, first[0], path[0], BS_X));
-  wait = bs_do_lock(first[1], path[0], BS_X);
-  WANT(bs_table_run(&table, &wait, 1) == 0 && wait.reply.status == BS_WAITING);
+  first[0] = DONE(bs_table_begin(table)).txn;
+  first[1] = DONE(bs_table_begin(table)).txn;
+  DONE(bs_table_lock(table, first[0], path[0], BS_X, NULL));
+  wait = bs_do_at(BS_DO_LOCK, first[1], path[0], BS_X);
+  WANT(bs_table_run(table, &wait, 1) == 0 && wait.reply.status == BS_WAITING);
   taken = together(2, take_turns);
   close_table();
   return taken;

@@ -105,7 +105,7 @@ static __attribute__((noinline)) void step_row(const struct work *work) {
       uint64_t key = work->order[at];
       DONE(bs_lock_row(&m, t, row_file, key, &key, 1, BS_X, &told));
     }
-    DONE(bs_commit_rows(&m, t, &told));
+    DONE(bs_commit(&m, t, &told));
   });
 }
 

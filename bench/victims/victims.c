@@ -110,13 +110,15 @@ static size_t active(struct mix *x, uint32_t lockers) {
 }
 
 static void play(uint32_t choice, size_t lockers, long steps) {
+  bs_options options = { 0 };
   static const bs_manager none = BS_NO_MANAGER_HERE;
   static struct mix x;
   size_t i;
   memset(&x, 0, sizeof x);
   x.manager = none;
   x.state = 88172645463325252u;
-  DONE(bs_make_choosing(&x.manager, BS_AT_BLOCK, choice, BS_SLOTS));
+  options.victims = choice;
+  DONE(bs_make(&x.manager, &options));
   for (i = 0; i < NODES; i++) x.nodes[i] = made_root(&x.manager);
   for (i = 0; i < lockers; i++) x.lockers[i].txn = begun(&x.manager);
   while (steps-- > 0) {
@@ -196,9 +198,11 @@ static MEASURED bs_status measured_lock(struct cycle *c) {
 /* The nanoseconds of one closing block. */
 static uint64_t close_cycle(enum shape shape, uint32_t choice) {
   struct cycle c = { BS_NO_MANAGER_HERE, { 0, 0 }, { 0, 0 } };
+  bs_options options = { 0 };
   uint64_t start, taken;
   bs_status status;
-  DONE(bs_make_choosing(&c.manager, BS_AT_BLOCK, choice, BS_SLOTS));
+  options.victims = choice;
+  DONE(bs_make(&c.manager, &options));
   if (shape == RING) {
     lay_ring(&c);
   } else {

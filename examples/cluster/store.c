@@ -44,22 +44,20 @@ static struct account *account_of(struct store *s, unsigned account) {
  */
 
 static void make_locks(struct store *s) {
-  static const bs_table none = BS_NO_TABLE_HERE;
   static const bs_watcher blind = BS_NO_WATCHER_HERE;
   bs_node root, file;
   size_t i;
-  s->locks = none;
   s->eye = blind;
-  MUST(bs_table_make(&s->locks, BS_AT_BLOCK, BS_YOUNGEST, BS_SLOTS));
-  root = MUST(bs_table_add_inner(&s->locks, NULL, 0)).node;
-  file = MUST(bs_table_add_file(&s->locks, &root, 1)).node;
-  for (i = 0; i < ACCOUNTS_EACH; i++) s->records[i] = MUST(bs_table_adopt(&s->locks, file, NULL, 0)).node;
-  MUST(bs_table_watch(&s->locks, &s->eye));
+  MUST(bs_table_make(&s->locks, NULL));
+  root = MUST(bs_table_add_inner(s->locks, NULL, 0)).node;
+  file = MUST(bs_table_add_file(s->locks, &root, 1)).node;
+  for (i = 0; i < ACCOUNTS_EACH; i++) s->records[i] = MUST(bs_table_adopt(s->locks, file, NULL, 0)).node;
+  MUST(bs_table_watch(s->locks, &s->eye));
 }
 
 /* Before anybody else is let in: so each lock is granted at once, as all these went together before. */
 static void lock_again(struct store *s, const struct work *left) {
-  bs_txn name = MUST(bs_table_begin(&s->locks)).txn;
+  bs_txn name = MUST(bs_table_begin(s->locks)).txn;
   struct work *w = &s->works[name.slot];
   size_t i;
   *w = *left;
@@ -68,7 +66,7 @@ static void lock_again(struct store *s, const struct work *left) {
   for (i = 0; i < w->count; i++) {
     bs_node record = s->records[w->items[i].account % ACCOUNTS_EACH];
     struct timespec now = { 0, 0 };
-    MUST(bs_table_lock_path(&s->locks, name, record, w->items[i].writes ? BS_X : BS_S, &now));
+    MUST(bs_table_lock_path(s->locks, name, record, w->items[i].writes ? BS_X : BS_S, &now));
   }
 }
 
@@ -89,7 +87,7 @@ void store_open(struct store *s, unsigned shard) {
  */
 
 bool store_begin(struct store *s, uint64_t number, uint64_t owner) {
-  bs_txn name = MUST(bs_table_begin_until(&s->locks, NULL)).txn;
+  bs_txn name = MUST(bs_table_begin_in_turn(s->locks, NULL)).txn;
   struct work w = { .number = number, .owner = owner, .name = name };
   pthread_mutex_lock(&s->mutex);
   s->works[name.slot] = w;
@@ -112,7 +110,7 @@ static bool name_of(struct store *s, uint64_t number, bs_txn *name) {
 static bool lock(struct store *s, bs_txn name, unsigned account, bs_mode mode) {
   bs_node record = s->records[account % ACCOUNTS_EACH];
   struct timespec until = bs_after(PATIENCE);
-  bs_status status = bs_table_lock_path(&s->locks, name, record, mode, &until).status;
+  bs_status status = bs_table_lock_path(s->locks, name, record, mode, &until).status;
   switch (status) {
     case BS_DONE: return true;
     case BS_VICTIM: case BS_TIMED_OUT: case BS_NOT_WAITING: case BS_NO_SUCH_TXN: return false;
@@ -138,11 +136,18 @@ bool store_read(struct store *s, uint64_t number, unsigned account, bs_mode mode
   return w != NULL;
 }
 
+/* In which mode a transaction holds a record. */
+static bs_mode held(struct store *s, bs_txn name, bs_node record) {
+  bs_mode mode = bs_held(bs_table_hold(s->locks), name, record).mode;
+  bs_table_let_go(s->locks);
+  return mode;
+}
+
 bool store_write(struct store *s, uint64_t number, unsigned account, int64_t balance) {
   bs_txn name;
   struct item *item = NULL;
   if (!name_of(s, number, &name)) return false;
-  if (bs_table_held(&s->locks, name, s->records[account % ACCOUNTS_EACH]).mode != BS_X) return false;
+  if (held(s, name, s->records[account % ACCOUNTS_EACH]) != BS_X) return false;
   pthread_mutex_lock(&s->mutex);
   if (find(s, number) != NULL) item = find_item(find(s, number), account);
   if (item != NULL) {
@@ -162,8 +167,8 @@ static void end(struct store *s, struct work *w, bool commits) {
   bs_txn name = w->name;
   if (commits) redo_apply(s, w);
   w->number = 0;
-  if (commits) MUST(bs_table_commit(&s->locks, name, NULL));
-  else MUST(bs_table_abort(&s->locks, name, NULL));
+  if (commits) MUST(bs_table_commit(s->locks, name, NULL));
+  else MUST(bs_table_abort(s->locks, name, NULL));
 }
 
 bool store_prepare(struct store *s, uint64_t number) {
@@ -231,7 +236,7 @@ void store_lose(struct store *s, uint64_t owner) {
 
 bool store_cancel(struct store *s, uint64_t number) {
   bs_txn name;
-  return name_of(s, number, &name) && bs_table_cancel(&s->locks, name, NULL).status == BS_DONE;
+  return name_of(s, number, &name) && bs_table_cancel(s->locks, name, NULL).status == BS_DONE;
 }
 
 /* The number of the transaction that a board shows in a slot; 0: it has ended since. */
@@ -257,7 +262,7 @@ void store_board(struct store *s, char *line) {
   uint32_t slot;
   line[0] = '\0';
   pthread_mutex_lock(&s->mutex);
-  MUST(bs_table_look(&s->eye, &board));
+  MUST(bs_look(&s->eye, &board));
   for (slot = 0; slot < BS_SLOTS; slot++) add_row(s, &board, slot, line);
   pthread_mutex_unlock(&s->mutex);
 }

@@ -10,6 +10,8 @@
 
 #include "burlapslate_shared.h"
 
+#include <pthread.h>
+
 #include "cluster.h"
 
 struct account {
@@ -37,7 +39,7 @@ struct work {
 /* What is below the mutex is read and written under it. Nobody sleeps for a lock with the mutex held. */
 struct store {
   unsigned shard;
-  bs_table locks;
+  bs_table *locks;
   bs_node records[ACCOUNTS_EACH];
   pthread_mutex_t mutex;
   bs_watcher eye;

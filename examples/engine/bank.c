@@ -17,18 +17,20 @@ bool same_node(bs_node a, bs_node b) {
 }
 
 void bank_open(struct bank *b, enum bs_detects detect) {
-  static const bs_table none = BS_NO_TABLE_HERE;
-  b->locks = none;
+  bs_options options = { 0 };
+  options.detect = detect;
+  b->locks = NULL;
   pthread_mutex_init(&b->mutex, NULL);
-  MUST(bs_table_make(&b->locks, detect, BS_YOUNGEST, BS_SLOTS));
-  if (detect == BS_BY_WATCHER) MUST(bs_table_watch_thread(&b->locks, 0));
-  b->root = MUST(bs_table_add_inner(&b->locks, NULL, 0)).node;
-  b->table = MUST(bs_table_add_file(&b->locks, &b->root, 1)).node;
-  b->by_balance = MUST(bs_table_add_index(&b->locks, &b->root, 1, b->table, bounds, INTERVALS - 1)).node;
+  MUST(bs_table_make(&b->locks, &options));
+  if (detect == BS_BY_WATCHER) MUST(bs_table_watch_thread(b->locks, 0));
+  b->root = MUST(bs_table_add_inner(b->locks, NULL, 0)).node;
+  b->table = MUST(bs_table_add_file(b->locks, &b->root, 1)).node;
+  b->by_balance = MUST(bs_table_add_index(b->locks, &b->root, 1, b->table, bounds, INTERVALS - 1)).node;
 }
 
 void bank_close(struct bank *b) {
-  MUST(bs_table_end(&b->locks));
+  MUST(bs_table_end(b->locks));
+  MUST(bs_table_free(&b->locks));
   pthread_mutex_destroy(&b->mutex);
 }
 
@@ -54,15 +56,29 @@ struct row *bank_free_row(struct bank *b) {
 }
 
 bs_node bank_interval_at(struct bank *b, size_t place) {
-  return MUST(bs_table_interval(&b->locks, b->by_balance, place)).node;
+  bs_reply interval = bs_interval(bs_table_hold(b->locks), b->by_balance, place);
+  bs_table_let_go(b->locks);
+  return MUST(interval).node;
 }
 
 bs_node bank_interval_for(struct bank *b, uint64_t balance) {
-  return MUST(bs_table_interval_of(&b->locks, b->by_balance, balance)).node;
+  bs_reply interval = bs_interval_of(bs_table_hold(b->locks), b->by_balance, balance);
+  bs_table_let_go(b->locks);
+  return MUST(interval).node;
 }
 
 bs_node bank_interval_of(struct bank *b, bs_node account) {
-  return MUST(bs_table_parent(&b->locks, account, PLACE_OF_INTERVAL)).node;
+  bs_reply interval = bs_parent(bs_table_hold(b->locks), account, PLACE_OF_INTERVAL);
+  bs_table_let_go(b->locks);
+  return MUST(interval).node;
+}
+
+bs_counts bank_lock_counts(struct bank *b) {
+  bs_counts counts = { 0 };
+  bs_reply reply = bs_counters(bs_table_hold(b->locks), &counts);
+  bs_table_let_go(b->locks);
+  MUST(reply);
+  return counts;
 }
 
 bs_node bank_account_from(struct bank *b, size_t place) {
@@ -128,6 +144,7 @@ void bank_count(struct bank *b, uint64_t *counter) {
 
 void bank_check(struct bank *b, uint64_t sum) {
   struct totals totals = bank_total(b);
+  const bs_manager *m;
   size_t i;
   if (totals.sum != sum) fail("wrong sum: at the end %" PRIu64 " in place of %" PRIu64, totals.sum, sum);
   pthread_mutex_lock(&b->mutex);
@@ -137,7 +154,9 @@ void bank_check(struct bank *b, uint64_t sum) {
     if (same_node(bank_interval_for(b, row->balance), bank_interval_of(b, row->account))) continue;
     fail("an account with %" PRIu64 " is in another interval", row->balance);
   }
-  if (MUST(bs_table_len(&b->locks)).count != NODES_ABOVE + totals.count) fail("there are records without rows");
-  if (MUST(bs_table_group(&b->locks, b->root)).mode != BS_NL) fail("somebody still holds a lock");
+  m = bs_table_hold(b->locks);
+  if (MUST(bs_len(m)).count != NODES_ABOVE + totals.count) fail("there are records without rows");
+  if (MUST(bs_group(m, b->root)).mode != BS_NL) fail("somebody still holds a lock");
+  bs_table_let_go(b->locks);
   pthread_mutex_unlock(&b->mutex);
 }

@@ -13,6 +13,8 @@
 
 #include "burlapslate_shared.h"
 
+#include <pthread.h>
+
 enum { MOST_ACCOUNTS = 32, INTERVALS = 4 };
 
 struct row {
@@ -30,7 +32,7 @@ struct counts {
 /* All below the mutex is read and written under it, and a row by who has the lock that it takes: the mutex keeps a
  * single step whole, and the locks a transaction. Nobody sleeps for a lock with the mutex held. */
 struct bank {
-  bs_table locks;
+  bs_table *locks;
   bs_node root, table, by_balance;
   pthread_mutex_t mutex;
   struct row rows[MOST_ACCOUNTS];
@@ -44,6 +46,9 @@ struct totals {
 
 void bank_open(struct bank *b, enum bs_detects detect);
 void bank_close(struct bank *b);
+
+/* What has been done in the table of locks. */
+bs_counts bank_lock_counts(struct bank *b);
 
 /* Fails where the accounts have another sum, a record is not where its balance belongs, or somebody holds a
  * lock. */

@@ -27,7 +27,9 @@ static void rest(void) {
 }
 
 static bool is_waiting(struct bank *b, bs_txn name) {
-  return bs_table_waiting(&b->locks, name).status == BS_WAITING;
+  uint64_t doing = bs_doing(bs_table_hold(b->locks), name).count;
+  bs_table_let_go(b->locks);
+  return doing == BS_WAITS;
 }
 
 /* ------------------------------------------------------------------------------------------------
@@ -60,7 +62,7 @@ static void lead(struct follower *f, struct txn *leader) {
   want(f->story, txn_lock_account(leader, f->wanted, BS_X), BS_DONE);
   f->txn = txn_begin(f->bank, f->patience);
   f->given_up = f->bank->counts.given_up;
-  MUST(bs_table_counters(&f->bank->locks, &f->before));
+  f->before = bank_lock_counts(f->bank);
   start(&f->thread, run_follower, f);
 }
 
@@ -70,11 +72,10 @@ static void await_wait(struct follower *f) {
 
 /* How many waits have ended so since the follower began. */
 static uint64_t ended(struct follower *f, bs_status of_wait) {
-  bs_counts now = { 0 };
-  MUST(bs_table_counters(&f->bank->locks, &now));
+  bs_counts now = bank_lock_counts(f->bank);
   switch (of_wait) {
     case BS_DONE: return now.granted_later - f->before.granted_later;
-    case BS_VICTIM: return now.victims - f->before.victims;
+    case BS_VICTIM: return now.condemned - f->before.condemned;
     case BS_MOVED: return now.moved - f->before.moved;
     case BS_GONE: return now.gone - f->before.gone;
     default: return f->bank->counts.given_up - f->given_up;

@@ -157,8 +157,7 @@ static void print_line(const struct item *items, size_t count) {
 
 static void print_summary(struct bank *b) {
   const struct counts *c = &b->counts;
-  bs_counts locks = { 0 };
-  MUST(bs_table_counters(&b->locks, &locks));
+  const bs_counts locks = bank_lock_counts(b);
   const struct item writes[] = {
     { "transfers", c->transfers }, { "of a closed account", c->no_account }, { "opened", c->opened },
     { "closed", c->closed }, { "rekeyed", c->rekeyed }
@@ -168,7 +167,7 @@ static void print_summary(struct bank *b) {
     { "locks released by them", locks.released_children }, { "reads of an interval", c->lists }
   };
   const struct item waits[] = {
-    { "waits", locks.waited }, { "granted", locks.granted_later }, { "victims", locks.victims },
+    { "waits", locks.waited }, { "granted", locks.granted_later }, { "victims", locks.condemned },
     { "moved", locks.moved }, { "gone", locks.gone }, { "given up", c->given_up },
     { "the longest queue", locks.longest_queue }
   };

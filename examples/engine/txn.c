@@ -10,7 +10,7 @@
 static bs_status lock(struct txn *t, bs_node node, bs_mode mode) {
   struct timespec until = bs_after(t->patience);
   const struct timespec *limit = t->patience == FOR_EVER ? NULL : &until;
-  bs_reply reply = bs_table_lock_path(&t->bank->locks, t->name, node, mode, limit);
+  bs_reply reply = bs_table_lock_path(t->bank->locks, t->name, node, mode, limit);
   switch (reply.status) {
     case BS_VICTIM: case BS_GONE: return reply.status;
     case BS_NO_SUCH_NODE: return BS_GONE; /* It went before it was asked for. */
@@ -33,11 +33,11 @@ bs_status txn_lock_table(struct txn *t) {
   bs_status status = lock(t, b->table, BS_IS);
   bs_reply reply;
   if (status != BS_DONE) return status;
-  reply = bs_table_escalate(&b->locks, t->name, b->table, NULL);
+  reply = bs_table_escalate(b->locks, t->name, b->table, NULL);
   if (reply.status == BS_WOULD_BLOCK) {
     status = lock(t, b->table, BS_S);
     if (status != BS_DONE) return status;
-    reply = bs_table_escalate(&b->locks, t->name, b->table, NULL);
+    reply = bs_table_escalate(b->locks, t->name, b->table, NULL);
   }
   return must(reply, "bs_table_escalate").status;
 }
@@ -88,7 +88,7 @@ static bs_status lock_new_intervals(struct txn *t) {
 /* The record comes before the row, so that each row has its record. */
 static void insert_opened(struct txn *t) {
   struct bank *b = t->bank;
-  bs_node account = MUST(bs_table_insert(&b->locks, t->name, b->table, &t->deposit, 1)).node;
+  bs_node account = MUST(bs_table_insert(b->locks, t->name, b->table, &t->deposit, 1)).node;
   struct row *row;
   pthread_mutex_lock(&b->mutex);
   row = bank_free_row(b);
@@ -106,7 +106,7 @@ static void delete_closed(struct txn *t) {
   pthread_mutex_lock(&b->mutex);
   bank_locked_row(b, t->closed)->is_open = false;
   pthread_mutex_unlock(&b->mutex);
-  MUST(bs_table_delete(&b->locks, t->name, t->closed, NULL));
+  MUST(bs_table_delete(b->locks, t->name, t->closed, NULL));
 }
 
 /* A record moves where its balance has come to belong to another interval. Whoever waits for it with an
@@ -120,7 +120,7 @@ static void rekey_written(struct txn *t) {
     if (t->closes && same_node(account, t->closed)) continue;
     balance = txn_read(t, account);
     if (same_node(bank_interval_for(b, balance), bank_interval_of(b, account))) continue;
-    MUST(bs_table_rekey(&b->locks, t->name, account, b->by_balance, balance, NULL));
+    MUST(bs_table_rekey(b->locks, t->name, account, b->by_balance, balance, NULL));
     bank_count(b, &b->counts.rekeyed);
   }
 }
@@ -132,7 +132,7 @@ static bs_status commit(struct txn *t) {
   if (t->opens) insert_opened(t);
   if (t->closes) delete_closed(t);
   rekey_written(t);
-  return MUST(bs_table_commit(&t->bank->locks, t->name, NULL)).status;
+  return MUST(bs_table_commit(t->bank->locks, t->name, NULL)).status;
 }
 
 /* Takes back what was written, the last first, while the locks still keep others away; then releases. */
@@ -141,12 +141,12 @@ static void roll_back(struct txn *t) {
     const struct undo *last = &t->undo[--t->writes];
     set_balance(t->bank, last->account, last->balance);
   }
-  MUST(bs_table_abort(&t->bank->locks, t->name, NULL));
+  MUST(bs_table_abort(t->bank->locks, t->name, NULL));
 }
 
 struct txn txn_begin(struct bank *b, unsigned patience) {
   struct txn t = { .bank = b, .patience = patience };
-  t.name = MUST(bs_table_begin_until(&b->locks, NULL)).txn; /* It sleeps where all slots are taken. */
+  t.name = MUST(bs_table_begin_in_turn(b->locks, NULL)).txn; /* It sleeps where all slots are taken. */
   return t;
 }
 

@@ -33,7 +33,8 @@ static enum action what_to_do(bs_status status) {
     case BS_BAD_PARENTS: case BS_NEED_EXCLUSIVE: case BS_BAD_KEYS: return MEND;
     case BS_FILE_IN_USE: case BS_HAS_CHILDREN: return MEND; /* What stands below goes first. */
     case BS_CYCLE: case BS_NULL_POINTER: case BS_NO_MANAGER: case BS_BAD_NUMBER: case BS_IN_USE: return MEND;
-    case BS_NO_WATCHER: case BS_ROWS_BY_NUMBER: case BS_NOT_ROWS: case BS_OTHER_SLOTS: return MEND;
+    case BS_NO_WATCHER: case BS_ROWS_BY_NUMBER: case BS_NOT_ROWS: return MEND;
+    case BS_OTHER_SLOTS: case BS_OTHER_VERSION: return MEND;
     case BS_NAME_TAKEN: case BS_BAD_LINE: return MEND; /* Not answered to C. */
   }
   return MEND;
@@ -90,14 +91,14 @@ static void of_rows(bs_manager *m, const struct shop *s) {
   DONE(bs_lock_path(m, b, rows, BS_IS, &told));
   WANT(of(bs_lock_row(m, a, rows, 7, &day, 1, BS_X, &told)) == GO_ON);
   WANT(of(bs_lock_row(m, b, rows, 7, &other, 1, BS_S, &told)) == SLEEP);
-  DONE(bs_commit_rows(m, a, &told));
+  DONE(bs_commit(m, a, &told));
   WANT(of_notice(0, b) == GO_ON);
   WANT(of(bs_lock_row(m, b, rows, 7, &other, 1, BS_S, &told)) == LOOK_AGAIN);
   WANT(of(bs_unlock_row(m, b, rows, 7, &told)) == GO_ON);
   record = DONE(bs_adopt(m, s->orders, &day, 1)).node;
   DONE(bs_lock_path(m, b, record, BS_S, &told));
   WANT(of(bs_forget(m, record)) == ASK_LATER);
-  DONE(bs_commit_rows(m, b, &told));
+  DONE(bs_commit(m, b, &told));
 }
 
 static void of_deadlocks(bs_manager *m, const struct shop *s) {

@@ -138,7 +138,7 @@ void buckets_under_intervals(void) {
   DONE(bs_lock_path(&m, reader, interval, BS_S, &told));
   writer = begin(&m);
   reply = bs_lock_path(&m, writer, bucket_under(&m, &r, 150, 7), BS_X, &told);
-  WANT(reply.status == BS_WAITING && same_node(bs_waiting(&m, writer).node, interval));
+  WANT(reply.status == BS_WAITING && same_node(bs_doing(&m, writer).node, interval));
   DONE(bs_cancel(&m, writer, &told));
   DONE(bs_lock_path(&m, writer, bucket_under(&m, &r, 250, 7), BS_X, &told));
   DONE(bs_end(&m));

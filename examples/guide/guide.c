@@ -23,8 +23,11 @@ bs_reply done(bs_reply reply, const char *call, const char *file, int line) {
 
 void open_manager(bs_manager *m, uint32_t detect, uint32_t victims) {
   static const bs_manager none = BS_NO_MANAGER_HERE;
+  bs_options options = { 0 };
   *m = none;
-  DONE(bs_make_choosing(m, detect, victims, BS_SLOTS));
+  options.detect = detect;
+  options.victims = victims;
+  DONE(bs_make(m, &options));
 }
 
 bs_txn begin(bs_manager *m) {

@@ -20,7 +20,7 @@ struct prepared {
 /* Behind its last lock, which was granted: so it does not wait, and is not condemned. */
 static struct prepared prepare(bs_manager *m, bs_txn txn, uint64_t number) {
   struct prepared p = { number, txn };
-  WANT(bs_waiting(m, txn).status == BS_NOT_WAITING);
+  WANT(bs_doing(m, txn).count == BS_ACTIVE);
   return p;
 }
 

@@ -72,10 +72,10 @@ void rows_while_they_are_locked(void) {
   DONE(lock_row(&m, &r, a, 7, BS_X));
   DONE(lock_row(&m, &r, a, 8, BS_X));
   WANT(lock_row(&m, &r, b, 7, BS_S).status == BS_WAITING);
-  DONE(bs_commit_rows(&m, a, &told));
+  DONE(bs_commit(&m, a, &told));
   WANT(is_told(0, b, BS_TOLD_GRANTED) && has_node(&m, &r, 7) && !has_node(&m, &r, 8));
   DONE(lock_row(&m, &r, b, 7, BS_S));
-  DONE(bs_commit_rows(&m, b, &told));
+  DONE(bs_commit(&m, b, &told));
   WANT(!has_node(&m, &r, 7) && bs_has_records(&m, r.orders).count == 0);
   DONE(bs_end(&m));
 }
@@ -99,7 +99,7 @@ void a_locked_row_is_rekeyed(void) {
   writer = begin(&m), reader = begin(&m);
   move_row(&m, &r, writer, 7, 250);
   WANT(bs_lock_path(&m, reader, interval, BS_S, &told).status == BS_WAITING);
-  DONE(bs_commit_rows(&m, writer, &told));
+  DONE(bs_commit(&m, writer, &told));
   WANT(is_told(0, reader, BS_TOLD_GRANTED) && !has_node(&m, &r, 7));
   DONE(bs_lock_path(&m, reader, r.orders, BS_IS, &told));
   WANT(same_node(bs_parent(&m, DONE(bs_lock_row(&m, reader, r.orders, 7, &r.days[7], 1, BS_S, &told)).node, 1).node,
@@ -118,13 +118,13 @@ void a_row_moved_unseen(void) {
   writer = begin(&m), mover = begin(&m), reader = begin(&m);
   day = r.days[50];
   move_row(&m, &r, mover, 50, 150);
-  DONE(bs_commit_rows(&m, mover, &told));
+  DONE(bs_commit(&m, mover, &told));
   DONE(bs_lock_path(&m, reader, interval_at(&m, &r, 150), BS_S, &told));
   DONE(ask_by(&m, &r, writer, 50, day, BS_X));
   WANT(r.days[50] != day);
   DONE(bs_unlock_row(&m, writer, r.orders, 50, &told));
   WANT(lock_row(&m, &r, writer, 50, BS_X).status == BS_WAITING);
-  WANT(same_node(bs_waiting(&m, writer).node, interval_at(&m, &r, 150)));
+  WANT(same_node(bs_doing(&m, writer).node, interval_at(&m, &r, 150)));
   DONE(bs_commit(&m, reader, &told));
   DONE(lock_row(&m, &r, writer, 50, BS_X));
   DONE(bs_end(&m));
@@ -144,7 +144,7 @@ void a_row_moves_meanwhile(void) {
   DONE(bs_rekey_row(&m, mover, r.orders, 50, r.by_day, 150, &told));
   WANT(ask_by(&m, &r, other, 50, day, BS_X).status == BS_WAITING);
   r.days[50] = 150;
-  DONE(bs_commit_rows(&m, mover, &told));
+  DONE(bs_commit(&m, mover, &told));
   WANT(is_told(0, other, BS_TOLD_GRANTED));
   WANT(ask_by(&m, &r, other, 50, day, BS_X).status == BS_OTHER_KEYS);
   DONE(bs_unlock_row(&m, other, r.orders, 50, &told));
@@ -165,14 +165,14 @@ void rows_come_and_go(void) {
   DONE(bs_lock_row(&m, reader, r.orders, 9, &r.days[9], 1, BS_S, &told));
   WANT(!r.is_there[9]);
   WANT(lock_row(&m, &r, writer, 9, BS_X).status == BS_WAITING);
-  DONE(bs_commit_rows(&m, reader, &told));
+  DONE(bs_commit(&m, reader, &told));
   DONE(lock_row(&m, &r, writer, 9, BS_X));
   r.is_there[9] = true; /* It is inserted at once. */
   DONE(lock_row(&m, &r, writer, 10, BS_X));
   r.is_there[10] = false; /* It is deleted at once. */
   WANT(lock_row(&m, &r, next, 10, BS_X).status == BS_WAITING);
   r.is_there[9] = false, r.is_there[10] = true; /* The writer rolls back. */
-  DONE(bs_abort_rows(&m, writer, &told));
+  DONE(bs_abort(&m, writer, &told));
   WANT(is_told(0, next, BS_TOLD_GRANTED) && !has_node(&m, &r, 9));
   DONE(lock_row(&m, &r, next, 10, BS_X));
   WANT(r.is_there[10]);

@@ -5,6 +5,8 @@
 
 #include "burlapslate_shared.h"
 
+#include <pthread.h>
+
 enum { WORKERS = 16, ORDERS = 64, ROUNDS = 100, FEWEST_BOUNDS = 2, MOST_BOUNDS = 9 };
 
 /* What the engine calls a table and its index: their nodes of now. */
@@ -12,7 +14,7 @@ struct names {
   bs_node orders, by_day;
 };
 
-static bs_table table = BS_NO_TABLE_HERE;
+static bs_table *table;
 static bs_node db;
 static pthread_mutex_t catalog = PTHREAD_MUTEX_INITIALIZER;
 static struct names names; /* with the catalog's latch */
@@ -33,22 +35,33 @@ static struct names look_up(void) {
   return now;
 }
 
+static bs_node index_of(bs_node orders) {
+  bs_reply index = bs_index(bs_table_hold(table), orders, 0);
+  bs_table_let_go(table);
+  return DONE(index).node;
+}
+
+static bs_reply interval_for(bs_node index, uint64_t day) {
+  bs_reply interval = bs_interval_of(bs_table_hold(table), index, day);
+  bs_table_let_go(table);
+  return interval;
+}
+
 /* Locks a row. While the table is locked no index of it comes or goes. */
 static bs_reply lock_order(bs_txn t, uint64_t row) {
   bs_node orders = look_up().orders;
   uint64_t day = day_of(row);
-  bs_reply reply = bs_table_lock_path(&table, t, orders, BS_IX, NULL);
-  if (reply.status == BS_DONE) reply = bs_table_index(&table, orders, 0);
-  if (reply.status == BS_DONE) reply = bs_table_interval_of(&table, reply.node, day);
-  if (reply.status == BS_DONE) reply = bs_table_lock_path(&table, t, reply.node, BS_IX, NULL);
-  if (reply.status == BS_DONE) reply = bs_table_lock_row(&table, t, orders, row, &day, 1, BS_X, NULL);
+  bs_reply reply = bs_table_lock_path(table, t, orders, BS_IX, NULL);
+  if (reply.status == BS_DONE) reply = interval_for(index_of(orders), day);
+  if (reply.status == BS_DONE) reply = bs_table_lock_path(table, t, reply.node, BS_IX, NULL);
+  if (reply.status == BS_DONE) reply = bs_table_lock_row(table, t, orders, row, &day, 1, BS_X, NULL);
   return reply;
 }
 
 /* Locks the days of an interval to read them, by the index alone. */
 static bs_reply lock_days(bs_txn t, uint64_t day) {
-  bs_reply reply = bs_table_interval_of(&table, look_up().by_day, day);
-  return reply.status == BS_DONE ? bs_table_lock_path(&table, t, reply.node, BS_S, NULL) : reply;
+  bs_reply reply = interval_for(look_up().by_day, day);
+  return reply.status == BS_DONE ? bs_table_lock_path(table, t, reply.node, BS_S, NULL) : reply;
 }
 
 /* Whether a node went while it was waited for, or before it was asked for: then the names are looked up again. */
@@ -57,17 +70,17 @@ static bool is_gone(bs_reply reply) {
 }
 
 static void write_order(uint64_t row) {
-  bs_txn t = DONE(bs_table_begin(&table)).txn;
+  bs_txn t = DONE(bs_table_begin(table)).txn;
   bs_reply reply = lock_order(t, row);
   while (is_gone(reply)) reply = lock_order(t, row);
   DONE(reply);
   amounts[row]++;
-  DONE(bs_table_commit_rows(&table, t, NULL));
+  DONE(bs_table_commit(table, t, NULL));
 }
 
 /* Nobody writes the row while its day is read. */
 static void read_order(uint64_t row) {
-  bs_txn t = DONE(bs_table_begin(&table)).txn;
+  bs_txn t = DONE(bs_table_begin(table)).txn;
   bs_reply reply = lock_days(t, day_of(row));
   long amount;
   while (is_gone(reply)) reply = lock_days(t, day_of(row));
@@ -75,7 +88,7 @@ static void read_order(uint64_t row) {
   amount = amounts[row];
   sched_yield();
   WANT(amounts[row] == amount);
-  DONE(bs_table_commit_rows(&table, t, NULL));
+  DONE(bs_table_commit(table, t, NULL));
 }
 
 static void *work(void *arg) {
@@ -89,12 +102,13 @@ static void *work(void *arg) {
 
 /* Locks the table whole: its file and each of its indexes, so that nobody comes to a row by any way. */
 static bs_status lock_whole(bs_txn t, bs_node orders) {
-  bs_status status = bs_table_lock_path(&table, t, orders, BS_X, NULL).status;
+  bs_status status = bs_table_lock_path(table, t, orders, BS_X, NULL).status;
   size_t place;
   for (place = 0; status == BS_DONE; place++) {
-    bs_reply index = bs_table_index(&table, orders, place);
+    bs_reply index = bs_index(bs_table_hold(table), orders, place);
+    bs_table_let_go(table);
     if (index.status == BS_NO_PLACE) break;
-    status = bs_table_lock_path(&table, t, index.node, BS_X, NULL).status;
+    status = bs_table_lock_path(table, t, index.node, BS_X, NULL).status;
   }
   return status;
 }
@@ -102,27 +116,33 @@ static bs_status lock_whole(bs_txn t, bs_node orders) {
 /* Gives the index so many bounds. Where the new one cannot be made nothing has changed. */
 static bs_status make_finer(size_t count) {
   bs_node orders = look_up().orders;
-  bs_txn t = DONE(bs_table_begin(&table)).txn;
+  bs_txn t = DONE(bs_table_begin(table)).txn;
   bs_status status = lock_whole(t, orders);
   if (status == BS_DONE) {
     bs_command list[3];
-    list[0] = bs_do_index_by(t, &db, 1, orders, bounds, count);
-    list[1] = bs_do_drop(t, bs_table_index(&table, orders, 0).node);
-    list[2] = bs_do_commit(t);
+    list[0] = (bs_command){ .kind = BS_DO_INDEX_BY, .txn = t, .parents = &db, .parent_count = 1, .file = orders,
+                            .bounds = bounds, .bound_count = count };
+    list[1] = (bs_command){ .kind = BS_DO_DROP, .txn = t, .node = index_of(orders) };
+    list[2] = bs_do(BS_DO_COMMIT, t);
     pthread_mutex_lock(&catalog);
-    if (bs_table_run(&table, list, 3) == 3) names.by_day = list[0].reply.node;
+    if (bs_table_run(table, list, 3) == 3) names.by_day = list[0].reply.node;
     pthread_mutex_unlock(&catalog);
     status = list[0].reply.status;
   }
-  if (status != BS_DONE) DONE(bs_table_abort(&table, t, NULL));
+  if (status != BS_DONE) DONE(bs_table_abort(table, t, NULL));
   return status;
 }
 
 static struct names make_table(size_t count) {
   struct names made;
-  made.orders = DONE(bs_table_add_row_file(&table, &db, 1)).node;
-  made.by_day = DONE(bs_table_add_index(&table, &db, 1, made.orders, bounds, count)).node;
+  made.orders = DONE(bs_table_add_row_file(table, &db, 1)).node;
+  made.by_day = DONE(bs_table_add_index(table, &db, 1, made.orders, bounds, count)).node;
   return made;
+}
+
+static void close_table(void) {
+  DONE(bs_table_end(table));
+  DONE(bs_table_free(&table));
 }
 
 /* The rows of the table go, whose locks nobody has. */
@@ -137,21 +157,21 @@ static void empty_rows(void) {
 /* Drops the table, and makes it again with so many bounds and no row. */
 static bs_status make_anew(size_t count) {
   bs_node orders = look_up().orders;
-  bs_txn t = DONE(bs_table_begin(&table)).txn;
+  bs_txn t = DONE(bs_table_begin(table)).txn;
   bs_status status = lock_whole(t, orders);
   if (status == BS_DONE) {
     struct names made = make_table(count);
     bs_command list[3];
     empty_rows();
-    list[0] = bs_do_drop(t, bs_table_index(&table, orders, 0).node);
-    list[1] = bs_do_drop(t, orders);
-    list[2] = bs_do_commit(t);
+    list[0] = (bs_command){ .kind = BS_DO_DROP, .txn = t, .node = index_of(orders) };
+    list[1] = (bs_command){ .kind = BS_DO_DROP, .txn = t, .node = orders };
+    list[2] = bs_do(BS_DO_COMMIT, t);
     pthread_mutex_lock(&catalog);
-    WANT(bs_table_run(&table, list, 3) == 3);
+    WANT(bs_table_run(table, list, 3) == 3);
     names = made;
     pthread_mutex_unlock(&catalog);
   } else {
-    DONE(bs_table_abort(&table, t, NULL));
+    DONE(bs_table_abort(table, t, NULL));
   }
   return status;
 }
@@ -162,8 +182,8 @@ static void change_at_work(bs_status (*change)(size_t count)) {
   static uint64_t dice[WORKERS];
   pthread_t threads[WORKERS];
   size_t i;
-  DONE(bs_table_make(&table, BS_AT_BLOCK, BS_YOUNGEST, BS_SLOTS));
-  db = DONE(bs_table_add_inner(&table, NULL, 0)).node;
+  DONE(bs_table_make(&table, NULL));
+  db = DONE(bs_table_add_inner(table, NULL, 0)).node;
   names = make_table(FEWEST_BOUNDS);
   empty_rows();
   gone = 0;
@@ -174,23 +194,27 @@ static void change_at_work(bs_status (*change)(size_t count)) {
   for (i = FEWEST_BOUNDS; i <= MOST_BOUNDS; i++) WANT(change(i) == BS_DONE);
   for (i = 0; i < WORKERS; i++) WANT(pthread_join(threads[i], NULL) == 0);
   empty_rows();
-  WANT(gone == WORKERS * ROUNDS && bs_table_len(&table).count == 4 + MOST_BOUNDS);
+  WANT(gone == WORKERS * ROUNDS && bs_len(bs_table_hold(table)).count == 4 + MOST_BOUNDS);
+  DONE(bs_table_let_go(table));
 }
 
 /* A reader of some days and a writer of others met in the last interval, and do so no more. */
 void an_index_gets_finer_bounds(void) {
   bs_txn reader, writer;
+  bs_node last;
   change_at_work(make_finer);
-  reader = DONE(bs_table_begin(&table)).txn, writer = DONE(bs_table_begin(&table)).txn;
+  reader = DONE(bs_table_begin(table)).txn, writer = DONE(bs_table_begin(table)).txn;
   DONE(lock_days(reader, 850));
   DONE(lock_order(writer, 30));
-  WANT(bs_table_place(&table, bs_table_interval_of(&table, names.by_day, 850).node).count == MOST_BOUNDS);
-  DONE(bs_table_end(&table));
+  last = DONE(interval_for(names.by_day, 850)).node;
+  WANT(bs_place(bs_table_hold(table), last).count == MOST_BOUNDS);
+  DONE(bs_table_let_go(table));
+  close_table();
 }
 
 void a_table_is_dropped_and_made_again(void) {
   change_at_work(make_anew);
-  DONE(bs_table_end(&table));
+  close_table();
 }
 
 /* Records that stand are in the way of a drop, and so are the rows of the transaction itself. */

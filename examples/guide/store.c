@@ -12,6 +12,7 @@ const char *ending_text(enum ending ending) {
 
 void store_open(struct store *s, enum bs_detects detect) {
   static const bs_manager none = BS_NO_MANAGER_HERE;
+  bs_options options = { 0 };
   pthread_condattr_t by_steady_clock;
   size_t slot;
   pthread_condattr_init(&by_steady_clock);
@@ -21,7 +22,8 @@ void store_open(struct store *s, enum bs_detects detect) {
   for (slot = 0; slot < BS_SLOTS; slot++) pthread_cond_init(&s->seats[slot].wake, &by_steady_clock);
   pthread_condattr_destroy(&by_steady_clock);
   s->manager = none;
-  MUST(bs_make(&s->manager, detect, BS_SLOTS));
+  options.detect = detect;
+  MUST(bs_make(&s->manager, &options));
 }
 
 void store_close(struct store *s) {
@@ -99,7 +101,7 @@ enum ending store_lock(struct store *s, bs_txn txn, bs_node node, bs_mode mode, 
 }
 
 bool store_is_waiting(struct store *s, bs_txn txn) {
-  return bs_waiting(&s->manager, txn).status == BS_WAITING;
+  return bs_doing(&s->manager, txn).count == BS_WAITS;
 }
 
 void store_tell_news(struct store *s) {

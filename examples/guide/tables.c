@@ -6,34 +6,44 @@
 
 #include "burlapslate_shared.h"
 
-static bs_table table = BS_NO_TABLE_HERE;
+#include <pthread.h>
+
+static bs_table *table;
 static struct { bs_node db, orders, rows[2]; } shop;
 static uint64_t amounts[2];
 
 static void open_table(uint32_t detect, uint32_t slots) {
+  bs_options options = { 0 };
   bs_txn t;
   size_t i;
-  DONE(bs_table_make(&table, detect, BS_YOUNGEST, slots));
-  if (detect == BS_BY_WATCHER) DONE(bs_table_watch_thread(&table, 1000000)); /* It rests a millisecond between looks. */
-  shop.db = DONE(bs_table_add_inner(&table, NULL, 0)).node;
-  shop.orders = DONE(bs_table_add_file(&table, &shop.db, 1)).node;
-  t = DONE(bs_table_begin(&table)).txn;
-  DONE(bs_table_lock_path(&table, t, shop.orders, BS_IX, NULL));
-  for (i = 0; i < 2; i++) shop.rows[i] = DONE(bs_table_insert(&table, t, shop.orders, NULL, 0)).node;
-  DONE(bs_table_commit(&table, t, NULL));
+  options.detect = detect;
+  options.transactions = slots;
+  DONE(bs_table_make(&table, &options));
+  if (detect == BS_BY_WATCHER) DONE(bs_table_watch_thread(table, 1000000)); /* It rests a millisecond between looks. */
+  shop.db = DONE(bs_table_add_inner(table, NULL, 0)).node;
+  shop.orders = DONE(bs_table_add_file(table, &shop.db, 1)).node;
+  t = DONE(bs_table_begin(table)).txn;
+  DONE(bs_table_lock_path(table, t, shop.orders, BS_IX, NULL));
+  for (i = 0; i < 2; i++) shop.rows[i] = DONE(bs_table_insert(table, t, shop.orders, NULL, 0)).node;
+  DONE(bs_table_commit(table, t, NULL));
+}
+
+static void close_table(void) {
+  DONE(bs_table_end(table));
+  DONE(bs_table_free(&table));
 }
 
 /* Moves one from a row to another: BS_DONE, or why it was rolled back. */
 static bs_status move_one(size_t from, size_t to) {
-  bs_txn t = DONE(bs_table_begin(&table)).txn;
-  bs_status status = bs_table_lock_path(&table, t, shop.rows[from], BS_X, NULL).status;
-  if (status == BS_DONE) status = bs_table_lock_path(&table, t, shop.rows[to], BS_X, NULL).status;
+  bs_txn t = DONE(bs_table_begin(table)).txn;
+  bs_status status = bs_table_lock_path(table, t, shop.rows[from], BS_X, NULL).status;
+  if (status == BS_DONE) status = bs_table_lock_path(table, t, shop.rows[to], BS_X, NULL).status;
   if (status == BS_DONE) {
     amounts[from]--;
     amounts[to]++;
-    DONE(bs_table_commit(&table, t, NULL));
+    DONE(bs_table_commit(table, t, NULL));
   } else {
-    DONE(bs_table_abort(&table, t, NULL));
+    DONE(bs_table_abort(table, t, NULL));
   }
   return status;
 }
@@ -54,7 +64,7 @@ static void move_to_and_fro(uint32_t detect) {
   for (i = 0; i < 2; i++) WANT(pthread_create(&threads[i], NULL, move_many, &from[i]) == 0);
   for (i = 0; i < 2; i++) WANT(pthread_join(threads[i], NULL) == 0);
   WANT(amounts[0] == 0 && amounts[1] == 0);
-  DONE(bs_table_end(&table));
+  close_table();
 }
 
 void sessions_in_threads(void) {
@@ -67,13 +77,13 @@ void several_in_one_hold(void) {
   bs_command list[3];
   bs_txn t;
   open_table(BS_AT_BLOCK, BS_SLOTS);
-  t = DONE(bs_table_begin(&table)).txn;
-  list[0] = bs_do_lock(t, shop.db, BS_IX);
-  list[1] = bs_do_lock(t, shop.orders, BS_IX);
-  list[2] = bs_do_lock(t, shop.rows[0], BS_X);
-  WANT(bs_table_run(&table, list, 3) == 3);
+  t = DONE(bs_table_begin(table)).txn;
+  list[0] = bs_do_at(BS_DO_LOCK, t, shop.db, BS_IX);
+  list[1] = bs_do_at(BS_DO_LOCK, t, shop.orders, BS_IX);
+  list[2] = bs_do_at(BS_DO_LOCK, t, shop.rows[0], BS_X);
+  WANT(bs_table_run(table, list, 3) == 3);
   WANT(list[2].reply.mode == BS_X);
-  DONE(bs_table_end(&table));
+  close_table();
 }
 
 enum { CLIENTS = 40, FEW_SLOTS = 4 };
@@ -87,12 +97,12 @@ struct client {
 
 static bs_status client_locks(struct client *c, bs_node node, bs_mode mode, const struct timespec *until) {
   if (!c->has_begun) {
-    bs_reply begun = bs_table_begin_until(&table, until);
+    bs_reply begun = bs_table_begin_in_turn(table, until);
     if (begun.status != BS_DONE) return begun.status;
     c->txn = begun.txn;
     c->has_begun = true;
   }
-  return bs_table_lock_path(&table, c->txn, node, mode, until).status;
+  return bs_table_lock_path(table, c->txn, node, mode, until).status;
 }
 
 static void *serve_client(void *arg) {
@@ -101,7 +111,7 @@ static void *serve_client(void *arg) {
   amounts[0]++;
   WANT(client_locks(c, shop.rows[1], BS_X, NULL) == BS_DONE);
   amounts[1]++;
-  DONE(bs_table_commit(&table, c->txn, NULL));
+  DONE(bs_table_commit(table, c->txn, NULL));
   c->has_begun = false;
   return NULL;
 }
@@ -114,5 +124,5 @@ void more_clients_than_slots(void) {
   for (i = 0; i < CLIENTS; i++) WANT(pthread_create(&clients[i].thread, NULL, serve_client, &clients[i]) == 0);
   for (i = 0; i < CLIENTS; i++) WANT(pthread_join(clients[i].thread, NULL) == 0);
   WANT(amounts[0] == CLIENTS && amounts[1] == CLIENTS);
-  DONE(bs_table_end(&table));
+  close_table();
 }

@@ -46,7 +46,7 @@ static void end_old_waits(struct patrol *p) {
   DONE(bs_read_board(m, &board));
   for (slot = 0; slot < BS_SLOTS; slot++) {
     bs_txn txn = { slot, board.ages[slot] };
-    if (bs_waiting(m, txn).status != BS_WAITING) continue;
+    if (bs_doing(m, txn).count != BS_WAITS) continue;
     if (now() - p->asked_at[slot] >= LIMIT) take_back(p, txn);
   }
 }
@@ -80,7 +80,7 @@ void waits_that_are_too_old(void) {
   WANT(pthread_create(&thread, NULL, walk, &p) == 0);
   store_latch(s);
   WANT(timed_lock(&p, waiter, root, BS_X) == GAVE_UP);
-  WANT(p.ended == 1 && bs_waiting(&s->manager, waiter).status == BS_NOT_WAITING);
+  WANT(p.ended == 1 && bs_doing(&s->manager, waiter).count == BS_ACTIVE);
   DONE(bs_commit(&s->manager, holder, &s->told));
   WANT(timed_lock(&p, waiter, root, BS_X) == GRANTED);
   s->is_closing = true;
