@@ -52,8 +52,9 @@ said_of_verdicts() {
 
 # proof FOLDER: what was seen of the proof of the library that is installed in the folder.
 proof() {
-  local sum included toolchain logic
-  sum=$("$top/tools/sources.sh" crates) && included=$("$top/tools/sources.sh" include) || return
+  local sum included written toolchain logic
+  sum=$("$top/tools/sources.sh" crates) && included=$("$top/tools/sources.sh" include) &&
+    written=$("$top/tools/sources.sh" c) || return
   toolchain=$(rt version) || return
   logic=$(readelf -p .comment "$1/lib/libburlapslate.a" | sed -n 's/.*rattle logic=//p') || return
   cat <<END_OF_FILE
@@ -62,10 +63,13 @@ What was seen of the proof of Burlapslate $version when it was packed. All sums 
 Toolchain: $toolchain
 Crates:    $sum
 Headers:   $included
+In C:      $written
 Archive:   $(sha256sum <"$1/lib/libburlapslate.a" | cut -d ' ' -f 1)
 Shared:    $(sha256sum <"$1/lib/libburlapslate.so" | cut -d ' ' -f 1)
 
-The sums of crates and headers are those of the folders crates and include, as tools/sources.sh prints them.
+The sums of crates, of headers and of what is written in C are those of the folders crates, include and c, as
+tools/sources.sh prints them. What is written in C, the shared table and its dump, is compiled by ${CC:-cc}, and is not
+proved.
 $(said_of_building "$sum")
 
 The toolchain compiles a library only where it is proved, and writes into it by which logic. The archive names

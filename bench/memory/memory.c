@@ -132,8 +132,7 @@ int main(void) {
   row("an empty manager for all transactions", empty_manager(BS_SLOTS));
   row("for 16", empty_manager(16));
   row("for 1", empty_manager(1));
-  row("an empty bs_table, beside its own place", empty_table());
-  row("its own place", sizeof(bs_table));
+  row("an empty bs_table", empty_table());
   set_up();
   row("a record that nobody locks, of 100,000", each(records_come(), RECORDS));
   lock_all(1, &with, &behind);

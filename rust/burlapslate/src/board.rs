@@ -153,7 +153,7 @@ impl Board {
     ///
     /// [`Manager::read_board`]: crate::Manager::read_board
     pub fn new() -> Board {
-        sys::assert_slots();
+        sys::assert_fits();
         Board(sys::Board {
             epoch: 0,
             ages: [0; SLOTS],

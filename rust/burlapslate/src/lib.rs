@@ -89,7 +89,8 @@
 //! `BURLAPSLATE_LIBS` names; or else the folder of an installation that `BURLAPSLATE_DIR` names; or else the
 //! installation that `pkg-config` knows; or else, within the repository, what `tools/c_library.sh` builds. How many
 //! [`SLOTS`] there are says `BURLAPSLATE_SLOTS`; or else `include/burlapslate.h`, in the folder nearest above the archive
-//! that has it. A program that was built for another number than its library stops when it makes a manager or a board.
+//! that has it. A program that was built for another number than its library, or for another version, stops when it makes
+//! a manager or a board.
 
 #![deny(missing_docs)]
 #![deny(unsafe_code)] // But for `sys`.
@@ -131,22 +132,24 @@ pub const WORDS: usize = SLOTS / 64;
 const fn number(digits: &str) -> usize {
     let (digits, mut number, mut place) = (digits.as_bytes(), 0, 0);
     while place < digits.len() {
-        assert!(
-            digits[place].is_ascii_digit(),
-            "BURLAPSLATE_SLOTS is no number"
-        );
+        assert!(digits[place].is_ascii_digit(), "a number has other digits");
         number = 10 * number + (digits[place] - b'0') as usize;
         place += 1;
     }
-    assert!(
-        number > 0 && number % 64 == 0,
-        "BURLAPSLATE_SLOTS is no number of slots"
-    );
     number
 }
 
+const _: () = assert!(
+    SLOTS > 0 && SLOTS % 64 == 0,
+    "BURLAPSLATE_SLOTS is no number of slots"
+);
+
 /// The version of this crate, which is that of `include/burlapslate.h`.
 pub const VERSION: &str = env!("CARGO_PKG_VERSION");
+
+/// The first two numbers of the version, as the library's call says its own: a library whose third is another fits.
+const FITS: usize =
+    1000 * number(env!("CARGO_PKG_VERSION_MAJOR")) + number(env!("CARGO_PKG_VERSION_MINOR"));
 
 /// How many parents a node can have.
 pub const MOST_PARENTS: usize = 8;

@@ -174,7 +174,7 @@ pub struct Counters {
     /// Waits that ended with a grant.
     pub granted_later: u64,
     /// Transactions that were condemned to end a deadlock.
-    pub victims: u64,
+    pub condemned: u64,
     /// Waits that ended since the node moved.
     pub moved: u64,
     /// Waits that ended since the node is gone.
@@ -202,7 +202,7 @@ impl fmt::Display for Counters {
             ),
             (self.granted_later, "waits ended with a grant"),
             (
-                self.victims,
+                self.condemned,
                 "transactions were condemned to end a deadlock",
             ),
             (self.moved, "waits ended since the node moved"),

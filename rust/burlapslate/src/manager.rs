@@ -437,18 +437,18 @@ impl Manager {
         Ok(Notices::of(told))
     }
 
-    /// Takes the wait of a transaction back.
+    /// Takes the wait of a transaction back. A row that it waited for is let go.
     ///
     /// Refused with [`WornOut`](Refusal::WornOut), [`NoSuchTxn`](Refusal::NoSuchTxn),
     /// [`TxnCondemned`](Refusal::TxnCondemned), [`NotWaiting`](Refusal::NotWaiting). Takes no
     /// memory.
     pub fn cancel(&mut self, txn: Txn) -> Result<Notices<'_>, Refusal> {
         let Pinned { place, told } = &mut *self.pinned;
-        accepted(sys::bs_call_cancel(place, txn, told))?;
+        accepted(sys::bs_call_cancel_rows(place, txn, told))?;
         Ok(Notices::of(told))
     }
 
-    /// Ends a transaction and releases everything.
+    /// Ends a transaction and releases everything, its rows among it.
     ///
     /// Refused with [`WornOut`](Refusal::WornOut), [`NoSuchTxn`](Refusal::NoSuchTxn),
     /// [`TxnWaiting`](Refusal::TxnWaiting), [`TxnCondemned`](Refusal::TxnCondemned). Takes no
@@ -471,18 +471,18 @@ impl Manager {
     /// ```
     pub fn commit(&mut self, txn: Txn) -> Result<Notices<'_>, Refusal> {
         let Pinned { place, told } = &mut *self.pinned;
-        accepted(sys::bs_call_commit(place, txn, told))?;
+        accepted(sys::bs_call_commit_rows(place, txn, told))?;
         Ok(Notices::of(told))
     }
 
-    /// Ends a transaction whatever it is doing, and releases everything. What it did stays done:
-    /// undo it first.
+    /// Ends a transaction whatever it is doing, and releases everything, its rows among it. What it did
+    /// stays done: undo it first.
     ///
     /// Refused with [`WornOut`](Refusal::WornOut), [`NoSuchTxn`](Refusal::NoSuchTxn). Takes no
     /// memory. Costs as [`commit`](Manager::commit).
     pub fn abort(&mut self, txn: Txn) -> Result<Notices<'_>, Refusal> {
         let Pinned { place, told } = &mut *self.pinned;
-        accepted(sys::bs_call_abort(place, txn, told))?;
+        accepted(sys::bs_call_abort_rows(place, txn, told))?;
         Ok(Notices::of(told))
     }
 
@@ -499,7 +499,8 @@ impl Manager {
     }
 
     /// Raises the lock of a node to [`X`](Mode::X) where the transaction writes below it, else to
-    /// [`S`](Mode::S), and releases the children whose locks that implies. It never waits.
+    /// [`S`](Mode::S), and releases the children whose locks that implies. Rows that it released are let
+    /// go. It never waits.
     ///
     /// Refused with [`WornOut`](Refusal::WornOut), [`NoSuchTxn`](Refusal::NoSuchTxn),
     /// [`TxnWaiting`](Refusal::TxnWaiting), [`TxnCondemned`](Refusal::TxnCondemned),
@@ -508,7 +509,7 @@ impl Manager {
     /// step for each lock of the transaction.
     pub fn escalate(&mut self, txn: Txn, node: Node) -> Result<(Escalated, Notices<'_>), Refusal> {
         let Pinned { place, told } = &mut *self.pinned;
-        let reply = accepted(sys::bs_call_escalate(place, txn, node, told))?;
+        let reply = accepted(sys::bs_call_escalate_rows(place, txn, node, told))?;
         Ok((Escalated::of(&reply), Notices::of(told)))
     }
 }
@@ -721,7 +722,7 @@ impl Manager {
     /// let row = Row { file, number: 1 << 40 };
     /// let (asked, node, _) = m.lock_row(txn, row, &[], Mode::X)?;
     /// assert_eq!((asked, m.row_node(row)), (RowAsked::Granted(Mode::X), Some(node)));
-    /// let _ = m.commit_rows(txn)?;
+    /// let _ = m.commit(txn)?;
     /// assert_eq!(m.row_node(row), None);
     /// # Ok::<(), burlapslate::Refusal>(())
     /// ```
@@ -768,38 +769,6 @@ impl Manager {
         Ok(Notices::of(told))
     }
 
-    /// As [`commit`](Manager::commit), and the rows that it held are let go.
-    pub fn commit_rows(&mut self, txn: Txn) -> Result<Notices<'_>, Refusal> {
-        let Pinned { place, told } = &mut *self.pinned;
-        accepted(sys::bs_call_commit_rows(place, txn, told))?;
-        Ok(Notices::of(told))
-    }
-
-    /// As [`abort`](Manager::abort), and the rows that it held or waited for are let go.
-    pub fn abort_rows(&mut self, txn: Txn) -> Result<Notices<'_>, Refusal> {
-        let Pinned { place, told } = &mut *self.pinned;
-        accepted(sys::bs_call_abort_rows(place, txn, told))?;
-        Ok(Notices::of(told))
-    }
-
-    /// As [`cancel`](Manager::cancel), and a row that it waited for is let go.
-    pub fn cancel_rows(&mut self, txn: Txn) -> Result<Notices<'_>, Refusal> {
-        let Pinned { place, told } = &mut *self.pinned;
-        accepted(sys::bs_call_cancel_rows(place, txn, told))?;
-        Ok(Notices::of(told))
-    }
-
-    /// As [`escalate`](Manager::escalate), of any node, and the rows that it released are let go.
-    pub fn escalate_rows(
-        &mut self,
-        txn: Txn,
-        node: Node,
-    ) -> Result<(Escalated, Notices<'_>), Refusal> {
-        let Pinned { place, told } = &mut *self.pinned;
-        let reply = accepted(sys::bs_call_escalate_rows(place, txn, node, told))?;
-        Ok((Escalated::of(&reply), Notices::of(told)))
-    }
-
     /// The node of a row, for questions and for [`verdict`](Manager::verdict). `None` where it has none,
     /// also where its file is none of rows.
     pub fn row_node(&self, row: Row) -> Option<Node> {
@@ -840,14 +809,9 @@ impl Manager {
 
     /// What a transaction waits for; `None` where it does not wait, or does not live.
     pub fn waiting(&self, txn: Txn) -> Option<Wait> {
-        let reply = sys::bs_call_waiting(&self.pinned.place, txn);
-        match reply.status {
-            sys::WAITING => Some(Wait {
-                node: reply.node,
-                mode: Mode::of(reply.mode),
-            }),
-            sys::NOT_WAITING => None,
-            _ => unreachable!("whether one waits was refused: {}", Refusal::of(&reply)),
+        match self.doing(txn) {
+            Ok(Doing::Waiting(wait)) => Some(wait),
+            _ => None,
         }
     }
 

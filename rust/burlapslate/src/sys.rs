@@ -14,7 +14,7 @@
 use crate::board::Slots;
 use crate::listing::Counters;
 use crate::names::{Node, Row, Txn};
-use crate::SLOTS;
+use crate::{FITS, SLOTS};
 use std::alloc::{alloc_zeroed, Layout};
 use std::cell::UnsafeCell;
 use std::ffi::c_void;
@@ -197,7 +197,7 @@ pub(crate) struct Pinned {
 impl Pinned {
     /// A place without a manager, and no notices; `None` where memory is refused.
     pub(crate) fn new() -> Option<Box<Pinned>> {
-        assert_slots();
+        assert_fits();
         // SAFETY: zero in all bytes is a value of it: numbers, `false`, and a null pointer.
         unsafe { zeroed() }
     }
@@ -265,15 +265,6 @@ unsafe extern "C" {
         node: Node,
         told: &mut Notices,
     ) -> Reply;
-    pub(crate) safe fn bs_call_escalate(
-        manager: &mut Place,
-        txn: Txn,
-        node: Node,
-        told: &mut Notices,
-    ) -> Reply;
-    pub(crate) safe fn bs_call_cancel(manager: &mut Place, txn: Txn, told: &mut Notices) -> Reply;
-    pub(crate) safe fn bs_call_commit(manager: &mut Place, txn: Txn, told: &mut Notices) -> Reply;
-    pub(crate) safe fn bs_call_abort(manager: &mut Place, txn: Txn, told: &mut Notices) -> Reply;
     pub(crate) safe fn bs_call_settle(manager: &mut Place, txn: Txn, told: &mut Notices) -> Reply;
 
     fn bs_call_insert(
@@ -381,7 +372,6 @@ unsafe extern "C" {
     pub(crate) safe fn bs_call_group(manager: &Place, node: Node) -> Reply;
     pub(crate) safe fn bs_call_held(manager: &Place, txn: Txn, node: Node) -> Reply;
     pub(crate) safe fn bs_call_effective(manager: &Place, txn: Txn, node: Node) -> Reply;
-    pub(crate) safe fn bs_call_waiting(manager: &Place, txn: Txn) -> Reply;
     pub(crate) safe fn bs_call_children(manager: &Place, txn: Txn, node: Node) -> Reply;
     pub(crate) safe fn bs_call_kind(manager: &Place, node: Node) -> Reply;
     pub(crate) safe fn bs_call_parent(manager: &Place, node: Node, place: usize) -> Reply;
@@ -417,11 +407,17 @@ unsafe extern "C" {
     pub(crate) safe fn bs_call_youngest(board: &Board, slots: &Slots) -> Reply;
 
     safe fn bs_call_slots() -> u32;
+    safe fn bs_version() -> u32;
 }
 
-/// Stops a program whose library was built for another number of slots, and so knows other sizes: a build that names
-/// one library and reads another's header.
-pub(crate) fn assert_slots() {
+/// Stops a program whose library is of another version, or was built for another number of slots, and so knows other
+/// sizes: a build that names one library and reads another's header. The last number of a version may be another.
+pub(crate) fn assert_fits() {
+    let fits = bs_version() as usize / 1000;
+    assert_eq!(
+        fits, FITS,
+        "the library is of another version than the crate: a thousand times the first number, and the second"
+    );
     let slots = bs_call_slots() as usize;
     assert_eq!(
         slots, SLOTS,

@@ -232,7 +232,7 @@ impl Table {
     ///
     /// Refused as [`Manager::abort`].
     pub fn abort(&self, txn: Txn) -> Result<(), Refusal> {
-        self.serve(|m| m.abort_rows(txn).map(drop))
+        self.serve(|m| m.abort(txn).map(drop))
     }
 
     /// Commits a transaction that no session drives any more ([`Session::leave`]), and lets its rows
@@ -240,7 +240,7 @@ impl Table {
     ///
     /// Refused as [`Manager::commit`].
     pub fn commit(&self, txn: Txn) -> Result<(), Refusal> {
-        self.serve(|m| m.commit_rows(txn).map(drop))
+        self.serve(|m| m.commit(txn).map(drop))
     }
 
     /// Takes the wait of a transaction back, from any thread. Whoever sleeps for it is woken, and
@@ -406,7 +406,7 @@ impl Table {
 
     /// A cancel, with the latch held.
     fn cancel_held(&self, guarded: &mut Guarded, txn: Txn) -> Result<(), Refusal> {
-        match guarded.manager.cancel_rows(txn).map(drop) {
+        match guarded.manager.cancel(txn).map(drop) {
             Ok(()) => self.wake(guarded),
             Err(Refusal::NotWaiting) if guarded.cancels_path(txn) => {}
             Err(refusal) => return Err(refusal),

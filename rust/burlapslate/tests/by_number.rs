@@ -112,20 +112,20 @@ impl Engine for Numbers {
     }
 
     fn escalate(&mut self, txn: Txn, node: Node) -> Came<Escalated> {
-        let (escalated, told) = self.0.manager.escalate_rows(txn, node)?;
+        let (escalated, told) = self.0.manager.escalate(txn, node)?;
         with(escalated, told)
     }
 
     fn cancel(&mut self, txn: Txn) -> Came<()> {
-        with((), self.0.manager.cancel_rows(txn)?)
+        with((), self.0.manager.cancel(txn)?)
     }
 
     fn commit(&mut self, txn: Txn) -> Came<()> {
-        with((), self.0.manager.commit_rows(txn)?)
+        with((), self.0.manager.commit(txn)?)
     }
 
     fn abort(&mut self, txn: Txn) -> Came<()> {
-        with((), self.0.manager.abort_rows(txn)?)
+        with((), self.0.manager.abort(txn)?)
     }
 }
 
@@ -397,7 +397,7 @@ fn play(options: Options, seed: u64) -> Counters {
         );
     }
     let (ours, theirs) = (numbers.0.manager.counters(), nodes.0.manager.counters());
-    assert!(ours.waited > 20 && ours.granted_later > 10 && ours.victims > 0);
+    assert!(ours.waited > 20 && ours.granted_later > 10 && ours.condemned > 0);
     let accepted = theirs.accepted; // Each node that comes or goes is one more of ours.
     assert_eq!(Counters { accepted, ..ours }, theirs);
     for txn in txns {

@@ -346,7 +346,7 @@ fn play(detect: Detect, victims: Victims, slots: usize) {
             assert_eq!(m.row_node(Row { file, number }), None);
         }
         let fell: usize = members.iter().map(|(_, fell)| fell).sum();
-        assert!(m.counters().victims >= fell as u64);
+        assert!(m.counters().condemned >= fell as u64);
     });
 }
 

@@ -341,7 +341,7 @@ fn rows_take_none_but_to_be_locked() {
     assert_eq!(rekeyed, Ok([None; 3]));
     let (asked, ..) = m.lock_row(b, row, &[2], Mode::X).unwrap();
     assert_eq!(asked, RowAsked::Waiting);
-    let committed = without_memory(|| m.commit_rows(a).map(told));
+    let committed = without_memory(|| m.commit(a).map(told));
     assert_eq!(committed, Ok(granted(b, node, Mode::X)));
     let unlocked = without_memory(|| m.unlock_row(b, row).map(told));
     assert_eq!(unlocked, Ok([None; 3]));
