@@ -72,17 +72,25 @@ void sessions_in_threads(void) {
   move_to_and_fro(BS_BY_WATCHER);
 }
 
-/* All but the first is done in one hold of the latch. */
+/* All but the begin is done in one hold of the latch. Where somebody has a row, that is awaited, and the list goes on. */
 void several_in_one_hold(void) {
   bs_command list[3];
-  bs_txn t;
+  bs_txn t, other;
   open_table(BS_AT_BLOCK, BS_SLOTS);
   t = DONE(bs_table_begin(table)).txn;
-  list[0] = bs_do_at(BS_DO_LOCK, t, shop.db, BS_IX);
-  list[1] = bs_do_at(BS_DO_LOCK, t, shop.orders, BS_IX);
-  list[2] = bs_do_at(BS_DO_LOCK, t, shop.rows[0], BS_X);
+  list[0] = bs_do_at(BS_DO_LOCK_PATH, t, shop.rows[0], BS_X);
+  list[1] = bs_do_at(BS_DO_LOCK, t, shop.rows[1], BS_X);
+  list[2] = bs_do(BS_DO_COMMIT, t);
   WANT(bs_table_run(table, list, 3) == 3);
-  WANT(list[2].reply.mode == BS_X);
+  WANT(list[1].reply.mode == BS_X);
+  other = DONE(bs_table_begin(table)).txn;
+  DONE(bs_table_lock_path(table, other, shop.rows[1], BS_S, NULL));
+  t = DONE(bs_table_begin(table)).txn;
+  list[0].txn = list[1].txn = list[2].txn = t;
+  WANT(bs_table_run(table, list, 3) == 1 && list[1].reply.status == BS_WAITING);
+  DONE(bs_table_commit(table, other, NULL));
+  DONE(bs_table_await(table, t, list[1].reply.node, list[1].reply.mode, NULL));
+  WANT(bs_table_run(table, list + 1, 2) == 2);
   close_table();
 }
 
