@@ -1,13 +1,13 @@
 /*
- * burlapslate_shared.c: the table of burlapslate_shared.h: a manager behind one mutex, its latch, with a condition for each
- * slot.
+ * burlapslate_shared.c: the table of burlapslate_shared.h: a manager behind one mutex, its latch, with a condition for
+ * each slot.
  *
- * The library is proved: what each command does and whom it tells, what became of a wait (bs_verdict), whose sleepers are
- * to be woken (bs_ended), that a look gives a whole board and never an older one. Written in C here, and tested: the mutex
- * and the conditions, and the line of those who sleep for a slot. They are in table_enter, round each call; table_wake,
- * behind each command; table_hand_on, behind what may have ended a transaction; table_sleep, where a lock waits;
- * table_sleep_in_line, where a begin does; bs_table_end; and table_watch_over, the thread that watches. All else here makes
- * calls of burlapslate.h between these.
+ * WHAT IS PROVED, AND WHAT IS NOT. The library is proved: what each command does and whom it tells, what became of
+ * a wait (bs_verdict), whose sleepers are to be woken (bs_ended), that a look gives a whole board and never an older
+ * one. Written in C here, and tested: the mutex and the conditions, and the line of those who sleep for a slot. They
+ * are in table_enter, round each call; table_wake, behind each command; table_hand_on, behind what may have ended a
+ * transaction; table_sleep, where a lock waits; table_sleep_in_line, where a begin does; bs_table_end; and
+ * table_watch_over, the thread that watches. All else here makes calls of burlapslate.h between these.
  */
 #include "burlapslate_shared.h"
 
@@ -50,9 +50,9 @@ struct bs_table {
   bs_notices told;                /* by the last command whose caller wanted no list */
   bs_notices more;                /* by a further lock of a path in a list */
   pthread_cond_t ended[BS_SLOTS]; /* by slot: a wait may be over */
-  table_way *ways[BS_SLOTS];            /* by slot: who sleeps on a path */
-  table_deadline deadlines[BS_SLOTS];   /* by slot: of the transaction of this age, and of no later one */
-  table_turn *first, *last;             /* the line of those who sleep for a slot, by their arrival */
+  table_way *ways[BS_SLOTS];      /* by slot: who sleeps on a path */
+  table_deadline deadlines[BS_SLOTS]; /* by slot: of the transaction of this age, and of no later one */
+  table_turn *first, *last;       /* the line of those who sleep for a slot, by their arrival */
   size_t sleepers;                /* how many threads sleep, for a lock or for a slot */
   uint64_t waited;                /* how many commands had been accepted when the last lock was left waiting */
   pthread_cond_t left;            /* the last who slept has left an ending table */
@@ -68,8 +68,8 @@ struct bs_table {
  * The latch and the wake-ups.
  */
 
-/* Whether this thread holds the table by bs_table_hold. Nobody but a thread itself writes its name there, so what another
- * thread writes meanwhile makes no difference. */
+/* Whether this thread holds the table by bs_table_hold. Nobody but a thread itself writes its name there, so what
+ * another thread writes meanwhile makes no difference. */
 static bool table_holds(bs_table *table) {
   pthread_t holder = __atomic_load_n(&table->holder, __ATOMIC_RELAXED);
   return holder != 0 && pthread_equal(holder, pthread_self());
@@ -154,7 +154,7 @@ static bs_reply table_time_out(bs_table *table, bs_txn txn) {
   return reply;
 }
 
-/* The time at which a wait that begins now ends at last: the earlier of the call's and the transaction's own, or null. */
+/* The time at which a wait that begins now ends at last: the earlier of the call's and the transaction's; or null. */
 static const struct timespec *table_earlier(const bs_table *table, bs_txn txn, const struct timespec *until) {
   const table_deadline *own = &table->deadlines[txn.slot];
   if (own->age != txn.age) return until;
@@ -188,7 +188,8 @@ static bs_reply table_sleep(bs_table *table, bs_txn txn, bs_node node, bs_mode m
 }
 
 /* Asks for a lock, with the latch held, and sleeps until its end. */
-static bs_reply table_lock_inside(bs_table *table, bs_txn txn, bs_node node, bs_mode mode, const struct timespec *until) {
+static bs_reply table_lock_inside(bs_table *table, bs_txn txn, bs_node node, bs_mode mode,
+                                  const struct timespec *until) {
   bs_reply reply = bs_lock(&table->manager, txn, node, mode, &table->told);
   table_wake(table, reply.status, &table->told, false);
   if (reply.status == BS_WAITING) reply = table_sleep(table, txn, node, mode, until);
@@ -508,7 +509,8 @@ static bool table_is_same_node(bs_node one, bs_node other) {
 }
 
 /* Makes the call bs_lock_path with the latch held, and sleeps where that waits. */
-static bs_reply table_path_inside(bs_table *table, bs_txn txn, bs_node node, bs_mode mode, const struct timespec *until) {
+static bs_reply table_path_inside(bs_table *table, bs_txn txn, bs_node node, bs_mode mode,
+                                  const struct timespec *until) {
   bs_reply reply = bs_lock_path(&table->manager, txn, node, mode, &table->told);
   table_way path;
   table_wake(table, reply.status, &table->told, false);
@@ -594,9 +596,10 @@ static bs_reply table_ask_row(bs_table *table, bs_txn txn, const table_row *row,
   return reply;
 }
 
-/* Asks for a row, and sleeps where it has to be waited for. Behind the grant it is asked for again: what became of the wait
- * says nothing of its keys. */
-static bs_reply table_row_inside(bs_table *table, bs_txn txn, const table_row *row, bs_mode mode, const struct timespec *until) {
+/* Asks for a row, and sleeps where it has to be waited for. Behind the grant it is asked for again: what became of the
+ * wait says nothing of its keys. */
+static bs_reply table_row_inside(bs_table *table, bs_txn txn, const table_row *row, bs_mode mode,
+                                 const struct timespec *until) {
   bs_reply reply = table_ask_row(table, txn, row, mode);
   bs_node node = reply.node;
   if (reply.status != BS_WAITING) return reply;
@@ -639,14 +642,15 @@ bs_reply bs_table_rekey_row(bs_table *table, bs_txn txn, bs_node file, uint64_t 
 static void table_tell_too(bs_notices *told, const bs_notices *more) {
   size_t i;
   for (i = 0; i < more->count && told->count < BS_SLOTS; i++) {
+    const bs_notice *next = &more->at[i];
     size_t place = told->count++;
-    for (; place > 0 && told->at[place - 1].txn.slot > more->at[i].txn.slot; place--) told->at[place] = told->at[place - 1];
-    told->at[place] = more->at[i];
+    for (; place > 0 && told->at[place - 1].txn.slot > next->txn.slot; place--) told->at[place] = told->at[place - 1];
+    told->at[place] = *next;
   }
 }
 
-/* A path in a list. Where others fell for a lock above it goes on, as a path that may sleep does: they are woken, and no
- * command of theirs comes between. */
+/* A path in a list. Where others fell for a lock above it goes on, as a path that may sleep does: they are woken, and
+ * no command of theirs comes between. */
 static bs_reply table_path_made(bs_table *table, const bs_command *c, bs_txn txn, bs_notices *told) {
   bs_reply reply = bs_lock_path(&table->manager, txn, c->node, c->mode, told);
   while (reply.status == BS_ON_THE_WAY) {
@@ -774,7 +778,9 @@ static void table_rest(bs_table *table, uint64_t nanoseconds) {
   struct timespec until;
   if (nanoseconds == 0) return;
   until = table_ahead(nanoseconds / 1000000000u, (uint32_t)(nanoseconds % 1000000000u));
-  while (table->stage == TABLE_OPEN && pthread_cond_timedwait(&table->over, &table->latch, &until) != ETIMEDOUT) continue;
+  while (table->stage == TABLE_OPEN && pthread_cond_timedwait(&table->over, &table->latch, &until) != ETIMEDOUT) {
+    continue;
+  }
 }
 
 /* Settles every suspect of a board, the youngest first, with the latch held. Who is settled, and who is told, is taken

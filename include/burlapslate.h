@@ -413,12 +413,12 @@ static inline bs_reply bs_settle(bs_manager *manager, bs_txn txn, bs_notices *to
   return bs_call_lacks(manager, told) ? bs_call_null() : bs_call_settle(manager, txn, told);
 }
 
-/* Raises the lock of a node. Where the transaction holds a child to write (BS_IX, BS_SIX, BS_X) the lock is
- * joined with BS_X, else with BS_S, so that BS_IX becomes BS_SIX. Then it releases the children whose locks that
- * implies and of which it holds no children; rows that it released are let go. `mode` is what is now held, `released` and `kept` how many held
- * children went and stayed. Whoever has locks further down escalates there first. It never waits, and passes
- * whoever does. Refused with BS_NO_SUCH_TXN, BS_TXN_WAITING, BS_TXN_CONDEMNED, BS_NO_SUCH_NODE,
- * BS_BAD_PARENTS (a record), BS_NOT_HELD, BS_WOULD_BLOCK. Costs a step for each lock of the transaction. */
+/* Raises the lock of a node. Where the transaction holds a child to write (BS_IX, BS_SIX, BS_X) the lock is joined with
+ * BS_X, else with BS_S, so that BS_IX becomes BS_SIX. Then it releases the children whose locks that implies and of
+ * which it holds no children; rows that it released are let go. `mode` is what is now held, `released` and `kept` how
+ * many held children went and stayed. Whoever has locks further down escalates there first. It never waits, and passes
+ * whoever does. Refused with BS_NO_SUCH_TXN, BS_TXN_WAITING, BS_TXN_CONDEMNED, BS_NO_SUCH_NODE, BS_BAD_PARENTS (a
+ * record), BS_NOT_HELD, BS_WOULD_BLOCK. Costs a step for each lock of the transaction. */
 static inline bs_reply bs_escalate(bs_manager *manager, bs_txn txn, bs_node node, bs_notices *told) {
   return bs_call_lacks(manager, told) ? bs_call_null() : bs_call_escalate_rows(manager, txn, node, told);
 }
@@ -515,9 +515,9 @@ static inline bs_reply bs_index_by(bs_manager *manager, bs_txn txn, const bs_nod
  * file, or of a node that is none, calls about a row are refused with BS_NOT_ROWS.
  *
  * A row has a node while some transaction holds it or waits for it. bs_lock_row makes the node. bs_unlock_row,
- * bs_rekey_row, bs_commit, bs_abort, bs_cancel and bs_escalate let a row go: they take its node away behind the last who
- * holds it or waits for it. No row has two nodes, and no two rows have one. By its node a row is locked and asked after
- * as any record is.
+ * bs_rekey_row, bs_commit, bs_abort, bs_cancel and bs_escalate let a row go: they take its node away behind the last
+ * who holds it or waits for it. No row has two nodes, and no two rows have one. By its node a row is locked and asked
+ * after as any record is.
  *
  * The keys are the row's own, one for each index of its file in the order of making. Only the engine knows them. It
  * reads them before it locks the row, and looks at them again behind each grant. Where they are others by then it gives
@@ -555,13 +555,15 @@ static inline bs_reply bs_lock_row(bs_manager *manager, bs_txn txn, bs_node file
 /* Releases a row, as bs_unlock releases its node, which goes where nobody else holds it or waits for it. A row without
  * a node is refused as a node that is gone, here and in the call below. */
 static inline bs_reply bs_unlock_row(bs_manager *manager, bs_txn txn, bs_node file, uint64_t number, bs_notices *told) {
-  return bs_call_lacks(manager, told) ? bs_call_null() : bs_call_unlock_row(manager, txn, file, number, told);
+  if (bs_call_lacks(manager, told)) return bs_call_null();
+  return bs_call_unlock_row(manager, txn, file, number, told);
 }
 
 /* Gives a row another key for one index, as bs_rekey does its node. */
 static inline bs_reply bs_rekey_row(bs_manager *manager, bs_txn txn, bs_node file, uint64_t number, bs_node index,
                                     uint64_t key, bs_notices *told) {
-  return bs_call_lacks(manager, told) ? bs_call_null() : bs_call_rekey_row(manager, txn, file, number, index, key, told);
+  if (bs_call_lacks(manager, told)) return bs_call_null();
+  return bs_call_rekey_row(manager, txn, file, number, index, key, told);
 }
 
 /* The node of a row, in `node`, for questions and for bs_verdict. Refused with BS_NO_SUCH_NODE where it has none, also
@@ -601,8 +603,8 @@ static inline bs_found bs_ended(const bs_manager *manager) {
  */
 
 /* Makes a watcher of a manager at a place that has none, which knows the board of this moment. Refused with
- * BS_OTHER_VERSION, BS_OTHER_SLOTS, BS_IN_USE, BS_TOO_MANY_WATCHERS, BS_NO_MEMORY; for want of memory the other watchers
- * may be shown the board of this moment all the same. Takes memory. Costs what bs_read_board does. */
+ * BS_OTHER_VERSION, BS_OTHER_SLOTS, BS_IN_USE, BS_TOO_MANY_WATCHERS, BS_NO_MEMORY; for want of memory the other
+ * watchers may be shown the board of this moment all the same. Takes memory. Costs what bs_read_board does. */
 static inline bs_reply bs_watch(bs_manager *manager, bs_watcher *watcher) {
   bs_status misfit = bs_call_misfit();
   if (manager == NULL || watcher == NULL) return bs_call_null();
@@ -756,7 +758,8 @@ static inline bs_reply bs_lock_at(const bs_manager *manager, bs_txn txn, size_t 
   bs_reply reply;
   if (!bs_call_can_ask(manager)) return bs_call_unasked(manager);
   reply = bs_call_lock_at(manager, txn, place);
-  return reply.status == BS_NO_PLACE && bs_call_doing(manager, txn).status != BS_DONE ? bs_call_only(BS_NO_SUCH_TXN) : reply;
+  if (reply.status != BS_NO_PLACE || bs_call_doing(manager, txn).status == BS_DONE) return reply;
+  return bs_call_only(BS_NO_SUCH_TXN);
 }
 
 /* The slots of those who hold a node. Refused with BS_NO_SUCH_NODE. */
@@ -820,8 +823,8 @@ static inline bs_found bs_on_cycle(const bs_board *board, uint32_t slot) {
   return misfit == BS_DONE ? bs_call_on_cycle(board, slot) : bs_call_none_found(misfit);
 }
 
-/* The slots that are on any cycle of waits. Refused with BS_NULL_POINTER, BS_OTHER_VERSION, BS_OTHER_SLOTS. Costs a pass
- * over the rows where nobody waits, else a step for each slot and each that waits. */
+/* The slots that are on any cycle of waits. Refused with BS_NULL_POINTER, BS_OTHER_VERSION, BS_OTHER_SLOTS. Costs a
+ * pass over the rows where nobody waits, else a step for each slot and each that waits. */
 static inline bs_found bs_suspects(const bs_board *board) {
   bs_status misfit = bs_call_misfit();
   if (board == NULL) return bs_call_none_found(BS_NULL_POINTER);

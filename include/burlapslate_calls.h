@@ -1,7 +1,7 @@
 /*
- * burlapslate_calls.h: the calls of the library, and what the functions of burlapslate.h share. A program uses none of it:
- * it calls the functions of burlapslate.h, each of which tests its pointers for null, and then makes the calls that stand
- * in it.
+ * burlapslate_calls.h: the calls of the library, and what the functions of burlapslate.h share. A program uses none of
+ * it: it calls the functions of burlapslate.h, each of which tests its pointers for null, and then makes the calls that
+ * stand in it.
  */
 #ifndef BURLAPSLATE_CALLS_H
 #define BURLAPSLATE_CALLS_H
@@ -119,15 +119,15 @@ static inline bs_status bs_call_misfit(void) {
   return bs_call_slots() == BS_SLOTS ? BS_DONE : BS_OTHER_SLOTS;
 }
 
-/* Whether one of these is null. The notices are emptied ahead of all else, so that none of an earlier call is left where
- * this one is refused. */
+/* Whether one of these is null. The notices are emptied ahead of all else, so that none of an earlier call is left
+ * where this one is refused. */
 static inline bool bs_call_lacks(const bs_manager *manager, bs_notices *told) {
   if (told != NULL) told->count = 0;
   return told == NULL || manager == NULL;
 }
 
-/* Whether there is a manager to be asked. The library takes a manager out of its place while it answers: so a place that
- * never had one, and may be a constant, is looked at here alone. */
+/* Whether there is a manager to be asked. The library takes a manager out of its place while it answers: so a place
+ * that never had one, and may be a constant, is looked at here alone. */
 static inline bool bs_call_can_ask(const bs_manager *manager) {
   return manager != NULL && manager->is_open;
 }

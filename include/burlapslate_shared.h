@@ -17,19 +17,21 @@
  *
  * WHAT YOU KEEP. What burlapslate.h asks of pointers, lists and the allocator, and beside it:
  *   - a pointer to a table, which is null before bs_table_make; threads may have copies of it;
- *   - the table's memory is there until bs_table_free, also where bs_table_end was called: so join the threads between
- *     these two;
+ *   - the table's memory is there until bs_table_free, also where bs_table_end was called: so join the threads
+ *     between these two;
  *   - names of transactions and nodes are good with the table that gave them.
  *
  * WHAT A CALL ANSWERS. What the call of burlapslate.h answers that has its name without `table_`, with one more
  * status, BS_TIMED_OUT; and BS_NOT_MADE of a command in a list that was not made. What stands there of refusals,
  * memory and costs holds here too. A call is one hold of the latch, with nobody's steps between its own. Where it
- * sleeps, others use the table meanwhile. A null table is refused with BS_NULL_POINTER, one that was ended with
- * BS_NO_MANAGER, and, of a thread that holds the table by bs_table_hold, each call but bs_table_let_go with BS_IN_USE. A
- * call with `told` fills it where it is not null; those who sleep are woken, whether it is null or not.
+ * sleeps, others use the table meanwhile. A null table is refused with BS_NULL_POINTER, and one that was ended with
+ * BS_NO_MANAGER. While a thread holds the table by bs_table_hold, each other call of it but bs_table_let_go is refused
+ * with BS_IN_USE. A call with `told` fills it where it is not null; those who sleep are woken, whether it is null or
+ * not.
  *
  * HOW LONG A SLEEP IS. A call that may sleep takes `until`, a time by CLOCK_MONOTONIC up to which it sleeps at most;
- * bs_after gives one. Where it is null it sleeps until the end. It is refused with BS_BAD_NUMBER where `until` is no time.
+ * bs_after gives one. Where it is null it sleeps until the end. Where it is no time the call is refused with
+ * BS_BAD_NUMBER.
  *
  * HOW A SLEEP ENDS. The one who sleeps for a lock is answered
  *   - BS_DONE: it was granted, and is held in `mode`; of a row BS_OTHER_KEYS, where its keys are others than was said;
@@ -74,15 +76,15 @@ static inline bs_reply bs_table_make(bs_table **table, const bs_options *options
   return misfit == BS_DONE ? bs_call_table_make(table, options, sizeof *options) : bs_call_only(misfit);
 }
 
-/* Ends a table, whatever its transactions do. Each call that begins from now on is answered BS_NO_MANAGER, and so is each
- * that sleeps; behind this call none sleeps any more, and the thread that watched has ended. Its memory stays until
- * bs_table_free. Watchers go on, and are ended by bs_watch_end. Refused with BS_NO_MANAGER also where another thread is
- * ending it. */
+/* Ends a table, whatever its transactions do. Each call that begins from now on is answered BS_NO_MANAGER, and so is
+ * each that sleeps; behind this call none sleeps any more, and the thread that watched has ended. Its memory stays
+ * until bs_table_free. Watchers go on, and are ended by bs_watch_end. Refused with BS_NO_MANAGER also where another
+ * thread is ending it. */
 bs_reply bs_table_end(bs_table *table);
 
-/* Gives the memory of a table up that was ended, and writes null for the pointer. No other thread is in a call with it, or
- * makes one any more. Refused with BS_NULL_POINTER, also where the pointer itself is null, and with BS_IN_USE where the
- * table was not ended. */
+/* Gives the memory of a table up that was ended, and writes null for the pointer. No other thread is in a call with it,
+ * or makes one any more. Refused with BS_NULL_POINTER, also where the pointer itself is null, and with BS_IN_USE where
+ * the table was not ended. */
 bs_reply bs_table_free(bs_table **table);
 
 /* ------------------------------------------------------------------------------------------------
@@ -106,12 +108,12 @@ struct timespec bs_after(uint64_t milliseconds);
  * BS_TOO_MANY_TXNS. */
 bs_reply bs_table_begin(bs_table *table);
 
-/* As bs_begin, but it never answers BS_TOO_MANY_TXNS: where all slots are taken it sleeps until one is its own. Those who
- * sleep for a slot are served in the order in which they came. Whoever ends a transaction begins the next for the first
- * of them, in the same hold of the latch: so nobody who came later is served before. A slot that is free before the one
- * who sleeps got the latch is a begin, also where its time was over by then. One who sleeps has no transaction, so it is
- * on no cycle of waits. A thread that has one still, and sleeps for another, may wait for itself, and nobody finds that.
- * BS_TIMED_OUT: its time came first, and nothing has begun. BS_NO_MEMORY may also come behind a sleep. */
+/* As bs_begin, but it never answers BS_TOO_MANY_TXNS: where all slots are taken it sleeps until one is its own. Those
+ * who sleep for a slot are served in the order in which they came. Whoever ends a transaction begins the next for the
+ * first of them, in the same hold of the latch: so nobody who came later is served before. A slot that is free before
+ * the one who sleeps got the latch is a begin, also where its time was over by then. One who sleeps has no transaction,
+ * so it is on no cycle of waits. A thread that has one still, and sleeps for another, may wait for itself, and nobody
+ * finds that. BS_TIMED_OUT: its time came first, and nothing has begun. BS_NO_MEMORY may also come behind a sleep. */
 bs_reply bs_table_begin_in_turn(bs_table *table, const struct timespec *until);
 
 /* From now on each wait of a transaction for a lock ends at this time at the latest, whatever the call that waits says;
@@ -122,10 +124,11 @@ bs_reply bs_table_deadline(bs_table *table, bs_txn txn, const struct timespec *u
 /* As bs_lock, but it never answers BS_WAITING: a lock that has to wait sleeps until its end. */
 bs_reply bs_table_lock(bs_table *table, bs_txn txn, bs_node node, bs_mode mode, const struct timespec *until);
 
-/* Locks a node with what has to be held above it, as bs_lock_path does, and sleeps for each lock that has to wait. A node
- * that moves meanwhile is begun anew, so that BS_MOVED and BS_NEED_PARENTS are not answered. BS_DONE: `mode` is the mode
- * in which the node is held. Else it is the answer of the first lock that was refused or came to nothing; what was
- * locked before it stays locked. A node that was deleted or dropped meanwhile answers BS_GONE or BS_NO_SUCH_NODE. */
+/* Locks a node with what has to be held above it, as bs_lock_path does, and sleeps for each lock that has to wait. A
+ * node that moves meanwhile is begun anew, so that BS_MOVED and BS_NEED_PARENTS are not answered. BS_DONE: `mode` is
+ * the mode in which the node is held. Else it is the answer of the first lock that was refused or came to nothing; what
+ * was locked before it stays locked. A node that was deleted or dropped meanwhile answers BS_GONE or BS_NO_SUCH_NODE.
+ */
 bs_reply bs_table_lock_path(bs_table *table, bs_txn txn, bs_node node, bs_mode mode, const struct timespec *until);
 
 /* Sleeps until the end of a lock that bs_table_run left waiting, as bs_table_lock does. BS_NOT_WAITING: the transaction
@@ -168,13 +171,12 @@ bs_reply bs_table_index_by(bs_table *table, bs_txn txn, const bs_node *parents, 
  * Rows by the engine's own numbers.
  */
 
-/* As bs_lock_row, but it never answers BS_WAITING: a row that has to be waited for is slept for. Behind a sleep that was
- * granted the row is asked for again, in the same hold of the latch: so the answer is BS_DONE, or BS_OTHER_KEYS. It is
- * BS_OTHER_KEYS too where that second call was refused, for want of memory or of numbers: the row is held, and its keys
- * are looked at again.
- * What has to be held above the row is the caller's to lock: a parent that is wanting is refused with BS_NEED_PARENTS,
- * in `node`, and bs_table_lock_path locks it. That may sleep, and the keys may be others behind it. A row whose time
- * was over is let go. */
+/* As bs_lock_row, but it never answers BS_WAITING: a row that has to be waited for is slept for. Behind a sleep that
+ * was granted the row is asked for again, in the same hold of the latch: so the answer is BS_DONE, or BS_OTHER_KEYS. It
+ * is BS_OTHER_KEYS too where that second call was refused, for want of memory or of numbers: the row is held, and its
+ * keys are looked at again. What has to be held above the row is the caller's to lock: a parent that is wanting is
+ * refused with BS_NEED_PARENTS, in `node`, and bs_table_lock_path locks it. That may sleep, and the keys may be others
+ * behind it. A row whose time was over is let go. */
 bs_reply bs_table_lock_row(bs_table *table, bs_txn txn, bs_node file, uint64_t number, const uint64_t *keys,
                            size_t count, bs_mode mode, const struct timespec *until);
 
@@ -187,8 +189,8 @@ bs_reply bs_table_rekey_row(bs_table *table, bs_txn txn, bs_node file, uint64_t 
  */
 
 /* What a command of a list is. Each makes the call of its name, with the fields of a bs_command that have the names of
- * what that call is given; `node` is also its `record`, and `key_count`, `parent_count` and `bound_count` are the counts
- * of its lists. */
+ * what that call is given; `node` is also its `record`, and `key_count`, `parent_count` and `bound_count` are the
+ * counts of its lists. */
 enum bs_command_kinds {
   BS_DO_BEGIN = 1, BS_DO_LOCK, BS_DO_LOCK_PATH, BS_DO_TRY, BS_DO_UNLOCK, BS_DO_ESCALATE, BS_DO_CANCEL, BS_DO_COMMIT,
   BS_DO_ABORT, BS_DO_SETTLE, BS_DO_INSERT, BS_DO_DELETE, BS_DO_ADOPT, BS_DO_FORGET, BS_DO_REKEY, BS_DO_MOVE, BS_DO_DROP,
@@ -196,8 +198,8 @@ enum bs_command_kinds {
   BS_DO_UNLOCK_ROW, BS_DO_REKEY_ROW
 };
 
-/* A command of a list. It is written with the names of its fields, all others zero, or made by a function below. All zero
- * is no command. */
+/* A command of a list. It is written with the names of its fields, all others zero, or made by a function below. All
+ * zero is no command. */
 typedef struct bs_command {
   uint32_t kind; /* of enum bs_command_kinds */
   bs_mode mode;
@@ -243,17 +245,19 @@ static inline bs_txn bs_begun(void) {
 }
 
 /* Makes commands one behind the other in one hold of the latch, up to the first that is not done, and writes into
- * each its reply: how many were done. It never sleeps. Where that is fewer than `count`, the reply of the next says why:
+ * each its reply: how many were done. It never sleeps. Where that is fewer than `count`, the reply of the next says
+ * why:
  *   - it was refused, or the asker is BS_VICTIM;
- *   - BS_WAITING: a lock, a path or a row waits, for `node` in `mode`. bs_table_await awaits these. Behind the grant the
- *     list is run again from this command on: what is held by then is granted at once, a path goes on to the next node,
- *     and a row says whether its keys are the node's own;
+ *   - BS_WAITING: a lock, a path or a row waits, for `node` in `mode`. bs_table_await awaits these. Behind the grant
+ *     the list is run again from this command on: what is held by then is granted at once, a path goes on to the next
+ *     node, and a row says whether its keys are the node's own;
  *   - BS_OTHER_KEYS: the row is held, but its keys are others than was said.
- * Those behind it were not made, and their replies are BS_NOT_MADE. All others are answered as the call of their name. A
- * path goes on where others fell for a lock above, and is never BS_ON_THE_WAY: its `told` has whom all its locks told.
- * Whom a command tells is woken, be it the first or the last. A kind that is none is refused with BS_BAD_NUMBER. Where the
- * table is refused, so is the first command. A begin is refused with BS_TOO_MANY_TXNS while somebody sleeps in
- * bs_table_begin_in_turn: a slot that the list has freed goes to that one, behind its last command. */
+ * Those behind it were not made, and their replies are BS_NOT_MADE. All others are answered as the call of their name.
+ * A path goes on where others fell for a lock above, and is never BS_ON_THE_WAY: its `told` has whom all its locks told.
+ * Whom a command tells is woken, be it the first or the last. A kind that is none is refused with BS_BAD_NUMBER. Where
+ * the table is refused, so is the first command; a list that is null has no commands. A begin is refused with
+ * BS_TOO_MANY_TXNS while somebody sleeps in bs_table_begin_in_turn: a slot that the list has freed goes to that one,
+ * behind its last command. */
 size_t bs_table_run(bs_table *table, bs_command *commands, size_t count);
 
 /* ------------------------------------------------------------------------------------------------
@@ -261,8 +265,8 @@ size_t bs_table_run(bs_table *table, bs_command *commands, size_t count);
  */
 
 /* Takes the latch and lends the manager, for all that takes a const bs_manager: questions of burlapslate.h that are all
- * of one moment. Null where the table is refused, and then the latch is not held. Until bs_table_let_go nobody else uses
- * the table. */
+ * of one moment. Null where the table is refused, and then the latch is not held. Until bs_table_let_go nobody else
+ * uses the table. */
 const bs_manager *bs_table_hold(bs_table *table);
 
 /* Gives the latch back, and the manager that was lent with it. Refused with BS_NULL_POINTER, and with BS_NOT_HELD where
@@ -270,7 +274,8 @@ const bs_manager *bs_table_hold(bs_table *table);
 bs_reply bs_table_let_go(bs_table *table);
 
 /* ------------------------------------------------------------------------------------------------
- * Watchers: who waits for whom, without the latch. A watcher is used by bs_look and ended by bs_watch_end, with no table.
+ * Watchers: who waits for whom, without the latch. A watcher is used by bs_look and ended by bs_watch_end, with no
+ * table.
  */
 
 /* As bs_watch. */
@@ -283,8 +288,8 @@ static inline bs_reply bs_table_watch(bs_table *table, bs_watcher *watcher) {
 /* Starts a thread that ends deadlocks, for a table that was made with BS_BY_WATCHER: it looks as a watcher does,
  * settles every suspect, the youngest first, and rests for `pace` nanoseconds behind each look. While no lock has been
  * left waiting since it looked it sleeps. It ends with the table, counts as a watcher, and takes no signals. Refused
- * with BS_IN_USE where the table has such a thread, BS_TOO_MANY_WATCHERS, and with BS_NO_MEMORY also where no thread can
- * be started. */
+ * with BS_IN_USE where the table has such a thread, BS_TOO_MANY_WATCHERS, and with BS_NO_MEMORY also where no thread
+ * can be started. */
 bs_reply bs_table_watch_thread(bs_table *table, uint64_t pace);
 
 #ifdef __cplusplus
