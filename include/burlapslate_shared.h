@@ -253,9 +253,9 @@ static inline bs_txn bs_begun(void) {
  *     node, and a row says whether its keys are the node's own;
  *   - BS_OTHER_KEYS: the row is held, but its keys are others than was said.
  * Those behind it were not made, and their replies are BS_NOT_MADE. All others are answered as the call of their name.
- * A path goes on where others fell for a lock above, and is never BS_ON_THE_WAY: its `told` has whom all its locks told.
- * Whom a command tells is woken, be it the first or the last. A kind that is none is refused with BS_BAD_NUMBER. Where
- * the table is refused, so is the first command; a list that is null has no commands. A begin is refused with
+ * A path goes on where others fell for a lock above, and is never BS_ON_THE_WAY: its `told` has whom all its locks
+ * told. Whom a command tells is woken, be it the first or the last. A kind that is none is refused with BS_BAD_NUMBER.
+ * Where the table is refused, so is the first command; a list that is null has no commands. A begin is refused with
  * BS_TOO_MANY_TXNS while somebody sleeps in bs_table_begin_in_turn: a slot that the list has freed goes to that one,
  * behind its last command. */
 size_t bs_table_run(bs_table *table, bs_command *commands, size_t count);

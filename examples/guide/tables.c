@@ -72,7 +72,7 @@ void sessions_in_threads(void) {
   move_to_and_fro(BS_BY_WATCHER);
 }
 
-/* All but the begin is done in one hold of the latch. Where somebody has a row, that is awaited, and the list goes on. */
+/* All but the begin is done in one hold of the latch. Where somebody has a row it is awaited, and the list goes on. */
 void several_in_one_hold(void) {
   bs_command list[3];
   bs_txn t, other;

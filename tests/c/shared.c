@@ -642,8 +642,8 @@ static void a_time_comes_and_grants(void) {
   close_table();
 }
 
-/* Takes the latch while a transaction waits, and answers the manager for a command too; null where its wait, the first of
- * the table, is over already. */
+/* Takes the latch while a transaction waits, and answers the manager for a command too; null where its wait, the first
+ * of the table, is over already. */
 static bs_manager *hold_in_wait(bs_txn txn) {
   bs_counts counts;
   memset(&counts, 0, sizeof counts);
@@ -1157,7 +1157,8 @@ static void a_path_that_moved_is_cancelled(void) {
   DONE(bs_table_lock_path(table, a, low, BS_X, NULL));
   DONE(bs_table_lock_path(table, a, above, BS_IX, NULL));
   send_by_path(&one, b, low, BS_X);
-  list[0] = (bs_command){ .kind = BS_DO_REKEY, .txn = a, .node = low, .index = by_key, .key = 150 }, list[1] = bs_do(BS_DO_CANCEL, b);
+  list[0] = (bs_command){ .kind = BS_DO_REKEY, .txn = a, .node = low, .index = by_key, .key = 150 };
+  list[1] = bs_do(BS_DO_CANCEL, b);
   WANT(bs_table_run(table, list, 2) == 2);
   back(&one, BS_NOT_WAITING);
   holds(b, low, BS_NL);
@@ -1424,7 +1425,8 @@ static void an_index_is_made_again(void) {
   send_by_path(&one, b, rows_below, BS_S);
   send_by_path(&two, c, rows, BS_IX);
   list[0] = bs_do_at(BS_DO_DROP, a, by_row_key, BS_NL);
-  list[1] = (bs_command){ .kind = BS_DO_INDEX_BY, .txn = a, .parents = &root, .parent_count = 1, .file = rows, .bounds = finer, .bound_count = 3 };
+  list[1] = (bs_command){ .kind = BS_DO_INDEX_BY, .txn = a, .parents = &root, .parent_count = 1, .file = rows,
+                          .bounds = finer, .bound_count = 3 };
   list[2] = bs_do(BS_DO_COMMIT, a);
   WANT(bs_table_run(table, list, 3) == 3);
   back(&one, BS_GONE);
@@ -1884,8 +1886,8 @@ static void a_row_waits_in_a_list(void) {
   close_table();
 }
 
-/* Two fall for locks of one path, each of whom sleeps, and the path goes on: its list has both, by rising slot. Who is told
- * later stands in the lower slot. */
+/* Two fall for locks of one path, each of whom sleeps, and the path goes on: its list has both, by rising slot. Who is
+ * told later stands in the lower slot. */
 static void a_path_goes_on_in_a_list(void) {
   static bs_notices all;
   struct asker one, two, three;
@@ -1931,7 +1933,8 @@ static void commands_that_are_none(void) {
   list[0] = nothing, list[1] = nothing, list[2] = bs_do(BS_DO_COMMIT, a);
   WANT(bs_table_run(table, list, 3) == 0 && list[0].reply.status == BS_BAD_NUMBER);
   WANT(list[1].reply.status == BS_NOT_MADE && list[2].reply.status == BS_NOT_MADE);
-  WANT(bs_do(BS_DO_COMMIT, a).reply.status == BS_NOT_MADE && bs_do_at(BS_DO_TRY, a, root, BS_X).reply.status == BS_NOT_MADE);
+  WANT(bs_do(BS_DO_COMMIT, a).reply.status == BS_NOT_MADE);
+  WANT(bs_do_at(BS_DO_TRY, a, root, BS_X).reply.status == BS_NOT_MADE);
   for (kind = BS_DO_REKEY_ROW + 1; kind != 0; kind <<= 1) {
     list[0] = bs_do_at(kind, a, root, BS_X);
     WANT(bs_table_run(table, list, 1) == 0 && list[0].reply.status == BS_BAD_NUMBER);
@@ -1989,6 +1992,20 @@ static void every_command(void) {
   list[2] = (bs_command){ .kind = BS_DO_MOVE, .txn = t, .node = table_node, .parents = &under, .parent_count = 1 };
   list[3] = bs_do(BS_DO_CANCEL, t);
   WANT(bs_table_run(table, list, 4) == 3 && list[3].reply.status == BS_NOT_WAITING);
+  list[0] = (bs_command){ .kind = BS_DO_ADOPT, .file = table_node, .keys = &key, .key_count = 1 };
+  WANT(bs_table_run(table, list, 1) == 1);
+  list[1] = bs_do_at(BS_DO_FORGET, bs_begun(), list[0].reply.node, BS_NL);
+  WANT(bs_table_run(table, list + 1, 1) == 1 && bs_table_run(table, list + 1, 1) == 0);
+  close_table();
+}
+
+/* So can each of those that change a schema. */
+static void every_command_of_a_schema(void) {
+  static const uint64_t bound = 7;
+  bs_node top, table_node, index;
+  bs_command list[7];
+  set_up(BS_AT_BLOCK);
+  top = root;
   list[0] = (bs_command){ .kind = BS_DO_ADD_ROW_FILE, .parents = &top, .parent_count = 1 };
   WANT(bs_table_run(table, list, 1) == 1 && ASK(table, bs_kind, list[0].reply.node).count == BS_FILE);
   table_node = list[0].reply.node;
@@ -2008,8 +2025,6 @@ static void every_command(void) {
   list[6] = bs_do(BS_DO_COMMIT, bs_begun());
   WANT(bs_table_run(table, list, 7) == 7 && ASK(table, bs_kind, table_node).status == BS_NO_SUCH_NODE);
   WANT(bs_table_run(table, list, 7) == 2 && list[2].reply.status == BS_NO_SUCH_NODE);
-  list[0] = bs_do_at(99, t, root, BS_X);
-  WANT(bs_table_run(table, list, 1) == 0 && list[0].reply.status == BS_BAD_NUMBER);
   close_table();
 }
 
@@ -2731,6 +2746,7 @@ int main(int count, char **words) {
   TELL(lists_that_begin);
   TELL(lists_that_name);
   TELL(every_command);
+  TELL(every_command_of_a_schema);
   TELL(a_list_of_paths_and_rows);
   TELL(a_path_waits_in_a_list);
   TELL(a_row_waits_in_a_list);
