@@ -64,6 +64,9 @@ struct bs_table {
   pthread_cond_t over;            /* the table ends */
 };
 
+/* What is rare stands apart, so that the way of each call is short. */
+#define TABLE_APART __attribute__((noinline, cold))
+
 /* ------------------------------------------------------------------------------------------------
  * The latch and the wake-ups.
  */
@@ -75,13 +78,22 @@ static bool table_holds(bs_table *table) {
   return holder != 0 && pthread_equal(holder, pthread_self());
 }
 
-/* Takes the latch of a table, and answers whether the table is open; where it is not, the latch is not held. */
-static bool table_enter(bs_table *table) {
-  if (table == NULL || table_holds(table)) return false;
-  pthread_mutex_lock(&table->latch);
-  if (table->stage == TABLE_OPEN) return true;
+/* Takes the latch where it is not free, but where this thread has it. */
+static TABLE_APART bool table_lock_latch(bs_table *table) {
+  return !table_holds(table) && pthread_mutex_lock(&table->latch) == 0;
+}
+
+static TABLE_APART bool table_turned_away(bs_table *table) {
   pthread_mutex_unlock(&table->latch);
   return false;
+}
+
+/* Takes the latch of a table, and answers whether the table is open; where it is not, the latch is not held. That this
+ * thread holds the table itself is asked where the latch is not free. */
+static inline bool table_enter(bs_table *table) {
+  if (table == NULL) return false;
+  if (pthread_mutex_trylock(&table->latch) != 0 && !table_lock_latch(table)) return false;
+  return table->stage == TABLE_OPEN || table_turned_away(table);
 }
 
 static bs_reply table_leave(bs_table *table, bs_reply reply) {
@@ -95,7 +107,7 @@ static bs_status table_shut(bs_table *table) {
   return table_holds(table) ? BS_IN_USE : BS_NO_MANAGER;
 }
 
-static bs_reply table_no_table(bs_table *table) {
+static TABLE_APART bs_reply table_no_table(bs_table *table) {
   return bs_call_only(table_shut(table));
 }
 
@@ -113,21 +125,28 @@ static void table_wake_word(bs_table *table, uint64_t word, size_t first) {
   }
 }
 
-/* Behind a command that was answered so: wakes those whose wait it may have ended. Where a wait began by it, who
- * watches is woken too. bs_ended says whose wait that is. It is not asked where there is nobody: where the command was
- * refused, or told nobody and ends no wait by name. A cancel and an abort end one by name. */
-static void table_wake(bs_table *table, bs_status status, const bs_notices *told, bool by_name) {
+/* Wakes those whose wait the last command may have ended, which bs_ended says, where that was not refused. */
+static TABLE_APART void table_wake_ended(bs_table *table, bs_status status) {
+  bs_slots ended;
+  size_t i;
   bool is_accepted = status == BS_DONE || status == BS_WAITING || status == BS_VICTIM || status == BS_ON_THE_WAY ||
                      status == BS_OTHER_KEYS;
-  if (is_accepted && (by_name || told->count > 0)) {
-    bs_slots ended = bs_ended(&table->manager).slots;
-    size_t i;
-    for (i = 0; i < BS_SLOTS / 64; i++) table_wake_word(table, ended.words[i], i * 64);
-  }
-  if (status == BS_WAITING) {
-    table->waited = bs_call_accepted(&table->manager).count;
-    pthread_cond_signal(&table->began);
-  }
+  if (!is_accepted) return;
+  ended = bs_ended(&table->manager).slots;
+  for (i = 0; i < BS_SLOTS / 64; i++) table_wake_word(table, ended.words[i], i * 64);
+}
+
+/* A wait began: who watches is woken. */
+static TABLE_APART void table_wait_began(bs_table *table) {
+  table->waited = bs_call_accepted(&table->manager).count;
+  pthread_cond_signal(&table->began);
+}
+
+/* Behind a command that was answered so: wakes those whose wait it may have ended. It is not asked who that is where
+ * there is nobody: where it told nobody, and ends no wait by name. A cancel and an abort end one by name. */
+static inline void table_wake(bs_table *table, bs_status status, const bs_notices *told, bool by_name) {
+  if (by_name || told->count > 0) table_wake_ended(table, status);
+  if (status == BS_WAITING) table_wait_began(table);
 }
 
 /* Sleeps on a condition, with the latch held before and behind it, to a time at most where that is not null: whether
@@ -165,7 +184,8 @@ static const struct timespec *table_earlier(const bs_table *table, bs_txn txn, c
 /* Of a lock that was answered BS_WAITING: sleeps, with the latch held before and behind it, until it has its verdict,
  * or the time is over, or the table ends. What became of the wait is asked before the clock. The time is copied: a
  * deadline that another thread sets meanwhile is of later waits. */
-static bs_reply table_sleep(bs_table *table, bs_txn txn, bs_node node, bs_mode mode, const struct timespec *until) {
+static TABLE_APART bs_reply table_sleep(bs_table *table, bs_txn txn, bs_node node, bs_mode mode,
+                                        const struct timespec *until) {
   struct timespec time;
   bs_reply reply = bs_call_only(BS_WAITING);
   int late = 0;
@@ -227,7 +247,7 @@ static void table_leave_line(bs_table *table, table_turn *own) {
 /* Behind what may have ended a transaction: begins for those who sleep for a slot, in their order, while one is free.
  * So no hold of the latch leaves a slot free while somebody sleeps for one. And no turn can be lost: one whose time is
  * over has begun by then, or stands in the line still. */
-static void table_hand_on(bs_table *table) {
+static TABLE_APART void table_serve_line(bs_table *table) {
   while (table->first != NULL) {
     table_turn *next = table->first;
     bs_reply begun = bs_begin(&table->manager);
@@ -238,9 +258,13 @@ static void table_hand_on(bs_table *table) {
   }
 }
 
+static inline void table_hand_on(bs_table *table) {
+  if (table->first != NULL) table_serve_line(table);
+}
+
 /* Sleeps for a slot, with the latch held before and behind it, until somebody has begun for the one who sleeps, or the
  * time is over, or the table ends. Whether it has begun is asked before the clock. */
-static bs_reply table_sleep_in_line(bs_table *table, const struct timespec *until) {
+static TABLE_APART bs_reply table_sleep_in_line(bs_table *table, const struct timespec *until) {
   table_turn own;
   int late = 0;
   own.begun = bs_call_only(BS_WAITING);
@@ -288,28 +312,51 @@ static bs_notices *table_list_of(bs_table *table, bs_notices *told) {
 }
 
 /* Where there is no table nobody is told. */
-static bs_reply table_tell_none(bs_table *table, bs_notices *told) {
+static TABLE_APART bs_reply table_tell_none(bs_table *table, bs_notices *told) {
   if (told != NULL) told->count = 0;
   return table_no_table(table);
 }
 
-/* The body of a function that makes one call with the manager; of one whose call tells somebody. */
-#define TABLE_ASK(table, call)                      \
-  bs_reply reply;                             \
-  if (!table_enter(table)) return table_no_table(table);  \
-  reply = call;                               \
-  pthread_mutex_unlock(&(table)->latch);      \
+/* The body of a function that makes one call with the manager; of one whose call tells somebody. All that is answered
+ * is in one place, so that the call writes it where the caller wants it. */
+#define TABLE_ASK(table, call)               \
+  bs_reply reply;                            \
+  if (table_enter(table)) {                  \
+    reply = call;                            \
+    pthread_mutex_unlock(&(table)->latch);   \
+  } else {                                   \
+    reply = table_no_table(table);           \
+  }                                          \
   return reply
 
-#define TABLE_TELL(table, told, by_name, call)            \
-  bs_notices *list;                                 \
+#define TABLE_TELL(table, told, by_name, call)      \
   bs_reply reply;                                   \
-  if (!table_enter(table)) return table_tell_none(table, told); \
-  list = table_list_of(table, told);                      \
-  reply = call;                                     \
-  table_wake(table, reply.status, list, by_name);         \
-  table_hand_on(table);                                   \
-  pthread_mutex_unlock(&(table)->latch);            \
+  if (table_enter(table)) {                         \
+    bs_notices *list = table_list_of(table, told);  \
+    reply = call;                                   \
+    table_wake(table, reply.status, list, by_name); \
+    table_hand_on(table);                           \
+    pthread_mutex_unlock(&(table)->latch);          \
+  } else {                                          \
+    reply = table_tell_none(table, told);           \
+  }                                                 \
+  return reply
+
+static TABLE_APART bs_reply table_no_time(bs_table *table) {
+  return table_leave(table, bs_call_only(BS_BAD_NUMBER));
+}
+
+/* The same of one that may sleep to a time. */
+#define TABLE_SLEEP(table, until, call)       \
+  bs_reply reply;                             \
+  if (!table_enter(table)) {                  \
+    reply = table_no_table(table);            \
+  } else if (table_is_time(until)) {          \
+    reply = call;                             \
+    pthread_mutex_unlock(&(table)->latch);    \
+  } else {                                    \
+    reply = table_no_time(table);             \
+  }                                           \
   return reply
 
 /* ------------------------------------------------------------------------------------------------
@@ -423,14 +470,14 @@ bs_reply bs_table_begin(bs_table *table) {
   TABLE_ASK(table, bs_begin(&table->manager));
 }
 
-bs_reply bs_table_begin_in_turn(bs_table *table, const struct timespec *until) {
-  bs_reply reply;
-  if (!table_enter(table)) return table_no_table(table);
-  if (!table_is_time(until)) return table_leave(table, bs_call_only(BS_BAD_NUMBER));
-  reply = bs_begin(&table->manager);
+static bs_reply table_begin_inside(bs_table *table, const struct timespec *until) {
+  bs_reply reply = bs_begin(&table->manager);
   if (reply.status == BS_TOO_MANY_TXNS) reply = table_sleep_in_line(table, until);
-  pthread_mutex_unlock(&table->latch);
   return reply;
+}
+
+bs_reply bs_table_begin_in_turn(bs_table *table, const struct timespec *until) {
+  TABLE_SLEEP(table, until, table_begin_inside(table, until));
 }
 
 bs_reply bs_table_deadline(bs_table *table, bs_txn txn, const struct timespec *until) {
@@ -445,22 +492,18 @@ bs_reply bs_table_deadline(bs_table *table, bs_txn txn, const struct timespec *u
 }
 
 bs_reply bs_table_lock(bs_table *table, bs_txn txn, bs_node node, bs_mode mode, const struct timespec *until) {
-  bs_reply reply;
-  if (!table_enter(table)) return table_no_table(table);
-  if (!table_is_time(until)) return table_leave(table, bs_call_only(BS_BAD_NUMBER));
-  reply = table_lock_inside(table, txn, node, mode, until);
-  pthread_mutex_unlock(&table->latch);
+  TABLE_SLEEP(table, until, table_lock_inside(table, txn, node, mode, until));
+}
+
+static bs_reply table_await_inside(bs_table *table, bs_txn txn, bs_node node, bs_mode mode,
+                                   const struct timespec *until) {
+  bs_reply reply = bs_verdict(&table->manager, txn, node, mode);
+  if (reply.status == BS_WAITING) reply = table_sleep(table, txn, node, mode, until);
   return reply;
 }
 
 bs_reply bs_table_await(bs_table *table, bs_txn txn, bs_node node, bs_mode mode, const struct timespec *until) {
-  bs_reply reply;
-  if (!table_enter(table)) return table_no_table(table);
-  if (!table_is_time(until)) return table_leave(table, bs_call_only(BS_BAD_NUMBER));
-  reply = bs_verdict(&table->manager, txn, node, mode);
-  if (reply.status == BS_WAITING) reply = table_sleep(table, txn, node, mode, until);
-  pthread_mutex_unlock(&table->latch);
-  return reply;
+  TABLE_SLEEP(table, until, table_await_inside(table, txn, node, mode, until));
 }
 
 bs_reply bs_table_try(bs_table *table, bs_txn txn, bs_node node, bs_mode mode) {
@@ -527,15 +570,17 @@ static bs_reply table_path_inside(bs_table *table, bs_txn txn, bs_node node, bs_
   return bs_call_only(path.is_cancelled ? BS_NOT_WAITING : BS_ON_THE_WAY);
 }
 
-bs_reply bs_table_lock_path(bs_table *table, bs_txn txn, bs_node node, bs_mode mode, const struct timespec *until) {
+static bs_reply table_whole_path(bs_table *table, bs_txn txn, bs_node node, bs_mode mode,
+                                 const struct timespec *until) {
   bs_reply reply;
-  if (!table_enter(table)) return table_no_table(table);
-  if (!table_is_time(until)) return table_leave(table, bs_call_only(BS_BAD_NUMBER));
   do {
     reply = table_path_inside(table, txn, node, mode, until);
   } while (reply.status == BS_ON_THE_WAY);
-  pthread_mutex_unlock(&table->latch);
   return reply;
+}
+
+bs_reply bs_table_lock_path(bs_table *table, bs_txn txn, bs_node node, bs_mode mode, const struct timespec *until) {
+  TABLE_SLEEP(table, until, table_whole_path(table, txn, node, mode, until));
 }
 
 /* ------------------------------------------------------------------------------------------------
@@ -610,19 +655,19 @@ static bs_reply table_row_inside(bs_table *table, bs_txn txn, const table_row *r
   return reply;
 }
 
+static bs_reply table_sleep_for_row(bs_table *table, bs_txn txn, const table_row *row, bs_mode mode,
+                                    const struct timespec *until) {
+  TABLE_SLEEP(table, until, table_row_inside(table, txn, row, mode, until));
+}
+
 bs_reply bs_table_lock_row(bs_table *table, bs_txn txn, bs_node file, uint64_t number, const uint64_t *keys,
                            size_t count, bs_mode mode, const struct timespec *until) {
   table_row row;
-  bs_reply reply;
   row.file = file;
   row.number = number;
   row.keys = keys;
   row.count = count;
-  if (!table_enter(table)) return table_no_table(table);
-  if (!table_is_time(until)) return table_leave(table, bs_call_only(BS_BAD_NUMBER));
-  reply = table_row_inside(table, txn, &row, mode, until);
-  pthread_mutex_unlock(&table->latch);
-  return reply;
+  return table_sleep_for_row(table, txn, &row, mode, until);
 }
 
 bs_reply bs_table_unlock_row(bs_table *table, bs_txn txn, bs_node file, uint64_t number, bs_notices *told) {
