@@ -52,6 +52,7 @@ struct bs_table {
   pthread_cond_t ended[BS_SLOTS]; /* by slot: a wait may be over */
   table_way *ways[BS_SLOTS];      /* by slot: who sleeps on a path */
   table_deadline deadlines[BS_SLOTS]; /* by slot: of the transaction of this age, and of no later one */
+  bool has_rows[BS_SLOTS];        /* by slot: a row was asked for, and may not be let go yet */
   table_turn *first, *last;       /* the line of those who sleep for a slot, by their arrival */
   size_t sleepers;                /* how many threads sleep, for a lock or for a slot */
   uint64_t waited;                /* how many commands had been accepted when the last lock was left waiting */
@@ -65,7 +66,7 @@ struct bs_table {
 };
 
 /* What is rare stands apart, so that the way of each call is short. */
-#define TABLE_APART __attribute__((noinline, cold))
+#define TABLE_APART __attribute__((noinline))
 
 /* ------------------------------------------------------------------------------------------------
  * The latch and the wake-ups.
@@ -118,11 +119,8 @@ bs_status bs_call_table_shut(bs_table *table) {
 }
 
 /* Wakes who sleeps for a slot of these, of which the first is `first`. */
-static void table_wake_word(bs_table *table, uint64_t word, size_t first) {
-  size_t slot;
-  for (slot = first; word != 0; slot++, word >>= 1) {
-    if ((word & 1) != 0) pthread_cond_broadcast(&table->ended[slot]);
-  }
+static inline void table_wake_word(bs_table *table, uint64_t word, size_t first) {
+  for (; word != 0; word &= word - 1) pthread_cond_broadcast(&table->ended[first + (size_t)__builtin_ctzll(word)]);
 }
 
 /* Wakes those whose wait the last command may have ended, which bs_ended says, where that was not refused. */
@@ -132,12 +130,12 @@ static TABLE_APART void table_wake_ended(bs_table *table, bs_status status) {
   bool is_accepted = status == BS_DONE || status == BS_WAITING || status == BS_VICTIM || status == BS_ON_THE_WAY ||
                      status == BS_OTHER_KEYS;
   if (!is_accepted) return;
-  ended = bs_ended(&table->manager).slots;
+  ended = bs_call_ended(&table->manager).slots;
   for (i = 0; i < BS_SLOTS / 64; i++) table_wake_word(table, ended.words[i], i * 64);
 }
 
 /* A wait began: who watches is woken. */
-static TABLE_APART void table_wait_began(bs_table *table) {
+static inline void table_wait_began(bs_table *table) {
   table->waited = bs_call_accepted(&table->manager).count;
   pthread_cond_signal(&table->began);
 }
@@ -187,32 +185,21 @@ static const struct timespec *table_earlier(const bs_table *table, bs_txn txn, c
 static TABLE_APART bs_reply table_sleep(bs_table *table, bs_txn txn, bs_node node, bs_mode mode,
                                         const struct timespec *until) {
   struct timespec time;
-  bs_reply reply = bs_call_only(BS_WAITING);
-  int late = 0;
+  bs_reply reply;
+  int late;
+  reply.status = BS_WAITING;
   until = table_earlier(table, txn, until);
   if (until != NULL) {
     time = *until;
     until = &time;
   }
   table->sleepers++;
-  while (reply.status == BS_WAITING) {
-    if (late == ETIMEDOUT) {
-      reply = table_time_out(table, txn);
-      break;
-    }
+  do {
     late = table_doze(table, &table->ended[txn.slot], until);
-    reply = table->stage == TABLE_ENDING ? table_no_table(table) : bs_verdict(&table->manager, txn, node, mode);
-  }
+    reply = table->stage == TABLE_ENDING ? table_no_table(table) : bs_call_verdict(&table->manager, txn, node, mode);
+  } while (reply.status == BS_WAITING && late != ETIMEDOUT);
+  if (reply.status == BS_WAITING) reply = table_time_out(table, txn);
   table_woken(table);
-  return reply;
-}
-
-/* Asks for a lock, with the latch held, and sleeps until its end. */
-static bs_reply table_lock_inside(bs_table *table, bs_txn txn, bs_node node, bs_mode mode,
-                                  const struct timespec *until) {
-  bs_reply reply = bs_lock(&table->manager, txn, node, mode, &table->told);
-  table_wake(table, reply.status, &table->told, false);
-  if (reply.status == BS_WAITING) reply = table_sleep(table, txn, node, mode, until);
   return reply;
 }
 
@@ -317,47 +304,35 @@ static TABLE_APART bs_reply table_tell_none(bs_table *table, bs_notices *told) {
   return table_no_table(table);
 }
 
-/* The body of a function that makes one call with the manager; of one whose call tells somebody. All that is answered
- * is in one place, so that the call writes it where the caller wants it. */
-#define TABLE_ASK(table, call)               \
-  bs_reply reply;                            \
-  if (table_enter(table)) {                  \
-    reply = call;                            \
-    pthread_mutex_unlock(&(table)->latch);   \
-  } else {                                   \
-    reply = table_no_table(table);           \
-  }                                          \
+/* The body of a function that makes one call with the manager; of one whose call tells somebody. */
+#define TABLE_ASK(table, call)                           \
+  bs_reply reply;                                        \
+  if (!table_enter(table)) return table_no_table(table); \
+  reply = call;                                          \
+  pthread_mutex_unlock(&(table)->latch);                 \
   return reply
 
-#define TABLE_TELL(table, told, by_name, call)      \
-  bs_reply reply;                                   \
-  if (table_enter(table)) {                         \
-    bs_notices *list = table_list_of(table, told);  \
-    reply = call;                                   \
-    table_wake(table, reply.status, list, by_name); \
-    table_hand_on(table);                           \
-    pthread_mutex_unlock(&(table)->latch);          \
-  } else {                                          \
-    reply = table_tell_none(table, told);           \
-  }                                                 \
+#define TABLE_TELL(table, told, by_name, call)                  \
+  bs_notices *list;                                             \
+  bs_reply reply;                                               \
+  if (!table_enter(table)) return table_tell_none(table, told); \
+  list = table_list_of(table, told);                            \
+  reply = call;                                                 \
+  table_wake(table, reply.status, list, by_name);               \
+  table_hand_on(table);                                         \
+  pthread_mutex_unlock(&(table)->latch);                        \
   return reply
 
-static TABLE_APART bs_reply table_no_time(bs_table *table) {
-  return table_leave(table, bs_call_only(BS_BAD_NUMBER));
+/* As table_enter, of a call that may sleep to a time; and why it was not entered. */
+static inline bool table_enter_until(bs_table *table, const struct timespec *until) {
+  if (!table_enter(table)) return false;
+  return table_is_time(until) || table_turned_away(table);
 }
 
-/* The same of one that may sleep to a time. */
-#define TABLE_SLEEP(table, until, call)       \
-  bs_reply reply;                             \
-  if (!table_enter(table)) {                  \
-    reply = table_no_table(table);            \
-  } else if (table_is_time(until)) {          \
-    reply = call;                             \
-    pthread_mutex_unlock(&(table)->latch);    \
-  } else {                                    \
-    reply = table_no_time(table);             \
-  }                                           \
-  return reply
+static TABLE_APART bs_reply table_no_sleep(bs_table *table) {
+  bs_status shut = bs_call_table_shut(table);
+  return bs_call_only(shut == BS_DONE ? BS_BAD_NUMBER : shut);
+}
 
 /* ------------------------------------------------------------------------------------------------
  * Tables.
@@ -470,21 +445,19 @@ bs_reply bs_table_begin(bs_table *table) {
   TABLE_ASK(table, bs_begin(&table->manager));
 }
 
-static bs_reply table_begin_inside(bs_table *table, const struct timespec *until) {
-  bs_reply reply = bs_begin(&table->manager);
-  if (reply.status == BS_TOO_MANY_TXNS) reply = table_sleep_in_line(table, until);
-  return reply;
-}
-
 bs_reply bs_table_begin_in_turn(bs_table *table, const struct timespec *until) {
-  TABLE_SLEEP(table, until, table_begin_inside(table, until));
+  bs_reply reply;
+  if (!table_enter_until(table, until)) return table_no_sleep(table);
+  reply = bs_begin(&table->manager);
+  if (reply.status == BS_TOO_MANY_TXNS) reply = table_sleep_in_line(table, until);
+  pthread_mutex_unlock(&table->latch);
+  return reply;
 }
 
 bs_reply bs_table_deadline(bs_table *table, bs_txn txn, const struct timespec *until) {
   bs_reply reply;
-  if (!table_enter(table)) return table_no_table(table);
-  if (!table_is_time(until)) return table_leave(table, bs_call_only(BS_BAD_NUMBER));
-  reply = bs_doing(&table->manager, txn);
+  if (!table_enter_until(table, until)) return table_no_sleep(table);
+  reply = bs_call_doing(&table->manager, txn);
   if (reply.status != BS_DONE) return table_leave(table, reply);
   table->deadlines[txn.slot].age = until == NULL ? 0 : txn.age;
   if (until != NULL) table->deadlines[txn.slot].time = *until;
@@ -492,18 +465,22 @@ bs_reply bs_table_deadline(bs_table *table, bs_txn txn, const struct timespec *u
 }
 
 bs_reply bs_table_lock(bs_table *table, bs_txn txn, bs_node node, bs_mode mode, const struct timespec *until) {
-  TABLE_SLEEP(table, until, table_lock_inside(table, txn, node, mode, until));
-}
-
-static bs_reply table_await_inside(bs_table *table, bs_txn txn, bs_node node, bs_mode mode,
-                                   const struct timespec *until) {
-  bs_reply reply = bs_verdict(&table->manager, txn, node, mode);
+  bs_reply reply;
+  if (!table_enter_until(table, until)) return table_no_sleep(table);
+  reply = bs_lock(&table->manager, txn, node, mode, &table->told);
+  table_wake(table, reply.status, &table->told, false);
   if (reply.status == BS_WAITING) reply = table_sleep(table, txn, node, mode, until);
+  pthread_mutex_unlock(&table->latch);
   return reply;
 }
 
 bs_reply bs_table_await(bs_table *table, bs_txn txn, bs_node node, bs_mode mode, const struct timespec *until) {
-  TABLE_SLEEP(table, until, table_await_inside(table, txn, node, mode, until));
+  bs_reply reply;
+  if (!table_enter_until(table, until)) return table_no_sleep(table);
+  reply = bs_call_verdict(&table->manager, txn, node, mode);
+  if (reply.status == BS_WAITING) reply = table_sleep(table, txn, node, mode, until);
+  pthread_mutex_unlock(&table->latch);
+  return reply;
 }
 
 bs_reply bs_table_try(bs_table *table, bs_txn txn, bs_node node, bs_mode mode) {
@@ -520,7 +497,7 @@ static bs_reply table_cancel_path(bs_table *table, bs_txn txn, bs_reply cancelle
   table_way *path = cancelled.status == BS_NOT_WAITING && txn.slot < BS_SLOTS ? table->ways[txn.slot] : NULL;
   bs_status end;
   if (path == NULL || path->txn.age != txn.age) return cancelled;
-  end = bs_verdict(&table->manager, txn, path->at, path->mode).status;
+  end = bs_call_verdict(&table->manager, txn, path->at, path->mode).status;
   if (end != BS_MOVED && (end != BS_DONE || path->is_last)) return cancelled;
   path->is_cancelled = true;
   cancelled.status = BS_DONE;
@@ -531,8 +508,22 @@ bs_reply bs_table_cancel(bs_table *table, bs_txn txn, bs_notices *told) {
   TABLE_TELL(table, told, true, table_cancel_path(table, txn, bs_cancel(&table->manager, txn, list)));
 }
 
+/* Ends a transaction that may have rows: those of its slot are let go. */
+static TABLE_APART bs_reply table_commit_rows(bs_table *table, bs_txn txn, bs_notices *told) {
+  bs_reply reply = bs_commit(&table->manager, txn, told);
+  if (reply.status == BS_DONE) table->has_rows[txn.slot] = false;
+  return reply;
+}
+
+/* Ends a transaction. Where its slot never asked for a row there is none to let go, and a shorter call does the same. */
+static inline bs_reply table_commit(bs_table *table, bs_txn txn, bs_notices *told) {
+  if (txn.slot >= BS_SLOTS || table->has_rows[txn.slot]) return table_commit_rows(table, txn, told);
+  told->count = 0;
+  return bs_call_commit(&table->manager, txn, told);
+}
+
 bs_reply bs_table_commit(bs_table *table, bs_txn txn, bs_notices *told) {
-  TABLE_TELL(table, told, false, bs_commit(&table->manager, txn, list));
+  TABLE_TELL(table, told, false, table_commit(table, txn, list));
 }
 
 bs_reply bs_table_abort(bs_table *table, bs_txn txn, bs_notices *told) {
@@ -560,7 +551,7 @@ static bs_reply table_path_inside(bs_table *table, bs_txn txn, bs_node node, bs_
   if (reply.status != BS_WAITING) return reply;
   path.txn = txn;
   path.at = reply.node;
-  path.mode = bs_doing(&table->manager, txn).mode;
+  path.mode = bs_call_doing(&table->manager, txn).mode;
   path.is_last = table_is_same_node(path.at, node);
   path.is_cancelled = false;
   table->ways[txn.slot] = &path;
@@ -570,17 +561,14 @@ static bs_reply table_path_inside(bs_table *table, bs_txn txn, bs_node node, bs_
   return bs_call_only(path.is_cancelled ? BS_NOT_WAITING : BS_ON_THE_WAY);
 }
 
-static bs_reply table_whole_path(bs_table *table, bs_txn txn, bs_node node, bs_mode mode,
-                                 const struct timespec *until) {
+bs_reply bs_table_lock_path(bs_table *table, bs_txn txn, bs_node node, bs_mode mode, const struct timespec *until) {
   bs_reply reply;
+  if (!table_enter_until(table, until)) return table_no_sleep(table);
   do {
     reply = table_path_inside(table, txn, node, mode, until);
   } while (reply.status == BS_ON_THE_WAY);
+  pthread_mutex_unlock(&table->latch);
   return reply;
-}
-
-bs_reply bs_table_lock_path(bs_table *table, bs_txn txn, bs_node node, bs_mode mode, const struct timespec *until) {
-  TABLE_SLEEP(table, until, table_whole_path(table, txn, node, mode, until));
 }
 
 /* ------------------------------------------------------------------------------------------------
@@ -633,10 +621,15 @@ typedef struct table_row {
   size_t count;
 } table_row;
 
-/* Asks for a row with the latch held. */
+/* Asks for a row, and notes for its slot that it did. */
+static bs_reply table_lock_row(bs_table *table, bs_txn txn, const table_row *row, bs_mode mode, bs_notices *told) {
+  if (txn.slot < BS_SLOTS) table->has_rows[txn.slot] = true;
+  return bs_lock_row(&table->manager, txn, row->file, row->number, row->keys, row->count, mode, told);
+}
+
+/* The same with the latch held, for one who may sleep. */
 static bs_reply table_ask_row(bs_table *table, bs_txn txn, const table_row *row, bs_mode mode) {
-  bs_reply reply =
-      bs_lock_row(&table->manager, txn, row->file, row->number, row->keys, row->count, mode, &table->told);
+  bs_reply reply = table_lock_row(table, txn, row, mode, &table->told);
   table_wake(table, reply.status, &table->told, false);
   return reply;
 }
@@ -655,19 +648,18 @@ static bs_reply table_row_inside(bs_table *table, bs_txn txn, const table_row *r
   return reply;
 }
 
-static bs_reply table_sleep_for_row(bs_table *table, bs_txn txn, const table_row *row, bs_mode mode,
-                                    const struct timespec *until) {
-  TABLE_SLEEP(table, until, table_row_inside(table, txn, row, mode, until));
-}
-
 bs_reply bs_table_lock_row(bs_table *table, bs_txn txn, bs_node file, uint64_t number, const uint64_t *keys,
                            size_t count, bs_mode mode, const struct timespec *until) {
   table_row row;
+  bs_reply reply;
   row.file = file;
   row.number = number;
   row.keys = keys;
   row.count = count;
-  return table_sleep_for_row(table, txn, &row, mode, until);
+  if (!table_enter_until(table, until)) return table_no_sleep(table);
+  reply = table_row_inside(table, txn, &row, mode, until);
+  pthread_mutex_unlock(&table->latch);
+  return reply;
 }
 
 bs_reply bs_table_unlock_row(bs_table *table, bs_txn txn, bs_node file, uint64_t number, bs_notices *told) {
@@ -706,30 +698,43 @@ static bs_reply table_path_made(bs_table *table, const bs_command *c, bs_txn txn
   return reply;
 }
 
-/* Makes a command of those that ask for locks, or give them back. */
-static bs_reply table_lock_made(bs_table *table, const bs_command *c, bs_txn txn, bs_notices *told) {
+static bs_reply table_row_made(bs_table *table, const bs_command *c, bs_txn txn, bs_notices *told) {
+  table_row row;
+  row.file = c->file;
+  row.number = c->number;
+  row.keys = c->keys;
+  row.count = c->key_count;
+  return table_lock_row(table, txn, &row, c->mode, told);
+}
+
+/* Makes a command of those that ask for locks or give them back, but for the most frequent. */
+static TABLE_APART bs_reply table_other_made(bs_table *table, const bs_command *c, bs_txn txn, bs_notices *told) {
   bs_manager *m = &table->manager;
   switch (c->kind) {
-    case BS_DO_LOCK: return bs_lock(m, txn, c->node, c->mode, told);
     case BS_DO_LOCK_PATH: return table_path_made(table, c, txn, told);
     case BS_DO_TRY: return bs_try(m, txn, c->node, c->mode);
     case BS_DO_UNLOCK: return bs_unlock(m, txn, c->node, told);
     case BS_DO_ESCALATE: return bs_escalate(m, txn, c->node, told);
     case BS_DO_CANCEL: return table_cancel_path(table, txn, bs_cancel(m, txn, told));
-    case BS_DO_COMMIT: return bs_commit(m, txn, told);
     case BS_DO_ABORT: return bs_abort(m, txn, told);
     case BS_DO_SETTLE: return bs_settle(m, txn, told);
-    case BS_DO_LOCK_ROW: return bs_lock_row(m, txn, c->file, c->number, c->keys, c->key_count, c->mode, told);
+    case BS_DO_LOCK_ROW: return table_row_made(table, c, txn, told);
     case BS_DO_UNLOCK_ROW: return bs_unlock_row(m, txn, c->file, c->number, told);
     default: return bs_call_only(BS_BAD_NUMBER);
   }
 }
 
+static TABLE_APART bs_reply table_no_slot(void) {
+  return bs_call_only(BS_TOO_MANY_TXNS);
+}
+
 /* Makes a command. A slot that the list has freed is for those who sleep for one. */
-static bs_reply table_made(bs_table *table, const bs_command *c, bs_txn txn, bs_notices *told) {
+static inline bs_reply table_made(bs_table *table, const bs_command *c, bs_txn txn, bs_notices *told) {
   bs_manager *m = &table->manager;
   switch (c->kind) {
-    case BS_DO_BEGIN: return table->first != NULL ? bs_call_only(BS_TOO_MANY_TXNS) : bs_begin(m);
+    case BS_DO_BEGIN: return table->first != NULL ? table_no_slot() : bs_begin(m);
+    case BS_DO_LOCK: return bs_lock(m, txn, c->node, c->mode, told);
+    case BS_DO_COMMIT: return table_commit(table, txn, told);
     case BS_DO_INSERT: return bs_insert(m, txn, c->file, c->keys, c->key_count);
     case BS_DO_DELETE: return bs_delete(m, txn, c->node, told);
     case BS_DO_ADOPT: return bs_adopt(m, c->file, c->keys, c->key_count);
@@ -743,7 +748,7 @@ static bs_reply table_made(bs_table *table, const bs_command *c, bs_txn txn, bs_
     case BS_DO_ADD_ROW_FILE: return bs_add_row_file(m, c->parents, c->parent_count);
     case BS_DO_ADD_INDEX: return bs_add_index(m, c->parents, c->parent_count, c->file, c->bounds, c->bound_count);
     case BS_DO_INDEX_BY: return bs_index_by(m, txn, c->parents, c->parent_count, c->file, c->bounds, c->bound_count);
-    default: return table_lock_made(table, c, txn, told);
+    default: return table_other_made(table, c, txn, told);
   }
 }
 
@@ -751,6 +756,13 @@ static bs_reply table_made(bs_table *table, const bs_command *c, bs_txn txn, bs_
 static void table_not_made(bs_command *commands, size_t count) {
   size_t i;
   for (i = 0; i < count; i++) commands[i].reply = bs_call_only(BS_NOT_MADE);
+}
+
+/* Of a command that waits: the reply has the node and the mode that are to be awaited. The library says the node of a path
+ * and of a row, and of a path in which mode it is waited for is asked. */
+static inline void table_say_for_what(bs_table *table, bs_command *c, bs_txn txn) {
+  c->reply.mode = c->kind == BS_DO_LOCK_PATH ? bs_call_doing(&table->manager, txn).mode : c->mode;
+  if (c->kind == BS_DO_LOCK) c->reply.node = c->node;
 }
 
 /* Makes the next command of a list, and writes its reply. */
@@ -763,11 +775,7 @@ static bs_status table_run_next(bs_table *table, bs_command *next, bs_txn begun)
   by_name = next->kind == BS_DO_CANCEL || next->kind == BS_DO_ABORT;
   next->reply = table_made(table, next, txn, told);
   table_wake(table, next->reply.status, told, by_name);
-  if (next->reply.status == BS_WAITING) {
-    next->reply = bs_doing(&table->manager, txn);
-    next->reply.status = BS_WAITING;
-    next->reply.count = 0;
-  }
+  if (next->reply.status == BS_WAITING) table_say_for_what(table, next, txn);
   return next->reply.status;
 }
 

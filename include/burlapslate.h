@@ -720,9 +720,10 @@ static inline bs_reply bs_len(const bs_manager *manager) {
  */
 
 /* What a manager was made with, written into `options`, with a number for each that was as usual. Where it is refused
- * nothing is written. The slots of its transactions are those below `transactions`. */
+ * zero is written. The slots of its transactions are those below `transactions`. */
 static inline bs_reply bs_limits(const bs_manager *manager, bs_options *options) {
   if (options == NULL) return bs_call_null();
+  memset(options, 0, sizeof *options);
   if (!bs_call_can_ask(manager)) return bs_call_unasked(manager);
   options->detect = (uint32_t)bs_call_detect(manager).count;
   options->victims = (uint32_t)bs_call_victims(manager).count;

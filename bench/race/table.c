@@ -181,8 +181,8 @@ static void take_turns(size_t number) {
   while (left-- > 0) {
     bs_txn next = DONE(bs_table_begin(table)).txn;
     bs_command list[2];
-    list[0] = bs_do(BS_DO_COMMIT, mine);
-    list[1] = bs_do_at(BS_DO_LOCK, next, path[0], BS_X);
+    list[0] = (bs_command){ .kind = BS_DO_COMMIT, .txn = mine };
+    list[1] = (bs_command){ .kind = BS_DO_LOCK, .txn = next, .node = path[0], .mode = BS_X };
     WANT(bs_table_run(table, list, 2) == 1 && list[1].reply.status == BS_WAITING);
     DONE(bs_table_await(table, next, path[0], BS_X, NULL));
     mine = next;

@@ -15,9 +15,9 @@ trap 'rm -rf "$work"' EXIT
 # for each condition. The library may need more words (FAULT_LINKS).
 faults() {
   local call
-  for call in lock_inside path_inside ask_row; do
-    printf '%s-forgets-to-wake\t/table_%s(/,/^}/s/  table_wake(table, reply.status, &table->told, false);//\n' "$call" "$call"
-    printf '%s-is-not-watched\t/table_%s(/,/^}/s/wake(table, reply.status,/wake(table, reply.status == BS_WAITING ? BS_DONE : reply.status,/\n' \
+  for call in bs_table_lock table_path_inside table_ask_row; do
+    printf '%s-forgets-to-wake\t/%s(/,/^}/s/  table_wake(table, reply.status, &table->told, false);//\n' "$call" "$call"
+    printf '%s-is-not-watched\t/%s(/,/^}/s/wake(table, reply.status,/wake(table, reply.status == BS_WAITING ? BS_DONE : reply.status,/\n' \
       "$call" "$call"
   done
   for call in unlock{,_row} cancel commit abort escalate settle delete drop rekey{,_row} move; do
@@ -29,7 +29,8 @@ row-is-not-asked-again	s/  if (table_ask_row(table, txn, row, mode).status != BS
 other-keys-wake-nobody	s/^ *status == BS_OTHER_KEYS;/false;/
 run-forgets-to-wake	s/  table_wake(table, next->reply.status, told, by_name);//
 run-forgets-names	s/  by_name = next->kind .*/  by_name = false;/
-run-says-not-for-what	s/  if (next->reply.status == BS_WAITING) {/  if (false) {/
+run-says-not-for-what	s/  if (next->reply.status == BS_WAITING) .*//
+row-is-forgotten	s/  if (txn.slot < BS_SLOTS) table->has_rows\[txn.slot\] = true;//
 run-takes-a-slot-for-begun	s/  bs_txn txn = next->txn.slot == none.slot .*/  bs_txn txn = next->txn.age == none.age ? begun : next->txn;/
 list-path-stops-on-the-way	s/  while (reply.status == BS_ON_THE_WAY) {/  while (false) {/
 list-path-forgets-to-wake	/table_path_made(/,/^}/s/    table_wake(table, reply.status, told, false);//
@@ -65,7 +66,7 @@ make-does-not-look	s/  if (\*table != NULL) return bs_call_only(BS_IN_USE);//
 hold-is-nobodys	s/  __atomic_store_n(&table->holder, pthread_self(), __ATOMIC_RELAXED);//
 hold-is-anybodys	s/  return holder != 0 && pthread_equal(holder, pthread_self());/  return holder != 0;/
 let-go-holds-on	s/  __atomic_store_n(&table->holder, 0, __ATOMIC_RELAXED);//
-begin-passes-the-line	s/table->first != NULL ? bs_call_only(BS_TOO_MANY_TXNS) : bs_begin(m);/bs_begin(m);/
+begin-passes-the-line	s/table->first != NULL ? table_no_slot() : bs_begin(m);/bs_begin(m);/
 last-comes-first	s/    table_turn \*next = table->first;/    table_turn *next = table->last;/
 call-keeps-the-slot	s/  table_hand_on(table);  *\\$/ \\/
 run-keeps-the-slot	/^size_t bs_table_run(/,/^}/s/^  table_hand_on(table);$//

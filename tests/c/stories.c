@@ -528,9 +528,7 @@ static void a_row_whose_node_stands(void) {
   WANT(accepted_by(&m) == accepted + 3 && bs_len(&m).count == nodes);
   WANT(!same_node(row, other) && bs_kind(&m, row).status == BS_NO_SUCH_NODE);
   WANT(bs_key(&m, other, 0).count == 150 && same_node(bs_parent(&m, other, 1).node, f.above));
-  DONE(bs_commit(&m, b, &told));
-  b = begin(&m);
-  lock_above(&m, b, f, 150);
+  DONE(bs_unlock(&m, b, other, &told));
   WANT(same_node(DONE(ask_row(&m, b, f, 7, 150, BS_X)).node, other));
   DONE(bs_abort(&m, b, &told));
   WANT(!has_node(&m, f, 7));
@@ -911,8 +909,10 @@ static void a_file_of_rows_is_dropped(void) {
   struct file f = begin_rows(&m);
   bs_txn a = begin(&m), b = begin(&m);
   bs_node made, next;
-  DONE(lock_row(&m, a, f, 7, 70, BS_X));
-  DONE(bs_commit(&m, a, &told)); /* It lets no row go. */
+  DONE(bs_unlock(&m, a, DONE(lock_row(&m, a, f, 7, 70, BS_X)).node, &told)); /* It lets no row go. */
+  DONE(bs_unlock(&m, a, f.below, &told));
+  DONE(bs_unlock(&m, a, f.index, &told));
+  DONE(bs_unlock(&m, a, f.file, &told));
   DONE(bs_lock_path(&m, b, f.file, BS_X, &told));
   DONE(bs_lock_path(&m, b, f.index, BS_X, &told));
   WANT(bs_drop(&m, b, f.index, &told).status == BS_FILE_IN_USE);
@@ -1104,7 +1104,7 @@ static void options_are_taken(void) {
   WANT(bs_make(NULL, NULL).status == BS_NULL_POINTER && bs_limits(&usual, NULL).status == BS_NULL_POINTER);
   DONE(bs_end(&usual));
   was.bounds = 7;
-  WANT(bs_limits(&usual, &was).status == BS_NO_MANAGER && was.bounds == 7);
+  WANT(bs_limits(&usual, &was).status == BS_NO_MANAGER && was.bounds == 0);
 }
 
 /* A maker may know fewer options than the library, or more. */
