@@ -618,8 +618,9 @@ static void a_deadline_of_its_own(void) {
   send(&two, c, root, BS_S);
   DONE(bs_table_commit(table, a, NULL));
   back(&two, BS_DONE);
-  close_table();
+  DONE(bs_table_end(table));
   ANSWERS(BS_NO_MANAGER, bs_table_deadline(table, c, &soon));
+  DONE(bs_table_free(&table));
 }
 
 /* Whose time comes wakes who stood behind it. */
@@ -1374,9 +1375,10 @@ static void how_a_sleep_for_a_row_ends(void) {
   back_with_row(&one, BS_NO_SUCH_TXN);
   DONE(bs_table_commit(table, a, NULL));
   WANT(!has_node(7));
-  close_table();
+  DONE(bs_table_end(table));
   ANSWERS(BS_NO_MANAGER, ask_row(a, 7, OLD_KEY, NULL));
   ANSWERS(BS_NO_MANAGER, bs_table_add_row_file(table, &root, 1));
+  DONE(bs_table_free(&table));
 }
 
 /* A file of rows is dropped and made again in one list, while a writer sleeps for it: that one is told so, and its rows'
@@ -1748,12 +1750,13 @@ static void lists_of_commands(void) {
   DONE(ASK(table, bs_verdict, a, root, BS_IX));
   WANT(DONE(bs_table_await(table, a, root, BS_IX, NULL)).mode == BS_IX);
   ANSWERS(BS_NOT_WAITING, bs_table_await(table, a, file, BS_X, NULL));
-  close_table();
+  DONE(bs_table_end(table));
   list[1].reply.status = BS_DONE;
   WANT(bs_table_run(table, list, 2) == 0 && list[0].reply.status == BS_NO_MANAGER);
   WANT(list[1].reply.status == BS_NOT_MADE);
   WANT(bs_table_run(NULL, list, 2) == 0 && list[0].reply.status == BS_NULL_POINTER);
   WANT(bs_table_run(table, NULL, 2) == 0 && bs_table_run(table, list, 0) == 0);
+  DONE(bs_table_free(&table));
 }
 
 /* A whole transaction in a list, which is made again and again. */
@@ -2419,8 +2422,9 @@ static void a_long_dump(void) {
   WANT(lines_with(text, "   0 ") == 1 + MANY_LOCKS && lines_with(text, "   1 ") == 1 + DUMP_PART);
   refused_growth = 1;
   ANSWERS(BS_NO_MEMORY, bs_table_dump(table, text));
-  close_table();
+  DONE(bs_table_end(table));
   ANSWERS(BS_NO_MANAGER, bs_table_dump(table, text));
+  DONE(bs_table_free(&table));
   ANSWERS(BS_NULL_POINTER, bs_dump(NULL, text));
   fclose(text);
   fclose(whole);
