@@ -21,7 +21,7 @@ faults() {
       "$call" "$call"
   done
   for call in unlock{,_row} cancel commit abort escalate settle delete drop rekey{,_row} move; do
-    printf '%s-forgets-to-wake\ts/TABLE_TELL(table, told, [a-z]*, \\(.*bs_%s(.*\\)list))/TABLE_ASK(table, \\1table_list_of(table, told)))/\n' \
+    printf '%s-forgets-to-wake\ts/TABLE_TELL(table, told, [a-z]*, \\(.*_%s(.*\\)list))/TABLE_ASK(table, \\1table_list_of(table, told)))/\n' \
       "$call" "$call"
   done
   cat <<'FAULTS'

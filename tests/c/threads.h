@@ -48,8 +48,8 @@ static void feed(unsigned seconds) {
 }
 
 /* Asks a question of the manager that a table lends. What it is asked about is no such question itself. */
-static __thread bs_reply asked;
-static __thread bs_found found;
+static __thread __attribute__((unused)) bs_reply asked;
+static __thread __attribute__((unused)) bs_found found;
 
 #define ASK0(table, question) (asked = question(bs_table_hold(table)), bs_table_let_go(table), asked)
 #define ASK(table, question, ...) (asked = question(bs_table_hold(table), __VA_ARGS__), bs_table_let_go(table), asked)
