@@ -41,9 +41,9 @@ late-forgets-to-wake	s/  table_wake(table, reply.status, &table->told, true);//
 path-ends-above	s/ && (reply.status != BS_DONE || path.is_last)) return reply;/) return reply;/
 nobody-is-named	s/by_name || told->count/told->count/
 nobody-is-told	s/by_name || told->count > 0/by_name/
-first-word-sleeps-on	s/    for (i = 0; i < BS_SLOTS \/ 64; i++) table_wake_word/    for (i = 1; i < BS_SLOTS \/ 64; i++) table_wake_word/
-words-but-the-first-sleep-on	s/    for (i = 0; i < BS_SLOTS \/ 64; i++) table_wake_word/    for (i = 0; i < 1; i++) table_wake_word/
-watch-is-not-woken	s/    pthread_cond_signal(&table->began);//
+first-word-sleeps-on	s/  for (i = 0; i < BS_SLOTS \/ 64; i++) table_wake_word/  for (i = 1; i < BS_SLOTS \/ 64; i++) table_wake_word/
+words-but-the-first-sleep-on	s/  for (i = 0; i < BS_SLOTS \/ 64; i++) table_wake_word/  for (i = 0; i < 1; i++) table_wake_word/
+watch-is-not-woken	s/^  pthread_cond_signal(&table->began);//
 watch-forgets-to-wake	s/  table_wake(table, \(bs_settle(.*\)\.status, &table->told, false);/  \1;/
 path-forgets-a-cancel	s/  path->is_cancelled = true;//
 early-return	s/    reply = table->stage == TABLE_ENDING ? .*/    reply.status = BS_DONE, reply.mode = mode;/
