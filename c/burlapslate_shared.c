@@ -48,7 +48,6 @@ struct bs_table {
   table_stage stage;
   bs_manager manager;
   bs_notices told;                /* by the last command whose caller wanted no list */
-  bs_notices more;                /* by a further lock of a path in a list */
   pthread_cond_t ended[BS_SLOTS]; /* by slot: a wait may be over */
   table_way *ways[BS_SLOTS];      /* by slot: who sleeps on a path */
   table_deadline deadlines[BS_SLOTS]; /* by slot: of the transaction of this age, and of no later one */
@@ -515,7 +514,7 @@ static TABLE_APART bs_reply table_commit_rows(bs_table *table, bs_txn txn, bs_no
   return reply;
 }
 
-/* Ends a transaction. Where its slot never asked for a row there is none to let go, and a shorter call does the same. */
+/* Ends a transaction. Where its slot asked for no row there is none to let go, and a shorter call does the same. */
 static inline bs_reply table_commit(bs_table *table, bs_txn txn, bs_notices *told) {
   if (txn.slot >= BS_SLOTS || table->has_rows[txn.slot]) return table_commit_rows(table, txn, told);
   told->count = 0;
@@ -687,13 +686,13 @@ static void table_tell_too(bs_notices *told, const bs_notices *more) {
 }
 
 /* A path in a list. Where others fell for a lock above it goes on, as a path that may sleep does: they are woken, and
- * no command of theirs comes between. */
+ * no command of theirs comes between. The caller's list, where there is one, has whom all its locks told. */
 static bs_reply table_path_made(bs_table *table, const bs_command *c, bs_txn txn, bs_notices *told) {
   bs_reply reply = bs_lock_path(&table->manager, txn, c->node, c->mode, told);
   while (reply.status == BS_ON_THE_WAY) {
     table_wake(table, reply.status, told, false);
-    reply = bs_lock_path(&table->manager, txn, c->node, c->mode, &table->more);
-    table_tell_too(told, &table->more);
+    reply = bs_lock_path(&table->manager, txn, c->node, c->mode, &table->told);
+    if (told != &table->told) table_tell_too(told, &table->told);
   }
   return reply;
 }
@@ -758,8 +757,8 @@ static void table_not_made(bs_command *commands, size_t count) {
   for (i = 0; i < count; i++) commands[i].reply = bs_call_only(BS_NOT_MADE);
 }
 
-/* Of a command that waits: the reply has the node and the mode that are to be awaited. The library says the node of a path
- * and of a row, and of a path in which mode it is waited for is asked. */
+/* Of a command that waits: the reply has the node and the mode that are to be awaited. The library says the node of a
+ * path and of a row, and of a path in which mode it is waited for is asked. */
 static inline void table_say_for_what(bs_table *table, bs_command *c, bs_txn txn) {
   c->reply.mode = c->kind == BS_DO_LOCK_PATH ? bs_call_doing(&table->manager, txn).mode : c->mode;
   if (c->kind == BS_DO_LOCK) c->reply.node = c->node;

@@ -87,7 +87,7 @@ enum bs_statuses {
   BS_TXN_CONDEMNED = 5,   /* the transaction was chosen as a victim, and can only abort */
   BS_BAD_MODE = 6,        /* BS_NL was asked, or other than S or X on a record */
   BS_NEED_PARENTS = 7,    /* the rule of the graph fails at the parent `node` */
-  BS_NOT_HELD = 8,        /* the transaction does not hold the node */
+  BS_NOT_HELD = 8,        /* the transaction does not hold the node; of bs_table_let_go: nor this thread the table */
   BS_HELD_CHILD = 9,      /* the transaction holds the child `node` */
   BS_WOULD_BLOCK = 10,    /* the lock cannot be granted at once */
   BS_TOO_MANY_TXNS = 11,  /* as many transactions live as may */
@@ -114,7 +114,7 @@ enum bs_statuses {
   BS_NULL_POINTER = 64,   /* a pointer is null */
   BS_NO_MANAGER = 65,     /* no manager was made at this place, or it was ended */
   BS_BAD_NUMBER = 66,     /* a number names nothing of its kind, or a count is out of range */
-  BS_IN_USE = 67,         /* there is a manager, or a watcher, at this place already */
+  BS_IN_USE = 67,         /* there is a manager, a table or a watcher at this place; or this thread holds the table */
   BS_NO_PLACE = 68,       /* there are fewer than that */
   BS_NO_WATCHER = 69,     /* no watcher was made at this place, or it was ended */
   BS_TOO_MANY_WATCHERS = 70, /* as many watch already as may */

@@ -34,8 +34,8 @@ row-is-forgotten	s/  if (txn.slot < BS_SLOTS) table->has_rows\[txn.slot\] = true
 run-takes-a-slot-for-begun	s/  bs_txn txn = next->txn.slot == none.slot .*/  bs_txn txn = next->txn.age == none.age ? begun : next->txn;/
 list-path-stops-on-the-way	s/  while (reply.status == BS_ON_THE_WAY) {/  while (false) {/
 list-path-forgets-to-wake	/table_path_made(/,/^}/s/    table_wake(table, reply.status, told, false);//
-list-path-tells-the-last	s/    table_tell_too(told, &table->more);/    *told = table->more;/
-list-path-tells-the-first	s/    table_tell_too(told, &table->more);//
+list-path-tells-the-last	s/ table_tell_too(told, &table->told);/ *told = table->told;/
+list-path-tells-the-first	s/    if (told != &table->told) table_tell_too(.*//
 list-path-tells-unordered	s/    for (; place > 0 && told->at\[place - 1\].*//
 late-forgets-to-wake	s/  table_wake(table, reply.status, &table->told, true);//
 path-ends-above	s/ && (reply.status != BS_DONE || path.is_last)) return reply;/) return reply;/
