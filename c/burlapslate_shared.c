@@ -71,16 +71,15 @@ struct bs_table {
  * The latch and the wake-ups.
  */
 
-/* Whether this thread holds the table by bs_table_hold. Nobody but a thread itself writes its name there, so what
- * another thread writes meanwhile makes no difference. */
-static bool table_holds(bs_table *table) {
-  pthread_t holder = __atomic_load_n(&table->holder, __ATOMIC_RELAXED);
-  return holder != 0 && pthread_equal(holder, pthread_self());
+static TABLE_APART bool table_is_mine(pthread_t holder) {
+  return pthread_equal(holder, pthread_self());
 }
 
-/* Takes the latch where it is not free, but where this thread has it. */
-static TABLE_APART bool table_lock_latch(bs_table *table) {
-  return !table_holds(table) && pthread_mutex_lock(&table->latch) == 0;
+/* Whether this thread holds the table by bs_table_hold. Nobody but a thread itself writes its name there, so what
+ * another thread writes meanwhile makes no difference. */
+static inline bool table_holds(bs_table *table) {
+  pthread_t holder = __atomic_load_n(&table->holder, __ATOMIC_RELAXED);
+  return holder != 0 && table_is_mine(holder);
 }
 
 static TABLE_APART bool table_turned_away(bs_table *table) {
@@ -88,11 +87,10 @@ static TABLE_APART bool table_turned_away(bs_table *table) {
   return false;
 }
 
-/* Takes the latch of a table, and answers whether the table is open; where it is not, the latch is not held. That this
- * thread holds the table itself is asked where the latch is not free. */
+/* Takes the latch of a table, and answers whether the table is open; where it is not, the latch is not held. */
 static inline bool table_enter(bs_table *table) {
-  if (table == NULL) return false;
-  if (pthread_mutex_trylock(&table->latch) != 0 && !table_lock_latch(table)) return false;
+  if (table == NULL || table_holds(table)) return false;
+  pthread_mutex_lock(&table->latch);
   return table->stage == TABLE_OPEN || table_turned_away(table);
 }
 

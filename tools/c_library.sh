@@ -80,14 +80,15 @@ is_c_old() {
   [ ! -e "$written" ] || [ -n "$(find "$top"/c/*.c "$top"/include/*.h "$top/tools/c_library.sh" -newer "$written" -print -quit)" ]
 }
 
-# build_c: compiles what is written in C, so that it can be part of a shared library too. The archive comes to its place
-# whole, since others may build it at the same time.
+# build_c: compiles what is written in C, so that it can be part of a shared library too. A malloc that is cleared is not
+# to become a calloc: the allocator is malloc, realloc and free. The archive comes to its place whole, since others may
+# build it at the same time.
 build_c() {
   local work source status=0
   work=$(mktemp -d) || return
   for source in "$top"/c/*.c; do
     # shellcheck disable=SC2086 # CC may have words behind the name.
-    ${CC:-cc} -std=c99 -D_POSIX_C_SOURCE=200809L -pthread -O2 -fPIC -Wall -Wextra -I"$built/include" -c \
+    ${CC:-cc} -std=c99 -D_POSIX_C_SOURCE=200809L -pthread -O2 -fPIC -fno-builtin-malloc -Wall -Wextra -I"$built/include" -c \
       -o "$work/$(basename "$source" .c).o" "$source" || status=1
   done
   [ "$status" -eq 0 ] && (cd "$work" && ${AR:-ar} rcsD archive.a ./*.o) && mkdir -p "${written%/*}" &&

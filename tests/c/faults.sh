@@ -64,7 +64,7 @@ free-does-not-ask	s/  if (!is_ended) return bs_call_only(BS_IN_USE);//
 free-keeps-the-pointer	s/^  \*table = NULL;$//
 make-does-not-look	s/  if (\*table != NULL) return bs_call_only(BS_IN_USE);//
 hold-is-nobodys	s/  __atomic_store_n(&table->holder, pthread_self(), __ATOMIC_RELAXED);//
-hold-is-anybodys	s/  return holder != 0 && pthread_equal(holder, pthread_self());/  return holder != 0;/
+hold-is-anybodys	s/  return holder != 0 && table_is_mine(holder);/  return holder != 0;/
 let-go-holds-on	s/  __atomic_store_n(&table->holder, 0, __ATOMIC_RELAXED);//
 begin-passes-the-line	s/table->first != NULL ? table_no_slot() : bs_begin(m);/bs_begin(m);/
 last-comes-first	s/    table_turn \*next = table->first;/    table_turn *next = table->last;/

@@ -52,6 +52,10 @@ for name in $(sed -n 's/^static inline [a-z_]* bs_\([a-z_]*\)(const bs_manager \
 done
 "$top/tools/names.sh" || exit 1
 
+# The library takes memory by malloc and realloc, gives it back by free, and shows its own names alone.
+! nm -u "${libraries[@]:0:2}" | grep -qw -e calloc -e aligned_alloc -e posix_memalign || fails "it has another allocator"
+! nm -g --defined-only "${libraries[0]}" | awk 'NF == 3 && $3 !~ /^bs_/' | grep -q . || fails "it shows other names"
+
 # lends CALL: whether a program compiles that makes this call with what a table lends.
 lends() {
   # shellcheck disable=SC2086 # CC may have words behind the name.
