@@ -810,9 +810,9 @@ static inline bs_reply bs_counters(const bs_manager *manager, bs_counts *counts)
  * BS_OTHER_VERSION, BS_OTHER_SLOTS. Costs a step for each transaction, and two passes over each queue. */
 static inline bs_reply bs_read_board(const bs_manager *manager, bs_board *board) {
   bs_status misfit = bs_call_misfit();
-  if (board == NULL) return bs_call_null();
-  if (!bs_call_can_ask(manager)) return bs_call_unasked(manager);
-  return misfit == BS_DONE ? bs_call_board(manager, board) : bs_call_only(misfit);
+  if (manager == NULL || board == NULL) return bs_call_null();
+  if (misfit != BS_DONE) return bs_call_only(misfit);
+  return bs_call_can_ask(manager) ? bs_call_board(manager, board) : bs_call_unasked(manager);
 }
 
 /* The slots on a cycle of waits with this slot, which are those that it reaches by waits and that reach it;

@@ -25,7 +25,7 @@ int main(void) {
   WANT(bs_make(&m, NULL).status == REFUSED && bs_make(NULL, NULL).status == BS_NULL_POINTER);
   WANT(bs_table_make(&table, NULL).status == REFUSED && table == NULL);
   WANT(bs_end(&m).status == BS_NO_MANAGER && bs_table_end(table).status == BS_NULL_POINTER);
-  WANT(bs_table_watch(NULL, &watcher).status == BS_NULL_POINTER && bs_read_board(&m, &board).status == BS_NO_MANAGER);
+  WANT(bs_table_watch(NULL, &watcher).status == BS_NULL_POINTER && bs_read_board(&m, &board).status == REFUSED);
   WANT(bs_watch(&m, &watcher).status == REFUSED && bs_look(&watcher, &board).status == REFUSED);
   WANT(found.status == REFUSED && !bs_has(found.slots, 0));
   WANT(bs_on_cycle(&board, 0).status == REFUSED && bs_on_cycle(NULL, 0).status == BS_NULL_POINTER);
