@@ -25,9 +25,8 @@
  * status, BS_TIMED_OUT; and BS_NOT_MADE of a command in a list that was not made. What stands there of refusals,
  * memory and costs holds here too. A call is one hold of the latch, with nobody's steps between its own. Where it
  * sleeps, others use the table meanwhile. A null table is refused with BS_NULL_POINTER, and one that was ended with
- * BS_NO_MANAGER. While a thread holds the table by bs_table_hold, each other call of it but bs_table_let_go is refused
- * with BS_IN_USE. A call with `told` fills it where it is not null; those who sleep are woken, whether it is null or
- * not.
+ * BS_NO_MANAGER. Of a thread that holds the table by bs_table_hold each call but bs_table_let_go is refused with
+ * BS_IN_USE. A call with `told` fills it where it is not null; those who sleep are woken, whether it is null or not.
  *
  * HOW LONG A SLEEP IS. A call that may sleep takes `until`, a time by CLOCK_MONOTONIC up to which it sleeps at most;
  * bs_after gives one. Where it is null it sleeps until the end. Where it is no time the call is refused with
