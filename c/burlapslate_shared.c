@@ -41,10 +41,10 @@ typedef struct table_deadline {
 /* A table is ending as soon as it is to wake all who sleep, and ended when its manager is gone. */
 typedef enum table_stage { TABLE_OPEN = 0, TABLE_ENDING, TABLE_ENDED } table_stage;
 
-/* All but `latch` and `holder` is read and written with the latch held. */
+/* All but the latch is read and written with it held. */
 struct bs_table {
   pthread_mutex_t latch;
-  pthread_t holder;               /* who holds the table by bs_table_hold; 0: nobody */
+  bs_table *held_before;          /* of one that is held by bs_table_hold: what its holder held before */
   table_stage stage;
   bs_manager manager;
   bs_notices told;                /* by the last command whose caller wanted no list */
@@ -71,15 +71,18 @@ struct bs_table {
  * The latch and the wake-ups.
  */
 
-static TABLE_APART bool table_is_mine(pthread_t holder) {
-  return pthread_equal(holder, pthread_self());
+/* What this thread holds by bs_table_hold, the last table first. */
+static __thread __attribute__((tls_model("initial-exec"))) bs_table *table_held;
+
+static TABLE_APART bool table_is_held(const bs_table *table) {
+  const bs_table *each = table_held;
+  while (each != NULL && each != table) each = each->held_before;
+  return each != NULL;
 }
 
-/* Whether this thread holds the table by bs_table_hold. Nobody but a thread itself writes its name there, so what
- * another thread writes meanwhile makes no difference. */
-static inline bool table_holds(bs_table *table) {
-  pthread_t holder = __atomic_load_n(&table->holder, __ATOMIC_RELAXED);
-  return holder != 0 && table_is_mine(holder);
+/* Whether this thread holds the table. */
+static inline bool table_holds(const bs_table *table) {
+  return table_held != NULL && table_is_held(table);
 }
 
 static TABLE_APART bool table_turned_away(bs_table *table) {
@@ -803,14 +806,17 @@ size_t bs_table_run(bs_table *table, bs_command *commands, size_t count) {
 
 const bs_manager *bs_table_hold(bs_table *table) {
   if (!table_enter(table)) return NULL;
-  __atomic_store_n(&table->holder, pthread_self(), __ATOMIC_RELAXED);
+  table->held_before = table_held;
+  table_held = table;
   return &table->manager;
 }
 
 bs_reply bs_table_let_go(bs_table *table) {
+  bs_table **at = &table_held;
   if (table == NULL) return bs_call_null();
   if (!table_holds(table)) return bs_call_only(BS_NOT_HELD);
-  __atomic_store_n(&table->holder, 0, __ATOMIC_RELAXED);
+  while (*at != table) at = &(*at)->held_before;
+  *at = table->held_before;
   table_hand_on(table);
   return table_leave(table, bs_call_only(BS_DONE));
 }

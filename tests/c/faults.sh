@@ -63,9 +63,10 @@ last-sleeper-says-nothing	s/  if (table->stage == TABLE_ENDING && table->sleeper
 free-does-not-ask	s/  if (!is_ended) return bs_call_only(BS_IN_USE);//
 free-keeps-the-pointer	s/^  \*table = NULL;$//
 make-does-not-look	s/  if (\*table != NULL) return bs_call_only(BS_IN_USE);//
-hold-is-nobodys	s/  __atomic_store_n(&table->holder, pthread_self(), __ATOMIC_RELAXED);//
-hold-is-anybodys	s/  return holder != 0 && table_is_mine(holder);/  return holder != 0;/
-let-go-holds-on	s/  __atomic_store_n(&table->holder, 0, __ATOMIC_RELAXED);//
+hold-is-nobodys	s/^  table_held = table;//
+hold-is-anybodys	s/^static __thread [^ ]* bs_table/static bs_table/
+hold-forgets-the-one-before	s/^  table->held_before = table_held;/  table->held_before = NULL;/
+let-go-holds-on	s/^  \*at = table->held_before;//
 begin-passes-the-line	s/table->first != NULL ? table_no_slot() : bs_begin(m);/bs_begin(m);/
 last-comes-first	s/    table_turn \*next = table->first;/    table_turn *next = table->last;/
 call-keeps-the-slot	s/  table_hand_on(table);  *\\$/ \\/

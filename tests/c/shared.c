@@ -2560,6 +2560,25 @@ static void places_without_a_table(void) {
   WANT(table == NULL);
 }
 
+/* A thread may hold several tables, and gives them back in any order. */
+static void two_tables_are_lent(void) {
+  bs_table *other = NULL;
+  set_up(BS_AT_BLOCK);
+  DONE(bs_table_make(&other, NULL));
+  WANT(bs_table_hold(table) != NULL && bs_table_hold(other) != NULL);
+  ANSWERS(BS_IN_USE, bs_table_begin(table));
+  ANSWERS(BS_IN_USE, bs_table_begin(other));
+  DONE(bs_table_let_go(table));
+  DONE(bs_table_begin(table));
+  ANSWERS(BS_IN_USE, bs_table_begin(other));
+  ANSWERS(BS_NOT_HELD, bs_table_let_go(table));
+  DONE(bs_table_let_go(other));
+  DONE(bs_table_begin(other));
+  DONE(bs_table_end(other));
+  DONE(bs_table_free(&other));
+  close_table();
+}
+
 /* Another thread does not hold what this one holds: it waits for the latch, and cannot give it back. */
 static void *let_go_of_it(void *arg) {
   (void)arg;
@@ -2775,6 +2794,7 @@ int main(int count, char **words) {
   TELL(a_table_by_options);
   TELL(places_without_a_table);
   TELL(a_table_is_lent);
+  TELL(two_tables_are_lent);
   TELL(refused_tables);
   TELL(refused_growths);
   TELL(refused_turns);
