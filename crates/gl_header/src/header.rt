@@ -205,7 +205,7 @@ impl Header {
         }
     }
 
-    /// As `ask`.
+    /// As `ask`, with its one refusal in the shape that takes no room in the answer.
     pub(crate) fn enter_or_wait(&mut self, slot: Slot, mode: Mode) -> Result<Asked, AllocError>
         requires below { slot < most_slots }
         requires not_waiting { is_among_waiters slot self.old.queue ≡ false }
@@ -223,7 +223,7 @@ impl Header {
             self.granted.hold(slot, wanted);
             return Ok(Asked::Granted(wanted));
         }
-        enqueue(&self.granted, &mut self.queue, slot, wanted)?;
+        enqueue(&self.granted, &mut self.queue, slot, held, wanted)?;
         Ok(Asked::Waiting)
     }
 
@@ -263,6 +263,7 @@ impl Header {
     /// with those whom it granted, in the queue's order.
     ///
     /// The cost is that of the waiters who are granted, and of moving up the others where any is.
+    #[inline(never)]
     pub fn drop_grant(&mut self, slot: Slot, granted: &mut GrantList)
         requires holds { holds (members_of self.old) slot ≡ true }
         requires not_waiting { is_among_waiters slot self.old.queue ≡ false }
