@@ -71,7 +71,8 @@ converts : (c : After-count_lock) → c.ne.result ≡ holds_already (state_of c.
 converts c =
     let is : c.ne.result ≡ not (same_mode c.in_ok-held.held NL) = search rules in
     is ∙ ap (λ m. not (same_mode m NL)) c.in_ok-held.ensures.before
-    ∙ sym (lock_converts (table_state c.self.inside.table) c.args.t c.args.n c.args.mode (c.in_ok-held.held, c.in_ok-held.locked) c.in_ok-held.ensures.refuses.refuses)
+    ∙ sym (lock_converts (table_state c.self.inside.table) c.args.t c.args.n c.args.mode (c.in_ok-held.held, c.in_ok-held.locked)
+    c.in_ok-held.ensures.refuses.refuses)
     ∙ ap (λ (v : ManagerView). holds_already (state_of v) c.args.t c.args.n) c.self.view_is
 
 pub returns-clause-step : goal.returns-clause-step
