@@ -34,10 +34,13 @@ may : (c : In_ok-check_rekey) → MayReparent (state_of (view_of c.self.inside))
 may c = may_reparent (state_of (view_of c.self.inside)) c.args.t c.args.rec c.args.index c.args.key (asked c)
 
 pub reparent_telling-requires-clause-acting : goal.reparent_telling-requires-clause-acting
-reparent_telling-requires-clause-acting c = (may (goal.at.reparent_telling-requires-clause-acting c).In_ok-check_rekey).acting
+reparent_telling-requires-clause-acting c =
+    let m = (may (goal.at.reparent_telling-requires-clause-acting c).In_ok-check_rekey).acting in record { lives = m.lives; active = m.active }
 
 pub reparent_telling-requires-clause-allowed : goal.reparent_telling-requires-clause-allowed
-reparent_telling-requires-clause-allowed c = (may (goal.at.reparent_telling-requires-clause-allowed c).In_ok-check_rekey).allowed
+reparent_telling-requires-clause-allowed c =
+    let m = (may (goal.at.reparent_telling-requires-clause-allowed c).In_ok-check_rekey).allowed in
+    record { «record» = m.«record»; index = m.index; exclusive = m.exclusive; parents = m.parents }
 
 pub returns-clause-step : goal.returns-clause-step
 returns-clause-step c =

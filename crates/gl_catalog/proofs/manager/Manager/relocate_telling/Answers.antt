@@ -32,10 +32,13 @@ may : (c : In_ok-check_relocate) → MayRegraft (state_of (view_of c.self.inside
 may c = may_regraft (state_of (view_of c.self.inside)) c.args.t c.args.n c.args.parents (asked c)
 
 pub regraft_telling-requires-clause-acting : goal.regraft_telling-requires-clause-acting
-regraft_telling-requires-clause-acting c = (may (goal.at.regraft_telling-requires-clause-acting c).In_ok-check_relocate).acting
+regraft_telling-requires-clause-acting c =
+    let m = (may (goal.at.regraft_telling-requires-clause-acting c).In_ok-check_relocate).acting in record { lives = m.lives; active = m.active }
 
 pub regraft_telling-requires-clause-allowed : goal.regraft_telling-requires-clause-allowed
-regraft_telling-requires-clause-allowed c = (may (goal.at.regraft_telling-requires-clause-allowed c).In_ok-check_relocate).allowed
+regraft_telling-requires-clause-allowed c =
+    let m = (may (goal.at.regraft_telling-requires-clause-allowed c).In_ok-check_relocate).allowed in
+    record { movable = m.movable; inner = m.inner; exclusive = m.exclusive; rule = m.rule }
 
 pub returns-in_err-regraft_telling-clause-step : goal.returns-in_err-regraft_telling-clause-step
 returns-in_err-regraft_telling-clause-step c =
