@@ -5,7 +5,7 @@ ghost use Rattle.std.specs.Prelude.{◌≡◌, ◌≢◌, ◌<◌, ◌==◌, ◌
 ghost use Rattle.gl_modes.specs.declared.mode.Mode.TheVariants.{NL};
 ghost use Rattle.gl_modes.specs.Modes.{are_compatible};
 ghost use Rattle.gl_slots.specs.Slots.{has_slot};
-ghost use Rattle.gl_header.specs.Answers.{asked, asked_members, asked_queue, tried};
+ghost use Rattle.gl_header.specs.Answers.{MayAsk, asked, asked_members, asked_queue, tried};
 ghost use Rattle.gl_header.specs.Groups.{mode_of_all, nobody};
 ghost use Rattle.gl_header.specs.Header.{
   enters,
@@ -188,9 +188,7 @@ impl Header {
     ///
     /// The only refusal is `NoMemory`; who is granted at once never meets it.
     pub fn ask(&mut self, slot: Slot, mode: Mode) -> Result<Asked, Refusal>
-        requires below { slot < most_slots }
-        requires not_waiting { is_among_waiters slot self.old.queue ≡ false }
-        requires lock { mode ≢ Mode.NL }
+        requires may { MayAsk self.old.queue slot mode }
         ensures answer { IfOk result (λ answer. answer ≡ asked self.old slot mode) }
         ensures members { OnOk result (members_of self.new ≡ asked_members self.old slot mode) }
         ensures queue { OnOk result (self.new.queue ≡ asked_queue self.old slot mode) }
@@ -207,9 +205,7 @@ impl Header {
 
     /// As `ask`, with its one refusal in the shape that takes no room in the answer.
     pub(crate) fn enter_or_wait(&mut self, slot: Slot, mode: Mode) -> Result<Asked, AllocError>
-        requires below { slot < most_slots }
-        requires not_waiting { is_among_waiters slot self.old.queue ≡ false }
-        requires lock { mode ≢ Mode.NL }
+        requires may { MayAsk self.old.queue slot mode }
         ensures answer { IfOk result (λ answer. answer ≡ asked self.old slot mode) }
         ensures members { OnOk result (members_of self.new ≡ asked_members self.old slot mode) }
         ensures queue { OnOk result (self.new.queue ≡ asked_queue self.old slot mode) }
@@ -241,9 +237,7 @@ impl Header {
 
     /// Asks for a mode that is granted at once, or not at all. It takes no memory.
     pub fn try_ask(&mut self, slot: Slot, mode: Mode) -> Try
-        requires below { slot < most_slots }
-        requires not_waiting { is_among_waiters slot self.old.queue ≡ false }
-        requires lock { mode ≢ Mode.NL }
+        requires may { MayAsk self.old.queue slot mode }
         ensures answer { result ≡ tried self.old slot mode }
         ensures members { members_of self.new ≡ asked_members self.old slot mode }
         ensures queue { self.new.queue ≡ self.old.queue }
