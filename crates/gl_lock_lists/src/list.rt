@@ -79,7 +79,8 @@ fn count_loose_up(loose: &mut IndexMap<NodeId, u32>, n: NodeId)
 }
 
 impl LockList {
-    ghost use Rattle.gl_lock_lists.specs.Lists.{AreMarkedLast, IsTakenOut, NoneMarkedFrom, covered_in, HasRoom, count_of, entry_of, is_listed, mode_of, unlisted};
+    ghost use Rattle.gl_lock_lists.specs.Lists.{AreMarkedLast, HasRoom, IsTakenOut, NoneMarkedFrom};
+    ghost use Rattle.gl_lock_lists.specs.Lists.{covered_in, count_of, entry_of, is_listed, mode_of, unlisted};
 
     /// A list of no nodes. It takes no memory.
     pub fn new(alloc: Global) -> Self

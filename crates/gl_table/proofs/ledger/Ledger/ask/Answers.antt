@@ -220,7 +220,8 @@ put c m held = let g = c.args.graph.now in let l = c.make_room_to_ask.new.self i
     (blocks c m) c.in-Ok.ensures.room in
     is_enqueued g c.args.self.now l (record c.if-not-is_member.self { seats = c.set_status.new.self }) t n c.args.mode c.sup-wanted.result _ r
     c.ask.new.self.entries c.if-not-is_member.self.seats.items
-    (ap (λ h. h.entries) (same_headers c)) c.in_ok-asked.ensures.asked.waits (ap (λ x. x.items) (same_seats c)) c.set_status.ensures.len c.set_status.ensures.txns
+    (ap (λ h. h.entries) (same_headers c)) c.in_ok-asked.ensures.asked.waits (ap (λ x. x.items) (same_seats c)) c.set_status.ensures.len
+    c.set_status.ensures.txns
     (c.sup-wanted.ensures ∙ ap (λ k. supremum k c.args.mode) (c.requires.can.held_is ∙ (m.exact.agree t).modes n
     ∙ ap (λ s. s.held t n) (sym (roomy_same l m c.make_room_to_ask.ensures.rest c.make_room_to_ask.ensures.kept))))
     (listed c r.may r.is_held (says_is g c.args.self.now t n c.args.mode m ∙ blocks c m))
