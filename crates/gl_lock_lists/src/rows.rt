@@ -59,7 +59,7 @@ fn stands_at<V: Copy>(map: &IndexMap<NodeId, V>, place: usize, node: NodeId) -> 
 }
 
 /// Where the row of a node stands in a map: where one was found last, or else by its hash.
-#[inline]
+#[inline(never)]
 pub(crate) fn place_in<V: Copy>(
     map: &IndexMap<NodeId, V>,
     recent: Recent,
@@ -73,17 +73,8 @@ pub(crate) fn place_in<V: Copy>(
     } else if stands_at(map, recent.last, node) {
         Some(recent.last)
     } else {
-        place_by_hash(map, node)
+        map.get_index_of(&node)
     }
-}
-
-/// Where the row of a node stands in a map, by its hash.
-#[inline(never)]
-fn place_by_hash<V: Copy>(map: &IndexMap<NodeId, V>, node: NodeId) -> Option<usize>
-    ensures place { result ≡ index_of same_node map.now node }
-    ensures unique { IsUnique same_node map.now }
-{
-    map.get_index_of(&node)
 }
 
 /// Puts a value into a map that has room, last where its node is new.
