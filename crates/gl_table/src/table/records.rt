@@ -54,7 +54,7 @@ impl Table {
         parents: &[NodeId],
     ) -> Result<NodeId, Refusal>
         requires acting { IsActing (state_of self.old) t }
-        requires fits { CanTakeRecord (state_of self.old).graph file keys.now parents.now }
+        requires free { CanTakeRecord (state_of self.old).graph file keys.now parents.now }
         requires writable { first_not_ix ((state_of self.old).held t.slot) parents.now ≡ None }
         ensures made { IfOk result (λ n. IsBorn (state_of self.old).graph (state_of self.new).graph n (Rec keys.now)
             (record_parents (state_of self.old).graph file keys.now)) }
@@ -112,7 +112,7 @@ impl Table {
         mode: Mode,
     ) -> Result<NodeId, Refusal>
         requires acting { IsActing (state_of self.old) t }
-        requires fits { CanTakeRecord (state_of self.old).graph file keys.now parents.now }
+        requires free { CanTakeRecord (state_of self.old).graph file keys.now parents.now }
         requires fit { (same_mode mode S || same_mode mode X) ≡ true }
         requires rule { rule_refusal ((state_of self.old).held t.slot) parents.now mode ≡ None }
         ensures made { IfOk result (λ n. IsAdopted (state_of self.old).graph (state_of self.new).graph n file keys.now) }

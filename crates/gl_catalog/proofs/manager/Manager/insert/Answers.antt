@@ -45,9 +45,9 @@ parents_are c = c.in_ok-parents.ensures.parents ∙ ap (λ (v : ManagerView). re
 pub place_under-requires-clause-acting : goal.place_under-requires-clause-acting
 place_under-requires-clause-acting c = (may (goal.at.place_under-requires-clause-acting c).In_ok-parents).acting
 
-pub place_under-requires-clause-fits : goal.place_under-requires-clause-fits
-place_under-requires-clause-fits c =
-    let at = (goal.at.place_under-requires-clause-fits c).In_ok-parents in
+pub place_under-requires-clause-free : goal.place_under-requires-clause-free
+place_under-requires-clause-free c =
+    let at = (goal.at.place_under-requires-clause-free c).In_ok-parents in
     record { free = (may at).free; parents = c.as_slice.ensures.value ∙ parents_are at }
 
 pub place_under-requires-clause-writable : goal.place_under-requires-clause-writable
