@@ -1,5 +1,5 @@
 -- A new record: what its tests say, one after the other.
-use Rattle.std.specs.Prelude.{◌≡◌, ℕ, ◌==◌, true, false, not, List, [], ◌∷◌, ◌++◌, length, Option, Some, None, Ok, Err}
+use Rattle.std.specs.Prelude.{◌≡◌, ℕ, ◌==◌, false, not, List, [], ◌∷◌, ◌++◌, length, Option, Some, None, Ok, Err}
 use Rattle.std.proofs.Common.{refl, sym, ap, ◌∙◌}
 use Rattle.gl_modes.proofs.Words.{no as never}
 use Rattle.gl_modes.specs.declared.node.NodeId.{NodeId}
@@ -10,10 +10,9 @@ use Rattle.gl_graph.specs.Refusals.{births_worn, first_refusal, record_refusal, 
 use Rattle.gl_graph.specs.Shapes.{is_file_shape}
 use Rattle.gl_graph.proofs.FirstOf.{refused_first}
 use Rattle.gl_graph.proofs.Unrefused.{not_refused}
-use Rattle.gl_model.specs.declared.txn.Status.TheVariants.{Active}
 use Rattle.gl_model.specs.declared.txn.TxnId.{TxnId}
-use Rattle.gl_model.specs.Calls.{RefusesOnly, commit_tests, condemned_test, first_not_ix, no_txn, waiting_test}
-use Rattle.gl_model.specs.State.{State, lives, status_of}
+use Rattle.gl_model.specs.Calls.{IsActing, RefusesOnly, commit_tests, condemned_test, first_not_ix, no_txn, waiting_test}
+use Rattle.gl_model.specs.State.{State, status_of}
 use Rattle.gl_table.proofs.calls.Locking.{test_refused}
 use Rattle.gl_steps.specs.Tests.{insert_tests, record_asks}
 use Rattle.gl_steps.proofs.NotRefused.{active_is, txn_lives}
@@ -39,8 +38,7 @@ module _ (s : State) (t : TxnId) (f : NodeId) (keys : List ℕ) where
 
 -- who may insert the record, where there is memory
 pub record MayInsert (s : State) (t : TxnId) (f : NodeId) (keys : List ℕ) : Type 0 where
-  pub txn : lives s t ≡ true
-  pub active : status_of s t.slot ≡ Some Active
+  pub acting : IsActing s t
   pub free : record_refusal s.graph f keys ≡ None
   pub writable : first_not_ix (s.held t.slot) (record_parents s.graph f keys) ≡ None
 
@@ -56,8 +54,7 @@ may_insert s t f keys h =
     let rule = not_refused (first_not_ix (s.held t.slot) (record_parents s.graph f keys)) _ each.1 in
     let room = not_refused (too_many_nodes s.graph 1) [] rule.1 in
     record {
-      txn = txn_lives s t names.0;
-      active = active_is s t names.0 goes.0 stands.0;
+      acting = record { lives = txn_lives s t names.0; active = active_is s t names.0 goes.0 stands.0 };
       free = λ i. first_refusal (births.0 i ∷ node.0 i ∷ file.0 i ∷ each.0 i ∷ room.0 i ∷ []);
       writable = rule.0;
     }

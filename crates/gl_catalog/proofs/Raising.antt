@@ -18,7 +18,7 @@ use Rattle.gl_graph.proofs.Unrefused.{not_false, not_refused, test_fails}
 use Rattle.gl_header.specs.Header.{fits, holds, is_empty}
 use Rattle.gl_model.specs.declared.txn.Status.TheVariants.{Active}
 use Rattle.gl_model.specs.declared.txn.TxnId.{TxnId}
-use Rattle.gl_model.specs.Calls.{asked_by_escalation, granted, raised, shed, wanted, covered_children, held_children}
+use Rattle.gl_model.specs.Calls.{IsActing, asked_by_escalation, granted, raised, shed, wanted, covered_children, held_children}
 use Rattle.gl_model.specs.State.{is_write, State, lives, members, status_of, counting}
 use Rattle.gl_model.specs.Lawful.{IsLawful}
 use Rattle.gl_model.specs.Calls.{active_on, bad_mode, escalation_blocks, first_not_ix, first_of_all, need_parents, no_txn, not_held, try_tests, would_block}
@@ -131,11 +131,12 @@ module _ (k : ℕ) (s : State) (t : TxnId) (n : NodeId) (passed : first_refusal 
       (both _ _ (number_same t.slot t.slot refl) (same_node-refl n))
 
   -- so the children may be shed
-  pub raised_lives : lives s' t ≡ true
-  raised_lives = ap (λ x. lives x t) up ∙ alive (counting k s) t n passed
-
-  pub raised_active : status_of s' t.slot ≡ Some Active
-  raised_active = ap (λ x. status_of x t.slot) up ∙ is_active (counting k s) t n passed
+  pub raised_acting : IsActing s' t
+  raised_acting =
+      record {
+        lives = ap (λ x. lives x t) up ∙ alive (counting k s) t n passed;
+        active = ap (λ x. status_of x t.slot) up ∙ is_active (counting k s) t n passed;
+      }
 
   pub reads : is_at_least (s'.held t.slot n) S ≡ true
   reads = ap (λ x. is_at_least (x.held t.slot n) S) up ∙ ap (λ a. is_at_least a S) held_raised

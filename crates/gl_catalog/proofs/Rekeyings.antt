@@ -1,5 +1,5 @@
 -- A record is given another key for one index: the parents that it then has, place by place, what its tests say, and what comes of it.
-use Rattle.std.specs.Prelude.{◌≡◌, ℕ, zero, suc, ◌+◌, ◌<◌, Bool, true, false, not, ◌&&◌, List, [], ◌∷◌, ◌++◌, length, Some, None, Ok, if◌then◌else◌}
+use Rattle.std.specs.Prelude.{◌≡◌, ℕ, zero, suc, ◌+◌, ◌<◌, Bool, true, false, not, ◌&&◌, List, [], ◌∷◌, ◌++◌, length, Ok, if◌then◌else◌}
 use Rattle.std.specs.Prelude.{get_or, take}
 use Rattle.std.proofs.Common.{refl, sym, ap, ap₂, ◌∙◌, arith}
 use Rattle.std.proofs.lemmas.List.{take_more}
@@ -15,10 +15,9 @@ use Rattle.gl_graph.specs.Refusals.{some_no_node, verdict, where_true}
 use Rattle.gl_graph.proofs.RecordParents.{its_keys, its_parents}
 use Rattle.gl_graph.proofs.Rekey.{count_intervals_of}
 use Rattle.gl_graph.proofs.Unrefused.{not_false, not_refused, test_fails, verdict_ok}
-use Rattle.gl_model.specs.declared.txn.Status.TheVariants.{Active}
 use Rattle.gl_model.specs.declared.txn.TxnId.{TxnId}
-use Rattle.gl_model.specs.Calls.{moved_to, condemned_test, need_exclusive, need_new_parents, no_txn, waiting_test}
-use Rattle.gl_model.specs.State.{State, lives, status_of, counting}
+use Rattle.gl_model.specs.Calls.{CanRekey, IsActing, moved_to, condemned_test, need_exclusive, need_new_parents, no_txn, waiting_test}
+use Rattle.gl_model.specs.State.{State, status_of, counting}
 use Rattle.gl_model.specs.Tellings.{told}
 use Rattle.gl_steps.specs.declared.command.Command.TheVariants as command
 use Rattle.gl_catalog.specs.Replies.{CallSteps, Notices, done}
@@ -97,12 +96,8 @@ module _ (g : Graph) where
 
 -- who may give the record this key
 pub record MayReparent (s : State) (t : TxnId) (r index : NodeId) (key : ℕ) : Type 0 where
-  pub txn : lives s t ≡ true
-  pub active : status_of s t.slot ≡ Some Active
-  pub rec : is_record_shape (shape_of s.graph r) ≡ true
-  pub keyed : is_index_of_shape (first_parent s.graph r) (shape_of s.graph index) ≡ true
-  pub exclusive : need_exclusive s t.slot r true (rekeyed_parents s.graph r index key) ≡ None
-  pub rule : need_new_parents s t.slot r (rekeyed_parents s.graph r index key) ≡ None
+  pub acting : IsActing s t
+  pub allowed : CanRekey s t.slot r index key
 
 pub may_reparent : (s : State) (t : TxnId) (r index : NodeId) (key : ℕ) → Ok tt ≡ verdict (refusal_of s (command.Rekey t r index key))
     → MayReparent s t r index key
@@ -119,12 +114,8 @@ may_reparent s t r index key asks =
     let kinds = and_both (is_record_shape (shape_of s.graph r)) (is_index_of_shape (first_parent s.graph r) (shape_of s.graph index))
     (not_false _ (test_fails _ _ t6.0)) in
     record {
-      txn = txn_lives s t t2.0;
-      active = active_is s t t2.0 t3.0 t4.0;
-      rec = kinds.0;
-      keyed = kinds.1;
-      exclusive = t7.0;
-      rule = t8.0;
+      acting = record { lives = txn_lives s t t2.0; active = active_is s t t2.0 t3.0 t4.0 };
+      allowed = record { «record» = kinds.0; index = kinds.1; exclusive = t7.0; parents = t8.0 };
     }
 
 -- the record has its new key

@@ -7,15 +7,13 @@ use Rattle.gl_modes.specs.declared.refusal.Refusal.{Refusal}
 use Rattle.gl_modes.specs.declared.refusal.Refusal.TheVariants as no
 use Rattle.gl_graph.specs.Changes.{with_parents}
 use Rattle.gl_graph.specs.Graph.{Graph, parents_of, node_count, shape_of}
-use Rattle.gl_graph.specs.Lawful.{AreInnerParents}
 use Rattle.gl_graph.specs.Refusals.{bad_parents, first_cycle, first_refusal, some_no_node, verdict, where_true}
 use Rattle.gl_graph.specs.Routes.{is_at_or_below}
 use Rattle.gl_graph.specs.Shapes.{is_movable_shape, least_parents}
 use Rattle.gl_graph.proofs.Unrefused.{inner_parents, not_false, not_refused, or_no, test_fails, verdict_ok}
-use Rattle.gl_model.specs.declared.txn.Status.TheVariants.{Active}
 use Rattle.gl_model.specs.declared.txn.TxnId.{TxnId}
-use Rattle.gl_model.specs.Calls.{moved_to, condemned_test, need_exclusive, need_new_parents, no_txn, some_given, waiting_test}
-use Rattle.gl_model.specs.State.{State, lives, status_of, counting}
+use Rattle.gl_model.specs.Calls.{CanMove, IsActing, moved_to, condemned_test, need_exclusive, need_new_parents, no_txn, some_given, waiting_test}
+use Rattle.gl_model.specs.State.{State, status_of, counting}
 use Rattle.gl_model.specs.Tellings.{told}
 use Rattle.gl_table.proofs.calls.Locking.{test_refused}
 use Rattle.gl_steps.specs.declared.command.Command.TheVariants as command
@@ -27,12 +25,8 @@ use Rattle.gl_steps.proofs.NotRefused.{active_is, txn_lives}
 
 -- who may give the node these parents, but for a path that would close
 pub record MayRegraft (s : State) (t : TxnId) (n : NodeId) (ps : List NodeId) : Type 0 where
-  pub txn : lives s t ≡ true
-  pub active : status_of s t.slot ≡ Some Active
-  pub movable : is_movable_shape (shape_of s.graph n) ≡ true
-  pub inner : AreInnerParents s.graph (least_parents (shape_of s.graph n)) ps
-  pub exclusive : need_exclusive s t.slot n (some_given (parents_of s.graph n) && some_given ps) ps ≡ None
-  pub rule : need_new_parents s t.slot n ps ≡ None
+  pub acting : IsActing s t
+  pub allowed : CanMove s t.slot n ps
 
 -- what refuses for a path that would close, refuses with a cycle
 cycle_at_most : (g : Graph) (n : NodeId) (ps : List NodeId) → (is_none (first_cycle g n ps) || is_cycle (first_cycle g n ps)) ≡ true
@@ -65,12 +59,13 @@ module _ (s : State) (t : TxnId) (n : NodeId) (ps : Bor (List NodeId)) where
         let kinds = or_no (not (is_movable_shape (shape_of s.graph n))) (bad_parents s.graph (least_parents (shape_of s.graph n)) ps.now)
         (test_fails _ _ t6.0) in
         record {
-          txn = txn_lives s t t2.0;
-          active = active_is s t t2.0 t3.0 t4.0;
-          movable = not_false _ kinds.0;
-          inner = inner_parents s.graph (least_parents (shape_of s.graph n)) ps.now kinds.1;
-          exclusive = t7.0;
-          rule = t8.0;
+          acting = record { lives = txn_lives s t t2.0; active = active_is s t t2.0 t3.0 t4.0 };
+          allowed = record {
+            movable = not_false _ kinds.0;
+            inner = inner_parents s.graph (least_parents (shape_of s.graph n)) ps.now kinds.1;
+            exclusive = t7.0;
+            rule = t8.0;
+          };
         }
 
     -- only a path that would close is left to refuse

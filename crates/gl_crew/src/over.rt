@@ -93,8 +93,7 @@ fn run_crew<N: Naming + Send + Sync, W: Work + Sync, R: Threads + Wait + Sync>(
     detect: Detect,
     parts: Parts,
 ) -> Result<Ended, Refusal>
-    requires name { parts.blank.name ≡ N.name }
-    requires parts { parts.blank.parts ≡ N.parts }
+    requires blank { (parts.blank.name ≡ N.name) × (parts.blank.parts ≡ N.parts) }
     requires shares { parts.shares ≡ N.shares }
     requires opening { (parts.manager.accepted ≡ N.opening) × (parts.manager.table.detect ≡ N.detect) }
     requires book { (parts.line.book ≡ N.book) × (board_of (state_of parts.manager) ≡ N.first) }

@@ -2,7 +2,7 @@
 use Rattle.std.proofs.Common.{◌≡◌, ◌≢◌, ℕ, ◌<◌, Bool, true, false, cond, List, [], ◌∙◌, length, refl, sym, subst, ap, ⊎_elim}
 use Rattle.std.proofs.Math.Path.{fun_ext}
 use Rattle.std.proofs.lemmas.Bool.{cases_lt}
-use Rattle.std.proofs.lemmas.List.{get_or_default, get_or_past, set-get_or}
+use Rattle.std.proofs.lemmas.List.{get_or_default, get_or_past}
 use Rattle.std.specs.Prelude.{None, Option, Some, is_some, not, slice_index_or, slice_set}
 use Rattle.gl_modes.specs.declared.mode.Mode.{Mode}
 use Rattle.gl_modes.specs.declared.mode.Mode.TheVariants.{NL}
@@ -63,10 +63,6 @@ of-is p b h is = record { birth = λ s e. sym (ap (λ (x : ℕ × HeaderState). 
 -- the place of a key within the places is what stands there
 pub at_index : (ps : List Place) (k : ℕ) (x : Place) → k < length ps → x ≡ slice_index_or ps k x → place_at ps k ≡ x
 at_index ps k x lt is = get_or_default ps k Free x lt ∙ sym is
-
--- what stood there, written once more
-pub same_again : (ps : List Place) (k : ℕ) → slice_set ps k (place_at ps k) ≡ ps
-same_again ps k = set-get_or ps k Free
 
 -- what stands in the place of a node, and in no other
 pub record IsAt (ps : List Place) (es : Entries) (n : NodeId) (p : Place) : Type 0 where

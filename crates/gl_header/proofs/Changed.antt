@@ -3,7 +3,7 @@ use Rattle.std.proofs.Common.{◌≡◌, ◌≢◌, ℕ, Bool, true, false, ◌&
 use Rattle.std.proofs.Math.Path.{fun_ext}
 use Rattle.std.proofs.lemmas.Bool.Decides.{nat_tests}
 use Rattle.std.specs.List.{filter}
-use Rattle.std.specs.Prelude.{Option, Some, Result, Ok, Err, OnOk, OnErr, if◌then◌else◌}
+use Rattle.std.specs.Prelude.{Option, Some, if◌then◌else◌}
 use Rattle.gl_modes.specs.declared.mode.Mode.{Mode}
 use Rattle.gl_modes.specs.declared.mode.Mode.TheVariants.{NL}
 use Rattle.gl_modes.specs.declared.node.NodeId.{NodeId}
@@ -88,11 +88,6 @@ asked-is h k t m w same e f = record {
   members = e ∙ ap (λ x. asked_members x t m) same;
   queue = f ∙ ap (λ x. asked_queue x t m) same;
 }
-
--- what follows from either answer
-pub by_answer : {A E C : Type 0} (P Q : Type 0) (r : Result A E) → OnOk r P → OnErr r Q → (P → C) → (Q → C) → C
-by_answer P Q (Ok x) p q f g = f p
-by_answer P Q (Err x) p q f g = g q
 
 -- the mode is the slot's now
 with_mode-here : (g : Members) (t : ℕ) (m : Mode) → with_mode g t m t ≡ m

@@ -1,12 +1,20 @@
 -- What `ask` and `try_ask` answer, and what they leave.
-use Rattle.std.specs.Prelude.{ℕ, List, if◌then◌else◌}
+use Rattle.std.specs.Prelude.{◌≡◌, ◌≢◌, ◌<◌, ℕ, List, false, if◌then◌else◌}
 use Rattle.gl_modes.specs.declared.mode.Mode.{Mode}
-use Rattle.gl_header.specs.Header.{Members, Waiter, with_mode, placed}
+use Rattle.gl_modes.specs.declared.mode.Mode.TheVariants.{NL}
+use Rattle.gl_slots.specs.Limit.{most_slots}
+use Rattle.gl_header.specs.Header.{Members, Waiter, is_among_waiters, with_mode, placed}
 use Rattle.gl_header.specs.State.{HeaderState, members_of, wanted, is_granted}
 use Rattle.gl_header.specs.declared.header.Asked.{Asked}
 use Rattle.gl_header.specs.declared.header.Asked.TheVariants.{Granted, Waiting}
 use Rattle.gl_header.specs.declared.header.Try.{Try}
 use Rattle.gl_header.specs.declared.header.Try.TheVariants.{Granted as Tried, WouldBlock}
+
+-- a slot that does not wait here may ask for a lock
+pub record MayAsk (q : List Waiter) (t : ℕ) (m : Mode) : Type 0 where
+  pub below : t < most_slots
+  pub not_waiting : is_among_waiters t q ≡ false
+  pub lock : m ≢ NL
 
 -- what `ask` answers
 abbrev pub asked : HeaderState → ℕ → Mode → Asked

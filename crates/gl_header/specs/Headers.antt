@@ -1,5 +1,5 @@
 -- The headers of all nodes: who holds what and who waits where, and how much room there is.
-use Rattle.std.specs.Prelude.{◌≡◌, ℕ, Bool, false, List, Option, Some, None, if◌then◌else◌, []}
+use Rattle.std.specs.Prelude.{◌≡◌, ℕ, Bool, false, true, List, Option, Some, None, if◌then◌else◌, []}
 use Rattle.std.specs.List.{IsDistinct}
 use Rattle.std.specs.Map.{keys_of, lookup}
 use Rattle.gl_modes.specs.declared.mode.Mode.{Mode}
@@ -7,7 +7,7 @@ use Rattle.gl_modes.specs.declared.mode.Mode.TheVariants.{NL}
 use Rattle.gl_modes.specs.declared.node.NodeId.{NodeId}
 use Rattle.gl_modes.specs.Modes.{supremum}
 use Rattle.gl_modes.specs.Nodes.{same_node}
-use Rattle.gl_header.specs.Header.{Members, Waiter, with_mode}
+use Rattle.gl_header.specs.Header.{Members, Waiter, placed, with_mode}
 use Rattle.gl_header.specs.State.{HeaderState, IsLawfulHeader, is_granted, is_unused, members_of, unused_header}
 
 -- nodes with their headers
@@ -76,6 +76,13 @@ with_members held n ms = λ u q. if same_node q n then ms u else held u q
 -- the queues with another on one node
 abbrev pub with_waiters : (NodeId → List Waiter) → NodeId → List Waiter → NodeId → List Waiter
 with_waiters queue n ws = λ q. if same_node q n then ws else queue q
+
+-- what an ask of t for m leaves of who holds what, and of who waits where
+pub record IsAskedAt (hs : Entries) (t : ℕ) (n : NodeId) (m : Mode) (hs' : Entries) : Type 0 where
+  pub granted : is_granted_at hs t n m ≡ true
+      → (held_of hs' ≡ with_members (held_of hs) n (with_mode (members_at hs n) t (wanted_at hs t n m))) × (queue_of hs' ≡ queue_of hs)
+  pub waits : is_granted_at hs t n m ≡ false
+      → (held_of hs' ≡ held_of hs) × (queue_of hs' ≡ with_waiters (queue_of hs) n (placed (members_at hs n) (queue_of hs n) t (wanted_at hs t n m)))
 
 -- the slot holds the node in this mode, nobody else holds it, and nobody waits
 pub record IsOneHolder (h : HeaderState) (t : ℕ) (m : Mode) : Type 0 where

@@ -6,9 +6,9 @@ use Rattle.std.specs.List.{All}
 use Rattle.gl_modes.specs.declared.mode.Mode.{Mode}
 use Rattle.gl_header.specs.Answers.{asked_members, asked_queue}
 use Rattle.gl_header.specs.Groups.{nobody}
-use Rattle.gl_header.specs.Header.{Members, Waiter, with_mode}
+use Rattle.gl_header.specs.Header.{Members, Waiter, pumped_members, pumped_queue, with_mode}
 use Rattle.gl_header.specs.Headers.{Entries, HeadersState}
-use Rattle.gl_header.specs.State.{HeaderState, IsLawfulHeader, held_by_one, is_unused, members_of, unused_header}
+use Rattle.gl_header.specs.State.{HeaderState, IsLawfulHeader, held_by_one, is_unused, members_of, slot_limit, unused_header}
 use Rattle.gl_header.specs.declared.places.Place.{Place}
 use Rattle.gl_header.specs.declared.places.Place.TheVariants.{Free, Held, Shared}
 use Rattle.gl_header.specs.declared.places.Shared.{Shared as SharedBox}
@@ -82,9 +82,19 @@ pub record ArePlaces (ps : List Place) : Type 0 where
 pub record IsOf (b : ℕ) (p : Place) : Type 0 where
   pub birth : (s : ℕ × HeaderState) → stands p ≡ Some s → s.0 ≡ b
 
+-- it is lawful, and has the node of this birth, or none
+pub record IsPlaceFor (b : ℕ) (p : Place) : Type 0 where
+  pub lawful : IsPlace p
+  pub own : IsOf b p
+
 -- another node does not come
 pub record KeepsBirth (p p' : Place) : Type 0 where
   pub kept : (b : ℕ) → IsOf b p → IsOf b p'
+
+-- what comes of a place is lawful, and no other node has come
+pub record IsPlaceAfter (p p' : Place) : Type 0 where
+  pub lawful : IsPlace p'
+  pub birth : KeepsBirth p p'
 
 -- nobody holds or waits by this header
 pub record IsIdle (x : Box SharedBox Global) : Type 0 where
@@ -105,6 +115,11 @@ pub record IsAskedPlace (p : Place) (b t : ℕ) (m : Mode) (p' : Place) : Type 0
   pub lawful : IsLawfulHeader header
   pub members : members_of header ≡ asked_members (header_of (stands p)) t m
   pub queue : header.queue ≡ asked_queue (header_of (stands p)) t m
+
+-- the place has what is left of these members and this queue, once the front is granted
+pub record IsPumped (g : Members) (q : List Waiter) (p : Place) : Type 0 where
+  pub members : members_by p ≡ pumped_members slot_limit g q
+  pub queue : queue_by p ≡ pumped_queue slot_limit g q
 
 -- what a contract sees of the fields
 abbrev pub headers_of : Inside → HeadersState

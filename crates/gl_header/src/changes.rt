@@ -24,24 +24,26 @@ pub(crate) type Queue = SmallVec<Entry, INLINE>;
 /// Whom a release granted, in the queue's order, each with the mode that it holds now.
 pub type GrantList = ArrayVec<(Slot, Mode), SLOTS>;
 
-/// Puts a wait into its place: a member's behind the waiting members, a newcomer's last.
-#[inline(never)]
+/// Puts the wait of a slot that holds the mode `held` into its place: a member's behind the waiting
+/// members, a newcomer's last.
 #[tactic(auto, using(crate::proofs::Steps::placed_steps))]
 pub(crate) fn enqueue(
     group: &Group,
     queue: &mut Queue,
     slot: Slot,
+    held: Mode,
     wanted: Mode,
 ) -> Result<(), AllocError>
-    requires { IsGroup group.now }
+    requires group { IsGroup group.now }
+    requires held { held ≡ held_by group.now slot }
     ensures ok { OnOk result (queue.new.items ≡ placed_in (held_by group.now) queue.old.items (slot, wanted)) }
     ensures err { OnErr result (queue.new.items ≡ queue.old.items) }
 {
-    if group.has(slot) {
+    if held == Mode::NL {
+        queue.push((slot, wanted))?;
+    } else {
         let place = waiting_members(group, queue);
         queue.insert(place, (slot, wanted))?;
-    } else {
-        queue.push((slot, wanted))?;
     }
     Ok(())
 }

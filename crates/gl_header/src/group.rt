@@ -94,8 +94,8 @@ impl Group {
         requires { IsGroup self.now }
         ensures { result ≡ fits slot_limit (held_by self.now) slot mode }
     {
-        goes_beside(self.holders, self.mode, slot, mode)
-            && goes_beside(self.intents, Mode::IS, slot, mode)
+        goes_beside(&self.holders, self.mode, slot, mode)
+            && goes_beside(&self.intents, Mode::IS, slot, mode)
     }
 
     /// The slots that hold a mode with which `mode` does not go.
@@ -155,8 +155,8 @@ impl Group {
 }
 
 /// Whether `mode` goes with `held`, or nobody but `slot` is in the set of those that hold it.
-fn goes_beside(set: Slots, held: Mode, slot: Slot, mode: Mode) -> bool
-    ensures { IsTrue result ↔ GoesBeside set held slot mode }
+fn goes_beside(set: &Slots, held: Mode, slot: Slot, mode: Mode) -> bool
+    ensures { IsTrue result ↔ GoesBeside set.now held slot mode }
 {
     compatible(mode, held) || set.without(slot).is_empty()
 }

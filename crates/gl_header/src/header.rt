@@ -5,7 +5,7 @@ ghost use Rattle.std.specs.Prelude.{◌≡◌, ◌≢◌, ◌<◌, ◌==◌, ◌
 ghost use Rattle.gl_modes.specs.declared.mode.Mode.TheVariants.{NL};
 ghost use Rattle.gl_modes.specs.Modes.{are_compatible};
 ghost use Rattle.gl_slots.specs.Slots.{has_slot};
-ghost use Rattle.gl_header.specs.Answers.{asked, asked_members, asked_queue, tried};
+ghost use Rattle.gl_header.specs.Answers.{MayAsk, asked, asked_members, asked_queue, tried};
 ghost use Rattle.gl_header.specs.Groups.{mode_of_all, nobody};
 ghost use Rattle.gl_header.specs.Header.{
   enters,
@@ -188,9 +188,7 @@ impl Header {
     ///
     /// The only refusal is `NoMemory`; who is granted at once never meets it.
     pub fn ask(&mut self, slot: Slot, mode: Mode) -> Result<Asked, Refusal>
-        requires below { slot < most_slots }
-        requires not_waiting { is_among_waiters slot self.old.queue ≡ false }
-        requires lock { mode ≢ Mode.NL }
+        requires may { MayAsk self.old.queue slot mode }
         ensures answer { IfOk result (λ answer. answer ≡ asked self.old slot mode) }
         ensures members { OnOk result (members_of self.new ≡ asked_members self.old slot mode) }
         ensures queue { OnOk result (self.new.queue ≡ asked_queue self.old slot mode) }
@@ -205,11 +203,9 @@ impl Header {
         }
     }
 
-    /// As `ask`.
+    /// As `ask`, with its one refusal in the shape that takes no room in the answer.
     pub(crate) fn enter_or_wait(&mut self, slot: Slot, mode: Mode) -> Result<Asked, AllocError>
-        requires below { slot < most_slots }
-        requires not_waiting { is_among_waiters slot self.old.queue ≡ false }
-        requires lock { mode ≢ Mode.NL }
+        requires may { MayAsk self.old.queue slot mode }
         ensures answer { IfOk result (λ answer. answer ≡ asked self.old slot mode) }
         ensures members { OnOk result (members_of self.new ≡ asked_members self.old slot mode) }
         ensures queue { OnOk result (self.new.queue ≡ asked_queue self.old slot mode) }
@@ -223,7 +219,7 @@ impl Header {
             self.granted.hold(slot, wanted);
             return Ok(Asked::Granted(wanted));
         }
-        enqueue(&self.granted, &mut self.queue, slot, wanted)?;
+        enqueue(&self.granted, &mut self.queue, slot, held, wanted)?;
         Ok(Asked::Waiting)
     }
 
@@ -241,9 +237,7 @@ impl Header {
 
     /// Asks for a mode that is granted at once, or not at all. It takes no memory.
     pub fn try_ask(&mut self, slot: Slot, mode: Mode) -> Try
-        requires below { slot < most_slots }
-        requires not_waiting { is_among_waiters slot self.old.queue ≡ false }
-        requires lock { mode ≢ Mode.NL }
+        requires may { MayAsk self.old.queue slot mode }
         ensures answer { result ≡ tried self.old slot mode }
         ensures members { members_of self.new ≡ asked_members self.old slot mode }
         ensures queue { self.new.queue ≡ self.old.queue }
@@ -263,6 +257,7 @@ impl Header {
     /// with those whom it granted, in the queue's order.
     ///
     /// The cost is that of the waiters who are granted, and of moving up the others where any is.
+    #[inline(never)]
     pub fn drop_grant(&mut self, slot: Slot, granted: &mut GrantList)
         requires holds { holds (members_of self.old) slot ≡ true }
         requires not_waiting { is_among_waiters slot self.old.queue ≡ false }

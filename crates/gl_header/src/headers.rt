@@ -30,7 +30,7 @@ ghost use Rattle.gl_modes.specs.declared.mode.Mode.TheVariants.{NL};
 ghost use Rattle.gl_modes.specs.declared.refusal.Refusal.{Refusal as ARefusal};
 ghost use Rattle.gl_modes.specs.Modes.{are_compatible};
 ghost use Rattle.gl_slots.specs.Slots.{has_slot};
-ghost use Rattle.gl_header.specs.Answers.{asked};
+ghost use Rattle.gl_header.specs.Answers.{MayAsk, asked};
 ghost use Rattle.gl_header.specs.Header.{
   front,
   group_of,
@@ -50,6 +50,7 @@ ghost use Rattle.gl_header.specs.Headers.{
   AreDistinct,
   AreHeaders,
   HasItsKey,
+  IsAskedAt,
   IsFreeKey,
   IsOneHolder,
   header_at,
@@ -244,21 +245,10 @@ impl Headers {
     /// Asks for a mode: it is granted at once, or the slot waits in its place. The only refusal is
     /// `NoMemory`; a member that is granted at once never meets it.
     pub fn ask(&mut self, slot: Slot, node: NodeId, mode: Mode) -> Result<Asked, Refusal>
-        requires below { slot < most_slots }
-        requires not_waiting { is_among_waiters slot (queue_of self.old.entries node) ≡ false }
-        requires lock { mode ≢ Mode.NL }
+        requires may { MayAsk (queue_of self.old.entries node) slot mode }
         requires alone { HasItsKey self.old.entries node }
         ensures answer { IfOk result (λ answer. answer ≡ asked (header_or_new (header_at self.old.entries node)) slot mode) }
-        ensures granted { OnOk result
-            (is_granted_at self.old.entries slot node mode ≡ true
-            → (held_of self.new.entries ≡ with_members (held_of self.old.entries) node
-            (with_mode (members_at self.old.entries node) slot (wanted_at self.old.entries slot node mode)))
-            × (queue_of self.new.entries ≡ queue_of self.old.entries)) }
-        ensures waits { OnOk result
-            (is_granted_at self.old.entries slot node mode ≡ false
-            → (held_of self.new.entries ≡ held_of self.old.entries)
-            × (queue_of self.new.entries ≡ with_waiters (queue_of self.old.entries) node
-            (placed (members_at self.old.entries node) (queue_of self.old.entries node) slot (wanted_at self.old.entries slot node mode)))) }
+        ensures asked { OnOk result (IsAskedAt self.old.entries slot node mode self.new.entries) }
         ensures err { OnErr result (self.new.entries ≡ self.old.entries) }
         ensures room { self.old.room ≤ self.new.room }
         ensures no_memory { IfErr result (λ refusal. refusal ≡ ARefusal.NoMemory) }

@@ -4,7 +4,7 @@ ghost use Rattle.gl_slots.specs.Limit.{most_slots};
 ghost use Rattle.std.specs.Prelude.{◌≡◌, ◌≢◌, ◌<◌, ◌≤◌, ℕ, [], IfOk, IsOk, OnErr, OnOk, false, length, true};
 ghost use Rattle.std.specs.List.{All};
 ghost use Rattle.gl_modes.specs.declared.mode.Mode.TheVariants.{NL};
-ghost use Rattle.gl_header.specs.Answers.{asked};
+ghost use Rattle.gl_header.specs.Answers.{MayAsk, asked};
 ghost use Rattle.gl_header.specs.Header.{
   front,
   holds,
@@ -19,9 +19,10 @@ ghost use Rattle.gl_header.specs.Places.{
   IsAskedPlace,
   IsHeldBox,
   IsIdle,
-  IsOf,
   IsPlace,
-  KeepsBirth,
+  IsPlaceAfter,
+  IsPlaceFor,
+  IsPumped,
   entries_in,
   header_in,
   header_of,
@@ -176,12 +177,9 @@ pub(crate) fn ask_at(
     slot: Slot,
     mode: Mode,
 ) -> Result<Asked, AllocError>
-    requires place { IsPlace place.old }
-    requires own { IsOf birth place.old }
+    requires place { IsPlaceFor birth place.old }
     requires spare { All IsIdle spare.old.items }
-    requires below { slot < most_slots }
-    requires not_waiting { is_among_waiters slot (queue_by place.old) ≡ false }
-    requires lock { mode ≢ NL }
+    requires may { MayAsk (queue_by place.old) slot mode }
     ensures spare { All IsIdle spare.new.items }
     ensures answer { IfOk result (λ answer. answer ≡ asked (header_of (stands place.old)) slot mode) }
     ensures stands { OnOk result (IsAskedPlace place.old birth slot mode place.new) }
@@ -229,10 +227,8 @@ pub(crate) fn drop_grant_at(
     requires holds { holds (members_by place.old) slot ≡ true }
     requires not_waiting { is_among_waiters slot (queue_by place.old) ≡ false }
     ensures granted { granted.new.items ≡ front slot_limit (with_mode (members_by place.old) slot NL) (queue_by place.old) }
-    ensures members { members_by place.new ≡ pumped_members slot_limit (with_mode (members_by place.old) slot NL) (queue_by place.old) }
-    ensures queue { queue_by place.new ≡ pumped_queue slot_limit (with_mode (members_by place.old) slot NL) (queue_by place.old) }
-    ensures place { IsPlace place.new }
-    ensures birth { KeepsBirth place.old place.new }
+    ensures pumped { IsPumped (with_mode (members_by place.old) slot NL) (queue_by place.old) place.new }
+    ensures place { IsPlaceAfter place.old place.new }
     ensures spare { All IsIdle spare.new.items }
 {
     match place {
@@ -257,10 +253,8 @@ pub(crate) fn drop_wait_at(
     requires spare { All IsIdle spare.old.items }
     requires waits { is_among_waiters slot (queue_by place.old) ≡ true }
     ensures granted { granted.new.items ≡ front slot_limit (members_by place.old) (without_waiter slot (queue_by place.old)) }
-    ensures members { members_by place.new ≡ pumped_members slot_limit (members_by place.old) (without_waiter slot (queue_by place.old)) }
-    ensures queue { queue_by place.new ≡ pumped_queue slot_limit (members_by place.old) (without_waiter slot (queue_by place.old)) }
-    ensures place { IsPlace place.new }
-    ensures birth { KeepsBirth place.old place.new }
+    ensures pumped { IsPumped (members_by place.old) (without_waiter slot (queue_by place.old)) place.new }
+    ensures place { IsPlaceAfter place.old place.new }
     ensures spare { All IsIdle spare.new.items }
 {
     match place {
@@ -279,8 +273,7 @@ pub(crate) fn dismiss_at(place: &mut Place, spare: &mut Vec<Box<Shared>>, slot: 
     requires front_waits { front slot_limit (members_by place.old) (without_waiter slot (queue_by place.old)) ≡ [] }
     ensures members { members_by place.new ≡ members_by place.old }
     ensures queue { queue_by place.new ≡ without_waiter slot (queue_by place.old) }
-    ensures place { IsPlace place.new }
-    ensures birth { KeepsBirth place.old place.new }
+    ensures place { IsPlaceAfter place.old place.new }
     ensures spare { All IsIdle spare.new.items }
 {
     match place {
@@ -299,8 +292,7 @@ fn sweep(place: &mut Place, spare: &mut Vec<Box<Shared>>)
     requires boxed { is_boxed place.old ≡ true }
     ensures members { members_by place.new ≡ members_by place.old }
     ensures queue { queue_by place.new ≡ queue_by place.old }
-    ensures place { IsPlace place.new }
-    ensures birth { KeepsBirth place.old place.new }
+    ensures place { IsPlaceAfter place.old place.new }
     ensures spare { All IsIdle spare.new.items }
 {
     let Place::Shared(here) = place else {

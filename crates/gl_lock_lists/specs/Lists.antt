@@ -1,5 +1,5 @@
 -- The list of one transaction: the nodes that it holds or waits for, each with its mode and the count of its held children.
-use Rattle.std.specs.Prelude.{◌≡◌, ℕ, ◌≤◌, ◌<◌, Bool, not, List, Option, Some, None, is_some, false, ◌&&◌, ◌||◌, ◌==◌, slice_get}
+use Rattle.std.specs.Prelude.{◌≡◌, ℕ, ◌+◌, ◌≤◌, ◌<◌, Bool, not, List, Option, Some, None, is_some, false, true, ◌&&◌, ◌||◌, ◌==◌, slice_get}
 use Rattle.std.specs.List.{count_by, list_all}
 use Rattle.std.specs.Map.{lookup}
 use Rattle.indexmap.specs.IndexMap.{spare, keys}
@@ -64,3 +64,16 @@ covered_in g l n c =
 -- no node listed at this place or further back is marked
 abbrev pub NoneMarkedFrom : LockList → ℕ → Type 0
 NoneMarkedFrom l at = (i : ℕ) (n : NodeId) → at ≤ i → slice_get (keys l.entries) i ≡ Some n → same_mode (mode_of l n) NL ≡ false
+
+-- no child of a marked node is held, and each is counted with its parents
+pub record AreMarkedLast (g : Graph) (l : LockList) : Type 0 where
+  pub childless : (c : NodeId) → is_listed l c ≡ true → mode_of l c ≡ NL → count_of l c ≡ 0
+  pub counted : (c q : NodeId) → is_listed l c ≡ true → mode_of l c ≡ NL → count_by (same_node q) (parents_of g c) ≤ count_of l q
+
+-- the marked node n is taken out, and each of its parents has one held child less
+pub record IsTakenOut (g : Graph) (l : LockList) (n : NodeId) (l' : LockList) : Type 0 where
+  pub was : is_listed l n ≡ true
+  pub was_marked : mode_of l n ≡ NL
+  pub listed : (q : NodeId) → is_listed l' q ≡ (is_listed l q && not (same_node q n))
+  pub modes : (q : NodeId) → mode_of l' q ≡ mode_of l q
+  pub counts : (q : NodeId) → count_of l' q + count_by (same_node q) (parents_of g n) ≡ count_of l q

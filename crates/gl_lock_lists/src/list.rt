@@ -79,7 +79,8 @@ fn count_loose_up(loose: &mut IndexMap<NodeId, u32>, n: NodeId)
 }
 
 impl LockList {
-    ghost use Rattle.gl_lock_lists.specs.Lists.{NoneMarkedFrom, covered_in, HasRoom, count_of, entry_of, is_listed, mode_of, unlisted};
+    ghost use Rattle.gl_lock_lists.specs.Lists.{AreMarkedLast, HasRoom, IsTakenOut, NoneMarkedFrom};
+    ghost use Rattle.gl_lock_lists.specs.Lists.{covered_in, count_of, entry_of, is_listed, mode_of, unlisted};
 
     /// A list of no nodes. It takes no memory.
     pub fn new(alloc: Global) -> Self
@@ -401,19 +402,12 @@ impl LockList {
     /// The nodes further back are not marked.
     pub fn take_marked(&mut self, graph: &Graph, at: usize) -> Option<NodeId>
         requires within { at < length (keys self.old.entries) }
-        requires childless { (c : Node) → is_listed self.old c ≡ true → mode_of self.old c ≡ NL → count_of self.old c ≡ 0 }
-        requires counted { (c q : Node) → is_listed self.old c ≡ true → mode_of self.old c ≡ NL
-            → count_by (same_node q) (parents_of (graph_of graph.now) c) ≤ count_of self.old q }
+        requires marked { AreMarkedLast (graph_of graph.now) self.old }
         requires passed { NoneMarkedFrom self.old (at + 1) }
         ensures passed { NoneMarkedFrom self.new at }
         ensures len { at ≤ length (keys self.new.entries) }
         ensures none { IfNone result (self.new ≡ self.old) }
-        ensures was { IfSome result (λ n. is_listed self.old n ≡ true) }
-        ensures was_marked { IfSome result (λ n. mode_of self.old n ≡ NL) }
-        ensures listed { IfSome result (λ n. (q : Node) → is_listed self.new q ≡ (is_listed self.old q && not (same_node q n))) }
-        ensures modes { IfSome result (λ n. (q : Node) → mode_of self.new q ≡ mode_of self.old q) }
-        ensures counts { IfSome result (λ n. (q : Node)
-            → count_of self.new q + count_by (same_node q) (parents_of (graph_of graph.now) n) ≡ count_of self.old q) }
+        ensures taken { IfSome result (λ n. IsTakenOut (graph_of graph.now) self.old n self.new) }
     {
         let node = *self.entries.get_index(at)?.0;
         if self.holds(node) {

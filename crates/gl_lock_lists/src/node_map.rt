@@ -29,7 +29,7 @@ ghost use Rattle.indexmap.specs.IndexMap.{get, index_map_len, index_of, keys, sp
 ghost use Rattle.gl_modes.specs.Nodes.{same_node};
 ghost use Rattle.gl_lock_lists.specs.Lends.{lends_at, lends_get};
 
-use crate::rows::{move_all, place_in, place_of, put};
+use crate::rows::{Recent, move_all, place_in, place_of, put};
 use gl_modes::NodeId;
 use indexmap::IndexMap;
 use std::alloc::{AllocError, Global};
@@ -41,11 +41,12 @@ const SHORT: usize = 16;
 /// Values under nodes, in the order in which they were put in.
 ///
 /// While there are few, they are scanned from the end, without a hash. More than 16 stand in a map, until
-/// all are taken out.
+/// all are taken out. There a node is looked for where one was found last, before its hash is.
 #[derive(Drop)]
 pub struct NodeMap<V: Copy> {
     rows: Vec<(NodeId, V)>,
     map: IndexMap<NodeId, V>,
+    recent: Recent,
 }
 
 impl<V: Copy> Model for NodeMap<V> {
@@ -72,6 +73,7 @@ impl<V: Copy> NodeMap<V> {
         NodeMap {
             rows: Vec::new(alloc),
             map: IndexMap::new(alloc),
+            recent: Recent::new(),
         }
     }
 
@@ -103,7 +105,7 @@ impl<V: Copy> NodeMap<V> {
         if self.map.is_empty() {
             place_of(&self.rows, node)
         } else {
-            place_in(&self.map, node)
+            place_in(&self.map, self.recent, node)
         }
     }
 
@@ -148,8 +150,21 @@ impl<V: Copy> NodeMap<V> {
         ensures unique { IsUnique same_node self.old }
     {
         match self.place(node) {
-            Some(place) => Some(self.value_mut(place)),
+            Some(place) => {
+                self.note(place);
+                Some(self.value_mut(place))
+            }
             None => None,
+        }
+    }
+
+    /// Keeps in mind where a node was found, where they stand in a map.
+    #[inline]
+    fn note(&mut self, place: usize)
+        ensures { self.new ≡ self.old }
+    {
+        if !self.map.is_empty() {
+            self.recent = self.recent.and(place);
         }
     }
 

@@ -1,7 +1,7 @@
 //! Few rows, which are scanned, and more, which stand in a map. What is done with a map stands apart, so
 //! that the ways over few rows are short.
 
-ghost use Rattle.std.specs.Prelude.{◌≡◌, ◌+◌, ◌<◌, ◌≤◌, [], Some, length, vec_capacity, position};
+ghost use Rattle.std.specs.Prelude.{◌≡◌, ◌+◌, ◌<◌, ◌≤◌, [], IsTrue, Some, length, vec_capacity, position};
 ghost use Rattle.std.specs.List.{IsDistinct};
 ghost use Rattle.std.specs.Map.{keys_of};
 ghost use Rattle.indexmap.specs.IndexMap.{index_of, insert_entry, spare, IsUnique, Updates};
@@ -23,13 +23,58 @@ pub(crate) fn place_of<V: Copy>(rows: &[(NodeId, V)], node: NodeId) -> Option<us
     None
 }
 
-/// Where the row of a node stands in a map.
+/// Where two nodes stood in a map that were found last, or anywhere: it is a hint, and nothing is
+/// promised of it. Much of what a transaction asks for has the same parents.
+#[derive(Clone, Copy)]
+pub(crate) struct Recent {
+    last: usize,
+    before: usize,
+}
+
+impl Recent {
+    /// Nothing was found yet.
+    pub(crate) fn new() -> Self {
+        Recent { last: 0, before: 0 }
+    }
+
+    /// A node was found at this place.
+    pub(crate) fn and(self, place: usize) -> Self {
+        if place == self.last {
+            return self;
+        }
+        Recent {
+            last: place,
+            before: self.last,
+        }
+    }
+}
+
+/// Whether the row of a node stands at this place of a map.
+#[inline]
+fn stands_at<V: Copy>(map: &IndexMap<NodeId, V>, place: usize, node: NodeId) -> bool
+    ensures there { IsTrue result → index_of same_node map.now node ≡ Some place }
+    ensures unique { IsUnique same_node map.now }
+{
+    place < map.len() && *map.get_index(place).unwrap().0 == node
+}
+
+/// Where the row of a node stands in a map: where one was found last, or else by its hash.
 #[inline(never)]
-pub(crate) fn place_in<V: Copy>(map: &IndexMap<NodeId, V>, node: NodeId) -> Option<usize>
+pub(crate) fn place_in<V: Copy>(
+    map: &IndexMap<NodeId, V>,
+    recent: Recent,
+    node: NodeId,
+) -> Option<usize>
     ensures place { result ≡ index_of same_node map.now node }
     ensures unique { IsUnique same_node map.now }
 {
-    map.get_index_of(&node)
+    if stands_at(map, recent.before, node) {
+        Some(recent.before)
+    } else if stands_at(map, recent.last, node) {
+        Some(recent.last)
+    } else {
+        map.get_index_of(&node)
+    }
 }
 
 /// Puts a value into a map that has room, last where its node is new.

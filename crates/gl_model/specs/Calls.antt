@@ -1,7 +1,7 @@
 -- What each call of the table leaves, why it is refused, and what it answers.
 use Rattle.std.specs.Prelude.{ℕ, Bool, not, ◌&&◌, ◌||◌, ◌≡◌, ◌+◌, true, false, ◌==◌, List, [], Option, Some, None, if◌then◌else◌, is_none, ◌∷◌, ◌++◌, is_some}
 use Rattle.std.specs.Prelude.{length}
-use Rattle.std.specs.Prelude.{IsOk, Result, Ok, Err}
+use Rattle.std.specs.Prelude.{IsOk, IfErr, OnErr, OnOk, Result, Ok, Err, ◌⊎◌}
 use Rattle.std.specs.List.{list_any, list_all, count_by, filter, find}
 use Rattle.gl_modes.specs.declared.node.NodeId.{NodeId}
 use Rattle.gl_modes.specs.declared.mode.Mode.TheVariants.{X, NL, S, IX}
@@ -9,10 +9,12 @@ use Rattle.gl_modes.specs.Modes.{same_mode, supremum, is_at_least}
 use Rattle.gl_modes.specs.declared.mode.Mode.{Mode}
 use Rattle.gl_modes.specs.Nodes.{same_node}
 use Rattle.gl_modes.specs.declared.refusal.Refusal.{Refusal}
-use Rattle.gl_graph.specs.Graph.{is_child, nodes, parents_of, Graph, is_live, shape_of}
-use Rattle.gl_graph.specs.Changes.{without_branch, without_node}
+use Rattle.gl_graph.specs.Graph.{is_child, nodes, parents_of, Graph, is_live, shape_of, first_parent, indexes_of, record_parents}
+use Rattle.gl_graph.specs.Changes.{rekeyed_parents, without_branch, without_node}
+use Rattle.gl_graph.specs.Lawful.{AreInnerParents}
 use Rattle.gl_graph.specs.Refusals.{bad_bounds, bad_index_place, has_records, is_in_use, max_count, some_no_node, too_many_nodes, where_true, worn_births}
-use Rattle.gl_graph.specs.Shapes.{Index, Inner, Shape, is_movable_shape, is_record_shape}
+use Rattle.gl_graph.specs.Refusals.{Refuses, first_cycle, first_refusal, record_refusal}
+use Rattle.gl_graph.specs.Shapes.{Index, Inner, Shape, is_file_shape, is_index_of_shape, is_movable_shape, is_record_shape, least_parents}
 use Rattle.gl_header.specs.Header.{holds, Waiter, enters, is_among_waiters, is_empty, placed, without_waiter, fits}
 use Rattle.gl_header.specs.State.{nobody_holds}
 use Rattle.gl_header.specs.declared.header.Asked.{Asked}
@@ -348,6 +350,38 @@ forget_tests s r = no_node s r ∷ where_true (not (is_record_shape (shape_of s.
 abbrev pub group_tests : State → NodeId → List (Option Refusal)
 group_tests s n = no_node s n ∷ []
 
+-- What calls ask of who makes them, where the tests were made before.
+
+-- the transaction lives, and neither waits nor is condemned
+pub record IsActing (s : State) (t : TxnId) : Type 0 where
+  pub lives : lives s t ≡ true
+  pub active : status_of s t.slot ≡ Some Active
+
+-- an inner node, a file or an index may get these parents, and the locks of t permit it; whether a path would close is not asked
+pub record CanMove (s : State) (t : ℕ) (n : NodeId) (ps : List NodeId) : Type 0 where
+  pub movable : is_movable_shape (shape_of s.graph n) ≡ true
+  pub inner : AreInnerParents s.graph (least_parents (shape_of s.graph n)) ps
+  pub exclusive : need_exclusive s t n (some_given (parents_of s.graph n) && some_given ps) ps ≡ None
+  pub rule : need_new_parents s t n ps ≡ None
+
+-- a record may get this key for this index of its file, and the locks of t permit the parents that it has then
+pub record CanRekey (s : State) (t : ℕ) (r i : NodeId) (key : ℕ) : Type 0 where
+  pub «record» : is_record_shape (shape_of s.graph r) ≡ true
+  pub index : is_index_of_shape (first_parent s.graph r) (shape_of s.graph i) ≡ true
+  pub exclusive : need_exclusive s t r true (rekeyed_parents s.graph r i key) ≡ None
+  pub parents : need_new_parents s t r (rekeyed_parents s.graph r i key) ≡ None
+
+-- a file may get a record with these keys, one for each of its indexes, and t holds each parent of it in IX or greater
+pub record CanPlace (s : State) (t : ℕ) (f : NodeId) (ks : List ℕ) : Type 0 where
+  pub file : is_file_shape (shape_of s.graph f) ≡ true
+  pub keys : length ks ≡ length (indexes_of s.graph f)
+  pub parents : first_not_ix (s.held t) (record_parents s.graph f ks) ≡ None
+
+-- nothing but memory stands against a record of the file with these keys, and these are its parents
+pub record CanTakeRecord (g : Graph) (f : NodeId) (ks : List ℕ) (ps : List NodeId) : Type 0 where
+  pub free : record_refusal g f ks ≡ None
+  pub parents : ps ≡ record_parents g f ks
+
 -- What calls answer.
 
 -- what a call answers that takes no memory: the value, where no test finds a reason to refuse
@@ -369,3 +403,23 @@ abbrev pub locked_as : Mode → Option Status → Locked
 locked_as held (Some (Waiting n m)) = locked.Waiting
 locked_as held (Some Condemned) = locked.Victim
 locked_as held o = locked.Granted held
+
+-- a lock is refused by its tests, else for memory alone, which a conversion that is granted at once never wants
+pub record RefusesLock {A : Type 0} (s : State) (t : TxnId) (n : NodeId) (m : Mode) (result : Result A Refusal) : Type 0 where
+  pub refuses : Refuses (first_refusal (lock_tests s t n m)) result
+  pub held : first_refusal (lock_tests s t n m) ≡ None → enters_at s t.slot n m ≡ true → holds (members s n) t.slot ≡ true → IsOk result
+
+-- a move goes only where no path would close, and is refused for the first parent that would close one, or for memory
+pub record RefusesCycle {A : Type 0} (g : Graph) (n : NodeId) (parents : List NodeId) (result : Result A Refusal) : Type 0 where
+  pub clear : OnOk result (first_cycle g n parents ≡ None)
+  pub refused : IfErr result (λ r. (r ≡ no.NoMemory) ⊎ (first_cycle g n parents ≡ Some r))
+
+-- a call is refused for memory alone, and then nothing changes
+pub record RefusesForMemory {A V : Type 0} (result : Result A Refusal) (table table' : V) : Type 0 where
+  pub memory : IfErr result (λ r. r ≡ no.NoMemory)
+  pub err : OnErr result (table' ≡ table)
+
+-- nothing changes, and nobody is told
+pub record KeepsAll {V L : Type 0} (table table' : V) (list list' : L) : Type 0 where
+  pub untold : list' ≡ list
+  pub err : table' ≡ table

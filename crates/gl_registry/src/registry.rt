@@ -137,6 +137,7 @@ impl Registry {
     /// ends nobody's wait. Where it is refused, nothing has changed.
     ///
     /// `RowCall` says of each call when it is refused, and with what.
+    #[inline(always)]
     pub fn apply(&mut self, call: RowCall<'_>, told: &mut Told) -> RowAnswer
         requires empty { told.old.items ≡ [] }
         ensures applies { AppliesCall self.old call.entry result told.new.items self.new }
@@ -170,6 +171,7 @@ fn first_parent(graph: &Graph, node: NodeId) -> NodeId
 }
 
 /// Carries out one call by the call that does it.
+#[inline(always)]
 fn carry_out(
     manager: &mut Manager,
     rows: &mut Rows,

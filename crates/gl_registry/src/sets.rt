@@ -91,6 +91,9 @@ pub(crate) fn clear(sets: &mut Vec<IndexSet<Row>>, slot: Slot)
         return;
     }
     let set = &mut sets[slot as usize];
+    if set.is_empty() {
+        return; // As of most who end.
+    }
     if set.len() < set.capacity() / 16 {
         set.truncate(0);
     } else {

@@ -220,10 +220,10 @@ impl<N: Naming> Guarded<N> {
         ensures step { Step (state_of self.old.manager) command.entry result told.new.items (state_of self.new.manager) }
         ensures caller { KeepsCaller command.entry (state_of self.old.manager) (state_of self.new.manager) }
         ensures refused { accepts command.entry result ≡ false → (self.new ≡ self.old) × (share.new ≡ share.old) × (told.new.items ≡ []) }
-        ensures accepted { accepts command.entry result ≡ true → (self.new.book ≡ self.old.book + 1) × (share.new ≡ share.old + 1) }
+        ensures accepted { accepts command.entry result ≡ true
+            → (self.new.book ≡ self.old.book + 1) × (share.new ≡ share.old + 1) × (self.new.waited ≡ (self.old.waited || leaves_waiting result)) }
         ensures boxes { (mid : List Slot) × Delivers self.old.boxes told.new.items mid × (self.new.boxes ≡ cleared command.entry result mid) }
         ensures rising { RisingTo 0 told.new.items most_slots }
-        ensures waited { accepts command.entry result ≡ true → self.new.waited ≡ (self.old.waited || leaves_waiting result) }
         ensures list { (self.new.list ≡ self.old.list) × (self.new.telling ≡ self.old.telling) }
     {
         self.manager.law();
@@ -251,11 +251,11 @@ impl<N: Naming> Guarded<N> {
         requires empty { told.old.items ≡ [] }
         ensures step { Step (state_of self.old.manager) (Lock txn node mode) result told.new.items (state_of self.new.manager) }
         ensures refused { is_refused result ≡ true → (self.new ≡ self.old) × (share.new ≡ share.old) × (told.new.items ≡ []) }
-        ensures accepted { is_refused result ≡ false → (self.new.book ≡ self.old.book + 1) × (share.new ≡ share.old + 1) }
+        ensures accepted { is_refused result ≡ false
+            → (self.new.book ≡ self.old.book + 1) × (share.new ≡ share.old + 1) × (self.new.waited ≡ (self.old.waited || leaves_waiting result)) }
         ensures rising { RisingTo 0 told.new.items most_slots }
         ensures covers { (held : AMode) → result ≡ Granted held → is_at_least held mode ≡ true }
         ensures boxes { (mid : List Slot) × Delivers self.old.boxes told.new.items mid × (self.new.boxes ≡ cleared (Lock txn node mode) result mid) }
-        ensures waited { is_refused result ≡ false → self.new.waited ≡ (self.old.waited || leaves_waiting result) }
         ensures list { (self.new.list ≡ self.old.list) × (self.new.telling ≡ self.old.telling) }
     {
         self.law();

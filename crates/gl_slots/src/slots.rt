@@ -93,15 +93,15 @@ impl Slots {
     }
 
     /// Whether no slot is in the set.
-    pub fn is_empty(self) -> bool
-        ensures { IsTrue result ↔ HasNoSlot self }
+    pub fn is_empty(&self) -> bool
+        ensures { IsTrue result ↔ HasNoSlot self.now }
     {
         self.bits == 0
     }
 
     /// Whether `slot` is in the set; none from `SLOTS` on is.
-    pub fn contains(self, slot: Slot) -> bool
-        ensures { result ≡ has_slot self slot }
+    pub fn contains(&self, slot: Slot) -> bool
+        ensures { result ≡ has_slot self.now slot }
     {
         has(self.bits, slot)
     }
@@ -161,9 +161,9 @@ impl Slots {
     }
 
     /// The lowest slot, `None` where there is none.
-    pub fn lowest(self) -> Option<Slot>
-        ensures some { IfSome result (IsLowest self) }
-        ensures none { IfNone result (HasNoSlot self) }
+    pub fn lowest(&self) -> Option<Slot>
+        ensures some { IfSome result (IsLowest self.now) }
+        ensures none { IfNone result (HasNoSlot self.now) }
     {
         if self.bits == 0 {
             None

@@ -187,13 +187,14 @@ impl Ledger {
     }
 
     /// Takes the wait of a slot from the header of its node, which then grants from its front. The
-    /// slot's own list is left as it is; its status is written.
+    /// slot's own list is left as it is; its status is written. The list `granted` is filled anew.
     pub(crate) fn leave_queue(
         &mut self,
         graph: &Graph,
         slot: Slot,
         node: NodeId,
         status: Status,
+        granted: &mut GrantList,
         told: &mut Told,
     )
         requires waiters { AreExactFor graph.now self.old (λ u. is_among_waiters u ((state_in graph.now self.old).queue node) ≡ true) }
@@ -210,8 +211,7 @@ impl Ledger {
             (front_at (without_wait (state_in graph.now self.old) slot status) node) told.old.items told.new.items }
     {
         graph.law();
-        let mut granted = GrantList::new();
-        self.headers.drop_wait(slot, node, &mut granted);
+        self.headers.drop_wait(slot, node, granted);
         self.wake_granted(graph, node, granted.as_slice(), told);
         self.seats.set_status(slot, status);
     }

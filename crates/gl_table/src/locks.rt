@@ -6,6 +6,7 @@ ghost use Rattle.gl_table.specs.inside.Ledger.{Agrees, AreSound, CountsHeld, sta
 
 use crate::ledger::Ledger;
 use gl_graph::Graph;
+use gl_header::GrantList;
 
 mod end;
 mod reads;
@@ -21,6 +22,8 @@ mod shed;
 pub(crate) struct Locks {
     pub(crate) graph: Graph,
     pub(crate) ledger: Ledger,
+    /// Whom the last release granted. It is filled anew by each, and is kept since to make it would write all of it.
+    pub(crate) granted: GrantList,
     ghost orderly: { IsOrderly (state_in graph ledger) },
     ghost sound: { AreSound ledger },
     ghost agree: { (u : ℕ) → Agrees (state_in graph ledger) ledger.lists.items u },

@@ -14,6 +14,7 @@ ghost use Rattle.gl_model.specs.declared.answers.Detect.TheVariants.{AtBlock};
 use crate::ledger::Ledger;
 use crate::locks::Locks;
 use gl_graph::Graph;
+use gl_header::GrantList;
 use gl_model::{Deadlock, Detect, Status, TxnId};
 use gl_modes::Refusal;
 use gl_waits::Victims;
@@ -124,7 +125,11 @@ impl Table {
     {
         match Ledger::new(alloc, most) {
             Ok(ledger) => Ok(Table {
-                locks: Locks { graph, ledger },
+                locks: Locks {
+                    graph,
+                    ledger,
+                    granted: GrantList::new(),
+                },
                 detect,
                 victims,
                 begins: 0,

@@ -1,6 +1,6 @@
 -- The youngest of the slots that were taken out of a set so far, from the lowest on.
-use Rattle.std.proofs.Common.{◌≡◌, ◌≢◌, ◌⊎◌, ⊎_elim, inl, inr, ℕ, ◌<◌, ◌≤◌, ◌↔◌, Bool, true, false, not, ◌&&◌, ◌==◌, nat_lt, Option, Some, None}
-use Rattle.std.proofs.Common.{IsNone, IsTrue, IfSome, refl, sym, ap, ◌∙◌, subst, arith}
+use Rattle.std.proofs.Common.{◌≡◌, ◌≢◌, ◌⊎◌, ⊎_elim, inl, inr, ℕ, ◌<◌, ◌≤◌, ◌↔◌, true, false, not, ◌&&◌, ◌==◌, nat_lt, Option, Some, None}
+use Rattle.std.proofs.Common.{IsNone, IsTrue, IfSome, refl, sym, ap, ◌∙◌, arith}
 use Rattle.std.specs.Option.{option_map_or}
 use Rattle.std.proofs.lemmas.Bool.{and_parts, cases_eq}
 use Rattle.std.proofs.lemmas.Bool.Decides.{nat_tests}

@@ -165,6 +165,7 @@ impl Guarded {
 
     /// Carries out a call about rows, with its notices put into an empty list. Watchers are shown one
     /// board behind all of it.
+    #[inline(always)]
     pub(crate) fn serve_row(&mut self, call: RowCall<'_>, told: &mut Told) -> RowAnswer
         requires empty { told.old.items ≡ [] }
         ensures { ServesRow self.old call.entry result told.new.items self.new }

@@ -102,6 +102,7 @@ impl Session {
     }
 
     /// Carries out a call about rows, and writes down whom it tells.
+    #[inline(always)]
     pub(crate) fn carry_out_row(&mut self, call: RowCall<'_>, notices: &mut Notices) -> Reply
         ensures { RepliesRow self.old call.entry result notices.new self.new }
     {

@@ -10,6 +10,8 @@ use Rattle.gl_table.proofs.Words.{option_map_or, queue_of, range-from_each, refl
 use Rattle.gl_table.proofs.Words.{same_mode, same_node, shown, slice_get, slice_get-get_or, slice_get-map, slot_limit, Some, split, StandOnce, State, state_of}
 use Rattle.gl_table.proofs.Words.{subst, suc, sum_by-cons, sym, TableView, true, txns_of, unused-nobody, verdict, view_of, where_true, zero, ℕ}
 use Rattle.gl_model.proofs.queues.Walks.{same}
+use Rattle.gl_model.specs.Calls.{RefusesLock, lock_tests}
+use Rattle.gl_model.specs.declared.txn.TxnId.{TxnId}
 use Rattle.gl_model.proofs.telling.Lists.{place}
 use Rattle.gl_table.specs.declared.table.Table.TheInside.{Inside}
 use Rattle.std.specs.List.{All}
@@ -137,6 +139,20 @@ module _ (A : Type 0) {B : Type 0} (o : Option Refusal) (r : Refusal) (result : 
       by : (p : Option Refusal) → RefusesOnly {A = A} p (Err r) → RefusesOnly {A = B} p (Err r)
       by None h = absurd (no h)
       by (Some x) h = cc
+
+-- and so it is of a lock, whatever it would have answered
+module _ (s : State) (t : TxnId) (n : NodeId) (m : Mode) where
+  pub lock_refused_as : (A B : Type 0) (r : Refusal) (result : Result B Refusal) → result ≡ Err r → RefusesLock {A = A} s t n m (Err r)
+      → RefusesLock {A = B} s t n m result
+  lock_refused_as A B r result is h =
+      record {
+        refuses = refuses_as A (first_refusal (lock_tests s t n m)) r result is h.refuses;
+        held = λ passes enters member. absurd (no (h.held passes enters member));
+      }
+
+  pub lock_goes_as : {A B : Type 0} (x : A) (y : B) → RefusesLock s t n m (Ok x) → RefusesLock s t n m (Ok y)
+  lock_goes_as x y h =
+      record { refuses = accepts_as (first_refusal (lock_tests s t n m)) x y h.refuses; held = λ passes enters member. h.held passes enters member }
 
 module _ (i : Inside) (sound : IsSound i) (v : TableView) (view : view_of i ≡ v) where
   pub group-seen : (n : NodeId) → group_of slot_limit (members_at i.locks.ledger.headers.entries n) ≡ group_of (state_of v).most (members (state_of v) n)

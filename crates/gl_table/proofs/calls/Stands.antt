@@ -59,4 +59,6 @@ as_it_was i sound = record {
 
 -- the table with it
 abbrev pub put : (i : Inside) (v : View) (l : Ledger) → IsLaw v l → Inside
-put i v l law = record i { locks = record { graph = v; ledger = l; orderly = law.orderly; sound = law.sound; agree = law.agree; count = law.count } }
+put i v l law = record i {
+  locks = record i.locks { graph = v; ledger = l; orderly = law.orderly; sound = law.sound; agree = law.agree; count = law.count };
+}

@@ -50,8 +50,14 @@ pub(crate) fn end_wait(
 }
 
 impl Ledger {
-    /// Releases one node after the other, until the slot's list is empty.
-    pub(crate) fn leave_all(&mut self, graph: &Graph, slot: Slot, told: &mut Told)
+    /// Releases one node after the other, until the slot's list is empty. The list `granted` is filled anew.
+    pub(crate) fn leave_all(
+        &mut self,
+        graph: &Graph,
+        slot: Slot,
+        granted: &mut GrantList,
+        told: &mut Told,
+    )
         requires exact { AreExact graph.now self.old }
         requires orderly { IsOrderly (state_in graph.now self.old) }
         requires seated { slot < length self.old.seats.items }
@@ -62,19 +68,20 @@ impl Ledger {
         ensures tells { TellsOthers slot (state_in graph.now self.old) (state_in graph.now self.new) told.old.items told.new.items }
     {
         graph.law();
-        let mut granted = GrantList::new();
         while let Some(node) = self.lists[slot as usize].pop() {
-            self.drop_and_wake(graph, slot, node, &mut granted, told);
+            self.drop_and_wake(graph, slot, node, granted, told);
         }
     }
 
-    /// Releases what is marked in the list of a slot, from its back to its front.
+    /// Releases what is marked in the list of a slot, from its back to its front. The list `granted` is filled
+    /// anew.
     pub(crate) fn release_marked(
         &mut self,
         graph: &Graph,
         slot: Slot,
         node: NodeId,
         list: &mut LockList,
+        granted: &mut GrantList,
         told: &mut Told,
     )
         requires others { AreExactFor graph.now self.old (λ u. (u == slot) ≡ false) }
@@ -86,12 +93,11 @@ impl Ledger {
         ensures tells { TellsOthers slot (state_in graph.now self.old) (state_in graph.now self.new) told.old.items told.new.items }
     {
         graph.law();
-        let mut granted = GrantList::new();
         let mut at = list.len();
         while at > 0 {
             at -= 1;
             if let Some(child) = list.take_marked(graph, at) {
-                self.drop_and_wake(graph, slot, child, &mut granted, told);
+                self.drop_and_wake(graph, slot, child, granted, told);
             }
         }
     }

@@ -41,7 +41,8 @@ impl Locks {
         ensures state { state_at self.new ≡ released (state_at self.old) slot }
         ensures tells { TellsOthers slot (state_at self.old) (state_at self.new) told.old.items told.new.items }
     {
-        self.ledger.leave_all(&self.graph, slot, told);
+        self.ledger
+            .leave_all(&self.graph, slot, &mut self.granted, told);
         self.ledger.lists[slot as usize].clear();
         self.ledger.seats.leave(slot);
     }

@@ -14,7 +14,6 @@ ghost use Rattle.gl_table.specs.inside.Slots.{CanTell};
 
 use crate::ledger::leave::strike;
 use crate::locks::Locks;
-use gl_header::GrantList;
 use gl_model::{Status, Told};
 use gl_modes::NodeId;
 use gl_slots::Slot;
@@ -31,7 +30,7 @@ impl Locks {
     {
         self.graph.law();
         self.ledger
-            .drop_and_wake(&self.graph, slot, node, &mut GrantList::new(), told);
+            .drop_and_wake(&self.graph, slot, node, &mut self.granted, told);
         strike(&mut self.ledger.lists, slot, node, self.graph.parents(node));
     }
 
@@ -45,7 +44,7 @@ impl Locks {
     {
         self.graph.law();
         self.ledger
-            .leave_queue(&self.graph, slot, node, status, told);
+            .leave_queue(&self.graph, slot, node, status, &mut self.granted, told);
         let list = &mut self.ledger.lists[slot as usize];
         if !list.holds(node) {
             list.leave(node);

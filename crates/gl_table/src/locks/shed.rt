@@ -29,8 +29,7 @@ impl Locks {
         let empty = LockList::new(self.ledger.alloc);
         let mut list = std::mem::replace(&mut self.ledger.lists[slot as usize], empty);
         list.mark_covered(&self.graph, node);
-        self.ledger
-            .release_marked(&self.graph, slot, node, &mut list, told);
+        self.ledger.release_marked(&self.graph, slot, node, &mut list, &mut self.granted, told);
         self.ledger.lists[slot as usize] = list;
     }
 }

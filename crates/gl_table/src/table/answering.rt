@@ -1,24 +1,21 @@
 //! The calls that answer with a told list of their own. Each makes the list, and calls its twin.
 
-ghost use Rattle.std.specs.Prelude.{◌≡◌, [], IfOk, OnErr, OnOk, ◌&&◌, IfErr, IsOk, None, not, true, Some, ◌⊎◌, ◌-◌};
-ghost use Rattle.gl_graph.specs.Refusals.{first_refusal, Refuses, first_cycle};
-ghost use Rattle.gl_model.specs.Calls.{RefusesOnly, released, unlocked, commit_tests, living_tests, unlock_tests, locked_as, Locks};
-ghost use Rattle.gl_model.specs.Calls.{enters_at, granted, lock_tests, cancelled, cancel_tests, deleted, moved_to, need_exclusive};
-ghost use Rattle.gl_model.specs.Calls.{need_new_parents, some_given, shed, covered_children, held_children};
+ghost use Rattle.std.specs.Prelude.{◌≡◌, [], IfOk, OnErr, OnOk, true, ◌-◌};
+ghost use Rattle.gl_graph.specs.Refusals.{first_refusal};
+ghost use Rattle.gl_model.specs.Calls.{CanMove, CanRekey, IsActing, Locks, RefusesCycle, RefusesLock, RefusesOnly, locked_as};
+ghost use Rattle.gl_model.specs.Calls.{commit_tests, living_tests, released, unlock_tests, unlocked};
+ghost use Rattle.gl_model.specs.Calls.{cancelled, cancel_tests, deleted, moved_to};
+ghost use Rattle.gl_model.specs.Calls.{shed, covered_children, held_children};
 ghost use Rattle.gl_table.specs.Table.{state_of};
 ghost use Rattle.gl_model.specs.Tellings.{told, told_but};
 ghost use Rattle.gl_modes.specs.declared.mode.Mode.TheVariants.{S, X};
 ghost use Rattle.gl_modes.specs.Modes.{same_mode, is_at_least};
-ghost use Rattle.gl_graph.specs.Graph.{shape_of, first_parent, parents_of};
-ghost use Rattle.gl_graph.specs.Shapes.{is_record_shape, is_index_of_shape, is_movable_shape, least_parents};
-ghost use Rattle.gl_header.specs.Header.{holds};
+ghost use Rattle.gl_graph.specs.Graph.{shape_of};
+ghost use Rattle.gl_graph.specs.Shapes.{is_record_shape};
 ghost use Rattle.gl_model.specs.Deadlocks.{LocksKeeping, SettlesKeeping};
-ghost use Rattle.gl_model.specs.State.{members, status_of, Settled, waits_for, lives};
+ghost use Rattle.gl_model.specs.State.{status_of, Settled, waits_for};
 ghost use Rattle.gl_waits.specs.Waits.{IsOnNoCycle};
-ghost use Rattle.gl_modes.specs.declared.refusal.Refusal.{Refusal as ARefusal};
 ghost use Rattle.gl_graph.specs.Changes.{rekeyed, rekeyed_parents, with_parents};
-ghost use Rattle.gl_model.specs.declared.txn.Status.TheVariants.{Active};
-ghost use Rattle.gl_graph.specs.Lawful.{AreInnerParents};
 
 use super::Table;
 use gl_model::{Locked, Told, TxnId};
@@ -89,9 +86,7 @@ impl Table {
         ensures told { IfOk result (λ answer. answer.1.items ≡ told_but t.slot (state_of self.old) (state_of self.new)) }
         ensures state { OnOk result (Locks (state_of self.old) t.slot n mode (state_of self.new)) }
         ensures deadlock { OnOk result (LocksKeeping (state_of self.old) t.slot n mode self.old.deadlock (state_of self.new) self.new.deadlock) }
-        ensures refuses { Refuses (first_refusal (lock_tests (state_of self.old) t n mode)) result }
-        ensures held { first_refusal (lock_tests (state_of self.old) t n mode) ≡ None → enters_at (state_of self.old) t.slot n mode ≡ true
-            → holds (members (state_of self.old) n) t.slot ≡ true → IsOk result }
+        ensures refuses { RefusesLock (state_of self.old) t n mode result }
         ensures err { OnErr result (self.new ≡ self.old) }
     {
         let mut told = Told::new();
@@ -141,8 +136,7 @@ impl Table {
     ///
     /// It takes no memory, and looks at the record's parents and waiters alone.
     pub fn remove(&mut self, t: TxnId, rec: NodeId) -> Told
-        requires txn { lives (state_of self.old) t ≡ true }
-        requires active { status_of (state_of self.old) t.slot ≡ Some Active }
+        requires acting { IsActing (state_of self.old) t }
         requires record { is_record_shape (shape_of (state_of self.old).graph rec) ≡ true }
         requires exclusive { same_mode ((state_of self.old).held t.slot rec) X ≡ true }
         ensures state { state_of self.new ≡ deleted (state_of self.old) rec }
@@ -163,12 +157,8 @@ impl Table {
     /// X on each old and each new parent. Linear in the parents and the waiters of the record. It
     /// takes no memory, and refuses nothing.
     pub fn reparent(&mut self, t: TxnId, rec: NodeId, index: NodeId, key: u64) -> Told
-        requires txn { lives (state_of self.old) t ≡ true }
-        requires active { status_of (state_of self.old) t.slot ≡ Some Active }
-        requires record { is_record_shape (shape_of (state_of self.old).graph rec) ≡ true }
-        requires index { is_index_of_shape (first_parent (state_of self.old).graph rec) (shape_of (state_of self.old).graph index) ≡ true }
-        requires exclusive { need_exclusive (state_of self.old) t.slot rec true (rekeyed_parents (state_of self.old).graph rec index key) ≡ None }
-        requires parents { need_new_parents (state_of self.old) t.slot rec (rekeyed_parents (state_of self.old).graph rec index key) ≡ None }
+        requires acting { IsActing (state_of self.old) t }
+        requires allowed { CanRekey (state_of self.old) t.slot rec index key }
         ensures state { state_of self.new ≡ moved_to (state_of self.old) rec (rekeyed_parents (state_of self.old).graph rec index key)
             (rekeyed (state_of self.old).graph rec index key) }
         ensures deadlock { self.new.deadlock ≡ self.old.deadlock }
@@ -191,18 +181,12 @@ impl Table {
     /// Refused with `Cycle`, naming the first new parent that is the node or has a path to it, and
     /// with `NoMemory`, also where the search for such a path had too little.
     pub fn regraft(&mut self, t: TxnId, n: NodeId, parents: &[NodeId]) -> Result<Told, Refusal>
-        requires txn { lives (state_of self.old) t ≡ true }
-        requires active { status_of (state_of self.old) t.slot ≡ Some Active }
-        requires movable { is_movable_shape (shape_of (state_of self.old).graph n) ≡ true }
-        requires inner { AreInnerParents (state_of self.old).graph (least_parents (shape_of (state_of self.old).graph n)) parents.now }
-        requires exclusive { need_exclusive (state_of self.old) t.slot n
-            (some_given (parents_of (state_of self.old).graph n) && some_given parents.now) parents.now ≡ None }
-        requires rule { need_new_parents (state_of self.old) t.slot n parents.now ≡ None }
+        requires acting { IsActing (state_of self.old) t }
+        requires allowed { CanMove (state_of self.old) t.slot n parents.now }
         ensures told { IfOk result (λ list. list.items ≡ told (state_of self.old) (state_of self.new)) }
         ensures state { OnOk result (state_of self.new ≡ moved_to (state_of self.old) n parents.now (with_parents (state_of self.old).graph n parents.now)) }
         ensures deadlock { self.new.deadlock ≡ self.old.deadlock }
-        ensures clear { OnOk result (first_cycle (state_of self.old).graph n parents.now ≡ None) }
-        ensures refused { IfErr result (λ r. (r ≡ ARefusal.NoMemory) ⊎ (first_cycle (state_of self.old).graph n parents.now ≡ Some r)) }
+        ensures refuses { RefusesCycle (state_of self.old).graph n parents.now result }
         ensures err { OnErr result (self.new ≡ self.old) }
     {
         let mut told = Told::new();
@@ -217,8 +201,7 @@ impl Table {
     ///
     /// It takes no memory, and goes over what the transaction holds.
     pub fn shed(&mut self, t: TxnId, n: NodeId) -> (u32, u32, Told)
-        requires txn { lives (state_of self.old) t ≡ true }
-        requires active { status_of (state_of self.old) t.slot ≡ Some Active }
+        requires acting { IsActing (state_of self.old) t }
         requires reads { is_at_least ((state_of self.old).held t.slot n) S ≡ true }
         ensures state { state_of self.new ≡ shed (state_of self.old) t.slot n }
         ensures deadlock { self.new.deadlock ≡ self.old.deadlock }

@@ -3,7 +3,7 @@
 ghost use Rattle.std.specs.Prelude.{◌≡◌, [], IfOk, IsOk, None, OnErr, OnOk, true};
 ghost use Rattle.gl_graph.specs.Refusals.{Refuses, first_refusal, verdict};
 ghost use Rattle.gl_header.specs.Header.{holds};
-ghost use Rattle.gl_model.specs.Calls.{locked_as, Locks, enters_at, granted, wanted, lock_tests, try_tests};
+ghost use Rattle.gl_model.specs.Calls.{KeepsAll, Locks, RefusesLock, granted, lock_tests, locked_as, try_tests, wanted};
 ghost use Rattle.gl_model.specs.Deadlocks.{LocksKeeping};
 ghost use Rattle.gl_model.specs.State.{members, status_of};
 ghost use Rattle.gl_table.specs.Table.{state_of};
@@ -36,13 +36,10 @@ impl Table {
         requires empty { notices.old.items ≡ [] }
         ensures answer { IfOk result (λ locked. locked ≡ locked_as ((state_of self.new).held t.slot n) (status_of (state_of self.new) t.slot)) }
         ensures told { OnOk result (notices.new.items ≡ told_but t.slot (state_of self.old) (state_of self.new)) }
-        ensures untold { OnErr result (notices.new ≡ notices.old) }
         ensures state { OnOk result (Locks (state_of self.old) t.slot n mode (state_of self.new)) }
         ensures deadlock { OnOk result (LocksKeeping (state_of self.old) t.slot n mode self.old.deadlock (state_of self.new) self.new.deadlock) }
-        ensures refuses { Refuses (first_refusal (lock_tests (state_of self.old) t n mode)) result }
-        ensures held { first_refusal (lock_tests (state_of self.old) t n mode) ≡ None → enters_at (state_of self.old) t.slot n mode ≡ true
-            → holds (members (state_of self.old) n) t.slot ≡ true → IsOk result }
-        ensures err { OnErr result (self.new ≡ self.old) }
+        ensures refuses { RefusesLock (state_of self.old) t n mode result }
+        ensures kept { OnErr result (KeepsAll self.old self.new notices.old notices.new) }
     {
         let (_, locked) = self.lock_from(t, n, mode, notices)?;
         Ok(locked)
@@ -61,13 +58,10 @@ impl Table {
         ensures before { IfOk result (λ x. x.0 ≡ (state_of self.old).held t.slot n) }
         ensures answer { IfOk result (λ x. x.1 ≡ locked_as ((state_of self.new).held t.slot n) (status_of (state_of self.new) t.slot)) }
         ensures told { OnOk result (notices.new.items ≡ told_but t.slot (state_of self.old) (state_of self.new)) }
-        ensures untold { OnErr result (notices.new ≡ notices.old) }
         ensures state { OnOk result (Locks (state_of self.old) t.slot n mode (state_of self.new)) }
         ensures deadlock { OnOk result (LocksKeeping (state_of self.old) t.slot n mode self.old.deadlock (state_of self.new) self.new.deadlock) }
-        ensures refuses { Refuses (first_refusal (lock_tests (state_of self.old) t n mode)) result }
-        ensures held { first_refusal (lock_tests (state_of self.old) t n mode) ≡ None → enters_at (state_of self.old) t.slot n mode ≡ true
-            → holds (members (state_of self.old) n) t.slot ≡ true → IsOk result }
-        ensures err { OnErr result (self.new ≡ self.old) }
+        ensures refuses { RefusesLock (state_of self.old) t n mode result }
+        ensures kept { OnErr result (KeepsAll self.old self.new notices.old notices.new) }
     {
         let locks = &mut self.locks;
         let (held, parents) = locks.ledger.check_ask(&locks.graph, t, n, mode)?;

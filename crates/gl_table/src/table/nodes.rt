@@ -1,17 +1,15 @@
 //! New nodes of the graph.
 
-ghost use Rattle.std.specs.Prelude.{◌≡◌, [], IfErr, IfOk, None, OnErr, OnOk, Some, false, true};
+ghost use Rattle.std.specs.Prelude.{◌≡◌, [], IfOk, None, OnErr, OnOk, false, true};
 ghost use Rattle.gl_modes.specs.Modes.{same_mode};
 ghost use Rattle.gl_modes.specs.declared.mode.Mode.TheVariants.{X};
-ghost use Rattle.gl_modes.specs.declared.refusal.Refusal.{Refusal as ARefusal};
 ghost use Rattle.gl_graph.specs.Changes.{IsBorn, IsIndexBorn};
 ghost use Rattle.gl_graph.specs.Graph.{shape_of};
 ghost use Rattle.gl_graph.specs.Refusals.{Refuses, file_refusal, index_refusal, inner_refusal, is_in_use, reindex_refusal};
 ghost use Rattle.gl_graph.specs.Shapes.{File, Inner, is_movable_shape};
-ghost use Rattle.gl_model.specs.Calls.{dropped, first_not_ix};
-ghost use Rattle.gl_model.specs.State.{lives, status_of, with_grant, with_graph};
+ghost use Rattle.gl_model.specs.Calls.{IsActing, RefusesForMemory, dropped, first_not_ix};
+ghost use Rattle.gl_model.specs.State.{with_grant, with_graph};
 ghost use Rattle.gl_model.specs.Tellings.{told};
-ghost use Rattle.gl_model.specs.declared.txn.Status.TheVariants.{Active};
 ghost use Rattle.gl_table.specs.Table.{state_of};
 
 use super::Table;
@@ -83,15 +81,13 @@ impl Table {
         file: NodeId,
         bounds: &[u64],
     ) -> Result<NodeId, Refusal>
-        requires txn { lives (state_of self.old) t ≡ true }
-        requires active { status_of (state_of self.old) t.slot ≡ Some Active }
+        requires acting { IsActing (state_of self.old) t }
         requires free { reindex_refusal (state_of self.old).graph parents.now file bounds.now ≡ None }
         requires writable { first_not_ix ((state_of self.old).held t.slot) parents.now ≡ None }
         ensures made { IfOk result (λ n. IsIndexBorn (state_of self.old).graph (state_of self.new).graph n parents.now file bounds.now) }
         ensures state { IfOk result (λ n. state_of self.new ≡ with_grant (with_graph (state_of self.old) (state_of self.new).graph) t.slot n X) }
         ensures deadlock { self.new.deadlock ≡ self.old.deadlock }
-        ensures memory { IfErr result (λ r. r ≡ ARefusal.NoMemory) }
-        ensures err { OnErr result (self.new ≡ self.old) }
+        ensures refuses { RefusesForMemory result self.old self.new }
     {
         let locks = &mut self.locks;
         let prepared = locks
@@ -109,8 +105,7 @@ impl Table {
     /// gone, in an empty list. It takes no memory.
     pub fn drop_telling(&mut self, t: TxnId, n: NodeId, notices: &mut Told)
         requires empty { notices.old.items ≡ [] }
-        requires txn { lives (state_of self.old) t ≡ true }
-        requires active { status_of (state_of self.old) t.slot ≡ Some Active }
+        requires acting { IsActing (state_of self.old) t }
         requires movable { is_movable_shape (shape_of (state_of self.old).graph n) ≡ true }
         requires free { is_in_use (state_of self.old).graph n ≡ false }
         requires exclusive { same_mode ((state_of self.old).held t.slot n) X ≡ true }

@@ -1,18 +1,16 @@
 //! Records come and go.
 
-ghost use Rattle.std.specs.Prelude.{◌≡◌, ◌∷◌, ◌||◌, [], IfErr, IfOk, None, OnErr, OnOk, Some, length, true};
+ghost use Rattle.std.specs.Prelude.{◌≡◌, ◌∷◌, ◌||◌, [], IfOk, None, OnErr, OnOk, true};
 ghost use Rattle.gl_modes.specs.declared.mode.Mode.TheVariants.{S, X};
-ghost use Rattle.gl_modes.specs.declared.refusal.Refusal.{Refusal as ARefusal};
 ghost use Rattle.gl_modes.specs.Modes.{same_mode};
 ghost use Rattle.gl_graph.specs.Changes.{IsAdopted, IsBorn, without_node};
-ghost use Rattle.gl_graph.specs.Graph.{indexes_of, record_parents, shape_of};
+ghost use Rattle.gl_graph.specs.Graph.{record_parents, shape_of};
 ghost use Rattle.gl_graph.specs.Refusals.{Refuses, first_refusal, record_refusal, too_many_nodes, verdict, worn_births};
-ghost use Rattle.gl_graph.specs.Shapes.{Rec, is_file_shape, is_record_shape};
-ghost use Rattle.gl_model.specs.Calls.{deleted, first_not_ix, is_idle, rule_refusal};
-ghost use Rattle.gl_model.specs.State.{lives, status_of, with_grant, with_graph};
+ghost use Rattle.gl_graph.specs.Shapes.{Rec, is_record_shape};
+ghost use Rattle.gl_model.specs.Calls.{CanPlace, CanTakeRecord, IsActing, RefusesForMemory, deleted, first_not_ix, is_idle, rule_refusal};
+ghost use Rattle.gl_model.specs.State.{lives, with_grant, with_graph};
 ghost use Rattle.gl_table.specs.Table.{state_of};
 ghost use Rattle.gl_model.specs.Tellings.{told};
-ghost use Rattle.gl_model.specs.declared.txn.Status.TheVariants.{Active};
 
 use super::Table;
 use crate::rule::check_rule;
@@ -27,11 +25,8 @@ impl Table {
     /// Refused, in this order, with `WornOut`, `TooManyNodes` and `NoMemory`. All room is made before
     /// anything changes.
     pub fn place(&mut self, t: TxnId, file: NodeId, keys: &[u64]) -> Result<NodeId, Refusal>
-        requires txn { lives (state_of self.old) t ≡ true }
-        requires active { status_of (state_of self.old) t.slot ≡ Some Active }
-        requires file { is_file_shape (shape_of (state_of self.old).graph file) ≡ true }
-        requires keys { length keys.now ≡ length (indexes_of (state_of self.old).graph file) }
-        requires parents { first_not_ix ((state_of self.old).held t.slot) (record_parents (state_of self.old).graph file keys.now) ≡ None }
+        requires acting { IsActing (state_of self.old) t }
+        requires allowed { CanPlace (state_of self.old) t.slot file keys.now }
         ensures made { IfOk result (λ n. IsBorn (state_of self.old).graph (state_of self.new).graph n (Rec keys.now)
             (record_parents (state_of self.old).graph file keys.now)) }
         ensures state { IfOk result (λ n. state_of self.new ≡ with_grant (with_graph (state_of self.old) (state_of self.new).graph) t.slot n X) }
@@ -58,17 +53,14 @@ impl Table {
         keys: &[u64],
         parents: &[NodeId],
     ) -> Result<NodeId, Refusal>
-        requires txn { lives (state_of self.old) t ≡ true }
-        requires active { status_of (state_of self.old) t.slot ≡ Some Active }
-        requires free { record_refusal (state_of self.old).graph file keys.now ≡ None }
-        requires parents { parents.now ≡ record_parents (state_of self.old).graph file keys.now }
+        requires acting { IsActing (state_of self.old) t }
+        requires free { CanTakeRecord (state_of self.old).graph file keys.now parents.now }
         requires writable { first_not_ix ((state_of self.old).held t.slot) parents.now ≡ None }
         ensures made { IfOk result (λ n. IsBorn (state_of self.old).graph (state_of self.new).graph n (Rec keys.now)
             (record_parents (state_of self.old).graph file keys.now)) }
         ensures state { IfOk result (λ n. state_of self.new ≡ with_grant (with_graph (state_of self.old) (state_of self.new).graph) t.slot n X) }
         ensures deadlock { self.new.deadlock ≡ self.old.deadlock }
-        ensures memory { IfErr result (λ r. r ≡ ARefusal.NoMemory) }
-        ensures err { OnErr result (self.new ≡ self.old) }
+        ensures refuses { RefusesForMemory result self.old self.new }
     {
         let locks = &mut self.locks;
         let prepared = locks
@@ -119,17 +111,14 @@ impl Table {
         parents: &[NodeId],
         mode: Mode,
     ) -> Result<NodeId, Refusal>
-        requires txn { lives (state_of self.old) t ≡ true }
-        requires active { status_of (state_of self.old) t.slot ≡ Some Active }
-        requires free { record_refusal (state_of self.old).graph file keys.now ≡ None }
-        requires parents { parents.now ≡ record_parents (state_of self.old).graph file keys.now }
+        requires acting { IsActing (state_of self.old) t }
+        requires free { CanTakeRecord (state_of self.old).graph file keys.now parents.now }
         requires fit { (same_mode mode S || same_mode mode X) ≡ true }
         requires rule { rule_refusal ((state_of self.old).held t.slot) parents.now mode ≡ None }
         ensures made { IfOk result (λ n. IsAdopted (state_of self.old).graph (state_of self.new).graph n file keys.now) }
         ensures state { IfOk result (λ n. state_of self.new ≡ with_grant (with_graph (state_of self.old) (state_of self.new).graph) t.slot n mode) }
         ensures deadlock { self.new.deadlock ≡ self.old.deadlock }
-        ensures memory { IfErr result (λ r. r ≡ ARefusal.NoMemory) }
-        ensures err { OnErr result (self.new ≡ self.old) }
+        ensures refuses { RefusesForMemory result self.old self.new }
     {
         let locks = &mut self.locks;
         let prepared = locks.ledger.prepare(t.slot, locks.graph.next_key(), mode)?;
@@ -155,8 +144,7 @@ impl Table {
     /// As `remove`, with the notices put into an empty list.
     pub fn remove_telling(&mut self, t: TxnId, rec: NodeId, notices: &mut Told)
         requires empty { notices.old.items ≡ [] }
-        requires txn { lives (state_of self.old) t ≡ true }
-        requires active { status_of (state_of self.old) t.slot ≡ Some Active }
+        requires acting { IsActing (state_of self.old) t }
         requires record { is_record_shape (shape_of (state_of self.old).graph rec) ≡ true }
         requires exclusive { same_mode ((state_of self.old).held t.slot rec) X ≡ true }
         ensures state { state_of self.new ≡ deleted (state_of self.old) rec }

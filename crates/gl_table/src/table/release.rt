@@ -2,7 +2,7 @@
 
 ghost use Rattle.std.specs.Prelude.{◌≡◌, [], OnErr, OnOk};
 ghost use Rattle.gl_graph.specs.Refusals.{first_refusal};
-ghost use Rattle.gl_model.specs.Calls.{RefusesOnly, released, unlocked, commit_tests, living_tests, unlock_tests};
+ghost use Rattle.gl_model.specs.Calls.{KeepsAll, RefusesOnly, released, unlocked, commit_tests, living_tests, unlock_tests};
 ghost use Rattle.gl_table.specs.Table.{state_of};
 ghost use Rattle.gl_model.specs.Tellings.{told};
 
@@ -15,11 +15,10 @@ impl Table {
     pub fn unlock_telling(&mut self, t: TxnId, n: NodeId, notices: &mut Told) -> Result<(), Refusal>
         requires empty { notices.old.items ≡ [] }
         ensures told { OnOk result (notices.new.items ≡ told (state_of self.old) (state_of self.new)) }
-        ensures untold { OnErr result (notices.new ≡ notices.old) }
         ensures state { OnOk result (state_of self.new ≡ unlocked (state_of self.old) t.slot n) }
         ensures deadlock { self.new.deadlock ≡ self.old.deadlock }
         ensures refuses { RefusesOnly (first_refusal (unlock_tests (state_of self.old) t n)) result }
-        ensures err { OnErr result (self.new ≡ self.old) }
+        ensures kept { OnErr result (KeepsAll self.old self.new notices.old notices.new) }
     {
         self.check_active(t)?;
         self.check_node(n)?;
@@ -32,11 +31,10 @@ impl Table {
     pub fn commit_telling(&mut self, t: TxnId, notices: &mut Told) -> Result<(), Refusal>
         requires empty { notices.old.items ≡ [] }
         ensures told { OnOk result (notices.new.items ≡ told (state_of self.old) (state_of self.new)) }
-        ensures untold { OnErr result (notices.new ≡ notices.old) }
         ensures state { OnOk result (state_of self.new ≡ released (state_of self.old) t.slot) }
         ensures deadlock { self.new.deadlock ≡ self.old.deadlock }
         ensures refuses { RefusesOnly (first_refusal (commit_tests (state_of self.old) t)) result }
-        ensures err { OnErr result (self.new ≡ self.old) }
+        ensures kept { OnErr result (KeepsAll self.old self.new notices.old notices.new) }
     {
         self.check_active(t)?;
         self.locks.end(t.slot, notices);
@@ -47,11 +45,10 @@ impl Table {
     pub fn abort_telling(&mut self, t: TxnId, notices: &mut Told) -> Result<(), Refusal>
         requires empty { notices.old.items ≡ [] }
         ensures told { OnOk result (notices.new.items ≡ told (state_of self.old) (state_of self.new)) }
-        ensures untold { OnErr result (notices.new ≡ notices.old) }
         ensures state { OnOk result (state_of self.new ≡ released (state_of self.old) t.slot) }
         ensures deadlock { self.new.deadlock ≡ self.old.deadlock }
         ensures refuses { RefusesOnly (first_refusal (living_tests (state_of self.old) t)) result }
-        ensures err { OnErr result (self.new ≡ self.old) }
+        ensures kept { OnErr result (KeepsAll self.old self.new notices.old notices.new) }
     {
         self.check_txn(t)?;
         self.locks.abort(t.slot, notices);

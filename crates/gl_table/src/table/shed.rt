@@ -1,13 +1,11 @@
 //! Locks on children that a lock on their parent covers.
 
-ghost use Rattle.std.specs.Prelude.{◌≡◌, ◌-◌, [], Some, true};
+ghost use Rattle.std.specs.Prelude.{◌≡◌, ◌-◌, [], true};
 ghost use Rattle.gl_modes.specs.declared.mode.Mode.TheVariants.{S};
 ghost use Rattle.gl_modes.specs.Modes.{is_at_least};
-ghost use Rattle.gl_model.specs.Calls.{shed, covered_children, held_children};
-ghost use Rattle.gl_model.specs.State.{lives, status_of};
+ghost use Rattle.gl_model.specs.Calls.{IsActing, covered_children, held_children, shed};
 ghost use Rattle.gl_table.specs.Table.{state_of};
 ghost use Rattle.gl_model.specs.Tellings.{told};
-ghost use Rattle.gl_model.specs.declared.txn.Status.TheVariants.{Active};
 
 use super::Table;
 use gl_model::{Told, TxnId};
@@ -17,8 +15,7 @@ impl Table {
     /// As `shed`, with the notices put into an empty list.
     pub fn shed_telling(&mut self, t: TxnId, n: NodeId, notices: &mut Told) -> (u32, u32)
         requires empty { notices.old.items ≡ [] }
-        requires txn { lives (state_of self.old) t ≡ true }
-        requires active { status_of (state_of self.old) t.slot ≡ Some Active }
+        requires acting { IsActing (state_of self.old) t }
         requires reads { is_at_least ((state_of self.old).held t.slot n) S ≡ true }
         ensures state { state_of self.new ≡ shed (state_of self.old) t.slot n }
         ensures deadlock { self.new.deadlock ≡ self.old.deadlock }

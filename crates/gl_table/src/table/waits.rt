@@ -2,7 +2,7 @@
 
 ghost use Rattle.std.specs.Prelude.{◌≡◌, [], IfOk, OnErr, OnOk, true};
 ghost use Rattle.gl_graph.specs.Refusals.{first_refusal};
-ghost use Rattle.gl_model.specs.Calls.{RefusesOnly, cancelled, cancel_tests, living_tests};
+ghost use Rattle.gl_model.specs.Calls.{KeepsAll, RefusesOnly, cancelled, cancel_tests, living_tests};
 ghost use Rattle.gl_model.specs.Deadlocks.{SettlesKeeping};
 ghost use Rattle.gl_model.specs.State.{is_waiting_at, Settled, waits_for};
 ghost use Rattle.gl_table.specs.Table.{state_of};
@@ -18,11 +18,10 @@ impl Table {
     pub fn cancel_telling(&mut self, t: TxnId, notices: &mut Told) -> Result<(), Refusal>
         requires empty { notices.old.items ≡ [] }
         ensures told { OnOk result (notices.new.items ≡ told_but t.slot (state_of self.old) (state_of self.new)) }
-        ensures untold { OnErr result (notices.new ≡ notices.old) }
         ensures state { OnOk result (state_of self.new ≡ cancelled (state_of self.old) t.slot) }
         ensures deadlock { self.new.deadlock ≡ self.old.deadlock }
         ensures refuses { RefusesOnly (first_refusal (cancel_tests (state_of self.old) t)) result }
-        ensures err { OnErr result (self.new ≡ self.old) }
+        ensures kept { OnErr result (KeepsAll self.old self.new notices.old notices.new) }
     {
         let node = self.check_waiting(t)?;
         self.locks.withdraw(t.slot, node, Status::Active, notices);
@@ -33,13 +32,12 @@ impl Table {
     pub fn settle_telling(&mut self, t: TxnId, notices: &mut Told) -> Result<(), Refusal>
         requires empty { notices.old.items ≡ [] }
         ensures told { OnOk result (notices.new.items ≡ told (state_of self.old) (state_of self.new)) }
-        ensures untold { OnErr result (notices.new ≡ notices.old) }
         ensures state { OnOk result (Settled (state_of self.old).victims (state_of self.old) t.slot (state_of self.new)) }
         ensures deadlock { OnOk result (SettlesKeeping (state_of self.old).victims (state_of self.old) t.slot self.old.deadlock
             (state_of self.new) self.new.deadlock) }
         ensures idle { IsOnNoCycle (waits_for (state_of self.old)) t.slot → OnOk result ((notices.new.items ≡ []) × (state_of self.new ≡ state_of self.old)) }
         ensures refuses { RefusesOnly (first_refusal (living_tests (state_of self.old) t)) result }
-        ensures err { OnErr result (self.new ≡ self.old) }
+        ensures kept { OnErr result (KeepsAll self.old self.new notices.old notices.new) }
     {
         self.check_txn(t)?;
         self.locks

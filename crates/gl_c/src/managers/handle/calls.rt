@@ -129,6 +129,7 @@ impl Handle {
     }
 
     /// Carries out a call about rows, and writes down whom it tells.
+    #[inline(always)]
     pub(crate) fn carry_out_row(&mut self, call: RowCall<'_>, told: &mut Notices) -> Reply
         ensures { CarriesRow (guarded_in self.old) call.entry result told.new (guarded_in self.new) }
     {

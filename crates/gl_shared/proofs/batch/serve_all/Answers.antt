@@ -36,7 +36,7 @@ pub loop-command-preserved : goal.loop-command-preserved
 loop-command-preserved g c =
     let cs = c.args.commands.now in
     let e = c.serve_telling-answer.ensures in
-    let one = serves_one _ _ _ _ _ e.step (λ no. ((e.refused no).0, (e.refused no).2)) (λ yes. (e.accepted yes).0) e.boxes e.waited e.list in
+    let one = serves_one _ _ _ _ _ e.step (λ no. ((e.refused no).0, (e.refused no).2)) (λ yes. (e.accepted yes).0) e.boxes (λ yes. (e.accepted yes).2) e.list in
     let so_far = c.loop-command.answers.items in
     let inv = c.loop-command.invariant in
     let items = c.push_reserved.ensures.items in
@@ -64,8 +64,8 @@ returns-then-last-clause-run g c =
     let e = c.serve_telling-answer.ensures in
     subst (λ (l : List Answer). Serves c.args.guarded.now c.args.commands.now l c.serve_telling-answer.new.self) (sym c.push_reserved.ensures.items)
     (serves_next _ _ _ c.args.commands.now c.loop-command.answers.items c.loop-command.command-index _ c.serve_telling-answer.result _ inv.answered
-    c.loop-command-test.true inv.ran (serves_one _ _ _ _ _ e.step (λ no. ((e.refused no).0, (e.refused no).2)) (λ yes. (e.accepted yes).0) e.boxes e.waited
-    e.list))
+    c.loop-command-test.true inv.ran (serves_one _ _ _ _ _ e.step (λ no. ((e.refused no).0, (e.refused no).2)) (λ yes. (e.accepted yes).0) e.boxes
+    (λ yes. (e.accepted yes).2) e.list))
 
 pub returns-then-last-clause-stops : goal.returns-then-last-clause-stops
 returns-then-last-clause-stops g c =
@@ -89,7 +89,8 @@ returns-then-last-clause-book g c =
     let e = c.serve_telling-answer.ensures in
     share_more c.args.commands.now c.loop-command.answers.items _ c.loop-command.command-index _ c.serve_telling-answer.result _ _ _ inv.answered
     c.loop-command-test.true c.push_reserved.ensures.items
-    (serves_one _ _ _ _ _ e.step (λ no. ((e.refused no).0, (e.refused no).2)) (λ yes. (e.accepted yes).0) e.boxes e.waited e.list).book inv.book
+    (serves_one _ _ _ _ _ e.step (λ no. ((e.refused no).0, (e.refused no).2)) (λ yes. (e.accepted yes).0) e.boxes (λ yes. (e.accepted yes).2)
+    e.list).book inv.book
 
 pub returns-then-last-clause-ended : goal.returns-then-last-clause-ended
 returns-then-last-clause-ended g c =

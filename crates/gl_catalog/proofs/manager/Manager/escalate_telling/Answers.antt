@@ -13,7 +13,7 @@ use Rattle.gl_catalog.specs.Replies.{CallSteps, rising}
 use Rattle.gl_catalog.specs.Sound.{view_of}
 use Rattle.gl_steps.specs.Tests.{escalate_asks, worn}
 use Rattle.gl_catalog.proofs.Completed.{completed, escalation_counted}
-use Rattle.gl_catalog.proofs.Raising.{asked_is, asks_err, raised_active, raised_lives, reads, shed_step, tried_err}
+use Rattle.gl_catalog.proofs.Raising.{asked_is, asks_err, raised_acting, reads, shed_step, tried_err}
 use Rattle.gl_catalog.proofs.manager.Manager.escalate_telling.Goals.{After-try_lock, then-writes_below, else-writes_below}
 use Rattle.gl_catalog.proofs.manager.Manager.escalate_telling.Goals as goal
 
@@ -47,16 +47,10 @@ returns-in_err-mode-clause-step c =
     (tried_err (state_of (view_of c.self.inside)) c.args.t c.args.n (passed p) c.self.invariant.lawful c.if-writes_below.asked
     (asked p) c.in_err-mode.field-0.0 c.in_err-mode.ensures.refuses c.in_err-mode.ensures.held)
 
-pub shed_telling-released-requires-clause-txn : goal.shed_telling-released-requires-clause-txn
-shed_telling-released-requires-clause-txn c =
-    let p = (goal.at.shed_telling-released-requires-clause-txn c).After-try_lock in
-    raised_lives c.self.inside.accepted (table_state c.self.inside.table) c.args.t c.args.n (passed p) c.if-writes_below.asked (asked p)
-    (table_state c.try_lock.new.self) c.in_ok-mode.ensures.state
-
-pub shed_telling-released-requires-clause-active : goal.shed_telling-released-requires-clause-active
-shed_telling-released-requires-clause-active c =
-    let p = (goal.at.shed_telling-released-requires-clause-active c).After-try_lock in
-    raised_active c.self.inside.accepted (table_state c.self.inside.table) c.args.t c.args.n (passed p) c.if-writes_below.asked (asked p)
+pub shed_telling-released-requires-clause-acting : goal.shed_telling-released-requires-clause-acting
+shed_telling-released-requires-clause-acting c =
+    let p = (goal.at.shed_telling-released-requires-clause-acting c).After-try_lock in
+    raised_acting c.self.inside.accepted (table_state c.self.inside.table) c.args.t c.args.n (passed p) c.if-writes_below.asked (asked p)
     (table_state c.try_lock.new.self) c.in_ok-mode.ensures.state
 
 pub shed_telling-released-requires-clause-reads : goal.shed_telling-released-requires-clause-reads

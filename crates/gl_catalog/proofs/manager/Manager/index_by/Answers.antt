@@ -60,7 +60,7 @@ returns-in_err-index-clause-step c =
     c.args.self.now c.self.view_is
     (index_by_tests (table_state c.self.inside.table) c.args.t c.args.parents.now c.args.file c.args.bounds.now) refl c.in_err-index.field-0.0
     c.add_index_held.new.self c.in_ok-check_count.ensures (λ _. refl) (subst (λ (o : Option Refusal). Refuses {T = NodeId} o
-    (Err c.in_err-index.field-0.0)) (sym (passed at)) c.in_err-index.ensures.memory) c.in_err-index.ensures.err)
+    (Err c.in_err-index.field-0.0)) (sym (passed at)) c.in_err-index.ensures.refuses.memory) c.in_err-index.ensures.refuses.err)
 
 pub returns-clause-step : goal.returns-clause-step
 returns-clause-step c =

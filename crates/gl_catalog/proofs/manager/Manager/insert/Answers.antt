@@ -42,17 +42,13 @@ may c = may_insert (table_state c.self.inside.table) c.args.t c.args.file c.args
 parents_are : (c : In_ok-parents) → c.in_ok-parents.parents.items ≡ record_parents (table_state c.self.inside.table).graph c.args.file c.args.keys.now
 parents_are c = c.in_ok-parents.ensures.parents ∙ ap (λ (v : ManagerView). record_parents (state_of v).graph c.args.file c.args.keys.now) (sym c.self.view_is)
 
-pub place_under-requires-clause-txn : goal.place_under-requires-clause-txn
-place_under-requires-clause-txn c = (may (goal.at.place_under-requires-clause-txn c).In_ok-parents).txn
-
-pub place_under-requires-clause-active : goal.place_under-requires-clause-active
-place_under-requires-clause-active c = (may (goal.at.place_under-requires-clause-active c).In_ok-parents).active
+pub place_under-requires-clause-acting : goal.place_under-requires-clause-acting
+place_under-requires-clause-acting c = (may (goal.at.place_under-requires-clause-acting c).In_ok-parents).acting
 
 pub place_under-requires-clause-free : goal.place_under-requires-clause-free
-place_under-requires-clause-free c = (may (goal.at.place_under-requires-clause-free c).In_ok-parents).free
-
-pub place_under-requires-clause-parents : goal.place_under-requires-clause-parents
-place_under-requires-clause-parents c = c.as_slice.ensures.value ∙ parents_are (goal.at.place_under-requires-clause-parents c).In_ok-parents
+place_under-requires-clause-free c =
+    let at = (goal.at.place_under-requires-clause-free c).In_ok-parents in
+    record { free = (may at).free; parents = c.as_slice.ensures.value ∙ parents_are at }
 
 pub place_under-requires-clause-writable : goal.place_under-requires-clause-writable
 place_under-requires-clause-writable c =
@@ -68,7 +64,7 @@ returns-in_err-rec-clause-step c =
     (managed_err_or_memory made (command.Insert c.args.t c.args.file c.args.keys) c.self.inside.table c.self.inside.accepted c.args.self.now c.self.view_is
     (insert_tests (table_state c.self.inside.table) c.args.t c.args.file c.args.keys.now) refl
     c.in_err-rec.field-0.0 c.place_under.new.self c.in_ok-check_count.ensures (λ _. refl) (subst (λ (o : Option Refusal). Refuses {T = NodeId} o
-    (Err c.in_err-rec.field-0.0)) (sym (passed at)) c.in_err-rec.ensures.memory) c.in_err-rec.ensures.err)
+    (Err c.in_err-rec.field-0.0)) (sym (passed at)) c.in_err-rec.ensures.refuses.memory) c.in_err-rec.ensures.refuses.err)
 
 pub returns-clause-step : goal.returns-clause-step
 returns-clause-step c =

@@ -31,7 +31,8 @@ returns-in_err-held-clause-step c =
     (command.Lock c.args.t c.args.n c.args.mode) c.self.inside.table c.self.inside.accepted c.args.self.now c.self.view_is (lock_tests
     (table_state c.self.inside.table) c.args.t c.args.n c.args.mode) refl
     c.in_err-held.field-0.0 c.lock_from.new.self c.in_ok-check_count.ensures (λ none. not_both _ _ (λ enters holds. no
-    (c.in_err-held.ensures.held none enters holds))) (refuses_err _ _ _ c.in_err-held.field-0.0 c.in_err-held.ensures.refuses) c.in_err-held.ensures.err)
+    (c.in_err-held.ensures.refuses.held none enters holds))) (refuses_err _ _ _ c.in_err-held.field-0.0 c.in_err-held.ensures.refuses.refuses)
+    c.in_err-held.ensures.kept.err)
 
 -- the manager as the lock left it, before it is counted
 abbrev locked : After-count_lock → ManagerView
@@ -43,7 +44,7 @@ stepped c =
     managed_ok (asking c.lock_from.new.notices.items)
     (command.Lock c.args.t c.args.n c.args.mode) c.self.inside.table c.self.inside.accepted c.args.self.now c.self.view_is (lock_tests
     (table_state c.self.inside.table) c.args.t c.args.n c.args.mode) refl
-    c.in_ok-held.locked c.lock_from.new.self c.in_ok-check_count.ensures (refuses_ok _ _ c.in_ok-held.locked c.in_ok-held.ensures.refuses) refl (
+    c.in_ok-held.locked c.lock_from.new.self c.in_ok-check_count.ensures (refuses_ok _ _ c.in_ok-held.locked c.in_ok-held.ensures.refuses.refuses) refl (
       locks_counting c.self.inside.accepted (table_state c.self.inside.table) c.args.t.slot c.args.n c.args.mode
           (table_state c.lock_from.new.self) c.in_ok-held.ensures.state,
       ap answer_of_lock c.in_ok-held.ensures.answer,
@@ -70,7 +71,8 @@ converts : (c : After-count_lock) → c.ne.result ≡ holds_already (state_of c.
 converts c =
     let is : c.ne.result ≡ not (same_mode c.in_ok-held.held NL) = search rules in
     is ∙ ap (λ m. not (same_mode m NL)) c.in_ok-held.ensures.before
-    ∙ sym (lock_converts (table_state c.self.inside.table) c.args.t c.args.n c.args.mode (c.in_ok-held.held, c.in_ok-held.locked) c.in_ok-held.ensures.refuses)
+    ∙ sym (lock_converts (table_state c.self.inside.table) c.args.t c.args.n c.args.mode (c.in_ok-held.held, c.in_ok-held.locked)
+    c.in_ok-held.ensures.refuses.refuses)
     ∙ ap (λ (v : ManagerView). holds_already (state_of v) c.args.t c.args.n) c.self.view_is
 
 pub returns-clause-step : goal.returns-clause-step

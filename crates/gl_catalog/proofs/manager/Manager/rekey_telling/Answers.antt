@@ -33,23 +33,14 @@ asked c = subst (λ (v : ManagerView). Ok tt ≡ verdict (refusal_of (state_of v
 may : (c : In_ok-check_rekey) → MayReparent (state_of (view_of c.self.inside)) c.args.t c.args.rec c.args.index c.args.key
 may c = may_reparent (state_of (view_of c.self.inside)) c.args.t c.args.rec c.args.index c.args.key (asked c)
 
-pub reparent_telling-requires-clause-txn : goal.reparent_telling-requires-clause-txn
-reparent_telling-requires-clause-txn c = (may (goal.at.reparent_telling-requires-clause-txn c).In_ok-check_rekey).txn
+pub reparent_telling-requires-clause-acting : goal.reparent_telling-requires-clause-acting
+reparent_telling-requires-clause-acting c =
+    let m = (may (goal.at.reparent_telling-requires-clause-acting c).In_ok-check_rekey).acting in record { lives = m.lives; active = m.active }
 
-pub reparent_telling-requires-clause-active : goal.reparent_telling-requires-clause-active
-reparent_telling-requires-clause-active c = (may (goal.at.reparent_telling-requires-clause-active c).In_ok-check_rekey).active
-
-pub reparent_telling-requires-clause-record : goal.reparent_telling-requires-clause-record
-reparent_telling-requires-clause-record c = (may (goal.at.reparent_telling-requires-clause-record c).In_ok-check_rekey).rec
-
-pub reparent_telling-requires-clause-index : goal.reparent_telling-requires-clause-index
-reparent_telling-requires-clause-index c = (may (goal.at.reparent_telling-requires-clause-index c).In_ok-check_rekey).keyed
-
-pub reparent_telling-requires-clause-exclusive : goal.reparent_telling-requires-clause-exclusive
-reparent_telling-requires-clause-exclusive c = (may (goal.at.reparent_telling-requires-clause-exclusive c).In_ok-check_rekey).exclusive
-
-pub reparent_telling-requires-clause-parents : goal.reparent_telling-requires-clause-parents
-reparent_telling-requires-clause-parents c = (may (goal.at.reparent_telling-requires-clause-parents c).In_ok-check_rekey).rule
+pub reparent_telling-requires-clause-allowed : goal.reparent_telling-requires-clause-allowed
+reparent_telling-requires-clause-allowed c =
+    let m = (may (goal.at.reparent_telling-requires-clause-allowed c).In_ok-check_rekey).allowed in
+    record { «record» = m.«record»; index = m.index; exclusive = m.exclusive; parents = m.parents }
 
 pub returns-clause-step : goal.returns-clause-step
 returns-clause-step c =

@@ -31,23 +31,14 @@ asked c = subst (λ (v : ManagerView). Ok tt ≡ verdict (first_refusal (worn (s
 may : (c : In_ok-check_relocate) → MayRegraft (state_of (view_of c.self.inside)) c.args.t c.args.n c.args.parents.now
 may c = may_regraft (state_of (view_of c.self.inside)) c.args.t c.args.n c.args.parents (asked c)
 
-pub regraft_telling-requires-clause-txn : goal.regraft_telling-requires-clause-txn
-regraft_telling-requires-clause-txn c = (may (goal.at.regraft_telling-requires-clause-txn c).In_ok-check_relocate).txn
+pub regraft_telling-requires-clause-acting : goal.regraft_telling-requires-clause-acting
+regraft_telling-requires-clause-acting c =
+    let m = (may (goal.at.regraft_telling-requires-clause-acting c).In_ok-check_relocate).acting in record { lives = m.lives; active = m.active }
 
-pub regraft_telling-requires-clause-active : goal.regraft_telling-requires-clause-active
-regraft_telling-requires-clause-active c = (may (goal.at.regraft_telling-requires-clause-active c).In_ok-check_relocate).active
-
-pub regraft_telling-requires-clause-movable : goal.regraft_telling-requires-clause-movable
-regraft_telling-requires-clause-movable c = (may (goal.at.regraft_telling-requires-clause-movable c).In_ok-check_relocate).movable
-
-pub regraft_telling-requires-clause-inner : goal.regraft_telling-requires-clause-inner
-regraft_telling-requires-clause-inner c = (may (goal.at.regraft_telling-requires-clause-inner c).In_ok-check_relocate).inner
-
-pub regraft_telling-requires-clause-exclusive : goal.regraft_telling-requires-clause-exclusive
-regraft_telling-requires-clause-exclusive c = (may (goal.at.regraft_telling-requires-clause-exclusive c).In_ok-check_relocate).exclusive
-
-pub regraft_telling-requires-clause-rule : goal.regraft_telling-requires-clause-rule
-regraft_telling-requires-clause-rule c = (may (goal.at.regraft_telling-requires-clause-rule c).In_ok-check_relocate).rule
+pub regraft_telling-requires-clause-allowed : goal.regraft_telling-requires-clause-allowed
+regraft_telling-requires-clause-allowed c =
+    let m = (may (goal.at.regraft_telling-requires-clause-allowed c).In_ok-check_relocate).allowed in
+    record { movable = m.movable; inner = m.inner; exclusive = m.exclusive; rule = m.rule }
 
 pub returns-in_err-regraft_telling-clause-step : goal.returns-in_err-regraft_telling-clause-step
 returns-in_err-regraft_telling-clause-step c =
@@ -55,9 +46,9 @@ returns-in_err-regraft_telling-clause-step c =
     let is : c.from_residual-in_err-regraft_telling.result ≡ Err c.in_err-regraft_telling.field-0.0 = search rules in
     subst (λ (x : ManagerView × Result (Unit {0}) Refusal × TableView). CallSteps (state_of x.0) (command.Move c.args.t c.args.n c.args.parents)
     (doing c.regraft_telling.new.notices.items) x.1 (counting c.self.inside.accepted (table_state x.2)))
-    (λ i. (c.self.view_is i, sym is i, sym c.in_err-regraft_telling.ensures.err i))
+    (λ i. (c.self.view_is i, sym is i, sym c.in_err-regraft_telling.ensures.kept.err i))
     (relocate_fails (state_of (view_of c.self.inside)) c.args.t c.args.n c.args.parents
-    (asked at) c.in_err-regraft_telling.field-0.0 c.in_err-regraft_telling.ensures.refused)
+    (asked at) c.in_err-regraft_telling.field-0.0 c.in_err-regraft_telling.ensures.refuses.refused)
 
 pub returns-clause-step : goal.returns-clause-step
 returns-clause-step c = let at = (goal.at.returns-clause-step c).In_ok-check_relocate in
@@ -65,7 +56,7 @@ returns-clause-step c = let at = (goal.at.returns-clause-step c).In_ok-check_rel
     (counting (c.self.inside.accepted + 1) (table_state c.regraft_telling.new.self))) c.self.view_is
     (relocated c.self.inside.accepted (table_state c.self.inside.table)
     (table_state c.regraft_telling.new.self) c.args.t c.args.n c.args.parents c.regraft_telling.new.notices
-    (asked at) c.in_ok-regraft_telling.ensures.clear c.in_ok-regraft_telling.ensures.told c.in_ok-regraft_telling.ensures.state)
+    (asked at) c.in_ok-regraft_telling.ensures.refuses.clear c.in_ok-regraft_telling.ensures.told c.in_ok-regraft_telling.ensures.state)
 
 pub returns-clause-completes : goal.returns-clause-completes
 returns-clause-completes c =

@@ -22,7 +22,7 @@ returns-in_err-unlock_telling-clause-step c =
     (command.Unlock c.args.t c.args.n) c.self.inside.table c.self.inside.accepted c.args.self.now c.self.view_is (unlock_tests
     (table_state c.self.inside.table) c.args.t c.args.n) refl
     c.in_err-unlock_telling.field-0.0 c.unlock_telling.new.self c.in_ok-check_count.ensures c.in_err-unlock_telling.ensures.refuses
-    c.in_err-unlock_telling.ensures.err)
+    c.in_err-unlock_telling.ensures.kept.err)
 
 pub returns-clause-step : goal.returns-clause-step
 returns-clause-step c =

@@ -14,7 +14,7 @@ use Rattle.gl_header.proofs.header.Header.enter_or_wait.Goals as goal
 granted : (c : goal.After-hold) → IsLawful (held_by c.hold.new.self) c.self.inside.queue.items
 granted c =
     let free : is_among_waiters c.args.slot c.self.inside.queue.items ≡ false
-    = subst (λ (x : HeaderState). is_among_waiters c.args.slot x.queue ≡ false) (sym c.self.view_is) c.requires.not_waiting in
+    = subst (λ (x : HeaderState). is_among_waiters c.args.slot x.queue ≡ false) (sym c.self.view_is) c.requires.may.not_waiting in
     let w : c.sup-wanted.result ≡ wanted (state_of c.self.inside) c.args.slot c.args.mode
     = subst (λ (x : HeaderState). c.sup-wanted.result ≡ wanted x c.args.slot c.args.mode) (sym c.self.view_is)
     (c.sup-wanted.ensures ∙ ap (λ x. supremum x c.args.mode) c.mode_of-held.ensures) in
@@ -23,7 +23,7 @@ granted c =
     (sym (c.enters.ensures ∙ ap (λ m. enters slot_limit (members_of c.args.self.now) c.args.self.now.queue c.args.slot m)
     (c.sup-wanted.ensures ∙ ap (λ x. supremum x c.args.mode) c.mode_of-held.ensures)) ∙ c.if-enters.true) in
     lawful-granted (state_of c.self.inside) c.args.slot c.args.mode c.sup-wanted.result
-    (held_by c.hold.new.self) c.self.invariant.lawful free c.requires.below g w c.hold.ensures.held
+    (held_by c.hold.new.self) c.self.invariant.lawful free c.requires.may.below g w c.hold.ensures.held
 
 pub invariant_of-self : goal.invariant_of-self
 invariant_of-self c = record { group = c.hold.ensures.group; lawful = granted c }
@@ -42,7 +42,7 @@ returns-in_err-enqueue-clause-lawful c =
 pub invariant_of-self-2 : goal.invariant_of-self-2
 invariant_of-self-2 c =
     let free : is_among_waiters c.args.slot c.self.inside.queue.items ≡ false
-    = subst (λ (x : HeaderState). is_among_waiters c.args.slot x.queue ≡ false) (sym c.self.view_is) c.requires.not_waiting in
+    = subst (λ (x : HeaderState). is_among_waiters c.args.slot x.queue ≡ false) (sym c.self.view_is) c.requires.may.not_waiting in
     let w : c.sup-wanted.result ≡ wanted (state_of c.self.inside) c.args.slot c.args.mode
     = subst (λ (x : HeaderState). c.sup-wanted.result ≡ wanted x c.args.slot c.args.mode) (sym c.self.view_is)
     (c.sup-wanted.ensures ∙ ap (λ x. supremum x c.args.mode) c.mode_of-held.ensures) in
@@ -53,7 +53,7 @@ invariant_of-self-2 c =
     record {
       group = c.self.invariant.group;
       lawful = lawful-waiting (state_of c.self.inside) c.args.slot c.args.mode c.sup-wanted.result c.enqueue.new.queue.items c.self.invariant.lawful
-          free c.requires.below c.requires.lock g w c.in_ok-enqueue.ensures.ok;
+          free c.requires.may.below c.requires.may.lock g w c.in_ok-enqueue.ensures.ok;
     }
 
 pub returns-clause-queue : goal.returns-clause-queue

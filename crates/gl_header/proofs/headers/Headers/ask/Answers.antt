@@ -29,15 +29,15 @@ here c = is_at-alone c.grow.new.places.items (grown c) c.args.self.now.entries (
     c.index_mut-place.result.now c.in-Ok.ensures.room c.index_mut-place.ensures.value
 
 pub ask_at-requires-clause-place : goal.ask_at-requires-clause-place
-ask_at-requires-clause-place c = (here (goal.at.ask_at-requires-clause-place c).After-index_mut-place).place
+ask_at-requires-clause-place c = let i = here (goal.at.ask_at-requires-clause-place c).After-index_mut-place in record { lawful = i.place; own = i.own }
 
-pub ask_at-requires-clause-own : goal.ask_at-requires-clause-own
-ask_at-requires-clause-own c = (here (goal.at.ask_at-requires-clause-own c).After-index_mut-place).own
-
-pub ask_at-requires-clause-not_waiting : goal.ask_at-requires-clause-not_waiting
-ask_at-requires-clause-not_waiting c =
-    ap (λ (h : HeaderState). is_among_waiters c.args.slot h.queue) (here (goal.at.ask_at-requires-clause-not_waiting c).After-index_mut-place).header
-    ∙ c.requires.not_waiting
+pub ask_at-requires-clause-may : goal.ask_at-requires-clause-may
+ask_at-requires-clause-may c = record {
+  below = c.requires.may.below;
+  not_waiting = ap (λ (h : HeaderState). is_among_waiters c.args.slot h.queue) (here (goal.at.ask_at-requires-clause-may c).After-index_mut-place).header
+      ∙ c.requires.may.not_waiting;
+  lock = c.requires.may.lock;
+}
 
 pub returns-in_default-ask_at-clause-member : goal.returns-in_default-ask_at-clause-member
 returns-in_default-ask_at-clause-member c = let i = here (goal.at.returns-in_default-ask_at-clause-member c).After-index_mut-place in λ member granted.
@@ -49,7 +49,7 @@ pub invariant_of-self-2 : goal.invariant_of-self-2
 invariant_of-self-2 c = let s = (goal.at.invariant_of-self-2 c).After-index_mut-place in
     record {
       places = asked-places c.grow.new.places.items (grown s) c.args.self.now.entries (same s) c.args.node
-          c.index_mut-place.result.now (here s) c.args.slot c.args.mode c.requires.lock c.ask_at.new.place c.in-Ok-ask_at.ensures.stands;
+          c.index_mut-place.result.now (here s) c.args.slot c.args.mode c.requires.may.lock c.ask_at.new.place c.in-Ok-ask_at.ensures.stands;
       spare = c.ask_at.ensures.spare;
     }
 
@@ -58,18 +58,13 @@ returns-clause-answer c =
     c.in-Ok-ask_at.ensures.answer
     ∙ ap (λ h. asked h c.args.slot c.args.mode) (here (goal.at.returns-clause-answer c).After-index_mut-place).header
 
-pub returns-clause-granted : goal.returns-clause-granted
-returns-clause-granted c = let s = (goal.at.returns-clause-granted c).After-index_mut-place in let says = c.in-Ok-ask_at.ensures.stands in
-    asked-granted c.args.self.now.entries _ c.args.node c.args.slot c.args.mode says.header
-    (asked-changed c.grow.new.places.items (grown s) c.args.self.now.entries (same s) c.args.node
-    c.index_mut-place.result.now (here s) c.args.slot c.args.mode c.requires.lock c.ask_at.new.place says)
-    (is_asked c.grow.new.places.items (grown s) c.args.self.now.entries (same s) c.args.node
-    c.index_mut-place.result.now (here s) c.args.slot c.args.mode c.requires.lock c.ask_at.new.place says)
-
-pub returns-clause-waits : goal.returns-clause-waits
-returns-clause-waits c = let s = (goal.at.returns-clause-waits c).After-index_mut-place in let says = c.in-Ok-ask_at.ensures.stands in
-    asked-waits c.args.self.now.entries _ c.args.node c.args.slot c.args.mode says.header
-    (asked-changed c.grow.new.places.items (grown s) c.args.self.now.entries (same s) c.args.node
-    c.index_mut-place.result.now (here s) c.args.slot c.args.mode c.requires.lock c.ask_at.new.place says)
-    (is_asked c.grow.new.places.items (grown s) c.args.self.now.entries (same s) c.args.node
-    c.index_mut-place.result.now (here s) c.args.slot c.args.mode c.requires.lock c.ask_at.new.place says)
+pub returns-clause-asked : goal.returns-clause-asked
+returns-clause-asked c = let s = (goal.at.returns-clause-asked c).After-index_mut-place in let says = c.in-Ok-ask_at.ensures.stands in
+    let changed = asked-changed c.grow.new.places.items (grown s) c.args.self.now.entries (same s) c.args.node
+    c.index_mut-place.result.now (here s) c.args.slot c.args.mode c.requires.may.lock c.ask_at.new.place says in
+    let asks = is_asked c.grow.new.places.items (grown s) c.args.self.now.entries (same s) c.args.node
+    c.index_mut-place.result.now (here s) c.args.slot c.args.mode c.requires.may.lock c.ask_at.new.place says in
+    record {
+      granted = asked-granted c.args.self.now.entries _ c.args.node c.args.slot c.args.mode says.header changed asks;
+      waits = asked-waits c.args.self.now.entries _ c.args.node c.args.slot c.args.mode says.header changed asks;
+    }

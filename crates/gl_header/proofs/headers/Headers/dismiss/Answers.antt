@@ -34,14 +34,14 @@ dismiss_at-requires-clause-front_waits c = ap (λ (h : HeaderState). front slot_
 pub invariant_of-self : goal.invariant_of-self
 invariant_of-self c = let i = here (goal.at.invariant_of-self c).After-index_mut in record {
   places = write-places c.self.inside.places.items c.self.invariant.places c.args.self.now.entries (entries_are c.self.view_is) c.args.node i.within i.before
-      c.dismiss_at.new.place c.dismiss_at.ensures.place (c.dismiss_at.ensures.birth.kept c.args.node.birth i.own);
+      c.dismiss_at.new.place c.dismiss_at.ensures.place.lawful (c.dismiss_at.ensures.place.birth.kept c.args.node.birth i.own);
   spare = c.dismiss_at.ensures.spare;
 }
 
 pub returns-clause-held : goal.returns-clause-held
 returns-clause-held c = let i = here (goal.at.returns-clause-held c).After-index_mut in
     write-held c.self.inside.places.items c.self.invariant.places c.args.self.now.entries (entries_are c.self.view_is) c.args.node i.within i.before
-    c.dismiss_at.new.place c.dismiss_at.ensures.place (c.dismiss_at.ensures.birth.kept c.args.node.birth i.own)
+    c.dismiss_at.new.place c.dismiss_at.ensures.place.lawful (c.dismiss_at.ensures.place.birth.kept c.args.node.birth i.own)
     (members_by c.dismiss_at.new.place) refl
     ∙ with_members-same (held_of c.args.self.now.entries) c.args.node _
     (λ u. ap (λ g. g u) c.dismiss_at.ensures.members ∙ ap (λ (h : HeaderState). members_of h u) i.header)
@@ -49,5 +49,5 @@ returns-clause-held c = let i = here (goal.at.returns-clause-held c).After-index
 pub returns-clause-queue : goal.returns-clause-queue
 returns-clause-queue c = let i = here (goal.at.returns-clause-queue c).After-index_mut in
     write-queue c.self.inside.places.items c.self.invariant.places c.args.self.now.entries (entries_are c.self.view_is) c.args.node i.within i.before
-    c.dismiss_at.new.place c.dismiss_at.ensures.place (c.dismiss_at.ensures.birth.kept c.args.node.birth i.own) _
+    c.dismiss_at.new.place c.dismiss_at.ensures.place.lawful (c.dismiss_at.ensures.place.birth.kept c.args.node.birth i.own) _
     (c.dismiss_at.ensures.queue ∙ ap (λ (h : HeaderState). without_waiter c.args.slot h.queue) i.header)

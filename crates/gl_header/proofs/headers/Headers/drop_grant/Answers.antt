@@ -35,7 +35,7 @@ drop_grant_at-requires-clause-not_waiting c = ap (λ (h : HeaderState). is_among
 pub invariant_of-self : goal.invariant_of-self
 invariant_of-self c = let i = here (goal.at.invariant_of-self c).After-index_mut-place in record {
   places = write-places c.self.inside.places.items c.self.invariant.places c.args.self.now.entries (entries_are c.self.view_is) c.args.node i.within i.before
-      c.drop_grant_at.new.place c.drop_grant_at.ensures.place (c.drop_grant_at.ensures.birth.kept c.args.node.birth i.own);
+      c.drop_grant_at.new.place c.drop_grant_at.ensures.place.lawful (c.drop_grant_at.ensures.place.birth.kept c.args.node.birth i.own);
   spare = c.drop_grant_at.ensures.spare;
 }
 
@@ -47,13 +47,13 @@ returns-clause-granted c =
 pub returns-clause-held : goal.returns-clause-held
 returns-clause-held c = let i = here (goal.at.returns-clause-held c).After-index_mut-place in
     write-held c.self.inside.places.items c.self.invariant.places c.args.self.now.entries (entries_are c.self.view_is) c.args.node i.within i.before
-    c.drop_grant_at.new.place c.drop_grant_at.ensures.place (c.drop_grant_at.ensures.birth.kept c.args.node.birth i.own) _
-    (c.drop_grant_at.ensures.members
+    c.drop_grant_at.new.place c.drop_grant_at.ensures.place.lawful (c.drop_grant_at.ensures.place.birth.kept c.args.node.birth i.own) _
+    (c.drop_grant_at.ensures.pumped.members
     ∙ ap (λ (h : HeaderState). pumped_members slot_limit (with_mode (members_of h) c.args.slot NL) h.queue) i.header)
 
 pub returns-clause-queue : goal.returns-clause-queue
 returns-clause-queue c = let i = here (goal.at.returns-clause-queue c).After-index_mut-place in
     write-queue c.self.inside.places.items c.self.invariant.places c.args.self.now.entries (entries_are c.self.view_is) c.args.node i.within i.before
-    c.drop_grant_at.new.place c.drop_grant_at.ensures.place (c.drop_grant_at.ensures.birth.kept c.args.node.birth i.own) _
-    (c.drop_grant_at.ensures.queue
+    c.drop_grant_at.new.place c.drop_grant_at.ensures.place.lawful (c.drop_grant_at.ensures.place.birth.kept c.args.node.birth i.own) _
+    (c.drop_grant_at.ensures.pumped.queue
     ∙ ap (λ (h : HeaderState). pumped_queue slot_limit (with_mode (members_of h) c.args.slot NL) h.queue) i.header)

@@ -28,7 +28,8 @@ count_down-requires c = record {
       let node = c.in_ok-node.field-0.0.now in
       subst (λ (k : ℕ). count_by (same_node q) c.parents.result.now ≤ k) (sym (c.leave.ensures.counts q))
       (subst (λ (ps : List NodeId). count_by (same_node q) ps ≤ count_of c.args.self.now q) (sym c.parents.ensures)
-      (c.requires.counted node q (ap is_some c.in_ok-node.ensures.value) (nl_is (mode_of c.args.self.now node) (sym c.holds.ensures ∙ c.if-holds.false))));
+      (c.requires.marked.counted node q (ap is_some c.in_ok-node.ensures.value)
+      (nl_is (mode_of c.args.self.now node) (sym c.holds.ensures ∙ c.if-holds.false))));
 }
 
 pub returns-clause-passed : goal.returns-clause-passed

@@ -9,7 +9,7 @@ zero_from n h = grind (arith, nat_tests)
 
 pub returns : goal.returns
 returns c = (
-  λ h u. ap (λ n. in_bits n u) (zero_from c.args.self.bits h) ∙ in_bits-zero u,
-  λ none. let e = no_bit-zero c.args.self.bits none in
+  λ h u. ap (λ n. in_bits n u) (zero_from c.args.self.now.bits h) ∙ in_bits-zero u,
+  λ none. let e = no_bit-zero c.args.self.now.bits none in
       grind (arith, nat_tests),
 )

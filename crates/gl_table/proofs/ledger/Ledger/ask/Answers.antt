@@ -144,7 +144,7 @@ put_raised c m held = let g = c.args.graph.now in let l = c.make_room_to_ask.new
     now c.in-Ok.ensures.room in
     let listed = slot-listed g l t r.may in
     is_granted _ r c.in_ok-asked.asked c.in-Granted.wanted c.law.ensures.lawful c.requires.can.live
-    c.requires.can.lock c.in_ok-asked.ensures.answer c.in-Granted.is c.in_ok-asked.ensures.granted refl
+    c.requires.can.lock c.in_ok-asked.ensures.answer c.in-Granted.is c.in_ok-asked.ensures.asked.granted refl
     (has_node-set l.lists.items t x x' listed c.index_mut-list.ensures.value n c.in-Granted.wanted c.set_mode.ensures.modes
     (λ q. c.set_mode.ensures.listed q ∙ also_listed x n (own-listed g l t r.may x c.index_mut-list.ensures.value n ∙ r.is_held ∙ c.if-is_member.true) q))
     (counts-entered l.lists.items t x x' listed c.index_mut-list.ensures.value
@@ -166,7 +166,7 @@ put_new c m held = let g = c.args.graph.now in let l = c.make_room_to_ask.new.se
     now c.in-Ok.ensures.room in
     let listed = slot-listed g l t r.may in
     is_granted _ r c.in_ok-asked.asked c.in-Granted-2.wanted c.law.ensures.lawful c.requires.can.live
-    c.requires.can.lock c.in_ok-asked.ensures.answer c.in-Granted-2.is c.in_ok-asked.ensures.granted refl
+    c.requires.can.lock c.in_ok-asked.ensures.answer c.in-Granted-2.is c.in_ok-asked.ensures.asked.granted refl
     (has_node-set l.lists.items t x x' listed c.index_mut-list.ensures.value n c.in-Granted-2.wanted
     (λ q. c.count_up.ensures.modes q ∙ c.enter.ensures.modes q) (λ q. c.count_up.ensures.listed q ∙ c.enter.ensures.listed q))
     (counts-entered l.lists.items t x x' listed c.index_mut-list.ensures.value
@@ -220,7 +220,8 @@ put c m held = let g = c.args.graph.now in let l = c.make_room_to_ask.new.self i
     (blocks c m) c.in-Ok.ensures.room in
     is_enqueued g c.args.self.now l (record c.if-not-is_member.self { seats = c.set_status.new.self }) t n c.args.mode c.sup-wanted.result _ r
     c.ask.new.self.entries c.if-not-is_member.self.seats.items
-    (ap (λ h. h.entries) (same_headers c)) c.in_ok-asked.ensures.waits (ap (λ x. x.items) (same_seats c)) c.set_status.ensures.len c.set_status.ensures.txns
+    (ap (λ h. h.entries) (same_headers c)) c.in_ok-asked.ensures.asked.waits (ap (λ x. x.items) (same_seats c)) c.set_status.ensures.len
+    c.set_status.ensures.txns
     (c.sup-wanted.ensures ∙ ap (λ k. supremum k c.args.mode) (c.requires.can.held_is ∙ (m.exact.agree t).modes n
     ∙ ap (λ s. s.held t n) (sym (roomy_same l m c.make_room_to_ask.ensures.rest c.make_room_to_ask.ensures.kept))))
     (listed c r.may r.is_held (says_is g c.args.self.now t n c.args.mode m ∙ blocks c m))

@@ -18,12 +18,11 @@ loop-at-init c = record {
   };
 }
 
-pub take_marked-requires-clause-childless : goal.take_marked-requires-clause-childless
-take_marked-requires-clause-childless c = marked_childless c.loop-at.invariant.releasing (ap is_wait c.requires.active)
-
-pub take_marked-requires-clause-counted : goal.take_marked-requires-clause-counted
-take_marked-requires-clause-counted c = λ n q listed mark.
-    marked_counted c.loop-at.invariant.releasing (ap is_wait c.requires.active) c.law.ensures.lawful n listed q
+pub take_marked-requires-clause-marked : goal.take_marked-requires-clause-marked
+take_marked-requires-clause-marked c = record {
+  childless = marked_childless c.loop-at.invariant.releasing (ap is_wait c.requires.active);
+  counted = λ n q listed mark. marked_counted c.loop-at.invariant.releasing (ap is_wait c.requires.active) c.law.ensures.lawful n listed q;
+}
 
 pub drop_and_wake-requires-clause-waiters : goal.drop_and_wake-requires-clause-waiters
 drop_and_wake-requires-clause-waiters c =
@@ -45,8 +44,8 @@ loop-at-preserved-in-Some c = record {
   passed = c.in-Some.ensures.passed;
   releasing = subst (λ (x : State). IsReleasing (state_in c.args.graph.now c.args.self.now) x c.args.slot c.args.node c.drop_and_wake.new.self.lists.items
       c.take_marked.new.self c.args.told.now.items c.drop_and_wake.new.told.items) (sym c.drop_and_wake.ensures.state)
-      (releasing_one c.loop-at.invariant.releasing (ap is_wait c.requires.active) c.law.ensures.lawful c.in-Some.child c.in-Some.ensures.was
-      c.in-Some.ensures.was_marked c.in-Some.ensures.listed c.in-Some.ensures.modes c.in-Some.ensures.counts
+      (releasing_one c.loop-at.invariant.releasing (ap is_wait c.requires.active) c.law.ensures.lawful c.in-Some.child c.in-Some.ensures.taken.was
+      c.in-Some.ensures.taken.was_marked c.in-Some.ensures.taken.listed c.in-Some.ensures.taken.modes c.in-Some.ensures.taken.counts
       c.drop_and_wake.ensures.lists c.drop_and_wake.ensures.tells);
 }
 

@@ -51,7 +51,7 @@ invariant_of-self-in_err-index c = (asked (goal.at.invariant_of-self-in_err-inde
 
 pub place-requires-clause-act : goal.place-requires-clause-act
 place-requires-clause-act c = let at = (goal.at.place-requires-clause-act c).After-add_index_unrefused in
-    may_act _ c.prepare.new.self (asked at).law c.args.t.slot (ap (λ (s : State). status_of s c.args.t.slot) (same at) ∙ c.requires.active)
+    may_act _ c.prepare.new.self (asked at).law c.args.t.slot (ap (λ (s : State). status_of s c.args.t.slot) (same at) ∙ c.requires.acting.active)
 
 pub place-requires-clause-fresh : goal.place-requires-clause-fresh
 place-requires-clause-fresh c = let at = (goal.at.place-requires-clause-fresh c).After-add_index_unrefused in
@@ -71,7 +71,7 @@ placed : (c : After-add_index_unrefused) (n : NodeId)
 placed c n born l is exact =
     stands_placed_index (roomy c) (ready c).safe c.args.parents.now c.args.file c.args.bounds.now (free c) c.add_index_unrefused.new.self n born
     c.args.t.slot l is
-    (subst (λ (s : State). status_of s c.args.t.slot ≡ Some Active) (sym (same c)) c.requires.active)
+    (subst (λ (s : State). status_of s c.args.t.slot ≡ Some Active) (sym (same c)) c.requires.acting.active)
     (subst (λ (s : State). first_not_ix (s.held c.args.t.slot) c.args.parents.now ≡ None) (sym (same c)) c.requires.writable) exact
 
 pub invariant_of-self-2 : goal.invariant_of-self-2

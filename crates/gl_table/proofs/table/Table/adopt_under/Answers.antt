@@ -32,7 +32,7 @@ same c = same_state c.self.inside c.self.invariant c.prepare.new.self c.prepare.
 
 -- memory alone stands against the record
 free : (c : After-add_record_under) → record_refusal (graph_of c.self.inside.locks.graph) c.args.file c.args.keys.now ≡ None
-free c = subst (λ (v : TableView). record_refusal (state_of v).graph c.args.file c.args.keys.now ≡ None) (sym c.self.view_is) c.requires.free
+free c = subst (λ (v : TableView). record_refusal (state_of v).graph c.args.file c.args.keys.now ≡ None) (sym c.self.view_is) c.requires.free.free
 
 -- the graph was asked for the record
 asked : (c : After-add_record_under) → MayStand (roomy c) c.add_record_under.new.self c.prepare.new.self
@@ -46,10 +46,10 @@ invariant_of-locks-in-Break-branch-2 c = (asked (goal.at.invariant_of-locks-in-B
 
 pub add_record_under-requires-clause-free : goal.add_record_under-requires-clause-free
 add_record_under-requires-clause-free c = subst (λ (v : TableView). record_refusal (state_of v).graph c.args.file c.args.keys.now ≡ None) (sym c.self.view_is)
-    c.requires.free
+    c.requires.free.free
 
 pub add_record_under-requires-clause-parents : goal.add_record_under-requires-clause-parents
-add_record_under-requires-clause-parents c = c.requires.parents
+add_record_under-requires-clause-parents c = c.requires.free.parents
     ∙ ap (λ (v : TableView). record_parents (state_of v).graph c.args.file c.args.keys.now) (sym c.self.view_is)
 
 pub invariant_of-self-in_err-rec : goal.invariant_of-self-in_err-rec
@@ -72,9 +72,9 @@ module _ (c : After-add_record_under) (n : NodeId)
     placed : AreExact v l → MayStand (roomy c) v l
     placed exact =
         stands_locked (roomy c) (ready c).safe c.args.file c.args.keys.now (free c) c.add_record_under.new.self n born v after c.args.t.slot c.args.mode l is
-        (subst (λ (s : State). status_of s c.args.t.slot ≡ Some Active) (sym (same c)) c.requires.active) c.requires.fit
+        (subst (λ (s : State). status_of s c.args.t.slot ≡ Some Active) (sym (same c)) c.requires.acting.active) c.requires.fit
         (subst (λ (s : State). rule_refusal (s.held c.args.t.slot) (record_parents s.graph c.args.file c.args.keys.now) c.args.mode ≡ None) (sym (same c))
-        (ap (λ ps. rule_refusal ((state_of c.args.self.now).held c.args.t.slot) ps c.args.mode) (sym c.requires.parents) ∙ c.requires.rule)) exact
+        (ap (λ ps. rule_refusal ((state_of c.args.self.now).held c.args.t.slot) ps c.args.mode) (sym c.requires.free.parents) ∙ c.requires.rule)) exact
 
     state_after : with_locks (roomy c) (state_in v l) ≡ with_grant (with_graph (state_of c.args.self.now) (graph_of v)) c.args.t.slot n c.args.mode
     state_after =
@@ -84,7 +84,7 @@ module _ (c : After-add_record_under) (n : NodeId)
 pub place-requires-clause-act : goal.place-requires-clause-act
 place-requires-clause-act c = let at = (goal.at.place-requires-clause-act c).After-add_record_under in
     may_act _ c.prepare.new.self (adopts at c.in_ok-rec.rec c.in_ok-rec.ensures.made c.mark_adopted.new.self c.mark_adopted.ensures.marked).law
-    c.args.t.slot (ap (λ (s : State). status_of s c.args.t.slot) (same at) ∙ c.requires.active)
+    c.args.t.slot (ap (λ (s : State). status_of s c.args.t.slot) (same at) ∙ c.requires.acting.active)
 
 pub place-requires-clause-fresh : goal.place-requires-clause-fresh
 place-requires-clause-fresh c = let at = (goal.at.place-requires-clause-fresh c).After-add_record_under in

@@ -26,14 +26,14 @@ exclusive i v t n is h = subst (λ (x : TableView). same_mode ((state_of x).held
 
 pub vacate_branch-requires-clause-act : goal.vacate_branch-requires-clause-act
 vacate_branch-requires-clause-act c = may_act c.self.inside.locks.graph c.self.inside.locks.ledger (as_it_was c.self.inside c.self.invariant).law c.args.t.slot
-    (active c.self.inside c.args.self.now c.args.t.slot c.self.view_is c.requires.active)
+    (active c.self.inside c.args.self.now c.args.t.slot c.self.view_is c.requires.acting.active)
 
 pub vacate_branch-requires-clause-branch : goal.vacate_branch-requires-clause-branch
 vacate_branch-requires-clause-branch c =
     let is = branch_left (state_of (view_of c.self.inside)) c.self.invariant.lawful c.args.t.slot c.args.n
     (movable c.self.inside c.args.self.now c.args.n c.self.view_is c.requires.movable)
     (free c.self.inside c.args.self.now c.args.n c.self.view_is c.requires.free)
-    (active c.self.inside c.args.self.now c.args.t.slot c.self.view_is c.requires.active)
+    (active c.self.inside c.args.self.now c.args.t.slot c.self.view_is c.requires.acting.active)
     (exclusive c.self.inside c.args.self.now c.args.t.slot c.args.n c.self.view_is c.requires.exclusive) in
     record { movable = is.movable; free = is.free; holding = is.holding; alone = is.alone; unawaited = is.unawaited }
 
@@ -43,7 +43,7 @@ gone c =
     branch_gone (state_of (view_of c.self.inside)) c.self.invariant.lawful c.args.t.slot c.args.n
     (movable c.self.inside c.args.self.now c.args.n c.self.view_is c.requires.movable)
     (free c.self.inside c.args.self.now c.args.n c.self.view_is c.requires.free)
-    (active c.self.inside c.args.self.now c.args.t.slot c.self.view_is c.requires.active)
+    (active c.self.inside c.args.self.now c.args.t.slot c.self.view_is c.requires.acting.active)
     (exclusive c.self.inside c.args.self.now c.args.t.slot c.args.n c.self.view_is c.requires.exclusive)
     (graph_of c.remove_node.new.self) c.remove_node.ensures.removed
 

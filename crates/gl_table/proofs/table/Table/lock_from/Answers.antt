@@ -1,5 +1,5 @@
 use Rattle.gl_table.proofs.Words.{◌<◌, ◌∙◌, ◌≡◌, Active, ap, enters_at, false, first_refusal, lock_tests, LocksKeeping, None, Option, Refusal, Refuses}
-use Rattle.gl_table.proofs.Words.{rules, state_in, state_of, subst, sym, TableView, told_but, true, view_of, ℕ}
+use Rattle.gl_table.proofs.Words.{holds, members, no, none_some, refl, rules, state_in, state_of, subst, sym, TableView, told_but, true, view_of, ℕ}
 use Rattle.gl_model.specs.Calls.{Locks}
 use Rattle.gl_table.proofs.calls.Locking.{can_ask, granted_answer, granted_keeps, granted_locks, granted_told, kept_locked, may_ask, may_lock_by}
 use Rattle.gl_table.proofs.calls.Locking.{law_asked, sound_locked, stands_granted, stands_kept, state_granted, state_locked, tests-seen, told_locked, unrefused}
@@ -35,7 +35,10 @@ blocks c = answer-waits _ _ _ c.in_ok-granted.ensures.asked.answered c.in-Waitin
 pub returns-in_err-held-clause-refuses : goal.returns-in_err-held-clause-refuses
 returns-in_err-held-clause-refuses c =
     let is = sym (tests-seen c.self.inside c.args.self.now c.self.view_is c.args.t c.args.n c.args.mode) ∙ c.in_err-held.ensures.refused in
-    subst (λ (o : Option Refusal). Refuses o c.from_residual.result) (sym is) (search rules)
+    record {
+      refuses = subst (λ (o : Option Refusal). Refuses o c.from_residual.result) (sym is) (search rules);
+      held = λ passes enters member. absurd (none_some (sym passes ∙ is));
+    }
 
 pub ask-requires-clause-act : goal.ask-requires-clause-act
 ask-requires-clause-act c = may_ask c.self.inside c.self.invariant c.args.t c.args.n c.args.mode (may (goal.at.ask-requires-clause-act c).In_ok-held)
@@ -59,7 +62,12 @@ invariant_of-locks-2 c =
 pub returns-in_err-granted-clause-refuses : goal.returns-in_err-granted-clause-refuses
 returns-in_err-granted-clause-refuses c =
     let is = (checked (goal.at.returns-in_err-granted-clause-refuses c).In_ok-held).0 in
-    subst (λ (o : Option Refusal). Refuses o c.from_residual-in_err-granted.result) (sym is) (search rules)
+    record {
+      refuses = subst (λ (o : Option Refusal). Refuses o c.from_residual-in_err-granted.result) (sym is) (search rules);
+      held = λ passes enters member. absurd (no (c.in_err-granted.ensures.held
+          (subst (λ (v : TableView). holds (members (state_of v) c.args.n) c.args.t.slot ≡ true) (sym c.self.view_is) member)
+          (subst (λ (v : TableView). enters_at (state_of v) c.args.t.slot c.args.n c.args.mode ≡ true) (sym c.self.view_is) enters)));
+    }
 
 -- what the grant makes of the table
 stand : (c : In-Granted) → MayLock (state_of (view_of c.self.inside)) c.args.t c.args.n c.args.mode
@@ -103,7 +111,8 @@ returns-in-Granted-clause-deadlock c =
     (granted_keeps (state_of (view_of c.self.inside)) after c.args.t.slot c.args.n c.args.mode c.self.inside.deadlock f)
 
 pub returns-in-Granted-clause-refuses : goal.returns-in-Granted-clause-refuses
-returns-in-Granted-clause-refuses c = unrefused _ _ (checked (goal.at.returns-in-Granted-clause-refuses c).In_ok-held).0
+returns-in-Granted-clause-refuses c =
+    record { refuses = unrefused _ _ (checked (goal.at.returns-in-Granted-clause-refuses c).In_ok-held).0; held = λ passes enters member. refl }
 
 pub settle_asker-requires-clause-seated : goal.settle_asker-requires-clause-seated
 settle_asker-requires-clause-seated c =
@@ -143,7 +152,8 @@ returns-in-Waiting-clause-deadlock c =
     c.settle_asker.new.self c.settle_asker.new.deadlock c.settle_asker.ensures.state c.settle_asker.ensures.deadlock)
 
 pub returns-in-Waiting-clause-refuses : goal.returns-in-Waiting-clause-refuses
-returns-in-Waiting-clause-refuses c = unrefused _ _ (checked (goal.at.returns-in-Waiting-clause-refuses c).In_ok-held).0
+returns-in-Waiting-clause-refuses c =
+    record { refuses = unrefused _ _ (checked (goal.at.returns-in-Waiting-clause-refuses c).In_ok-held).0; held = λ passes enters member. refl }
 
 pub returns-in-Granted-clause-before : goal.returns-in-Granted-clause-before
 returns-in-Granted-clause-before c = (checked (goal.at.returns-in-Granted-clause-before c).In_ok-held).1

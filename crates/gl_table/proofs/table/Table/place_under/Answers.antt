@@ -30,7 +30,7 @@ same c = same_state c.self.inside c.self.invariant c.prepare.new.self c.prepare.
 
 -- memory alone stands against the record
 free : (c : After-add_record_under) → record_refusal (graph_of c.self.inside.locks.graph) c.args.file c.args.keys.now ≡ None
-free c = subst (λ (v : TableView). record_refusal (state_of v).graph c.args.file c.args.keys.now ≡ None) (sym c.self.view_is) c.requires.free
+free c = subst (λ (v : TableView). record_refusal (state_of v).graph c.args.file c.args.keys.now ≡ None) (sym c.self.view_is) c.requires.free.free
 
 -- the graph was asked for the record
 asked : (c : After-add_record_under) → MayStand (roomy c) c.add_record_under.new.self c.prepare.new.self
@@ -44,10 +44,10 @@ invariant_of-locks-in-Break-branch-2 c = (asked (goal.at.invariant_of-locks-in-B
 
 pub add_record_under-requires-clause-free : goal.add_record_under-requires-clause-free
 add_record_under-requires-clause-free c = subst (λ (v : TableView). record_refusal (state_of v).graph c.args.file c.args.keys.now ≡ None) (sym c.self.view_is)
-    c.requires.free
+    c.requires.free.free
 
 pub add_record_under-requires-clause-parents : goal.add_record_under-requires-clause-parents
-add_record_under-requires-clause-parents c = c.requires.parents
+add_record_under-requires-clause-parents c = c.requires.free.parents
     ∙ ap (λ (v : TableView). record_parents (state_of v).graph c.args.file c.args.keys.now) (sym c.self.view_is)
 
 pub invariant_of-self-in_err-rec : goal.invariant_of-self-in_err-rec
@@ -55,7 +55,7 @@ invariant_of-self-in_err-rec c = (asked (goal.at.invariant_of-self-in_err-rec c)
 
 pub place-requires-clause-act : goal.place-requires-clause-act
 place-requires-clause-act c = let at = (goal.at.place-requires-clause-act c).After-add_record_under in
-    may_act _ c.prepare.new.self (asked at).law c.args.t.slot (ap (λ (s : State). status_of s c.args.t.slot) (same at) ∙ c.requires.active)
+    may_act _ c.prepare.new.self (asked at).law c.args.t.slot (ap (λ (s : State). status_of s c.args.t.slot) (same at) ∙ c.requires.acting.active)
 
 pub place-requires-clause-fresh : goal.place-requires-clause-fresh
 place-requires-clause-fresh c = let at = (goal.at.place-requires-clause-fresh c).After-add_record_under in
@@ -73,9 +73,9 @@ placed : (c : After-add_record_under) (n : NodeId)
     → AreExact c.add_record_under.new.self l → MayStand (roomy c) c.add_record_under.new.self l
 placed c n born l is exact =
     stands_placed (roomy c) (ready c).safe c.args.file c.args.keys.now (free c) c.add_record_under.new.self n born c.args.t.slot l is
-    (subst (λ (s : State). status_of s c.args.t.slot ≡ Some Active) (sym (same c)) c.requires.active)
+    (subst (λ (s : State). status_of s c.args.t.slot ≡ Some Active) (sym (same c)) c.requires.acting.active)
     (subst (λ (s : State). first_not_ix (s.held c.args.t.slot) (record_parents s.graph c.args.file c.args.keys.now) ≡ None) (sym (same c))
-    (ap (first_not_ix ((state_of c.args.self.now).held c.args.t.slot)) (sym c.requires.parents) ∙ c.requires.writable)) exact
+    (ap (first_not_ix ((state_of c.args.self.now).held c.args.t.slot)) (sym c.requires.free.parents) ∙ c.requires.writable)) exact
 
 pub invariant_of-self-2 : goal.invariant_of-self-2
 invariant_of-self-2 c = (placed (goal.at.invariant_of-self-2 c).After-add_record_under c.in_ok-rec.rec c.in_ok-rec.ensures.made c.place.new.self

@@ -16,8 +16,8 @@ moved_graph c = c.in_ok-set_parents.ensures.moved ∙ ap (λ (v : TableView). wi
 made : (c : goal.After-as_slice) → (was : Node) × Moves (state_of (view_of c.self.inside)) c.args.t.slot c.args.n was (after c was)
     (graph_of c.set_parents.new.self)
 made c =
-    move_call c.self.inside c.self.invariant c.args.self.now c.self.view_is c.args.t.slot c.set_parents.new.self c.args.n c.args.parents.now c.requires.active
-    c.requires.movable c.requires.inner c.requires.exclusive c.requires.rule
+    move_call c.self.inside c.self.invariant c.args.self.now c.self.view_is c.args.t.slot c.set_parents.new.self c.args.n c.args.parents.now
+    c.requires.acting.active c.requires.allowed.movable c.requires.allowed.inner c.requires.allowed.exclusive c.requires.allowed.rule
     (ap (λ (v : TableView). first_cycle (graph_of v.graph) c.args.n c.args.parents.now) (sym c.self.view_is) ∙ c.in_ok-set_parents.ensures.clear)
     (moved_graph c)
 

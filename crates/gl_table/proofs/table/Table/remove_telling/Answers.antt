@@ -14,7 +14,7 @@ is_record i v r is rec = subst (λ (x : TableView). is_record_shape (shape_of (s
 
 pub vacate-requires-clause-act : goal.vacate-requires-clause-act
 vacate-requires-clause-act c = may_act c.self.inside.locks.graph c.self.inside.locks.ledger (as_it_was c.self.inside c.self.invariant).law c.args.t.slot
-    (subst (λ (v : TableView). status_of (state_of v) c.args.t.slot ≡ Some Active) (sym c.self.view_is) c.requires.active)
+    (subst (λ (v : TableView). status_of (state_of v) c.args.t.slot ≡ Some Active) (sym c.self.view_is) c.requires.acting.active)
 
 pub vacate-requires-clause-left : goal.vacate-requires-clause-left
 vacate-requires-clause-left c =

@@ -16,7 +16,7 @@ rekeyed_graph c = c.set_key.ensures.rekeyed ∙ ap (λ (v : TableView). rekeyed 
 made : (c : goal.After-as_slice) → (was : Node) × Moves (state_of (view_of c.self.inside)) c.args.t.slot c.args.rec was (after c was)
     (graph_of c.set_key.new.self)
 made c = rekey_call c.self.inside c.self.invariant c.args.self.now c.self.view_is c.args.t.slot c.set_key.new.self c.args.rec c.args.index c.args.key
-    c.requires.active c.requires.record c.requires.exclusive c.requires.parents (rekeyed_graph c)
+    c.requires.acting.active c.requires.allowed.«record» c.requires.allowed.exclusive c.requires.allowed.parents (rekeyed_graph c)
 
 pub follow-requires-clause-agreed : goal.follow-requires-clause-agreed
 follow-requires-clause-agreed c = let m = made c in
