@@ -51,7 +51,6 @@ struct bs_table {
   pthread_cond_t ended[BS_SLOTS]; /* by slot: a wait may be over */
   table_way *ways[BS_SLOTS];      /* by slot: who sleeps on a path */
   table_deadline deadlines[BS_SLOTS]; /* by slot: of the transaction of this age, and of no later one */
-  bool has_rows[BS_SLOTS];        /* by slot: a row was asked for, and may not be let go yet */
   table_turn *first, *last;       /* the line of those who sleep for a slot, by their arrival */
   size_t sleepers;                /* how many threads sleep, for a lock or for a slot */
   uint64_t waited;                /* how many commands had been accepted when the last lock was left waiting */
@@ -508,22 +507,8 @@ bs_reply bs_table_cancel(bs_table *table, bs_txn txn, bs_notices *told) {
   TABLE_TELL(table, told, true, table_cancel_path(table, txn, bs_cancel(&table->manager, txn, list)));
 }
 
-/* Ends a transaction that may have rows: those of its slot are let go. */
-static TABLE_APART bs_reply table_commit_rows(bs_table *table, bs_txn txn, bs_notices *told) {
-  bs_reply reply = bs_commit(&table->manager, txn, told);
-  if (reply.status == BS_DONE) table->has_rows[txn.slot] = false;
-  return reply;
-}
-
-/* Ends a transaction. Where its slot asked for no row there is none to let go, and a shorter call does the same. */
-static inline bs_reply table_commit(bs_table *table, bs_txn txn, bs_notices *told) {
-  if (txn.slot >= BS_SLOTS || table->has_rows[txn.slot]) return table_commit_rows(table, txn, told);
-  told->count = 0;
-  return bs_call_commit(&table->manager, txn, told);
-}
-
 bs_reply bs_table_commit(bs_table *table, bs_txn txn, bs_notices *told) {
-  TABLE_TELL(table, told, false, table_commit(table, txn, list));
+  TABLE_TELL(table, told, false, bs_commit(&table->manager, txn, list));
 }
 
 bs_reply bs_table_abort(bs_table *table, bs_txn txn, bs_notices *told) {
@@ -621,16 +606,11 @@ typedef struct table_row {
   size_t count;
 } table_row;
 
-/* Asks for a row, and notes for its slot that it did. */
-static bs_reply table_lock_row(bs_table *table, bs_txn txn, const table_row *row, bs_mode mode, bs_notices *told) {
-  if (txn.slot < BS_SLOTS) table->has_rows[txn.slot] = true;
-  return bs_lock_row(&table->manager, txn, row->file, row->number, row->keys, row->count, mode, told);
-}
-
-/* The same with the latch held, for one who may sleep. */
+/* Asks for a row with the latch held, for one who may sleep. */
 static bs_reply table_ask_row(bs_table *table, bs_txn txn, const table_row *row, bs_mode mode) {
-  bs_reply reply = table_lock_row(table, txn, row, mode, &table->told);
-  table_wake(table, reply.status, &table->told, false);
+  bs_notices *told = &table->told;
+  bs_reply reply = bs_lock_row(&table->manager, txn, row->file, row->number, row->keys, row->count, mode, told);
+  table_wake(table, reply.status, told, false);
   return reply;
 }
 
@@ -698,15 +678,6 @@ static bs_reply table_path_made(bs_table *table, const bs_command *c, bs_txn txn
   return reply;
 }
 
-static bs_reply table_row_made(bs_table *table, const bs_command *c, bs_txn txn, bs_notices *told) {
-  table_row row;
-  row.file = c->file;
-  row.number = c->number;
-  row.keys = c->keys;
-  row.count = c->key_count;
-  return table_lock_row(table, txn, &row, c->mode, told);
-}
-
 /* Makes a command of those that ask for locks or give them back, but for the most frequent. */
 static TABLE_APART bs_reply table_other_made(bs_table *table, const bs_command *c, bs_txn txn, bs_notices *told) {
   bs_manager *m = &table->manager;
@@ -718,7 +689,7 @@ static TABLE_APART bs_reply table_other_made(bs_table *table, const bs_command *
     case BS_DO_CANCEL: return table_cancel_path(table, txn, bs_cancel(m, txn, told));
     case BS_DO_ABORT: return bs_abort(m, txn, told);
     case BS_DO_SETTLE: return bs_settle(m, txn, told);
-    case BS_DO_LOCK_ROW: return table_row_made(table, c, txn, told);
+    case BS_DO_LOCK_ROW: return bs_lock_row(m, txn, c->file, c->number, c->keys, c->key_count, c->mode, told);
     case BS_DO_UNLOCK_ROW: return bs_unlock_row(m, txn, c->file, c->number, told);
     default: return bs_call_only(BS_BAD_NUMBER);
   }
@@ -734,7 +705,7 @@ static inline bs_reply table_made(bs_table *table, const bs_command *c, bs_txn t
   switch (c->kind) {
     case BS_DO_BEGIN: return table->first != NULL ? table_no_slot() : bs_begin(m);
     case BS_DO_LOCK: return bs_lock(m, txn, c->node, c->mode, told);
-    case BS_DO_COMMIT: return table_commit(table, txn, told);
+    case BS_DO_COMMIT: return bs_commit(m, txn, told);
     case BS_DO_INSERT: return bs_insert(m, txn, c->file, c->keys, c->key_count);
     case BS_DO_DELETE: return bs_delete(m, txn, c->node, told);
     case BS_DO_ADOPT: return bs_adopt(m, c->file, c->keys, c->key_count);

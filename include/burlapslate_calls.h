@@ -39,7 +39,6 @@ bs_reply bs_call_lock_row(bs_manager *manager, bs_txn txn, bs_node file, uint64_
 bs_reply bs_call_unlock_row(bs_manager *manager, bs_txn txn, bs_node file, uint64_t number, bs_notices *told);
 bs_reply bs_call_rekey_row(bs_manager *manager, bs_txn txn, bs_node file, uint64_t number, bs_node index, uint64_t key,
                            bs_notices *told);
-bs_reply bs_call_commit(bs_manager *manager, bs_txn txn, bs_notices *told);
 bs_reply bs_call_commit_rows(bs_manager *manager, bs_txn txn, bs_notices *told);
 bs_reply bs_call_abort_rows(bs_manager *manager, bs_txn txn, bs_notices *told);
 bs_reply bs_call_cancel_rows(bs_manager *manager, bs_txn txn, bs_notices *told);

@@ -30,7 +30,6 @@ other-keys-wake-nobody	s/^ *status == BS_OTHER_KEYS;/false;/
 run-forgets-to-wake	s/  table_wake(table, next->reply.status, told, by_name);//
 run-forgets-names	s/  by_name = next->kind .*/  by_name = false;/
 run-says-not-for-what	s/  if (next->reply.status == BS_WAITING) .*//
-row-is-forgotten	s/  if (txn.slot < BS_SLOTS) table->has_rows\[txn.slot\] = true;//
 run-takes-a-slot-for-begun	s/  bs_txn txn = next->txn.slot == none.slot .*/  bs_txn txn = next->txn.age == none.age ? begun : next->txn;/
 list-path-stops-on-the-way	s/  while (reply.status == BS_ON_THE_WAY) {/  while (false) {/
 list-path-forgets-to-wake	/table_path_made(/,/^}/s/    table_wake(table, reply.status, told, false);//

@@ -475,13 +475,6 @@ impl Manager {
         Ok(Notices::of(told))
     }
 
-    /// The same of one that never asked for a row, by a shorter call.
-    pub(crate) fn commit_nodes(&mut self, txn: Txn) -> Result<Notices<'_>, Refusal> {
-        let Pinned { place, told } = &mut *self.pinned;
-        accepted(sys::bs_call_commit(place, txn, told))?;
-        Ok(Notices::of(told))
-    }
-
     /// Ends a transaction whatever it is doing, and releases everything, its rows among it. What it did
     /// stays done: undo it first.
     ///

@@ -85,8 +85,6 @@ pub struct Session<'t> {
     table: Handle<'t>,
     txn: Txn,
     has_ended: bool,
-    /// Whether it ever asked for a row: else a shorter call ends it.
-    has_rows: bool,
     /// When each of its waits ends at the latest.
     deadline: Option<Instant>,
 }
@@ -125,7 +123,6 @@ impl<'t> Session<'t> {
             table,
             txn,
             has_ended: false,
-            has_rows: false,
             deadline: None,
         }
     }
@@ -255,7 +252,6 @@ impl<'t> Session<'t> {
     /// # Ok::<(), burlapslate::Refusal>(())
     /// ```
     pub fn lock_row(&mut self, row: Row, keys: &[u64], mode: Mode) -> Result<RowLocked, Stop> {
-        self.has_rows = true;
         self.table
             .lock_row(self.txn, row, keys, mode, self.until(None))
     }
@@ -269,7 +265,6 @@ impl<'t> Session<'t> {
         mode: Mode,
         time: Duration,
     ) -> Result<RowLocked, Stop> {
-        self.has_rows = true;
         self.table
             .lock_row(self.txn, row, keys, mode, self.until(deadline(time)))
     }
@@ -282,7 +277,6 @@ impl<'t> Session<'t> {
         mode: Mode,
         until: Instant,
     ) -> Result<RowLocked, Stop> {
-        self.has_rows = true;
         self.table
             .lock_row(self.txn, row, keys, mode, self.until(Some(until)))
     }
@@ -358,11 +352,7 @@ impl<'t> Session<'t> {
     ///
     /// Refused as [`Manager::commit`](crate::Manager::commit).
     pub fn commit(mut self) -> Result<(), Refusal> {
-        let end = if self.has_rows {
-            self.table.serve(|m| m.commit(self.txn).map(drop))
-        } else {
-            self.table.serve(|m| m.commit_nodes(self.txn).map(drop))
-        };
+        let end = self.table.serve(|m| m.commit(self.txn).map(drop));
         self.has_ended = end.is_ok();
         end
     }

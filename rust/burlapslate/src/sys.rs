@@ -265,7 +265,6 @@ unsafe extern "C" {
         node: Node,
         told: &mut Notices,
     ) -> Reply;
-    pub(crate) safe fn bs_call_commit(manager: &mut Place, txn: Txn, told: &mut Notices) -> Reply;
     pub(crate) safe fn bs_call_settle(manager: &mut Place, txn: Txn, told: &mut Notices) -> Reply;
 
     fn bs_call_insert(
