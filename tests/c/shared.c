@@ -2569,10 +2569,10 @@ static void two_tables_are_lent(void) {
   ANSWERS(BS_IN_USE, bs_table_begin(table));
   ANSWERS(BS_IN_USE, bs_table_begin(other));
   DONE(bs_table_let_go(table));
-  DONE(bs_table_begin(table));
-  ANSWERS(BS_IN_USE, bs_table_begin(other));
   ANSWERS(BS_NOT_HELD, bs_table_let_go(table));
+  ANSWERS(BS_IN_USE, bs_table_begin(other));
   DONE(bs_table_let_go(other));
+  DONE(bs_table_begin(table));
   DONE(bs_table_begin(other));
   DONE(bs_table_end(other));
   DONE(bs_table_free(&other));
