@@ -608,9 +608,9 @@ typedef struct table_row {
 
 /* Asks for a row with the latch held, for one who may sleep. */
 static bs_reply table_ask_row(bs_table *table, bs_txn txn, const table_row *row, bs_mode mode) {
-  bs_notices *told = &table->told;
-  bs_reply reply = bs_lock_row(&table->manager, txn, row->file, row->number, row->keys, row->count, mode, told);
-  table_wake(table, reply.status, told, false);
+  bs_reply reply =
+    bs_lock_row(&table->manager, txn, row->file, row->number, row->keys, row->count, mode, &table->told);
+  table_wake(table, reply.status, &table->told, false);
   return reply;
 }
 
