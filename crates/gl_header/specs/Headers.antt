@@ -7,7 +7,7 @@ use Rattle.gl_modes.specs.declared.mode.Mode.TheVariants.{NL}
 use Rattle.gl_modes.specs.declared.node.NodeId.{NodeId}
 use Rattle.gl_modes.specs.Modes.{supremum}
 use Rattle.gl_modes.specs.Nodes.{same_node}
-use Rattle.gl_header.specs.Header.{Members, Waiter, placed, with_mode}
+use Rattle.gl_header.specs.Header.{Members, Waiter, holds, placed, with_mode}
 use Rattle.gl_header.specs.State.{HeaderState, IsLawfulHeader, is_granted, is_unused, members_of, unused_header}
 
 -- nodes with their headers
@@ -43,6 +43,10 @@ queue_of hs n = (header_or_new (header_at hs n)).queue
 -- an ask of a slot for a mode on the node is granted at once
 abbrev pub is_granted_at : Entries → ℕ → NodeId → Mode → Bool
 is_granted_at hs t n m = is_granted (header_or_new (header_at hs n)) t m
+
+-- so it is where the slot holds the node and is granted its raise at once
+abbrev pub IfRaised : Entries → ℕ → NodeId → Mode → Type 0 → Type 0
+IfRaised hs t n m IsSo = holds (members_at hs n) t ≡ true → is_granted_at hs t n m ≡ true → IsSo
 
 -- the supremum of the mode that a slot holds on the node and another
 abbrev pub wanted_at : Entries → ℕ → NodeId → Mode → Mode

@@ -100,7 +100,8 @@ fn grant_front(group: &mut Group, queue: &mut Queue, granted: &mut GrantList)
         if !group.fits_others(slot, mode) {
             break;
         }
-        group.hold(slot, mode);
+        let held = group.mode_of(slot);
+        group.hold(slot, held, mode);
         granted.push((slot, mode));
     }
     take_front(queue, granted.len());

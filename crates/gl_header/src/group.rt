@@ -45,7 +45,7 @@ impl Group {
         ensures held { held_by result ≡ with_mode nobody slot mode }
     {
         let mut group = Group::new();
-        group.hold(slot, mode);
+        group.hold(slot, Mode::NL, mode);
         group
     }
 
@@ -71,6 +71,7 @@ impl Group {
     }
 
     /// Whether nobody holds.
+    #[inline]
     pub(crate) fn is_empty(&self) -> bool
         requires { IsGroup self.now }
         ensures { result ≡ nobody_holds slot_limit (held_by self.now) }
@@ -90,6 +91,7 @@ impl Group {
     }
 
     /// Whether `mode` is compatible with what every slot but this one holds.
+    #[inline]
     pub(crate) fn fits_others(&self, slot: Slot, mode: Mode) -> bool
         requires { IsGroup self.now }
         ensures { result ≡ fits slot_limit (held_by self.now) slot mode }
@@ -108,15 +110,16 @@ impl Group {
 
     /// Gives `slot` the mode in place of what it held. It takes no memory.
     #[inline]
-    pub(crate) fn hold(&mut self, slot: Slot, mode: Mode)
+    pub(crate) fn hold(&mut self, slot: Slot, held: Mode, mode: Mode)
         requires group { IsGroup self.old }
         requires below { slot < most_slots }
+        requires held { held ≡ held_by self.old slot }
         requires lock { mode ≢ NL }
         requires fits { fits slot_limit (held_by self.old) slot mode ≡ true }
         ensures group { IsGroup self.new }
         ensures held { held_by self.new ≡ with_mode (held_by self.old) slot mode }
     {
-        self.leave(slot);
+        self.leave(slot, held);
         if mode == Mode::IS {
             self.intents.insert(slot);
         } else {
@@ -127,12 +130,13 @@ impl Group {
 
     /// Takes away what `slot` holds, if anything.
     #[inline]
-    fn leave(&mut self, slot: Slot)
-        requires { IsGroup self.old }
+    fn leave(&mut self, slot: Slot, held: Mode)
+        requires group { IsGroup self.old }
+        requires held { held ≡ held_by self.old slot }
         ensures group { IsGroup self.new }
         ensures held { held_by self.new ≡ with_mode (held_by self.old) slot NL }
     {
-        if self.has(slot) {
+        if held != Mode::NL {
             self.release(slot); // Whoever asks first holds nothing.
         }
     }
@@ -155,6 +159,7 @@ impl Group {
 }
 
 /// Whether `mode` goes with `held`, or nobody but `slot` is in the set of those that hold it.
+#[inline]
 fn goes_beside(set: &Slots, held: Mode, slot: Slot, mode: Mode) -> bool
     ensures { IsTrue result ↔ GoesBeside set.now held slot mode }
 {

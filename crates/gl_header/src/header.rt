@@ -140,6 +140,7 @@ impl Header {
     }
 
     /// Whether nobody holds and nobody waits, so that the header may go.
+    #[inline]
     pub fn is_empty(&self) -> bool
         ensures { result ≡ is_unused self.now }
     {
@@ -176,6 +177,7 @@ impl Header {
     }
 
     /// Whether a slot that holds the mode `held` is granted `wanted` at once.
+    #[inline]
     fn enters(&self, slot: Slot, held: Mode, wanted: Mode) -> bool
         requires held { held ≡ members_of self.now slot }
         ensures { result ≡ enters slot_limit (members_of self.now) self.now.queue slot wanted }
@@ -216,7 +218,7 @@ impl Header {
         let held = self.mode_of(slot);
         let wanted = sup(held, mode);
         if self.enters(slot, held, wanted) {
-            self.granted.hold(slot, wanted);
+            self.granted.hold(slot, held, wanted);
             return Ok(Asked::Granted(wanted));
         }
         enqueue(&self.granted, &mut self.queue, slot, held, wanted)?;
@@ -249,7 +251,7 @@ impl Header {
         if !self.enters(slot, held, wanted) {
             return Try::WouldBlock;
         }
-        self.granted.hold(slot, wanted);
+        self.granted.hold(slot, held, wanted);
         Try::Granted(wanted)
     }
 

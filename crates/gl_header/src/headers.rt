@@ -50,6 +50,7 @@ ghost use Rattle.gl_header.specs.Headers.{
   AreDistinct,
   AreHeaders,
   HasItsKey,
+  IfRaised,
   IsAskedAt,
   IsFreeKey,
   IsOneHolder,
@@ -252,9 +253,7 @@ impl Headers {
         ensures err { OnErr result (self.new.entries ≡ self.old.entries) }
         ensures room { self.old.room ≤ self.new.room }
         ensures no_memory { IfErr result (λ refusal. refusal ≡ ARefusal.NoMemory) }
-        ensures member { holds (members_at self.old.entries node) slot ≡ true
-            → is_granted_at self.old.entries slot node mode ≡ true
-            → IsOk result }
+        ensures member { IfRaised self.old.entries slot node mode (IsOk result) }
     {
         let Ok(()) = grow(&mut self.places, node.key) else {
             return Err(Refusal::NoMemory);

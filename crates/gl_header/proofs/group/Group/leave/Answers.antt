@@ -2,8 +2,12 @@ use Rattle.std.proofs.Common.{◌≡◌, ◌∙◌, ℕ, Bool, true, false, ap, 
 use Rattle.std.proofs.lemmas.Bool.Decides.{nat_tests}
 use Rattle.std.proofs.Math.Path.{fun_ext}
 use Rattle.std.proofs.lemmas.Bool.{not-false}
-use Rattle.std.specs.Prelude.{◌==◌, if◌then◌else◌}
-use Rattle.gl_modes.specs.declared.mode.Mode.TheVariants.{NL}
+use Rattle.std.specs.Prelude.{◌==◌, if◌then◌else◌, not}
+use denote.Enum.Bare.{sameb}
+use Rattle.gl_modes.specs.contracts.mode.Mode.{the_type}
+use Rattle.gl_modes.specs.declared.mode.Mode.{Mode}
+use Rattle.gl_modes.specs.declared.mode.Mode.TheVariants.{NL, IS, IX, S, SIX, X}
+use Rattle.gl_modes.specs.Modes.{same_mode}
 use Rattle.gl_modes.proofs.ModeLemmas.{same_mode-equal}
 use Rattle.gl_header.specs.Groups.{held_by}
 use Rattle.gl_header.specs.Header.{Members, holds, with_mode}
@@ -20,5 +24,16 @@ unheld-without g t none = fun_ext (λ u. by u (u == t) refl)
     by u true e = ap g (equal u e) ∙ (same_mode-equal (g t) NL (not-false _ none) ∙ sym (ap (λ x. if x then NL else g u) e))
     by u false e = sym (ap (λ x. if x then NL else g u) e)
 
-pub returns-else-has-clause-held : goal.returns-else-has-clause-held
-returns-else-has-clause-held c = unheld-without (held_by c.args.self.now) c.args.slot (sym c.has.ensures ∙ c.if-has.false)
+-- none is no lock
+none-held : (m : Mode) → not (sameb the_type m NL) ≡ false → not (same_mode m NL) ≡ false
+none-held NL h = refl
+none-held IS h = cc
+none-held IX h = cc
+none-held S h = cc
+none-held SIX h = cc
+none-held X h = cc
+
+pub returns-else-ne-clause-held : goal.returns-else-ne-clause-held
+returns-else-ne-clause-held c =
+    unheld-without (held_by c.args.self.now) c.args.slot
+    (ap (λ m. not (same_mode m NL)) (sym c.requires.held) ∙ none-held c.args.held (sym c.ne.ensures ∙ c.if-ne.false))
