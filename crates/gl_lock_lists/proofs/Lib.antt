@@ -1,3 +1,2 @@
-pub mod RowLemmas
 pub mod Lists
 pub mod Children

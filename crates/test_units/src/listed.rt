@@ -1,7 +1,7 @@
 //! A list under nodes beside an `IndexMap` that is asked the same.
 
 use crate::wanted::same;
-use gl_lock_lists::NodeMap;
+use gl_node_map::NodeMap;
 use gl_modes::NodeId;
 use indexmap::IndexMap;
 use std::alloc::{AllocError, Global};

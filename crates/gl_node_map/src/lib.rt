@@ -1,0 +1,7 @@
+//! Values under nodes, which are scanned while they are few.
+#![tactic(auto)]
+
+mod node_map;
+mod rows;
+
+pub use node_map::NodeMap;
