@@ -4,3 +4,4 @@ mod Ages
 -- each command, each step and each run
 mod Steps
 mod Served
+mod Passes

@@ -1,5 +1,6 @@
 //! The laws of waiting, each the contract of a call that does nothing.
 
+ghost use Rattle.gl_fairness.specs.Passed.{PassedAtMost, PassesAreSpent, RaisesEnd};
 ghost use Rattle.gl_fairness.specs.Waiting.{FirstComeFirstServed, NobodyComesBetween};
 
 /// Who waits on a node is served in turn: whoever stands before it after a step stood before it
@@ -10,4 +11,13 @@ ghost use Rattle.gl_fairness.specs.Waiting.{FirstComeFirstServed, NobodyComesBet
 pub fn first_come_first_served()
     ensures step { FirstComeFirstServed }
     ensures run { NobodyComesBetween }
+{}
+
+/// While a transaction waits on a node, others are granted that node a bounded number of times: each
+/// grant is a raise of one who stands before it, and nobody can be raised more than four times. The
+/// raises left to those who stand before it never grow, and each grant to another takes one of them.
+pub fn passed_at_most()
+    ensures raise { RaisesEnd }
+    ensures step { PassesAreSpent }
+    ensures run { PassedAtMost }
 {}
