@@ -5,3 +5,4 @@ mod Ages
 mod Steps
 mod Served
 mod Passes
+mod Ends

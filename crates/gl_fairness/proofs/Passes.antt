@@ -88,12 +88,16 @@ module _ (s s' : State) (t : TxnId) (n : NodeId) (kept : KeepsBefore s s' t.slot
   granted_now = cond (is_granted_past s s' t n u) 1 0
 
   -- a grant past t is a raise of one who stands before it
-  granted_spent : is_granted_past s s' t n u ≡ true → granted_now + left s' ≤ left s
-  granted_spent e =
+  raised_before : is_granted_past s s' t n u ≡ true → (stands_before s' t n u ≡ true) × (raises_left (s'.held u n) < raises_left (s.held u n))
+  raised_before e =
       let other = and_both _ _ e in let parts = and_both _ _ other.1 in
       let now : stands_before s' t n u ≡ true = both _ _ other.0 (or_left _ _ parts.0) in
-      let less : raises_left (s'.held u n) < raises_left (s.held u n) = raises_end (s.held u n) (s'.held u n) (no_less now) (not_same parts.1) in
-      let was : left s ≡ raises_left (s.held u n) = left_is s (stood now) in let is : left s' ≡ raises_left (s'.held u n) = left_is s' now in
+      (now, raises_end (s.held u n) (s'.held u n) (no_less now) (not_same parts.1))
+
+  granted_spent : is_granted_past s s' t n u ≡ true → granted_now + left s' ≤ left s
+  granted_spent e =
+      let raised : (stands_before s' t n u ≡ true) × (raises_left (s'.held u n) < raises_left (s.held u n)) = raised_before e in
+      let was : left s ≡ raises_left (s.held u n) = left_is s (stood raised.0) in let is : left s' ≡ raises_left (s'.held u n) = left_is s' raised.0 in
       let one : granted_now ≡ 1 = ap (λ x. cond x 1 0) e in
       omega arith
 

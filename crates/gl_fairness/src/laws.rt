@@ -1,5 +1,6 @@
 //! The laws of waiting, each the contract of a call that does nothing.
 
+ghost use Rattle.gl_fairness.specs.Ends.{WaitsEnd, WaitsForOneBefore, WaitsForSomebody};
 ghost use Rattle.gl_fairness.specs.Passed.{PassedAtMost, PassesAreSpent, RaisesEnd};
 ghost use Rattle.gl_fairness.specs.Waiting.{FirstComeFirstServed, NobodyComesBetween};
 
@@ -20,4 +21,17 @@ pub fn passed_at_most()
     ensures raise { RaisesEnd }
     ensures step { PassesAreSpent }
     ensures run { PassedAtMost }
+{}
+
+/// Whoever waits on a node waits for a transaction that lives and stands before it there. Where it has
+/// waited along a run, that one stood before it when the run began, and is the same transaction.
+pub fn waits_for_somebody()
+    ensures now { WaitsForSomebody }
+    ensures run { WaitsForOneBefore }
+{}
+
+/// Over a run in which all have ended who stood before a wait at its beginning, the wait has ended:
+/// some step ended it, which told its transaction so, or whose command cancelled or aborted it by name.
+pub fn waits_end()
+    ensures { WaitsEnd }
 {}
