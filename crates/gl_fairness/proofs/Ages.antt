@@ -1,8 +1,8 @@
 -- The age in a slot that is taken before a step and after it is one age.
-use Rattle.std.specs.Prelude.{◌≡◌, ℕ, ◌+◌, true, false, Bool, ◌&&◌, ◌||◌, ◌==◌, List, Option, Some, None, if◌then◌else◌, is_some}
+use Rattle.std.specs.Prelude.{◌≡◌, ℕ, ◌+◌, true, ◌&&◌, ◌||◌, ◌==◌, List, Option, Some, None, if◌then◌else◌, is_some}
 use Rattle.std.specs.List.{filter}
 use Rattle.std.proofs.Common.{refl, sym, ap, subst, ◌∙◌}
-use Rattle.gl_modes.proofs.Words.{clash, no, number_same, same_number, split}
+use Rattle.gl_modes.proofs.Words.{clash, number_same, same_number, split}
 use Rattle.gl_modes.specs.declared.mode.Mode.{Mode}
 use Rattle.gl_modes.specs.declared.mode.Mode.TheVariants.{NL}
 use Rattle.gl_modes.specs.declared.node.NodeId.{NodeId}
@@ -11,7 +11,7 @@ use Rattle.gl_graph.specs.Changes.{rekeyed_parents}
 use Rattle.gl_header.specs.Header.{Waiter, holds, is_among_waiters}
 use Rattle.gl_model.specs.declared.txn.Status.TheVariants.{Active, Waiting}
 use Rattle.gl_model.specs.Calls.{Locks, enqueued, enters_at, goes_with, is_covered, raised, released, stays, wanted}
-use Rattle.gl_model.specs.State.{State, Txn, age_in, age_of, granted_at, is_waiting_at, live_by, members, restatus, with_grant, woken}
+use Rattle.gl_model.specs.State.{State, Txn, age_in, granted_at, is_waiting_at, live_by, members, restatus, with_grant, woken}
 use Rattle.gl_model.specs.Tellings.{stripped, Told}
 use Rattle.gl_model.proofs.law.Lock.{free_slot}
 use Rattle.gl_model.proofs.law.Takes.{restatus_age, restatus_some}

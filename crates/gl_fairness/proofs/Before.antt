@@ -1,9 +1,9 @@
 -- What each change of a state leaves of those who stand before a wait: nobody new, and nobody who holds less.
-use Rattle.gl_model.proofs.Words.{[], ⊎_elim, ◌&&◌, ◌++◌, ◌==◌, ◌||◌, ◌∙◌, ◌∷◌, ◌≡◌, ◌≢◌, and_both, ap, arith, at_least-refl, at_least-transitive, Bool, clash}
+use Rattle.gl_model.proofs.Words.{[], ⊎_elim, ◌&&◌, ◌==◌, ◌||◌, ◌∙◌, ◌∷◌, ◌≡◌, ◌≢◌, and_both, ap, at_least-refl, at_least-transitive, Bool, clash}
 use Rattle.gl_model.proofs.Words.{drop, enqueued, false, filter, granted_at, holds, if◌then◌else◌, is_ahead, is_among_waiters, is_at_least, is_waiter}
-use Rattle.gl_model.proofs.Words.{IsLawful, length, List, list_all, Mode, members, nat_tests, NL, NodeId, not, number_other, Option, or_elim, or_left, or_right}
-use Rattle.gl_model.proofs.Words.{other_number, placed, pumped, refl, same_mode, same_node, same_node-equal, same_number, Some, split, State, status_in}
-use Rattle.gl_model.proofs.Words.{status_of, subst, sym, true, Txn, Waiter, with_grant, ℕ}
+use Rattle.gl_model.proofs.Words.{IsLawful, length, List, list_all, Mode, members, NL, NodeId, not, Option, or_elim, or_left, or_right}
+use Rattle.gl_model.proofs.Words.{other_number, placed, pumped, refl, same_mode, same_node, same_node-equal, same_number, Some, split, State}
+use Rattle.gl_model.proofs.Words.{status_of, sym, true, Txn, Waiter, with_grant, ℕ}
 use Rattle.gl_model.specs.Calls.{stays}
 use Rattle.gl_model.specs.declared.txn.Status.TheVariants.{Waiting}
 use Rattle.gl_model.proofs.law.Edges.{placed_ahead}

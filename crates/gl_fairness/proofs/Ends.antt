@@ -1,10 +1,10 @@
 -- Whoever waits waits for one who lives and stands before it, so its wait has ended when all of those have.
 use Rattle.std.specs.Prelude.{◌≡◌, ◌⊎◌, ℕ, Bool, true, false, not, ◌&&◌, ◌||◌, ◌==◌, List, [], ◌∷◌, Option, Some, None, if◌then◌else◌, is_some}
 use Rattle.std.specs.List.{filter, list_all, range_with_len}
-use Rattle.std.proofs.Common.{refl, sym, ap, ap₂, arith, inl, inr, subst, ⊎_elim, ◌∙◌}
+use Rattle.std.proofs.Common.{refl, sym, ap, arith, inl, inr, ⊎_elim, ◌∙◌}
 use Rattle.std.proofs.lemmas.Bool.Decides.{nat_tests}
 use Rattle.gl_modes.proofs.ModeLemmas.{NL-compatible}
-use Rattle.gl_modes.proofs.Words.{and_both, both, clash, no, number_same, or_elim, or_left, or_right, split}
+use Rattle.gl_modes.proofs.Words.{and_both, both, clash, number_same, or_elim, or_left, or_right, split}
 use Rattle.gl_modes.specs.declared.mode.Mode.{Mode}
 use Rattle.gl_modes.specs.declared.node.NodeId.{NodeId}
 use Rattle.gl_modes.specs.Modes.{are_compatible, same_mode}
@@ -13,7 +13,7 @@ use Rattle.gl_header.specs.Header.{Waiter, fits, front, holds, is_among_waiters,
 use Rattle.gl_model.specs.declared.txn.Status.TheVariants.{Waiting}
 use Rattle.gl_model.specs.declared.txn.TxnId.{TxnId}
 use Rattle.gl_model.specs.Lawful.{IsLawful}
-use Rattle.gl_model.specs.State.{State, Txn, age_in, age_of, blocks, live_by, lives, members, status_of, waits_for}
+use Rattle.gl_model.specs.State.{State, Txn, age_in, age_of, blocks, live_by, members, status_of}
 use Rattle.gl_model.specs.Tellings.{Told}
 use Rattle.gl_model.proofs.law.Keeps.{nl_is, waiting_is}
 use Rattle.gl_model.proofs.queues.Waiters.{ahead, ahead_is, no_cons}
@@ -24,9 +24,9 @@ use Rattle.gl_steps.specs.Step.{Run}
 use Rattle.gl_steps.proofs.StepsKeepLaw.{runs_keep_law, steps_keep_law}
 use Rattle.gl_steps.proofs.WaitsEnd.{ends_waits}
 use Rattle.gl_fairness.specs.Ends.{EndsWait, IsWaitedFor, WaitsEnd, WaitsForOneBefore, WaitsForSomebody}
-use Rattle.gl_fairness.specs.Waiting.{SameTxn, WaitsThrough, stands_before}
+use Rattle.gl_fairness.specs.Waiting.{WaitsThrough}
 use Rattle.gl_fairness.proofs.Before.{before, stands_in}
-use Rattle.gl_fairness.proofs.Served.{before_lives, nobody_comes_between, other_slot, waits_first}
+use Rattle.gl_fairness.proofs.Served.{before_lives, nobody_comes_between}
 
 -- Whom the wait at the front of a queue is for, and whom every other.
 
@@ -54,8 +54,8 @@ first_unfit most g w q h = split (fits most g w.0 w.1)
 
 -- the first wait of one who waits once is that one
 first_own : (t : ℕ) (m : Mode) (w : Waiter) (q : List Waiter) → (w.0 == t) ≡ true → filter (is_waiter t) (w ∷ q) ≡ (t, m) ∷ [] → w ≡ (t, m)
-first_own t m w q e one = let all : w ∷ filter (is_waiter t) q ≡ (t, m) ∷ [] = sym (ap (λ b. if b then w ∷ filter (is_waiter t) q else filter (is_waiter t) q) e)
-    ∙ one in cc
+first_own t m w q e one =
+    let all : w ∷ filter (is_waiter t) q ≡ (t, m) ∷ [] = sym (ap (λ b. if b then w ∷ filter (is_waiter t) q else filter (is_waiter t) q) e) ∙ one in cc
 
 -- the first waiter stands ahead of the others
 first_ahead : (t : ℕ) (w : Waiter) (q : List Waiter) → (w.0 == t) ≡ false → is_among_waiters t (w ∷ q) ≡ true → ahead (w ∷ q) t w.0 ≡ true

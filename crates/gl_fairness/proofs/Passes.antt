@@ -1,7 +1,7 @@
 -- A wait is passed a bounded number of times.
-use Rattle.std.specs.Prelude.{◌≡◌, ℕ, ◌+◌, ◌*◌, ◌≤◌, ◌<◌, Bool, true, false, not, ◌&&◌, ◌||◌, ◌==◌, List, [], ◌∷◌, cond, if◌then◌else◌, nat_le, nat_lt}
-use Rattle.std.specs.List.{count_by, sum_by}
-use Rattle.std.proofs.Common.{refl, sym, ap, arith, subst, ◌∙◌}
+use Rattle.std.specs.Prelude.{◌≡◌, ℕ, ◌+◌, ◌*◌, ◌≤◌, ◌<◌, Bool, true, false, not, List, [], ◌∷◌, cond, if◌then◌else◌, nat_le, nat_lt}
+use Rattle.std.specs.List.{count_by, range_with_len, sum_by}
+use Rattle.std.proofs.Common.{refl, sym, ap, arith, subst}
 use Rattle.std.proofs.lemmas.Bool.Decides.{nat_tests}
 use Rattle.std.proofs.lemmas.List.Sums.{sum_by-cons}
 use Rattle.gl_modes.proofs.Each.{every2-true, implied, implies}
@@ -19,10 +19,9 @@ use Rattle.gl_steps.specs.declared.command.Command.{Command}
 use Rattle.gl_steps.proofs.StepsKeepLaw.{steps_keep_law}
 use Rattle.gl_fairness.specs.Passed.{PassedAtMost, PassesAreSpent, RaisesEnd, is_granted_past, passes, passes_left, passes_through, raises_left}
 use Rattle.gl_fairness.specs.Waiting.{WaitsThrough, stands_before}
-use Rattle.gl_fairness.proofs.Before.{KeepsBefore, before}
+use Rattle.gl_fairness.proofs.Before.{KeepsBefore}
 use Rattle.gl_fairness.proofs.Served.{other_slot, waits_first}
 use Rattle.gl_fairness.proofs.Steps.{step_before}
-use Rattle.std.specs.List.{range_with_len}
 
 -- What a raise leaves.
 

@@ -1,6 +1,6 @@
 -- First come, first served: over a step, and over a run along which the wait lasts.
-use Rattle.std.specs.Prelude.{◌≡◌, ◌≢◌, ℕ, true, not, ◌&&◌, ◌||◌, ◌==◌, List, [], ◌∷◌, is_some}
-use Rattle.std.proofs.Common.{refl, sym, ap, arith, subst, ◌∙◌}
+use Rattle.std.specs.Prelude.{◌≡◌, ◌≢◌, ℕ, true, not, ◌==◌, List, [], ◌∷◌, is_some}
+use Rattle.std.proofs.Common.{refl, sym, arith, subst, ◌∙◌}
 use Rattle.std.proofs.lemmas.Bool.Decides.{nat_tests}
 use Rattle.gl_modes.proofs.Words.{and_both, both, or_elim}
 use Rattle.gl_modes.specs.declared.node.NodeId.{NodeId}
@@ -14,7 +14,7 @@ use Rattle.gl_steps.specs.declared.command.Answer.{Answer}
 use Rattle.gl_steps.specs.declared.command.Command.{Command}
 use Rattle.gl_steps.specs.Promises.{waits_on}
 use Rattle.gl_steps.proofs.StepsKeepLaw.{steps_keep_law}
-use Rattle.gl_fairness.specs.Waiting.{FirstComeFirstServed, NobodyComesBetween, SameTxn, StoodBefore, WaitsThrough, stands_before}
+use Rattle.gl_fairness.specs.Waiting.{FirstComeFirstServed, NobodyComesBetween, SameTxn, StoodBefore, WaitsThrough}
 use Rattle.gl_fairness.proofs.Ages.{one_age}
 use Rattle.gl_fairness.proofs.Before.{before}
 use Rattle.gl_fairness.proofs.Steps.{step_before}

@@ -1,8 +1,8 @@
 -- Each command leaves those who stand before a wait that goes on: nobody new, and nobody who holds less.
-use Rattle.std.specs.Prelude.{◌≡◌, ◌≢◌, ℕ, zero, suc, ◌+◌, ◌≤◌, Bool, true, false, ◌&&◌, ◌||◌, ◌==◌, List, [], ◌∷◌, None, Some, if◌then◌else◌}
+use Rattle.std.specs.Prelude.{◌≡◌, ◌≢◌, ℕ, zero, suc, ◌+◌, ◌≤◌, Bool, true, false, List, [], ◌∷◌, None, Some, if◌then◌else◌}
 use Rattle.std.specs.List.{filter}
 use Rattle.std.proofs.Common.{refl, sym, ap, arith, subst, ◌∙◌}
-use Rattle.gl_modes.proofs.Words.{and_both, clash, none_some, not_true, or_elim, or_left, or_right, split}
+use Rattle.gl_modes.proofs.Words.{and_both, clash, none_some, or_elim, or_left, or_right, split}
 use Rattle.gl_modes.proofs.ModeLemmas.{at_least-refl, supremum-above}
 use Rattle.gl_modes.proofs.NodeLemmas.{same_node-equal}
 use Rattle.gl_modes.specs.declared.mode.Mode.{Mode}
@@ -23,7 +23,7 @@ use Rattle.gl_model.specs.declared.txn.TxnId.{TxnId}
 use Rattle.gl_model.specs.Calls.{Locks, WaitSettles, asked_by_escalation, departed, enqueued, enters_at, goes_with, granted, is_covered, moved_to, raised}
 use Rattle.gl_model.specs.Calls.{stays, waiting_test, wanted}
 use Rattle.gl_model.specs.Lawful.{IsLawful}
-use Rattle.gl_model.specs.State.{Settled, SettledWithin, State, condemned, is_waiting_at, lives, members, restatus, status_of, with_grant, with_graph}
+use Rattle.gl_model.specs.State.{Settled, SettledWithin, State, condemned, is_waiting_at, members, status_of, with_grant, with_graph}
 use Rattle.gl_model.specs.Tellings.{Told}
 use Rattle.gl_model.proofs.law.Departures.{still_waits_among}
 use Rattle.gl_model.proofs.law.Keeps.{waiting_is}

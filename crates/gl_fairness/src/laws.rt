@@ -4,8 +4,8 @@ ghost use Rattle.gl_fairness.specs.Ends.{WaitsEnd, WaitsForOneBefore, WaitsForSo
 ghost use Rattle.gl_fairness.specs.Passed.{PassedAtMost, PassesAreSpent, RaisesEnd};
 ghost use Rattle.gl_fairness.specs.Waiting.{FirstComeFirstServed, NobodyComesBetween};
 
-/// Who waits on a node is served in turn: whoever stands before it after a step stood before it
-/// already, and is the same transaction; so it is over a run along which the wait lasts. To stand
+/// Nobody new comes before one who waits on a node: whoever stands before it after a step stood before
+/// it already, and is the same transaction; so it is over a run along which the wait lasts. To stand
 /// before a wait is to hold the node or to stand ahead in its queue, so no transaction that asked
 /// later as a newcomer, or began later, holds the node before the wait has ended. Those who held the
 /// node when the wait began may raise their mode meanwhile: how often, `passed_at_most` says.
@@ -15,8 +15,9 @@ pub fn first_come_first_served()
 {}
 
 /// While a transaction waits on a node, others are granted that node a bounded number of times: each
-/// grant is a raise of one who stands before it, and nobody can be raised more than four times. The
+/// such grant raises one who stands before it, and nobody can be raised more than four times. The
 /// raises left to those who stand before it never grow, and each grant to another takes one of them.
+/// So along a run there are at most four for each who stood before it when the run began.
 pub fn passed_at_most()
     ensures raise { RaisesEnd }
     ensures step { PassesAreSpent }
