@@ -1,0 +1,136 @@
+-- Whoever waits waits for one who lives and stands before it, so its wait has ended when all of those have.
+use Rattle.std.specs.Prelude.{◌≡◌, ◌⊎◌, ℕ, Bool, true, false, not, ◌&&◌, ◌||◌, ◌==◌, List, [], ◌∷◌, Option, Some, None, if◌then◌else◌, is_some}
+use Rattle.std.specs.List.{filter, list_all, range_with_len}
+use Rattle.std.proofs.Common.{refl, sym, ap, arith, inl, inr, ⊎_elim, ◌∙◌}
+use Rattle.std.proofs.lemmas.Bool.Decides.{nat_tests}
+use Rattle.gl_modes.proofs.ModeLemmas.{NL-compatible}
+use Rattle.gl_modes.proofs.Words.{and_both, both, clash, number_same, or_elim, or_left, or_right, split}
+use Rattle.gl_modes.specs.declared.mode.Mode.{Mode}
+use Rattle.gl_modes.specs.declared.node.NodeId.{NodeId}
+use Rattle.gl_modes.specs.Modes.{are_compatible, same_mode}
+use Rattle.gl_modes.specs.declared.mode.Mode.TheVariants.{NL}
+use Rattle.gl_header.specs.Header.{Waiter, fits, front, holds, is_among_waiters, is_waiter, with_mode}
+use Rattle.gl_model.specs.declared.txn.Status.TheVariants.{Waiting}
+use Rattle.gl_model.specs.declared.txn.TxnId.{TxnId}
+use Rattle.gl_model.specs.Lawful.{IsLawful}
+use Rattle.gl_model.specs.State.{State, Txn, age_in, age_of, blocks, live_by, members, status_of}
+use Rattle.gl_model.specs.Tellings.{Told}
+use Rattle.gl_model.proofs.law.Keeps.{nl_is, waiting_is}
+use Rattle.gl_model.proofs.queues.Waiters.{ahead, ahead_is, no_cons}
+use Rattle.gl_steps.specs.declared.command.Answer.{Answer}
+use Rattle.gl_steps.specs.declared.command.Command.{Command}
+use Rattle.gl_steps.specs.Promises.{SomeStep, waits_on}
+use Rattle.gl_steps.specs.Step.{Run}
+use Rattle.gl_steps.proofs.StepsKeepLaw.{runs_keep_law, steps_keep_law}
+use Rattle.gl_steps.proofs.WaitsEnd.{ends_waits}
+use Rattle.gl_fairness.specs.Ends.{EndsWait, IsWaitedFor, WaitsEnd, WaitsForOneBefore, WaitsForSomebody}
+use Rattle.gl_fairness.specs.Waiting.{WaitsThrough}
+use Rattle.gl_fairness.proofs.Before.{before, stands_in}
+use Rattle.gl_fairness.proofs.Served.{before_lives, nobody_comes_between}
+
+-- Whom the wait at the front of a queue is for, and whom every other.
+
+-- what does not fit is blocked by some other
+blocker : (t : ℕ) (m : Mode) (g : ℕ → Mode) (us : List ℕ) → list_all (λ u. (u == t) || are_compatible m (g u)) us ≡ false → (u : ℕ)
+    × (not (u == t) ≡ true) × (are_compatible m (g u) ≡ false)
+blocker t m g [] h = clash refl h
+blocker t m g (u ∷ us) h = split ((u == t) || are_compatible m (g u))
+    (λ e. blocker t m g us (sym (ap (λ b. b && list_all (λ v. (v == t) || are_compatible m (g v)) us) e) ∙ h))
+    (λ e. by (u == t) (are_compatible m (g u)) refl refl e)
+  where
+    by : (a b : Bool) → (u == t) ≡ a → are_compatible m (g u) ≡ b → (a || b) ≡ false → (v : ℕ) × (not (v == t) ≡ true) × (are_compatible m (g v) ≡ false)
+    by true b e f k = clash refl k
+    by false true e f k = clash refl k
+    by false false e f k = (u, ap not e, f)
+
+-- who blocks holds
+blocks_held : (m : Mode) (a : Mode) → are_compatible m a ≡ false → not (same_mode a NL) ≡ true
+blocks_held m a h = split (not (same_mode a NL)) (λ e. e) (λ e. clash (ap (are_compatible m) (nl_is a e) ∙ NL-compatible m) h)
+
+-- a front that grants nothing: its first waiter does not fit
+first_unfit : (most : ℕ) (g : ℕ → Mode) (w : Waiter) (q : List Waiter) → front most g (w ∷ q) ≡ [] → fits most g w.0 w.1 ≡ false
+first_unfit most g w q h = split (fits most g w.0 w.1)
+    (λ e. no_cons (sym (ap (λ b. if b then w ∷ front most (with_mode g w.0 w.1) q else []) e) ∙ h)) (λ e. e)
+
+-- the first wait of one who waits once is that one
+first_own : (t : ℕ) (m : Mode) (w : Waiter) (q : List Waiter) → (w.0 == t) ≡ true → filter (is_waiter t) (w ∷ q) ≡ (t, m) ∷ [] → w ≡ (t, m)
+first_own t m w q e one =
+    let all : w ∷ filter (is_waiter t) q ≡ (t, m) ∷ [] = sym (ap (λ b. if b then w ∷ filter (is_waiter t) q else filter (is_waiter t) q) e) ∙ one in cc
+
+-- the first waiter stands ahead of the others
+first_ahead : (t : ℕ) (w : Waiter) (q : List Waiter) → (w.0 == t) ≡ false → is_among_waiters t (w ∷ q) ≡ true → ahead (w ∷ q) t w.0 ≡ true
+first_ahead t w q e among =
+    let rest : is_among_waiters t q ≡ true = or_elim (w.0 == t) (is_among_waiters t q) among (λ h. clash h e) (λ h. h) in
+    let same : (w.0 == w.0) ≡ true = number_same w.0 w.0 refl in
+    both _ _ (ap not e) (ap (λ b. if b then is_among_waiters t q else ahead q t w.0) same ∙ rest)
+
+turned : (u t : ℕ) → not (u == t) ≡ true → not (t == u) ≡ true
+turned u t h = grind (arith, nat_tests)
+
+module _ (s : State) (law : IsLawful s) (t : TxnId) (n : NodeId) (m : Mode) (waits : status_of s t.slot ≡ Some (Waiting n m)) where
+  waited_for : (u : ℕ) → not (u == t.slot) ≡ true → before s t.slot n u ≡ true
+      → (not (are_compatible m (s.held u n)) ≡ true) ⊎ (ahead (s.queue n) t.slot u ≡ true) → IsWaitedFor s t n u
+  waited_for u other stands why = record {
+    waits = both _ _ (turned u t.slot other) (ap (blocks s t.slot u) waits ∙ ⊎_elim (λ h. or_left _ _ h)
+        (λ h. or_right (not (are_compatible m (s.held u n))) _ (ahead_is (s.queue n) t.slot u ∙ h)) why);
+    lives = before_lives s law t.slot n u stands;
+    before = both _ _ other stands;
+  }
+
+  by_queue : (q : List Waiter) → s.queue n ≡ q → is_among_waiters t.slot q ≡ true → (u : ℕ) × IsWaitedFor s t n u
+  by_queue [] e among = clash among refl
+  by_queue (w ∷ q) e among = split (w.0 == t.slot) (λ own.
+      let is : w ≡ (t.slot, m) = first_own t.slot m w q own (sym (ap (filter (is_waiter t.slot)) e) ∙ law.one_wait t.slot n m waits) in
+      let unfit = first_unfit s.most (members s n) w q (sym (ap (front s.most (members s n)) e) ∙ law.front_waits n) in
+      let found = blocker t.slot m (members s n) (range_with_len 0 s.most) (sym (ap (λ (x : Waiter). fits s.most (members s n) x.0 x.1) is) ∙ unfit) in
+      (found.0, waited_for found.0 found.1 (or_left _ _ (blocks_held m (s.held found.0 n) found.2)) (inl (ap not found.2))))
+      (λ another.
+      let at : ahead (s.queue n) t.slot w.0 ≡ true = ap (λ l. ahead l t.slot w.0) e ∙ first_ahead t.slot w q another among in
+      (w.0, waited_for w.0 (ap not another) (or_right (holds (members s n) w.0) _ (ahead_is (s.queue n) t.slot w.0 ∙ at)) (inr at)))
+
+  pub somebody : (u : ℕ) × IsWaitedFor s t n u
+  somebody = by_queue (s.queue n) refl (stands_in s law t.slot n m waits)
+
+pub waits_for_somebody : WaitsForSomebody
+waits_for_somebody s t n law waits = let w = waiting_is (status_of s t.slot) n (and_both _ _ waits).1 in somebody s law t n w.0 w.1
+
+-- Runs along which a wait lasts.
+
+-- such a run is a run, and at its end the wait lasts
+through_runs : (t : TxnId) (n : NodeId) (s : State) (cs : List Command) (rs : List (Answer × Told)) (s' : State) → WaitsThrough t n s cs rs s'
+    → Run s cs rs s' × (waits_on s' t n ≡ true)
+through_runs t n s [] [] s' run = (run.1, ap (λ x. waits_on x t n) run.1 ∙ run.0)
+through_runs t n s [] (r ∷ rs) s' run = absurd run
+through_runs t n s (c ∷ cs) [] s' run = absurd run
+through_runs t n s (c ∷ cs) (r ∷ rs) s' run = let rest = through_runs t n run.1 cs rs s' run.3 in ((run.1, run.2, rest.0), rest.1)
+
+pub waits_for_one_before : WaitsForOneBefore
+waits_for_one_before s s' cs rs t n law run =
+    let plain = through_runs t n s cs rs s' run in
+    let one = waits_for_somebody s' t n (runs_keep_law s s' cs rs law plain.0) plain.1 in
+    let stood = nobody_comes_between s s' cs rs t n law run one.0 one.1.before in
+    (one.0, one.1, stood.0, stood.1)
+
+-- a run either is one along which the wait lasts, or some step of it ends the wait
+lasts_or_ends : (s s' : State) (cs : List Command) (rs : List (Answer × Told)) (t : TxnId) (n : NodeId) → IsLawful s → Run s cs rs s' → waits_on s t n ≡ true
+    → WaitsThrough t n s cs rs s' ⊎ SomeStep (EndsWait t n) s cs rs s'
+lasts_or_ends s s' [] [] t n law run waits = inl (waits, run)
+lasts_or_ends s s' [] (r ∷ rs) t n law run waits = absurd run
+lasts_or_ends s s' (c ∷ cs) [] t n law run waits = absurd run
+lasts_or_ends s s' (c ∷ cs) (r ∷ rs) t n law run waits =
+    let mid = run.0 in
+    split (waits_on mid t n)
+    (λ e. ⊎_elim (λ lasts. inl (waits, mid, run.1, lasts)) (λ ends. inr (mid, run.1, inr ends))
+    (lasts_or_ends mid s' cs rs t n (steps_keep_law s mid c r.0 r.1 law run.1) run.2 e))
+    (λ e. inr (mid, run.1, inl ((waits, e, ends_waits s mid c r.0 r.1 t n law run.1 waits e), run.2)))
+
+-- who is there with an age lives by it
+there_lives : (age : ℕ) (x : Option Txn) → is_some x ≡ true → age_in x ≡ age → live_by age x ≡ true
+there_lives age None h e = clash h refl
+there_lives age (Some x) h e = number_same x.age age e
+
+pub waits_end : WaitsEnd
+waits_end s s' cs rs t n law run waits ended =
+    ⊎_elim (λ lasts. let one = waits_for_one_before s s' cs rs t n law lasts in
+    clash (there_lives (age_of s one.0) (s'.txns one.0) one.3.is one.3.age) (ended one.0 one.2)) (λ ends. ends)
+    (lasts_or_ends s s' cs rs t n law run waits)

@@ -1,0 +1,63 @@
+-- First come, first served: over a step, and over a run along which the wait lasts.
+use Rattle.std.specs.Prelude.{◌≡◌, ◌≢◌, ℕ, true, not, ◌==◌, List, [], ◌∷◌, is_some}
+use Rattle.std.proofs.Common.{refl, sym, arith, subst, ◌∙◌}
+use Rattle.std.proofs.lemmas.Bool.Decides.{nat_tests}
+use Rattle.gl_modes.proofs.Words.{and_both, both, or_elim}
+use Rattle.gl_modes.specs.declared.node.NodeId.{NodeId}
+use Rattle.gl_model.specs.declared.txn.TxnId.{TxnId}
+use Rattle.gl_model.specs.Lawful.{IsLawful}
+use Rattle.gl_model.specs.State.{State, status_of}
+use Rattle.gl_model.specs.Tellings.{Told}
+use Rattle.gl_model.proofs.law.Keeps.{txn_there, waiting_is}
+use Rattle.gl_model.proofs.queues.Waiters.{ahead_is, ahead_second}
+use Rattle.gl_steps.specs.declared.command.Answer.{Answer}
+use Rattle.gl_steps.specs.declared.command.Command.{Command}
+use Rattle.gl_steps.specs.Promises.{waits_on}
+use Rattle.gl_steps.proofs.StepsKeepLaw.{steps_keep_law}
+use Rattle.gl_fairness.specs.Waiting.{FirstComeFirstServed, NobodyComesBetween, SameTxn, StoodBefore, WaitsThrough}
+use Rattle.gl_fairness.proofs.Ages.{one_age}
+use Rattle.gl_fairness.proofs.Before.{before}
+use Rattle.gl_fairness.proofs.Steps.{step_before}
+
+-- another slot
+pub other_slot : (u t : ℕ) → not (u == t) ≡ true → u ≢ t
+other_slot u t h = grind (arith, nat_tests)
+
+-- who holds or waits lives
+pub before_lives : (s : State) → IsLawful s → (t : ℕ) (n : NodeId) (u : ℕ) → before s t n u ≡ true → is_some (s.txns u) ≡ true
+before_lives s law t n u h = or_elim _ _ h (λ k. (law.grants_live u n k).0)
+    (λ k. let st = waiting_is (status_of s u) n (law.waits_are u n (ahead_second (s.queue n) t u (sym (ahead_is (s.queue n) t u) ∙ k))) in
+    txn_there (s.txns u) _ st.1)
+
+pub first_come_first_served : FirstComeFirstServed
+first_come_first_served s s' c a told t n law step begin end u h =
+    let parts = and_both _ _ h in
+    let stood = (step_before s s' c a told t n law step begin end).stood u (other_slot u t.slot parts.0) parts.1 in
+    let was = before_lives s law t.slot n u stood in
+    let is = before_lives s' (steps_keep_law s s' c a told law step) t.slot n u parts.1 in
+    (both _ _ parts.0 stood, record { was = was; is = is; age = one_age s s' c a told u step was is })
+
+-- one transaction in three states
+same_txn_trans : (a b c : State) (u : ℕ) → SameTxn a b u → SameTxn b c u → SameTxn a c u
+same_txn_trans a b c u f g = record { was = f.was; is = g.is; age = g.age ∙ f.age }
+
+-- a wait that lasts begins with the run
+pub waits_first : (t : TxnId) (n : NodeId) (s : State) (cs : List Command) (rs : List (Answer × Told)) (s' : State) → WaitsThrough t n s cs rs s'
+    → waits_on s t n ≡ true
+waits_first t n s [] [] s' run = run.0
+waits_first t n s [] (r ∷ rs) s' run = absurd run
+waits_first t n s (c ∷ cs) [] s' run = absurd run
+waits_first t n s (c ∷ cs) (r ∷ rs) s' run = run.0
+
+stood_itself : (s : State) → IsLawful s → (t : TxnId) (n : NodeId) → StoodBefore s s t n
+stood_itself s law t n u h = let lives = before_lives s law t.slot n u (and_both _ _ h).1 in (h, record { was = lives; is = lives; age = refl })
+
+pub nobody_comes_between : NobodyComesBetween
+nobody_comes_between s s' [] [] t n law run = subst (λ x. StoodBefore s x t n) (sym run.1) (stood_itself s law t n)
+nobody_comes_between s s' [] (r ∷ rs) t n law run = absurd run
+nobody_comes_between s s' (c ∷ cs) [] t n law run = absurd run
+nobody_comes_between s s' (c ∷ cs) (r ∷ rs) t n law run = λ u h.
+    let mid = run.1 in
+    let later = nobody_comes_between mid s' cs rs t n (steps_keep_law s mid c r.0 r.1 law run.2) run.3 u h in
+    let first = first_come_first_served s mid c r.0 r.1 t n law run.2 run.0 (waits_first t n mid cs rs s' run.3) u later.0 in
+    (first.0, same_txn_trans s mid s' u first.1 later.1)
