@@ -80,8 +80,8 @@ pub use Rattle.gl_model.specs.Lawful.{effect_on, effective, HasNoConflict, is_re
 pub use Rattle.gl_table.specs.Table.{AreRowsOf, board_of, entry_at, is_row_of, ListsAgree, row_of, rows_of, shown, StandOnce, state_of, TableView}
 pub use Rattle.gl_model.specs.Deadlocks.{IsDeadlock, IsStuck, LocksKeeping, SettlesKeeping, SettlesKeepingWithin, WaitSettlesKeeping}
 pub use Rattle.gl_table.specs.inside.Slots.{AreKept, as_held, as_left, Books, books_of, by_list, CanEnd, CanHold, CanStrike, CanTell, counted_by}
-pub use Rattle.gl_table.specs.inside.Slots.{HasRoomAt, held_by, IsShedding, IsWritten, KeepsLists, listed_by, room_by, Strikes, TellsOthers, unlisted_by}
-pub use Rattle.gl_table.specs.inside.Slots.{WaitsEnd, Wakes, WakesLists, Writing}
+pub use Rattle.gl_table.specs.inside.Slots.{HasRoomAt, held_by, IsShedding, IsWritten, KeepsLists, listed_by, room_by, Strikes, TellsAll, TellsOthers}
+pub use Rattle.gl_table.specs.inside.Slots.{unlisted_by, WaitsEnd, Wakes, WakesLists, Writing}
 pub use Rattle.gl_model.specs.Tellings.{grant_notice, IsBySlot, IsTold, mode_given, notices_in, WakesTold}
 pub use Rattle.gl_header.specs.Headers.{AreDistinct, AreHeaders, Entries, HasItsKey, header_at, header_or_new, held_of, is_granted_at, IsFreeKey, IsOneHolder}
 pub use Rattle.gl_header.specs.Headers.{members_at, queue_of, with_members, with_waiters}
@@ -92,8 +92,9 @@ pub use Rattle.gl_lock_lists.specs.Lists.{count_in, count_of, covered_in, entry_
 unfoldable pub use Rattle.gl_lock_lists.specs.Apart.{IsApart}
 pub use Rattle.gl_table.specs.inside.Ledger.{Agrees, AreExact, AreNew, AreSound, CountsHeld, KeepsLocks, state_in, state_on}
 pub use Rattle.gl_table.specs.inside.Locks.{state_at}
-pub use Rattle.gl_table.specs.inside.Steps.{AreAgreed, AreExactFor, AreShutOut, CanAsk, CanEndAt, CanRecount, CanTellWaiters, HasAsked, HasGrant, HasMoved}
-pub use Rattle.gl_table.specs.inside.Steps.{IsBranchLeftTo, IsFresh, IsLeftTo, IsPrepared, IsReleased, MayAct, Recounts, TellsGone}
+pub use Rattle.gl_table.specs.inside.Steps.{adds_to, AreAgreed, AreExactFor, AreShutOut, CanAsk, CanEndAt, CanRecount, CanTellWaiters, HasAsked, HasGrant}
+pub use Rattle.gl_table.specs.inside.Steps.{HasMoved, HasWoken, IsBranchLeftTo, IsFresh, IsLeftTo, IsPrepared, IsReleased, IsTurnedAway, MayAct, Recounts}
+pub use Rattle.gl_table.specs.inside.Steps.{TellsGone}
 pub use Rattle.gl_table.specs.inside.Seating.{IsSeating}
 pub use Rattle.gl_table.specs.inside.Seats.{is_free, is_free_at, SeatList, txn_in, txns_of}
 pub use Rattle.gl_table.specs.inside.Sound.{IsSafe, IsSound, view_of}

@@ -1,7 +1,7 @@
 //! The ledger of locks: the headers of all nodes, and by slot the transactions with their lists.
 
 ghost use Rattle.gl_slots.specs.Limit.{most_slots};
-ghost use Rattle.std.specs.Prelude.{◌≡◌, ◌<◌, ◌≤◌, ◌==◌, ℕ, IfOk, None, Some, false, length, slice_get, true, if◌then◌else◌};
+ghost use Rattle.std.specs.Prelude.{◌≡◌, ◌<◌, ◌≤◌, ℕ, IfOk, None, Some, false, length, slice_get, true, if◌then◌else◌};
 ghost use Rattle.std.specs.Option.{option_map};
 ghost use Rattle.indexmap.specs.IndexMap.{keys};
 ghost use Rattle.gl_modes.specs.declared.mode.Mode.TheVariants.{NL};
@@ -12,14 +12,13 @@ ghost use Rattle.gl_graph.specs.Graph.{is_child, is_live, nodes, parents_of};
 ghost use Rattle.gl_graph.specs.View.{graph_of};
 ghost use Rattle.gl_header.specs.Header.{holds, is_among_waiters};
 ghost use Rattle.gl_model.specs.Calls.{unlocked};
-ghost use Rattle.gl_model.specs.State.{is_write, front_at, is_waiting_at, pumped, without_wait, members, with_grant};
-ghost use Rattle.gl_table.specs.inside.Ledger.{AreSound, state_in, AreNew};
-ghost use Rattle.gl_table.specs.inside.Steps.{AreExactFor, CanTellWaiters};
+ghost use Rattle.gl_model.specs.State.{is_write, is_waiting_at, pumped, without_wait, members, with_grant};
+ghost use Rattle.gl_table.specs.inside.Ledger.{state_in, AreNew};
+ghost use Rattle.gl_table.specs.inside.Steps.{AreExactFor, CanTellWaiters, HasWoken};
 ghost use Rattle.gl_model.specs.Lawful.{effect_on};
 ghost use Rattle.gl_table.specs.inside.Seats.{txn_in, txns_of};
 ghost use Rattle.gl_table.specs.Table.{row_of};
-ghost use Rattle.gl_table.specs.inside.Slots.{CanEnd, CanHold, Wakes, WakesLists, books_of, by_list, counted_by, held_by};
-ghost use Rattle.gl_model.specs.Tellings.{IsBySlot, WakesTold, notices_in};
+ghost use Rattle.gl_table.specs.inside.Slots.{CanEnd, CanHold, Wakes, books_of, by_list, counted_by, held_by};
 
 use crate::effective::effective;
 use crate::seat::Seat;
@@ -174,12 +173,8 @@ impl Ledger {
         requires holds { holds (members (state_in graph.now self.old) node) slot ≡ true }
         requires no_wait { is_among_waiters slot ((state_in graph.now self.old).queue node) ≡ false }
         requires tell { CanTellWaiters (state_in graph.now self.old) node told.old.items }
-        ensures sound { AreSound self.new }
         ensures state { state_in graph.now self.new ≡ unlocked (state_in graph.now self.old) slot node }
-        ensures lists { WakesLists self.old.lists.items node (parents_of (graph_of graph.now) node)
-            (front_at (with_grant (state_in graph.now self.old) slot node NL) node) self.new.lists.items }
-        ensures tells { WakesTold (state_in graph.now self.old).txns node
-            (front_at (with_grant (state_in graph.now self.old) slot node NL) node) told.old.items told.new.items }
+        ensures woken { HasWoken graph.now node (with_grant (state_in graph.now self.old) slot node NL) self.old self.new told.old.items told.new.items }
     {
         graph.law();
         self.headers.drop_grant(slot, node, granted);
@@ -199,16 +194,10 @@ impl Ledger {
     )
         requires waiters { AreExactFor graph.now self.old (λ u. is_among_waiters u ((state_in graph.now self.old).queue node) ≡ true) }
         requires waits { is_waiting_at (state_in graph.now self.old) slot node ≡ true }
-        requires by_slot { IsBySlot told.old.items }
-        requires untold { (u : ℕ) → is_among_waiters u ((state_in graph.now self.old).queue node) ≡ true → (u == slot) ≡ false
-            → notices_in told.old.items u ≡ None }
-        ensures sound { AreSound self.new }
+        requires tell { CanTellWaiters (without_wait (state_in graph.now self.old) slot status) node told.old.items }
         ensures state { state_in graph.now self.new ≡ pumped (without_wait (state_in graph.now self.old) slot status)
             (is_waiting_at (state_in graph.now self.old) slot) }
-        ensures lists { WakesLists self.old.lists.items node (parents_of (graph_of graph.now) node)
-            (front_at (without_wait (state_in graph.now self.old) slot status) node) self.new.lists.items }
-        ensures tells { WakesTold (state_in graph.now self.old).txns node
-            (front_at (without_wait (state_in graph.now self.old) slot status) node) told.old.items told.new.items }
+        ensures woken { HasWoken graph.now node (without_wait (state_in graph.now self.old) slot status) self.old self.new told.old.items told.new.items }
     {
         graph.law();
         self.headers.drop_wait(slot, node, granted);

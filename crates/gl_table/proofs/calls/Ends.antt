@@ -1,8 +1,8 @@
 -- What the ends of waits and of transactions make of a table. For cancels, commits, aborts and settles.
 use Rattle.gl_table.proofs.Words.{[], ◌==◌, ◌||◌, ◌∙◌, ◌≡◌, Active, ap, arith, cancelled, Deadlock, front_at, granted_at, HasNoCycle, holds, state_at}
-use Rattle.gl_table.proofs.Words.{is_waiting_at, IsBySlot, IsLawful, IsOnWay, IsSound, members, nat_tests, NodeId, None, notices_in, number_same, refl}
+use Rattle.gl_table.proofs.Words.{is_waiting_at, IsLawful, IsSound, members, nat_tests, NodeId, None, notices_in, number_same, refl}
 use Rattle.gl_table.proofs.Words.{released, same_number, Settled, SettlesKeeping, split, State, state_of, status_of, stripped, subst, sym}
-use Rattle.gl_table.proofs.Words.{TellsOthers, Told, told, told_but, told_to, true, view_of, WakesTold, without_wait, ℕ}
+use Rattle.gl_table.proofs.Words.{TellsAll, TellsOthers, Told, told, told_but, told_to, true, view_of, WakesTold, without_wait, ℕ}
 use Rattle.gl_table.specs.declared.locks.Locks.{Locks}
 use Rattle.gl_table.specs.declared.table.Table.TheInside.{Inside}
 use Rattle.gl_table.proofs.calls.Calls.{keeping_also, settled_also, state_released, table_way}
@@ -82,9 +82,7 @@ module _ (i : Inside) (sound : IsSound i) where
     }
 
     -- who is granted is told, and who is a victim
-    pub told_settled : (first list : Told) → first ≡ [] → IsBySlot list
-        → ((from : State) → IsOnWay from l → ((u : ℕ) → notices_in first u ≡ told_to from l u) → (u : ℕ)
-        → notices_in list u ≡ told_to from (state_at locks) u) → list ≡ told s (state_of (view_of now))
-    told_settled first list none by_slot tells =
-        told_is s (state_of (view_of now)) list sound.lawful i.locks.sound.few by_slot
-        (tells s (table_way i sound) (λ u. ap (λ xs. notices_in xs u) none ∙ sym (nobody_told s u)))
+    pub told_settled : (first list : Told) → first ≡ [] → TellsAll l (state_at locks) first list → list ≡ told s (state_of (view_of now))
+    told_settled first list none tells =
+        told_is s (state_of (view_of now)) list sound.lawful i.locks.sound.few tells.by_slot
+        (tells.all s (table_way i sound) (λ u. ap (λ xs. notices_in xs u) none ∙ sym (nobody_told s u)))

@@ -1,12 +1,12 @@
 -- Waits on one node that end without a grant, one after the other, and what is told. For moves.
-use Rattle.gl_table.proofs.Words.{[], ◌&&◌, ◌<◌, ◌==◌, ◌||◌, ◌∙◌, ◌∷◌, ◌≡◌, ◌≤◌, Active, addressed, age_in, age_of, Agrees, and-false, and-not_self}
-use Rattle.gl_table.proofs.Words.{and-true, and_both, ap, ap₂, AreAgreed, AreKept, AreSound, arith, as_left, books_of, Bool, both, CanEndAt, CanTellWaiters}
-use Rattle.gl_table.proofs.Words.{clash, false, filter, fits, freed, freed_unless, front, fun_ext, Graph, held_of, if◌then◌else◌, intends_over}
-use Rattle.gl_table.proofs.Words.{is_among_waiters, is_live, is_wait, is_waiter, IsOrderly, length, List, list_all, LockList, members, members_at, Mode}
-use Rattle.gl_table.proofs.Words.{mode_of, moved_to, nat_tests, NL, NodeId, None, none_but, not, not-true, not_true, notice_of, Option, or-false, or_right}
-use Rattle.gl_table.proofs.Words.{queue_of, refl, restatus, room_by, same_mode, same_mode-equal, same_node, same_node-equal, same_node-refl, same_number}
-use Rattle.gl_table.proofs.Words.{slice_index_or, slot_limit, Some, some_is, split, State, state_in, status_in, status_of, stays, subst, sym, Told}
-use Rattle.gl_table.proofs.Words.{told_from, told_to, true, Txn, TxnId, View, Waiter, Waiting, WaitsEnd, with_waiters, without_waiter, ℕ}
+use Rattle.gl_table.proofs.Words.{[], ◌&&◌, ◌<◌, ◌==◌, ◌||◌, ◌∙◌, ◌∷◌, ◌≡◌, ◌≤◌, Active, addressed, age_in, age_of, Agrees, and-false, and-not_self, and-true}
+use Rattle.gl_table.proofs.Words.{and_both, ap, ap₂, AreAgreed, AreKept, AreSound, arith, as_left, books_of, Bool, both, CanEndAt, CanTellWaiters, clash, false}
+use Rattle.gl_table.proofs.Words.{filter, fits, freed, freed_unless, front, fun_ext, Graph, held_of, if◌then◌else◌, intends_over, is_among_waiters, is_live}
+use Rattle.gl_table.proofs.Words.{is_wait, is_waiter, IsOrderly, IsTurnedAway, length, List, list_all, LockList, members, members_at, Mode, mode_of, moved_to}
+use Rattle.gl_table.proofs.Words.{nat_tests, NL, NodeId, None, none_but, not, not-true, not_true, notice_of, Option, or-false, or_right, queue_of, refl}
+use Rattle.gl_table.proofs.Words.{restatus, room_by, same_mode, same_mode-equal, same_node, same_node-equal, same_node-refl, same_number, slice_index_or}
+use Rattle.gl_table.proofs.Words.{slot_limit, Some, some_is, split, State, state_in, status_in, status_of, stays, subst, sym, Told, told_from, told_to, true}
+use Rattle.gl_table.proofs.Words.{Txn, TxnId, View, Waiter, Waiting, WaitsEnd, without_waiter, ℕ}
 use Rattle.gl_model.specs.declared.answers.Notice.TheVariants as notice
 use Rattle.gl_table.proofs.inside.Slots.{by_list-at}
 use Rattle.gl_table.proofs.inside.Woken.{agrees_given_up, ends_more, ends_none, kept_still, seat_still, untold_still}
@@ -139,18 +139,15 @@ module _ {g : View} {l : Ledger} (agreed : AreAgreed g l) (n : NodeId) {told : T
 
       -- its wait ends
       pub turning_one : {next : Ledger} {told' : Told} (pending' : ℕ → Bool) → ((x : ℕ) → pending' x ≡ (pending x && not (x == t)))
-          → held_of next.headers.entries ≡ held_of l'.headers.entries
-          → queue_of next.headers.entries ≡ with_waiters (queue_of l'.headers.entries) n (without_waiter t (queue_of l'.headers.entries n))
-          → WaitsEnd (books_of l'.seats l'.lists.items mid) n (λ u. u == t) as_left (λ u. notice.Moved) (books_of next.seats next.lists.items told')
-          → IsTurning l next n s f pending' told told'
-      turning_one pending' less held queue ends = record {
-        held = held ∙ is.held;
-        here = ap (λ qs. qs n) queue ∙ if-true _ (same_node-refl n)
+          → IsTurnedAway t n l' next mid told' → IsTurning l next n s f pending' told told'
+      turning_one pending' less ended = record {
+        held = ended.held ∙ is.held;
+        here = ap (λ qs. qs n) ended.queue ∙ if-true _ (same_node-refl n)
             ∙ ap (without_waiter t) is.here ∙ without_chosen f pending pending' t (s.queue n) (lost_fails s o n f t lost) less;
-        there = λ q e. ap (λ qs. qs q) queue
+        there = λ q e. ap (λ qs. qs q) ended.queue
             ∙ ap (λ b. if b then without_waiter t (queue_of l'.headers.entries n) else queue_of l'.headers.entries q) e ∙ is.there q e;
         lost = λ u h. is.lost u (and_both (pending u) (not (u == t)) (sym (less u) ∙ h)).0;
-        over = ends_more is.over t fresh ends _ one_less refl refl (λ q. refl) refl;
+        over = ends_more is.over t fresh ended.ends _ one_less refl refl (λ q. refl) refl;
       }
         where
           one_less : (u : ℕ) → (is_lost s n f u && not (pending' u)) ≡ ((is_lost s n f u && not (pending u)) || (u == t))

@@ -30,6 +30,11 @@ pub record CanTell (list : Told) (who : ℕ → Bool) : Type 0 where
   pub by_slot : IsBySlot list
   pub untold : (u : ℕ) → who u ≡ true → notices_in list u ≡ None
 
+-- the list goes on from what all are told of the way to one state to what they are told of the way to another
+pub record TellsAll (s s' : State) (list list' : Told) : Type 0 where
+  pub by_slot : IsBySlot list'
+  pub all : (start : State) → IsOnWay start s → ((u : ℕ) → notices_in list u ≡ told_to start s u) → (u : ℕ) → notices_in list' u ≡ told_to start s' u
+
 -- the list goes on from what all but this slot are told of the way to one state to what they are told of the way to another; the slot is told nothing more
 pub record TellsOthers (t : ℕ) (s s' : State) (list list' : Told) : Type 0 where
   pub by_slot : IsBySlot list'

@@ -1,5 +1,5 @@
 -- What a step of the ledger asks for, and what it comes to.
-use Rattle.std.specs.Prelude.{◌≡◌, ◌≢◌, ◌&&◌, ◌==◌, ◌+◌, ◌<◌, ◌≤◌, ◌^◌, ℕ, true, false, List, [], Some, None, length, not, if◌then◌else◌}
+use Rattle.std.specs.Prelude.{◌≡◌, ◌≢◌, ◌&&◌, ◌==◌, ◌+◌, ◌<◌, ◌≤◌, ◌^◌, Bool, ℕ, true, false, List, [], Some, None, length, not, if◌then◌else◌}
 use Rattle.std.specs.List.{count_by, filter, list_all}
 use Rattle.gl_modes.specs.Nodes.{same_node}
 use Rattle.gl_modes.specs.declared.mode.Mode.{Mode}
@@ -9,21 +9,22 @@ use Rattle.gl_graph.specs.Graph.{is_child, is_live, parents_of, shape_of}
 use Rattle.gl_graph.specs.Refusals.{is_in_use}
 use Rattle.gl_graph.specs.Shapes.{is_movable_shape}
 use Rattle.gl_graph.specs.View.{View, graph_of}
-use Rattle.gl_header.specs.Header.{fits, holds, is_among_waiters}
-use Rattle.gl_header.specs.Headers.{IsOneHolder}
+use Rattle.gl_header.specs.Header.{fits, holds, is_among_waiters, without_waiter}
+use Rattle.gl_header.specs.Headers.{IsOneHolder, held_of, queue_of, with_waiters}
 use Rattle.gl_header.specs.State.{HeaderState, slot_limit}
 use Rattle.gl_header.specs.declared.header.Asked.{Asked}
 use Rattle.gl_lock_lists.specs.Lists.{mode_of}
 use Rattle.gl_lock_lists.specs.declared.list.LockList.{LockList}
 use Rattle.gl_model.specs.Calls.{asked_at, enqueued, enters_at, goes_with, granted, held_children, moved_to, released, shed, stays, wanted}
 use Rattle.gl_model.specs.Lawful.{IsOrderly}
-use Rattle.gl_model.specs.State.{State, members, status_of, with_txn}
-use Rattle.gl_model.specs.Tellings.{IsTold, Told, notices_in}
+use Rattle.gl_model.specs.State.{State, front_at, members, status_of, with_txn}
+use Rattle.gl_model.specs.Tellings.{IsTold, Told, WakesTold, notices_in}
 use Rattle.gl_model.specs.declared.answers.Notice.TheVariants as notice
 use Rattle.gl_model.specs.declared.txn.Status.TheVariants.{Active}
 use Rattle.gl_table.specs.declared.ledger.Ledger.{Ledger}
 use Rattle.gl_table.specs.inside.Ledger.{Agrees, AreExact, AreSound, CountsHeld, state_in}
-use Rattle.gl_table.specs.inside.Slots.{AreKept, Books, CanTell, HasRoomAt, IsShedding, counted_by, held_by, unlisted_by}
+use Rattle.gl_table.specs.inside.Slots.{AreKept, Books, CanTell, HasRoomAt, IsShedding, WaitsEnd, WakesLists, as_left, books_of, counted_by, held_by}
+use Rattle.gl_table.specs.inside.Slots.{unlisted_by}
 
 -- the ledger is in order over a graph, and exact for these slots; the lists of others may be out
 pub record AreExactFor (g : View) (l : Ledger) (who : ℕ → Type 0) : Type 0 where
@@ -39,6 +40,12 @@ CanTellWaiters s n list = CanTell list (λ u. is_among_waiters u (s.queue n))
 -- those who waited for n were told that it is gone
 abbrev pub TellsGone : State → NodeId → Told → Told → Type 0
 TellsGone s n list list' = IsTold s.txns (λ u. is_among_waiters u (s.queue n)) (λ u. notice.Gone) list list'
+
+-- n granted from its front in this state: those who stood there hold it and are told, and the ledger is in order
+pub record HasWoken (g : View) (n : NodeId) (s : State) (l l' : Ledger) (list list' : Told) : Type 0 where
+  pub sound : AreSound l'
+  pub lists : WakesLists l.lists.items n (parents_of (graph_of g) n) (front_at s n) l'.lists.items
+  pub tells : WakesTold (state_in g l).txns n (front_at s n) list list'
 
 -- a wait of t, who is there, can be over: t was told nothing yet, and more can be told
 pub record CanEndAt (b : Books) (t : ℕ) : Type 0 where
@@ -78,11 +85,15 @@ pub record CanRecount (s : State) (ls : List LockList) (t : ℕ) (n : NodeId) (o
   pub listed : unlisted_by ls t new ≡ 0
   pub few : (q : NodeId) → counted_by ls t q + count_by (same_node q) new < 2 ^ 32
 
+-- what a node with these parents adds to the held children of q, where it is held
+abbrev pub adds_to : Bool → List NodeId → NodeId → ℕ
+adds_to held ps q = if held then count_by (same_node q) ps else 0
+
 -- so it counts it now; all other counts are as they were
 abbrev pub Recounts : State → List LockList → ℕ → NodeId → List NodeId → List NodeId → List LockList → Type 0
 Recounts s ls t n old new ls' =
-    (u : ℕ) (q : NodeId) → counted_by ls' u q + (if (u == t) && holds (members s n) t then count_by (same_node q) old else 0)
-    ≡ counted_by ls u q + (if (u == t) && holds (members s n) t then count_by (same_node q) new else 0)
+    (u : ℕ) (q : NodeId) → counted_by ls' u q + adds_to ((u == t) && holds (members s n) t) old q
+    ≡ counted_by ls u q + adds_to ((u == t) && holds (members s n) t) new q
 
 -- n has moved: waits on it that do not meet the rule of the graph over its parents are over, and who waited so is told
 pub record HasMoved (g : View) (n : NodeId) (l l' : Ledger) (list list' : Told) : Type 0 where
@@ -91,6 +102,12 @@ pub record HasMoved (g : View) (n : NodeId) (l l' : Ledger) (list list' : Told) 
   pub agree : (u : ℕ) → Agrees (state_in g l') l'.lists.items u
   pub tells : IsTold (state_in g l).txns
       (λ u. is_among_waiters u (filter (λ w. not (stays (state_in g l) (parents_of (graph_of g) n) w)) ((state_in g l).queue n))) (λ u. notice.Moved) list list'
+
+-- t waits for n no more, and nothing else of the headers changed; t is active, its list has n no more, and it is told that n moved
+pub record IsTurnedAway (t : ℕ) (n : NodeId) (l l' : Ledger) (list list' : Told) : Type 0 where
+  pub held : held_of l'.headers.entries ≡ held_of l.headers.entries
+  pub queue : queue_of l'.headers.entries ≡ with_waiters (queue_of l.headers.entries) n (without_waiter t (queue_of l.headers.entries n))
+  pub ends : WaitsEnd (books_of l.seats l.lists.items list) n (λ u. u == t) as_left (λ u. notice.Moved) (books_of l'.seats l'.lists.items list')
 
 -- the ledger is in order and exact over a graph, and the transaction in this slot is active
 pub record MayAct (g : View) (l : Ledger) (t : ℕ) : Type 0 where

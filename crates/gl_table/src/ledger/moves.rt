@@ -1,6 +1,6 @@
 //! A node that moved: what follows for who moved it, and for those who wait on it.
 
-ghost use Rattle.std.specs.Prelude.{◌≡◌, ◌<◌, ◌≤◌, ◌+◌, ◌^◌, ◌==◌, [], ℕ, if◌then◌else◌, not, true};
+ghost use Rattle.std.specs.Prelude.{◌≡◌, ◌<◌, ◌≤◌, ◌+◌, ◌^◌, [], ℕ, not, true};
 ghost use Rattle.std.specs.List.{count_by, filter};
 ghost use Rattle.gl_modes.specs.declared.mode.Mode.TheVariants.{NL};
 ghost use Rattle.gl_modes.specs.declared.node.NodeId.{NodeId as Node};
@@ -10,16 +10,15 @@ ghost use Rattle.gl_graph.specs.View.{graph_of};
 ghost use Rattle.gl_header.specs.Header.{front, is_among_waiters, without_waiter};
 ghost use Rattle.gl_header.specs.State.{slot_limit};
 ghost use Rattle.gl_slots.specs.Slots.{has_slot};
-ghost use Rattle.gl_model.specs.declared.answers.Notice.TheVariants as notice;
 ghost use Rattle.gl_model.specs.Calls.{stays};
-ghost use Rattle.gl_header.specs.Headers.{held_of, members_at, queue_of, with_waiters};
+ghost use Rattle.gl_header.specs.Headers.{members_at, queue_of};
 ghost use Rattle.gl_model.specs.State.{intends_over};
 ghost use Rattle.indexmap.specs.IndexMap.{spare};
 ghost use Rattle.gl_modes.specs.Modes.{same_mode};
 ghost use Rattle.gl_lock_lists.specs.Lists.{count_of, is_listed, mode_of, unlisted};
 ghost use Rattle.gl_table.specs.inside.Ledger.{state_in};
-ghost use Rattle.gl_table.specs.inside.Steps.{AreAgreed, AreShutOut, CanEndAt, CanRecount, CanTellWaiters, HasMoved, Recounts};
-ghost use Rattle.gl_table.specs.inside.Slots.{WaitsEnd, as_left, books_of, counted_by, room_by};
+ghost use Rattle.gl_table.specs.inside.Steps.{AreAgreed, AreShutOut, CanEndAt, CanRecount, CanTellWaiters, HasMoved, IsTurnedAway, Recounts, adds_to};
+ghost use Rattle.gl_table.specs.inside.Slots.{books_of, counted_by, room_by};
 
 use crate::ledger::Ledger;
 use crate::ledger::leave::end_wait;
@@ -60,9 +59,8 @@ fn recount(list: &mut LockList, node: NodeId, old: &[NodeId], new: &[NodeId])
     requires few { (q : Node) → count_of list.old q + count_by (same_node q) new.now < 2 ^ 32 }
     ensures listed { (q : Node) → is_listed list.new q ≡ is_listed list.old q }
     ensures modes { (q : Node) → mode_of list.new q ≡ mode_of list.old q }
-    ensures counts { (q : Node) →
-        count_of list.new q + (if not (same_mode (mode_of list.old node) NL) then count_by (same_node q) old.now else 0)
-        ≡ count_of list.old q + (if not (same_mode (mode_of list.old node) NL) then count_by (same_node q) new.now else 0) }
+    ensures counts { (q : Node) → count_of list.new q + adds_to (not (same_mode (mode_of list.old node) NL)) old.now q
+        ≡ count_of list.old q + adds_to (not (same_mode (mode_of list.old node) NL)) new.now q }
     ensures room { spare list.old.loose ≤ spare list.new.loose }
 {
     if list.holds(node) {
@@ -137,11 +135,7 @@ impl Ledger {
         requires waits { is_among_waiters slot (queue_of self.old.headers.entries node) ≡ true }
         requires front_waits { front slot_limit (members_at self.old.headers.entries node) (without_waiter slot (queue_of self.old.headers.entries node)) ≡ [] }
         requires room { 9 ≤ room_by self.old.lists.items slot }
-        ensures held { held_of self.new.headers.entries ≡ held_of self.old.headers.entries }
-        ensures queue { queue_of self.new.headers.entries ≡ with_waiters (queue_of self.old.headers.entries) node
-            (without_waiter slot (queue_of self.old.headers.entries node)) }
-        ensures ends { WaitsEnd (books_of self.old.seats self.old.lists.items told.old.items) node (λ u. u == slot) as_left (λ u. notice.Moved)
-            (books_of self.new.seats self.new.lists.items told.new.items) }
+        ensures ended { IsTurnedAway slot node self.old self.new told.old.items told.new.items }
     {
         self.headers.dismiss(slot, node);
         end_wait(

@@ -4,9 +4,9 @@ ghost use Rattle.std.specs.Prelude.{[], ℕ, ◌<◌, ◌≡◌, None, true};
 ghost use Rattle.gl_model.specs.Calls.{WaitSettles};
 ghost use Rattle.gl_model.specs.Deadlocks.{SettlesKeeping, WaitSettlesKeeping};
 ghost use Rattle.gl_model.specs.State.{Settled, State, condemned, is_wait, status_of};
-ghost use Rattle.gl_model.specs.Tellings.{IsBySlot, IsOnWay, notices_in, told_but, told_to};
+ghost use Rattle.gl_model.specs.Tellings.{IsOnWay, notices_in, told_but};
 ghost use Rattle.gl_table.specs.inside.Locks.{state_at};
-ghost use Rattle.gl_table.specs.inside.Slots.{CanTell};
+ghost use Rattle.gl_table.specs.inside.Slots.{CanTell, TellsAll};
 
 use crate::locks::Locks;
 use crate::seat::Seat;
@@ -52,10 +52,7 @@ impl Locks {
         requires tell { CanTell told.old.items (λ u. is_wait (status_of (state_at self.old) u)) }
         ensures state { Settled victims (state_at self.old) slot (state_at self.new) }
         ensures deadlock { SettlesKeeping victims (state_at self.old) slot deadlock.old (state_at self.new) deadlock.new }
-        ensures by_slot { IsBySlot told.new.items }
-        ensures tells { (s : State) → IsOnWay s (state_at self.old)
-            → ((u : ℕ) → notices_in told.old.items u ≡ told_to s (state_at self.old) u)
-            → (u : ℕ) → notices_in told.new.items u ≡ told_to s (state_at self.new) u }
+        ensures tells { TellsAll (state_at self.old) (state_at self.new) told.old.items told.new.items }
     {
         while let Some(victim) = self.ledger.victim(victims, slot) {
             // Kept first: once the victim's wait is given up, the cycle is gone.
@@ -69,12 +66,9 @@ impl Locks {
         requires waits { is_wait (status_of (state_at self.old) slot) ≡ true }
         requires tell { CanTell told.old.items (λ u. is_wait (status_of (state_at self.old) u)) }
         ensures state { state_at self.new ≡ condemned (state_at self.old) slot }
-        ensures by_slot { IsBySlot told.new.items }
         ensures untold { (u : ℕ) → is_wait (status_of (state_at self.new) u) ≡ true → notices_in told.new.items u ≡ None }
         ensures ways { (s : State) → IsOnWay s (state_at self.old) → IsOnWay s (state_at self.new) }
-        ensures tells { (s : State) → IsOnWay s (state_at self.old)
-            → ((u : ℕ) → notices_in told.old.items u ≡ told_to s (state_at self.old) u)
-            → (u : ℕ) → notices_in told.new.items u ≡ told_to s (state_at self.new) u }
+        ensures tells { TellsAll (state_at self.old) (state_at self.new) told.old.items told.new.items }
     {
         if let Some(
             Seat {

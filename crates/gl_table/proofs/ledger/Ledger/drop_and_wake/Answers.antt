@@ -1,5 +1,5 @@
 use Rattle.gl_table.proofs.Words.{◌&&◌, ◌==◌, ◌∙◌, ◌≡◌, ap, books_of, Bool, CanEnd, CanHold, false, front, front_at, graph_of, held_of, if◌then◌else◌}
-use Rattle.gl_table.proofs.Words.{is_among_waiters, List, members, NL, NodeId, parents_of, queue_of, refl, same_node, slot_limit, State, state_in, subst}
+use Rattle.gl_table.proofs.Words.{is_among_waiters, List, members, NL, NodeId, parents_of, queue_of, refl, rules, same_node, slot_limit, State, state_in, subst}
 use Rattle.gl_table.proofs.Words.{sym, true, txns_of, Waiter, Wakes, with_grant, with_mode, ℕ}
 use Rattle.gl_table.proofs.inside.Granted.{can_wake_front, held-pumped, members-with_grant, pumped_by_fields, queue-pumped, released_front}
 use Rattle.gl_model.proofs.telling.Fronts.{well_granted, woken_front}
@@ -57,8 +57,9 @@ returns-clause-state c =
         off true h = h
         off false h = refl
 
-pub returns-clause-lists : goal.returns-clause-lists
-returns-clause-lists c = (woken c).lists
-
-pub returns-clause-tells : goal.returns-clause-tells
-returns-clause-tells c = (woken c).tells
+pub returns-clause-woken : goal.returns-clause-woken
+returns-clause-woken c = record {
+  sound = search rules;
+  lists = (woken c).lists;
+  tells = (woken c).tells;
+}

@@ -1,4 +1,4 @@
-use Rattle.gl_table.proofs.Words.{◌&&◌, ◌+◌, ◌<◌, ◌==◌, ◌^◌, ◌∙◌, ◌≡◌, ◌≤◌, ap, Bool, count_by, count_of, counted_by, graph_of, if◌then◌else◌, IsTold}
+use Rattle.gl_table.proofs.Words.{◌&&◌, ◌+◌, ◌<◌, ◌==◌, ◌^◌, ◌∙◌, ◌≡◌, ◌≤◌, adds_to, ap, Bool, count_by, count_of, counted_by, graph_of, IsTold}
 use Rattle.gl_table.proofs.Words.{length-set, List, mode_of, NL, NodeId, not, parents_of, same_mode, same_node, State, state_in, stays, subst, sym, unlisted}
 use Rattle.gl_table.proofs.Words.{ℕ}
 use Rattle.gl_model.specs.declared.answers.Notice.TheVariants as notice
@@ -67,10 +67,9 @@ returns-clause-counts c = λ u q.
     let held : not (same_mode (mode_of l c.args.node) NL) ≡ not (same_mode (s.held c.args.slot c.args.node) NL) =
     ap (λ m. not (same_mode m NL)) (sym (by_list-at (λ x. mode_of x c.args.node) NL ls c.args.slot l c.requires.recount.slot c.index_mut-list.ensures.value)
     ∙ (c.requires.agreed.agree c.args.slot).modes c.args.node) in
-    ap (λ (k : ℕ). k + (if (u == c.args.slot) && not (same_mode (s.held c.args.slot c.args.node) NL) then count_by (same_node q) old else 0))
+    ap (λ (k : ℕ). k + adds_to ((u == c.args.slot) && not (same_mode (s.held c.args.slot c.args.node) NL)) old q)
     (c.turn_away.ensures.counts u q)
     ∙ counts_recounted ls c.args.slot l l' c.requires.recount.slot c.index_mut-list.ensures.value (not (same_mode (s.held c.args.slot c.args.node) NL))
     (λ p. count_by (same_node p) old) (λ p. count_by (same_node p) ps)
-    (λ p. subst (λ (b : Bool). count_of l' p + (if b then count_by (same_node p) old else 0) ≡ count_of l p + (if b then count_by (same_node p) ps else 0)) held
-    (c.recount.ensures.counts p ∙ ap (λ (xs : List NodeId). count_of l p
-    + (if not (same_mode (mode_of l c.args.node) NL) then count_by (same_node p) xs else 0)) c.parents.ensures)) u q
+    (λ p. subst (λ (b : Bool). count_of l' p + adds_to b old p ≡ count_of l p + adds_to b ps p) held
+    (c.recount.ensures.counts p ∙ ap (λ (xs : List NodeId). count_of l p + adds_to (not (same_mode (mode_of l c.args.node) NL)) xs p) c.parents.ensures)) u q

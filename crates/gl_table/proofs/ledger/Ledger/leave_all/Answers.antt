@@ -80,15 +80,15 @@ loop-node-preserved c =
     let held = sym (holding p c.in-Some.node) ∙ c.in-Some.ensures.was in
     let left = c.loop-node.invariant.leaving in
     record {
-      sound = ends.sound;
-      listed = λ q. ends.lists.listed c.args.slot q
+      sound = ends.woken.sound;
+      listed = λ q. ends.woken.lists.listed c.args.slot q
           ∙ popped-listed c.loop-node.self.lists.items c.args.slot c.index_mut.result.now c.pop.new.self (seated p) c.index_mut.ensures.value c.in-Some.node
           c.in-Some.ensures.listed q ∙ ap (λ b. b && not (same_node q c.in-Some.node)) (c.loop-node.invariant.listed q)
           ∙ sym (ap (λ (x : State). holds (members x q) c.args.slot) ends.state ∙ holds_after left c.requires.quiet c.in-Some.node held q);
       leaving = subst (λ (x : State). IsLeaving (state_in c.args.graph.now c.args.self.now) x c.args.slot c.drop_and_wake.new.self.lists.items
           c.args.told.now.items c.drop_and_wake.new.told.items) (sym ends.state)
           (leaving_one left c.requires.quiet c.in-Some.node held c.law.ensures.lawful (written p c.pop.new.self).agree (written p c.pop.new.self).count
-          ends.lists ends.tells);
+          ends.woken.lists ends.woken.tells);
     }
 
 -- in the end the list is empty

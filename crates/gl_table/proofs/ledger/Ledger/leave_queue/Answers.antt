@@ -1,5 +1,5 @@
 use Rattle.gl_table.proofs.Words.{◌∙◌, ◌≡◌, ap, books_of, CanEnd, CanHold, false, front, front_at, graph_of, held_of, is_among_waiters, List, members}
-use Rattle.gl_table.proofs.Words.{not_true, number_other, parents_of, pumped, queue_of, refl, same_node, same_node-sym, slot_limit, State, state_in, subst}
+use Rattle.gl_table.proofs.Words.{not_true, parents_of, pumped, queue_of, refl, rules, same_node, same_node-sym, slot_limit, State, state_in, subst}
 use Rattle.gl_table.proofs.Words.{sym, true, txns_of, Waiter, WaitWell, Wakes, without_wait, without_waiter, ℕ}
 use Rattle.gl_table.proofs.inside.Granted.{can_wake_front, held-pumped, pumped_by_fields, queue-pumped, status_last, withdrawn_front}
 use Rattle.gl_model.proofs.queues.Edits.{out_of_without, without_none}
@@ -17,8 +17,7 @@ can_wake c =
     let s = state_in c.args.graph.now c.args.self.now in
     can_wake_front c.args.graph.now c.args.self.now c.args.node c.requires.waiters c.law.ensures.lawful (without_wait s c.args.slot c.args.status)
     (well_without s c.requires.waiters.orderly c.args.slot c.args.status c.args.node) (λ u h. (out_of_without c.args.slot u (s.queue c.args.node) h).0)
-    c.args.told.now.items c.requires.by_slot
-    (λ u h. let was = out_of_without c.args.slot u (s.queue c.args.node) h in c.requires.untold u was.0 (number_other u c.args.slot was.1)) _
+    c.args.told.now.items c.requires.tell.by_slot c.requires.tell.untold _
     (c.as_slice.ensures.value ∙ c.drop_wait.ensures.granted ∙ withdrawn_front s c.requires.waiters.orderly c.requires.waiters.sound.few c.args.slot
     c.args.node c.args.status)
 
@@ -67,8 +66,9 @@ returns-clause-state c =
     (λ u. status_last s c.args.slot c.args.status (front_at b n) _ _ (out c) (woken c).txns c.set_status.ensures.txns u ∙ sym (woken_front b n (well c) u))
     (c.set_status.ensures.len ∙ (woken c).len) ∙ ap (pumped b) (sym (waits_only s c.args.slot n c.requires.waits))
 
-pub returns-clause-lists : goal.returns-clause-lists
-returns-clause-lists c = (woken c).lists
-
-pub returns-clause-tells : goal.returns-clause-tells
-returns-clause-tells c = (woken c).tells
+pub returns-clause-woken : goal.returns-clause-woken
+returns-clause-woken c = record {
+  sound = search rules;
+  lists = (woken c).lists;
+  tells = (woken c).tells;
+}

@@ -39,14 +39,14 @@ drop_and_wake-requires-clause-tell c = let is = c.loop-at.invariant.releasing.le
 
 pub loop-at-preserved-in-Some : goal.loop-at-preserved-in-Some
 loop-at-preserved-in-Some c = record {
-  sound = c.drop_and_wake.ensures.sound;
+  sound = c.drop_and_wake.ensures.woken.sound;
   within = c.in-Some.ensures.len;
   passed = c.in-Some.ensures.passed;
   releasing = subst (λ (x : State). IsReleasing (state_in c.args.graph.now c.args.self.now) x c.args.slot c.args.node c.drop_and_wake.new.self.lists.items
       c.take_marked.new.self c.args.told.now.items c.drop_and_wake.new.told.items) (sym c.drop_and_wake.ensures.state)
       (releasing_one c.loop-at.invariant.releasing (ap is_wait c.requires.active) c.law.ensures.lawful c.in-Some.child c.in-Some.ensures.taken.was
       c.in-Some.ensures.taken.was_marked c.in-Some.ensures.taken.listed c.in-Some.ensures.taken.modes c.in-Some.ensures.taken.counts
-      c.drop_and_wake.ensures.lists c.drop_and_wake.ensures.tells);
+      c.drop_and_wake.ensures.woken.lists c.drop_and_wake.ensures.woken.tells);
 }
 
 pub returns-clause-others : goal.returns-clause-others

@@ -23,7 +23,7 @@ turn_one_away-requires-clause-room c = turned_room c.requires.agreed c.args.node
 pub loop-slot-preserved : goal.loop-slot-preserved
 loop-slot-preserved c =
     turning_one c.requires.agreed c.args.node c.requires.tell c.loop-slot.invariant _ c.in-Some.ensures.some.member _ c.in-Some.ensures.left
-    c.turn_one_away.ensures.held c.turn_one_away.ensures.queue c.turn_one_away.ensures.ends
+    c.turn_one_away.ensures.ended
 
 pub returns-clause-moved : goal.returns-clause-moved
 returns-clause-moved c = let none = c.in_default.ensures.none in record {

@@ -35,6 +35,8 @@ returns-in-Some-Waiting-clause-ways c = let s = state_at c.args.self.now in
     (way_withdrawn start s c.args.slot Condemned (is_waiting_at s c.args.slot) (λ q m e. cc) way)
 
 pub returns-in-Some-Waiting-clause-tells : goal.returns-in-Some-Waiting-clause-tells
-returns-in-Some-Waiting-clause-tells c = let at = goal.at.returns-in-Some-Waiting-clause-tells c in let w = waits at.After-withdraw in
-    λ start way same u. victim_told (before at.After-withdraw) c.args.self.now.orderly c.args.slot c.in-Some-Waiting.node w.0 w.1 c.args.told.now.items
-    c.tell.new.told.items (tells at.After-tell) start way same u ∙ ap (λ x. told_to start x u) (sym c.withdraw.ensures.state)
+returns-in-Some-Waiting-clause-tells c = let at = goal.at.returns-in-Some-Waiting-clause-tells c in let w = waits at.After-withdraw in record {
+  by_slot = c.tell.ensures.by_slot;
+  all = λ start way same u. victim_told (before at.After-withdraw) c.args.self.now.orderly c.args.slot c.in-Some-Waiting.node w.0 w.1 c.args.told.now.items
+      c.tell.new.told.items (tells at.After-tell) start way same u ∙ ap (λ x. told_to start x u) (sym c.withdraw.ensures.state);
+}

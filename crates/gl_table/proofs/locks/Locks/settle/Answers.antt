@@ -17,14 +17,13 @@ loop-victim-preserved c =
     let now = c.condemn.ensures in
     record {
       seated = subst (λ (k : ℕ). c.args.slot < k) (sym (ap (λ x. x.most) now.state)) before.seated;
-      by_slot = now.by_slot;
       untold = now.untold;
       settled = λ s' d' rest. before.settled s' d' (keeping_turn c.args.victims (state_at c.loop-victim.self) (state_at c.condemn.new.self) s' c.args.slot
           c.in-Some.victim c.loop-victim.deadlock c.keep_deadlock.new.deadlock d' (c.in-Some.ensures.some g c.loop-victim.self.orderly)
           (c.keep_deadlock.ensures g)
           now.state rest);
       ways = λ s way. now.ways s (before.ways s way);
-      tells = λ s way same. now.tells s (before.ways s way) (before.tells s way same);
+      tells = record { by_slot = now.tells.by_slot; all = λ s way same. now.tells.all s (before.ways s way) (before.tells.all s way same) };
     }
 
 pub returns-clause-deadlock : goal.returns-clause-deadlock

@@ -1,5 +1,5 @@
-use Rattle.gl_table.proofs.Words.{◌<◌, ◌≡◌, Deadlock, IsBySlot, IsOnWay, is_wait, None, notices_in, SettlesKeeping}
-use Rattle.gl_table.proofs.Words.{State, state_at, status_of, told_to, true, ℕ}
+use Rattle.gl_table.proofs.Words.{◌<◌, ◌≡◌, Deadlock, IsOnWay, is_wait, None, notices_in, SettlesKeeping}
+use Rattle.gl_table.proofs.Words.{State, state_at, status_of, TellsAll, true, ℕ}
 use Rattle.gl_table.proofs.inside.Withdrawn.{how_many_wait}
 use Rattle.gl_table.proofs.locks.Locks.settle.Given as goal
 
@@ -8,14 +8,11 @@ use Rattle.gl_table.proofs.locks.Locks.settle.Given as goal
 abbrev pub invariant-loop-victim : goal.invariant-loop-victim
 invariant-loop-victim l = record {
   seated : l.slot < (state_at l.self).most;
-  by_slot : IsBySlot l.told.items;
   untold : (u : ℕ) → is_wait (status_of (state_at l.self) u) ≡ true → notices_in l.told.items u ≡ None;
   settled : (s' : State) (d' : Deadlock) → SettlesKeeping l.victims (state_at l.self) l.slot l.deadlock s' d'
       → SettlesKeeping l.victims (state_at l.initial.self) l.slot l.initial.deadlock s' d';
   ways : (s : State) → IsOnWay s (state_at l.initial.self) → IsOnWay s (state_at l.self);
-  tells : (s : State) → IsOnWay s (state_at l.initial.self)
-      → ((u : ℕ) → notices_in l.initial.told.items u ≡ told_to s (state_at l.initial.self) u) → (u : ℕ)
-      → notices_in l.told.items u ≡ told_to s (state_at l.self) u;
+  tells : TellsAll (state_at l.initial.self) (state_at l.self) l.initial.told.items l.told.items;
 }
 
 -- each victim leaves fewer that wait

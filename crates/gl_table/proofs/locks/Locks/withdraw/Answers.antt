@@ -1,10 +1,11 @@
-use Rattle.gl_table.proofs.Words.{◌&&◌, ◌<◌, ◌∙◌, ◌≡◌, Agrees, ap, count_of, CountsHeld, false, if◌then◌else◌, is_listed, is_waiting_at, IsOrderly}
+use Rattle.gl_table.proofs.Words.{◌&&◌, ◌<◌, ◌∙◌, ◌≡◌, Agrees, ap, count_of, CountsHeld, false, if◌then◌else◌, is_listed, is_wait, is_waiting_at, IsOrderly}
 use Rattle.gl_table.proofs.Words.{length, List, LockList, mode_of, NL, NodeId, not, not-false, not-true, pumped, same_node, slice_set, spare, State, state_at}
 use Rattle.gl_table.proofs.Words.{state_in, subst, sym, true, without_wait, ℕ}
 use Rattle.gl_table.proofs.inside.Slots.{by_list-at}
 use Rattle.gl_table.proofs.inside.Withdrawn.{agrees_withdrawn, counts_withdrawn, room_left, Unlists, unlists_held, unlists_left}
 use Rattle.gl_model.proofs.law.Keeps.{txn_there, waiting_is}
-use Rattle.gl_model.proofs.telling.Fronts.{waits_only}
+use Rattle.gl_model.proofs.queues.Edits.{out_of_without}
+use Rattle.gl_model.proofs.telling.Fronts.{waits_only, waits_there}
 use Rattle.gl_model.proofs.telling.GivenUp.{orderly_without}
 use Rattle.gl_table.proofs.locks.Locks.withdraw.Goals.{After-holds}
 use Rattle.gl_table.proofs.locks.Locks.withdraw.Goals as goal
@@ -17,8 +18,15 @@ abbrev mid : After-holds → List LockList
 mid c = c.leave_queue.new.self.lists.items
 
 slot_there : (c : After-holds) → c.args.slot < length (mid c)
-slot_there c = subst (λ (k : ℕ). c.args.slot < k) (sym (c.leave_queue.ensures.lists.len ∙ c.args.self.now.sound.lists))
+slot_there c = subst (λ (k : ℕ). c.args.slot < k) (sym (c.leave_queue.ensures.woken.lists.len ∙ c.args.self.now.sound.lists))
     (c.args.self.now.orderly.below c.args.slot (txn_there ((before c).txns c.args.slot) _ (waiting_is _ c.args.node c.requires.waits).1))
+
+pub leave_queue-requires-clause-tell : goal.leave_queue-requires-clause-tell
+leave_queue-requires-clause-tell c = let s : State = state_at c.args.self.now in record {
+  by_slot = c.requires.tell.by_slot;
+  untold = λ u h. c.requires.tell.untold u
+      (ap is_wait (waits_there s c.args.self.now.orderly u c.args.node (out_of_without c.args.slot u (s.queue c.args.node) h).0).1);
+}
 
 -- only its node grants
 state_is : (c : After-holds) → pumped (without_wait (before c) c.args.slot c.args.status) (same_node c.args.node)
@@ -30,19 +38,19 @@ module _ (c : After-holds) (ls : List LockList) (unlists : Unlists (mid c) ls c.
   agrees : (u : ℕ) → Agrees (state_in c.args.self.now.graph c.leave_queue.new.self) ls u
   agrees u = subst (λ (x : State). Agrees x ls u) (state_is c)
       (agrees_withdrawn (before c) c.args.self.now.orderly c.law.ensures.lawful c.args.slot c.args.node c.args.status c.requires.quiet c.requires.waits
-      c.args.self.now.ledger.lists.items (mid c) c.args.self.now.agree c.args.self.now.count c.leave_queue.ensures.lists ls unlists u)
+      c.args.self.now.ledger.lists.items (mid c) c.args.self.now.agree c.args.self.now.count c.leave_queue.ensures.woken.lists ls unlists u)
 
   counts : (u : ℕ) → CountsHeld (state_in c.args.self.now.graph c.leave_queue.new.self) ls u
   counts u = subst (λ (x : State). CountsHeld x ls u) (state_is c)
       (counts_withdrawn (before c) c.args.self.now.orderly c.law.ensures.lawful c.args.slot c.args.node c.args.status c.requires.quiet c.requires.waits
-      c.args.self.now.ledger.lists.items (mid c) c.args.self.now.agree c.args.self.now.count c.leave_queue.ensures.lists ls unlists u)
+      c.args.self.now.ledger.lists.items (mid c) c.args.self.now.agree c.args.self.now.count c.leave_queue.ensures.woken.lists ls unlists u)
 
 pub leave-requires : goal.leave-requires
 leave-requires c = record {
   room = let h = (goal.at.leave-requires c).After-holds in λ _.
       subst (λ (k : ℕ). 0 < k) (by_list-at (λ l. spare l.loose) 0 (mid h) c.args.slot c.index_mut-list.result.now (slot_there h) c.index_mut-list.ensures.value)
       (room_left (before h) c.args.self.now.orderly c.law.ensures.lawful c.args.slot c.args.node c.args.status c.requires.quiet c.requires.waits
-      c.args.self.now.ledger.lists.items (mid h) c.args.self.now.agree c.args.self.now.count c.leave_queue.ensures.lists);
+      c.args.self.now.ledger.lists.items (mid h) c.args.self.now.agree c.args.self.now.count c.leave_queue.ensures.woken.lists);
 }
 
 -- the node was taken out of the list, which did not hold it
@@ -64,7 +72,7 @@ orderly c = subst IsOrderly (sym c.leave_queue.ensures.state)
 
 pub invariant_of-self : goal.invariant_of-self
 invariant_of-self c = let h = (goal.at.invariant_of-self c).After-holds in
-    let was = c.leave_queue.ensures.sound in
+    let was = c.leave_queue.ensures.woken.sound in
     let now = left h c.leave.new.self c.if-not-holds.true c.leave.ensures.modes c.leave.ensures.listed c.leave.ensures.counts in
     record {
       orderly = orderly h;
@@ -75,7 +83,7 @@ invariant_of-self c = let h = (goal.at.invariant_of-self c).After-holds in
 
 pub invariant_of-self-else-not-holds : goal.invariant_of-self-else-not-holds
 invariant_of-self-else-not-holds c = let h = (goal.at.invariant_of-self-else-not-holds c).After-holds in
-    let was = c.leave_queue.ensures.sound in
+    let was = c.leave_queue.ensures.woken.sound in
     let now = stays h c.if-not-holds.false in
     record {
       orderly = orderly h;

@@ -21,7 +21,7 @@ returns-clause-deadlock c =
 pub returns-clause-told : goal.returns-clause-told
 returns-clause-told c =
     told_settled c.self.inside c.self.invariant c.args.t.slot c.settle.new.self c.settle.new.deadlock c.settle.ensures.state c.args.notices.now.items
-    c.settle.new.told.items c.requires.empty c.settle.ensures.by_slot c.settle.ensures.tells
+    c.settle.new.told.items c.requires.empty c.settle.ensures.tells
     ∙ ap (λ (v : TableView). told (state_of v) (state_of (view_of (record c.self.inside { locks = c.settle.new.self; deadlock = c.settle.new.deadlock }))))
     c.self.view_is
 
