@@ -1,17 +1,18 @@
 -- Lists of commands that are served together, one more at a time.
-use Rattle.std.specs.Prelude.{◌≡◌, ℕ, ◌+◌, ◌<◌, Bool, true, false, ◌&&◌, ◌||◌, List, [], ◌∷◌, ◌++◌, length, take, slice_index_or, MatchBool}
+use Rattle.std.specs.Prelude.{◌≡◌, ℕ, ◌+◌, ◌<◌, Bool, true, false, ◌&&◌, List, [], ◌∷◌, ◌++◌, length, take, slice_index_or, MatchBool}
 use Rattle.std.specs.List.{list_all}
 use Rattle.std.proofs.Common.{refl, sym, ap, subst, ◌∙◌, arith}
 use Rattle.std.proofs.lemmas.List.{length-append, map-append, take_more}
-use Rattle.gl_modes.proofs.Words.{and_both}
+use Rattle.gl_modes.proofs.Words.{and_both, clash}
 use Rattle.gl_model.specs.Tellings.{Told}
 use Rattle.gl_steps.specs.declared.command.Answer.{Answer}
 use Rattle.gl_steps.specs.declared.command.Command.{Command}
 use Rattle.gl_catalog.specs.Manager.{state_of}
 use Rattle.gl_steps.specs.Step.{Step}
 use Rattle.gl_shared.specs.Batches.{Serves, ServesEach, ServesOne, Stops, accepted_in, goes_on, one_if}
-use Rattle.gl_steps.specs.Served.{accepts, leaves_waiting}
-use Rattle.gl_wakes.specs.Boxes.{Delivers, Slot, cleared}
+use Rattle.gl_steps.specs.Served.{accepts}
+use Rattle.gl_wakes.proofs.Clearing.{cleared_not}
+use Rattle.gl_wakes.proofs.Notices.{delivers_none}
 use Rattle.gl_shared.specs.State.{GuardedView}
 
 -- one answer more
@@ -77,23 +78,24 @@ stops_here (c ∷ cs) (x ∷ xs) a all less off =
     let both = and_both (goes_on x) (list_all goes_on xs) all in
     subst (λ (b : Bool). MatchBool b (Stops cs (xs ++ a ∷ [])) ((xs ++ a ∷ []) ≡ [])) (sym both.0) (stops_here cs xs a both.1 (omega (arith, less)) off)
 
--- a count that stays where a command is not accepted, and else rises by one
-pub counted_if : (yes : Bool) (after before : ℕ) → (yes ≡ false → after ≡ before) → (yes ≡ true → after ≡ before + 1) → after ≡ before + one_if yes
-counted_if true after before stays rises = rises refl
-counted_if false after before stays rises = let same = stays refl in omega (arith, same)
+-- a command that is accepted is counted once
+pub one_accepted : {yes : Bool} → yes ≡ true → one_if yes ≡ 1
+one_accepted is = ap one_if is
 
--- what is served is one command of a list
-pub serves_one : (g g' : GuardedView) (c : Command) (a : Answer) (told : Told) → Step (state_of g.manager) c a told (state_of g'.manager)
-    → (accepts c a ≡ false → (g' ≡ g) × (told ≡ [])) → (accepts c a ≡ true → g'.book ≡ g.book + 1)
-    → ((mid : List Slot) × Delivers g.boxes told mid × (g'.boxes ≡ cleared c a mid)) → (accepts c a ≡ true → g'.waited ≡ (g.waited || leaves_waiting a))
-    → (g'.list ≡ g.list) × (g'.telling ≡ g.telling) → ServesOne g c a told g'
-serves_one g g' c a told step refused accepted boxes waited list = record {
+-- and one that is not accepted is not counted
+pub none_accepted : {yes : Bool} → yes ≡ false → one_if yes ≡ 0
+none_accepted is = ap one_if is
+
+-- a command that is not accepted is served by leaving all as it is
+pub serves_still : (g g' : GuardedView) (c : Command) (a : Answer) (told : Told) → Step (state_of g.manager) c a told (state_of g'.manager)
+    → accepts c a ≡ false → g' ≡ g → told ≡ [] → ServesOne g c a told g'
+serves_still g g' c a told step unaccepted same none = record {
   step = step;
-  boxes = boxes;
-  not_accepted = refused;
-  book = counted_if (accepts c a) g'.book g.book (λ no. ap (λ (v : GuardedView). v.book) (refused no).0) accepted;
-  waited = waited;
-  list = list;
+  boxes = (g.boxes, delivers_none told g.boxes none, ap (λ (v : GuardedView). v.boxes) same ∙ sym (cleared_not c a g.boxes unaccepted));
+  not_accepted = λ _. (same, none);
+  book = let is = ap (λ (v : GuardedView). v.book) same in let zero_more = none_accepted unaccepted in omega (arith, is, zero_more);
+  waited = λ yes. clash yes unaccepted;
+  list = (ap (λ (v : GuardedView). v.list) same, ap (λ (v : GuardedView). v.telling) same);
 }
 
 pub share_more : (cs : List Command) (xs ys : List Answer) (k : ℕ) (d : Command) (a : Answer) (after before start : ℕ) → length xs ≡ k → k < length cs

@@ -1,13 +1,15 @@
--- Lists of commands that are served together.
-use Rattle.std.specs.Prelude.{◌≡◌, ℕ, ◌+◌, Bool, true, false, ◌||◌, List, [], ◌∷◌, length, map, take, MatchBool}
+-- Commands that are served behind the latch: one, or a list of them together.
+use Rattle.std.specs.Prelude.{◌≡◌, ℕ, ◌+◌, ◌<◌, Bool, true, false, ◌||◌, List, [], ◌∷◌, length, map, take, MatchBool}
+use Rattle.gl_slots.specs.declared.slots.Slots.{Slots}
 use Rattle.gl_model.specs.Tellings.{Told}
 use Rattle.gl_steps.specs.declared.command.Answer.{Answer}
 use Rattle.gl_steps.specs.declared.command.Answer.TheVariants as answer
 use Rattle.gl_steps.specs.declared.command.Command.{Command}
-use Rattle.gl_catalog.specs.Manager.{state_of}
+use Rattle.gl_catalog.specs.Manager.{IsLawfulManager, state_of}
 use Rattle.gl_steps.specs.Step.{Step}
 use Rattle.gl_steps.specs.Served.{accepts, leaves_waiting}
 use Rattle.gl_wakes.specs.Boxes.{Delivers, Slot, cleared}
+use Rattle.gl_wakes.specs.Wakes.{HasEnded}
 use Rattle.gl_shared.specs.State.{GuardedView}
 
 -- behind this answer the next command is served: none that refuses, leaves its asker waiting, or fells it
@@ -22,8 +24,8 @@ abbrev pub one_if : Bool → ℕ
 one_if true = 1
 one_if false = 0
 
--- one command of a list behind the latch: a step of the manager that is counted where it is accepted; its notices stand in their boxes, but that an
--- accepted lock empties its own slot's; a command that is not accepted changes nothing
+-- one command behind the latch: a step of the manager that is counted where it is accepted; its notices stand in their boxes, but that an accepted
+-- lock empties its own slot's; a command that is not accepted changes nothing
 pub record ServesOne (g : GuardedView) (c : Command) (a : Answer) (told : Told) (g' : GuardedView) : Type 0 where
   pub step : Step (state_of g.manager) c a told (state_of g'.manager)
   pub boxes : (mid : List Slot) × Delivers g.boxes told mid × (g'.boxes ≡ cleared c a mid)
@@ -55,3 +57,10 @@ abbrev pub accepted_in : List Command → List Answer → ℕ
 accepted_in [] xs = 0
 accepted_in (c ∷ cs) [] = 0
 accepted_in (c ∷ cs) (a ∷ xs) = one_if (accepts c a) + accepted_in cs xs
+
+-- the commands were served together from a lawful state, and so answered; so many had been accepted behind them, and the set has those whose wait they
+-- ended, where any was accepted
+abbrev pub AreServed : List Command → List Answer → ℕ → Slots → Type 0
+AreServed cs xs count woken =
+    (g : GuardedView) × (h : GuardedView) × IsLawfulManager g.manager × Serves g cs xs h × (count ≡ h.manager.accepted)
+    × (0 < accepted_in cs xs → HasEnded (state_of g.manager) (state_of h.manager) woken)

@@ -1,5 +1,5 @@
 -- What stands behind the latch.
-use Rattle.std.specs.Prelude.{◌≡◌, ℕ, Bool, false, List, [], ◌∷◌, ◌++◌}
+use Rattle.std.specs.Prelude.{◌≡◌, ℕ, Bool, false, List, [], ◌∷◌, ◌++◌, MatchBool}
 use Rattle.gl_waits.specs.declared.board.Board.{Board}
 use Rattle.gl_model.specs.State.{State}
 use Rattle.gl_catalog.specs.Manager.{ManagerView}
@@ -21,6 +21,10 @@ pub record GuardedView : Type 0 where
   pub list : List Board
   pub telling : Telling
   pub waited : Bool
+
+-- the board stands behind the list, where it was published; else the list is as it was
+abbrev pub GainsIf : Bool → List Board → Board → List Board → Type 0
+GainsIf is_published list board after = MatchBool is_published (after ≡ list ++ board ∷ []) (after ≡ list)
 
 -- the board stands behind the list, whole, and its epoch is answered; or nothing was published
 abbrev pub Told : List Board → Board → Tell → List Board → Type 0

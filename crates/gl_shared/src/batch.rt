@@ -1,11 +1,10 @@
 //! Lists of commands in one hold of the latch: what an engine locks a path with, from the root down.
 
-ghost use Rattle.std.specs.Prelude.{◌≡◌, ◌+◌, ◌≤◌, ◌<◌, [], true, IfErr, IfOk, OnErr, length, vec_capacity};
+ghost use Rattle.std.specs.Prelude.{◌≡◌, ◌+◌, ◌≤◌, [], true, IfErr, IfOk, OnErr, length, vec_capacity};
 ghost use Rattle.gl_modes.specs.Modes.{is_at_least};
-ghost use Rattle.gl_catalog.specs.Manager.{IsLawfulManager, state_of};
-ghost use Rattle.gl_shared.specs.Batches.{Serves, Stops, accepted_in, goes_on};
+ghost use Rattle.gl_catalog.specs.Manager.{state_of};
+ghost use Rattle.gl_shared.specs.Batches.{AreServed, Serves, Stops, accepted_in, goes_on};
 ghost use Rattle.gl_shared.specs.Sessions.{IsVerdict};
-ghost use Rattle.gl_shared.specs.State.{GuardedView};
 ghost use Rattle.gl_wakes.specs.Wakes.{HasEnded};
 
 use crate::guarded::Guarded;
@@ -73,9 +72,7 @@ impl<'a, N: Naming> Session<'a, N> {
         alloc: Global,
         commands: &[Command<'_>],
     ) -> Result<Vec<Answer>, Refusal>
-        ensures run { IfOk result (λ answers. (g : GuardedView) × (h : GuardedView) × IsLawfulManager g.manager
-            × Serves g commands.now answers.items h × (self.new.served_at ≡ h.manager.accepted)
-            × (0 < accepted_in commands.now answers.items → HasEnded (state_of g.manager) (state_of h.manager) self.new.woken)) }
+        ensures run { IfOk result (λ answers. AreServed commands.now answers.items self.new.served_at self.new.woken) }
         ensures count { IfOk result (λ _. N.opening + self.new.share ≤ self.new.served_at) }
         ensures stops { IfOk result (λ answers. Stops commands.now answers.items) }
         ensures share { IfOk result (λ answers. self.new.share ≡ self.old.share + accepted_in commands.now answers.items) }

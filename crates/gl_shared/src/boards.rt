@@ -1,10 +1,11 @@
 //! The ends of `left_right`, under the rule.
-ghost use Rattle.std.specs.Prelude.{◌≡◌, [], ◌∷◌, ◌++◌, ◌≤◌, ◌^◌, ◌<◌, drop, fold, IfOk, MatchBool, None, Some};
+ghost use Rattle.std.specs.Prelude.{◌≡◌, [], ◌≤◌, ◌^◌, ◌<◌, drop, fold, IfOk, None, Some};
 ghost use Rattle.std.specs.Arc.{arc_value};
 ghost use Rattle.left_right.specs.Sides.{view};
 ghost use Rattle.gl_window.specs.Boards.{Fine, last_epoch};
 ghost use Rattle.gl_window.specs.Rules.{head_of};
 ghost use Rattle.gl_shared.specs.Sides.{IsIdle, shown_by};
+ghost use Rattle.gl_shared.specs.State.{GainsIf};
 ghost use Rattle.gl_shared.specs.Ties.{tie_of, turn_of, turned};
 
 use crate::rule::{Publish, Published, Ties};
@@ -71,9 +72,7 @@ pub fn publish<R: Wait>(
     requires fine { Fine writer.desk.shown.value.line.detect (arc_value board) }
     ensures rest { IsIdle result.0 }
     ensures tie { tie_of (shown_by result.0) ≡ tie_of writer.desk.shown.value.line }
-    ensures list { MatchBool result.1
-        ((shown_by result.0).list ≡ writer.desk.shown.value.line.list ++ arc_value board ∷ [])
-        ((shown_by result.0).list ≡ writer.desk.shown.value.line.list) }
+    ensures list { GainsIf result.1 writer.desk.shown.value.line.list (arc_value board) (shown_by result.0).list }
 {
     let Ok(before) = writer.published().line.again() else {
         return (Side::Open(writer), false);

@@ -1,7 +1,7 @@
 //! What stands behind the latch.
 
 ghost use Rattle.gl_slots.specs.Limit.{most_slots};
-ghost use Rattle.std.specs.Prelude.{◌≡◌, ◌+◌, ◌++◌, ◌∷◌, ◌≤◌, ◌<◌, ◌⊎◌, ◌||◌, [], true, false, None, Some, Ok, List, replicate, IfSome, is_some};
+ghost use Rattle.std.specs.Prelude.{◌≡◌, ◌+◌, ◌++◌, ◌∷◌, ◌≤◌, ◌⊎◌, [], true, false, None, Some, Ok, replicate, IfSome, is_some};
 ghost use Rattle.gl_modes.specs.declared.mode.Mode.{Mode as AMode};
 ghost use Rattle.gl_modes.specs.Modes.{is_at_least};
 ghost use Rattle.gl_table.specs.Table.{board_of};
@@ -11,13 +11,13 @@ ghost use Rattle.gl_steps.specs.declared.command.Answer.TheVariants.{Granted};
 ghost use Rattle.gl_steps.specs.declared.command.Command.TheVariants.{Lock};
 ghost use Rattle.gl_catalog.specs.Manager.{IsLawfulManager, state_of};
 ghost use Rattle.gl_steps.specs.Promises.{KeepsCaller};
-ghost use Rattle.gl_steps.specs.Step.{Step};
-ghost use Rattle.gl_wakes.specs.Boxes.{Delivers, Slot, cleared, verdict_of};
-ghost use Rattle.gl_steps.specs.Served.{accepts, is_refused, leaves_waiting};
+ghost use Rattle.gl_wakes.specs.Boxes.{verdict_of};
+ghost use Rattle.gl_steps.specs.Served.{accepts};
 ghost use Rattle.gl_wakes.specs.Notices.{RisingTo};
 ghost use Rattle.gl_window.specs.Tellings.{is_due};
 ghost use Rattle.gl_wakes.specs.declared.grant.Grant.{Grant};
 ghost use Rattle.gl_window.specs.Boards.{last_epoch, IsLawful};
+ghost use Rattle.gl_shared.specs.Batches.{ServesOne, one_if};
 ghost use Rattle.gl_shared.specs.State.{Remembers, StaysUntold, Told};
 
 use crate::naming::Naming;
@@ -194,13 +194,9 @@ impl<N: Naming> Guarded<N> {
     /// One command, its reply and its notices, which then stand in their boxes. An accepted lock empties
     /// its own slot's, so that what stands there later is its own verdict.
     pub fn serve(&mut self, share: &mut Share<N>, command: Command<'_>) -> Reply
-        ensures step { Step (state_of self.old.manager) command.entry result.answer result.told.items (state_of self.new.manager) }
+        ensures serves { ServesOne self.old command.entry result.answer result.told.items self.new }
+        ensures share { share.new ≡ share.old + one_if (accepts command.entry result.answer) }
         ensures caller { KeepsCaller command.entry (state_of self.old.manager) (state_of self.new.manager) }
-        ensures refused { accepts command.entry result.answer ≡ false → (self.new ≡ self.old) × (share.new ≡ share.old) }
-        ensures accepted { accepts command.entry result.answer ≡ true → (self.new.book ≡ self.old.book + 1) × (share.new ≡ share.old + 1) }
-        ensures boxes { (mid : List Slot) × Delivers self.old.boxes result.told.items mid × (self.new.boxes ≡ cleared command.entry result.answer mid) }
-        ensures waited { accepts command.entry result.answer ≡ true → self.new.waited ≡ (self.old.waited || leaves_waiting result.answer) }
-        ensures list { (self.new.list ≡ self.old.list) × (self.new.telling ≡ self.old.telling) }
         ensures calm { N.detect ≡ AtBlock → HasNoCycle (state_of self.new.manager) }
     {
         let mut told = Told::new();
@@ -217,14 +213,10 @@ impl<N: Naming> Guarded<N> {
         told: &mut Told,
     ) -> Answer
         requires empty { told.old.items ≡ [] }
-        ensures step { Step (state_of self.old.manager) command.entry result told.new.items (state_of self.new.manager) }
+        ensures serves { ServesOne self.old command.entry result told.new.items self.new }
+        ensures share { share.new ≡ share.old + one_if (accepts command.entry result) }
         ensures caller { KeepsCaller command.entry (state_of self.old.manager) (state_of self.new.manager) }
-        ensures refused { accepts command.entry result ≡ false → (self.new ≡ self.old) × (share.new ≡ share.old) × (told.new.items ≡ []) }
-        ensures accepted { accepts command.entry result ≡ true
-            → (self.new.book ≡ self.old.book + 1) × (share.new ≡ share.old + 1) × (self.new.waited ≡ (self.old.waited || leaves_waiting result)) }
-        ensures boxes { (mid : List Slot) × Delivers self.old.boxes told.new.items mid × (self.new.boxes ≡ cleared command.entry result mid) }
         ensures rising { RisingTo 0 told.new.items most_slots }
-        ensures list { (self.new.list ≡ self.old.list) × (self.new.telling ≡ self.old.telling) }
     {
         self.manager.law();
         let answer = self.manager.apply_telling(command, told);
@@ -249,14 +241,10 @@ impl<N: Naming> Guarded<N> {
         told: &mut Told,
     ) -> Answer
         requires empty { told.old.items ≡ [] }
-        ensures step { Step (state_of self.old.manager) (Lock txn node mode) result told.new.items (state_of self.new.manager) }
-        ensures refused { is_refused result ≡ true → (self.new ≡ self.old) × (share.new ≡ share.old) × (told.new.items ≡ []) }
-        ensures accepted { is_refused result ≡ false
-            → (self.new.book ≡ self.old.book + 1) × (share.new ≡ share.old + 1) × (self.new.waited ≡ (self.old.waited || leaves_waiting result)) }
+        ensures serves { ServesOne self.old (Lock txn node mode) result told.new.items self.new }
+        ensures share { share.new ≡ share.old + one_if (accepts (Lock txn node mode) result) }
         ensures rising { RisingTo 0 told.new.items most_slots }
         ensures covers { (held : AMode) → result ≡ Granted held → is_at_least held mode ≡ true }
-        ensures boxes { (mid : List Slot) × Delivers self.old.boxes told.new.items mid × (self.new.boxes ≡ cleared (Lock txn node mode) result mid) }
-        ensures list { (self.new.list ≡ self.old.list) × (self.new.telling ≡ self.old.telling) }
     {
         self.law();
         self.serve_telling(share, Command::Lock { txn, node, mode }, told)

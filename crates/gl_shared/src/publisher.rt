@@ -1,9 +1,10 @@
 //! The published boards, on the side that publishes.
 
-ghost use Rattle.std.specs.Prelude.{◌≡◌, ◌++◌, ◌∷◌, ◌≤◌, [], drop, MatchBool, Some};
+ghost use Rattle.std.specs.Prelude.{◌≡◌, ◌≤◌, [], drop, Some};
 ghost use Rattle.std.specs.Arc.{arc_value};
 ghost use Rattle.gl_window.specs.Boards.{Fine, IsLawful, last_epoch};
 ghost use Rattle.gl_window.specs.Rules.{head_of};
+ghost use Rattle.gl_shared.specs.State.{GainsIf};
 ghost use Rattle.gl_shared.specs.Ties.{IsOf};
 
 use crate::boards::{BoardWriter, Side, publish};
@@ -60,7 +61,7 @@ impl<N: Naming> Publisher<N> {
     pub(crate) fn publish<R: Wait>(&mut self, rt: &R, board: Board) -> bool
         requires rises { last_epoch 0 self.old ≤ board.epoch }
         requires fine { Fine N.detect board }
-        ensures { MatchBool result (self.new ≡ self.old ++ board ∷ []) (self.new ≡ self.old) }
+        ensures { GainsIf result self.old board self.new }
     {
         let Ok(board) = Arc::new(self.alloc, board) else {
             return false;

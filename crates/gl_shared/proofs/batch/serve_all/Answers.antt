@@ -2,7 +2,7 @@ use Rattle.std.proofs.Common.{arith, ◌≡◌, ◌∙◌, true, ap, length, ref
 use Rattle.std.specs.List.{list_all}
 use Rattle.gl_steps.specs.declared.command.Answer.{Answer}
 use Rattle.gl_shared.specs.Batches.{Serves, Stops, goes_on}
-use Rattle.gl_shared.proofs.Batches.{accepted_none, all_more, counted_if, one_longer, serves_next, serves_none, serves_one, share_more, stops_here, stops_whole}
+use Rattle.gl_shared.proofs.Batches.{accepted_none, all_more, one_longer, serves_next, serves_none, share_more, stops_here, stops_whole}
 use Rattle.gl_steps.proofs.StepsKeepLaw.{steps_keep_law}
 use Rattle.gl_wakes.proofs.Waking.{ended_more, ended_none, wakes_told}
 use Rattle.gl_shared.proofs.batch.serve_all.Goals as goal
@@ -36,26 +36,25 @@ pub loop-command-preserved : goal.loop-command-preserved
 loop-command-preserved g c =
     let cs = c.args.commands.now in
     let e = c.serve_telling-answer.ensures in
-    let one = serves_one _ _ _ _ _ e.step (λ no. ((e.refused no).0, (e.refused no).2)) (λ yes. (e.accepted yes).0) e.boxes (λ yes. (e.accepted yes).2) e.list in
     let so_far = c.loop-command.answers.items in
     let inv = c.loop-command.invariant in
     let items = c.push_reserved.ensures.items in
     let room = c.push_reserved.ensures.capacity in
     record {
       ran = subst (λ (l : List Answer). Serves c.args.guarded.now cs l c.serve_telling-answer.new.self) (sym items)
-          (serves_next _ _ _ cs so_far c.loop-command.command-index _ c.serve_telling-answer.result _ inv.answered c.loop-command-test.true inv.ran one);
+          (serves_next _ _ _ cs so_far c.loop-command.command-index _ c.serve_telling-answer.result _ inv.answered c.loop-command-test.true inv.ran e.serves);
       answered = ap length items ∙ one_longer so_far c.serve_telling-answer.result c.loop-command.command-index inv.answered;
       room = room ∙ inv.room;
       on = subst (λ (l : List Answer). list_all goes_on l ≡ true) (sym items)
           (all_more so_far c.serve_telling-answer.result inv.on (sym c.goes_on-last.ensures ∙ c.if-last.false));
       share = share_more cs so_far _ c.loop-command.command-index _ c.serve_telling-answer.result _ _ _ inv.answered c.loop-command-test.true items
-          (counted_if _ _ _ (λ no. (e.refused no).1) (λ yes. (e.accepted yes).1)) inv.share;
-      book = share_more cs so_far _ c.loop-command.command-index _ c.serve_telling-answer.result _ _ _ inv.answered c.loop-command-test.true items one.book
-          inv.book;
-      list = e.list.0 ∙ inv.list;
-      lawful = λ law. steps_keep_law _ _ _ _ _ (inv.lawful law) e.step;
+          e.share inv.share;
+      book = share_more cs so_far _ c.loop-command.command-index _ c.serve_telling-answer.result _ _ _ inv.answered c.loop-command-test.true items
+          e.serves.book inv.book;
+      list = e.serves.list.0 ∙ inv.list;
+      lawful = λ law. steps_keep_law _ _ _ _ _ (inv.lawful law) e.serves.step;
       ended = ended_more _ _ _ _ _ _ _ _ _ c.union-ended.ensures inv.lawful inv.ended
-          (wakes_told _ _ _ _ c.as_slice.ensures.value c.ended_by.ensures.all) e.step;
+          (wakes_told _ _ _ _ c.as_slice.ensures.value c.ended_by.ensures.all) e.serves.step;
     }
 
 pub returns-then-last-clause-run : goal.returns-then-last-clause-run
@@ -64,8 +63,7 @@ returns-then-last-clause-run g c =
     let e = c.serve_telling-answer.ensures in
     subst (λ (l : List Answer). Serves c.args.guarded.now c.args.commands.now l c.serve_telling-answer.new.self) (sym c.push_reserved.ensures.items)
     (serves_next _ _ _ c.args.commands.now c.loop-command.answers.items c.loop-command.command-index _ c.serve_telling-answer.result _ inv.answered
-    c.loop-command-test.true inv.ran (serves_one _ _ _ _ _ e.step (λ no. ((e.refused no).0, (e.refused no).2)) (λ yes. (e.accepted yes).0) e.boxes
-    (λ yes. (e.accepted yes).2) e.list))
+    c.loop-command-test.true inv.ran e.serves)
 
 pub returns-then-last-clause-stops : goal.returns-then-last-clause-stops
 returns-then-last-clause-stops g c =
@@ -81,25 +79,23 @@ returns-then-last-clause-share g c =
     let inv = c.loop-command.invariant in
     let e = c.serve_telling-answer.ensures in
     share_more c.args.commands.now c.loop-command.answers.items _ c.loop-command.command-index _ c.serve_telling-answer.result _ _ _ inv.answered
-    c.loop-command-test.true c.push_reserved.ensures.items (counted_if _ _ _ (λ no. (e.refused no).1) (λ yes. (e.accepted yes).1)) inv.share
+    c.loop-command-test.true c.push_reserved.ensures.items e.share inv.share
 
 pub returns-then-last-clause-book : goal.returns-then-last-clause-book
 returns-then-last-clause-book g c =
     let inv = c.loop-command.invariant in
     let e = c.serve_telling-answer.ensures in
     share_more c.args.commands.now c.loop-command.answers.items _ c.loop-command.command-index _ c.serve_telling-answer.result _ _ _ inv.answered
-    c.loop-command-test.true c.push_reserved.ensures.items
-    (serves_one _ _ _ _ _ e.step (λ no. ((e.refused no).0, (e.refused no).2)) (λ yes. (e.accepted yes).0) e.boxes (λ yes. (e.accepted yes).2)
-    e.list).book inv.book
+    c.loop-command-test.true c.push_reserved.ensures.items e.serves.book inv.book
 
 pub returns-then-last-clause-ended : goal.returns-then-last-clause-ended
 returns-then-last-clause-ended g c =
     let inv = c.loop-command.invariant in
     ended_more _ _ _ _ _ _ _ _ _ c.union-ended.ensures inv.lawful inv.ended (wakes_told _ _ _ _ c.as_slice.ensures.value c.ended_by.ensures.all)
-    c.serve_telling-answer.ensures.step
+    c.serve_telling-answer.ensures.serves.step
 
 pub returns-then-last-clause-list : goal.returns-then-last-clause-list
-returns-then-last-clause-list g c = c.serve_telling-answer.ensures.list.0 ∙ c.loop-command.invariant.list
+returns-then-last-clause-list g c = c.serve_telling-answer.ensures.serves.list.0 ∙ c.loop-command.invariant.list
 
 pub returns-clause-run : goal.returns-clause-run
 returns-clause-run g c = c.loop-command.invariant.ran

@@ -3,4 +3,4 @@ use Rattle.gl_shared.proofs.guarded.Guarded.serve_lock.Goals as goal
 
 pub returns-clause-covers : goal.returns-clause-covers
 returns-clause-covers g c = answer_covers _ c.law.ensures.manager.lawful c.args.txn c.args.node c.args.mode _ _ c.serve_telling.result
-    c.serve_telling.ensures.step
+    c.serve_telling.ensures.serves.step

@@ -1,5 +1,5 @@
 use Rattle.gl_slots.specs.Limit.{most_slots}
-use Rattle.std.proofs.Common.{rules, arith, ◌≡◌, ◌<◌, ◌^◌, ◌∙◌, true, false, ap, refl, subst, sym, List}
+use Rattle.std.proofs.Common.{rules, arith, ◌≡◌, ◌<◌, ◌^◌, ◌∙◌, true, false, ap, subst, sym, List}
 use Rattle.gl_model.specs.declared.answers.Notice.{Notice}
 use Rattle.gl_model.specs.declared.txn.TxnId.{TxnId}
 use Rattle.gl_steps.specs.Served.{accepts}
@@ -8,9 +8,10 @@ use Rattle.gl_model.specs.State.{State}
 use Rattle.gl_steps.proofs.Detection.{steps_keep_detect}
 use Rattle.gl_wakes.specs.Boxes.{Delivers, Slot, cleared, emptied}
 use Rattle.gl_shared.specs.State.{GuardedView}
+use Rattle.gl_modes.proofs.Words.{clash}
+use Rattle.gl_shared.proofs.Batches.{none_accepted, one_accepted, serves_still}
 use Rattle.gl_shared.proofs.Idle.{quiet_on}
-use Rattle.gl_wakes.proofs.Clearing.{cleared_not, cleared_yes}
-use Rattle.gl_wakes.proofs.Notices.{delivers_none}
+use Rattle.gl_wakes.proofs.Clearing.{cleared_yes}
 use Rattle.gl_wakes.proofs.Rising.{step_rises}
 use Rattle.gl_steps.proofs.Serving.{step_counts}
 use Rattle.gl_shared.proofs.guarded.Guarded.serve_telling.Goals as goal
@@ -38,31 +39,42 @@ invariant_of-self g c =
     ((step_counts _ _ _ _ _ c.apply_telling-answer.ensures.step).not_accepted no).0) in
     rw same c.self.invariant
 
-pub returns-then-not-is_accepted-clause-refused : goal.returns-then-not-is_accepted-clause-refused
-returns-then-not-is_accepted-clause-refused g c =
+pub returns-then-not-is_accepted-clause-serves : goal.returns-then-not-is_accepted-clause-serves
+returns-then-not-is_accepted-clause-serves g c =
     let no : accepts c.args.command c.apply_telling-answer.result ≡ false = search rules in
     let still = (step_counts _ _ _ _ _ c.apply_telling-answer.ensures.step).not_accepted no in
     let same = c.apply_telling-answer.ensures.same (ap (λ (s : State). s.accepted) still.0) in
-    λ _. (rw same c.self.view_is, refl, still.1)
+    serves_still _ _ _ _ _ (search rules) no (rw same c.self.view_is) still.1
 
-pub returns-then-not-is_accepted-clause-boxes : goal.returns-then-not-is_accepted-clause-boxes
-returns-then-not-is_accepted-clause-boxes g c =
+pub returns-then-not-is_accepted-clause-share : goal.returns-then-not-is_accepted-clause-share
+returns-then-not-is_accepted-clause-share g c =
     let no : accepts c.args.command c.apply_telling-answer.result ≡ false = search rules in
-    let told = c.apply_telling-answer.new.told.items in
-    let still = (step_counts _ _ _ _ _ c.apply_telling-answer.ensures.step).not_accepted no in
-    let same = ap (λ (v : GuardedView). v.boxes) c.self.view_is in
-    subst (λ (b : List Slot). (mid : List Slot) × Delivers b told mid × (c.self.inside.boxes ≡ cleared c.args.command c.apply_telling-answer.result mid)) same
-    (c.self.inside.boxes, delivers_none told c.self.inside.boxes still.1, sym (cleared_not c.args.command c.apply_telling-answer.result c.self.inside.boxes no))
+    omega (arith, none_accepted no)
 
-pub returns-clause-boxes : goal.returns-clause-boxes
-returns-clause-boxes g c =
+pub returns-clause-serves : goal.returns-clause-serves
+returns-clause-serves g c =
     let yes : accepts c.args.command c.apply_telling-answer.result ≡ true = search rules in
     let told = c.apply_telling-answer.new.told.items in
     let same = ap (λ (v : GuardedView). v.boxes) c.self.view_is in
-    subst (λ (b : List Slot). (mid : List Slot) × Delivers b told mid × (c.deliver.new.self ≡ cleared c.args.command c.apply_telling-answer.result mid)) same
-    (cleared_yes c.args.command c.apply_telling-answer.result told c.self.inside.boxes c.deliver.new.self yes
-    (subst (λ (l : List (TxnId × Notice)). (mid : List Slot) × Delivers c.self.inside.boxes l mid × (c.deliver.new.self ≡ emptied c.args.command mid))
-    c.as_slice.ensures.value c.deliver.ensures.told))
+    let one_more = one_accepted yes in
+    let total = c.add.ensures.total in
+    record {
+      step = search rules;
+      boxes = subst (λ (b : List Slot). (mid : List Slot) × Delivers b told mid
+          × (c.deliver.new.self ≡ cleared c.args.command c.apply_telling-answer.result mid)) same
+          (cleared_yes c.args.command c.apply_telling-answer.result told c.self.inside.boxes c.deliver.new.self yes
+          (subst (λ (l : List (TxnId × Notice)). (mid : List Slot) × Delivers c.self.inside.boxes l mid × (c.deliver.new.self ≡ emptied c.args.command mid))
+          c.as_slice.ensures.value c.deliver.ensures.told));
+      not_accepted = λ no. clash yes no;
+      book = omega (arith, ap (λ (v : GuardedView). v.book) c.self.view_is, total, one_more);
+      waited = λ _. search rules;
+      list = search rules;
+    }
+
+pub returns-clause-share : goal.returns-clause-share
+returns-clause-share g c =
+    let yes : accepts c.args.command c.apply_telling-answer.result ≡ true = search rules in
+    omega (arith, one_accepted yes)
 
 pub invariant_of-self-2 : goal.invariant_of-self-2
 invariant_of-self-2 g c =
