@@ -1,6 +1,6 @@
 #!/usr/bin/env python3
-"""wrong_bodies.py [--jobs N] [--named] [--by-turns] [--minutes M] [--share K/N] [CRATE | CRATE/NAME]..: tries wrong
-bodies, those in must-fail/ and those in wrong/.
+"""wrong_bodies.py [--jobs N] [--named] [--by-turns] [--minutes M] [--share K/N] [--beside LOG] [CRATE | CRATE/NAME]..:
+tries wrong bodies, those in must-fail/ and those in wrong/.
 
 Each is an edit of code that the crate's contracts must refuse. Edits of different functions are applied to one copy of
 their crate, and the functions that they change are checked over the proved libraries that `rt ci` has left. Where these
@@ -15,13 +15,17 @@ Without a choice all are tried. Choices add up, and leave out what stands in mus
             tag, or where there is none from the commit before, up to the minutes;
 --minutes M of the processor, behind which no more is begun of what has just changed (none is said: all of it);
 --share K/N the K-th of N shares: N runs try all.
-Proofs run side by side, one a processor where 3 GB are free for each."""
-import concurrent.futures, hashlib, itertools, os, re, resource, shutil, subprocess, sys, tempfile
+Proofs run side by side, one a processor where 3 GB are free for each.
+--beside LOG goes beside an `rt ci` that writes this log: each is tried once what its crate stands on is proved, and two
+at a time at most until the log ends, where there is memory for them too. Where `rt ci` fails it stops."""
+import hashlib, itertools, os, queue, re, resource, shutil, subprocess, sys, tempfile, threading, time
 
 TOP = os.path.dirname(os.path.dirname(os.path.abspath(__file__)))
 # As many edits at most stand in one copy: more save little, and fewer end sooner side by side.
 TOGETHER = 8
 TURNS = 10
+# As many proofs at most run beside those of `rt ci`, which leaves so many processors idle for half of its time.
+BESIDE = 2
 
 
 def kit():
@@ -138,6 +142,72 @@ def naming(crate, pattern):
     return found
 
 
+# Libraries.
+
+
+def below(name):
+    """The crates of the repository on which a crate stands, over whatever others."""
+    found, left = [], [name]
+    while left:
+        new = [it for it in CRATES[left.pop()][1] if it in CRATES and it not in found]
+        found, left = found + new, left + new
+    return found
+
+
+class Libraries:
+    """The proved libraries that `rt ci` has left."""
+
+    def folder(self, name):
+        return f"{TOP}/crates/{name}/out/rlib"
+
+    def are_ready(self, crate):
+        """Whether all on which a crate stands is proved."""
+        return True
+
+    def are_growing(self):
+        """Whether more are being proved."""
+        return False
+
+
+class GrowingLibraries(Libraries):
+    """Those that an `rt ci` makes, as its log says. Links keep them, since that run puts back at its end what stood in
+    their place before it. What it had kept of an earlier run is there at its end."""
+
+    def __init__(self, log, kept):
+        self.log, self.kept, self.proved, self.is_over, self.lock = log, kept, set(), False, threading.Lock()
+
+    def look(self):
+        try:
+            said = open(self.log, encoding="utf-8", errors="replace").read()
+        except OSError:
+            said = "0 passed, 1 failed\n"
+        for name in sorted(set(re.findall(r"^rt: (\w+) proved$", said, re.M)) - self.proved):
+            if os.path.isdir(super().folder(name)):
+                shutil.copytree(super().folder(name), f"{self.kept}/{name}", copy_function=os.link)
+            self.proved.add(name)
+        ended = re.search(r"^\d+ passed, (\d+) failed$", said, re.M)
+        self.is_over = bool(ended)
+        if ended and ended.group(1) != "0":
+            raise RuntimeError("rt ci failed")
+
+    def folder(self, name):
+        kept = f"{self.kept}/{name}"
+        return kept if os.path.isdir(kept) else super().folder(name)
+
+    def are_ready(self, crate):
+        with self.lock:
+            return self.is_over or self.proved.issuperset(below(crate))
+
+    def are_growing(self):
+        with self.lock:
+            if not self.is_over:
+                self.look()
+            return not self.is_over
+
+
+LIBRARIES = Libraries()
+
+
 # Proofs.
 
 
@@ -149,10 +219,9 @@ def words_of(name, folder):
         words += ["--extern", f"{dep}={KIT}/rlibs/{dep}.rlib"]
     words += ["-L", f"dependency={KIT}/rlibs"]
     for dep in [it for it in deps if it in CRATES]:
-        words += ["--extern", f"{dep}={TOP}/crates/{dep}/out/rlib/{dep}.rlib"]
-    for dep in CRATES:
-        if os.path.isdir(f"{TOP}/crates/{dep}/out/rlib"):
-            words += ["-L", f"dependency={TOP}/crates/{dep}/out/rlib"]
+        words += ["--extern", f"{dep}={LIBRARIES.folder(dep)}/{dep}.rlib"]
+    for dep in below(name):
+        words += ["-L", f"dependency={LIBRARIES.folder(dep)}"]
     words += ["--antt-project", f"{KIT}/rattle/logic/antt-project.json", "--logic-built", f"{KIT}/logic_built"]
     words += ["--links", f"{name}=", "--jobs", "1"]
     return words + (["--crate-type", "staticlib"] if "staticlib" in options else [])
@@ -307,14 +376,26 @@ def jobs():
     return int(said) if said else 1
 
 
-def number_behind(word, words):
-    """The number behind a word, which are taken out; None where the word is not there."""
+def spare():
+    """How many proofs have memory beside one a processor."""
+    free = int(re.search(r"^MemAvailable: *(\d+)", open("/proc/meminfo", encoding="utf-8").read(), re.M).group(1)) // 1024
+    return max(free // 3072 - os.cpu_count(), 0)
+
+
+def word_behind(word, words):
+    """The word behind another, which are taken out; None where that is not there."""
     if word not in words:
         return None
     at = words.index(word)
-    number = int(words[at + 1])
+    found = words[at + 1]
     del words[at : at + 2]
-    return number
+    return found
+
+
+def number_behind(word, words):
+    """The same as a number."""
+    found = word_behind(word, words)
+    return None if found is None else int(found)
 
 
 def minutes_spent():
@@ -323,27 +404,77 @@ def minutes_spent():
     return (used.ru_utime + used.ru_stime) / 60
 
 
-def main(words):
-    at_once, minutes = number_behind("--jobs", words), number_behind("--minutes", words)
-    every = list(every_edit())
-    asked, anew = chosen(every, words)
-    refused, lacking, left = 0, 0, 0
+def worked(tasks, workers, few):
+    """What each task gives, as it ends. A task is a crate and a call; it begins once what its crate stands on is there.
+    While libraries are still made few of the workers work."""
+    ended, left, lock, count = queue.Queue(), list(tasks), threading.Lock(), len(tasks)
+
+    def next_task():
+        task = next((it for it in left if LIBRARIES.are_ready(it[0])), None)
+        if task:
+            left.remove(task)
+        return task
+
+    def work(place):
+        while left:
+            is_growing = LIBRARIES.are_growing()
+            with lock:
+                task = next_task() if place < few or not is_growing else None
+            if task:
+                ended.put(task[1]())
+            elif left and not is_growing:
+                raise RuntimeError(f"no proved libraries for {left[0][0]}")
+            elif left:
+                time.sleep(2)
+
+    def work_or_tell(place):
+        try:
+            work(place)
+        except Exception as error:
+            ended.put(error)
+
+    for place in range(workers):
+        threading.Thread(target=work_or_tell, args=(place,), daemon=True).start()
+    for _ in range(count):
+        result = ended.get()
+        if isinstance(result, Exception):
+            raise result
+        yield result
+
+
+def try_all(asked, anew, bad, workers, minutes):
+    """Tries the edits, prints what becomes of each, and answers how many were refused, were not, and were left."""
+    counts = {"refused": 0, "lacking": 0, "left": 0}
 
     def unless_late(group):
         is_late = minutes is not None and minutes_spent() >= minutes
         return [(it, "left", "") for it in group] if is_late else attempt_all(group)
 
-    with concurrent.futures.ThreadPoolExecutor(at_once or jobs()) as pool:
-        tried = [pool.submit(attempt_all, it) for it in grouped([it for it in asked if not it.why])]
-        tried += [pool.submit(unless_late, it) for it in grouped([it for it in anew if not it.why])]
-        bad = [(it, "bad", it.why) for it in every if it.why]
-        ended = (it.result() for it in concurrent.futures.as_completed(tried))
-        for edit, what, why in itertools.chain(bad, itertools.chain.from_iterable(ended)):
-            refused, lacking, left = refused + (what == "refused"), lacking + (what not in ("refused", "left")), left + (what == "left")
-            if what != "left":
-                print(f"{what} {edit.name}: {why}", flush=True)
-    print(f"{refused} refused, {lacking} not refused, of {len(every)}" + (f"; {left} left" if left else ""))
-    return 0 if lacking == 0 else 1
+    tasks = [(it[0].crate, lambda it=it: attempt_all(it)) for it in grouped(asked)]
+    tasks += [(it[0].crate, lambda it=it: unless_late(it)) for it in grouped(anew)]
+    for edit, what, why in itertools.chain(bad, itertools.chain.from_iterable(worked(tasks, workers, min(BESIDE, spare())))):
+        counts[what if what in ("refused", "left") else "lacking"] += 1
+        if what != "left":
+            print(f"{what} {edit.name}: {why}", flush=True)
+    return counts
+
+
+def main(words):
+    global LIBRARIES
+    at_once, minutes, log = number_behind("--jobs", words), number_behind("--minutes", words), word_behind("--beside", words)
+    every = list(every_edit())
+    asked, anew = ([it for it in some if not it.why] for some in chosen(every, words))
+    bad = [(it, "bad", it.why) for it in every if it.why]
+    # (where links can be made to the libraries, and no check looks)
+    with tempfile.TemporaryDirectory(dir=f"{TOP}/.git") as kept:
+        LIBRARIES = GrowingLibraries(log, kept) if log else LIBRARIES
+        try:
+            counts = try_all(asked, anew, bad, at_once or jobs(), minutes)
+        except RuntimeError as error:
+            sys.exit(f"wrong_bodies.py: {error}")
+    left = f"; {counts['left']} left" if counts["left"] else ""
+    print(f"{counts['refused']} refused, {counts['lacking']} not refused, of {len(every)}{left}")
+    return 0 if counts["lacking"] == 0 else 1
 
 
 sys.exit(main(sys.argv[1:]))
