@@ -600,10 +600,10 @@ static bs_reply table_try_at(bs_table *table, table_try *path, bs_node node, bs_
 }
 
 /* Makes the tries of a path up to its end. Which node comes first the manager says: a try that is refused for want of a
- * parent names it, and the climb goes on from there. No way up is without end, since no path of the graph closes. Behind
- * a grant a writer goes down by one; a reader may want fewer then, and climbs anew. Each grant is counted, so that the
- * path ends where the count does, if not before. Where a way is longer than what is kept, those below are forgotten, to
- * be found again. */
+ * parent names it, and the climb goes on from there. It comes to an end, since no path of the graph closes. Behind a
+ * grant a writer goes down by one; a reader may want fewer then, and climbs anew. Each grant is counted, so that the
+ * path ends where the count does, if not before. Where a way is longer than what is kept, those below are forgotten,
+ * to be found again. */
 static bs_reply table_try_up(bs_table *table, table_try *path) {
   bs_mode intention = path->mode == BS_IS || path->mode == BS_S ? BS_IS : BS_IX;
   for (;;) {
@@ -747,7 +747,8 @@ bs_reply bs_table_lock_row(bs_table *table, bs_txn txn, bs_node file, uint64_t n
 
 /* Of a row that a try has just locked by its node: asks for it as a row, which waits for nothing then. So the row is
  * noted for the transaction, which lets it go in the end, and it is heard whether the keys are its node's own. Where
- * that is refused, a row that was not held before is given back. Else it stays held, and its keys are looked at again. */
+ * that is refused, a row that was not held before is given back; else it stays held, and its keys are looked at
+ * again. */
 static bs_reply table_row_noted(bs_table *table, bs_txn txn, const table_row *row, bs_reply tried, bool was_held) {
   bs_manager *m = &table->manager;
   bs_reply reply = table_ask_row(table, txn, row, tried.mode);
@@ -761,9 +762,9 @@ static bs_reply table_row_noted(bs_table *table, bs_txn txn, const table_row *ro
   return tried;
 }
 
-/* Tries a row with the latch held. A row without a node gets one, and so may one whose node nobody holds: for neither
- * does anybody have to be waited for, since a queue stands behind a holder alone. Any other is locked by the node that it
- * has, if at once. */
+/* Tries a row with the latch held. A row without a node gets one, and so may one whose node nobody holds: nobody is to
+ * be waited for then, since a queue stands behind a holder alone. Any other is locked by the node that it has, if that
+ * can be done at once. */
 static TABLE_APART bs_reply table_row_tried(bs_table *table, bs_txn txn, const table_row *row, bs_mode mode) {
   bs_manager *m = &table->manager;
   bs_node node;
