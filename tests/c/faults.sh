@@ -29,10 +29,9 @@ row-is-not-asked-again	s/  if (table_ask_row(table, txn, row, mode).status != BS
 try-path-joins-the-queue	s/  reply = bs_try(m, path->txn, node, mode);/  reply = bs_lock(m, path->txn, node, mode, \&table->told);/
 try-path-fells	s/  reply = bs_try(m, path->txn, node, mode);/&\n  if (reply.status == BS_WOULD_BLOCK) bs_lock(m, path->txn, node, mode, \&table->told), bs_cancel(m, path->txn, \&table->told);/
 try-path-keeps-what-it-took	s/  if (reply.status != BS_DONE) table_give_back(table, &path);//
-try-path-gives-back-what-it-has	s/  if (reply.status != BS_DONE) table_give_back(/  table_give_back(/
 try-path-gives-back-what-was-held	s/ \&\& bs_held(m, path->txn, node).mode == BS_NL;/;/
 try-path-gives-back-what-is-to-stay	s/  bool is_noted = !path->is_kept \&\& /  bool is_noted = /
-try-path-gives-back-parents-first	s/path->taken\[--path->count\]/path->taken[--path->count, path->start++]/; s/  size_t count, room;$/  size_t count, room, start;/; s/  path.count = 0;/&\n  path.start = 0;/
+try-path-gives-back-parents-first	s/path->taken\[--path->count\]/path->taken[(--path->count, path->start++)]/; s/  size_t count, room;$/  size_t count, room, start;/; s/  path.count = 0;/&\n  path.start = 0;/
 try-path-does-not-say-where	s/  if (reply.status == BS_WOULD_BLOCK) reply.node = node;//
 try-path-takes-any-word	s/  if (keep > BS_KEEP_WAY) return bs_call_only(BS_BAD_NUMBER);//
 try-path-writes-over-its-end	s/      if (path->height == TABLE_MOST_ABOVE) path->height = 0;/      if (path->height == TABLE_MOST_ABOVE) return bs_call_only(BS_WOULD_BLOCK);/

@@ -35,7 +35,7 @@ static bool shares() {
   while (!waits(b)) continue;
   bs_command list[2] = {};
   list[0] = bs_do(BS_DO_COMMIT, a);
-  if (bs_table_try_path(table, a, root, BS_X, BS_KEEP_NOTHING).status != BS_WOULD_BLOCK) return false;
+  if (bs_table_try_path(table, a, root, BS_S, BS_KEEP_NOTHING).mode != BS_S) return false;
   if (bs_table_try_row(table, a, root, 1, NULL, 0, BS_X).status != BS_NOT_ROWS) return false;
   list[1] = bs_do_at(BS_DO_TRY_PATH, a, root, BS_S);
   if (bs_table_try_first(table, list + 1, 1) != 0 || list[1].reply.mode != BS_S) return false;
