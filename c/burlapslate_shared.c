@@ -7,7 +7,9 @@
  * one. Written in C here, and tested: the mutex and the conditions, and the line of those who sleep for a slot. They
  * are in table_enter, round each call; table_wake, behind each command; table_hand_on, behind what may have ended a
  * transaction; table_sleep, where a lock waits; table_sleep_in_line, where a begin does; bs_table_end; and
- * table_watch_over, the thread that watches. All else here makes calls of burlapslate.h between these.
+ * table_watch_over, the thread that watches. So is what several calls with the manager come to together, of which each
+ * is proved: table_try_up and table_give_back, of a path that is tried, and table_row_tried, of a row. All else here
+ * makes calls of burlapslate.h between these.
  */
 #include "burlapslate_shared.h"
 

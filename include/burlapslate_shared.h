@@ -140,20 +140,22 @@ bs_reply bs_table_try(bs_table *table, bs_txn txn, bs_node node, bs_mode mode);
 /* What a try of a path that is not done keeps of the locks that it took on the way. */
 enum bs_keeps { BS_KEEP_NOTHING = 0, BS_KEEP_WAY = 1 };
 
-/* Locks a node with what has to be held above it, as bs_lock_path takes it, but each lock by bs_try, in one hold of the
- * latch. It never sleeps, joins no queue, passes nobody who waits but as bs_try does, and fells nobody. BS_DONE: `mode`
- * is the mode in which the node is held. BS_WOULD_BLOCK: `node` is the one that cannot be had at once, which is the
- * node itself or one above it. Refused as bs_table_lock_path, in its order and ahead of BS_WOULD_BLOCK, and then
- * nothing was locked; but BS_NO_MEMORY and BS_WORN_OUT may come behind some of the locks, as BS_WOULD_BLOCK may. With
- * BS_BAD_NUMBER, first of all, also where `keep` is none of enum bs_keeps. Takes memory.
+/* Locks a node with what has to be held above it, the locks that bs_lock_path asks for, but each by bs_try, in one hold
+ * of the latch. It never sleeps, joins no queue and fells nobody; it passes who waits only as bs_try does. BS_DONE:
+ * `mode` is the mode in which the node is held. BS_WOULD_BLOCK: `node` is the one that cannot be had at once, which is
+ * the node itself or one above it. Refused as bs_lock_path before anything is locked, in its order; BS_WOULD_BLOCK,
+ * BS_NO_MEMORY and BS_WORN_OUT may come behind some of the locks. Refused with BS_BAD_NUMBER, first of all, also where
+ * `keep` is none of enum bs_keeps. Takes memory.
  * Where it is not done behind some of the locks, `keep` says what becomes of these. With BS_KEEP_WAY they stay. With
- * BS_KEEP_NOTHING each node that this call took anew is released again, the last first. Three things stay all the same:
- *   - a node that was held before stays in the mode to which it was raised, since no mode is ever lowered: others may
- *     have been kept out by it, and nothing says any more what was held before;
- *   - a node of which the transaction holds a child by another parent since before the call, with what is above it,
- *     since bs_unlock refuses it with BS_HELD_CHILD;
- *   - all of them behind BS_WORN_OUT.
- * To release them wakes nobody, and takes no memory. Costs its locks, and a try for each node that is wanting above. */
+ * BS_KEEP_NOTHING each node that this call took anew is released again, the last first, which wakes nobody. There stays
+ * all the same:
+ *   - a node that was held before, in the mode to which it was raised: no command lowers a mode, and what was held
+ *     before is not known any more;
+ *   - a node above one that was held before, by another parent: bs_unlock refuses it with BS_HELD_CHILD, and so it does
+ *     those above it;
+ *   - behind BS_WORN_OUT all of them.
+ * Each lock and each release is a command of its own, which bs_counters counts. Costs these, and a try for each node on
+ * the way that is wanting. */
 bs_reply bs_table_try_path(bs_table *table, bs_txn txn, bs_node node, bs_mode mode, uint32_t keep);
 
 bs_reply bs_table_unlock(bs_table *table, bs_txn txn, bs_node node, bs_notices *told);
@@ -201,9 +203,10 @@ bs_reply bs_table_lock_row(bs_table *table, bs_txn txn, bs_node file, uint64_t n
 
 /* As bs_table_lock_row, but where the row would have to be waited for it is refused with BS_WOULD_BLOCK, after the
  * other refusals, and `node` is the row's node. It never sleeps, joins no queue and fells nobody. Where it is refused
- * nothing was changed: BS_NO_MEMORY too, of a row that the transaction did not hold before. Where it held the row, and
- * memory or numbers are wanting behind the grant, it is BS_OTHER_KEYS: the row is held in `mode`, and its keys are
- * looked at again. So it is where the last number went for the grant of a row that it did not hold. Takes memory. */
+ * no lock was changed: where there is no memory to note the row for its transaction, it is given back. A row that the
+ * transaction held before cannot be, and then the answer is BS_OTHER_KEYS: it is held in `mode`, and its keys are
+ * looked at again. So it is where the last number went for the lock. A row that has a holder costs two commands, which
+ * bs_counters counts. Takes memory. */
 bs_reply bs_table_try_row(bs_table *table, bs_txn txn, bs_node file, uint64_t number, const uint64_t *keys,
                           size_t count, bs_mode mode);
 
