@@ -39,6 +39,7 @@ try-path-notes-too-few	s/ \&\& path->count == path->room \&\& !table_note_more(p
 try-path-forgets-its-notes	/table_note_more(/,/^}/s/  memcpy(more, path->taken, .*/  memset(more, 0, 2 * path->room * sizeof *more);/
 try-path-keeps-its-notes	s/  if (path.taken != path.few) free(path.taken);//
 try-path-reads-as-it-writes	s/  bs_mode intention = path->mode == BS_IS || path->mode == BS_S ? BS_IS : BS_IX;/  bs_mode intention = BS_IX;/
+try-path-reads-all-above	s/      path->height = intention == BS_IS ? 0 : path->height - 1;/      path->height--;/
 try-row-joins-the-queue	s/  reply = bs_try(m, txn, node, mode);/  reply = bs_lock(m, txn, node, mode, \&table->told);/
 try-row-is-the-lock	s/  if (reply.status != BS_DONE || bs_group(m, node).mode == BS_NL) return table_ask_row/  if (true) return table_ask_row/
 try-row-keeps-old-nodes	s/  if (reply.status != BS_DONE || bs_group(m, node).mode == BS_NL) return/  if (reply.status != BS_DONE) return/

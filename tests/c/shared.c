@@ -2144,6 +2144,22 @@ static void a_path_is_tried(void) {
   close_table();
 }
 
+/* A reader wants fewer nodes once one above them is had, that is a parent too. */
+static void a_reader_skips_a_parent(void) {
+  bs_node parents[2], node;
+  bs_txn t, u;
+  set_up(BS_AT_BLOCK);
+  parents[0] = DONE(bs_table_add_inner(table, &root, 1)).node;
+  parents[1] = root;
+  node = DONE(bs_table_add_inner(table, parents, 2)).node;
+  t = begin(), u = begin();
+  DONE(try_path(t, node, BS_S, BS_KEEP_NOTHING));
+  DONE(bs_table_lock_path(table, u, node, BS_S, NULL));
+  WANT(locks_of(t) == 2 && locks_of(u) == 2);
+  holds(t, root, BS_IS), holds(t, parents[0], BS_NL);
+  close_table();
+}
+
 /* One that would block on its last node, or above it, keeps its way or gives it back. */
 static void a_try_gives_back_its_way(void) {
   bs_txn a, b, t;
@@ -3485,6 +3501,7 @@ int main(int count, char **words) {
   TELL(a_path_goes_on_in_a_list);
   TELL(commands_that_are_none);
   TELL(a_path_is_tried);
+  TELL(a_reader_skips_a_parent);
   TELL(a_try_gives_back_its_way);
   TELL(a_raised_parent_stays);
   TELL(a_parent_of_what_was_read_stays);
