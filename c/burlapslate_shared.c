@@ -7,7 +7,9 @@
  * one. Written in C here, and tested: the mutex and the conditions, and the line of those who sleep for a slot. They
  * are in table_enter, round each call; table_wake, behind each command; table_hand_on, behind what may have ended a
  * transaction; table_sleep, where a lock waits; table_sleep_in_line, where a begin does; bs_table_end; and
- * table_watch_over, the thread that watches. All else here makes calls of burlapslate.h between these.
+ * table_watch_over, the thread that watches. So is what several calls with the manager come to together, of which each
+ * is proved: table_try_up and table_give_back, of a path that is tried, and table_row_tried, of a row. All else here
+ * makes calls of burlapslate.h between these.
  */
 #include "burlapslate_shared.h"
 
@@ -557,6 +559,104 @@ bs_reply bs_table_lock_path(bs_table *table, bs_txn txn, bs_node node, bs_mode m
 }
 
 /* ------------------------------------------------------------------------------------------------
+ * Paths that are tried.
+ */
+
+/* How many nodes above a path that is tried keeps, and how many that it took without memory for them. */
+enum { TABLE_MOST_ABOVE = 16, TABLE_FEW_TAKEN = 32 };
+
+/* A path that is tried, in the frame of its own call. */
+typedef struct table_try {
+  bs_txn txn;
+  bs_node node;
+  bs_mode mode;
+  bs_node above[TABLE_MOST_ABOVE]; /* the nodes above that are known to be wanted, upwards */
+  size_t height;                   /* how many these are */
+  bool is_kept;                    /* what it took stays, however it ends */
+  bs_node few[TABLE_FEW_TAKEN];
+  bs_node *taken;                  /* else what it took anew, in that order: `few`, or a list that is freed */
+  size_t count, room;
+} table_try;
+
+/* Notes nodes in a list that is twice as long; whether there is one. */
+static TABLE_APART bool table_note_more(table_try *path) {
+  bs_node *more = (bs_node *)malloc(2 * path->room * sizeof *more);
+  if (more == NULL) return false;
+  memcpy(more, path->taken, path->count * sizeof *more);
+  if (path->taken != path->few) free(path->taken);
+  path->taken = more;
+  path->room *= 2;
+  return true;
+}
+
+/* Asks for a node by a try, and notes it where it is taken anew. The place for that is there before. */
+static bs_reply table_try_at(bs_table *table, table_try *path, bs_node node, bs_mode mode) {
+  bs_manager *m = &table->manager;
+  bool is_noted = !path->is_kept && path->height > 0 && bs_held(m, path->txn, node).mode == BS_NL;
+  bs_reply reply;
+  if (is_noted && path->count == path->room && !table_note_more(path)) return bs_call_only(BS_NO_MEMORY);
+  reply = bs_try(m, path->txn, node, mode);
+  if (reply.status == BS_DONE && is_noted) path->taken[path->count++] = node;
+  if (reply.status == BS_WOULD_BLOCK) reply.node = node;
+  return reply;
+}
+
+/* Makes the tries of a path up to its end. Which node comes first the manager says: a try that is refused for want of a
+ * parent names it, and the climb goes on from there. It comes to an end, since no path of the graph closes. Behind a
+ * grant a writer goes down by one; a reader may want fewer then, and climbs anew. Each grant is counted, so that the
+ * path ends where the count does, if not before. Where a way is longer than what is kept, those below are forgotten,
+ * to be found again. */
+static bs_reply table_try_up(bs_table *table, table_try *path) {
+  bs_mode intention = path->mode == BS_IS || path->mode == BS_S ? BS_IS : BS_IX;
+  for (;;) {
+    bool is_last = path->height == 0;
+    bs_node next = is_last ? path->node : path->above[path->height - 1];
+    bs_reply reply = table_try_at(table, path, next, is_last ? path->mode : intention);
+    if (reply.status == BS_NEED_PARENTS) {
+      if (path->height == TABLE_MOST_ABOVE) path->height = 0;
+      path->above[path->height++] = reply.node;
+    } else if (reply.status != BS_DONE || is_last) {
+      return reply;
+    } else {
+      path->height = intention == BS_IS ? 0 : path->height - 1;
+    }
+  }
+}
+
+/* Releases what a path took anew, the last first: so children go before their parents. What the transaction holds a
+ * child of since before stays. Nobody could come to wait for any of them in this hold of the latch, so nobody is woken;
+ * but it is not left to that. */
+static TABLE_APART void table_give_back(bs_table *table, table_try *path) {
+  while (path->count > 0) {
+    bs_reply reply = bs_unlock(&table->manager, path->txn, path->taken[--path->count], &table->told);
+    table_wake(table, reply.status, &table->told, false);
+  }
+}
+
+/* Tries a path with the latch held. */
+static TABLE_APART bs_reply table_path_tried(bs_table *table, bs_txn txn, bs_node node, bs_mode mode, uint32_t keep) {
+  table_try path;
+  bs_reply reply;
+  if (keep > BS_KEEP_WAY) return bs_call_only(BS_BAD_NUMBER);
+  path.txn = txn;
+  path.node = node;
+  path.mode = mode;
+  path.height = 0;
+  path.is_kept = keep == BS_KEEP_WAY;
+  path.taken = path.few;
+  path.count = 0;
+  path.room = TABLE_FEW_TAKEN;
+  reply = table_try_up(table, &path);
+  if (reply.status != BS_DONE) table_give_back(table, &path);
+  if (path.taken != path.few) free(path.taken);
+  return reply;
+}
+
+bs_reply bs_table_try_path(bs_table *table, bs_txn txn, bs_node node, bs_mode mode, uint32_t keep) {
+  TABLE_ASK(table, table_path_tried(table, txn, node, mode, keep));
+}
+
+/* ------------------------------------------------------------------------------------------------
  * Records, nodes that move, and what a schema changes.
  */
 
@@ -628,18 +728,64 @@ static bs_reply table_row_inside(bs_table *table, bs_txn txn, const table_row *r
   return reply;
 }
 
-bs_reply bs_table_lock_row(bs_table *table, bs_txn txn, bs_node file, uint64_t number, const uint64_t *keys,
-                           size_t count, bs_mode mode, const struct timespec *until) {
+static table_row table_row_of(bs_node file, uint64_t number, const uint64_t *keys, size_t count) {
   table_row row;
-  bs_reply reply;
   row.file = file;
   row.number = number;
   row.keys = keys;
   row.count = count;
+  return row;
+}
+
+bs_reply bs_table_lock_row(bs_table *table, bs_txn txn, bs_node file, uint64_t number, const uint64_t *keys,
+                           size_t count, bs_mode mode, const struct timespec *until) {
+  table_row row = table_row_of(file, number, keys, count);
+  bs_reply reply;
   if (!table_enter_until(table, until)) return table_no_sleep(table);
   reply = table_row_inside(table, txn, &row, mode, until);
   pthread_mutex_unlock(&table->latch);
   return reply;
+}
+
+/* Of a row that a try has just locked by its node: asks for it as a row, which waits for nothing then. So the row is
+ * noted for the transaction, which lets it go in the end, and it is heard whether the keys are its node's own. Where
+ * that is refused, a row that was not held before is given back; else it stays held, and its keys are looked at
+ * again. */
+static bs_reply table_row_noted(bs_table *table, bs_txn txn, const table_row *row, bs_reply tried, bool was_held) {
+  bs_manager *m = &table->manager;
+  bs_reply reply = table_ask_row(table, txn, row, tried.mode);
+  if (reply.status == BS_DONE || reply.status == BS_OTHER_KEYS) return reply;
+  if (!was_held) {
+    bs_status status = bs_unlock_row(m, txn, row->file, row->number, &table->told).status;
+    table_wake(table, status, &table->told, false);
+    if (status == BS_DONE) return reply;
+  }
+  tried.status = BS_OTHER_KEYS;
+  return tried;
+}
+
+/* Tries a row with the latch held. A row without a node gets one, and so may one whose node nobody holds: nobody is to
+ * be waited for then, since a queue stands behind a holder alone. Any other is locked by the node that it has, if that
+ * can be done at once. */
+static TABLE_APART bs_reply table_row_tried(bs_table *table, bs_txn txn, const table_row *row, bs_mode mode) {
+  bs_manager *m = &table->manager;
+  bs_node node;
+  bs_reply reply;
+  bool was_held;
+  if (row->keys == NULL && row->count != 0) return bs_call_null();
+  reply = bs_row_node(m, row->file, row->number);
+  node = reply.node;
+  if (reply.status != BS_DONE || bs_group(m, node).mode == BS_NL) return table_ask_row(table, txn, row, mode);
+  was_held = bs_held(m, txn, node).mode != BS_NL;
+  reply = bs_try(m, txn, node, mode);
+  if (reply.status == BS_DONE || reply.status == BS_WOULD_BLOCK) reply.node = node;
+  return reply.status == BS_DONE ? table_row_noted(table, txn, row, reply, was_held) : reply;
+}
+
+bs_reply bs_table_try_row(bs_table *table, bs_txn txn, bs_node file, uint64_t number, const uint64_t *keys,
+                          size_t count, bs_mode mode) {
+  table_row row = table_row_of(file, number, keys, count);
+  TABLE_ASK(table, table_row_tried(table, txn, &row, mode));
 }
 
 bs_reply bs_table_unlock_row(bs_table *table, bs_txn txn, bs_node file, uint64_t number, bs_notices *told) {
@@ -678,6 +824,12 @@ static bs_reply table_path_made(bs_table *table, const bs_command *c, bs_txn txn
   return reply;
 }
 
+/* A row in a list that is tried. */
+static bs_reply table_row_made(bs_table *table, const bs_command *c, bs_txn txn) {
+  table_row row = table_row_of(c->file, c->number, c->keys, c->key_count);
+  return table_row_tried(table, txn, &row, c->mode);
+}
+
 /* Makes a command of those that ask for locks or give them back, but for the most frequent. */
 static TABLE_APART bs_reply table_other_made(bs_table *table, const bs_command *c, bs_txn txn, bs_notices *told) {
   bs_manager *m = &table->manager;
@@ -691,6 +843,8 @@ static TABLE_APART bs_reply table_other_made(bs_table *table, const bs_command *
     case BS_DO_SETTLE: return bs_settle(m, txn, told);
     case BS_DO_LOCK_ROW: return bs_lock_row(m, txn, c->file, c->number, c->keys, c->key_count, c->mode, told);
     case BS_DO_UNLOCK_ROW: return bs_unlock_row(m, txn, c->file, c->number, told);
+    case BS_DO_TRY_PATH: return table_path_tried(table, txn, c->node, c->mode, c->keep);
+    case BS_DO_TRY_ROW: return table_row_made(table, c, txn);
     default: return bs_call_only(BS_BAD_NUMBER);
   }
 }
@@ -750,15 +904,18 @@ static bs_status table_run_next(bs_table *table, bs_command *next, bs_txn begun)
   return next->reply.status;
 }
 
+/* Of a list whose table was not entered: the first command is refused so. */
+static TABLE_APART size_t table_none_made(bs_table *table, bs_command *commands, size_t count) {
+  commands[0].reply = table_tell_none(table, commands[0].told);
+  table_not_made(commands + 1, count - 1);
+  return 0;
+}
+
 size_t bs_table_run(bs_table *table, bs_command *commands, size_t count) {
   bs_txn begun = bs_begun();
   size_t done = 0;
   if (commands == NULL || count == 0) return 0;
-  if (!table_enter(table)) {
-    commands[0].reply = table_tell_none(table, commands[0].told);
-    table_not_made(commands + 1, count - 1);
-    return 0;
-  }
+  if (!table_enter(table)) return table_none_made(table, commands, count);
   while (done < count) {
     bs_command *next = &commands[done];
     if (table_run_next(table, next, begun) != BS_DONE) break;
@@ -769,6 +926,25 @@ size_t bs_table_run(bs_table *table, bs_command *commands, size_t count) {
   pthread_mutex_unlock(&table->latch);
   if (done < count) table_not_made(commands + done + 1, count - done - 1);
   return done;
+}
+
+/* Makes the next try of a list, and writes its reply. What is no try is refused. */
+static bs_status table_try_one(bs_table *table, bs_command *next) {
+  bool is_try = next->kind == BS_DO_TRY || next->kind == BS_DO_TRY_PATH || next->kind == BS_DO_TRY_ROW;
+  if (is_try) return table_run_next(table, next, bs_begun());
+  if (next->told != NULL) next->told->count = 0;
+  next->reply = bs_call_only(BS_BAD_NUMBER);
+  return BS_BAD_NUMBER;
+}
+
+size_t bs_table_try_first(bs_table *table, bs_command *commands, size_t count) {
+  size_t place = 0;
+  if (commands == NULL || count == 0) return count;
+  if (!table_enter(table)) return table_none_made(table, commands, count);
+  while (place < count && table_try_one(table, &commands[place]) == BS_WOULD_BLOCK) place++;
+  pthread_mutex_unlock(&table->latch);
+  if (place < count) table_not_made(commands + place + 1, count - place - 1);
+  return place;
 }
 
 /* ------------------------------------------------------------------------------------------------

@@ -136,6 +136,28 @@ bs_reply bs_table_lock_path(bs_table *table, bs_txn txn, bs_node node, bs_mode m
 bs_reply bs_table_await(bs_table *table, bs_txn txn, bs_node node, bs_mode mode, const struct timespec *until);
 
 bs_reply bs_table_try(bs_table *table, bs_txn txn, bs_node node, bs_mode mode);
+
+/* What a try of a path that is not done keeps of the locks that it took on the way. */
+enum bs_keeps { BS_KEEP_NOTHING = 0, BS_KEEP_WAY = 1 };
+
+/* Locks a node with what has to be held above it, the locks that bs_lock_path asks for, but each by bs_try, in one hold
+ * of the latch. It never sleeps, joins no queue and fells nobody; it passes who waits only as bs_try does. BS_DONE:
+ * `mode` is the mode in which the node is held. BS_WOULD_BLOCK: `node` is the one that cannot be had at once, which is
+ * the node itself or one above it. Refused as bs_lock_path before anything is locked, in its order; BS_WOULD_BLOCK,
+ * BS_NO_MEMORY and BS_WORN_OUT may come behind some of the locks. Refused with BS_BAD_NUMBER, first of all, also where
+ * `keep` is none of enum bs_keeps. Takes memory.
+ * Where it is not done behind some of the locks, `keep` says what becomes of these. With BS_KEEP_WAY they stay. With
+ * BS_KEEP_NOTHING each node that this call took anew is released again, the last first, which wakes nobody. There stays
+ * all the same:
+ *   - a node that was held before, in the mode to which it was raised: no command lowers a mode, and what was held
+ *     before is not known any more;
+ *   - a node above one that was held before, by another parent: bs_unlock refuses it with BS_HELD_CHILD, and so it does
+ *     those above it;
+ *   - behind BS_WORN_OUT all of them.
+ * Each lock and each release is a command of its own, which bs_counters counts. Costs these, and a try for each node on
+ * the way that is wanting. */
+bs_reply bs_table_try_path(bs_table *table, bs_txn txn, bs_node node, bs_mode mode, uint32_t keep);
+
 bs_reply bs_table_unlock(bs_table *table, bs_txn txn, bs_node node, bs_notices *told);
 
 /* Takes a wait back, and wakes who sleeps for it: that one is answered BS_NOT_WAITING. So is one whose wait on the way
@@ -179,6 +201,15 @@ bs_reply bs_table_index_by(bs_table *table, bs_txn txn, const bs_node *parents, 
 bs_reply bs_table_lock_row(bs_table *table, bs_txn txn, bs_node file, uint64_t number, const uint64_t *keys,
                            size_t count, bs_mode mode, const struct timespec *until);
 
+/* As bs_table_lock_row, but where the row would have to be waited for it is refused with BS_WOULD_BLOCK, after the
+ * other refusals, and `node` is the row's node. It never sleeps, joins no queue and fells nobody. Where it is refused
+ * no lock was changed: where there is no memory to note the row for its transaction, it is given back. A row that the
+ * transaction held before cannot be, and then the answer is BS_OTHER_KEYS: it is held in `mode`, and its keys are
+ * looked at again. So it is where the last number went for the lock. A row that has a holder costs two commands, which
+ * bs_counters counts. Takes memory. */
+bs_reply bs_table_try_row(bs_table *table, bs_txn txn, bs_node file, uint64_t number, const uint64_t *keys,
+                          size_t count, bs_mode mode);
+
 bs_reply bs_table_unlock_row(bs_table *table, bs_txn txn, bs_node file, uint64_t number, bs_notices *told);
 bs_reply bs_table_rekey_row(bs_table *table, bs_txn txn, bs_node file, uint64_t number, bs_node index, uint64_t key,
                             bs_notices *told);
@@ -194,7 +225,7 @@ enum bs_command_kinds {
   BS_DO_BEGIN = 1, BS_DO_LOCK, BS_DO_LOCK_PATH, BS_DO_TRY, BS_DO_UNLOCK, BS_DO_ESCALATE, BS_DO_CANCEL, BS_DO_COMMIT,
   BS_DO_ABORT, BS_DO_SETTLE, BS_DO_INSERT, BS_DO_DELETE, BS_DO_ADOPT, BS_DO_FORGET, BS_DO_REKEY, BS_DO_MOVE, BS_DO_DROP,
   BS_DO_ADD_INNER, BS_DO_ADD_FILE, BS_DO_ADD_ROW_FILE, BS_DO_ADD_INDEX, BS_DO_INDEX_BY, BS_DO_LOCK_ROW,
-  BS_DO_UNLOCK_ROW, BS_DO_REKEY_ROW
+  BS_DO_UNLOCK_ROW, BS_DO_REKEY_ROW, BS_DO_TRY_PATH, BS_DO_TRY_ROW
 };
 
 /* A command of a list. It is written with the names of its fields, all others zero, or made by a function below. All
@@ -215,7 +246,8 @@ typedef struct bs_command {
   const uint64_t *bounds;
   size_t bound_count;
   bs_notices *told; /* may be null */
-  bs_reply reply;   /* written by bs_table_run */
+  uint32_t keep;    /* of BS_DO_TRY_PATH, of enum bs_keeps */
+  bs_reply reply;   /* written by bs_table_run and bs_table_try_first */
 } bs_command;
 
 /* A command of a transaction, with all other fields zero. Until a run writes it the reply is BS_NOT_MADE. */
@@ -258,6 +290,19 @@ static inline bs_txn bs_begun(void) {
  * BS_TOO_MANY_TXNS while somebody sleeps in bs_table_begin_in_turn: a slot that the list has freed goes to that one,
  * behind its last command. */
 size_t bs_table_run(bs_table *table, bs_command *commands, size_t count);
+
+/* Makes tries one behind the other in one hold of the latch, each BS_DO_TRY, BS_DO_TRY_PATH or BS_DO_TRY_ROW, up to the
+ * first that is answered otherwise than BS_WOULD_BLOCK: the place of that one, from 0 on, or `count` where there is
+ * none. Those ahead of it were passed over. Of a path that is passed over nothing is kept, but where its `keep` says so
+ * or bs_table_try_path does. It never sleeps, joins no queue and fells nobody. The reply of the one at that place says
+ * what it came to:
+ *   - BS_DONE: it is the one that was taken;
+ *   - BS_OTHER_KEYS: it was taken too, and is a row whose keys are looked at again;
+ *   - else it was refused so, and none was taken.
+ * Those behind it were not made, and their replies are BS_NOT_MADE. A kind that is no try is refused with
+ * BS_BAD_NUMBER. Where the table is refused, so is the first command, at place 0; a list that is null has none that
+ * is taken. */
+size_t bs_table_try_first(bs_table *table, bs_command *commands, size_t count);
 
 /* ------------------------------------------------------------------------------------------------
  * Questions.

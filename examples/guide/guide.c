@@ -83,6 +83,8 @@ int main(void) {
   TELL(sessions_in_threads);
   TELL(several_in_one_hold);
   TELL(more_clients_than_slots);
+  TELL(locks_that_do_not_wait);
+  TELL(jobs_in_a_table);
   TELL(which_node_for_what);
   TELL(pages_as_records);
   TELL(rows_while_they_are_locked);

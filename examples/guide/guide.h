@@ -42,6 +42,10 @@ void sessions_in_threads(void);
 void several_in_one_hold(void);
 void more_clients_than_slots(void);
 
+/* tries.c */
+void locks_that_do_not_wait(void);
+void jobs_in_a_table(void);
+
 /* nodes.c */
 void which_node_for_what(void);
 void pages_as_records(void);

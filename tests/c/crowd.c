@@ -670,6 +670,42 @@ static bs_reply run_rows(struct session *s) {
   return reply;
 }
 
+/* A try never waits, and fells nobody that asks by it. */
+static bs_reply as_tried(bs_reply reply) {
+  WANT(reply.status != BS_WAITING && reply.status != BS_VICTIM && reply.status != BS_ON_THE_WAY);
+  return reply;
+}
+
+static bs_reply try_path(struct session *s) {
+  bs_node node = pick(s, 2) == 0 ? any_record(s) : any_node(s);
+  bs_mode mode = pick(s, 2) == 0 ? BS_X : any_mode(s);
+  return as_tried(bs_table_try_path(table, s->txn, node, mode, (uint32_t)pick(s, 2)));
+}
+
+/* The first of three rows that is free, in one file. */
+static bs_reply skip_rows(struct session *s) {
+  size_t i = pick(s, FILES), place;
+  uint64_t keys[3], key = pick(s, 100);
+  bs_command list[3];
+  bs_reply reply = ask_path(s, row_interval(i, 0), BS_IX);
+  if (reply.status == BS_DONE) reply = ask_path(s, row_files[i], BS_IX);
+  if (reply.status != BS_DONE) return reply;
+  for (place = 0; place < 3; place++) {
+    keys[place] = key;
+    list[place] = bs_do(BS_DO_TRY_ROW, s->txn);
+    list[place].file = row_files[i];
+    list[place].number = pick(s, ROWS);
+    list[place].keys = &keys[place];
+    list[place].key_count = 1;
+    list[place].mode = BS_X;
+  }
+  place = bs_table_try_first(table, list, 3);
+  if (place == 3) return as_tried(list[2].reply);
+  reply = as_tried(list[place].reply);
+  if (reply.status == BS_DONE || reply.status == BS_OTHER_KEYS) change(s, i, list[place].number);
+  return reply;
+}
+
 /* How often a transaction stands in a queue. */
 static size_t times_in_queue(const bs_manager *m, bs_txn txn, bs_node node) {
   bs_reply waiter;
@@ -735,6 +771,8 @@ static bs_reply any_command(struct session *s) {
     case 23: return as_served(bs_table_unlock_row(table, s->txn, row_files[pick(s, FILES)], pick(s, ROWS), NULL));
     case 24: return run_rows(s);
     case 25: return change_index(s);
+    case 26: return try_path(s);
+    case 27: case 28: return skip_rows(s);
     default: return add(s);
   }
 }

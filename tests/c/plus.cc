@@ -35,6 +35,11 @@ static bool shares() {
   while (!waits(b)) continue;
   bs_command list[2] = {};
   list[0] = bs_do(BS_DO_COMMIT, a);
+  if (bs_table_try_path(table, a, root, BS_S, BS_KEEP_NOTHING).mode != BS_S) return false;
+  if (bs_table_try_row(table, a, root, 1, NULL, 0, BS_X).status != BS_NOT_ROWS) return false;
+  list[1] = bs_do_at(BS_DO_TRY_PATH, a, root, BS_S);
+  if (bs_table_try_first(table, list + 1, 1) != 0 || list[1].reply.mode != BS_S) return false;
+  list[1] = bs_command();
   if (bs_table_run(table, list, 2) != 1 || list[1].reply.status != BS_BAD_NUMBER) return false;
   if (pthread_join(thread, &came) != 0 || came == NULL) return false;
   FILE *nowhere = fopen("/dev/null", "w");

@@ -1,7 +1,7 @@
 #!/usr/bin/env bash
 # run.sh [--slots N]: compiles the stories over the C library, and runs them. Prints a line for each story, of one thread
 # and of a shared table, and for each setting of a crowd. A program with the headers of another library is refused, and
-# one that gives a command a manager that is lent is not compiled. Then it plants four faults in the shared table, which
+# one that gives a command a manager that is lent is not compiled. Then it plants six faults in the shared table, which
 # the stories must find. Ends with status 1 where something is not as wanted; where there is no C compiler it says so, and
 # ends with status 77: not tried. CC names another compiler than cc. N is the number of slots of the library, 128 or 1024
 # (tools/c_library.sh); faults are planted for 128 alone.
@@ -105,4 +105,5 @@ with PATCH 999 && compile stories -Wl,--wrap=malloc,--wrap=realloc,--wrap=free |
 timeout 60 "$work/stories" >"$work/log" || fails "a library of another last number is refused"
 [ "$slots" = 128 ] || exit 0
 "$top/tests/c/faults.sh" commit-forgets-to-wake early-return row-is-not-asked-again begin-passes-the-line \
+  try-path-keeps-what-it-took try-row-joins-the-queue \
   "${libraries[@]:1}" || exit 1

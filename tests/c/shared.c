@@ -10,6 +10,7 @@
 #include "burlapslate.h"
 #include "memory.h"
 
+#include <sched.h>
 #include <stdarg.h>
 #include <stdio.h>
 
@@ -23,6 +24,49 @@ static bs_reply noted_begin(bs_manager *m) {
 }
 
 #define bs_begin(m) noted_begin(m)
+
+/* So many tries, releases and rows of the header are counted, and then the numbers are at their end; below 0 they never
+ * are. And so many rows are refused memory. */
+static long numbers_left = -1;
+static int refused_rows;
+
+static bs_reply counted(bs_reply reply) {
+  if (reply.status == BS_DONE && numbers_left > 0) numbers_left--;
+  return reply;
+}
+
+#define is_worn() (numbers_left == 0)
+
+static bs_reply noted_try(bs_manager *m, bs_txn txn, bs_node node, bs_mode mode) {
+  return is_worn() ? bs_call_only(BS_WORN_OUT) : counted(bs_try(m, txn, node, mode));
+}
+
+/* How many releases told somebody. */
+static size_t told_by_release;
+
+static bs_reply noted_unlock(bs_manager *m, bs_txn txn, bs_node node, bs_notices *list) {
+  bs_reply reply = is_worn() ? bs_call_only(BS_WORN_OUT) : counted(bs_unlock(m, txn, node, list));
+  if (list->count > 0) told_by_release++;
+  return reply;
+}
+
+static bs_reply noted_unlock_row(bs_manager *m, bs_txn txn, bs_node rows, uint64_t number, bs_notices *list) {
+  return is_worn() ? bs_call_only(BS_WORN_OUT) : counted(bs_unlock_row(m, txn, rows, number, list));
+}
+
+static bs_reply noted_lock_row(bs_manager *m, bs_txn txn, bs_node rows, uint64_t number, const uint64_t *keys,
+                               size_t count, bs_mode mode, bs_notices *list) {
+  if (is_worn()) return bs_call_only(BS_WORN_OUT);
+  if (refused_rows == 0) return counted(bs_lock_row(m, txn, rows, number, keys, count, mode, list));
+  refused_rows--;
+  return bs_call_only(BS_NO_MEMORY);
+}
+
+#define bs_try(m, txn, node, mode) noted_try(m, txn, node, mode)
+#define bs_unlock(m, txn, node, list) noted_unlock(m, txn, node, list)
+#define bs_unlock_row(m, txn, rows, number, list) noted_unlock_row(m, txn, rows, number, list)
+#define bs_lock_row(m, txn, rows, number, keys, count, mode, list) \
+  noted_lock_row(m, txn, rows, number, keys, count, mode, list)
 
 /* Where the header makes a condition for one who comes to sleep for a slot, with the latch held, the number of its
  * arrival is noted. */
@@ -48,6 +92,10 @@ static int noted_fprintf(FILE *out, const char *format, ...) __attribute__((form
 #undef bs_end
 #undef fprintf
 #undef bs_begin
+#undef bs_try
+#undef bs_unlock
+#undef bs_unlock_row
+#undef bs_lock_row
 
 #include "threads.h"
 
@@ -1938,7 +1986,7 @@ static void commands_that_are_none(void) {
   WANT(list[1].reply.status == BS_NOT_MADE && list[2].reply.status == BS_NOT_MADE);
   WANT(bs_do(BS_DO_COMMIT, a).reply.status == BS_NOT_MADE);
   WANT(bs_do_at(BS_DO_TRY, a, root, BS_X).reply.status == BS_NOT_MADE);
-  for (kind = BS_DO_REKEY_ROW + 1; kind != 0; kind <<= 1) {
+  for (kind = BS_DO_TRY_ROW + 1; kind != 0; kind <<= 1) {
     list[0] = bs_do_at(kind, a, root, BS_X);
     WANT(bs_table_run(table, list, 1) == 0 && list[0].reply.status == BS_BAD_NUMBER);
   }
@@ -2028,6 +2076,679 @@ static void every_command_of_a_schema(void) {
   list[6] = bs_do(BS_DO_COMMIT, bs_begun());
   WANT(bs_table_run(table, list, 7) == 7 && ASK(table, bs_kind, table_node).status == BS_NO_SUCH_NODE);
   WANT(bs_table_run(table, list, 7) == 2 && list[2].reply.status == BS_NO_SUCH_NODE);
+  close_table();
+}
+
+/* ------------------------------------------------------------------------------------------------
+ * Tries, which join no queue.
+ */
+
+static bs_reply try_path(bs_txn t, bs_node node, bs_mode mode, uint32_t keep) {
+  return bs_table_try_path(table, t, node, mode, keep);
+}
+
+/* It would have had to wait for this node. */
+static void would_block(bs_reply reply, bs_node at) {
+  ANSWERS(BS_WOULD_BLOCK, reply);
+  WANT(same_node(reply.node, at));
+}
+
+static uint64_t locks_of(bs_txn t) {
+  return DONE(ASK(table, bs_lock_count, t)).count;
+}
+
+static uint64_t queue_at(bs_node node) {
+  return DONE(ASK(table, bs_queue_len, node)).count;
+}
+
+static bool is_active(bs_txn t) {
+  return DONE(ASK(table, bs_doing, t)).count == BS_ACTIVE;
+}
+
+/* What is held of the store: six modes. */
+static void see_modes(bs_txn t, bs_mode *modes) {
+  modes[0] = ASK(table, bs_held, t, root).mode;
+  modes[1] = ASK(table, bs_held, t, file).mode;
+  modes[2] = ASK(table, bs_held, t, by_key).mode;
+  modes[3] = ASK(table, bs_held, t, below).mode;
+  modes[4] = ASK(table, bs_held, t, low).mode;
+  modes[5] = ASK(table, bs_held, t, high).mode;
+}
+
+/* A path that is free is locked as bs_table_lock_path locks it, also where some of it is held already. */
+static void a_path_is_tried(void) {
+  bs_mode mode, first, one[6], other[6];
+  bs_node nodes[4];
+  size_t i;
+  set_up(BS_AT_BLOCK);
+  nodes[0] = root, nodes[1] = file, nodes[2] = below, nodes[3] = low;
+  for (i = 0; i < 4; i++) {
+    for (mode = BS_IS; mode <= BS_X; mode++) {
+      for (first = BS_NL; first <= BS_X; first++) {
+        bs_txn t = begin(), u;
+        bs_reply tried, locked;
+        if (first != BS_NL) DONE(bs_table_lock_path(table, t, by_key, first, NULL));
+        tried = try_path(t, nodes[i], mode, i % 2 == 0 ? BS_KEEP_NOTHING : BS_KEEP_WAY);
+        see_modes(t, one);
+        DONE(bs_table_commit(table, t, NULL));
+        u = begin();
+        if (first != BS_NL) DONE(bs_table_lock_path(table, u, by_key, first, NULL));
+        locked = bs_table_lock_path(table, u, nodes[i], mode, NULL);
+        see_modes(u, other);
+        DONE(bs_table_commit(table, u, NULL));
+        WANT(tried.status == locked.status && tried.mode == locked.mode && memcmp(one, other, sizeof one) == 0);
+        WANT(tried.status == (i == 3 && mode != BS_S && mode != BS_X ? BS_BAD_MODE : BS_DONE));
+      }
+    }
+  }
+  close_table();
+}
+
+/* A reader wants fewer nodes once one above them is had, that is a parent too. */
+static void a_reader_skips_a_parent(void) {
+  bs_node parents[2], node;
+  bs_txn t, u;
+  set_up(BS_AT_BLOCK);
+  parents[0] = DONE(bs_table_add_inner(table, &root, 1)).node;
+  parents[1] = root;
+  node = DONE(bs_table_add_inner(table, parents, 2)).node;
+  t = begin(), u = begin();
+  DONE(try_path(t, node, BS_S, BS_KEEP_NOTHING));
+  DONE(bs_table_lock_path(table, u, node, BS_S, NULL));
+  WANT(locks_of(t) == 2 && locks_of(u) == 2);
+  holds(t, root, BS_IS), holds(t, parents[0], BS_NL);
+  close_table();
+}
+
+/* One that would block on its last node, or above it, keeps its way or gives it back. */
+static void a_try_gives_back_its_way(void) {
+  bs_txn a, b, t;
+  set_up(BS_AT_BLOCK);
+  a = begin(), b = begin(), t = begin();
+  DONE(bs_table_lock_path(table, a, low, BS_X, NULL));
+  would_block(try_path(t, low, BS_X, BS_KEEP_NOTHING), low);
+  WANT(locks_of(t) == 0 && is_active(t) && queue_at(low) == 0);
+  would_block(try_path(t, low, BS_S, BS_KEEP_NOTHING), low);
+  WANT(locks_of(t) == 0);
+  would_block(try_path(t, low, BS_S, BS_KEEP_WAY), low);
+  WANT(locks_of(t) == 2);
+  holds(t, root, BS_IS), holds(t, file, BS_IS);
+  would_block(try_path(t, low, BS_S, BS_KEEP_NOTHING), low);
+  WANT(locks_of(t) == 2); /* It took none of them anew. */
+  DONE(bs_table_abort(table, t, NULL));
+  t = begin();
+  would_block(try_path(t, low, BS_X, BS_KEEP_WAY), low);
+  WANT(locks_of(t) == 4);
+  holds(t, root, BS_IX), holds(t, file, BS_IX), holds(t, by_key, BS_IX), holds(t, below, BS_IX);
+  DONE(bs_table_abort(table, t, NULL));
+  DONE(bs_table_commit(table, a, NULL));
+  DONE(bs_table_lock_path(table, b, below, BS_S, NULL));
+  t = begin();
+  would_block(try_path(t, low, BS_X, BS_KEEP_NOTHING), below);
+  WANT(locks_of(t) == 0 && queue_at(below) == 0);
+  would_block(try_path(t, low, BS_X, BS_KEEP_WAY), below);
+  WANT(locks_of(t) == 3 && told_by_release == 0);
+  DONE(bs_table_commit(table, b, NULL));
+  WANT(DONE(try_path(t, low, BS_X, BS_KEEP_NOTHING)).mode == BS_X && locks_of(t) == 5);
+  close_table();
+}
+
+/* A node that was held before stays as it was raised: no mode is ever lowered. What was taken anew goes. */
+static void a_raised_parent_stays(void) {
+  bs_txn a, t;
+  set_up(BS_AT_BLOCK);
+  a = begin(), t = begin();
+  DONE(bs_table_lock_path(table, a, low, BS_S, NULL));
+  DONE(bs_table_lock_path(table, t, file, BS_IS, NULL));
+  would_block(try_path(t, low, BS_X, BS_KEEP_NOTHING), low);
+  WANT(locks_of(t) == 2);
+  holds(t, root, BS_IX), holds(t, file, BS_IX);
+  would_block(try_path(t, low, BS_X, BS_KEEP_NOTHING), low);
+  WANT(locks_of(t) == 2);
+  close_table();
+}
+
+/* A node above one that the transaction read by another parent before stays: its child is held. */
+static void a_parent_of_what_was_read_stays(void) {
+  bs_txn a, t;
+  set_up(BS_AT_BLOCK);
+  a = begin(), t = begin();
+  DONE(bs_table_lock_path(table, a, low, BS_S, NULL));
+  DONE(bs_table_lock_path(table, t, below, BS_IS, NULL));
+  DONE(bs_table_lock(table, t, low, BS_S, NULL));
+  holds(t, file, BS_NL);
+  would_block(try_path(t, low, BS_X, BS_KEEP_NOTHING), low);
+  holds(t, low, BS_S), holds(t, file, BS_IX), holds(t, below, BS_IX), holds(t, by_key, BS_IX), holds(t, root, BS_IX);
+  ANSWERS(BS_HELD_CHILD, bs_table_unlock(table, t, file, NULL));
+  DONE(bs_table_commit(table, a, NULL));
+  DONE(try_path(t, low, BS_X, BS_KEEP_NOTHING));
+  DONE(bs_table_commit(table, t, NULL));
+  close_table();
+}
+
+/* A newcomer passes nobody who waits; one that holds the node already passes, as by any lock. */
+static void a_try_does_not_pass(void) {
+  struct asker one;
+  bs_txn a, b, c;
+  set_up(BS_AT_BLOCK);
+  a = begin(), b = begin(), c = begin();
+  DONE(bs_table_lock_path(table, a, low, BS_S, NULL));
+  send_by_path(&one, b, low, BS_X);
+  would_block(try_path(c, low, BS_S, BS_KEEP_NOTHING), low);
+  WANT(locks_of(c) == 0 && queue_at(low) == 1 && is_active(c));
+  DONE(bs_table_lock_path(table, a, below, BS_IX, NULL));
+  WANT(DONE(try_path(a, low, BS_X, BS_KEEP_NOTHING)).mode == BS_X && queue_at(low) == 1);
+  DONE(bs_table_commit(table, a, NULL));
+  back(&one, BS_DONE);
+  close_table();
+}
+
+/* One that would have closed a cycle of waits fells nobody, and does not fall. */
+static void a_try_fells_nobody(void) {
+  struct asker one;
+  bs_txn older, younger;
+  bs_counts counts;
+  bs_command list[1];
+  set_up(BS_AT_BLOCK);
+  older = begin(), younger = begin();
+  DONE(bs_table_lock_path(table, older, low, BS_X, NULL));
+  DONE(bs_table_lock_path(table, younger, high, BS_X, NULL));
+  send_by_path(&one, younger, low, BS_X);
+  would_block(try_path(older, high, BS_X, BS_KEEP_NOTHING), high);
+  would_block(try_path(older, high, BS_S, BS_KEEP_WAY), high);
+  list[0] = bs_do_at(BS_DO_TRY_PATH, older, high, BS_X);
+  WANT(bs_table_run(table, list, 1) == 0 && list[0].reply.status == BS_WOULD_BLOCK);
+  WANT(bs_table_try_first(table, list, 1) == 1 && list[0].reply.status == BS_WOULD_BLOCK);
+  memset(&counts, 0, sizeof counts);
+  DONE(bs_counters(bs_table_hold(table), &counts));
+  DONE(bs_table_let_go(table));
+  WANT(counts.condemned == 0 && counts.waited == 1 && queue_at(high) == 0 && is_active(older));
+  DONE(bs_table_commit(table, older, NULL));
+  back(&one, BS_DONE);
+  close_table();
+}
+
+/* A try of a path is refused as the path is, before anything is locked. */
+static void a_path_is_refused(void) {
+  bs_node nowhere = { 7, 7 };
+  struct asker one;
+  bs_txn a, b, c, d, gone = { 3, 99 };
+  uint32_t keep;
+  set_up(BS_AT_BLOCK);
+  a = begin(), b = begin(), c = begin(), d = begin();
+  DONE(bs_table_lock(table, b, root, BS_IS, NULL));
+  DONE(bs_table_lock(table, c, root, BS_IS, NULL));
+  send(&one, b, root, BS_X);
+  ANSWERS(BS_VICTIM, bs_table_lock(table, c, root, BS_X, NULL));
+  for (keep = BS_KEEP_NOTHING; keep <= BS_KEEP_WAY; keep++) {
+    ANSWERS(BS_NO_SUCH_TXN, try_path(gone, nowhere, BS_NL, keep));
+    ANSWERS(BS_NO_SUCH_TXN, try_path(bs_begun(), nowhere, BS_NL, keep));
+    ANSWERS(BS_TXN_WAITING, try_path(b, nowhere, BS_NL, keep));
+    ANSWERS(BS_TXN_CONDEMNED, try_path(c, nowhere, BS_NL, keep));
+    ANSWERS(BS_NO_SUCH_NODE, try_path(a, nowhere, BS_NL, keep));
+    ANSWERS(BS_BAD_MODE, try_path(a, low, BS_NL, keep));
+    ANSWERS(BS_BAD_MODE, try_path(a, low, BS_IX, keep));
+    ANSWERS(BS_BAD_NUMBER, try_path(gone, low, BS_X + 1, keep));
+    WANT(locks_of(a) == 0);
+  }
+  for (keep = BS_KEEP_WAY + 1; keep != 0; keep <<= 1) ANSWERS(BS_BAD_NUMBER, try_path(gone, low, BS_X, keep));
+  ANSWERS(BS_BAD_NUMBER, try_path(a, low, BS_KEEP_WAY, BS_X));
+  WANT(locks_of(a) == 0 && queue_at(root) == 1);
+  DONE(bs_table_abort(table, c, NULL));
+  back(&one, BS_DONE);
+  would_block(try_path(d, low, BS_X, BS_KEEP_WAY), root);
+  close_table();
+}
+
+/* A chain of nodes, one under the other, and a lattice of layers, in which each node lies under all of the layer above:
+ * ways that are longer than what a try keeps of them. */
+enum { DEEP = 40, LAYERS = 12, WIDE = 4 };
+
+static bs_node chain[DEEP], lattice[LAYERS][WIDE];
+
+static void set_up_deep(uint32_t detect) {
+  size_t i, j;
+  set_up(detect);
+  chain[0] = DONE(bs_table_add_inner(table, NULL, 0)).node;
+  for (i = 1; i < DEEP; i++) chain[i] = DONE(bs_table_add_inner(table, &chain[i - 1], 1)).node;
+  for (i = 0; i < LAYERS; i++) {
+    for (j = 0; j < WIDE; j++) {
+      lattice[i][j] = DONE(bs_table_add_inner(table, i == 0 ? NULL : lattice[i - 1], i == 0 ? 0 : WIDE)).node;
+    }
+  }
+}
+
+/* All that was taken on such a way is given back, and all of it is taken where nobody has the node. */
+static void long_ways_are_tried(void) {
+  bs_txn a, t;
+  set_up_deep(BS_AT_BLOCK);
+  a = begin(), t = begin();
+  DONE(bs_table_lock_path(table, a, chain[DEEP - 1], BS_S, NULL));
+  DONE(bs_table_lock_path(table, a, lattice[LAYERS - 1][0], BS_S, NULL));
+  would_block(try_path(t, chain[DEEP - 1], BS_X, BS_KEEP_NOTHING), chain[DEEP - 1]);
+  WANT(locks_of(t) == 0);
+  would_block(try_path(t, lattice[LAYERS - 1][0], BS_X, BS_KEEP_NOTHING), lattice[LAYERS - 1][0]);
+  WANT(locks_of(t) == 0);
+  would_block(try_path(t, chain[DEEP - 1], BS_X, BS_KEEP_WAY), chain[DEEP - 1]);
+  WANT(locks_of(t) == DEEP - 1);
+  DONE(bs_table_commit(table, a, NULL));
+  DONE(bs_table_commit(table, t, NULL));
+  t = begin();
+  WANT(DONE(try_path(t, chain[DEEP - 1], BS_S, BS_KEEP_NOTHING)).mode == BS_S && locks_of(t) == DEEP);
+  holds(t, chain[0], BS_IS);
+  WANT(DONE(try_path(t, lattice[LAYERS - 1][0], BS_X, BS_KEEP_NOTHING)).mode == BS_X);
+  WANT(locks_of(t) == DEEP + (LAYERS - 1) * WIDE + 1);
+  holds(t, lattice[0][WIDE - 1], BS_IX);
+  DONE(bs_table_commit(table, t, NULL));
+  t = begin();
+  DONE(try_path(t, lattice[LAYERS - 1][0], BS_S, BS_KEEP_NOTHING));
+  WANT(locks_of(t) == LAYERS); /* A reader needs one parent of each. */
+  close_table();
+}
+
+/* Where memory is refused on the way, all is given back that was taken, or kept; and it can be asked again. */
+static void a_try_without_memory(void) {
+  uint32_t keep;
+  long refused = 0;
+  for (keep = BS_KEEP_NOTHING; keep <= BS_KEEP_WAY; keep++) {
+    bs_status status = BS_NO_MEMORY;
+    long n;
+    for (n = 1; status == BS_NO_MEMORY; n++) {
+      uint64_t kept;
+      bs_txn t;
+      set_up_deep(BS_AT_BLOCK);
+      t = begin();
+      refused_growth = n;
+      status = try_path(t, chain[DEEP - 1], BS_X, keep).status;
+      refused_growth = 0;
+      kept = locks_of(t);
+      WANT(status == BS_DONE ? kept == DEEP : status == BS_NO_MEMORY && (kept == 0 || keep == BS_KEEP_WAY));
+      if (kept > 0 && kept < DEEP) refused++;
+      DONE(try_path(t, chain[DEEP - 1], BS_X, keep));
+      WANT(locks_of(t) == DEEP);
+      close_table();
+    }
+    WANT(status == BS_DONE && n > 2);
+  }
+  WANT(refused > 0);
+}
+
+/* At the end of the numbers nothing can be released any more: what was taken stays. */
+static void a_try_without_numbers(void) {
+  bs_txn t;
+  set_up(BS_AT_BLOCK);
+  t = begin();
+  numbers_left = 2;
+  ANSWERS(BS_WORN_OUT, try_path(t, low, BS_X, BS_KEEP_NOTHING));
+  numbers_left = -1;
+  WANT(locks_of(t) == 2);
+  holds(t, root, BS_IX), holds(t, file, BS_IX);
+  close_table();
+}
+
+static bs_reply try_row(bs_txn t, uint64_t number, uint64_t key, bs_mode mode) {
+  return bs_table_try_row(table, t, rows, number, &key, 1, mode);
+}
+
+static bs_node row_node(uint64_t number) {
+  return DONE(ASK(table, bs_row_node, rows, number)).node;
+}
+
+/* A row that is free: without a node it gets one; and one whose node nobody holds is made anew with these keys. */
+static void a_row_is_tried(void) {
+  bs_node before;
+  bs_reply now;
+  bs_txn t, u;
+  set_up_rows(BS_AT_BLOCK);
+  t = begin_writer(OLD_KEY), u = begin_writer(NEW_KEY);
+  now = DONE(try_row(t, 7, OLD_KEY, BS_S));
+  before = now.node;
+  WANT(now.mode == BS_S && same_node(before, row_node(7)));
+  now = DONE(try_row(t, 7, OLD_KEY, BS_X)); /* It is held in a lower mode. */
+  WANT(now.mode == BS_X && same_node(now.node, before));
+  WANT(DONE(try_row(t, 7, OLD_KEY, BS_S)).mode == BS_X);
+  ANSWERS(BS_OTHER_KEYS, try_row(t, 7, NEW_KEY, BS_X));
+  DONE(bs_table_unlock(table, t, before, NULL)); /* That lets no row go. */
+  WANT(has_node(7));
+  WANT(same_node(DONE(try_row(t, 7, OLD_KEY, BS_X)).node, before));
+  DONE(bs_table_unlock(table, t, before, NULL));
+  now = DONE(try_row(u, 7, NEW_KEY, BS_X));
+  WANT(now.mode == BS_X && !same_node(now.node, before) && same_node(now.node, row_node(7)));
+  WANT(ASK(table, bs_key, now.node, 0).count == NEW_KEY);
+  DONE(bs_table_unlock(table, u, now.node, NULL));
+  WANT(same_node(ANSWERS(BS_NEED_PARENTS, try_row(u, 7, OLD_KEY, BS_X)).node, rows_below));
+  WANT(same_node(ANSWERS(BS_NEED_PARENTS, try_row(t, 7, NEW_KEY, BS_X)).node, rows_above));
+  DONE(bs_table_commit(table, t, NULL));
+  DONE(try_row(u, 7, NEW_KEY, BS_X));
+  DONE(bs_table_commit(table, u, NULL));
+  WANT(!has_node(7));
+  close_table();
+}
+
+/* A row that others hold: in a mode that goes it is held too, and let go in the end; else nothing is changed. */
+static void a_row_of_others_is_tried(void) {
+  struct row_asker one;
+  bs_reply reply;
+  bs_node node;
+  bs_txn a, b, c, d;
+  set_up_rows(BS_AT_BLOCK);
+  a = begin_writer(OLD_KEY), b = begin_writer(OLD_KEY), c = begin_writer(OLD_KEY), d = begin();
+  node = DONE(try_row(a, 7, OLD_KEY, BS_S)).node;
+  reply = DONE(try_row(b, 7, OLD_KEY, BS_S));
+  WANT(reply.mode == BS_S && same_node(reply.node, node));
+  reply = ANSWERS(BS_OTHER_KEYS, try_row(c, 7, NEW_KEY, BS_S));
+  WANT(reply.mode == BS_S && same_node(reply.node, node));
+  DONE(bs_table_unlock_row(table, c, rows, 7, NULL));
+  WANT(same_node(ANSWERS(BS_NEED_PARENTS, try_row(d, 7, OLD_KEY, BS_S)).node, rows));
+  DONE(bs_table_commit(table, a, NULL));
+  WANT(has_node(7));
+  DONE(bs_table_commit(table, b, NULL));
+  WANT(!has_node(7)); /* The last who holds it lets it go: it was noted for that one. */
+  a = begin_writer(OLD_KEY), b = begin_writer(OLD_KEY);
+  node = DONE(try_row(a, 7, OLD_KEY, BS_X)).node;
+  would_block(try_row(b, 7, OLD_KEY, BS_S), node);
+  would_block(try_row(b, 7, NEW_KEY, BS_X), node);
+  WANT(locks_of(b) == 4 && is_active(b) && queue_at(node) == 0);
+  DONE(bs_table_unlock_row(table, a, rows, 7, NULL));
+  DONE(try_row(a, 7, OLD_KEY, BS_S));
+  DONE(try_row(b, 7, OLD_KEY, BS_S));
+  node = row_node(7);
+  would_block(try_row(b, 7, OLD_KEY, BS_X), node);
+  holds(b, node, BS_S);
+  DONE(bs_table_unlock_row(table, b, rows, 7, NULL));
+  send_for_row(&one, b, 7, OLD_KEY);
+  would_block(try_row(c, 7, OLD_KEY, BS_S), node); /* No newcomer passes who waits. */
+  WANT(queue_at(node) == 1 && is_active(c));
+  WANT(DONE(try_row(a, 7, OLD_KEY, BS_X)).mode == BS_X); /* One that holds the row does. */
+  DONE(bs_table_commit(table, a, NULL));
+  back_with_row(&one, BS_DONE);
+  close_table();
+}
+
+/* A try of a row that would have closed a cycle fells nobody. */
+static void a_try_of_a_row_fells_nobody(void) {
+  struct row_asker one;
+  bs_txn older, younger;
+  bs_counts counts;
+  set_up_rows(BS_AT_BLOCK);
+  older = begin_writer(OLD_KEY), younger = begin_writer(OLD_KEY);
+  DONE(try_row(older, 7, OLD_KEY, BS_X));
+  DONE(try_row(younger, 8, OLD_KEY, BS_X));
+  send_for_row(&one, younger, 7, OLD_KEY);
+  would_block(try_row(older, 8, OLD_KEY, BS_X), row_node(8));
+  memset(&counts, 0, sizeof counts);
+  DONE(bs_counters(bs_table_hold(table), &counts));
+  DONE(bs_table_let_go(table));
+  WANT(counts.condemned == 0 && counts.waited == 1 && is_active(older) && queue_at(row_node(8)) == 0);
+  DONE(bs_table_commit(table, older, NULL));
+  back_with_row(&one, BS_DONE);
+  close_table();
+}
+
+/* By each mode and each list of keys: what is refused is refused as the lock of the row is. How many were. */
+static size_t refuses_alike(bs_txn t, bs_node of, uint64_t number) {
+  static const uint64_t keys[2] = { OLD_KEY, NEW_KEY };
+  size_t k, refused = 0;
+  bs_mode mode;
+  for (mode = BS_NL; mode <= BS_X + 1; mode++) {
+    for (k = 0; k < 6; k++) {
+      const uint64_t *list = k % 2 == 0 ? keys : NULL;
+      bs_reply tried = bs_table_try_row(table, t, of, number, list, k / 2, mode), locked;
+      if (tried.status == BS_DONE || tried.status == BS_OTHER_KEYS) {
+        DONE(bs_table_unlock_row(table, t, of, number, NULL));
+      } else if (tried.status != BS_WOULD_BLOCK) {
+        locked = bs_table_lock_row(table, t, of, number, list, k / 2, mode, NULL);
+        WANT(tried.status == locked.status && same_node(tried.node, locked.node));
+        refused++;
+      }
+    }
+  }
+  return refused;
+}
+
+/* So it is of each transaction and each file, of a row with a node and of one without. */
+static void a_row_is_refused(void) {
+  bs_txn txns[5], holder, gone = { 3, 99 };
+  bs_node files[4], other;
+  struct asker one;
+  size_t i, j, refused = 0;
+  set_up_rows(BS_AT_BLOCK);
+  files[0] = rows, files[1] = file, files[2] = root, files[3] = low;
+  for (i = 0; i < 4; i++) txns[i] = begin();
+  txns[4] = gone;
+  holder = begin_writer(OLD_KEY);
+  DONE(try_row(holder, 7, OLD_KEY, BS_S));
+  DONE(lock_above(txns[0], OLD_KEY));
+  DONE(bs_table_lock_path(table, txns[1], rows, BS_IX, NULL));
+  other = DONE(bs_table_add_inner(table, NULL, 0)).node;
+  DONE(bs_table_lock(table, txns[2], other, BS_IS, NULL));
+  DONE(bs_table_lock(table, txns[3], other, BS_IS, NULL));
+  send(&one, txns[2], other, BS_X);
+  ANSWERS(BS_VICTIM, bs_table_lock(table, txns[3], other, BS_X, NULL));
+  for (i = 0; i < 5; i++) {
+    for (j = 0; j < 4; j++) refused += refuses_alike(txns[i], files[j], 7) + refuses_alike(txns[i], files[j], 8);
+  }
+  WANT(refused > 1600 && has_node(7) && !has_node(8));
+  refuses_alike(holder, rows, 7); /* It gives the row back. */
+  WANT(!has_node(7));
+  DONE(bs_table_abort(table, txns[3], NULL));
+  back(&one, BS_DONE);
+  close_table();
+}
+
+/* Where memory is refused a row that was not held is not held, and one that was is held still. */
+static void a_row_without_memory(void) {
+  bs_status status = BS_NO_MEMORY;
+  bs_txn a, b;
+  bs_reply reply;
+  long n;
+  for (n = 1; status == BS_NO_MEMORY; n++) {
+    set_up_rows(BS_AT_BLOCK);
+    a = begin_writer(OLD_KEY), b = begin_writer(OLD_KEY);
+    DONE(try_row(a, 7, OLD_KEY, BS_S));
+    refused_growth = n;
+    status = try_row(b, 7, OLD_KEY, BS_S).status;
+    refused_growth = 0;
+    WANT(locks_of(b) == (status == BS_DONE ? 5 : 4));
+    DONE(try_row(b, 7, OLD_KEY, BS_S));
+    DONE(bs_table_commit(table, a, NULL));
+    DONE(bs_table_commit(table, b, NULL));
+    WANT(!has_node(7));
+    close_table();
+  }
+  WANT(status == BS_DONE && n > 2);
+  set_up_rows(BS_AT_BLOCK);
+  a = begin_writer(OLD_KEY), b = begin_writer(OLD_KEY);
+  DONE(try_row(a, 7, OLD_KEY, BS_S));
+  refused_rows = 1;
+  ANSWERS(BS_NO_MEMORY, try_row(b, 7, OLD_KEY, BS_S));
+  WANT(locks_of(b) == 4 && refused_rows == 0);
+  refused_rows = 1;
+  reply = ANSWERS(BS_OTHER_KEYS, try_row(a, 7, OLD_KEY, BS_X));
+  WANT(reply.mode == BS_X && same_node(reply.node, row_node(7)) && refused_rows == 0);
+  holds(a, reply.node, BS_X);
+  DONE(bs_table_unlock_row(table, a, rows, 7, NULL));
+  DONE(try_row(a, 7, OLD_KEY, BS_S));
+  numbers_left = 1;
+  reply = ANSWERS(BS_OTHER_KEYS, try_row(b, 7, OLD_KEY, BS_S)); /* It cannot be given back. */
+  numbers_left = -1;
+  WANT(reply.mode == BS_S && same_node(reply.node, row_node(7)) && locks_of(b) == 5);
+  close_table();
+}
+
+static bs_command row_try(bs_txn t, uint64_t number, const uint64_t *key) {
+  bs_command command = row_command(BS_DO_TRY_ROW, t, key);
+  command.number = number;
+  return command;
+}
+
+/* Tries stand in lists. One that would block ends the list, as a refusal does. */
+static void a_list_of_tries(void) {
+  static const uint64_t key = OLD_KEY;
+  bs_txn t = bs_begun(), a;
+  bs_command list[6];
+  size_t round;
+  set_up_rows(BS_AT_BLOCK);
+  list[0] = bs_do(BS_DO_BEGIN, t);
+  list[1] = bs_do_at(BS_DO_TRY_PATH, t, rows, BS_IX);
+  list[2] = bs_do_at(BS_DO_TRY_PATH, t, rows_below, BS_IX);
+  list[3] = row_try(t, 7, &key);
+  list[4] = bs_do_at(BS_DO_TRY_PATH, t, low, BS_X);
+  list[5] = bs_do(BS_DO_COMMIT, t);
+  for (round = 0; round < 3; round++) {
+    WANT(bs_table_run(table, list, 6) == 6 && !has_node(7));
+    WANT(list[2].reply.mode == BS_IX && list[3].reply.mode == BS_X && list[4].reply.mode == BS_X);
+  }
+  a = begin();
+  DONE(bs_table_lock_path(table, a, low, BS_S, NULL));
+  list[4].told = &told, told.count = 7;
+  WANT(bs_table_run(table, list, 6) == 4 && told.count == 0);
+  would_block(list[4].reply, low);
+  WANT(list[5].reply.status == BS_NOT_MADE);
+  t = list[0].reply.txn;
+  holds(t, file, BS_NL);
+  list[4].keep = BS_KEEP_WAY, list[4].txn = t;
+  WANT(bs_table_run(table, &list[4], 1) == 0);
+  holds(t, file, BS_IX);
+  list[4].keep = 2;
+  WANT(bs_table_run(table, &list[4], 1) == 0 && list[4].reply.status == BS_BAD_NUMBER);
+  DONE(lock_above(a, OLD_KEY));
+  list[3].txn = a;
+  WANT(bs_table_run(table, &list[3], 1) == 0 && list[3].reply.status == BS_WOULD_BLOCK && is_active(a));
+  WANT(same_node(list[3].reply.node, row_node(7)));
+  close_table();
+}
+
+/* A skip over three that are locked takes the fourth, and keeps nothing of those that it passed. */
+static void a_skip_takes_the_first_that_is_free(void) {
+  static const uint64_t key = OLD_KEY, other_key = NEW_KEY;
+  bs_command list[5];
+  uint64_t number;
+  bs_txn a, t;
+  size_t i;
+  set_up_rows(BS_AT_BLOCK);
+  a = begin_writer(OLD_KEY), t = begin_writer(OLD_KEY);
+  for (number = 0; number < 3; number++) DONE(try_row(a, number, OLD_KEY, BS_X));
+  for (number = 0; number < 5; number++) list[number] = row_try(t, number, &key);
+  list[4].told = &told, told.count = 7;
+  WANT(bs_table_try_first(table, list, 5) == 3);
+  for (i = 0; i < 3; i++) would_block(list[i].reply, row_node(i));
+  WANT(list[3].reply.status == BS_DONE && list[3].reply.mode == BS_X && same_node(list[3].reply.node, row_node(3)));
+  WANT(list[4].reply.status == BS_NOT_MADE && !has_node(4) && locks_of(t) == 5 && told.count == 7);
+  for (i = 0; i < 3; i++) WANT(queue_at(row_node(i)) == 0);
+  list[3].keys = &other_key;
+  WANT(bs_table_try_first(table, list, 5) == 3 && list[3].reply.status == BS_OTHER_KEYS);
+  WANT(bs_table_try_first(table, list, 3) == 3 && is_active(t));
+  list[1].keys = NULL; /* What is refused otherwise ends it. */
+  WANT(bs_table_try_first(table, list, 5) == 1 && list[1].reply.status == BS_NULL_POINTER);
+  for (i = 2; i < 5; i++) WANT(list[i].reply.status == BS_NOT_MADE);
+  DONE(bs_table_commit(table, t, NULL));
+  t = begin();
+  DONE(bs_table_lock_path(table, a, low, BS_X, NULL));
+  list[0] = bs_do_at(BS_DO_TRY_PATH, t, low, BS_S);
+  list[1] = bs_do_at(BS_DO_TRY_PATH, t, below, BS_X);
+  list[2] = bs_do_at(BS_DO_TRY, t, low, BS_S);
+  WANT(bs_table_try_first(table, list, 2) == 2 && locks_of(t) == 0);
+  would_block(list[0].reply, low);
+  would_block(list[1].reply, below);
+  list[1].keep = BS_KEEP_WAY;
+  WANT(bs_table_try_first(table, list, 2) == 2 && locks_of(t) == 2); /* But where it is to be kept. */
+  list[1].keep = BS_KEEP_NOTHING;
+  list[2] = bs_do_at(BS_DO_TRY_PATH, t, high, BS_X);
+  WANT(bs_table_try_first(table, list, 3) == 2 && list[2].reply.mode == BS_X && locks_of(t) == 5);
+  close_table();
+}
+
+/* What is no try is refused by name there, and a table that is none. */
+static void a_skip_is_refused(void) {
+  bs_command list[2];
+  uint32_t kind;
+  bs_txn t;
+  set_up(BS_AT_BLOCK);
+  t = begin();
+  for (kind = 0; kind <= BS_DO_TRY_ROW + 1; kind++) {
+    bool is_try = kind == BS_DO_TRY || kind == BS_DO_TRY_PATH || kind == BS_DO_TRY_ROW;
+    list[0] = bs_do_at(kind, t, root, BS_IS), list[1] = bs_do_at(BS_DO_TRY, t, root, BS_X);
+    list[0].told = &told, told.count = 7;
+    if (is_try) continue;
+    WANT(bs_table_try_first(table, list, 2) == 0 && list[0].reply.status == BS_BAD_NUMBER && told.count == 0);
+    WANT(list[1].reply.status == BS_NOT_MADE && locks_of(t) == 0);
+  }
+  list[0] = bs_do_at(BS_DO_TRY, bs_begun(), root, BS_X);
+  WANT(bs_table_try_first(table, list, 1) == 0 && list[0].reply.status == BS_NO_SUCH_TXN);
+  list[0] = bs_do_at(BS_DO_TRY_ROW, t, root, BS_X);
+  list[0].file = file;
+  WANT(bs_table_try_first(table, list, 1) == 0 && list[0].reply.status == BS_NOT_ROWS);
+  WANT(bs_table_try_first(table, NULL, 3) == 3 && bs_table_try_first(table, list, 0) == 0);
+  close_table();
+}
+
+/* Jobs in a table, of which sixteen threads take one after the other by a skip over those that are locked. */
+enum { JOBS = 200, WORKERS = 16, AT_ONCE = 20 };
+
+static bool is_done[JOBS];    /* in the page */
+static long times_done[JOBS]; /* by who holds the row */
+
+/* The first jobs that are not done, from the front of the table. */
+static size_t see_jobs(uint64_t *jobs) {
+  size_t i, count = 0;
+  pthread_mutex_lock(&page);
+  for (i = 0; i < JOBS && count < AT_ONCE; i++) {
+    if (!is_done[i]) jobs[count++] = i;
+  }
+  pthread_mutex_unlock(&page);
+  return count;
+}
+
+/* The job may have been done since the page was read. */
+static bool is_open(uint64_t job) {
+  bool is;
+  pthread_mutex_lock(&page);
+  is = !is_done[job];
+  pthread_mutex_unlock(&page);
+  return is;
+}
+
+static void do_job(uint64_t job) {
+  times_done[job]++;
+  sched_yield();
+  pthread_mutex_lock(&page);
+  is_done[job] = true;
+  pthread_mutex_unlock(&page);
+}
+
+static void *work_off(void *arg) {
+  static const uint64_t key = OLD_KEY;
+  uint64_t jobs[AT_ONCE];
+  bs_command list[AT_ONCE];
+  size_t count, i, place;
+  while ((count = see_jobs(jobs)) > 0) {
+    bs_txn t = begin_writer(OLD_KEY);
+    for (i = 0; i < count; i++) list[i] = row_try(t, jobs[i], &key);
+    place = bs_table_try_first(table, list, count);
+    if (place < count) {
+      WANT(list[place].reply.status == BS_DONE);
+      if (is_open(jobs[place])) do_job(jobs[place]);
+    }
+    DONE(bs_table_commit(table, t, NULL));
+  }
+  return arg;
+}
+
+static void each_job_is_done_once(void) {
+  pthread_t workers[WORKERS];
+  bs_counts counts;
+  size_t i;
+  set_up_rows(BS_AT_BLOCK);
+  memset(is_done, 0, sizeof is_done);
+  memset(times_done, 0, sizeof times_done);
+  for (i = 0; i < WORKERS; i++) start(&workers[i], work_off, NULL);
+  for (i = 0; i < WORKERS; i++) join(workers[i]);
+  for (i = 0; i < JOBS; i++) WANT(times_done[i] == 1 && !has_node(i));
+  memset(&counts, 0, sizeof counts);
+  DONE(bs_counters(bs_table_hold(table), &counts));
+  DONE(bs_table_let_go(table));
+  WANT(counts.waited == 0 && counts.condemned == 0 && sleepers() == 0);
   close_table();
 }
 
@@ -2520,6 +3241,10 @@ static void refuses_all(bs_table *none, bs_status status, bs_txn t) {
   ANSWERS(status, bs_table_lock_path(none, t, root, BS_X, NULL));
   ANSWERS(status, bs_table_await(none, t, root, BS_X, NULL));
   ANSWERS(status, bs_table_lock_row(none, t, file, 1, NULL, 0, BS_X, NULL));
+  ANSWERS(status, bs_table_try(none, t, root, BS_X));
+  ANSWERS(status, bs_table_try_path(none, t, root, BS_X, BS_KEEP_WAY));
+  ANSWERS(status, bs_table_try_path(none, t, root, BS_X, 2));
+  ANSWERS(status, bs_table_try_row(none, t, file, 1, NULL, 1, BS_X));
   ANSWERS(status, bs_table_index_by(none, t, &root, 1, file, NULL, 0));
   ANSWERS(status, bs_table_watch(none, &watcher));
   ANSWERS(status, bs_table_watch_thread(none, 0));
@@ -2530,6 +3255,9 @@ static void refuses_all(bs_table *none, bs_status status, bs_txn t) {
   list[0].told = &told;
   told.count = 1;
   WANT(bs_table_run(none, list, 2) == 0 && list[0].reply.status == status && told.count == 0);
+  WANT(list[1].reply.status == BS_NOT_MADE);
+  told.count = 1, list[1].reply.status = BS_DONE;
+  WANT(bs_table_try_first(none, list, 2) == 0 && list[0].reply.status == status && told.count == 0);
   WANT(list[1].reply.status == BS_NOT_MADE);
   fclose(text);
 }
@@ -2775,6 +3503,26 @@ int main(int count, char **words) {
   TELL(a_row_waits_in_a_list);
   TELL(a_path_goes_on_in_a_list);
   TELL(commands_that_are_none);
+  TELL(a_path_is_tried);
+  TELL(a_reader_skips_a_parent);
+  TELL(a_try_gives_back_its_way);
+  TELL(a_raised_parent_stays);
+  TELL(a_parent_of_what_was_read_stays);
+  TELL(a_try_does_not_pass);
+  TELL(a_try_fells_nobody);
+  TELL(a_path_is_refused);
+  TELL(long_ways_are_tried);
+  TELL(a_try_without_memory);
+  TELL(a_try_without_numbers);
+  TELL(a_row_is_tried);
+  TELL(a_row_of_others_is_tried);
+  TELL(a_try_of_a_row_fells_nobody);
+  TELL(a_row_is_refused);
+  TELL(a_row_without_memory);
+  TELL(a_list_of_tries);
+  TELL(a_skip_takes_the_first_that_is_free);
+  TELL(a_skip_is_refused);
+  TELL(each_job_is_done_once);
   TELL(a_watcher_looks);
   TELL(a_ninth_watcher);
   TELL(one_of_two_watchers_goes_on);

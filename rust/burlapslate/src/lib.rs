@@ -77,7 +77,8 @@
 //! [`abort`](Manager::abort), [`settle`](Manager::settle), [`delete`](Manager::delete),
 //! [`rekey`](Manager::rekey), [`escalate`](Manager::escalate), of nodes and of rows. The others are
 //! refused with [`Refusal::NoMemory`] where the allocator refuses, and can be asked again. Beside the library's
-//! memory a manager takes 40 bytes for each slot when it is made, for the notices, and none afterwards.
+//! memory a manager takes 40 bytes for each slot when it is made, for the notices, and none afterwards; and a path
+//! that is tried, and is to keep nothing, some for the nodes that it takes.
 //!
 //! With 1,024 slots a manager takes two megabytes of stack when it is made, and what reads a board 0.7: more than a thread
 //! has that is spawned as usual ([`std::thread::Builder::stack_size`]).
@@ -117,7 +118,7 @@ pub use mode::{Detect, Kind, Mode, Victims};
 pub use names::{Node, Row, Txn};
 pub use notices::{Notice, Notices};
 pub use refusal::Refusal;
-pub use session::{RowLocked, Session, Stop};
+pub use session::{Keep, RowLocked, Session, Stop, Taken, Tried, Try};
 pub use table::Table;
 pub use watcher::Watcher;
 

@@ -65,6 +65,64 @@ pub enum RowLocked {
     OtherKeys(Mode),
 }
 
+/// What a try came to that was not refused.
+#[must_use = "a try that would block locked nothing"]
+#[derive(Clone, Copy, PartialEq, Eq, Hash, Debug)]
+pub enum Tried<T> {
+    /// It is held: how.
+    Locked(T),
+    /// It would have to be waited for, at this node.
+    WouldBlock(Node),
+}
+
+/// What a try of a path that is not done keeps of the locks that it took on the way.
+#[derive(Clone, Copy, PartialEq, Eq, Hash, Debug)]
+pub enum Keep {
+    /// Nothing that it took anew.
+    Nothing,
+    /// All of it.
+    Way,
+}
+
+/// A try of a list ([`Session::try_first`]).
+#[derive(Clone, Copy, PartialEq, Eq, Hash, Debug)]
+pub enum Try<'a> {
+    /// As [`Session::try_lock`].
+    Node {
+        /// The node.
+        node: Node,
+        /// Its mode.
+        mode: Mode,
+    },
+    /// As [`Session::try_lock_path`].
+    Path {
+        /// The node at the end of the path.
+        node: Node,
+        /// Its mode.
+        mode: Mode,
+        /// What is kept where it is passed over.
+        keep: Keep,
+    },
+    /// As [`Session::try_lock_row`].
+    Row {
+        /// The row.
+        row: Row,
+        /// Its keys, one for each index of its file.
+        keys: &'a [u64],
+        /// Its mode.
+        mode: Mode,
+    },
+}
+
+/// The try of a list that was taken.
+#[derive(Clone, Copy, PartialEq, Eq, Hash, Debug)]
+pub struct Taken {
+    /// Its place in the list.
+    pub place: usize,
+    /// How it is held; a node is held as its own.
+    pub locked: RowLocked,
+}
+
 /// A transaction of a [`Table`], which one thread drives. Its locks sleep until they are granted. One
 /// that is dropped without a commit is aborted, so that its locks never outlive it: undo first what
 /// it wrote. It has its table lent, or is one of its owners ([`Table::begin_shared`]).
@@ -279,6 +337,85 @@ impl<'t> Session<'t> {
     ) -> Result<RowLocked, Stop> {
         self.table
             .lock_row(self.txn, row, keys, mode, self.until(Some(until)))
+    }
+
+    /// Locks a node with what has to be held above it, as [`lock_path`](Session::lock_path) takes it, but
+    /// each lock by a try, in one hold of the latch: it never sleeps, joins no queue and fells nobody. It
+    /// answers the mode that is held then, or the node, which is this one or one above it, that it would
+    /// have to wait for.
+    ///
+    /// Refused as [`lock`](crate::Manager::lock), but never with [`NeedParents`](Refusal::NeedParents), and
+    /// before anything is locked; [`NoMemory`](Refusal::NoMemory) and [`WornOut`](Refusal::WornOut) may also
+    /// come behind some of the locks.
+    ///
+    /// Where it is not done behind some of the locks, `keep` says what becomes of these. With
+    /// [`Keep::Nothing`] each node that this call took anew is released again, the last first. A node that
+    /// was held before stays in the mode to which it was raised, since no mode is ever lowered. So does a
+    /// node of which the transaction holds a child by another parent since before, with what is above it;
+    /// and all of them behind [`WornOut`](Refusal::WornOut).
+    ///
+    /// ```
+    /// # use burlapslate::{Detect, Keep, Mode, Table, Tried, SLOTS};
+    /// # let table = Table::new(Detect::AtBlock, SLOTS)?;
+    /// # let db = table.add_inner(&[])?;
+    /// # let file = table.add_file(&[db])?;
+    /// let (mut first, mut second) = (table.begin()?, table.begin()?);
+    /// let tried = first.try_lock_path(file, Mode::X, Keep::Nothing)?;
+    /// assert_eq!(tried, Tried::Locked(Mode::X));
+    /// let tried = second.try_lock_path(file, Mode::S, Keep::Nothing)?;
+    /// assert_eq!(tried, Tried::WouldBlock(file));
+    /// assert_eq!(table.with(|m| m.held(second.txn(), db)), Ok(Mode::NL));
+    /// # Ok::<(), burlapslate::Refusal>(())
+    /// ```
+    pub fn try_lock_path(
+        &mut self,
+        node: Node,
+        mode: Mode,
+        keep: Keep,
+    ) -> Result<Tried<Mode>, Refusal> {
+        self.table.try_lock_path(self.txn, node, mode, keep)
+    }
+
+    /// As [`lock_row`](Session::lock_row), but it never sleeps, joins no queue and fells nobody: where the
+    /// row would have to be waited for it answers its node, and nothing was changed.
+    ///
+    /// Refused as [`Manager::lock_row`](crate::Manager::lock_row), and nothing was changed then, also for
+    /// want of memory. Where the transaction held the row before, and memory or numbers are wanting behind
+    /// the grant, it is held with [`RowLocked::OtherKeys`]; so it is where the last number went for the
+    /// grant.
+    pub fn try_lock_row(
+        &mut self,
+        row: Row,
+        keys: &[u64],
+        mode: Mode,
+    ) -> Result<Tried<RowLocked>, Refusal> {
+        self.table.try_lock_row(self.txn, row, keys, mode)
+    }
+
+    /// Makes tries one behind the other in one hold of the latch, up to the first that would not block:
+    /// `None`, where all would. Those that would block are passed over; of a path that is passed over
+    /// nothing is kept but what its `keep` says. The first that is refused otherwise ends it, and is
+    /// answered.
+    ///
+    /// ```
+    /// # use burlapslate::{Detect, Mode, Row, Table, Try, SLOTS};
+    /// # let table = Table::new(Detect::AtBlock, SLOTS)?;
+    /// # let db = table.add_inner(&[])?;
+    /// # let file = table.add_row_file(&[db])?;
+    /// let jobs = [1, 2, 3].map(|number| Try::Row {
+    ///     row: Row { file, number },
+    ///     keys: &[],
+    ///     mode: Mode::X,
+    /// });
+    /// let (mut first, mut second) = (table.begin()?, table.begin()?);
+    /// for (place, session) in [&mut first, &mut second].into_iter().enumerate() {
+    ///     session.lock_path(file, Mode::IX).unwrap();
+    ///     assert_eq!(session.try_first(&jobs)?.map(|taken| taken.place), Some(place));
+    /// }
+    /// # Ok::<(), burlapslate::Refusal>(())
+    /// ```
+    pub fn try_first(&mut self, tries: &[Try<'_>]) -> Result<Option<Taken>, Refusal> {
+        self.table.try_first(self.txn, tries)
     }
 
     /// As [`Manager::unlock_row`](crate::Manager::unlock_row).

@@ -691,5 +691,7 @@ impl fmt::Debug for Table {
     }
 }
 
+mod tries;
+
 #[cfg(test)]
 mod tests;

@@ -4,7 +4,8 @@
 //! back.
 
 use burlapslate::{
-    Board, Detect, Mode, Node, Refusal, Row, RowLocked, Session, Stop, Table, Txn, Victims, SLOTS,
+    Board, Detect, Keep, Mode, Node, Refusal, Row, RowLocked, Session, Stop, Table, Try, Txn,
+    Victims, SLOTS,
 };
 use std::sync::atomic::{AtomicBool, AtomicU64, Ordering};
 use std::sync::Mutex;
@@ -130,13 +131,18 @@ impl Member<'_> {
     fn add(&mut self, session: &mut Session<'_>) -> Result<(), Stop> {
         let i = self.pick(ACCOUNTS);
         self.path(session, self.crowd.accounts[i], Mode::X)?;
+        self.add_to(i);
+        Ok(())
+    }
+
+    /// Adds to an account that is held in X.
+    fn add_to(&mut self, i: usize) {
         if !self.is_game {
             let before = self.crowd.added[i].load(Ordering::Relaxed);
             thread::yield_now();
             self.crowd.added[i].store(before + 1, Ordering::Relaxed);
             self.adds[i] += 1;
         }
-        Ok(())
     }
 
     fn insert(&mut self, session: &mut Session<'_>) -> Result<(), Stop> {
@@ -184,6 +190,38 @@ impl Member<'_> {
             }
             RowLocked::OtherKeys(_) => Ok(session.unlock_row(row)?),
         }
+    }
+
+    /// The first of two accounts that is free, with something added to it.
+    fn skip(&mut self, session: &mut Session<'_>) -> Result<(), Stop> {
+        let accounts = [self.pick(ACCOUNTS), self.pick(ACCOUNTS)];
+        let tries = accounts.map(|account| Try::Path {
+            node: self.crowd.accounts[account],
+            mode: Mode::X,
+            keep: Keep::Nothing,
+        });
+        if let Some(taken) = session.try_first(&tries)? {
+            self.add_to(accounts[taken.place]);
+        }
+        Ok(())
+    }
+
+    /// The first of two rows that is free.
+    fn skip_rows(&mut self, session: &mut Session<'_>) -> Result<(), Stop> {
+        let (i, key) = (self.pick(2), self.pick(100) as u64);
+        let file = self.crowd.row_files[i];
+        self.above_row(session, i, key)?;
+        let keys = [key];
+        let tries = [0, 1].map(|_| Try::Row {
+            row: Row {
+                file,
+                number: self.pick(ROWS) as u64,
+            },
+            keys: &keys,
+            mode: Mode::X,
+        });
+        session.try_first(&tries)?;
+        Ok(())
     }
 
     fn rekey(&mut self, session: &mut Session<'_>) -> Result<(), Stop> {
@@ -240,6 +278,9 @@ impl Member<'_> {
                 let file = self.crowd.row_files[i];
                 session.unlock_row(Row { file, number })?;
             }
+            11 => self.skip(session)?,
+            12 => self.skip_rows(session)?,
+            13 => session.try_lock_path(node, mode, Keep::Way).map(drop)?,
             9 | 10 => {
                 let record = self.record();
                 self.path(session, record, Mode::S).map(drop)?;

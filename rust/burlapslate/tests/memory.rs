@@ -9,7 +9,8 @@
 mod common;
 
 use burlapslate::{
-    Detect, Manager, Mode, Node, Notice, Refusal, Row, RowAsked, Stop, Table, Txn, SLOTS,
+    Detect, Keep, Manager, Mode, Node, Notice, Refusal, Row, RowAsked, RowLocked, Stop, Table,
+    Tried, Txn, SLOTS,
 };
 use common::{at_block, begin, grant, manager, store, wait};
 use std::cell::Cell;
@@ -25,6 +26,8 @@ enum Refused {
     None,
     /// One, counted from 1 on.
     Nth(usize),
+    /// One, and all behind it.
+    From(usize),
     All,
     /// All, once [`IS_TOLD`] says so.
     WhenTold,
@@ -47,6 +50,11 @@ fn is_refused() -> bool {
         }
         Refused::Nth(n) => {
             REFUSED.set(Refused::Nth(n - 1));
+            false
+        }
+        Refused::From(1) => true,
+        Refused::From(n) => {
+            REFUSED.set(Refused::From(n - 1));
             false
         }
         Refused::All => true,
@@ -384,4 +392,59 @@ fn drops_take_none() {
         Ok([None; 3])
     );
     assert_eq!(m.len(), 1);
+}
+
+/// A path that is tried and finds no memory on its way gives back what it took, without any.
+#[test]
+fn a_path_that_is_tried_gives_back() {
+    for n in 1.. {
+        let table = Table::new(Detect::AtBlock, SLOTS).unwrap();
+        let mut chain = vec![table.add_inner(&[]).unwrap()];
+        for _ in 0..20 {
+            chain.push(table.add_inner(&chain[chain.len() - 1..]).unwrap());
+        }
+        let mut session = table.begin().unwrap();
+        let last = chain[chain.len() - 1];
+        let (tried, _) = refusing(Refused::From(n), || {
+            session.try_lock_path(last, Mode::X, Keep::Nothing)
+        });
+        let locks = table.with(|m| m.locks(session.txn()).count());
+        if tried == Ok(Tried::Locked(Mode::X)) {
+            assert_eq!(locks, chain.len());
+            assert!(n > 2);
+            return;
+        }
+        assert_eq!((tried, locks), (Err(Refusal::NoMemory), 0));
+        let tried = session.try_lock_path(last, Mode::X, Keep::Nothing);
+        assert_eq!(tried, Ok(Tried::Locked(Mode::X)));
+    }
+}
+
+/// A row that is tried beside another who holds it, and finds no memory to be noted, is given back.
+#[test]
+fn a_row_that_is_tried_is_given_back() {
+    for n in 1.. {
+        let table = Table::new(Detect::AtBlock, SLOTS).unwrap();
+        let root = table.add_inner(&[]).unwrap();
+        let file = table.add_row_file(&[root]).unwrap();
+        let row = Row { file, number: 7 };
+        let (mut one, mut two) = (table.begin().unwrap(), table.begin().unwrap());
+        let held = Ok(Tried::Locked(RowLocked::Own(Mode::S)));
+        for session in [&mut one, &mut two] {
+            session.lock_path(file, Mode::IX).unwrap();
+        }
+        assert_eq!(one.try_lock_row(row, &[], Mode::S), held);
+        let (tried, _) = refusing(Refused::From(n), || two.try_lock_row(row, &[], Mode::S));
+        let locks = table.with(|m| m.locks(two.txn()).count());
+        if tried == held {
+            assert_eq!(locks, 3);
+            assert!(n > 2);
+            return;
+        }
+        assert_eq!((tried, locks), (Err(Refusal::NoMemory), 2));
+        assert_eq!(two.try_lock_row(row, &[], Mode::S), held);
+        one.commit().unwrap();
+        two.commit().unwrap();
+        assert_eq!(table.row_node(row), None);
+    }
 }
