@@ -1,8 +1,8 @@
 //! A list under nodes beside an `IndexMap` that is asked the same.
 
 use crate::wanted::same;
-use gl_node_map::NodeMap;
 use gl_modes::NodeId;
+use gl_node_map::NodeMap;
 use indexmap::IndexMap;
 use std::alloc::{AllocError, Global};
 use std::process::Abort;
