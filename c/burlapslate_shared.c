@@ -890,8 +890,9 @@ static inline void table_say_for_what(bs_table *table, bs_command *c, bs_txn txn
   if (c->kind == BS_DO_LOCK) c->reply.node = c->node;
 }
 
-/* Makes the next command of a list, and writes its reply. */
-static bs_status table_run_next(bs_table *table, bs_command *next, bs_txn begun) {
+/* Makes the next command of a list, and writes its reply. It stands in line in both loops: a call for each command of a
+ * list costs a twentieth of it. */
+static inline __attribute__((always_inline)) bs_status table_run_next(bs_table *table, bs_command *next, bs_txn begun) {
   bs_txn none = bs_begun();
   bs_txn txn = next->txn.slot == none.slot && next->txn.age == none.age ? begun : next->txn;
   bs_notices *told = table_list_of(table, next->told);
@@ -929,7 +930,7 @@ size_t bs_table_run(bs_table *table, bs_command *commands, size_t count) {
 }
 
 /* Makes the next try of a list, and writes its reply. What is no try is refused. */
-static bs_status table_try_one(bs_table *table, bs_command *next) {
+static TABLE_APART bs_status table_try_one(bs_table *table, bs_command *next) {
   bool is_try = next->kind == BS_DO_TRY || next->kind == BS_DO_TRY_PATH || next->kind == BS_DO_TRY_ROW;
   if (is_try) return table_run_next(table, next, bs_begun());
   if (next->told != NULL) next->told->count = 0;
