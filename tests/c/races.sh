@@ -1,7 +1,7 @@
 #!/usr/bin/env bash
-# races.sh [TOOL..]: runs the stories of a shared table and a small crowd under tools that look for races: `tsan`
+# races.sh [TOOL..]: runs the stories of a shared table, its asks and a small crowd under tools that look for races: `tsan`
 # (ThreadSanitizer, which sees what is compiled here: the table and the programs), `helgrind` and `drd` (valgrind's,
-# which see the library too); all three where none is named. `short` stands for the stories alone, under the first of
+# which see the library too); all three where none is named. `short` stands for the stories and the asks, under the first of
 # them that is found, which takes seconds: where none is, it ends with status 77, not tried. races.supp says what is no
 # race. Prints a line for each run. Ends with status 1 where one reports anything or a program fails; a tool that is not
 # found is passed over. RACES_LIBS names other archives than those of tools/c_library.sh, with a space between. CC names another compiler.

@@ -605,11 +605,7 @@ impl Table {
     }
 
     /// Lets some time go by, but no longer than somebody is to watch.
-    fn rest<'t>(
-        &'t self,
-        mut guarded: Hold<'t>,
-        time: Duration,
-    ) -> Hold<'t> {
+    fn rest<'t>(&'t self, mut guarded: Hold<'t>, time: Duration) -> Hold<'t> {
         let until = deadline(time);
         let mut is_late = time.is_zero();
         while !is_late && !guarded.is_unwatched {
@@ -706,11 +702,7 @@ fn wait<'t>(on: &Condvar, mut guarded: Hold<'t>) -> Hold<'t> {
 }
 
 /// Waits, but no longer than to a moment: whether that has come.
-fn wait_until<'t>(
-    on: &Condvar,
-    mut guarded: Hold<'t>,
-    until: Instant,
-) -> (Hold<'t>, bool) {
+fn wait_until<'t>(on: &Condvar, mut guarded: Hold<'t>, until: Instant) -> (Hold<'t>, bool) {
     let left = until.saturating_duration_since(Instant::now());
     let held = guarded.guarded.take().map(|held| {
         let waited = on.wait_timeout(held, left);

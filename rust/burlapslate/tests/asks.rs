@@ -580,7 +580,9 @@ fn run(futures: Vec<Pin<Box<dyn Future<Output = ()> + Send>>>) {
         ready.send(job).unwrap();
     }
     while left > 0 {
-        let job = jobs.recv_timeout(Duration::from_secs(20)).expect("it hangs");
+        let job = jobs
+            .recv_timeout(Duration::from_secs(20))
+            .expect("it hangs");
         let waker = Waker::from(Arc::clone(&job));
         let mut future = job.future.lock().unwrap();
         let is_done = future.as_mut().is_some_and(|future| {
@@ -683,7 +685,11 @@ fn crowd(detect: Detect, seed: usize) {
         table.end_watch();
         drop(watch);
     });
-    let sum: usize = accounts.sums.iter().map(|sum| sum.load(Ordering::Relaxed)).sum();
+    let sum: usize = accounts
+        .sums
+        .iter()
+        .map(|sum| sum.load(Ordering::Relaxed))
+        .sum();
     assert_eq!(sum, 2 * (2 * TASKS + 1));
     assert_eq!(table.with(|m| m.transactions().count()), 0);
 }

@@ -160,7 +160,7 @@ impl<'a> Waiting<'a> {
     /// What became of the wait; `None` while it goes on. That is asked before the clock.
     fn end(&self, hold: &mut Hold<'_>) -> Option<Result<Mode, Stop>> {
         let verdict = self.verdict(hold);
-        if verdict.is_some() || !self.until.is_some_and(|until| Instant::now() >= until) {
+        if verdict.is_some() || self.until.is_none_or(|until| Instant::now() < until) {
             return verdict;
         }
         Some(Err(self.table.time_out(hold, self.txn)))
