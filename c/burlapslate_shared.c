@@ -1019,8 +1019,8 @@ static void table_tell_one(table_asked *ask) {
   pthread_mutex_unlock(&table->latch);
 }
 
-/* Makes the engine's calls for these, and for those that come to an end by its calls of a table: where this thread is in
- * a call of the function already, that tells them behind it. The thread's cancellation is held off. */
+/* Makes the engine's calls for these, and for those that come to an end by its calls of a table: where this thread is
+ * in a call of the function already, that tells them behind it. The thread's cancellation is held off. */
 static void table_tell(table_asked_list *over) {
   int state;
   if (table_telling != NULL) {
@@ -1187,8 +1187,8 @@ static bool table_is_later(const struct timespec *one, const struct timespec *ot
   return one->tv_sec > other->tv_sec || (one->tv_sec == other->tv_sec && one->tv_nsec > other->tv_nsec);
 }
 
-/* Takes back the wait of each ask whose time is over; how many. What one of them grants to others is theirs, before it is
- * asked whether their time is over. */
+/* Takes back the wait of each ask whose time is over; how many. What one of them grants to others is theirs, before it
+ * is asked whether their time is over. */
 static size_t table_end_late(bs_table *table, const struct timespec *now) {
   size_t count = 0;
   uint32_t slot;

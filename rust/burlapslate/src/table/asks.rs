@@ -40,19 +40,23 @@ impl Tasks {
         }
     }
 
-    /// Notes a task that waits; what stood in its place is given back, to be dropped without the latch.
-    fn note(&mut self, task: Task) -> Result<Option<Task>, Refusal> {
+    /// Makes room for one more task that waits.
+    fn make_room(&mut self) -> Result<(), Refusal> {
         if self.at.is_empty() {
             let places = self.at.try_reserve_exact(SLOTS);
             places.map_err(|_refused| Refusal::NoMemory)?;
             self.at.resize_with(SLOTS, || None);
         }
         let room = self.rung.try_reserve(self.waiting + 1);
-        room.map_err(|_refused| Refusal::NoMemory)?;
+        room.map_err(|_refused| Refusal::NoMemory)
+    }
+
+    /// Notes a task that waits, for which there is room. Its slot has no other.
+    fn note(&mut self, task: Task) {
         let slot = task.txn.slot();
-        let before = self.at[slot].replace(task);
-        self.waiting += usize::from(before.is_none());
-        Ok(before)
+        self.ring(slot);
+        self.at[slot] = Some(task);
+        self.waiting += 1;
     }
 
     /// Takes the task of a transaction away, to be dropped without the latch.
@@ -171,6 +175,22 @@ impl<'a> Waiting<'a> {
         hold.manager.verdict(self.txn, node, mode)
     }
 
+    /// Notes the task of a wait that goes on. Without memory the wait is taken back, and that is its end.
+    fn wait_on(&self, hold: &mut Hold<'_>, task: &mut Option<Task>) -> Option<Result<Mode, Stop>> {
+        match hold.tasks.make_room() {
+            Ok(()) => {
+                task.take()
+                    .into_iter()
+                    .for_each(|task| hold.tasks.note(task));
+                None
+            }
+            Err(refusal) => {
+                self.take_back(hold);
+                Some(Err(Stop::Refused(refusal)))
+            }
+        }
+    }
+
     /// Takes the wait back, where it goes on.
     fn take_back(&self, hold: &mut Hold<'_>) {
         if self.verdict(hold).is_none() && hold.manager.cancel(self.txn).map(drop).is_ok() {
@@ -185,24 +205,20 @@ impl Future for Waiting<'_> {
 
     fn poll(self: Pin<&mut Self>, context: &mut Context<'_>) -> Poll<Self::Output> {
         let own = self.get_mut();
-        let task = Task {
+        let mut task = Some(Task {
             txn: own.txn,
             waker: context.waker().clone(),
             until: own.until,
-        };
+        });
         let mut hold = own.table.guarded();
         let before = hold.tasks.forget(own.txn);
-        let end = own.end(&mut hold).or_else(|| match hold.tasks.note(task) {
-            Ok(_nobody) => None,
-            Err(refusal) => {
-                own.take_back(&mut hold);
-                Some(Err(Stop::Refused(refusal)))
-            }
-        });
+        let end = own
+            .end(&mut hold)
+            .or_else(|| own.wait_on(&mut hold, &mut task));
         own.is_over = end.is_some();
         let is_cancelled = own.is_over && hold.leaves_path(own.txn);
         drop(hold);
-        drop(before);
+        drop((before, task)); // A waker that goes may call the table.
         end.map_or(Poll::Pending, |end| Poll::Ready((end, is_cancelled)))
     }
 }
