@@ -685,24 +685,34 @@ static void an_ask_with_a_deadline(void) {
   close_table();
 }
 
-/* A path that goes on waits to the same time, and ends in the same call where that is over. */
-static void a_path_expires_on_its_way(void) {
+/* A path that goes on begins to wait anew, to a time that is over by then: it ends in the same call, whether its slot has
+ * been looked at by then or not. */
+static void a_path_expires(bool is_looked_at) {
   struct timespec past = moment_in(0), next;
   struct heard one, two;
-  bs_txn a, b, c;
+  bs_txn gap, a, b, c;
   set_up(BS_AT_BLOCK);
-  a = begin(), c = begin(), b = begin();
+  a = begin(), gap = begin(), c = begin();
+  if (is_looked_at) DONE(bs_table_abort(table, gap, NULL));
+  b = begin();
+  WANT((b.slot < c.slot) == is_looked_at);
   DONE(bs_table_lock_path(table, a, low, BS_S, NULL));
-  DONE(bs_table_lock(table, a, below, BS_IS, NULL));
-  DONE(bs_table_lock_path(table, c, root, BS_IX, NULL));
+  DONE(bs_table_lock(table, c, root, BS_IX, NULL));
   WAITS(ask_until(&one, c, root, BS_X, &past));
-  two = nothing_heard(b);
-  WAITS(bs_table_ask_path(table, b, low, BS_X, &past, &two));
+  WAITS(ask_path(&two, b, low, BS_X));
+  DONE(bs_table_deadline(table, b, &past));
+  WANT(same_node(wait_in(table, b).node, root));
   WANT(DONE(bs_table_expire(table, &next)).count == 0);
   HEARD_BY_NOW(&one, BS_TIMED_OUT);
   HEARD_BY_NOW(&two, BS_TIMED_OUT);
+  holds(b, root, BS_IX);
   WANT(calls == 2);
   close_table();
+}
+
+static void a_path_expires_on_its_way(void) {
+  a_path_expires(false);
+  a_path_expires(true);
 }
 
 /* ------------------------------------------------------------------------------------------------
