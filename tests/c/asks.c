@@ -1140,7 +1140,7 @@ static void asks_and_aborts(void) {
  * A crowd: an event loop whose clients ask, beside threads that sleep.
  */
 
-enum { FILES = 6, TO_LOCK = 2, LOOP_CLIENTS = 6, SLEEPERS = 3, MOST_CLIENTS = 10000 };
+enum { MOST_FILES = 40, TO_LOCK = 2, LOOP_CLIENTS = 6, SLEEPERS = 3, MOST_CLIENTS = 10000 };
 
 /* A client of a loop: it locks two files, adds to both, and commits. */
 struct client {
@@ -1157,8 +1157,9 @@ struct queue {
   struct client *first, *last;
 };
 
-static bs_node files[FILES];
-static unsigned long accounts[FILES];
+static bs_node files[MOST_FILES];
+static size_t file_count;
+static unsigned long accounts[MOST_FILES];
 static pthread_cond_t came = PTHREAD_COND_INITIALIZER;
 static struct queue to_go_on, to_work;
 static size_t at_work;
@@ -1177,11 +1178,12 @@ static struct client *dequeue(struct queue *queue) {
   return client;
 }
 
-static void set_up_files(uint32_t detect, uint32_t most) {
+static void set_up_files(uint32_t detect, uint32_t most, size_t number) {
   size_t i;
+  file_count = number;
   DONE(make_table(&table, detect, BS_YOUNGEST, most));
   root = DONE(bs_table_add_inner(table, NULL, 0)).node;
-  for (i = 0; i < FILES; i++) {
+  for (i = 0; i < file_count; i++) {
     files[i] = DONE(bs_table_add_file(table, &root, 1)).node;
     accounts[i] = 0;
   }
@@ -1205,8 +1207,8 @@ static void wakes_the_loop(void *context, bs_txn txn, bs_reply end, void *word) 
 }
 
 static void choose(struct client *client, uint64_t *dice) {
-  client->files[0] = (size_t)roll(dice, FILES);
-  client->files[1] = (client->files[0] + 1 + (size_t)roll(dice, FILES - 1)) % FILES;
+  client->files[0] = (size_t)roll(dice, file_count);
+  client->files[1] = (client->files[0] + 1 + (size_t)roll(dice, file_count - 1)) % file_count;
   client->locked = 0;
 }
 
@@ -1330,7 +1332,7 @@ static void loops(uint64_t seed) {
 static unsigned long sum_of_accounts(void) {
   unsigned long sum = 0;
   size_t i;
-  for (i = 0; i < FILES; i++) sum += accounts[i];
+  for (i = 0; i < file_count; i++) sum += accounts[i];
   return sum;
 }
 
@@ -1338,7 +1340,7 @@ static unsigned long sum_of_accounts(void) {
 static void a_crowd(uint64_t seed, uint32_t detect) {
   pthread_t threads[SLEEPERS], canceller;
   size_t i;
-  set_up_files(detect, LOOP_CLIENTS + SLEEPERS);
+  set_up_files(detect, LOOP_CLIENTS + SLEEPERS, 6);
   DONE(bs_table_on_end(table, wakes_the_loop, NULL));
   if (detect == BS_BY_WATCHER) DONE(bs_table_watch_thread(table, 10000));
   for (i = 0; i < SLEEPERS; i++) start(&threads[i], sleeps_for_files, (void *)(size_t)(seed * SLEEPERS + i));
@@ -1447,7 +1449,7 @@ static void an_event_loop(void) {
   bell = eventfd(0, 0);
   WANT(loop >= 0 && bell >= 0 && epoll_ctl(loop, EPOLL_CTL_ADD, bell, &event) == 0);
   memset(crowd, 0, sizeof crowd);
-  set_up_files(BS_AT_BLOCK, BS_SLOTS);
+  set_up_files(BS_AT_BLOCK, BS_SLOTS, MOST_FILES);
   DONE(bs_table_on_end(table, rings, NULL));
   for (i = 0; i < 3; i++) start(&pool[i], works, NULL);
   while (done < most || number_at_work() > 0) {
