@@ -543,6 +543,25 @@ static void paths_meet_on_their_ways(void) {
   paths_meet(true);
 }
 
+/* Others fall for a lock above, which is granted by that: the path goes on, and they are told. */
+static void a_path_goes_on_where_others_fall(void) {
+  struct heard one, two, own;
+  bs_node other;
+  bs_txn a, b, c;
+  set_up(BS_AT_BLOCK);
+  other = DONE(bs_table_add_inner(table, NULL, 0)).node;
+  a = begin(), b = begin(), c = begin();
+  DONE(bs_table_lock(table, a, other, BS_X, NULL));
+  DONE(bs_table_lock(table, b, root, BS_IS, NULL));
+  WAITS(ask(&one, b, other, BS_S));
+  WAITS(ask(&two, c, root, BS_X));
+  WANT(DONE(ask_path(&own, a, low, BS_X)).mode == BS_X);
+  HEARD_BY_NOW(&two, BS_VICTIM);
+  WANT(calls == 1);
+  holds(a, low, BS_X);
+  close_table();
+}
+
 static void a_path_ends_on_its_way(void) {
   struct heard h;
   bs_txn a, b;
@@ -1514,6 +1533,7 @@ int main(int count, char **words) {
   TELL(a_path_comes_to_its_end);
   TELL(a_path_begins_anew);
   TELL(paths_meet_on_their_ways);
+  TELL(a_path_goes_on_where_others_fall);
   TELL(a_path_ends_on_its_way);
   TELL(a_row_is_asked_for);
   TELL(a_row_with_too_many_keys);
