@@ -655,8 +655,8 @@ static bool is_over(struct timespec time) {
 
 /* The times of asks end by a call that somebody makes, and by nobody else. */
 static void an_ask_expires(void) {
-  struct timespec soon = moment_in(2000), late = moment_in(60000000), next;
-  struct heard one, two, three;
+  struct timespec soon = moment_in(2000), late = moment_in(60000000), later = moment_in(90000000), next;
+  struct heard one, two, three, four;
   bs_txn a, b, c, d;
   set_up(BS_AT_BLOCK);
   a = begin(), b = begin(), c = begin(), d = begin();
@@ -672,11 +672,14 @@ static void an_ask_expires(void) {
   WANT(HEARD_BY_NOW(&two, BS_DONE).mode == BS_S && calls == 2);
   ANSWERS(BS_WOULD_BLOCK, bs_table_try(table, b, root, BS_X));
   WAITS(ask_until(&one, b, root, BS_X, &late));
+  WAITS(ask_until(&four, begin(), root, BS_X, &later));
+  WANT(DONE(bs_table_expire(table, &next)).count == 2 && same_time(next, late));
+  DONE(bs_table_cancel(table, four.txn, NULL));
   WANT(DONE(bs_table_expire(table, &next)).count == 1 && same_time(next, late));
-  WANT(DONE(bs_table_expire(table, NULL)).count == 1 && calls == 2);
+  WANT(DONE(bs_table_expire(table, NULL)).count == 1 && calls == 3);
   DONE(bs_table_cancel(table, b, NULL));
   DONE(bs_table_cancel(table, d, NULL));
-  WANT(calls == 4);
+  WANT(calls == 5);
   close_table();
 }
 
