@@ -2485,49 +2485,52 @@ static void a_try_of_a_row_fells_nobody(void) {
   close_table();
 }
 
-/* What is refused is refused as the lock of the row is, whether the row has a node or not. */
-static void a_row_is_refused(void) {
+/* By each mode and each list of keys: what is refused is refused as the lock of the row is. How many were. */
+static size_t refuses_alike(bs_txn t, bs_node of, uint64_t number) {
   static const uint64_t keys[2] = { OLD_KEY, NEW_KEY };
-  const uint64_t *lists[2];
+  size_t k, refused = 0;
+  bs_mode mode;
+  for (mode = BS_NL; mode <= BS_X + 1; mode++) {
+    for (k = 0; k < 6; k++) {
+      const uint64_t *list = k % 2 == 0 ? keys : NULL;
+      bs_reply tried = bs_table_try_row(table, t, of, number, list, k / 2, mode), locked;
+      if (tried.status == BS_DONE || tried.status == BS_OTHER_KEYS) {
+        DONE(bs_table_unlock_row(table, t, of, number, NULL));
+      } else if (tried.status != BS_WOULD_BLOCK) {
+        locked = bs_table_lock_row(table, t, of, number, list, k / 2, mode, NULL);
+        WANT(tried.status == locked.status && same_node(tried.node, locked.node));
+        refused++;
+      }
+    }
+  }
+  return refused;
+}
+
+/* So it is of each transaction and each file, of a row with a node and of one without. */
+static void a_row_is_refused(void) {
+  bs_txn txns[5], holder, gone = { 3, 99 };
   bs_node files[4], other;
   struct asker one;
-  bs_txn txns[6];
-  size_t i, j, k, number, refused = 0;
-  bs_mode mode;
+  size_t i, j, refused = 0;
   set_up_rows(BS_AT_BLOCK);
-  lists[0] = keys, lists[1] = NULL;
   files[0] = rows, files[1] = file, files[2] = root, files[3] = low;
-  for (i = 0; i < 5; i++) txns[i] = begin();
-  txns[5].slot = 3, txns[5].age = 99;
+  for (i = 0; i < 4; i++) txns[i] = begin();
+  txns[4] = gone;
+  holder = begin_writer(OLD_KEY);
+  DONE(try_row(holder, 7, OLD_KEY, BS_S));
   DONE(lock_above(txns[0], OLD_KEY));
   DONE(bs_table_lock_path(table, txns[1], rows, BS_IX, NULL));
-  DONE(lock_above(txns[4], OLD_KEY));
-  DONE(try_row(txns[4], 7, OLD_KEY, BS_S));
   other = DONE(bs_table_add_inner(table, NULL, 0)).node;
   DONE(bs_table_lock(table, txns[2], other, BS_IS, NULL));
   DONE(bs_table_lock(table, txns[3], other, BS_IS, NULL));
   send(&one, txns[2], other, BS_X);
   ANSWERS(BS_VICTIM, bs_table_lock(table, txns[3], other, BS_X, NULL));
-  for (number = 7; number < 9; number++) {
-    for (i = 0; i < 6; i++) {
-      for (j = 0; j < 4; j++) {
-        for (mode = BS_NL; mode <= BS_X + 1; mode++) {
-          for (k = 0; k < 6; k++) {
-            bs_reply tried = bs_table_try_row(table, txns[i], files[j], number, lists[k % 2], k / 2, mode), locked;
-            if (tried.status == BS_DONE || tried.status == BS_OTHER_KEYS) {
-              DONE(bs_table_unlock_row(table, txns[i], files[j], number, NULL));
-              if (i == 4 && number == 7) DONE(try_row(txns[4], 7, OLD_KEY, BS_S));
-            } else if (tried.status != BS_WOULD_BLOCK) {
-              locked = bs_table_lock_row(table, txns[i], files[j], number, lists[k % 2], k / 2, mode, NULL);
-              WANT(tried.status == locked.status && same_node(tried.node, locked.node));
-              refused++;
-            }
-          }
-        }
-      }
-    }
+  for (i = 0; i < 5; i++) {
+    for (j = 0; j < 4; j++) refused += refuses_alike(txns[i], files[j], 7) + refuses_alike(txns[i], files[j], 8);
   }
-  WANT(refused > 1900 && !has_node(8));
+  WANT(refused > 1600 && has_node(7) && !has_node(8));
+  refuses_alike(holder, rows, 7); /* It gives the row back. */
+  WANT(!has_node(7));
   DONE(bs_table_abort(table, txns[3], NULL));
   back(&one, BS_DONE);
   close_table();
