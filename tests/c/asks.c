@@ -893,7 +893,15 @@ static void asks_that_are_refused(void) {
   ANSWERS(BS_NO_MANAGER, ask(&h, a, root, BS_S));
   ANSWERS(BS_NO_MANAGER, bs_table_on_end(table, hear, NULL));
   ANSWERS(BS_NO_MANAGER, bs_table_expire(table, NULL));
+  WANT(calls == 0);
   DONE(bs_table_free(&table));
+}
+
+/* And without memory for one, or for an ask. */
+static void a_table_without_a_function(void) {
+  struct heard h;
+  bs_txn a;
+  calls = 0;
   DONE(make_table(&table, BS_AT_BLOCK, BS_YOUNGEST, 2));
   root = DONE(bs_table_add_inner(table, NULL, 0)).node;
   a = begin();
@@ -1549,6 +1557,7 @@ int main(int count, char **words) {
   TELL(a_holder_of_another_tells);
   TELL(a_thread_is_cancelled_in_a_call);
   TELL(asks_that_are_refused);
+  TELL(a_table_without_a_function);
   TELL(asks_without_memory);
   TELL(a_path_goes_on_without_memory);
   TELL(an_end_with_asks);
