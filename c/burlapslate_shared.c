@@ -8,8 +8,9 @@
  * are in table_enter, round each call; table_wake, behind each command; table_hand_on, behind what may have ended a
  * transaction; table_sleep, where a lock waits; table_sleep_in_line, where a begin does; bs_table_end; and
  * table_watch_over, the thread that watches. So is what several calls with the manager come to together, of which each
- * is proved: table_try_up and table_give_back, of a path that is tried, and table_row_tried, of a row. All else here
- * makes calls of burlapslate.h between these.
+ * is proved: table_try_up and table_give_back, of a path that is tried, and table_row_tried, of a row. And so are asks,
+ * whose end comes by a call of the engine's: table_go_on, at the end of each hold that may have ended one, and
+ * table_tell, behind it. All else here makes calls of burlapslate.h between these.
  */
 #include "burlapslate_shared.h"
 
@@ -40,6 +41,54 @@ typedef struct table_deadline {
   struct timespec time;
 } table_deadline;
 
+/* A row as a call names it. */
+typedef struct table_row {
+  bs_node file;
+  uint64_t number;
+  const uint64_t *keys;
+  size_t count;
+} table_row;
+
+/* What is asked for without a sleep. */
+typedef enum table_asked_kind { TABLE_NODE, TABLE_PATH, TABLE_ROW } table_asked_kind;
+
+/* An ask: it waits, its end is to be told, or it is a spare one. */
+typedef struct table_asked {
+  struct table_asked *next; /* in its list */
+  bs_table *table;
+  bs_txn txn;
+  void *word;
+  table_asked_kind kind;
+  bs_node at;               /* the node that it waits for */
+  bs_mode wanted;           /* the mode in which it wants that */
+  bs_node node;             /* of a path, its node */
+  bs_mode mode;             /* of a path and of a row, the mode that is asked */
+  table_row row;
+  uint64_t keys[BS_MOST_PARENTS]; /* of the row: one more than any row has */
+  bool has_limit, has_time;
+  struct timespec limit;    /* of the call */
+  struct timespec time;     /* of the wait: that, or the transaction's where it is earlier */
+  bool is_inside;           /* its call has not returned: so that answers its end */
+  bool has_ended;
+  bs_reply end;
+} table_asked;
+
+/* Asks in their order. */
+typedef struct table_asked_list {
+  table_asked *first, *last;
+} table_asked_list;
+
+/* The asks of a table whose engine has given a function for their ends. */
+typedef struct table_asks {
+  void (*on_end)(void *context, bs_txn txn, bs_reply end, void *word);
+  void *context;
+  bs_slots asked;            /* the slots whose asks wait */
+  bs_slots due;              /* those whose wait a command of this hold may have ended */
+  table_asked *at[BS_SLOTS]; /* by slot: the ask that waits */
+  table_asked_list over;     /* those whose wait ended in this hold */
+  table_asked *spare;
+} table_asks;
+
 /* A table is ending as soon as it is to wake all who sleep, and ended when its manager is gone. */
 typedef enum table_stage { TABLE_OPEN = 0, TABLE_ENDING, TABLE_ENDED } table_stage;
 
@@ -56,7 +105,10 @@ struct bs_table {
   table_turn *first, *last;       /* the line of those who sleep for a slot, by their arrival */
   size_t sleepers;                /* how many threads sleep, for a lock or for a slot */
   uint64_t waited;                /* how many commands had been accepted when the last lock was left waiting */
-  pthread_cond_t left;            /* the last who slept has left an ending table */
+  bool is_due;                    /* this hold may have ended waits of asks: that is looked at before it ends */
+  table_asks *asks;               /* null, where nobody can ask without a sleep */
+  size_t to_tell;                 /* how many ends of asks are to be told, and asks that tell others' before they end */
+  pthread_cond_t left;            /* the last who slept has left an ending table, or the last end was told */
   bool is_watched;                /* there is a thread that watches, and it looks by `eye` */
   pthread_t watch;
   bs_watcher eye;
@@ -86,6 +138,17 @@ static inline bool table_holds(const bs_table *table) {
   return table_held != NULL && table_is_held(table);
 }
 
+/* The ends that this thread tells: null, where it is in no call of an engine's function. */
+static __thread __attribute__((tls_model("initial-exec"))) table_asked_list *table_telling;
+
+static TABLE_APART void table_release_and_tell(bs_table *table);
+
+/* Gives the latch back, behind all that its hold has brought about. */
+static inline void table_release(bs_table *table) {
+  if (table->is_due) table_release_and_tell(table);
+  else pthread_mutex_unlock(&table->latch);
+}
+
 static TABLE_APART bool table_turned_away(bs_table *table) {
   pthread_mutex_unlock(&table->latch);
   return false;
@@ -99,7 +162,7 @@ static inline bool table_enter(bs_table *table) {
 }
 
 static bs_reply table_leave(bs_table *table, bs_reply reply) {
-  pthread_mutex_unlock(&table->latch);
+  table_release(table);
   return reply;
 }
 
@@ -124,6 +187,17 @@ static inline void table_wake_word(bs_table *table, uint64_t word, size_t first)
   for (; word != 0; word &= word - 1) pthread_cond_broadcast(&table->ended[first + (size_t)__builtin_ctzll(word)]);
 }
 
+/* Notes that the waits of asks in these slots may be over. */
+static void table_note_due(bs_table *table, const bs_slots *ended) {
+  table_asks *asks = table->asks;
+  size_t i;
+  for (i = 0; i < BS_SLOTS / 64; i++) {
+    uint64_t due = ended->words[i] & asks->asked.words[i];
+    asks->due.words[i] |= due;
+    if (due != 0) table->is_due = true;
+  }
+}
+
 /* Wakes those whose wait the last command may have ended, which bs_ended says, where that was not refused. */
 static TABLE_APART void table_wake_ended(bs_table *table, bs_status status) {
   bs_slots ended;
@@ -133,6 +207,7 @@ static TABLE_APART void table_wake_ended(bs_table *table, bs_status status) {
   if (!is_accepted) return;
   ended = bs_call_ended(&table->manager).slots;
   for (i = 0; i < BS_SLOTS / 64; i++) table_wake_word(table, ended.words[i], i * 64);
+  if (table->asks != NULL) table_note_due(table, &ended);
 }
 
 /* A wait began: who watches is woken. */
@@ -180,25 +255,42 @@ static const struct timespec *table_earlier(const bs_table *table, bs_txn txn, c
   return own->time.tv_sec == until->tv_sec && own->time.tv_nsec < until->tv_nsec ? &own->time : until;
 }
 
+/* Within a call that goes on: tells what this hold has brought about, with the latch held before and behind it. Others
+ * use the table meanwhile. */
+static TABLE_APART void table_tell_between(bs_table *table) {
+  if (!table->is_due) return;
+  table_release_and_tell(table);
+  pthread_mutex_lock(&table->latch);
+}
+
+/* What became of a lock that was left waiting. */
+static bs_reply table_verdict(bs_table *table, bs_txn txn, bs_node node, bs_mode mode) {
+  if (table->stage == TABLE_ENDING) return table_no_table(table);
+  return bs_call_verdict(&table->manager, txn, node, mode);
+}
+
 /* Of a lock that was answered BS_WAITING: sleeps, with the latch held before and behind it, until it has its verdict,
  * or the time is over, or the table ends. What became of the wait is asked before the clock. The time is copied: a
- * deadline that another thread sets meanwhile is of later waits. */
+ * deadline that another thread sets meanwhile is of later waits. Whose ask it has ended is told before it sleeps. */
 static TABLE_APART bs_reply table_sleep(bs_table *table, bs_txn txn, bs_node node, bs_mode mode,
                                         const struct timespec *until) {
   struct timespec time;
-  bs_reply reply;
-  int late;
-  reply.status = BS_WAITING;
+  bs_reply reply = bs_call_only(BS_WAITING);
+  int late = 0;
   until = table_earlier(table, txn, until);
   if (until != NULL) {
     time = *until;
     until = &time;
   }
   table->sleepers++;
-  do {
+  if (table->is_due) {
+    table_tell_between(table);
+    reply = table_verdict(table, txn, node, mode);
+  }
+  while (reply.status == BS_WAITING && late != ETIMEDOUT) {
     late = table_doze(table, &table->ended[txn.slot], until);
-    reply = table->stage == TABLE_ENDING ? table_no_table(table) : bs_call_verdict(&table->manager, txn, node, mode);
-  } while (reply.status == BS_WAITING && late != ETIMEDOUT);
+    reply = table_verdict(table, txn, node, mode);
+  }
   if (reply.status == BS_WAITING) reply = table_time_out(table, txn);
   table_woken(table);
   return reply;
@@ -310,7 +402,7 @@ static TABLE_APART bs_reply table_tell_none(bs_table *table, bs_notices *told) {
   bs_reply reply;                                        \
   if (!table_enter(table)) return table_no_table(table); \
   reply = call;                                          \
-  pthread_mutex_unlock(&(table)->latch);                 \
+  table_release(table);                                  \
   return reply
 
 #define TABLE_TELL(table, told, by_name, call)                  \
@@ -321,18 +413,28 @@ static TABLE_APART bs_reply table_tell_none(bs_table *table, bs_notices *told) {
   reply = call;                                                 \
   table_wake(table, reply.status, list, by_name);               \
   table_hand_on(table);                                         \
-  pthread_mutex_unlock(&(table)->latch);                        \
+  table_release(table);                                         \
   return reply
 
-/* As table_enter, of a call that may sleep to a time; and why it was not entered. */
+/* As table_enter, of a call with a time; and why it was not entered. */
 static inline bool table_enter_until(bs_table *table, const struct timespec *until) {
   if (!table_enter(table)) return false;
   return table_is_time(until) || table_turned_away(table);
 }
 
-static TABLE_APART bs_reply table_no_sleep(bs_table *table) {
+static TABLE_APART bs_reply table_no_entry(bs_table *table) {
   bs_status shut = bs_call_table_shut(table);
   return bs_call_only(shut == BS_DONE ? BS_BAD_NUMBER : shut);
+}
+
+/* As table_enter_until, of a call that may sleep, which nobody makes who is told an end: the thread is another's. And
+ * why it was not entered. */
+static inline bool table_enter_to_sleep(bs_table *table, const struct timespec *until) {
+  return table_telling == NULL && table_enter_until(table, until);
+}
+
+static TABLE_APART bs_reply table_no_sleep(bs_table *table) {
+  return table != NULL && table_telling != NULL ? bs_call_only(BS_IN_USE) : table_no_entry(table);
 }
 
 /* ------------------------------------------------------------------------------------------------
@@ -360,6 +462,12 @@ static void table_free_table(bs_table *table) {
   pthread_cond_destroy(&table->began);
   pthread_cond_destroy(&table->over);
   pthread_mutex_destroy(&table->latch);
+  while (table->asks != NULL && table->asks->spare != NULL) {
+    table_asked *spare = table->asks->spare;
+    table->asks->spare = spare->next;
+    free(spare);
+  }
+  free(table->asks);
   free(table);
 }
 
@@ -386,17 +494,45 @@ static void table_wake_all(bs_table *table) {
   pthread_cond_broadcast(&table->over);
 }
 
+/* Ends an ask: so its call answers, or else the end is to be told. */
+static void table_end_ask(bs_table *table, table_asked *ask, bs_reply end) {
+  table_asks *asks = table->asks;
+  uint32_t slot = ask->txn.slot;
+  asks->at[slot] = NULL;
+  asks->asked.words[slot / 64] &= ~((uint64_t)1 << slot % 64);
+  ask->end = end;
+  ask->has_ended = true;
+  if (ask->is_inside) return;
+  ask->next = NULL;
+  if (asks->over.first == NULL) asks->over.first = ask;
+  else asks->over.last->next = ask;
+  asks->over.last = ask;
+  table->to_tell++;
+  table->is_due = true;
+}
+
+/* Ends all asks of a table that ends. */
+static void table_end_asks(bs_table *table) {
+  uint32_t slot;
+  for (slot = 0; slot < BS_SLOTS; slot++) {
+    table_asked *ask = table->asks->at[slot];
+    if (ask != NULL) table_end_ask(table, ask, table_no_table(table));
+  }
+}
+
 bs_reply bs_table_end(bs_table *table) {
   bs_reply reply;
   int state;
+  if (table != NULL && table_telling != NULL) return bs_call_only(BS_IN_USE);
   if (!table_enter(table)) return table_no_table(table);
   pthread_setcancelstate(PTHREAD_CANCEL_DISABLE, &state);
   table->stage = TABLE_ENDING;
   table_wake_all(table);
-  pthread_mutex_unlock(&table->latch);
+  if (table->asks != NULL) table_end_asks(table);
+  table_release(table);
   if (table->is_watched) pthread_join(table->watch, NULL);
   pthread_mutex_lock(&table->latch);
-  while (table->sleepers > 0) table_doze(table, &table->left, NULL);
+  while (table->sleepers + table->to_tell > 0) table_doze(table, &table->left, NULL);
   reply = bs_end(&table->manager);
   table->stage = TABLE_ENDED;
   pthread_mutex_unlock(&table->latch);
@@ -448,16 +584,16 @@ bs_reply bs_table_begin(bs_table *table) {
 
 bs_reply bs_table_begin_in_turn(bs_table *table, const struct timespec *until) {
   bs_reply reply;
-  if (!table_enter_until(table, until)) return table_no_sleep(table);
+  if (!table_enter_to_sleep(table, until)) return table_no_sleep(table);
   reply = bs_begin(&table->manager);
   if (reply.status == BS_TOO_MANY_TXNS) reply = table_sleep_in_line(table, until);
-  pthread_mutex_unlock(&table->latch);
+  table_release(table);
   return reply;
 }
 
 bs_reply bs_table_deadline(bs_table *table, bs_txn txn, const struct timespec *until) {
   bs_reply reply;
-  if (!table_enter_until(table, until)) return table_no_sleep(table);
+  if (!table_enter_until(table, until)) return table_no_entry(table);
   reply = bs_call_doing(&table->manager, txn);
   if (reply.status != BS_DONE) return table_leave(table, reply);
   table->deadlines[txn.slot].age = until == NULL ? 0 : txn.age;
@@ -467,20 +603,20 @@ bs_reply bs_table_deadline(bs_table *table, bs_txn txn, const struct timespec *u
 
 bs_reply bs_table_lock(bs_table *table, bs_txn txn, bs_node node, bs_mode mode, const struct timespec *until) {
   bs_reply reply;
-  if (!table_enter_until(table, until)) return table_no_sleep(table);
+  if (!table_enter_to_sleep(table, until)) return table_no_sleep(table);
   reply = bs_lock(&table->manager, txn, node, mode, &table->told);
   table_wake(table, reply.status, &table->told, false);
   if (reply.status == BS_WAITING) reply = table_sleep(table, txn, node, mode, until);
-  pthread_mutex_unlock(&table->latch);
+  table_release(table);
   return reply;
 }
 
 bs_reply bs_table_await(bs_table *table, bs_txn txn, bs_node node, bs_mode mode, const struct timespec *until) {
   bs_reply reply;
-  if (!table_enter_until(table, until)) return table_no_sleep(table);
+  if (!table_enter_to_sleep(table, until)) return table_no_sleep(table);
   reply = bs_call_verdict(&table->manager, txn, node, mode);
   if (reply.status == BS_WAITING) reply = table_sleep(table, txn, node, mode, until);
-  pthread_mutex_unlock(&table->latch);
+  table_release(table);
   return reply;
 }
 
@@ -550,11 +686,11 @@ static bs_reply table_path_inside(bs_table *table, bs_txn txn, bs_node node, bs_
 
 bs_reply bs_table_lock_path(bs_table *table, bs_txn txn, bs_node node, bs_mode mode, const struct timespec *until) {
   bs_reply reply;
-  if (!table_enter_until(table, until)) return table_no_sleep(table);
+  if (!table_enter_to_sleep(table, until)) return table_no_sleep(table);
   do {
     reply = table_path_inside(table, txn, node, mode, until);
   } while (reply.status == BS_ON_THE_WAY);
-  pthread_mutex_unlock(&table->latch);
+  table_release(table);
   return reply;
 }
 
@@ -698,15 +834,7 @@ bs_reply bs_table_index_by(bs_table *table, bs_txn txn, const bs_node *parents, 
  * Rows by the engine's own numbers.
  */
 
-/* A row as a call names it. */
-typedef struct table_row {
-  bs_node file;
-  uint64_t number;
-  const uint64_t *keys;
-  size_t count;
-} table_row;
-
-/* Asks for a row with the latch held, for one who may sleep. */
+/* Asks for a row with the latch held, for one who may wait. */
 static bs_reply table_ask_row(bs_table *table, bs_txn txn, const table_row *row, bs_mode mode) {
   bs_reply reply =
     bs_lock_row(&table->manager, txn, row->file, row->number, row->keys, row->count, mode, &table->told);
@@ -714,18 +842,23 @@ static bs_reply table_ask_row(bs_table *table, bs_txn txn, const table_row *row,
   return reply;
 }
 
-/* Asks for a row, and sleeps where it has to be waited for. Behind the grant it is asked for again: what became of the
- * wait says nothing of its keys. */
+/* Behind a wait for a row that was granted so: it is asked for again, since what became of the wait says nothing of its
+ * keys. */
+static bs_reply table_row_again(bs_table *table, bs_txn txn, const table_row *row, bs_mode mode, bs_node node,
+                                bs_reply granted) {
+  granted.node = node;
+  if (table_ask_row(table, txn, row, mode).status != BS_DONE) granted.status = BS_OTHER_KEYS;
+  return granted;
+}
+
+/* Asks for a row, and sleeps where it has to be waited for. */
 static bs_reply table_row_inside(bs_table *table, bs_txn txn, const table_row *row, bs_mode mode,
                                  const struct timespec *until) {
   bs_reply reply = table_ask_row(table, txn, row, mode);
   bs_node node = reply.node;
   if (reply.status != BS_WAITING) return reply;
   reply = table_sleep(table, txn, node, mode, until);
-  if (reply.status != BS_DONE) return reply;
-  reply.node = node;
-  if (table_ask_row(table, txn, row, mode).status != BS_DONE) reply.status = BS_OTHER_KEYS;
-  return reply;
+  return reply.status == BS_DONE ? table_row_again(table, txn, row, mode, node, reply) : reply;
 }
 
 static table_row table_row_of(bs_node file, uint64_t number, const uint64_t *keys, size_t count) {
@@ -741,9 +874,9 @@ bs_reply bs_table_lock_row(bs_table *table, bs_txn txn, bs_node file, uint64_t n
                            size_t count, bs_mode mode, const struct timespec *until) {
   table_row row = table_row_of(file, number, keys, count);
   bs_reply reply;
-  if (!table_enter_until(table, until)) return table_no_sleep(table);
+  if (!table_enter_to_sleep(table, until)) return table_no_sleep(table);
   reply = table_row_inside(table, txn, &row, mode, until);
-  pthread_mutex_unlock(&table->latch);
+  table_release(table);
   return reply;
 }
 
@@ -795,6 +928,306 @@ bs_reply bs_table_unlock_row(bs_table *table, bs_txn txn, bs_node file, uint64_t
 bs_reply bs_table_rekey_row(bs_table *table, bs_txn txn, bs_node file, uint64_t number, bs_node index, uint64_t key,
                             bs_notices *told) {
   TABLE_TELL(table, told, false, bs_rekey_row(&table->manager, txn, file, number, index, key, list));
+}
+
+/* ------------------------------------------------------------------------------------------------
+ * Asks, which do not sleep: their ends come by calls of the engine's function.
+ */
+
+/* Asks for the locks of a path up to its end, or up to one that waits. Where others fell for one above it goes on. */
+static bs_reply table_ask_path(bs_table *table, table_asked *ask) {
+  bs_reply reply;
+  do {
+    reply = bs_lock_path(&table->manager, ask->txn, ask->node, ask->mode, &table->told);
+    table_wake(table, reply.status, &table->told, false);
+  } while (reply.status == BS_ON_THE_WAY);
+  if (reply.status == BS_WAITING) {
+    ask->at = reply.node;
+    ask->wanted = bs_call_doing(&table->manager, ask->txn).mode;
+  }
+  return reply;
+}
+
+/* A wait of an ask begins: when it ends at the latest. */
+static void table_ask_waits(bs_table *table, table_asked *ask) {
+  const struct timespec *time = table_earlier(table, ask->txn, ask->has_limit ? &ask->limit : NULL);
+  ask->has_time = time != NULL;
+  if (time != NULL) ask->time = *time;
+}
+
+/* What became of the wait of an ask. A path that has not come to its end goes on. */
+static bs_reply table_ask_became(bs_table *table, table_asked *ask) {
+  bs_reply reply = bs_call_verdict(&table->manager, ask->txn, ask->at, ask->wanted);
+  bool is_on_the_way = reply.status == BS_MOVED || (reply.status == BS_DONE && !table_is_same_node(ask->at, ask->node));
+  if (ask->kind == TABLE_ROW && reply.status == BS_DONE) {
+    return table_row_again(table, ask->txn, &ask->row, ask->mode, ask->at, reply);
+  }
+  if (ask->kind != TABLE_PATH || !is_on_the_way) return reply;
+  reply = table_ask_path(table, ask);
+  if (reply.status == BS_WAITING) table_ask_waits(table, ask);
+  return reply;
+}
+
+/* The next slot whose ask is to be looked at, which is looked at then; BS_SLOTS, where there is none. */
+static uint32_t table_take_due(table_asks *asks) {
+  uint32_t i;
+  for (i = 0; i < BS_SLOTS / 64; i++) {
+    uint64_t *word = &asks->due.words[i];
+    if (*word != 0) {
+      uint32_t slot = i * 64 + (uint32_t)__builtin_ctzll(*word);
+      *word &= *word - 1;
+      return slot;
+    }
+  }
+  return BS_SLOTS;
+}
+
+/* Before a hold ends: looks at the asks whose wait it may have ended, by rising slots. A path that goes on may end more
+ * of them. */
+static void table_go_on(bs_table *table) {
+  table_asks *asks = table->asks;
+  uint32_t slot = table_take_due(asks);
+  for (; slot < BS_SLOTS; slot = table_take_due(asks)) {
+    table_asked *ask = asks->at[slot];
+    bs_reply end = ask == NULL ? bs_call_only(BS_WAITING) : table_ask_became(table, ask);
+    if (end.status != BS_WAITING) table_end_ask(table, ask, end);
+  }
+  table->is_due = asks->over.first != NULL;
+}
+
+static void table_spare(bs_table *table, table_asked *ask) {
+  ask->next = table->asks->spare;
+  table->asks->spare = ask;
+}
+
+/* An end was told, or an ask has told others'. */
+static void table_was_told(bs_table *table) {
+  table->to_tell--;
+  if (table->stage == TABLE_ENDING && table->to_tell == 0) pthread_cond_signal(&table->left);
+}
+
+/* Makes the engine's call for an ask that has ended, without the latch. What the engine's function has taken by
+ * bs_table_hold it has no more behind it. */
+static void table_tell_one(table_asked *ask) {
+  bs_table *table = ask->table;
+  bs_table *held = table_held;
+  table->asks->on_end(table->asks->context, ask->txn, ask->end, ask->word);
+  while (table_held != held && table_held != NULL) bs_table_let_go(table_held);
+  pthread_mutex_lock(&table->latch);
+  table_spare(table, ask);
+  table_was_told(table);
+  pthread_mutex_unlock(&table->latch);
+}
+
+/* Makes the engine's calls for these, and for those that come to an end by its calls of a table: where this thread is
+ * in a call of the function already, that tells them behind it. The thread's cancellation is held off. */
+static void table_tell(table_asked_list *over) {
+  int state;
+  if (table_telling != NULL) {
+    if (table_telling->first == NULL) table_telling->first = over->first;
+    else table_telling->last->next = over->first;
+    table_telling->last = over->last;
+    return;
+  }
+  pthread_setcancelstate(PTHREAD_CANCEL_DISABLE, &state);
+  table_telling = over;
+  while (over->first != NULL) {
+    table_asked *next = over->first;
+    over->first = next->next;
+    table_tell_one(next);
+  }
+  table_telling = NULL;
+  pthread_setcancelstate(state, &state);
+}
+
+static TABLE_APART void table_release_and_tell(bs_table *table) {
+  table_asked_list over;
+  table_go_on(table);
+  over = table->asks->over;
+  table->asks->over.first = NULL;
+  table->is_due = false;
+  pthread_mutex_unlock(&table->latch);
+  if (over.first != NULL) table_tell(&over);
+}
+
+bs_reply bs_table_on_end(bs_table *table, void (*function)(void *context, bs_txn txn, bs_reply end, void *word),
+                         void *context) {
+  if (table == NULL || function == NULL) return bs_call_null();
+  if (!table_enter(table)) return table_no_table(table);
+  if (table->asks != NULL) return table_leave(table, bs_call_only(BS_IN_USE));
+  table->asks = (table_asks *)malloc(sizeof *table->asks);
+  if (table->asks == NULL) return table_leave(table, bs_call_only(BS_NO_MEMORY));
+  memset(table->asks, 0, sizeof *table->asks);
+  table->asks->on_end = function;
+  table->asks->context = context;
+  return table_leave(table, bs_call_only(BS_DONE));
+}
+
+/* A place for an ask; null where memory is refused. */
+static table_asked *table_place(bs_table *table) {
+  table_asked *place = table->asks->spare;
+  if (place == NULL) return (table_asked *)malloc(sizeof *place);
+  table->asks->spare = place->next;
+  return place;
+}
+
+/* Enters a table for an ask, with a place for it; null where that is refused, as `why` says then. */
+static table_asked *table_enter_to_ask(bs_table *table, bs_txn txn, const struct timespec *until, void *word,
+                                       bs_reply *why) {
+  table_asked *own;
+  if (!table_enter_until(table, until)) {
+    *why = table_no_entry(table);
+    return NULL;
+  }
+  own = table->asks == NULL ? NULL : table_place(table);
+  if (own == NULL) {
+    *why = table_leave(table, table->asks == NULL ? bs_call_null() : bs_call_only(BS_NO_MEMORY));
+    return NULL;
+  }
+  memset(own, 0, sizeof *own);
+  own->table = table;
+  own->txn = txn;
+  own->word = word;
+  own->has_limit = until != NULL;
+  if (until != NULL) own->limit = *until;
+  return own;
+}
+
+/* Leaves behind an ask that waits, where others' ends are to be told before it returns. Its own end, where it comes
+ * meanwhile, is its answer. */
+static TABLE_APART bs_reply table_ask_and_tell(bs_table *table, table_asked *own, bs_reply reply) {
+  own->is_inside = true;
+  table->to_tell++;
+  table_release_and_tell(table);
+  pthread_mutex_lock(&table->latch);
+  own->is_inside = false;
+  if (own->has_ended) {
+    reply = own->end;
+    table_spare(table, own);
+  }
+  table_was_told(table);
+  pthread_mutex_unlock(&table->latch);
+  return reply;
+}
+
+/* Leaves behind an ask that was answered so. */
+static bs_reply table_leave_asked(bs_table *table, table_asked *own, bs_reply reply) {
+  uint32_t slot = own->txn.slot;
+  if (reply.status != BS_WAITING) {
+    table_spare(table, own);
+    return table_leave(table, reply);
+  }
+  table_ask_waits(table, own);
+  table->asks->at[slot] = own;
+  table->asks->asked.words[slot / 64] |= (uint64_t)1 << slot % 64;
+  return table->is_due ? table_ask_and_tell(table, own, reply) : table_leave(table, reply);
+}
+
+bs_reply bs_table_ask(bs_table *table, bs_txn txn, bs_node node, bs_mode mode, const struct timespec *until,
+                      void *word) {
+  bs_reply reply;
+  table_asked *own = table_enter_to_ask(table, txn, until, word, &reply);
+  if (own == NULL) return reply;
+  own->kind = TABLE_NODE;
+  own->at = node;
+  own->wanted = mode;
+  reply = bs_lock(&table->manager, txn, node, mode, &table->told);
+  table_wake(table, reply.status, &table->told, false);
+  return table_leave_asked(table, own, reply);
+}
+
+bs_reply bs_table_ask_await(bs_table *table, bs_txn txn, bs_node node, bs_mode mode, const struct timespec *until,
+                            void *word) {
+  bs_reply reply;
+  table_asked *own = table_enter_to_ask(table, txn, until, word, &reply);
+  if (own == NULL) return reply;
+  own->kind = TABLE_NODE;
+  own->at = node;
+  own->wanted = mode;
+  reply = bs_verdict(&table->manager, txn, node, mode);
+  if (reply.status == BS_WAITING && table->asks->at[txn.slot] != NULL) reply.status = BS_IN_USE;
+  return table_leave_asked(table, own, reply);
+}
+
+bs_reply bs_table_ask_path(bs_table *table, bs_txn txn, bs_node node, bs_mode mode, const struct timespec *until,
+                           void *word) {
+  bs_reply reply;
+  table_asked *own = table_enter_to_ask(table, txn, until, word, &reply);
+  if (own == NULL) return reply;
+  own->kind = TABLE_PATH;
+  own->node = node;
+  own->mode = mode;
+  reply = table_ask_path(table, own);
+  return table_leave_asked(table, own, reply);
+}
+
+/* Keeps the keys of a row. More than any row has are cut to so many that they are others still. */
+static void table_keep_keys(table_asked *own) {
+  if (own->row.count > BS_MOST_PARENTS) own->row.count = BS_MOST_PARENTS;
+  if (own->row.count > 0) memcpy(own->keys, own->row.keys, own->row.count * sizeof own->keys[0]);
+  own->row.keys = own->keys;
+}
+
+bs_reply bs_table_ask_row(bs_table *table, bs_txn txn, bs_node file, uint64_t number, const uint64_t *keys,
+                          size_t count, bs_mode mode, const struct timespec *until, void *word) {
+  bs_reply reply;
+  table_asked *own = table_enter_to_ask(table, txn, until, word, &reply);
+  if (own == NULL) return reply;
+  own->kind = TABLE_ROW;
+  own->mode = mode;
+  own->row = table_row_of(file, number, keys, count);
+  reply = table_ask_row(table, txn, &own->row, mode);
+  own->at = reply.node;
+  own->wanted = mode;
+  if (reply.status == BS_WAITING) table_keep_keys(own);
+  return table_leave_asked(table, own, reply);
+}
+
+static bool table_is_later(const struct timespec *one, const struct timespec *other) {
+  return one->tv_sec > other->tv_sec || (one->tv_sec == other->tv_sec && one->tv_nsec > other->tv_nsec);
+}
+
+/* Takes back the wait of each ask whose time is over; how many. What one of them grants to others is theirs, before it
+ * is asked whether their time is over. */
+static size_t table_end_late(bs_table *table, const struct timespec *now) {
+  size_t count = 0;
+  uint32_t slot;
+  for (slot = 0; slot < BS_SLOTS; slot++) {
+    table_asked *ask = table->asks->at[slot];
+    if (ask != NULL && ask->has_time && !table_is_later(&ask->time, now)) {
+      table_end_ask(table, ask, table_time_out(table, ask->txn));
+      table_go_on(table);
+      count++;
+    }
+  }
+  return count;
+}
+
+/* How many asks wait to a time; the earliest of these is written. */
+static uint64_t table_next_time(const bs_table *table, struct timespec *next) {
+  const struct timespec *first = NULL;
+  uint64_t count = 0;
+  uint32_t slot;
+  for (slot = 0; slot < BS_SLOTS; slot++) {
+    const table_asked *ask = table->asks->at[slot];
+    if (ask != NULL && ask->has_time) {
+      if (first == NULL || table_is_later(first, &ask->time)) first = &ask->time;
+      count++;
+    }
+  }
+  if (first != NULL && next != NULL) *next = *first;
+  return count;
+}
+
+bs_reply bs_table_expire(bs_table *table, struct timespec *next) {
+  bs_reply reply = bs_call_only(BS_DONE);
+  if (!table_enter(table)) return table_no_table(table);
+  if (table->asks != NULL) {
+    struct timespec now = table_ahead(0, 0);
+    while (table_end_late(table, &now) > 0) continue;
+    reply.count = table_next_time(table, next);
+  }
+  return table_leave(table, reply);
 }
 
 /* ------------------------------------------------------------------------------------------------
@@ -924,7 +1357,7 @@ size_t bs_table_run(bs_table *table, bs_command *commands, size_t count) {
     done++;
   }
   table_hand_on(table);
-  pthread_mutex_unlock(&table->latch);
+  table_release(table);
   if (done < count) table_not_made(commands + done + 1, count - done - 1);
   return done;
 }
@@ -943,7 +1376,7 @@ size_t bs_table_try_first(bs_table *table, bs_command *commands, size_t count) {
   if (commands == NULL || count == 0) return count;
   if (!table_enter(table)) return table_none_made(table, commands, count);
   while (place < count && table_try_one(table, &commands[place]) == BS_WOULD_BLOCK) place++;
-  pthread_mutex_unlock(&table->latch);
+  table_release(table);
   if (place < count) table_not_made(commands + place + 1, count - place - 1);
   return place;
 }
@@ -1026,6 +1459,7 @@ static void *table_watch_over(void *place) {
     if (board.epoch < seen) bs_read_board(&table->manager, &board);
     seen = board.epoch;
     table_settle_all(table, &board);
+    table_tell_between(table);
     table_rest(table, table->pace);
   }
   pthread_mutex_unlock(&table->latch);

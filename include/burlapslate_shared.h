@@ -42,6 +42,26 @@
  *   - BS_NO_MANAGER: bs_table_end was called.
  * A grant that came before the one who sleeps got the latch is a grant, also where its time was over by then. One who
  * sleeps for a slot is answered as bs_table_begin_in_turn says, and BS_NO_MANAGER where the table ends.
+ *
+ * WAITS WITHOUT A THREAD THAT SLEEPS. An event loop asks: bs_table_ask and its like are answered at once, with
+ * BS_WAITING where the lock waits. How such a wait ends is told by a call of a function of the engine's, which it gives
+ * by bs_table_on_end: with the transaction, the reply that one who sleeps would be answered, and the word that was
+ * given with the ask.
+ *   - An ask that was answered BS_WAITING has one such call, and no other ask has any. Its wait ends as a sleep does.
+ *   - The call is made by the thread that ended the wait, in its own call of the table, behind its commands and without
+ *     the latch, before it sleeps and before it returns. That may be any thread: also one that sleeps for a lock, the
+ *     one that watches, or the one that ends the table. Those that one command ended are told by rising slots. Two
+ *     threads may call the function at once.
+ *   - An ask whose wait ends before it lets the table go for the last time is answered with that end, and has no call.
+ *     So the call is never made within the ask itself. But what the asker writes behind its ask may not be there yet:
+ *     it gives by the word all that the function needs.
+ *   - A path goes on by itself, in the hold of whoever granted a lock on its way, and a row is asked for again there.
+ *   - Nobody sleeps for the time of an ask: whoever has a clock calls bs_table_expire.
+ * THE FUNCTION may make any call of a table, also of this one, but for those that could sleep, and bs_table_end: these
+ * are refused with BS_IN_USE, of any table. What its calls end is told behind it, by the same thread, so that no thread
+ * calls it within itself. What it has taken by bs_table_hold is given back behind it. It returns, and leaves in no
+ * other way; a pthread_cancel comes behind it. It takes no mutex that any thread holds round a call of the table. The
+ * thread whose call it is waits for it: so it is short, as a write to an eventfd that wakes the loop.
  */
 #ifndef BURLAPSLATE_SHARED_H
 #define BURLAPSLATE_SHARED_H
@@ -213,6 +233,41 @@ bs_reply bs_table_try_row(bs_table *table, bs_txn txn, bs_node file, uint64_t nu
 bs_reply bs_table_unlock_row(bs_table *table, bs_txn txn, bs_node file, uint64_t number, bs_notices *told);
 bs_reply bs_table_rekey_row(bs_table *table, bs_txn txn, bs_node file, uint64_t number, bs_node index, uint64_t key,
                             bs_notices *told);
+
+/* ------------------------------------------------------------------------------------------------
+ * Asks, which do not sleep: their ends come by calls of the engine's function.
+ */
+
+/* Gives a table the function that is called with the end of each ask, and its first argument, which may be null. A
+ * table has one, for good: BS_IN_USE where it has one already. Refused with BS_NULL_POINTER also where the function is
+ * null, BS_IN_USE, BS_NO_MEMORY. */
+bs_reply bs_table_on_end(bs_table *table, void (*function)(void *context, bs_txn txn, bs_reply end, void *word),
+                         void *context);
+
+/* As bs_table_lock, bs_table_lock_path and bs_table_lock_row, but where the lock waits it is answered BS_WAITING, and
+ * its end comes by a call with `word`. Until then the transaction waits: other commands of it are refused with
+ * BS_TXN_WAITING, and bs_table_cancel and bs_table_abort end the wait. `until`, and the transaction's deadline, are
+ * the time from which on bs_table_expire takes the wait back. The keys of a row are copied. Refused with
+ * BS_NULL_POINTER also where the table has no function. BS_NO_MEMORY may come before all other refusals but
+ * BS_NULL_POINTER, BS_BAD_NUMBER of the time, BS_NO_MANAGER and BS_IN_USE. To end takes no memory. */
+bs_reply bs_table_ask(bs_table *table, bs_txn txn, bs_node node, bs_mode mode, const struct timespec *until,
+                      void *word);
+bs_reply bs_table_ask_path(bs_table *table, bs_txn txn, bs_node node, bs_mode mode, const struct timespec *until,
+                           void *word);
+bs_reply bs_table_ask_row(bs_table *table, bs_txn txn, bs_node file, uint64_t number, const uint64_t *keys,
+                          size_t count, bs_mode mode, const struct timespec *until, void *word);
+
+/* As bs_table_await, of a lock that bs_table_run left waiting: where it waits still it is answered BS_WAITING, and its
+ * end comes by a call. Refused with BS_IN_USE also where an ask waits for it already. */
+bs_reply bs_table_ask_await(bs_table *table, bs_txn txn, bs_node node, bs_mode mode, const struct timespec *until,
+                            void *word);
+
+/* Takes back the wait of each ask whose time is over by CLOCK_MONOTONIC, which ends with BS_TIMED_OUT. How many wait
+ * to a time still is in `count`; where that is not 0 the earliest of these times is written into `next`, which may be
+ * null. It is for a loop that has a timer of its own, which makes this call behind it and sets it to `next`; a time
+ * that is asked for meanwhile may be earlier. An ask whose time is over is waiting until somebody makes this call.
+ * Costs a step for each slot. */
+bs_reply bs_table_expire(bs_table *table, struct timespec *next);
 
 /* ------------------------------------------------------------------------------------------------
  * Several commands in one hold of the latch, with nobody's between them.

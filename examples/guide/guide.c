@@ -85,6 +85,7 @@ int main(void) {
   TELL(more_clients_than_slots);
   TELL(locks_that_do_not_wait);
   TELL(jobs_in_a_table);
+  TELL(an_event_loop);
   TELL(which_node_for_what);
   TELL(pages_as_records);
   TELL(rows_while_they_are_locked);

@@ -46,6 +46,9 @@ void more_clients_than_slots(void);
 void locks_that_do_not_wait(void);
 void jobs_in_a_table(void);
 
+/* loop.c */
+void an_event_loop(void);
+
 /* nodes.c */
 void which_node_for_what(void);
 void pages_as_records(void);

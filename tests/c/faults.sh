@@ -70,8 +70,8 @@ words-but-the-first-sleep-on	s/  for (i = 0; i < BS_SLOTS \/ 64; i++) table_wake
 watch-is-not-woken	s/^  pthread_cond_signal(&table->began);//
 watch-forgets-to-wake	s/  table_wake(table, \(bs_settle(.*\)\.status, &table->told, false);/  \1;/
 path-forgets-a-cancel	s/  path->is_cancelled = true;//
-early-return	s/    reply = table->stage == TABLE_ENDING ? .*/    reply.status = BS_DONE, reply.mode = mode;/
-time-before-grant	s/    reply = table->stage == TABLE_ENDING ? /    if (late == 0) &/
+early-return	s/    reply = table_verdict(.*/    reply.status = BS_DONE, reply.mode = mode;/
+time-before-grant	s/    reply = table_verdict(/    if (late == 0) &/
 sleeper-is-cancelled	/table_doze(/,/^}/s/  pthread_setcancelstate(PTHREAD_CANCEL_DISABLE, &state);/  state = PTHREAD_CANCEL_ENABLE;/
 list-keeps-replies	s/  if (done < count) table_not_made(.*//
 dump-keeps-the-latch	s/  if (copy->manager == NULL) bs_table_let_go(copy->table);//
@@ -82,7 +82,7 @@ watch-does-not-rest	s/    table_rest(table, table->pace);//
 end-leaves-sleepers	s/  for (slot = 0; slot < BS_SLOTS; slot++) pthread_cond_broadcast(.*//
 end-leaves-the-watch	s/  pthread_cond_broadcast(&table->began);//
 end-leaves-the-rest	s/  pthread_cond_broadcast(&table->over);//
-end-does-not-wait	s/  while (table->sleepers > 0) .*//
+end-does-not-wait	s/  while (table->sleepers + table->to_tell > 0) .*//
 last-sleeper-says-nothing	s/  if (table->stage == TABLE_ENDING && table->sleepers == 0) .*//
 free-does-not-ask	s/  if (!is_ended) return bs_call_only(BS_IN_USE);//
 free-keeps-the-pointer	s/^  \*table = NULL;$//
@@ -103,6 +103,48 @@ deadline-is-forgotten	s/  until = table_earlier(table, txn, until);//
 deadline-is-of-the-slot	s/  if (own->age != txn.age) return until;/  if (own->age == 0) return until;/
 deadline-hides-the-call	s/  return own->time.tv_sec == until->tv_sec .*/  return \&own->time;/
 ahead-by-a-second-less	s/    time.tv_sec++;//
+asks-are-told-under-the-latch	/table_release_and_tell(bs_table \*table) {/,/^}/s/^  pthread_mutex_unlock(&table->latch);$//; /table_release_and_tell(bs_table \*table) {/,/^}/s/^  if (over.first != NULL) table_tell(&over);/&\n  pthread_mutex_unlock(\&table->latch);/
+asks-are-not-due	s/    if (due != 0) table->is_due = true;//
+asks-of-a-word-are-not-due	/table_note_due(/,/^}/s/  for (i = 0; i < BS_SLOTS/  for (i = 1; i < BS_SLOTS/
+one-of-two-is-told	s/^    over->first = next->next;/    over->first = next->next == NULL ? NULL : next->next->next;/
+asks-are-told-by-falling-slots	s/__builtin_ctzll(\*word)/(63 - __builtin_clzll(*word))/; s/      \*word &= \*word - 1;/      *word \&= ~((uint64_t)1 << slot % 64);/
+an-end-is-told-twice	s/^  table->asks->on_end(.*/&\n&/
+an-end-is-told-within-the-ask	s/^  if (ask->is_inside) return;//
+an-ask-is-answered-waiting	/table_ask_and_tell(/,/^}/s/^    reply = own->end;//
+the-function-is-called-within-itself	s/^  if (table_telling != NULL) {$/  if (false) {/
+what-is-held-in-a-call-stays-held	s/^  while (table_held != held && table_held != NULL) .*//
+asked-path-does-not-go-on	s/  if (ask->kind != TABLE_PATH || !is_on_the_way) return reply;/  return reply;/
+asked-path-does-not-begin-anew	s/  bool is_on_the_way = reply.status == BS_MOVED || /  bool is_on_the_way = /
+asked-path-stops-on-the-way	/^static bs_reply table_ask_path(/,/^}/s/  } while (reply.status == BS_ON_THE_WAY);/  } while (false);/
+asked-path-wakes-nobody	/^static bs_reply table_ask_path(/,/^}/s/    table_wake(table, reply.status, &table->told, false);//
+asked-path-forgets-its-node	s/    ask->at = reply.node;//
+asked-path-forgets-its-time	s/  if (reply.status == BS_WAITING) table_ask_waits(table, ask);//
+asked-row-is-not-asked-again	s/  if (ask->kind == TABLE_ROW \&\& reply.status == BS_DONE) {/  if (false) {/
+asked-row-keeps-no-keys	s/  if (reply.status == BS_WAITING) table_keep_keys(own);//
+asked-row-keeps-all-keys	s/  if (own->row.count > BS_MOST_PARENTS) .*//
+ask-wakes-nobody	/^bs_reply bs_table_ask(/,/^}/s/  table_wake(table, reply.status, &table->told, false);//
+ask-is-not-noted	s/  table->asks->asked.words\[slot \/ 64\] |= .*//
+ask-is-awaited-twice	s/  if (reply.status == BS_WAITING \&\& table->asks->at\[txn.slot\] != NULL) .*//
+ask-has-no-time	s/  ask->has_time = time != NULL;/  ask->has_time = false;/
+ask-has-no-deadline	s/table_earlier(table, ask->txn, ask->has_limit ? &ask->limit : NULL);/ask->has_limit ? \&ask->limit : NULL;/
+time-leaves-the-wait	s/      table_end_ask(table, ask, table_time_out(table, ask->txn));/      table_end_ask(table, ask, bs_call_only(BS_TIMED_OUT));/
+times-are-not-over	/^bs_reply bs_table_expire(/,/^}/s/    while (table_end_late(table, &now) > 0) continue;//
+times-are-looked-at-once	/^bs_reply bs_table_expire(/,/^}/s/    while (table_end_late(table, &now) > 0) continue;/    table_end_late(table, \&now);/
+all-times-are-over	s/ask->has_time \&\& !table_is_later(&ask->time, now)/ask->has_time/
+the-latest-time-is-next	s/table_is_later(first, &ask->time)/table_is_later(\&ask->time, first)/
+end-forgets-asks	s/  if (table->asks != NULL) table_end_asks(table);//
+end-does-not-wait-for-calls	s/  while (table->sleepers + table->to_tell > 0) /  while (table->sleepers > 0) /
+last-call-says-nothing	s/  if (table->stage == TABLE_ENDING \&\& table->to_tell == 0) .*//
+a-call-ends-a-table	s/  if (table != NULL \&\& table_telling != NULL) return bs_call_only(BS_IN_USE);//
+a-call-sleeps	s/  return table_telling == NULL \&\& table_enter_until/  return table_enter_until/
+a-call-is-cancelled	/^static void table_tell(/,/^}/s/  pthread_setcancelstate(PTHREAD_CANCEL_DISABLE, &state);/  state = PTHREAD_CANCEL_ENABLE;/
+a-sleeper-tells-behind-its-sleep	/^static TABLE_APART bs_reply table_sleep(/,/^}/s/^  if (table->is_due) {/  if (false) {/
+a-sleeper-does-not-look-again	/^  if (table->is_due) {/,/^  }/s/    reply = table_verdict(.*//
+watch-tells-nobody-before-it-rests	/^static void \*table_watch_over(/,/^}/s/^    table_tell_between(table);$//
+a-list-tells-nobody	/^size_t bs_table_run(/,/^}/s/  table_release(table);/  pthread_mutex_unlock(\&table->latch);/
+a-call-tells-nobody	s/  table_release(table);                                         \\/  pthread_mutex_unlock(\&(table)->latch); \\/
+on-end-is-given-twice	s/  if (table->asks != NULL) return table_leave(table, bs_call_only(BS_IN_USE));//
+spare-asks-are-kept	s/  while (table->asks != NULL \&\& table->asks->spare != NULL) {/  while (false) {/
 end-leaves-the-line	s/  for (each = table->first; each != NULL; .*//
 FAULTS
 }
@@ -112,14 +154,15 @@ found() {
   local there=$work/$1 compiler=${CC:-cc} program
   mkdir -p "$there" && cp "$top"/c/*.c "$there/" && sed -i "$2" "$there"/*.c || return 1
   ! diff -q "$top/c" "$there" -x out >/dev/null || { echo "faults.sh: $1 changes nothing"; return 1; }
-  for program in shared crowd; do
+  for program in shared asks crowd; do
     local with=()
-    [ "$program" != shared ] || with=(-Wl,--wrap=malloc,--wrap=realloc,--wrap=free)
+    [ "$program" = crowd ] || with=(-Wl,--wrap=malloc,--wrap=realloc,--wrap=free)
     # shellcheck disable=SC2086 # CC and FAULT_LINKS may have several words.
     $compiler -std=c99 -D_POSIX_C_SOURCE=200809L -pthread -O1 -w -I"$top/include" -I"$there" -o "$there/$program" \
       "$top/tests/c/$program.c" "${libraries[@]}" ${FAULT_LINKS:-} "${with[@]}" || return 1
   done
-  timeout 60 "$there/shared" 5 >"$there/said" 2>&1 && timeout 60 "$there/crowd" 4 4 >>"$there/said" 2>&1
+  timeout 60 "$there/shared" 5 >"$there/said" 2>&1 && timeout 60 "$there/asks" 5 100 >>"$there/said" 2>&1 &&
+    timeout 60 "$there/crowd" 4 4 >>"$there/said" 2>&1
   [ $? -eq 1 ] || { echo "faults.sh: $1 was not found"; return 1; }
   echo "$1: found: $(grep -E ': (hangs|not so|[a-z_]*: not so)' "$there/said" | tail -n 1 | sed 's/^[^ ]*\.c:[0-9]*: //')"
 }

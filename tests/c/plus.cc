@@ -48,7 +48,24 @@ static bool shares() {
   return is_written && bs_table_end(table).status == BS_DONE && bs_table_free(&table).status == BS_DONE;
 }
 
+static void hear(void *context, bs_txn txn, bs_reply end, void *word) {
+  bool is_granted = context == NULL && end.status == BS_DONE && end.mode == BS_X;
+  if (is_granted) static_cast<bs_txn *>(word)->age -= txn.age;
+}
+
+static bool asks() {
+  if (bs_table_make(&table, NULL).status != BS_DONE || bs_table_on_end(table, hear, NULL).status != BS_DONE) return false;
+  root = bs_table_add_inner(table, NULL, 0).node;
+  bs_txn a = bs_table_begin(table).txn, b = bs_table_begin(table).txn, heard = b;
+  if (bs_table_ask(table, a, root, BS_X, NULL, NULL).status != BS_DONE) return false;
+  if (bs_table_ask_path(table, b, root, BS_X, NULL, &heard).status != BS_WAITING) return false;
+  if (bs_table_ask_row(table, a, root, 1, NULL, 0, BS_X, NULL, NULL).status != BS_NOT_ROWS) return false;
+  if (bs_table_ask_await(table, a, root, BS_X, NULL, NULL).status != BS_NOT_WAITING) return false;
+  if (bs_table_expire(table, NULL).count != 0 || bs_table_commit(table, a, NULL).status != BS_DONE) return false;
+  return heard.age == 0 && bs_table_end(table).status == BS_DONE && bs_table_free(&table).status == BS_DONE;
+}
+
 int main() {
   bs_manager m = BS_NO_MANAGER_HERE;
-  return bs_end(&m).status == BS_NO_MANAGER && shares() ? 0 : 1;
+  return bs_end(&m).status == BS_NO_MANAGER && shares() && asks() ? 0 : 1;
 }

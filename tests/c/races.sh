@@ -1,7 +1,7 @@
 #!/usr/bin/env bash
-# races.sh [TOOL..]: runs the stories of a shared table and a small crowd under tools that look for races: `tsan`
+# races.sh [TOOL..]: runs the stories of a shared table, its asks and a small crowd under tools that look for races: `tsan`
 # (ThreadSanitizer, which sees what is compiled here: the table and the programs), `helgrind` and `drd` (valgrind's,
-# which see the library too); all three where none is named. `short` stands for the stories alone, under the first of
+# which see the library too); all three where none is named. `short` stands for the stories and the asks, under the first of
 # them that is found, which takes seconds: where none is, it ends with status 77, not tried. races.supp says what is no
 # race. Prints a line for each run. Ends with status 1 where one reports anything or a program fails; a tool that is not
 # found is passed over. RACES_LIBS names other archives than those of tools/c_library.sh, with a space between. CC names another compiler.
@@ -17,7 +17,7 @@ read -r -a libraries <<<"${RACES_LIBS:-$("$top/tools/c_library.sh" | tr '\n' ' '
 compile() {
   local with=("${@:3}") compiler=${CC:-cc}
   # shellcheck disable=SC2054 # The commas are of one word.
-  [ "$2" != shared ] || with+=(-Wl,--wrap=malloc,--wrap=realloc,--wrap=free)
+  [ "$2" = crowd ] || with+=(-Wl,--wrap=malloc,--wrap=realloc,--wrap=free)
   # shellcheck disable=SC2086 # CC may have words behind the name.
   $compiler -std=c99 -D_POSIX_C_SOURCE=200809L -pthread -Wall -Wextra -g -O1 -I"$top/include" -o "$work/$1" \
     -I"$top/c" "$top/tests/c/$2.c" "${libraries[@]:1}" "${with[@]}"
@@ -47,21 +47,26 @@ for tool in "$@"; do
     short)
       if compile shared-tsan shared -fsanitize=thread 2>/dev/null; then
         quiet "tsan, the stories" "$work/shared-tsan" 60 256 || status=1
+        compile asks-tsan asks -fsanitize=thread || exit 1
+        quiet "tsan, the asks" "$work/asks-tsan" 60 60 || status=1
       elif command -v valgrind >/dev/null; then
-        compile shared shared || exit 1
+        compile shared shared && compile asks asks || exit 1
         watched[1]=--tool=helgrind
         quiet "helgrind, the stories" "${watched[@]}" "$work/shared" 300 256 || status=1
+        quiet "helgrind, the asks" "${watched[@]}" "$work/asks" 300 20 || status=1
       else
         echo "races.sh: not tried: neither ThreadSanitizer nor valgrind is found"
         exit 77
       fi
       ;;
     tsan)
-      if ! compile shared-tsan shared -fsanitize=thread || ! compile crowd-tsan crowd -fsanitize=thread; then
+      if ! compile shared-tsan shared -fsanitize=thread || ! compile asks-tsan asks -fsanitize=thread ||
+        ! compile crowd-tsan crowd -fsanitize=thread; then
         echo "tsan: this compiler has none, so nothing was tried"
         continue
       fi
       quiet "tsan, the stories" "$work/shared-tsan" 300 || status=1
+      quiet "tsan, the asks" "$work/asks-tsan" 300 || status=1
       quiet "tsan, the crowd" "$work/crowd-tsan" 4 300 || status=1
       ;;
     helgrind | drd)
@@ -69,8 +74,9 @@ for tool in "$@"; do
         echo "$tool: valgrind is not found, so nothing was tried"
         continue
       fi
-      compile shared shared && compile crowd crowd || exit 1
+      compile shared shared && compile asks asks && compile crowd crowd || exit 1
       quiet "$tool, the stories" "${watched[@]}" "$work/shared" 900 256 || status=1
+      quiet "$tool, the asks" "${watched[@]}" "$work/asks" 900 20 || status=1
       quiet "$tool, the crowd" "${watched[@]}" "$work/crowd" 1 900 || status=1
       ;;
     *)

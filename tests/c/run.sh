@@ -1,7 +1,7 @@
 #!/usr/bin/env bash
 # run.sh [--slots N]: compiles the stories over the C library, and runs them. Prints a line for each story, of one thread
 # and of a shared table, and for each setting of a crowd. A program with the headers of another library is refused, and
-# one that gives a command a manager that is lent is not compiled. Then it plants six faults in the shared table, which
+# one that gives a command a manager that is lent is not compiled. Then it plants eight faults in the shared table, which
 # the stories must find. Ends with status 1 where something is not as wanted; where there is no C compiler it says so, and
 # ends with status 77: not tried. CC names another compiler than cc. N is the number of slots of the library, 128 or 1024
 # (tools/c_library.sh); faults are planted for 128 alone.
@@ -30,7 +30,7 @@ mapfile -t libraries < <("$top/tools/c_library.sh" --slots "$slots" 2>"$work/log
 compile() {
   local with=("${libraries[@]}")
   case $1 in
-    shared | crowd) with=(-I"$top/c" "${libraries[@]:1}") ;;
+    shared | crowd | asks) with=(-I"$top/c" "${libraries[@]:1}") ;;
   esac
   # shellcheck disable=SC2086 # CC may have words behind the name.
   $compiler -std=c99 -D_POSIX_C_SOURCE=200809L -pthread -Wall -Wextra -Werror -O1 -I"$headers" -o "$work/$1" \
@@ -78,6 +78,8 @@ compile many -Wl,--wrap=malloc,--wrap=realloc,--wrap=free || exit 1
 timeout 100 "$work/many" || exit 1
 compile shared -Wl,--wrap=malloc,--wrap=realloc,--wrap=free || exit 1
 timeout 60 "$work/shared" || exit 1
+compile asks -Wl,--wrap=malloc,--wrap=realloc,--wrap=free || exit 1
+timeout 120 "$work/asks" || exit 1
 compile crowd || exit 1
 # A thousand threads begin one transaction each, and may take a minute.
 few=()
@@ -105,5 +107,5 @@ with PATCH 999 && compile stories -Wl,--wrap=malloc,--wrap=realloc,--wrap=free |
 timeout 60 "$work/stories" >"$work/log" || fails "a library of another last number is refused"
 [ "$slots" = 128 ] || exit 0
 "$top/tests/c/faults.sh" commit-forgets-to-wake early-return row-is-not-asked-again begin-passes-the-line \
-  try-path-keeps-what-it-took try-row-joins-the-queue \
+  try-path-keeps-what-it-took try-row-joins-the-queue asks-are-told-under-the-latch asked-path-does-not-go-on \
   "${libraries[@]:1}" || exit 1

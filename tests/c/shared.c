@@ -2163,6 +2163,7 @@ static void a_reader_skips_a_parent(void) {
 /* One that would block on its last node, or above it, keeps its way or gives it back. */
 static void a_try_gives_back_its_way(void) {
   bs_txn a, b, t;
+  told_by_release = 0;
   set_up(BS_AT_BLOCK);
   told_by_release = 0;
   a = begin(), b = begin(), t = begin();

@@ -28,8 +28,8 @@
 //!
 //! A [`Table`] is what threads share: each begins a [`Session`], whose locks sleep until they are
 //! granted, and which is aborted where it is dropped without a commit. Where there are more threads than
-//! slots they [begin in turn](Table::begin_in_turn). A [`Watcher`] looks at who
-//! waits for whom without its mutex.
+//! slots they [begin in turn](Table::begin_in_turn). A task of a runtime awaits its locks, and no thread
+//! sleeps ([`Session::lock_async`]). A [`Watcher`] looks at who waits for whom without its mutex.
 //!
 //! ```
 //! use burlapslate::{Detect, Mode, Node, Stop, Table, SLOTS};

@@ -339,6 +339,67 @@ impl<'t> Session<'t> {
             .lock_row(self.txn, row, keys, mode, self.until(Some(until)))
     }
 
+    /// As [`lock`](Session::lock), for a task: where the lock waits no thread sleeps, and the task is woken
+    /// when the wait is over. It takes no runtime, and asks when it is first polled.
+    ///
+    /// A future that is dropped while it waits takes its wait back. Where the lock was granted by then, it
+    /// is the transaction's, and goes with its end, as all its locks do: no command lowers a mode. So
+    /// whoever lets a lock go by a timeout may ask for it again, and it is granted at once; and where it
+    /// was condemned by then, all that it can do is abort. One that is leaked waits on, until the session
+    /// is dropped.
+    ///
+    /// A deadline of the session counts ([`set_deadline`](Session::set_deadline)), where somebody polls the
+    /// future then ([`Table::expire`]).
+    ///
+    /// ```
+    /// # use burlapslate::{Detect, Mode, Table, SLOTS};
+    /// # use std::future::Future;
+    /// # use std::pin::pin;
+    /// # use std::task::{Context, Poll, Wake, Waker};
+    /// # use std::sync::Arc;
+    /// # struct Nobody;
+    /// # impl Wake for Nobody {
+    /// #     fn wake(self: Arc<Nobody>) {}
+    /// # }
+    /// # let table = Table::new(Detect::AtBlock, SLOTS)?;
+    /// # let db = table.add_inner(&[])?;
+    /// # let waker = Waker::from(Arc::new(Nobody));
+    /// # let mut context = Context::from_waker(&waker);
+    /// let (mut first, mut second) = (table.begin()?, table.begin()?);
+    /// assert_eq!(first.lock(db, Mode::X), Ok(Mode::X));
+    /// let mut lock = pin!(second.lock_async(db, Mode::S)); // As a runtime polls it:
+    /// assert_eq!(lock.as_mut().poll(&mut context), Poll::Pending);
+    /// first.commit()?; // It wakes the task.
+    /// assert_eq!(lock.as_mut().poll(&mut context), Poll::Ready(Ok(Mode::S)));
+    /// # Ok::<(), burlapslate::Refusal>(())
+    /// ```
+    pub async fn lock_async(&mut self, node: Node, mode: Mode) -> Result<Mode, Stop> {
+        let until = self.until(None);
+        self.table.lock_async(self.txn, node, mode, until).await
+    }
+
+    /// As [`lock_path`](Session::lock_path), for a task, as [`lock_async`](Session::lock_async). Behind each
+    /// grant on the way the task is woken, to ask for the next lock. Where the future is dropped, what was
+    /// locked before stays locked.
+    pub async fn lock_path_async(&mut self, node: Node, mode: Mode) -> Result<Mode, Stop> {
+        let until = self.until(None);
+        let path = self.table.lock_path_async(self.txn, node, mode, until);
+        path.await
+    }
+
+    /// As [`lock_row`](Session::lock_row), for a task, as [`lock_async`](Session::lock_async). Where the future
+    /// is dropped behind a grant, the row is held, and its keys were not looked at.
+    pub async fn lock_row_async(
+        &mut self,
+        row: Row,
+        keys: &[u64],
+        mode: Mode,
+    ) -> Result<RowLocked, Stop> {
+        let until = self.until(None);
+        let row = self.table.lock_row_async(self.txn, row, keys, mode, until);
+        row.await
+    }
+
     /// Locks a node with what has to be held above it, as [`lock_path`](Session::lock_path) takes it, but
     /// each lock by a try, in one hold of the latch: it never sleeps, joins no queue and fells nobody. It
     /// answers the mode that is held then, or the node, which is this one or one above it, that it would

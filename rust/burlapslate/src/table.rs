@@ -9,6 +9,7 @@ use crate::session::{deadline, RowLocked, Session, Stop};
 use crate::turns::Turns;
 use crate::watcher::Watcher;
 use crate::SLOTS;
+use asks::{Hold, Tasks};
 use std::fmt;
 use std::sync::{Arc, Condvar, Mutex, MutexGuard, PoisonError};
 use std::thread;
@@ -60,6 +61,8 @@ struct Guarded {
     turns: Turns,
     /// By slot, who sleeps on a path.
     paths: Box<[Option<Path>]>,
+    /// Those who wait and sleep in no thread.
+    tasks: Tasks,
 }
 
 /// One who sleeps on a path.
@@ -97,6 +100,7 @@ impl Table {
             is_unwatched: false,
             turns: Turns::new(),
             paths: no_paths()?,
+            tasks: Tasks::new(),
         };
         Ok(Table {
             latch: Mutex::new(guarded),
@@ -347,6 +351,7 @@ impl Table {
             }
             seen = board.epoch();
             self.settle_all(&mut guarded, &mut board);
+            guarded.ring();
             guarded = self.rest(guarded, rest);
         }
         Ok(())
@@ -376,7 +381,7 @@ impl Table {
     ) -> Result<T, Refusal> {
         let mut guarded = self.guarded();
         let answer = command(&mut guarded.manager)?;
-        self.wake(&guarded);
+        self.wake(&mut guarded);
         hand_on(&mut guarded);
         Ok(answer)
     }
@@ -422,14 +427,25 @@ impl Table {
         until: Option<Instant>,
     ) -> Result<Mode, Stop> {
         let mut guarded = self.guarded();
-        let (asked, told) = guarded.manager.lock(txn, node, mode)?;
-        let tells = !told.is_empty();
-        self.wake_behind(&mut guarded, tells, asked == Asked::Waiting);
-        match asked {
+        match self.asked(&mut guarded, txn, node, mode)? {
             Asked::Granted(mode) => Ok(mode),
             Asked::Victim => Err(Stop::Victim),
             Asked::Waiting => self.sleep(guarded, txn, node, mode, until).1,
         }
+    }
+
+    /// Asks for a lock, and wakes whom that tells.
+    fn asked(
+        &self,
+        guarded: &mut Guarded,
+        txn: Txn,
+        node: Node,
+        mode: Mode,
+    ) -> Result<Asked, Refusal> {
+        let (asked, told) = guarded.manager.lock(txn, node, mode)?;
+        let tells = !told.is_empty();
+        self.wake_behind(guarded, tells, asked == Asked::Waiting);
+        Ok(asked)
     }
 
     /// A row's lock; what has to be held above it is the session's to lock. Behind a sleep that was
@@ -522,16 +538,21 @@ impl Table {
     }
 
     /// Sleeps until the wait has its end, or the time is over. What became of the wait is asked
-    /// before the clock.
+    /// before the clock. Tasks whose wait it has ended are woken before it sleeps.
     fn sleep<'t>(
         &'t self,
-        mut guarded: MutexGuard<'t, Guarded>,
+        mut guarded: Hold<'t>,
         txn: Txn,
         node: Node,
         mode: Mode,
         until: Option<Instant>,
-    ) -> (MutexGuard<'t, Guarded>, Result<Mode, Stop>) {
+    ) -> (Hold<'t>, Result<Mode, Stop>) {
         let ended = &self.ended[txn.slot()];
+        if guarded.ring() {
+            if let Some(end) = guarded.manager.verdict(txn, node, mode) {
+                return (guarded, end);
+            }
+        }
         loop {
             let is_late;
             (guarded, is_late) = match until {
@@ -542,20 +563,27 @@ impl Table {
                 return (guarded, end);
             }
             if is_late {
-                let end = match guarded.manager.cancel(txn).map(drop) {
-                    Ok(()) => Stop::TimedOut,
-                    Err(refusal) => Stop::Refused(refusal),
-                };
-                self.wake(&guarded);
+                let end = self.time_out(&mut guarded, txn);
                 return (guarded, Err(end));
             }
         }
     }
 
-    /// Wakes those whose wait the last command may have ended.
-    fn wake(&self, guarded: &Guarded) {
+    /// Takes back the wait of one whose time is over.
+    fn time_out(&self, guarded: &mut Guarded, txn: Txn) -> Stop {
+        let end = match guarded.manager.cancel(txn).map(drop) {
+            Ok(()) => Stop::TimedOut,
+            Err(refusal) => Stop::Refused(refusal),
+        };
+        self.wake(guarded);
+        end
+    }
+
+    /// Wakes those whose wait the last command may have ended: tasks where the latch is given back.
+    fn wake(&self, guarded: &mut Guarded) {
         for slot in guarded.manager.ended() {
             self.ended[slot].notify_all();
+            guarded.tasks.ring(slot);
         }
     }
 
@@ -577,11 +605,7 @@ impl Table {
     }
 
     /// Lets some time go by, but no longer than somebody is to watch.
-    fn rest<'t>(
-        &'t self,
-        mut guarded: MutexGuard<'t, Guarded>,
-        time: Duration,
-    ) -> MutexGuard<'t, Guarded> {
+    fn rest<'t>(&'t self, mut guarded: Hold<'t>, time: Duration) -> Hold<'t> {
         let until = deadline(time);
         let mut is_late = time.is_zero();
         while !is_late && !guarded.is_unwatched {
@@ -595,7 +619,11 @@ impl Table {
 
     /// Takes the latch. A thread that panics does so in a closure of [`with`](Table::with), which
     /// changes nothing: so what is guarded is whole also then.
-    fn guarded(&self) -> MutexGuard<'_, Guarded> {
+    fn guarded(&self) -> Hold<'_> {
+        Hold::of(self)
+    }
+
+    fn locked(&self) -> MutexGuard<'_, Guarded> {
         self.latch.lock().unwrap_or_else(PoisonError::into_inner)
     }
 }
@@ -667,20 +695,20 @@ fn park_until(until: Option<Instant>) {
     }
 }
 
-fn wait<'t>(on: &Condvar, guarded: MutexGuard<'t, Guarded>) -> MutexGuard<'t, Guarded> {
-    on.wait(guarded).unwrap_or_else(PoisonError::into_inner)
+fn wait<'t>(on: &Condvar, mut guarded: Hold<'t>) -> Hold<'t> {
+    let held = guarded.guarded.take();
+    guarded.guarded = held.map(|held| on.wait(held).unwrap_or_else(PoisonError::into_inner));
+    guarded
 }
 
 /// Waits, but no longer than to a moment: whether that has come.
-fn wait_until<'t>(
-    on: &Condvar,
-    guarded: MutexGuard<'t, Guarded>,
-    until: Instant,
-) -> (MutexGuard<'t, Guarded>, bool) {
+fn wait_until<'t>(on: &Condvar, mut guarded: Hold<'t>, until: Instant) -> (Hold<'t>, bool) {
     let left = until.saturating_duration_since(Instant::now());
-    let (guarded, _) = on
-        .wait_timeout(guarded, left)
-        .unwrap_or_else(PoisonError::into_inner);
+    let held = guarded.guarded.take().map(|held| {
+        let waited = on.wait_timeout(held, left);
+        waited.unwrap_or_else(PoisonError::into_inner).0
+    });
+    guarded.guarded = held;
     (guarded, Instant::now() >= until)
 }
 
@@ -691,6 +719,7 @@ impl fmt::Debug for Table {
     }
 }
 
+mod asks;
 mod tries;
 
 #[cfg(test)]

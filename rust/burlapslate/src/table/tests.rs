@@ -252,7 +252,7 @@ fn a_path_is_cancelled_on_its_way() {
             }
             let mut guarded = table.guarded();
             guarded.manager.commit(holder).map(drop).unwrap();
-            table.wake(&guarded);
+            table.wake(&mut guarded);
             assert_eq!(table.cancel_held(&mut guarded, name), answer);
             drop(guarded);
             goes.join().unwrap()

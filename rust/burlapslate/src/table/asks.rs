@@ -1,0 +1,346 @@
+//! Waits of tasks, which are polled and sleep in no thread.
+
+use super::{Guarded, Path, Table};
+use crate::manager::{Asked, Reached, RowAsked, Wait};
+use crate::mode::Mode;
+use crate::names::{Node, Row, Txn};
+use crate::refusal::Refusal;
+use crate::session::{RowLocked, Stop};
+use crate::SLOTS;
+use std::collections::VecDeque;
+use std::future::Future;
+use std::ops::{Deref, DerefMut};
+use std::pin::Pin;
+use std::sync::MutexGuard;
+use std::task::{Context, Poll, Waker};
+use std::time::Instant;
+
+/// The tasks whose locks wait.
+pub(super) struct Tasks {
+    /// By slot; there are no places before the first one waits.
+    at: Vec<Option<Task>>,
+    waiting: usize,
+    /// Those whose wait may be over, who are to be woken without the latch. There is room for all who wait.
+    rung: VecDeque<Waker>,
+}
+
+struct Task {
+    txn: Txn,
+    waker: Waker,
+    /// When its wait ends at the latest.
+    until: Option<Instant>,
+}
+
+impl Tasks {
+    pub(super) fn new() -> Tasks {
+        Tasks {
+            at: Vec::new(),
+            waiting: 0,
+            rung: VecDeque::new(),
+        }
+    }
+
+    /// Makes room for one more task that waits.
+    fn make_room(&mut self) -> Result<(), Refusal> {
+        if self.at.is_empty() {
+            let places = self.at.try_reserve_exact(SLOTS);
+            places.map_err(|_refused| Refusal::NoMemory)?;
+            self.at.resize_with(SLOTS, || None);
+        }
+        let room = self.rung.try_reserve(self.waiting + 1);
+        room.map_err(|_refused| Refusal::NoMemory)
+    }
+
+    /// Notes a task that waits, for which there is room. Its slot has no other.
+    fn note(&mut self, task: Task) {
+        let slot = task.txn.slot();
+        self.ring(slot);
+        self.at[slot] = Some(task);
+        self.waiting += 1;
+    }
+
+    /// Takes the task of a transaction away, to be dropped without the latch.
+    fn forget(&mut self, txn: Txn) -> Option<Task> {
+        let place = self.at.get_mut(txn.slot())?;
+        let task = place.take_if(|task| task.txn == txn)?;
+        self.waiting -= 1;
+        Some(task)
+    }
+
+    /// The wait of this slot may be over: its task is to be woken.
+    pub(super) fn ring(&mut self, slot: usize) {
+        if let Some(task) = self.at.get_mut(slot).and_then(Option::take) {
+            self.waiting -= 1;
+            self.rung.push_back(task.waker);
+        }
+    }
+
+    /// Those whose time is over are to be woken; when the next one's is.
+    fn ring_late(&mut self, now: Instant) -> Option<Instant> {
+        let mut next = None;
+        for slot in 0..self.at.len() {
+            match self.at[slot].as_ref().and_then(|task| task.until) {
+                Some(until) if until <= now => self.ring(slot),
+                until => next = next.into_iter().chain(until).min(),
+            }
+        }
+        next
+    }
+}
+
+/// The latch, held. Where it is given back, the tasks are woken whose wait may be over: a waker may do
+/// anything, also call the table.
+pub(super) struct Hold<'t> {
+    table: &'t Table,
+    /// `None` while a task is woken, or a thread sleeps.
+    pub(super) guarded: Option<MutexGuard<'t, Guarded>>,
+}
+
+impl<'t> Hold<'t> {
+    pub(super) fn of(table: &'t Table) -> Hold<'t> {
+        Hold {
+            table,
+            guarded: Some(table.locked()),
+        }
+    }
+
+    /// Wakes the tasks whose wait may be over, and has the latch again behind that. Whether there were any:
+    /// others may have used the table meanwhile.
+    pub(super) fn ring(&mut self) -> bool {
+        let mut has_rung = false;
+        while let Some(waker) = self.tasks.rung.pop_front() {
+            self.guarded = None;
+            waker.wake();
+            self.guarded = Some(self.table.locked());
+            has_rung = true;
+        }
+        has_rung
+    }
+}
+
+impl Drop for Hold<'_> {
+    fn drop(&mut self) {
+        if self.guarded.is_some() {
+            self.ring(); // Else a waker has panicked: those behind it are the next one's to wake.
+        }
+    }
+}
+
+impl Deref for Hold<'_> {
+    type Target = Guarded;
+
+    fn deref(&self) -> &Guarded {
+        self.guarded.as_deref().expect("the latch is held")
+    }
+}
+
+impl DerefMut for Hold<'_> {
+    fn deref_mut(&mut self) -> &mut Guarded {
+        self.guarded.as_deref_mut().expect("the latch is held")
+    }
+}
+
+/// A wait that a task polls. Where it is dropped before its end it is taken back; what was granted by then
+/// stays held.
+struct Waiting<'a> {
+    table: &'a Table,
+    txn: Txn,
+    wait: Wait,
+    until: Option<Instant>,
+    is_over: bool,
+}
+
+impl<'a> Waiting<'a> {
+    fn of(table: &'a Table, txn: Txn, wait: Wait, until: Option<Instant>) -> Waiting<'a> {
+        Waiting {
+            table,
+            txn,
+            wait,
+            until,
+            is_over: false,
+        }
+    }
+
+    /// What became of the wait; `None` while it goes on. That is asked before the clock.
+    fn end(&self, hold: &mut Hold<'_>) -> Option<Result<Mode, Stop>> {
+        let verdict = self.verdict(hold);
+        if verdict.is_some() || self.until.is_none_or(|until| Instant::now() < until) {
+            return verdict;
+        }
+        Some(Err(self.table.time_out(hold, self.txn)))
+    }
+
+    fn verdict(&self, hold: &Hold<'_>) -> Option<Result<Mode, Stop>> {
+        let Wait { node, mode } = self.wait;
+        hold.manager.verdict(self.txn, node, mode)
+    }
+
+    /// Notes the task of a wait that goes on. Without memory the wait is taken back, and that is its end.
+    fn wait_on(&self, hold: &mut Hold<'_>, task: &mut Option<Task>) -> Option<Result<Mode, Stop>> {
+        match hold.tasks.make_room() {
+            Ok(()) => {
+                task.take()
+                    .into_iter()
+                    .for_each(|task| hold.tasks.note(task));
+                None
+            }
+            Err(refusal) => {
+                self.take_back(hold);
+                Some(Err(Stop::Refused(refusal)))
+            }
+        }
+    }
+
+    /// Takes the wait back, where it goes on.
+    fn take_back(&self, hold: &mut Hold<'_>) {
+        if self.verdict(hold).is_none() && hold.manager.cancel(self.txn).map(drop).is_ok() {
+            self.table.wake(hold);
+        }
+    }
+}
+
+/// The end of the wait, and whether a path was cancelled behind it.
+impl Future for Waiting<'_> {
+    type Output = (Result<Mode, Stop>, bool);
+
+    fn poll(self: Pin<&mut Self>, context: &mut Context<'_>) -> Poll<Self::Output> {
+        let own = self.get_mut();
+        let mut task = Some(Task {
+            txn: own.txn,
+            waker: context.waker().clone(),
+            until: own.until,
+        });
+        let mut hold = own.table.guarded();
+        let before = hold.tasks.forget(own.txn);
+        let end = own
+            .end(&mut hold)
+            .or_else(|| own.wait_on(&mut hold, &mut task));
+        own.is_over = end.is_some();
+        let is_cancelled = own.is_over && hold.leaves_path(own.txn);
+        drop(hold);
+        drop((before, task)); // A waker that goes may call the table.
+        end.map_or(Poll::Pending, |end| Poll::Ready((end, is_cancelled)))
+    }
+}
+
+impl Drop for Waiting<'_> {
+    fn drop(&mut self) {
+        if self.is_over {
+            return;
+        }
+        let mut hold = self.table.guarded();
+        let task = hold.tasks.forget(self.txn);
+        self.take_back(&mut hold);
+        hold.leaves_path(self.txn);
+        drop(hold);
+        drop(task);
+    }
+}
+
+/// What a [`Session`](crate::Session) of a task asks.
+impl Table {
+    /// Wakes the tasks whose waits should be over by the deadlines of their sessions
+    /// ([`Session::set_deadline`](crate::Session::set_deadline)), and answers when the next one's will be. A
+    /// wait of a task is taken back where it is polled at that time or later. A runtime that polls it at
+    /// other times alone, as behind its grant, may make this call by a timer of its own; most have a
+    /// timeout of theirs, which drops the future.
+    ///
+    /// ```
+    /// # use burlapslate::{Detect, Table, SLOTS};
+    /// # let table = Table::new(Detect::AtBlock, SLOTS)?;
+    /// assert_eq!(table.expire(), None); // Nobody waits to a time.
+    /// # Ok::<(), burlapslate::Refusal>(())
+    /// ```
+    pub fn expire(&self) -> Option<Instant> {
+        self.guarded().tasks.ring_late(Instant::now())
+    }
+
+    pub(crate) async fn lock_async(
+        &self,
+        txn: Txn,
+        node: Node,
+        mode: Mode,
+        until: Option<Instant>,
+    ) -> Result<Mode, Stop> {
+        match self.asked(&mut self.guarded(), txn, node, mode)? {
+            Asked::Granted(mode) => return Ok(mode),
+            Asked::Victim => return Err(Stop::Victim),
+            Asked::Waiting => {}
+        }
+        let wait = Wait { node, mode };
+        Waiting::of(self, txn, wait, until).await.0
+    }
+
+    /// A path; where a lock on its way was granted, the task goes on with the next one.
+    pub(crate) async fn lock_path_async(
+        &self,
+        txn: Txn,
+        node: Node,
+        mode: Mode,
+        until: Option<Instant>,
+    ) -> Result<Mode, Stop> {
+        loop {
+            let wait = match self.path_asked(&mut self.guarded(), txn, node, mode)? {
+                Ok(end) => return end,
+                Err(wait) => wait,
+            };
+            let (end, is_cancelled) = Waiting::of(self, txn, wait, until).await;
+            match end {
+                Ok(mode) if wait.node == node => return Ok(mode),
+                Ok(_) | Err(Stop::Moved) if is_cancelled => return Err(Stop::Cancelled),
+                Ok(_) | Err(Stop::Moved) => {} // The rest of the path is asked for.
+                Err(stop) => return Err(stop),
+            }
+        }
+    }
+
+    /// A path up to its end, or else to a wait, which is noted with the path.
+    fn path_asked(
+        &self,
+        guarded: &mut Guarded,
+        txn: Txn,
+        node: Node,
+        mode: Mode,
+    ) -> Result<Result<Result<Mode, Stop>, Wait>, Refusal> {
+        loop {
+            let (reached, told) = guarded.manager.lock_path(txn, node, mode)?;
+            let tells = !told.is_empty();
+            self.wake_behind(guarded, tells, matches!(reached, Reached::Waiting(_)));
+            match reached {
+                Reached::Granted(mode) => return Ok(Ok(Ok(mode))),
+                Reached::Victim => return Ok(Ok(Err(Stop::Victim))),
+                Reached::Above(_) => {}
+                Reached::Waiting(at) => {
+                    let mode = guarded.manager.waiting(txn).map_or(mode, |wait| wait.mode);
+                    guarded.paths[txn.slot()] = Some(Path::new(txn, at, mode, at == node));
+                    return Ok(Err(Wait { node: at, mode }));
+                }
+            }
+        }
+    }
+
+    /// A row. Behind a wait that was granted it is asked for again, as by a thread that sleeps.
+    pub(crate) async fn lock_row_async(
+        &self,
+        txn: Txn,
+        row: Row,
+        keys: &[u64],
+        mode: Mode,
+        until: Option<Instant>,
+    ) -> Result<RowLocked, Stop> {
+        let (asked, node) = self.ask_row(&mut self.guarded(), txn, row, keys, mode)?;
+        match asked {
+            RowAsked::Granted(mode) => return Ok(RowLocked::Own(mode)),
+            RowAsked::OtherKeys(mode) => return Ok(RowLocked::OtherKeys(mode)),
+            RowAsked::Victim => return Err(Stop::Victim),
+            RowAsked::Waiting => {}
+        }
+        let wait = Wait { node, mode };
+        let held = Waiting::of(self, txn, wait, until).await.0?;
+        match self.ask_row(&mut self.guarded(), txn, row, keys, mode) {
+            Ok((RowAsked::Granted(_), _)) => Ok(RowLocked::Own(held)),
+            Err(Refusal::NoSuchTxn) => Err(Stop::Refused(Refusal::NoSuchTxn)),
+            _ => Ok(RowLocked::OtherKeys(held)),
+        }
+    }
+}
