@@ -2165,7 +2165,6 @@ static void a_try_gives_back_its_way(void) {
   bs_txn a, b, t;
   told_by_release = 0;
   set_up(BS_AT_BLOCK);
-  told_by_release = 0;
   a = begin(), b = begin(), t = begin();
   DONE(bs_table_lock_path(table, a, low, BS_X, NULL));
   would_block(try_path(t, low, BS_X, BS_KEEP_NOTHING), low);
