@@ -70,23 +70,25 @@ pub use Rattle.gl_header.specs.Header.{IsWithin, Members, placed, pumped_queue, 
 pub use Rattle.gl_header.specs.Sound.{is_distinct}
 pub use Rattle.gl_header.specs.State.{HeaderState, IsLawfulHeader, slot_limit}
 pub use Rattle.gl_waits.proofs.CycleLemmas.{at_one-no_cycle, less-no_cycle}
+pub use Rattle.gl_waits.proofs.Earlier.{earlier-itself, earlier-not_back, earlier-over, latest-from, latest-none_later, neither_earlier}
 pub use Rattle.gl_waits.proofs.VictimLemmas.{candidate-on_cycle, freed-fewer, freeing-itself}
 pub use Rattle.gl_waits.proofs.WalkLemmas.{no_cycle-reaches, no_step-no_cycle, on_cycle-reaches, reaches_join, waits_of-less}
 pub use Rattle.gl_waits.specs.Victims.{IsCandidate}
-pub use Rattle.gl_waits.specs.Waits.{IsOnCycleOf, IsOnNoCycle, IsWalk, IsYoungest, Reaches, without}
+pub use Rattle.gl_waits.specs.Waits.{is_earlier, IsLatest, IsOnCycleOf, IsOnNoCycle, IsWalk, Reaches, without}
 pub use Rattle.gl_waits.specs.declared.victims.Victims.{Victims}
 pub use Rattle.gl_waits.specs.declared.victims.Victims.TheVariants.{Fewest, Youngest}
-pub use Rattle.gl_model.specs.Calls.{active_on, asked_by_escalation, bad_mode, begun, child_held, condemned_test, deleted, enqueued, enters_at, first_not_ix}
-pub use Rattle.gl_model.specs.Calls.{first_of_all, freed, freed_unless, granted, held_child, holds_x, holds_x_on_all, is_covered, is_idle, moved_to}
+pub use Rattle.gl_model.specs.Calls.{active_on, asked_by_escalation, bad_mode, begun_since, child_held, condemned_test, deleted, enqueued, enters_at}
+pub use Rattle.gl_model.specs.Calls.{first_not_ix, first_of_all, freed, freed_unless, granted, held_child, holds_x, holds_x_on_all, is_covered, is_idle}
 pub use Rattle.gl_model.specs.Calls.{need_exclusive, need_new_parents, need_parents, no_txn, none_but, raised, released, rule_refusal, shed, some_given}
-pub use Rattle.gl_model.specs.Calls.{stays, unlocked, waiting_test, WaitSettles, wanted}
+pub use Rattle.gl_model.specs.Calls.{moved_to, stays, unlocked, waiting_test, WaitSettles, wanted}
 pub use Rattle.gl_model.specs.Lawful.{CondemningFrees, CutSetLaw, eff_s, eff_x, effective, EffX, EmptyHasNoCycle, is_read, IsCut, IsLawful, LawfulCutSet}
 pub use Rattle.gl_model.specs.Lawful.{LawfulNoConflict, ModeFitsKind, NoConflictLaw, OneFalls, SameBelow, SettlingEnds, SettlingFrees}
 pub use Rattle.gl_model.specs.Deadlocks.{has_row, IsDeadlock, IsStuck, name_at, RowsLeadOn, SettlesKeeping, SettlesKeepingWithin, VictimHasRow}
 pub use Rattle.gl_model.specs.Tellings.{grant_notice, is_rising, IsBySlot, mode_given, notices_in, WakesTold}
 pub use Rattle.gl_model.specs.State.{age_in, age_of, awake, blocks, choosing, condemned, empty_state, front_at, granted_at, HasNoCycle, intends, intends_over}
 pub use Rattle.gl_model.specs.State.{is_wait, is_waiting_at, is_write, IsVictim, live_by, members, no_parents, pumped, restatus, Settled, SettledWithin}
-pub use Rattle.gl_model.specs.State.{slots, State, status_in, status_of, Txn, waits_at, waits_for, with_grant, with_graph, with_txn, without_wait, woken}
+pub use Rattle.gl_model.specs.State.{since_of, slots, State, status_in, status_of, Txn, waits_at, waits_for, with_grant, with_graph, with_txn}
+pub use Rattle.gl_model.specs.State.{without_wait, woken}
 pub use Rattle.gl_model.specs.Lawful.{IsOrderly, WaitWell}
 pub use Rattle.gl_model.specs.Tellings.{addressed, children_that, IsOnWay, notice_of, stripped, Told, told, told_but, told_from, told_to}
 pub use Rattle.gl_model.specs.declared.deadlock.Deadlock.{Deadlock}

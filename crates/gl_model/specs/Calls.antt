@@ -1,6 +1,6 @@
 -- What each call of the table leaves, why it is refused, and what it answers.
 use Rattle.std.specs.Prelude.{ℕ, Bool, not, ◌&&◌, ◌||◌, ◌≡◌, ◌+◌, true, false, ◌==◌, List, [], Option, Some, None, if◌then◌else◌, is_none, ◌∷◌, ◌++◌, is_some}
-use Rattle.std.specs.Prelude.{length}
+use Rattle.std.specs.Prelude.{length, min}
 use Rattle.std.specs.Prelude.{IsOk, IfErr, OnErr, OnOk, Result, Ok, Err, ◌⊎◌}
 use Rattle.std.specs.List.{list_any, list_all, count_by, filter, find}
 use Rattle.gl_modes.specs.declared.node.NodeId.{NodeId}
@@ -85,9 +85,17 @@ asked_by_escalation s t n = if list_any (λ c. is_child s.graph n c && is_write 
 abbrev pub accepted_once : State → State
 accepted_once s = record s { accepted = s.accepted + 1 }
 
--- a transaction begins in this slot
+-- a transaction begins in this slot, whose work wants to be done since this number
+abbrev pub begun_since : State → ℕ → ℕ → State
+begun_since s t since = record (with_txn s t (Some (record { age = s.begins + 1; since = since; status = Active }))) { begins = s.begins + 1 }
+
+-- a transaction begins in this slot, for work that is new
 abbrev pub begun : State → ℕ → State
-begun s t = record (with_txn s t (Some (record { age = s.begins + 1; status = Active }))) { begins = s.begins + 1 }
+begun s t = begun_since s t (s.begins + 1)
+
+-- a transaction begins in this slot, for work that wants to be done since an earlier begin, at most since this one
+abbrev pub begun_again : State → ℕ → ℕ → State
+begun_again s t since = begun_since s t (min since (s.begins + 1))
 
 -- t waits on n for m
 abbrev pub enqueued : State → ℕ → NodeId → Mode → State
@@ -113,7 +121,7 @@ none_among goes Condemned = Condemned
 -- the same in a slot
 abbrev pub freed_among : (NodeId → Bool) → Option Txn → Option Txn
 freed_among goes None = None
-freed_among goes (Some x) = Some (record { age = x.age; status = none_among goes x.status })
+freed_among goes (Some x) = Some (record x { status = none_among goes x.status })
 
 -- a wait on this node is over
 abbrev pub none_but : Status → NodeId → Status

@@ -11,15 +11,17 @@ use Rattle.gl_header.specs.Header.{Members, Waiter, after_grants, front, is_amon
 use Rattle.gl_waits.specs.declared.victims.Victims.{Victims}
 use Rattle.gl_waits.specs.declared.victims.Victims.TheVariants.{Youngest}
 use Rattle.gl_waits.specs.Victims.{IsCandidate}
-use Rattle.gl_waits.specs.Waits.{IsOnNoCycle, IsYoungest}
+use Rattle.gl_waits.specs.Waits.{IsLatest, IsOnNoCycle}
 use Rattle.gl_model.specs.declared.txn.TxnId.{TxnId}
 use Rattle.gl_model.specs.declared.txn.Status.{Status}
 use Rattle.gl_model.specs.declared.answers.Detect.{Detect}
 use Rattle.gl_model.specs.declared.txn.Status.TheVariants.{Active, Waiting, Condemned}
 
--- a living transaction: the number of begins at its own, and what it is doing (Gray and Reuter; ages are own)
+-- a living transaction: the number of begins at its own, that since which its work wants to be done, and what it is doing (Gray and Reuter; ages are
+-- own)
 pub record Txn : Type 0 where
   pub age : ℕ
+  pub since : ℕ
   pub status : Status
 
 -- the whole state (own): no header and no list of locks stands in it, since both can be read from the grants
@@ -69,6 +71,15 @@ age_in (Some x) = x.age
 abbrev pub age_of : State → ℕ → ℕ
 age_of s t = age_in (s.txns t)
 
+-- the number since which the work in a slot wants to be done, 0 for a free one
+abbrev pub since_in : Option Txn → ℕ
+since_in None = 0
+since_in (Some x) = x.since
+
+-- the number since which the work of the transaction in a slot wants to be done, 0 for a free slot
+abbrev pub since_of : State → ℕ → ℕ
+since_of s t = since_in (s.txns t)
+
 -- the state with another transaction, or none, in one slot
 abbrev pub with_txn : State → ℕ → Option Txn → State
 with_txn s t x = record s { txns = λ u. if u == t then x else s.txns u }
@@ -76,7 +87,7 @@ with_txn s t x = record s { txns = λ u. if u == t then x else s.txns u }
 -- the transaction with another status
 abbrev pub restatus : Status → Option Txn → Option Txn
 restatus st None = None
-restatus st (Some x) = Some (record { age = x.age; status = st })
+restatus st (Some x) = Some (record x { status = st })
 
 -- the state with another status for one slot
 abbrev pub with_status : State → ℕ → Status → State
@@ -159,7 +170,7 @@ awake granted t Condemned = Condemned
 -- the same in a slot
 abbrev pub woken : (NodeId → List Waiter) → ℕ → Option Txn → Option Txn
 woken granted t None = None
-woken granted t (Some x) = Some (record { age = x.age; status = awake granted t x.status })
+woken granted t (Some x) = Some (record x { status = awake granted t x.status })
 
 -- what is granted on a node, if it is one of the chosen
 abbrev pub granted_at : State → (NodeId → Bool) → NodeId → List Waiter
@@ -203,9 +214,10 @@ blocks s t u o = false
 abbrev pub waits_for : State → ℕ → ℕ → Bool
 waits_for s t u = not (t == u) && blocks s t u (status_of s t)
 
--- by the choice c of victims, v is condemned for t: of the candidates it is the youngest
+-- by the choice c of victims, v is condemned for t: of the candidates it is the one whose work wants to be done since the latest begin, of such the
+-- youngest
 abbrev pub IsVictim : Victims → State → ℕ → ℕ → Type 0
-IsVictim c s t v = IsYoungest (IsCandidate c (waits_for s) t) (age_of s) v
+IsVictim c s t v = IsLatest (IsCandidate c (waits_for s) t) (since_of s) (age_of s) v
 
 -- settling t in this many turns (own): while t is on a cycle, a victim is condemned
 abbrev pub SettledWithin : Victims → ℕ → State → ℕ → State → Type 0

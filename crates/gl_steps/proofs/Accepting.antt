@@ -31,6 +31,7 @@ accepting_keeps_count s (command.Delete t r) a told s' acc = ap (λ z. z.accepte
 accepting_keeps_count s (command.Rekey t r i key) a told s' acc = ap (λ z. z.accepted) acc.2
 accepting_keeps_count s (command.Move t n ps) a told s' acc = ap (λ z. z.accepted) acc.2
 accepting_keeps_count s command.Begin a told s' acc = ap (λ z. z.accepted) acc.4
+accepting_keeps_count s (command.BeginAgain since) a told s' acc = ap (λ z. z.accepted) acc.4
 accepting_keeps_count s (command.Lock t n m) a told s' acc =
     split (enters_at s t.slot n m) (λ e. ap (λ z. z.accepted) (acc.0.at_once e))
     (λ e. wait_count s.detect s.victims (enqueued s t.slot n (wanted s t.slot n m)) s' t.slot (acc.0.waits e))

@@ -1,5 +1,5 @@
 -- Commands that leave the graph: each keeps a transaction that it does not name.
-use Rattle.std.specs.Prelude.{◌≡◌, ◌≢◌, ℕ, ◌+◌, Bool, true, false, List, [], ◌∷◌, Option, Some, None, is_none, if◌then◌else◌}
+use Rattle.std.specs.Prelude.{◌≡◌, ◌≢◌, ℕ, Bool, true, false, List, [], ◌∷◌, Option, Some, None, is_none, if◌then◌else◌}
 use Rattle.std.specs.List.{find, list_any}
 use Rattle.std.proofs.Common.{refl, sym, ap, subst, ◌∙◌}
 use mathlib.Core.Bool.{true≢false}
@@ -14,10 +14,11 @@ use Rattle.gl_graph.specs.Graph.{is_live}
 use Rattle.gl_model.specs.State.{State, Txn, lives, live_by, status_in, slots}
 use Rattle.gl_model.specs.Lawful.{IsLawful}
 use Rattle.gl_model.specs.Tellings.{told, told_but, Told}
+use Rattle.gl_steps.proofs.Beginning.{Begins}
 use Rattle.gl_steps.specs.Step.{Accepts}
 use Rattle.gl_model.specs.Calls.{accepted_once, enters_at, free_slot, wanted, enqueued, released}
 use Rattle.gl_model.proofs.telling.Follows.{Follows, GrantedTo, WaitsWell, lawful_waits, follows_refl, follows_same, follows_trans}
-use Rattle.gl_steps.proofs.OtherChanges.{other, with_grant_follows, begun_follows, enqueued_follows, settled_follows, wait_settles_follows}
+use Rattle.gl_steps.proofs.OtherChanges.{with_grant_follows, begun_follows, begun_other, enqueued_follows, settled_follows, wait_settles_follows}
 use Rattle.gl_steps.proofs.OtherChanges.{released_follows, escalated_follows, unlocked_follows, cancelled_follows}
 use Rattle.gl_steps.proofs.ToldGrants.{tells, told_of_grant, told_but_of_grant}
 use Rattle.gl_steps.proofs.Keeps.{Keeps, keeps_follows}
@@ -105,12 +106,11 @@ module _ (s : State) (law : IsLawful s) (t : TxnId) (alive : lives s t ≡ true)
   pub settle_keeps : (u : TxnId) (a : Answer) (told' : Told) → Accepts s (command.Settle u) a told' next → Kept told'
   settle_keeps u a told' acc = kept_told told' acc.1 (settled_follows s.victims s u.slot next t.slot acc.2 well)
 
-  pub begin_keeps : (a : Answer) (told' : Told) → Accepts s command.Begin a told' next → Kept told'
-  begin_keeps a told' acc =
+  pub begin_keeps : (since : ℕ) (a : Answer) (told' : Told) → Begins since s a told' next → Kept told'
+  begin_keeps since a told' acc =
       let ne = free_differs s t alive acc.0 acc.1 in
-      kept_quiet told' (ap (λ x. x.txns t.slot) acc.4
-      ∙ ap (λ b. if b then Some (record { age = s.begins + 1; status = Active }) else s.txns t.slot) (other acc.0 t.slot ne))
-      (follows_is _ acc.4 (begun_follows s acc.0 t.slot ne well))
+      kept_quiet told' (ap (λ x. x.txns t.slot) acc.4 ∙ begun_other s acc.0 since t.slot ne)
+      (follows_is _ acc.4 (begun_follows s acc.0 since t.slot ne well))
 
   pub same_keeps : (told' : Told) → (s' : State) → s' ≡ s → {rows : Bool} → Keeps s s' t told' rows
   same_keeps told' s' e {rows} =

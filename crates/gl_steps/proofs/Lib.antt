@@ -5,6 +5,7 @@ pub mod Accepting
 pub mod EachStep
 pub mod Made
 pub mod NotRefused
+pub mod Beginning
 -- every command keeps the law
 pub mod KeepsLaw
 pub mod LockCommands

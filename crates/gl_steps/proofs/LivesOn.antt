@@ -1,7 +1,7 @@
 -- A transaction that lives on over a step: its age stays, and it begins no wait.
-use Rattle.gl_modes.proofs.Words.{same_number, split}
+use Rattle.gl_modes.proofs.Words.{clash, same_number, split}
 use Rattle.gl_waits.specs.declared.victims.Victims.{Victims}
-use Rattle.std.specs.Prelude.{◌≡◌, ℕ, zero, suc, Bool, true, false, ◌==◌, List, Option, Some, None, if◌then◌else◌}
+use Rattle.std.specs.Prelude.{◌≡◌, ℕ, zero, suc, Bool, true, false, ◌==◌, List, Option, Some, None, if◌then◌else◌, is_some}
 use Rattle.std.proofs.Common.{refl, sym, ap, subst, ◌∙◌}
 use Rattle.gl_modes.specs.declared.mode.Mode.{Mode}
 use Rattle.gl_modes.specs.declared.node.NodeId.{NodeId}
@@ -12,43 +12,77 @@ use Rattle.gl_model.specs.declared.answers.Detect.TheVariants.{AtBlock, ByWatche
 use Rattle.gl_model.specs.declared.txn.Status.{Status}
 use Rattle.gl_model.specs.declared.txn.Status.TheVariants.{Active, Waiting, Condemned}
 use Rattle.gl_model.specs.Calls.{WaitSettles, freed, freed_unless, none_among, freed_among}
-use Rattle.gl_model.specs.State.{condemned, granted_at, is_waiting_at, pumped, without_wait, woken, State, Txn, live_by, restatus, status_in}
+use Rattle.gl_model.specs.State.{condemned, granted_at, is_waiting_at, pumped, without_wait, woken, State, Txn, age_in, live_by, restatus, since_in, status_in}
 use Rattle.gl_model.specs.State.{Settled, SettledWithin}
 use Rattle.gl_model.proofs.law.Keeps.{woken_waits}
 use Rattle.gl_model.proofs.law.Takes.{IsQuiet, restatus_quiet}
 
+-- the same transaction, whatever it is doing
+pub record SameTurn (x y : Option Txn) : Type 0 where
+  pub there : is_some y ≡ is_some x
+  pub age : age_in y ≡ age_in x
+  pub since : since_in y ≡ since_in x
+
+pub turn_same : (x y : Option Txn) → y ≡ x → SameTurn x y
+turn_same x y e = record { there = ap is_some e; age = ap age_in e; since = ap since_in e }
+
+pub turn_trans : (x y z : Option Txn) → SameTurn x y → SameTurn y z → SameTurn x z
+turn_trans x y z a b = record { there = b.there ∙ a.there; age = b.age ∙ a.age; since = b.since ∙ a.since }
+
+pub restatus_turn : (st : Status) (x : Option Txn) → SameTurn x (restatus st x)
+restatus_turn st None = turn_same None None refl
+restatus_turn st (Some x) = record { there = refl; age = refl; since = refl }
+
+woken_turn : (g : NodeId → List Waiter) (u : ℕ) (x : Option Txn) → SameTurn x (woken g u x)
+woken_turn g u None = turn_same None None refl
+woken_turn g u (Some x) = record { there = refl; age = refl; since = refl }
+
+freed_turn : (goes : NodeId → Bool) (x : Option Txn) → SameTurn x (freed_among goes x)
+freed_turn goes None = turn_same None None refl
+freed_turn goes (Some x) = record { there = refl; age = refl; since = refl }
+
+turn_lives : (x y : Option Txn) → SameTurn x y → (age : ℕ) → live_by age x ≡ true → live_by age y ≡ true
+turn_lives None y same age h = clash h refl
+turn_lives (Some x) None same age h = clash same.there refl
+turn_lives (Some x) (Some y) same age h = ap (λ a. a == age) same.age ∙ h
+
 -- the same transaction lives in the slot, and if it waits, it waited there before
 pub record LivesOn (x y : Option Txn) : Type 0 where
+  pub turn : SameTurn x y
   pub lives : (age : ℕ) → live_by age x ≡ true → live_by age y ≡ true
   pub waits : (n : NodeId) (m : Mode) → status_in y ≡ Some (Waiting n m) → status_in x ≡ Some (Waiting n m)
 
 pub lives_on_same : (x y : Option Txn) → y ≡ x → LivesOn x y
-lives_on_same x y e = subst (LivesOn x) (sym e) (record { lives = λ age h. h; waits = λ n m h. h })
+lives_on_same x y e = subst (LivesOn x) (sym e) (record { turn = turn_same x x refl; lives = λ age h. h; waits = λ n m h. h })
 
 pub lives_on_trans : (x y z : Option Txn) → LivesOn x y → LivesOn y z → LivesOn x z
-lives_on_trans x y z a b = record { lives = λ age h. b.lives age (a.lives age h); waits = λ n m h. a.waits n m (b.waits n m h) }
+lives_on_trans x y z a b = record {
+  turn = turn_trans x y z a.turn b.turn;
+  lives = λ age h. b.lives age (a.lives age h);
+  waits = λ n m h. a.waits n m (b.waits n m h);
+}
 
 restatus_on : (st : Status) → IsQuiet st → (x : Option Txn) → LivesOn x (restatus st x)
-restatus_on st quiet x = record { lives = λ age h. by age x h; waits = λ n m h. absurd (restatus_quiet st quiet x n m h) }
-  where
-    by : (age : ℕ) (o : Option Txn) → live_by age o ≡ true → live_by age (restatus st o) ≡ true
-    by age None h = h
-    by age (Some y) h = h
+restatus_on st quiet x = record {
+  turn = restatus_turn st x;
+  lives = turn_lives x (restatus st x) (restatus_turn st x);
+  waits = λ n m h. absurd (restatus_quiet st quiet x n m h);
+}
 
 pub woken_on : (g : NodeId → List Waiter) (u : ℕ) (x : Option Txn) → LivesOn x (woken g u x)
-woken_on g u x = record { lives = λ age h. by age x h; waits = λ n m h. (woken_waits g u n m x h).0 }
-  where
-    by : (age : ℕ) (o : Option Txn) → live_by age o ≡ true → live_by age (woken g u o) ≡ true
-    by age None h = h
-    by age (Some y) h = h
+woken_on g u x = record {
+  turn = woken_turn g u x;
+  lives = turn_lives x (woken g u x) (woken_turn g u x);
+  waits = λ n m h. (woken_waits g u n m x h).0;
+}
 
 pub freed_among_on : (goes : NodeId → Bool) (x : Option Txn) → LivesOn x (freed_among goes x)
-freed_among_on goes x = record { lives = λ age h. by age x h; waits = λ q m h. still q m x h }
+freed_among_on goes x = record {
+  turn = freed_turn goes x;
+  lives = turn_lives x (freed_among goes x) (freed_turn goes x);
+  waits = λ q m h. still q m x h;
+}
   where
-    by : (age : ℕ) (o : Option Txn) → live_by age o ≡ true → live_by age (freed_among goes o) ≡ true
-    by age None h = h
-    by age (Some y) h = h
-
     kept : (q : NodeId) (m : Mode) (st : Status) → Some (none_among goes st) ≡ Some (Waiting q m) → Some st ≡ Some (Waiting q m)
     kept q m Active h = absurd (cc h)
     kept q m Condemned h = absurd (cc h)

@@ -1,5 +1,5 @@
 -- Each command on locks and transactions keeps the law of a state.
-use Rattle.std.specs.Prelude.{◌≡◌, ◌∷◌, [], None}
+use Rattle.std.specs.Prelude.{◌≡◌, ◌∷◌, [], ℕ, ◌+◌, None, min}
 use Rattle.std.proofs.Common.{sym, arith, subst}
 use Rattle.gl_modes.specs.declared.mode.Mode.{Mode}
 use Rattle.gl_modes.specs.declared.node.NodeId.{NodeId}
@@ -14,6 +14,9 @@ use Rattle.gl_model.specs.Lawful.{IsLawful}
 use Rattle.gl_model.specs.Calls.{raised, shed, would_block, not_held, held_child, escalation_blocks}
 use Rattle.gl_steps.specs.Tests.{refusal_of, worn}
 use Rattle.gl_graph.specs.Refusals.{where_true}
+use Rattle.gl_model.specs.Tellings.{Told}
+use Rattle.gl_steps.specs.declared.command.Answer.{Answer}
+use Rattle.gl_steps.proofs.Beginning.{Begins}
 use Rattle.gl_steps.proofs.KeepsLaw.{KeepsLaw}
 use Rattle.gl_model.proofs.law.Takes.{without_wait-lawful, released-lawful, settled-lawful}
 use Rattle.gl_model.proofs.law.Takes.{begun-lawful}
@@ -33,10 +36,16 @@ escalated-lawful s law t n h =
     shed-lawful (raised s t.slot n)
     (raised-lawful s law t.slot n a.0 a.1 (test_fails _ _ b.0) (not_false _ (test_fails _ _ c.0)) (not_false _ (test_fails _ _ d.0))) t.slot n a.0
 
-pub begin_keeps : KeepsLaw command.Begin
-begin_keeps s s' a told law h acc =
+begins_lawful : (since : ℕ) (s s' : State) (a : Answer) (told : Told) → IsLawful s → Begins since s a told s' → IsLawful s'
+begins_lawful since s s' a told law acc =
     let at = free_slot s acc.0 0 s.most acc.1 in let below = at.1 in
-    subst IsLawful (sym acc.4) (begun-lawful s law acc.0 at.0 (omega arith))
+    subst IsLawful (sym acc.4) (begun-lawful s law acc.0 at.0 (omega arith) since)
+
+pub begin_keeps : KeepsLaw command.Begin
+begin_keeps s s' a told law h acc = begins_lawful (s.begins + 1) s s' a told law acc
+
+pub begin_again_keeps : (since : ℕ) → KeepsLaw (command.BeginAgain since)
+begin_again_keeps since s s' a told law h acc = begins_lawful (min since (s.begins + 1)) s s' a told law acc
 
 pub lock_keeps : (t : TxnId) (n : NodeId) (m : Mode) → KeepsLaw (command.Lock t n m)
 lock_keeps t n m s s' a told law h acc = locks-lawful s s' law t n m (may_lock s t n m (worn s) [] h).0 acc.0

@@ -85,6 +85,23 @@ row_other_is_victim : Rows AtBlock 2 (
     ∷ tells (command.Abort b) a (notice.Granted db X) ∷ [])
 row_other_is_victim = computed refl
 
+-- a victim that begins again keeps its turn: the next that falls began after its first begin, though before its second
+row_victim_keeps_its_turn : Rows AtBlock 3 (
+    roots db ∷ begins a ∷ begins b ∷ begins c
+    ∷ locks a S db
+    ∷ locks b S db
+    ∷ waits a X db
+    ∷ says (command.Lock b db X) answer.Victim
+    ∷ tells (command.Abort b) a (notice.Granted db X)
+    ∷ done (command.Commit a)
+    ∷ says (command.BeginAgain b.age) (answer.Begun (txn 0 4))
+    ∷ locks c S db
+    ∷ locks (txn 0 4) S db
+    ∷ waits c X db
+    ∷ (command.Lock (txn 0 4) db X, answer.Waiting, (c, notice.Victim) ∷ [])
+    ∷ tells (command.Abort c) (txn 0 4) (notice.Granted db X) ∷ [])
+row_victim_keeps_its_turn = computed refl
+
 -- a cycle through a waiter that stands ahead
 row_cycle_through_waiter_ahead : Rows AtBlock 3 (
     roots (id 1) ∷ roots (id 2) ∷ begins a ∷ begins b ∷ begins c

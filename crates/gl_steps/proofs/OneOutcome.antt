@@ -1,7 +1,7 @@
 -- In a lawful state a command that makes no node has one outcome, since settling ends in one state and all else is an equation.
 use Rattle.gl_modes.proofs.Words.{some_is, split}
 use Rattle.gl_waits.specs.declared.victims.Victims.{Victims}
-use Rattle.std.specs.Prelude.{◌≡◌, ◌+◌, ℕ, [], false, Option, Some, None}
+use Rattle.std.specs.Prelude.{◌≡◌, ◌+◌, ℕ, [], false, Option, Some, None, min}
 use Rattle.std.proofs.Common.{refl, sym, ap, ◌∙◌}
 use mathlib.Core.Bool.{true≢false}
 use Rattle.gl_modes.specs.declared.refusal.Refusal.{Refusal}
@@ -12,12 +12,13 @@ use Rattle.gl_steps.specs.declared.command.Answer.TheVariants as answer
 use Rattle.gl_steps.specs.declared.command.Command.{Command}
 use Rattle.gl_steps.specs.declared.command.Command.TheVariants as command
 use Rattle.gl_model.specs.State.{State, status_of}
-use Rattle.gl_model.specs.Calls.{WaitSettles, begun, enqueued, enters_at, wanted, accepted_once}
+use Rattle.gl_model.specs.Calls.{WaitSettles, begun_since, enqueued, enters_at, wanted, accepted_once}
 use Rattle.gl_model.specs.Lawful.{IsLawful}
 use Rattle.gl_model.specs.Tellings.{Told, told, told_but}
 use Rattle.gl_steps.specs.Tests.{refusal_of, worn}
 use Rattle.gl_steps.specs.Step.{Accepts, Answers, Goes, lock_answer, query_answer}
 use Rattle.gl_steps.specs.Promises.{OneOutcome, makes_node}
+use Rattle.gl_steps.proofs.Beginning.{Begins}
 use Rattle.gl_model.proofs.law.Lock.{MayLock, may_lock, waiting-lawful}
 use Rattle.gl_model.proofs.law.Settle.{settled_one}
 
@@ -34,11 +35,19 @@ module _ (s s₁ s₂ : State) (a₁ a₂ : Answer) (told₁ told₂ : Told) whe
   by_told : {a : Answer} (f : State → Told) → a₁ ≡ a → a₂ ≡ a → told₁ ≡ f s₁ → told₂ ≡ f s₂ → s₁ ≡ s₂ → Same
   by_told f x y p q e = (x ∙ sym y, p ∙ ap f e ∙ sym q, e)
 
+begins_one : (since : ℕ) (s s₁ s₂ : State) (a₁ a₂ : Answer) (told₁ told₂ : Told) → Begins since s a₁ told₁ s₁ → Begins since s a₂ told₂ s₂
+    → Same s s₁ s₂ a₁ a₂ told₁ told₂
+begins_one since s s₁ s₂ a₁ a₂ told₁ told₂ x y =
+    let slot : x.0 ≡ y.0 = some_is (sym x.1 ∙ y.1) in (
+      x.2 ∙ ap (λ t. answer.Begun (record { slot = t; age = s.begins + 1 })) slot ∙ sym y.2,
+      x.3 ∙ sym y.3,
+      x.4 ∙ ap (λ t. begun_since s t since) slot ∙ sym y.4,
+    )
+
 same_accepted : (s : State) → IsLawful s → (c : Command) (s₁ s₂ : State) (a₁ a₂ : Answer) (told₁ told₂ : Told) → makes_node c ≡ false → refusal_of s c ≡ None
     → Accepts s c a₁ told₁ s₁ → Accepts s c a₂ told₂ s₂ → Same s s₁ s₂ a₁ a₂ told₁ told₂
-same_accepted s law command.Begin s₁ s₂ a₁ a₂ told₁ told₂ none free x y =
-    let slot : x.0 ≡ y.0 = some_is (sym x.1 ∙ y.1) in
-    (x.2 ∙ ap (λ t. answer.Begun (record { slot = t; age = s.begins + 1 })) slot ∙ sym y.2, x.3 ∙ sym y.3, x.4 ∙ ap (begun s) slot ∙ sym y.4)
+same_accepted s law command.Begin s₁ s₂ a₁ a₂ told₁ told₂ none free x y = begins_one (s.begins + 1) s s₁ s₂ a₁ a₂ told₁ told₂ x y
+same_accepted s law (command.BeginAgain since) s₁ s₂ a₁ a₂ told₁ told₂ none free x y = begins_one (min since (s.begins + 1)) s s₁ s₂ a₁ a₂ told₁ told₂ x y
 same_accepted s law (command.Lock t n m) s₁ s₂ a₁ a₂ told₁ told₂ none free x y =
     let may : MayLock s t n m = (may_lock s t n m (worn s) [] free).0 in
     let e : s₁ ≡ s₂ =

@@ -1,5 +1,5 @@
 -- One step of a command that does not name t keeps t.
-use Rattle.std.specs.Prelude.{◌≡◌, ◌≢◌, Bool, true, false, List, [], ◌∷◌, Option, Some, None}
+use Rattle.std.specs.Prelude.{◌≡◌, ◌≢◌, ◌+◌, min, Bool, true, false, List, [], ◌∷◌, Option, Some, None}
 use Rattle.std.proofs.Common.{refl, sym, subst, inl, inr}
 use Rattle.gl_modes.proofs.Words.{and_both}
 use Rattle.gl_modes.specs.declared.refusal.Refusal.{Refusal}
@@ -59,7 +59,8 @@ module _ (s : State) (law : IsLawful s) (t : TxnId) (alive : lives s t ≡ true)
       finish ans.0 ans.2 (λ l. file_keeps s law t alive ans.0 l _ ans.1.0.key ps.now (made_is s ans.0 ans.1.1 ans.1.4))
   accepted (command.Index ps f bs) apart passed ans =
       finish ans.0 ans.2 (λ l. index_keeps s law t alive ans.0 l _ ans.1.0.key ps.now f bs.now ans.1.1.interval_keys (indexed_is s ans.0 ans.1.1 ans.1.4))
-  accepted command.Begin apart passed ans = finish ans.0 ans.2 (λ l. begin_keeps s law t alive ans.0 a told' ans.1)
+  accepted command.Begin apart passed ans = finish ans.0 ans.2 (λ l. begin_keeps s law t alive ans.0 (s.begins + 1) a told' ans.1)
+  accepted (command.BeginAgain since) apart passed ans = finish ans.0 ans.2 (λ l. begin_keeps s law t alive ans.0 (min since (s.begins + 1)) a told' ans.1)
   accepted (command.Lock u n m) apart passed ans = finish ans.0 ans.2 (λ l. lock_keeps s law t alive ans.0 u n m a told' (other_slot u apart passed.1.0) ans.1)
   accepted (command.Try u n m) apart passed ans = finish ans.0 ans.2 (λ l. try_keeps s law t alive ans.0 u n m a told' (other_slot u apart passed.1.0) ans.1)
   accepted (command.Unlock u n) apart passed ans = finish ans.0 ans.2 (λ l. unlock_keeps s law t alive ans.0 u n a told' (other_slot u apart passed.1.0) ans.1)

@@ -16,7 +16,7 @@ use Rattle.gl_model.specs.declared.answers.Detect.TheVariants.{AtBlock, ByWatche
 use Rattle.gl_modes.specs.Nodes.{same_node}
 use Rattle.gl_header.specs.Header.{holds, placed, without_waiter}
 use Rattle.gl_model.specs.State.{State, Txn, members, live_by, status_of, status_in, restatus, with_grant, is_waiting_at, pumped, without_wait, condemned}
-use Rattle.gl_model.specs.Calls.{is_covered, begun, enqueued, released, shed, raised, WaitSettles}
+use Rattle.gl_model.specs.Calls.{is_covered, begun_since, enqueued, released, shed, raised, WaitSettles}
 use Rattle.gl_model.specs.State.{blocks, waits_for, SettledWithin, Settled}
 use Rattle.gl_waits.specs.Waits.{IsWalk}
 use Rattle.gl_model.proofs.queues.Waiters.{waits_of, without_other, without_self, placed_other}
@@ -35,10 +35,11 @@ pub with_grant_follows : (s : State) (u t : ℕ) (n : NodeId) (m : Mode) → u �
 with_grant_follows s u t n m ne well = follows_same s (with_grant s u n m) t well refl refl (with_grant_same s u t n m ne) (λ q. refl)
 
 -- another begins
-pub begun_follows : (s : State) (u t : ℕ) → u ≢ t → WaitsWell s t → Follows s (begun s u) t
-begun_follows s u t ne well =
-    follows_same s (begun s u) t well refl (ap (λ b. if b then Some (record { age = s.begins + 1; status = Active }) else s.txns t) (other u t ne))
-    (λ q. refl) (λ q. refl)
+pub begun_other : (s : State) (u since t : ℕ) → u ≢ t → (begun_since s u since).txns t ≡ s.txns t
+begun_other s u since t ne = ap (λ b. if b then Some (record { age = s.begins + 1; since = since; status = Active }) else s.txns t) (other u t ne)
+
+pub begun_follows : (s : State) (u since t : ℕ) → u ≢ t → WaitsWell s t → Follows s (begun_since s u since) t
+begun_follows s u since t ne well = follows_same s (begun_since s u since) t well refl (begun_other s u since t ne) (λ q. refl) (λ q. refl)
 
 -- another waits
 pub enqueued_follows : (s : State) (u t : ℕ) (n : NodeId) (m : Mode) → u ≢ t → WaitsWell s t → Follows s (enqueued s u n m) t
@@ -124,7 +125,7 @@ walk_waits s v u (x ∷ way) walk = edge_waits s v x walk.0
 pub settled_within_follows : (c : Victims) (k : ℕ) (s : State) (u : ℕ) (s' : State) (t : ℕ) → SettledWithin c k s u s' → WaitsWell s t → Follows s s' t
 settled_within_follows c zero s u s' t done well = subst (λ x. Follows s x t) (sym done.1) (follows_same s s t well refl refl (λ q. refl) (λ q. refl))
 settled_within_follows c (suc k) s u s' t more well =
-    let back = (candidate-on_cycle c (waits_for s) u more.0 more.1.is_member).back in
+    let back = (candidate-on_cycle c (waits_for s) u more.0 more.1.is_member.is_member).back in
     let f = condemned_follows s more.0 t (walk_waits s more.0 u back.0 back.1) well in
     follows_trans s (condemned s more.0) s' t f (settled_within_follows c k (condemned s more.0) u s' t more.2 f.well)
 

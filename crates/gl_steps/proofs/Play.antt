@@ -1,6 +1,6 @@
 -- The model as a program: what a state answers to a command, and what is left. A new node gets the least key above all others, and settling takes as
 -- many turns as there are that wait.
-use Rattle.std.specs.Prelude.{ℕ, false, zero, suc, ◌+◌, ◌-◌, nat_le, List, [], ◌∷◌, length, Option, Some, None, if◌then◌else◌}
+use Rattle.std.specs.Prelude.{ℕ, false, zero, suc, ◌+◌, ◌-◌, nat_le, List, [], ◌∷◌, length, Option, Some, None, if◌then◌else◌, min}
 use Rattle.std.specs.List.{range_with_len}
 use Rattle.gl_modes.specs.declared.mode.Mode.TheVariants.{X}
 use Rattle.gl_modes.specs.declared.node.NodeId.{NodeId}
@@ -13,8 +13,8 @@ use Rattle.gl_graph.specs.Shapes.{Shape, Inner, File, Rec}
 use Rattle.gl_graph.specs.Graph.{Node, record_parents}
 use Rattle.gl_graph.specs.Changes.{born_index, rekeyed, rekeyed_parents, with_parents, without_node}
 use Rattle.gl_model.specs.State.{State, status_of, with_grant, with_graph}
-use Rattle.gl_model.specs.Calls.{accepted_once, begun, cancelled, deleted, free_slot, granted, unlocked, moved_to, raised, released, shed, wanted, dropped}
-use Rattle.gl_model.specs.Calls.{covered_children, held_children}
+use Rattle.gl_model.specs.Calls.{accepted_once, begun_since, cancelled, deleted, free_slot, granted, unlocked, moved_to, raised, released, shed, wanted}
+use Rattle.gl_model.specs.Calls.{dropped, covered_children, held_children}
 use Rattle.gl_model.specs.Tellings.{Told, told, told_but}
 use Rattle.gl_steps.specs.Tests.{refusal_of}
 use Rattle.gl_steps.specs.Step.{lock_answer, query_answer}
@@ -64,6 +64,10 @@ one_made s shape ps = (answer.Node (next_id s (free_key s)), [], made s (new_nod
 abbrev pub done : State → State → Outcome
 done s s' = (answer.Done, told s s', s')
 
+-- a transaction begins in the first free slot
+abbrev pub begins : State → ℕ → Outcome
+begins s since = let t = slot_or_zero (free_slot s) in (answer.Begun (record { slot = t; age = s.begins + 1 }), [], begun_since s t since)
+
 -- a command that is not refused
 abbrev pub go : State → Command → Outcome
 go s (command.Inner ps) = one_made s Inner ps.now
@@ -74,7 +78,8 @@ go s (command.Index ps f bs) = (
   with_graph s
       (born_index s.graph (free_key s) ps.now f bs.now (interval_keys s bs.now)),
 )
-go s command.Begin = (answer.Begun (record { slot = slot_or_zero (free_slot s); age = s.begins + 1 }), [], begun s (slot_or_zero (free_slot s)))
+go s command.Begin = begins s (s.begins + 1)
+go s (command.BeginAgain since) = begins s (min since (s.begins + 1))
 go s (command.Lock t n m) =
     let s' : State = locked s t.slot n m in
     (lock_answer (s'.held t.slot n) (status_of s' t.slot), told_but t.slot s s', s')

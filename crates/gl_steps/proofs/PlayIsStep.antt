@@ -119,6 +119,7 @@ module _ (s : State) (law : IsLawful s) where
   goes (command.File ps) None e = (_, (_, record { key_free = key_free; birth = refl; after = refl }, refl, refl, refl), refl)
   goes (command.Index ps f bs) None e = (_, (_, index_is_born ps.now f bs.now, refl, refl, refl), refl)
   goes command.Begin None e = (_, (_, begins e, refl, refl, refl), refl)
+  goes (command.BeginAgain since) None e = (_, (_, begins e, refl, refl, refl), refl)
   goes (command.Lock t n m) None e = (_, (locks_some s law t n m (may_lock s t n m (worn s) [] e).0, refl, refl), refl)
   goes (command.Try t n m) None e = (_, (refl, refl, refl), refl)
   goes (command.Unlock t n) None e = (_, (refl, refl, refl), refl)

@@ -1,5 +1,5 @@
 -- With detection at each block no command at all leaves a cycle: those on the graph add no step.
-use Rattle.std.specs.Prelude.{◌≡◌, [], ◌∷◌, None}
+use Rattle.std.specs.Prelude.{◌≡◌, ◌+◌, min, [], ◌∷◌, None}
 use Rattle.std.proofs.Common.{sym, ◌∙◌, subst}
 use Rattle.gl_modes.specs.declared.mode.Mode.TheVariants.{X}
 use Rattle.gl_modes.specs.declared.node.NodeId.{NodeId}
@@ -60,7 +60,9 @@ accepts-no_cycle s (command.Rekey t r i key) a told' s' at law none h acc =
     subst HasNoCycle (sym acc.2) (moved-no_cycle s law r (rekeyed_parents s.graph r i key) (rekeyed s.graph r i key) none)
 accepts-no_cycle s (command.Move t n ps) a told' s' at law none h acc =
     subst HasNoCycle (sym acc.2) (moved-no_cycle s law n ps.now (with_parents s.graph n ps.now) none)
-accepts-no_cycle s command.Begin a told' s' at law none h acc = subst HasNoCycle (sym acc.4) (begun-no_cycle s acc.0 none)
+accepts-no_cycle s command.Begin a told' s' at law none h acc = subst HasNoCycle (sym acc.4) (begun-no_cycle s acc.0 (s.begins + 1) none)
+accepts-no_cycle s (command.BeginAgain since) a told' s' at law none h acc =
+    subst HasNoCycle (sym acc.4) (begun-no_cycle s acc.0 (min since (s.begins + 1)) none)
 accepts-no_cycle s (command.Lock t n m) a told' s' at law none h acc = locks-no_cycle s s' at law t n m (may_lock s t n m (worn s) [] h).0 acc.0 none
 accepts-no_cycle s (command.Try t n m) a told' s' at law none h acc =
     subst HasNoCycle (sym acc.2) (granted-no_cycle s t.slot n (wanted s t.slot n m) (active_after s t n (worn s) _ h).0 none)

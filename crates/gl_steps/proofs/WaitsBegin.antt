@@ -1,5 +1,5 @@
 -- A wait begins by a lock that is answered so, and by nothing else.
-use Rattle.std.specs.Prelude.{◌≡◌, ◌⊎◌, ℕ, ◌+◌, false, ◌&&◌, ◌||◌, ◌==◌, Option, Some, None, if◌then◌else◌}
+use Rattle.std.specs.Prelude.{◌≡◌, ◌⊎◌, ℕ, ◌+◌, false, ◌&&◌, ◌||◌, ◌==◌, Option, Some, None, if◌then◌else◌, min}
 use Rattle.std.specs.List.{filter}
 use Rattle.std.proofs.Common.{refl, sym, ap, subst, ◌∙◌, inl, inr, ⊎_elim}
 use mathlib.Core.Bool.{true≢false}
@@ -14,13 +14,14 @@ use Rattle.gl_model.specs.declared.txn.Status.{Status}
 use Rattle.gl_model.specs.declared.txn.Status.TheVariants.{Active, Waiting, Condemned}
 use Rattle.gl_model.specs.declared.txn.TxnId.{TxnId}
 use Rattle.gl_model.specs.Calls.{Locks, enqueued, enters_at, raised, stays, wanted, is_covered}
-use Rattle.gl_model.specs.State.{granted_at, is_waiting_at, woken, State, members, restatus, status_in, status_of, with_grant, is_wait}
+use Rattle.gl_model.specs.State.{granted_at, is_waiting_at, woken, State, Txn, members, restatus, status_in, status_of, with_grant, is_wait}
 use Rattle.gl_model.specs.Tellings.{stripped, Told}
 use Rattle.gl_steps.specs.declared.command.Answer.{Answer}
 use Rattle.gl_steps.specs.declared.command.Answer.TheVariants as answer
 use Rattle.gl_steps.specs.declared.command.Command.{Command}
 use Rattle.gl_steps.specs.declared.command.Command.TheVariants as command
 use Rattle.gl_steps.specs.Promises.{BeginsWaits, NobodyWaits}
+use Rattle.gl_steps.proofs.Beginning.{Begins}
 use Rattle.gl_steps.specs.Step.{Accepts, Step, lock_answer}
 use Rattle.gl_steps.proofs.EachStep.{each_step}
 use Rattle.gl_model.specs.Calls.{goes_with}
@@ -63,17 +64,21 @@ module _ (s : State) (t : ℕ) (n : NodeId) (m : Mode) (a : Answer) where
         let before : x.txns t ≡ s.txns t = ap (λ b. if b then restatus (Waiting q (wanted s u.slot q w)) (s.txns u.slot) else s.txns t) e in
         inl (ap status_in (sym before) ∙ (wait_settles_goes_on s.detect s.victims x next u.slot t (locks.waits queued)).waits n m waits)))
 
+    begins : (since : ℕ) → Begins since s a list next → Began next
+    begins since acc =
+        let new : Option Txn = Some (record { age = s.begins + 1; since = since; status = Active }) in
+        split (t == acc.0)
+        (λ e. other_status (Some Active) (λ h. cc h)
+        (ap (λ (x : State). status_of x t) acc.4 ∙ ap (λ b. status_in (if b then new else s.txns t)) e))
+        (λ e. same _ acc.4 (ap (λ b. if b then new else s.txns t) e))
+
     accepted : (c : Command) → Accepts s c a list next → Began next
     accepted (command.Inner ps) acc = same _ acc.4 refl
     accepted (command.File ps) acc = same _ acc.4 refl
     accepted (command.Index ps f bs) acc = same _ acc.4 refl
     accepted (command.Insert u f ks) acc = same _ acc.4 refl
-    accepted command.Begin acc =
-        let begins = ap (λ (x : State). status_of x t) acc.4 in
-        split (t == acc.0)
-        (λ e. other_status (Some Active) (λ h. cc h)
-        (begins ∙ ap (λ b. status_in (if b then Some (record { age = s.begins + 1; status = Active }) else s.txns t)) e))
-        (λ e. same _ acc.4 (ap (λ b. if b then Some (record { age = s.begins + 1; status = Active }) else s.txns t) e))
+    accepted command.Begin acc = begins (s.begins + 1) acc
+    accepted (command.BeginAgain since) acc = begins (min since (s.begins + 1)) acc
     accepted (command.Lock u q w) acc = locked_case u q w acc.0 acc.1
     accepted (command.Try u q w) acc = same _ acc.2 refl
     accepted (command.Unlock u q) acc = on _ acc.2 (pumped_goes_on (with_grant s u.slot q NL) (same_node q) t)

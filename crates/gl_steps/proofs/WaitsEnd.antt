@@ -1,5 +1,5 @@
 -- A wait that a step ends is told, or its transaction is named by a cancel or an abort.
-use Rattle.std.specs.Prelude.{◌≡◌, ◌≢◌, ℕ, ◌+◌, Bool, true, false, not, ◌&&◌, ◌||◌, ◌==◌, Option, Some, None, if◌then◌else◌}
+use Rattle.std.specs.Prelude.{◌≡◌, ◌≢◌, ℕ, ◌+◌, Bool, true, false, not, ◌&&◌, ◌||◌, ◌==◌, Option, Some, None, if◌then◌else◌, min}
 use Rattle.std.specs.List.{filter}
 use Rattle.std.proofs.Common.{refl, sym, ap, ap₂, arith, subst, ◌∙◌}
 use Rattle.std.proofs.lemmas.Bool.Decides.{nat_tests}
@@ -29,6 +29,7 @@ use Rattle.gl_steps.specs.declared.command.Answer.{Answer}
 use Rattle.gl_steps.specs.declared.command.Command.{Command}
 use Rattle.gl_steps.specs.declared.command.Command.TheVariants as command
 use Rattle.gl_steps.specs.Promises.{EndsWaits, ends_wait_of, is_told, same_txn, waits_on}
+use Rattle.gl_steps.proofs.Beginning.{Begins}
 use Rattle.gl_steps.specs.Step.{Accepts}
 use Rattle.gl_steps.specs.Tests.{tests_of}
 use Rattle.gl_steps.proofs.EachStep.{each_step}
@@ -38,7 +39,7 @@ use Rattle.gl_steps.proofs.LivesOn.{GoesOn, LivesOn, freed_on, lives_on_same, li
 use Rattle.gl_steps.proofs.LivesOn.{unless_on, wait_settles_goes_on, woken_on}
 use Rattle.gl_steps.proofs.NotRefused.{differ, txn_lives}
 use Rattle.gl_steps.proofs.OneStep.{AllNone, all_none}
-use Rattle.gl_steps.proofs.OtherChanges.{other}
+use Rattle.gl_steps.proofs.OtherChanges.{begun_other, other}
 use Rattle.gl_steps.proofs.ToldGrants.{age_is, any_filtered, any_mapped, txn_there}
 
 -- t lives in s, and waits on n for m
@@ -142,14 +143,16 @@ module _ (s : State) (law : IsLawful s) (t : TxnId) (alive : lives s t ≡ true)
         (ap (λ b. if b then restatus (Waiting q (wanted s u.slot q w)) (s.txns u.slot) else s.txns t.slot) (other u.slot t.slot ne)))
         (wait_settles_goes_on s.detect s.victims x next u.slot t.slot (locks.waits e)))
 
+    begins : (c : Command) (since : ℕ) → Begins since s a list next → Ended c
+    begins c since acc = unmoved _ acc.4 (begun_other s acc.0 since t.slot (free_differs s t alive acc.0 acc.1)) c
+
     accepted : (c : Command) → AllNone (tests_of s c) → Accepts s c a list next → Ended c
     accepted (command.Inner ps) passed acc = unmoved _ acc.4 refl (command.Inner ps)
     accepted (command.File ps) passed acc = unmoved _ acc.4 refl (command.File ps)
     accepted (command.Index ps f bs) passed acc = unmoved _ acc.4 refl (command.Index ps f bs)
     accepted (command.Insert u f ks) passed acc = unmoved _ acc.4 refl (command.Insert u f ks)
-    accepted command.Begin passed acc =
-        let ne = free_differs s t alive acc.0 acc.1 in
-        unmoved _ acc.4 (ap (λ b. if b then Some (record { age = s.begins + 1; status = Active }) else s.txns t.slot) (other acc.0 t.slot ne)) command.Begin
+    accepted command.Begin passed acc = begins command.Begin (s.begins + 1) acc
+    accepted (command.BeginAgain since) passed acc = begins (command.BeginAgain since) (min since (s.begins + 1)) acc
     accepted (command.Lock u q w) passed acc =
         let ne = other_active u passed.1.1.0 in others_told (command.Lock u q w) u.slot ne acc.2 (locked_on u q w ne acc.0)
     accepted (command.Try u q w) passed acc = unmoved _ acc.2 refl (command.Try u q w)

@@ -18,8 +18,8 @@ use Rattle.gl_graph.specs.Changes.{IsAdopted, IsBorn, IsIndexBorn, rekeyed, reke
 use Rattle.gl_graph.specs.Graph.{record_parents}
 use Rattle.gl_graph.specs.Shapes.{File, Inner, Rec}
 use Rattle.gl_header.specs.Header.{group_of}
-use Rattle.gl_model.specs.Calls.{Locks, accepted_once, begun, cancelled, deleted, dropped, free_slot, granted, moved_to, raised, released, shed, unlocked}
-use Rattle.gl_model.specs.Calls.{wanted}
+use Rattle.gl_model.specs.Calls.{Locks, accepted_once, begun, begun_again, cancelled, deleted, dropped, free_slot, granted, moved_to, raised, released}
+use Rattle.gl_model.specs.Calls.{shed, unlocked, wanted}
 use Rattle.gl_model.specs.Calls.{covered_children, held_children}
 use Rattle.gl_model.specs.Lawful.{effective}
 use Rattle.gl_model.specs.State.{State, members, status_of, with_grant, with_graph, Settled}
@@ -45,6 +45,8 @@ Accepts s (command.Index ps f bs) a told' s' =
     (n : NodeId) × IsIndexBorn s.graph s'.graph n ps.now f bs.now × (a ≡ answer.Node n) × (told' ≡ []) × (s' ≡ with_graph s s'.graph)
 Accepts s command.Begin a told' s' =
     (t : ℕ) × (free_slot s ≡ Some t) × (a ≡ answer.Begun (record { slot = t; age = s.begins + 1 })) × (told' ≡ []) × (s' ≡ begun s t)
+Accepts s (command.BeginAgain since) a told' s' =
+    (t : ℕ) × (free_slot s ≡ Some t) × (a ≡ answer.Begun (record { slot = t; age = s.begins + 1 })) × (told' ≡ []) × (s' ≡ begun_again s t since)
 Accepts s (command.Lock t n m) a told' s' = Locks s t.slot n m s' × (a ≡ lock_answer (s'.held t.slot n) (status_of s' t.slot)) × (told' ≡ told_but t.slot s s')
 Accepts s (command.Try t n m) a told' s' = (a ≡ answer.Granted (wanted s t.slot n m)) × (told' ≡ []) × (s' ≡ granted s t.slot n m)
 Accepts s (command.Unlock t n) a told' s' = (a ≡ answer.Done) × (told' ≡ told s s') × (s' ≡ unlocked s t.slot n)

@@ -51,7 +51,8 @@ pub struct Reply {
 
 /// One command. `Group`, `Held` and `Effective` are queries, which change nothing; every other
 /// command that is not refused is counted. `Adopt` and `Forget` are our own: by them a record need
-/// not stand for as long as its row does. So are `Drop` and `IndexBy`, by which a schema changes.
+/// not stand for as long as its row does. So are `Drop` and `IndexBy`, by which a schema changes, and
+/// `BeginAgain`, by which a victim keeps its turn.
 #[derive(Clone, Copy)]
 pub enum Command<'a> {
     /// A new inner node, under 0 to 8 inner nodes.
@@ -71,6 +72,12 @@ pub enum Command<'a> {
     },
     /// A new transaction.
     Begin,
+    /// A new transaction for work that wants to be done since an earlier begin: the age of the transaction that
+    /// was to do it first. Whoever is chosen of a deadlock's members is the one whose number is the greatest, of
+    /// several such the youngest. A number above its own age counts as that.
+    BeginAgain {
+        since: u64,
+    },
     /// Ask for a lock, and wait where it cannot be granted at once.
     Lock {
         txn: TxnId,

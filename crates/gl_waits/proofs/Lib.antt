@@ -2,5 +2,6 @@ pub mod WalkLemmas
 pub mod CycleLemmas
 pub mod VictimLemmas
 pub mod BoardLemmas
+pub mod Earlier
 mod Closing
 mod Chosen

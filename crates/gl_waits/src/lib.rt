@@ -20,6 +20,6 @@ pub use cycle::{on_cycle, on_cycle_in};
 pub use freeing::freeing_victim;
 pub use gl_slots::{Bits, SLOTS, Slot, Slots};
 pub use suspect::suspects;
-pub use victim::{youngest, youngest_of};
+pub use victim::{latest_of, youngest};
 pub use victims::{Victims, victim_for};
 pub use waits_for::WaitsFor;

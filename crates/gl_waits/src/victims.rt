@@ -1,17 +1,17 @@
 //! Whom a deadlock takes.
 
 ghost use Rattle.std.specs.Prelude.{ℕ, ◌<◌, ◌↔◌, IsNone, IfSome};
-ghost use Rattle.gl_waits.specs.Waits.{IsLowestYoungest, IsOnNoCycle};
+ghost use Rattle.gl_waits.specs.Waits.{IsLowestLatest, IsOnNoCycle};
 ghost use Rattle.gl_waits.specs.Victims.{IsCandidate};
 
 use crate::ages::Ages;
 use crate::cycle::on_cycle_in;
 use crate::freeing::freeing_victim;
-use crate::victim::youngest_of;
+use crate::victim::latest_of;
 use crate::waits_for::WaitsFor;
 use gl_slots::SLOTS;
 
-/// Among whom the youngest is chosen, so that a slot gets off its cycles: all that are on a cycle with
+/// Among whom the latest is chosen, so that a slot gets off its cycles: all that are on a cycle with
 /// it, where more than one choice may be needed; or those alone whose choice is enough, so that one
 /// always is. The slot itself is one of both.
 #[derive(Clone, Copy, PartialEq, Eq, Debug)]
@@ -20,8 +20,8 @@ pub enum Victims {
     Fewest,
 }
 
-/// Whose waits are to be given up next for `slot`, by a choice of victims: the youngest candidate, of
-/// several of that age the lowest; `None` where `slot` is on no cycle.
+/// Whose waits are to be given up next for `slot`, by a choice of victims: the latest candidate, as
+/// `latest_of` chooses; `None` where `slot` is on no cycle.
 pub fn victim_for<T: WaitsFor, A: Ages>(
     waits: &T,
     ages: &A,
@@ -31,11 +31,11 @@ pub fn victim_for<T: WaitsFor, A: Ages>(
     requires { slot < SLOTS }
     ensures none { IsNone result ↔ IsOnNoCycle (T.edge waits.now) slot }
     ensures some { IfSome result
-        (IsLowestYoungest (IsCandidate victims (T.edge waits.now) slot) (A.age_of ages.now)) }
+        (IsLowestLatest (IsCandidate victims (T.edge waits.now) slot) (A.since_of ages.now) (A.age_of ages.now)) }
     ensures low { IfSome result (λ v. v < SLOTS) }
 {
     match victims {
-        Victims::Youngest => youngest_of(ages, on_cycle_in(waits, slot)),
+        Victims::Youngest => latest_of(ages, on_cycle_in(waits, slot)),
         Victims::Fewest => freeing_victim(waits, ages, slot),
     }
 }

@@ -163,4 +163,4 @@ departed_twice s a b = λ i. record s {
 
     freed_twice : (x : Option Txn) → freed_among b (freed_among a x) ≡ freed_among (λ q. b q || a q) x
     freed_twice None = refl
-    freed_twice (Some x) = ap (λ st. Some (record { age = x.age; status = st })) (status_twice x.status)
+    freed_twice (Some x) = ap (λ st. Some (record x { status = st })) (status_twice x.status)

@@ -1,9 +1,10 @@
 -- Who waits for whom after each change. For cycles and boards.
 use Rattle.gl_model.proofs.Words.{[], ⊎_elim, ◌&&◌, ◌++◌, ◌+◌, ◌==◌, ◌||◌, ◌∙◌, ◌∷◌, ◌≡◌, ◌≢◌, ◌⊎◌, Active, and_both, ap, append-nil, ap₂, are_compatible}
-use Rattle.gl_model.proofs.Words.{arith, begun, blocks, Bool, clash, Condemned, differ-false, drop, enqueued, false, filter, granted_at, holds, if◌then◌else◌}
-use Rattle.gl_model.proofs.Words.{inr, is_ahead, is_among_waiters, is_waiter, IsLawful, length, List, Members, members, Mode, nat_tests, NL-compatible, NodeId}
-use Rattle.gl_model.proofs.Words.{None, not, not-true, number_other, Option, or_elim, or_left, or_right, placed, pumped, refl, restatus, same_node}
-use Rattle.gl_model.proofs.Words.{same_node-equal, Some, split, State, Status, status_in, status_of, sym, true, Txn, Waiter, Waiting, waits_for, with_grant, ℕ}
+use Rattle.gl_model.proofs.Words.{arith, begun_since, blocks, Bool, clash, Condemned, differ-false, drop, enqueued, false, filter, granted_at, holds}
+use Rattle.gl_model.proofs.Words.{if◌then◌else◌, inr, is_ahead, is_among_waiters, is_waiter, IsLawful, length, List, Members, members, Mode, nat_tests}
+use Rattle.gl_model.proofs.Words.{NL-compatible, NodeId, None, not, not-true, number_other, Option, or_elim, or_left, or_right, placed, pumped, refl}
+use Rattle.gl_model.proofs.Words.{restatus, same_node, same_node-equal, Some, split, State, Status, status_in, status_of, sym, true, Txn, Waiter, Waiting}
+use Rattle.gl_model.proofs.Words.{waits_for, with_grant, ℕ}
 use Rattle.gl_model.proofs.law.Keeps.{grant_case, granted_rest, IsLawfulBut, IsLess, woken_waits}
 use Rattle.gl_model.proofs.queues.Edits.{ahead_within, any_left, chosen_is, HoldersFirst, keep_ahead}
 use Rattle.gl_model.proofs.queues.Waiters.{ahead, ahead_across, ahead_after, ahead_first, ahead_is, among_append, among_by_filter, placed_case}
@@ -158,11 +159,12 @@ granted_steps s t n m x y h nx ny =
     })
 
 -- a new transaction t
-pub begun_steps : (s : State) (t : ℕ) (x y : ℕ) → waits_for (begun s t) x y ≡ true → x ≢ t → y ≢ t → waits_for s x y ≡ true
-begun_steps s t x y h nx ny =
-    let st = step_is (begun s t) x y h in
+pub begun_steps : (s : State) (t since : ℕ) (x y : ℕ) → waits_for (begun_since s t since) x y ≡ true → x ≢ t → y ≢ t → waits_for s x y ≡ true
+begun_steps s t since x y h nx ny =
+    let st = step_is (begun_since s t since) x y h in
     is_step s x y st.0 st.1 (record {
       differ = st.2.differ;
-      waits = ap (λ b. status_in (if b then Some (record { age = s.begins + 1; status = Active }) else s.txns x)) (sym (number_other x t nx)) ∙ st.2.waits;
+      waits = ap (λ b. status_in (if b then Some (record { age = s.begins + 1; since = since; status = Active }) else s.txns x))
+          (sym (number_other x t nx)) ∙ st.2.waits;
       blocked = st.2.blocked;
     })

@@ -94,7 +94,7 @@ kept-all s t v cycle left d of none so = record {
 }
 
 -- the next step round a cycle
-onward : (edge : ℕ → ℕ → Bool) (t k : ℕ) → IsOnCycleOf edge t k → (u : ℕ) × (edge k u ≡ true) × IsOnCycleOf edge t u
+pub onward : (edge : ℕ → ℕ → Bool) (t k : ℕ) → IsOnCycleOf edge t k → (u : ℕ) × (edge k u ≡ true) × IsOnCycleOf edge t u
 onward edge t k on = by on.back.0 on.back.1
   where
     by : (way : List ℕ) → IsWalk edge k way t → (u : ℕ) × (edge k u ≡ true) × IsOnCycleOf edge t u
@@ -108,7 +108,7 @@ rows_lead_on s t v d is = λ i r low.
     (next.0, (row.waits_for next.0).1 (next.2, next.1), is.whole next.0 next.2)
 
 pub victim_has_row : VictimHasRow
-victim_has_row c s t v d victim is = is.whole v (candidate-on_cycle c (waits_for s) t v victim.is_member)
+victim_has_row c s t v d victim is = is.whole v (candidate-on_cycle c (waits_for s) t v victim.is_member.is_member)
 
 -- The loop that settles a slot: what holds between its victims.
 

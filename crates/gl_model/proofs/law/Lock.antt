@@ -1,12 +1,12 @@
 -- A lock and an unlock keep the law, and no command on locks leaves a cycle. For the table's law.
 use Rattle.gl_model.proofs.Words.{[], ◌&&◌, ◌++◌, ◌+◌, ◌<◌, ◌==◌, ◌∙◌, ◌∷◌, ◌≡◌, Active, active_on, and_both, ap, arith, at_one-no_cycle, AtBlock, bad_mode}
-use Rattle.gl_model.proofs.Words.{begun, Bool, ByWatcher, choosing, Condemned, condemned, Detect, empty_state, EmptyHasNoCycle, enqueued, enters_at, false}
-use Rattle.gl_model.proofs.Words.{find, first_refusal, HasNoCycle, held_child, if◌then◌else◌, intends, is_child, is_covered, is_live, is_none, is_some}
-use Rattle.gl_model.proofs.Words.{is_waiting_at, IsLawful, IsOnNoCycle, less-no_cycle, List, Mode, nat_tests, need_parents, NL, no_step-no_cycle, NodeId, None}
-use Rattle.gl_model.proofs.Words.{not_refused, not_true, number_same, Option, parents_of, pumped, range_with_len, refl, Refusal, released, restatus, same_node}
-use Rattle.gl_model.proofs.Words.{same_node-equal, same_node-sym, Settled, SettledWithin, SettlingFrees, shed, Some, split, State, Status, status_in, status_of}
-use Rattle.gl_model.proofs.Words.{subst, suc, supremum-above, sym, true, Txn, TxnId, Victims, Waiter, waits_for, WaitSettles, wanted, with_grant, without_wait}
-use Rattle.gl_model.proofs.Words.{without_waiter, zero, ℕ}
+use Rattle.gl_model.proofs.Words.{begun_since, Bool, ByWatcher, choosing, Condemned, condemned, Detect, empty_state, EmptyHasNoCycle, enqueued, enters_at}
+use Rattle.gl_model.proofs.Words.{false, find, first_refusal, HasNoCycle, held_child, if◌then◌else◌, intends, is_child, is_covered, is_live, is_none, is_some}
+use Rattle.gl_model.proofs.Words.{is_waiting_at, IsLawful, IsOnNoCycle, less-no_cycle, List, Mode, nat_tests, need_parents, NL, no_step-no_cycle, NodeId}
+use Rattle.gl_model.proofs.Words.{None, not_refused, not_true, number_same, Option, parents_of, pumped, range_with_len, refl, Refusal, released, restatus}
+use Rattle.gl_model.proofs.Words.{same_node, same_node-equal, same_node-sym, Settled, SettledWithin, SettlingFrees, shed, Some, split, State, Status}
+use Rattle.gl_model.proofs.Words.{status_in, status_of, subst, suc, supremum-above, sym, true, Txn, TxnId, Victims, Waiter, waits_for, WaitSettles, wanted}
+use Rattle.gl_model.proofs.Words.{with_grant, without_wait, without_waiter, zero, ℕ}
 use Rattle.gl_model.specs.Calls.{Locks}
 use Rattle.gl_model.proofs.law.Edges.{begun_steps, enqueued_steps, granted_steps, idle_no_step, less_steps, pumped_steps}
 use Rattle.gl_model.proofs.law.Keeps.{apart, IsLess, less-lawful, pumped-lawful, with_grant-lawful}
@@ -137,9 +137,9 @@ granted-no_cycle s t n m active none =
     (no_step-no_cycle (waits_for (with_grant s t n m)) t (active_idle (with_grant s t n m) t active))
 
 -- who begins waits for nobody
-pub begun-no_cycle : (s : State) (t : ℕ) → HasNoCycle s → HasNoCycle (begun s t)
-begun-no_cycle s t none = at_one-no_cycle (waits_for s) (waits_for (begun s t)) t (begun_steps s t) none
-    (no_step-no_cycle (waits_for (begun s t)) t (active_idle (begun s t) t (ap status_in (if-true _ (number_same t t refl)))))
+pub begun-no_cycle : (s : State) (t since : ℕ) → HasNoCycle s → HasNoCycle (begun_since s t since)
+begun-no_cycle s t since none = at_one-no_cycle (waits_for s) (waits_for (begun_since s t since)) t (begun_steps s t since) none
+    (no_step-no_cycle (waits_for (begun_since s t since)) t (active_idle (begun_since s t since) t (ap status_in (if-true _ (number_same t t refl)))))
 
 -- a lock that waits, once it is settled
 pub waiting-no_cycle : (c : Victims) (s s' : State) → IsLawful s → (t : TxnId) (n : NodeId) (m : Mode) → MayLock s t n m → enters_at s t.slot n m ≡ false

@@ -1,11 +1,12 @@
 -- Settling ends, in one state; chains of waits end; one victim is enough. For the laws and for deadlocks.
 use Rattle.gl_model.proofs.Words.{[], ⊎_elim, ◌&&◌, ◌<◌, ◌==◌, ◌||◌, ◌∙◌, ◌∷◌, ◌≡◌, ◌≤◌, ◌⊎◌, Active, age_of, ap, ap₂, are_compatible, arith, AtBlock, Bool}
 use Rattle.gl_model.proofs.Words.{ByWatcher, candidate-on_cycle, clash, Condemned, condemned, CondemningFrees, Detect, enqueued, enters_at, false, Fewest}
-use Rattle.gl_model.proofs.Words.{filter, fits, freed-fewer, front, granted_at, HasNoCycle, holds, if◌then◌else◌, inl, inr, is_ahead, is_among_waiters, is_wait}
-use Rattle.gl_model.proofs.Words.{is_waiter, is_waiting_at, IsLawful, IsOnNoCycle, IsVictim, IsWalk, length, List, list_all, list_any, members, Mode, nat_tests}
-use Rattle.gl_model.proofs.Words.{NL, NodeId, None, not, not_true, number_same, OneFalls, Option, or_elim, or_left, or_no, or_right, range_with_len, Reaches}
-use Rattle.gl_model.proofs.Words.{refl, rules, same_number, Settled, SettledWithin, SettlingEnds, slots, Some, split, State, Status, status_in, status_of}
-use Rattle.gl_model.proofs.Words.{subst, suc, sym, true, TxnId, Victims, Waiter, Waiting, waits_for, WaitSettles, wanted, with_grant, without_wait, zero, ℕ}
+use Rattle.gl_model.proofs.Words.{filter, fits, freed-fewer, front, granted_at, HasNoCycle, holds, if◌then◌else◌, inl, inr, is_ahead, is_among_waiters}
+use Rattle.gl_model.proofs.Words.{is_wait, is_waiter, is_waiting_at, IsLawful, IsOnNoCycle, IsVictim, IsWalk, length, List, list_all, list_any, members, Mode}
+use Rattle.gl_model.proofs.Words.{nat_tests, NL, NodeId, None, not, not_true, number_same, OneFalls, Option, or_elim, or_left, or_no, or_right}
+use Rattle.gl_model.proofs.Words.{range_with_len, Reaches, refl, rules, same_number, Settled, SettledWithin, SettlingEnds, since_of, slots, Some, split}
+use Rattle.gl_model.proofs.Words.{State, Status, status_in, status_of, subst, suc, sym, true, TxnId, Victims, Waiter, Waiting, waits_for, WaitSettles, wanted}
+use Rattle.gl_model.proofs.Words.{with_grant, without_wait, zero, ℕ, is_earlier, IsCandidate, latest-none_later, neither_earlier}
 use Rattle.gl_model.specs.Calls.{Locks}
 use Rattle.gl_model.proofs.law.Edges.{is_step, step_is}
 use Rattle.gl_model.proofs.law.Keeps.{nl_is, txn_there, waiting_is, woken_waits}
@@ -70,7 +71,7 @@ module _ (s : State) (law : IsLawful s) where
       free : (m : Mode) → not (are_compatible m NL) ≡ false
       free m = search rules
 
-  cycle_waits : (v t : ℕ) (way : List ℕ) → IsWalk (waits_for s) v way t → waiting s v ≡ true
+  pub cycle_waits : (v t : ℕ) (way : List ℕ) → IsWalk (waits_for s) v way t → waiting s v ≡ true
   cycle_waits v t [] h = ap is_wait (step_is s v t h).2.waits
   cycle_waits v t (u ∷ way) h = ap is_wait (step_is s v u h.0).2.waits
 
@@ -90,23 +91,24 @@ by_victim turn s (Some v) = turn v
 -- so many turns of settling
 abbrev pub settled_by : Victims → ℕ → State → ℕ → State
 settled_by c zero s t = s
-settled_by c (suc k) s t = by_victim (λ v. settled_by c k (condemned s v) t) s (victim c (waits_for s) s.most (age_of s) t)
+settled_by c (suc k) s t = by_victim (λ v. settled_by c k (condemned s v) t) s (victim c (waits_for s) s.most (since_of s) (age_of s) t)
 
 module _ (c : Victims) where
   victim_waits : (s : State) → IsLawful s → (t v : ℕ) → IsVictim c s t v → waiting s v ≡ true
-  victim_waits s law t v one = let back = (candidate-on_cycle c (waits_for s) t v one.is_member).back in cycle_waits s law v t back.0 back.1
+  victim_waits s law t v one = let back = (candidate-on_cycle c (waits_for s) t v one.is_member.is_member).back in cycle_waits s law v t back.0 back.1
 
   settles_within : (k : ℕ) (s : State) → IsLawful s → (t : ℕ) → tally (waiting s) (slots s) ≤ k → Settled c s t (settled_by c k s t)
-  settles_within zero s law t le = by (victim c (waits_for s) s.most (age_of s) t) (victim_is (waits_for s) s.most (low s law) c (age_of s) t)
+  settles_within zero s law t le =
+      by (victim c (waits_for s) s.most (since_of s) (age_of s) t) (victim_is (waits_for s) s.most (low s law) c (since_of s) (age_of s) t)
     where
-      by : (o : Option ℕ) → IsAnswer c (waits_for s) (age_of s) t o → Settled c s t s
+      by : (o : Option ℕ) → IsAnswer c (waits_for s) (since_of s) (age_of s) t o → Settled c s t s
       by None none = (zero, (none, refl))
       by (Some v) one = let w = victim_waits s law t v one in let lt = fewer s law v w in absurd (omega arith)
   settles_within (suc k) s law t le =
-      by (victim c (waits_for s) s.most (age_of s) t) (victim_is (waits_for s) s.most (low s law) c (age_of s) t)
+      by (victim c (waits_for s) s.most (since_of s) (age_of s) t) (victim_is (waits_for s) s.most (low s law) c (since_of s) (age_of s) t)
       (λ v one. let w = victim_waits s law t v one in let lt = fewer s law v w in settles_within k (condemned s v) (condemned-lawful s law v) t (omega arith))
     where
-      by : (o : Option ℕ) → IsAnswer c (waits_for s) (age_of s) t o
+      by : (o : Option ℕ) → IsAnswer c (waits_for s) (since_of s) (age_of s) t o
           → ((v : ℕ) → IsVictim c s t v → Settled c (condemned s v) t (settled_by c k (condemned s v) t))
           → Settled c s t (by_victim (λ v. settled_by c k (condemned s v) t) s o)
       by None none rest = (zero, (none, refl))
@@ -150,14 +152,17 @@ locks_some s law t n m may = by (enters_at s t.slot n m) refl
 -- the victim is one
 victim_one : (c : Victims) (s : State) → IsLawful s → (t v w : ℕ) → IsVictim c s t v → IsVictim c s t w → v ≡ w
 victim_one c s law t v w yv yw =
-    let below = yv.greatest w yw.is_member in let above = yw.greatest v yv.is_member in
-    law.ages_differ v w (txn_there (s.txns v) _ (wait_is (status_of s v) (victim_waits c s law t v yv)).2) (omega arith)
+    law.ages_differ v w (txn_there (s.txns v) _ (wait_is (status_of s v) (victim_waits c s law t v yv)).2)
+    (neither_earlier (since_of s) (age_of s) v w (none_later v w yv yw) (none_later w v yw yv))
+  where
+    none_later : (x y : ℕ) → IsVictim c s t x → IsVictim c s t y → is_earlier (since_of s) (age_of s) x y ≡ false
+    none_later x y yx yy = latest-none_later (since_of s) (age_of s) (IsCandidate c (waits_for s) t) x yx y yy.is_member.is_member
 
 -- settling leaves one state
 settled_within_one : (c : Victims) (j k : ℕ) (s a b : State) (t : ℕ) → IsLawful s → SettledWithin c j s t a → SettledWithin c k s t b → a ≡ b
 settled_within_one c zero zero s a b t law h l = h.1 ∙ sym l.1
-settled_within_one c zero (suc k) s a b t law h l = absurd (h.0 l.0 (candidate-on_cycle c (waits_for s) t l.0 l.1.is_member))
-settled_within_one c (suc j) zero s a b t law h l = absurd (l.0 h.0 (candidate-on_cycle c (waits_for s) t h.0 h.1.is_member))
+settled_within_one c zero (suc k) s a b t law h l = absurd (h.0 l.0 (candidate-on_cycle c (waits_for s) t l.0 l.1.is_member.is_member))
+settled_within_one c (suc j) zero s a b t law h l = absurd (l.0 h.0 (candidate-on_cycle c (waits_for s) t h.0 h.1.is_member.is_member))
 settled_within_one c (suc j) (suc k) s a b t law h l =
     settled_within_one c j k (condemned s h.0) a b t (condemned-lawful s law h.0) h.2
     (subst (λ v. SettledWithin c k (condemned s v) t b) (victim_one c s law t l.0 h.0 l.1 h.1) l.2)
@@ -177,12 +182,12 @@ pub condemning_frees : CondemningFrees
 condemning_frees s law v x y h = grind (arith, nat_tests, step_is (condemned s v) x y h, waits_no_more s law v, condemned_steps s law v x y h, same_number)
 
 freed : (s : State) → IsLawful s → (t v : ℕ) → IsVictim Fewest s t v → IsOnNoCycle (waits_for (condemned s v)) t
-freed s law t v one = freed-fewer (waits_for s) (waits_for (condemned s v)) t v one.is_member (condemning_frees s law v)
+freed s law t v one = freed-fewer (waits_for s) (waits_for (condemned s v)) t v one.is_member.is_member (condemning_frees s law v)
 
 pub one_falls : OneFalls
 one_falls zero s s' law t h = omega arith
 one_falls (suc zero) s s' law t h = omega arith
-one_falls (suc (suc k)) s s' law t h = absurd (freed s law t h.0 h.1 h.2.0 h.2.1.is_member.on_cycle)
+one_falls (suc (suc k)) s s' law t h = absurd (freed s law t h.0 h.1 h.2.0 h.2.1.is_member.is_member.on_cycle)
 
 -- Where nobody is on a cycle of waits, each chain of waits ends at one who does not wait.
 

@@ -1,7 +1,7 @@
 -- What is taken away, a wait that begins, and the empty state: the law is kept. For releases, locks and new tables.
-use Rattle.gl_model.proofs.Words.{[], ⊎_elim, ◌&&◌, ◌+◌, ◌<◌, ◌==◌, ◌||◌, ◌∙◌, ◌∷◌, ◌≡◌, ◌≢◌, ◌≤◌, ◌⊎◌, Active, age_in, age_of, and_both, ap, ap₂, arith, begun}
-use Rattle.gl_model.proofs.Words.{Bool, choosing, clash, Condemned, condemned, Detect, empty_state, enqueued, enters, false, filter, front, holds}
-use Rattle.gl_model.proofs.Words.{if◌then◌else◌, inl, inr, intends, is_ahead, is_among_waiters, is_at_least, is_child, is_live, is_some, is_waiter}
+use Rattle.gl_model.proofs.Words.{[], ⊎_elim, ◌&&◌, ◌+◌, ◌<◌, ◌==◌, ◌||◌, ◌∙◌, ◌∷◌, ◌≡◌, ◌≢◌, ◌≤◌, ◌⊎◌, Active, age_in, age_of, and_both, ap, ap₂, arith}
+use Rattle.gl_model.proofs.Words.{begun_since, Bool, choosing, clash, Condemned, condemned, Detect, empty_state, enqueued, enters, false, filter, front}
+use Rattle.gl_model.proofs.Words.{holds, if◌then◌else◌, inl, inr, intends, is_ahead, is_among_waiters, is_at_least, is_child, is_live, is_some, is_waiter}
 use Rattle.gl_model.proofs.Words.{is_waiting_at, IsLawful, members, Mode, ModeFitsKind, nat_tests, NL, no, NodeId, None, none_some, not, number_other}
 use Rattle.gl_model.proofs.Words.{number_same, Option, or_no, other_number, placed, pumped, refl, released, restatus, same_mode, same_node, same_node-equal}
 use Rattle.gl_model.proofs.Words.{same_node-refl, same_number, Settled, SettledWithin, Some, split, State, Status, status_in, status_of, stripped, subst, suc}
@@ -233,18 +233,18 @@ module _ (s : State) (law : IsLawful s) (t : ℕ) (n : NodeId) (m : Mode) (activ
     ages_differ = λ u v h e. law.ages_differ u v (sym (some_same u) ∙ h) (sym (age_same u) ∙ e ∙ age_same v);
   }
 
-module _ (s : State) (law : IsLawful s) (t : ℕ) (free : is_some (s.txns t) ≡ false) (below : t < s.most) where
+module _ (s : State) (law : IsLawful s) (t : ℕ) (free : is_some (s.txns t) ≡ false) (below : t < s.most) (since : ℕ) where
   abbrev newcomer : Option Txn
-  newcomer = Some (record { age = s.begins + 1; status = Active })
+  newcomer = Some (record { age = s.begins + 1; since = since; status = Active })
 
-  begun_case : {C : Type 0} (u : ℕ) → (u ≡ t → (begun s t).txns u ≡ newcomer → C) → (u ≢ t → (begun s t).txns u ≡ s.txns u → C) → C
+  begun_case : {C : Type 0} (u : ℕ) → (u ≡ t → (begun_since s t since).txns u ≡ newcomer → C) → (u ≢ t → (begun_since s t since).txns u ≡ s.txns u → C) → C
   begun_case u here there = split (u == t) (λ e. here (same_number u t e) (if-true _ e)) (λ e. there (other_number u t e) (if-false _ e))
 
   age_low : (u : ℕ) → age_of s u ≤ s.begins
   age_low u = split (is_some (s.txns u)) (λ h. (law.ages u h).1) (λ h. let none : age_of s u ≡ 0 = age_none (s.txns u) h in omega arith)
 
   -- the new age is above all others
-  pub begun-lawful : IsLawful (begun s t)
+  pub begun-lawful : IsLawful (begun_since s t since)
   begun-lawful = record {
     graph = law.graph;
     grants_live = λ u q h. let old = law.grants_live u q h in (begun_case u (λ is e. ap is_some e) (λ ne e. ap is_some e ∙ old.0), old.1, old.2);
@@ -259,9 +259,9 @@ module _ (s : State) (law : IsLawful s) (t : ℕ) (free : is_some (s.txns t) ≡
     holders_first = law.holders_first;
     front_waits = law.front_waits;
     slots_below = λ u h. begun_case u (λ is e. subst (λ v. v < s.most) (sym is) below) (λ ne e. law.slots_below u (ap is_some (sym e) ∙ h));
-    ages = λ u h. begun_case u (λ is e. let age : age_of (begun s t) u ≡ s.begins + 1 = ap age_in e in
+    ages = λ u h. begun_case u (λ is e. let age : age_of (begun_since s t since) u ≡ s.begins + 1 = ap age_in e in
         (subst (λ a. 1 ≤ a) (sym age) (omega arith), subst (λ a. a ≤ s.begins + 1) (sym age) (omega arith)))
-        (λ ne e. let age : age_of (begun s t) u ≡ age_of s u = ap age_in e in let old = law.ages u (ap is_some (sym e) ∙ h) in let high = old.1 in
+        (λ ne e. let age : age_of (begun_since s t since) u ≡ age_of s u = ap age_in e in let old = law.ages u (ap is_some (sym e) ∙ h) in let high = old.1 in
         (subst (λ a. 1 ≤ a) (sym age) old.0, subst (λ a. a ≤ s.begins + 1) (sym age) (omega arith)));
     ages_differ = λ u v h e. begun_case u
         (λ is f. begun_case v (λ at k. is ∙ sym at) (λ ne k. let low = age_low v in let new : s.begins + 1 ≡ age_of s v = ap age_in (sym f) ∙ e ∙ ap age_in k in

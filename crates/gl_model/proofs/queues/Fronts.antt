@@ -26,7 +26,7 @@ dropped_append (x ∷ xs) ys (w ∷ q) = dropped_append xs ys q
 -- who is woken by one list and then by another is woken by both joined
 woken_append : (f g h : NodeId → List Waiter) (u : ℕ) → ((n : NodeId) → h n ≡ f n ++ g n) → (x : Option Txn) → woken g u (woken f u x) ≡ woken h u x
 woken_append f g h u is None = refl
-woken_append f g h u is (Some x) = ap (λ st. Some (record { age = x.age; status = st })) (by x.status)
+woken_append f g h u is (Some x) = ap (λ st. Some (record x { status = st })) (by x.status)
   where
     by : (st : Status) → awake g u (awake f u st) ≡ awake h u st
     by Active = refl

@@ -1,9 +1,10 @@
 -- Walks of a relation between finitely many numbers. For deadlocks: whether there is one, and who is a victim.
 use Rattle.gl_model.proofs.Words.{[], ⊤, ◌&&◌, ◌+◌, ◌<◌, ◌==◌, ◌||◌, ◌∙◌, ◌∷◌, ◌≡◌, ◌≢◌, ◌≤◌, AllByRecursion, and_both, ap, ap₂, arith, Bool}
-use Rattle.gl_model.proofs.Words.{candidate-on_cycle, clash, false, Fewest, freeing-itself, if◌then◌else◌, IsCandidate, IsDistinct, IsEquivalence, IsOnCycleOf}
-use Rattle.gl_model.proofs.Words.{IsOnNoCycle, IsWalk, IsYoungest, length, length-le_from_is_member, length-range_with_len, List, list_any, nat_le, nat_tests}
-use Rattle.gl_model.proofs.Words.{no_cycle-reaches, None, not, not-true, number_same, on_cycle-reaches, Option, or_elim, or_left, or_right, range_with_len}
-use Rattle.gl_model.proofs.Words.{Reaches, refl, same_number, Some, split, subst, suc, sym, true, Victims, waits_of-less, without, Youngest, zero, ℕ}
+use Rattle.gl_model.proofs.Words.{candidate-on_cycle, clash, false, Fewest, freeing-itself, if◌then◌else◌, IsCandidate, IsDistinct, IsEquivalence}
+use Rattle.gl_model.proofs.Words.{IsOnCycleOf, IsOnNoCycle, is_earlier, IsLatest, IsWalk, earlier-itself, earlier-not_back, earlier-over, latest-from, ⊎_elim}
+use Rattle.gl_model.proofs.Words.{◌⊎◌, length, length-le_from_is_member, length-range_with_len, List, list_any, nat_tests, no_cycle-reaches, None, not}
+use Rattle.gl_model.proofs.Words.{not-true, number_same, on_cycle-reaches, Option, or_elim, or_left, or_right, range_with_len, Reaches, refl, same_number}
+use Rattle.gl_model.proofs.Words.{Some, split, subst, suc, sym, true, Victims, waits_of-less, without, Youngest, zero, ℕ}
 
 abbrev pub same : ℕ → ℕ → Bool
 same x y = x == y
@@ -41,23 +42,50 @@ one_found : (f : ℕ → Bool) (q : ℕ) (xs : List ℕ) → f q ≡ true → li
 one_found f q [] h k = k
 one_found f q (x ∷ xs) h k = or_elim _ _ k (λ here. or_left _ _ (ap f (sym (same_number q x here)) ∙ h)) (λ there. or_right (f x) _ (one_found f q xs h there))
 
--- the one of greater age, of equal ages the later
-abbrev pub younger : (ℕ → ℕ) → ℕ → Option ℕ → Option ℕ
-younger age n None = Some n
-younger age n (Some v) = if nat_le (age v) (age n) then Some n else Some v
+-- the later one
+abbrev pub later : (ℕ → ℕ) → (ℕ → ℕ) → ℕ → Option ℕ → Option ℕ
+later since age n None = Some n
+later since age n (Some v) = if is_earlier since age n v then Some v else Some n
 
--- of those below n that pass, one of the greatest age
-abbrev pub youngest_below : (ℕ → ℕ) → (ℕ → Bool) → ℕ → Option ℕ
-youngest_below age p zero = None
-youngest_below age p (suc n) = if p n then younger age n (youngest_below age p n) else youngest_below age p n
+-- of those below n that pass, a latest one
+abbrev pub latest_below : (ℕ → ℕ) → (ℕ → ℕ) → (ℕ → Bool) → ℕ → Option ℕ
+latest_below since age p zero = None
+latest_below since age p (suc n) = if p n then later since age n (latest_below since age p n) else latest_below since age p n
 
-abbrev Greatest : (ℕ → ℕ) → (ℕ → Bool) → ℕ → Option ℕ → Type 0
-Greatest age p n None = (u : ℕ) → u < n → p u ≡ false
-Greatest age p n (Some v) = (p v ≡ true) × ((u : ℕ) → u < n → p u ≡ true → age u ≤ age v)
+abbrev NoneLater : (ℕ → ℕ) → (ℕ → ℕ) → (ℕ → Bool) → ℕ → Option ℕ → Type 0
+NoneLater since age p n None = (u : ℕ) → u < n → p u ≡ false
+NoneLater since age p n (Some v) = (p v ≡ true) × ((u : ℕ) → u < n → p u ≡ true → is_earlier since age v u ≡ false)
 
-youngest_is : (age : ℕ → ℕ) (p : ℕ → Bool) (n : ℕ) → Greatest age p n (youngest_below age p n)
-youngest_is age p zero = λ u lt. absurd (omega arith)
-youngest_is age p (suc n) = grind (arith, nat_tests, p n, youngest_below age p n, youngest_is age p n)
+-- one more is taken
+module _ (since age : ℕ → ℕ) (p : ℕ → Bool) (n : ℕ) where
+  last : (u : ℕ) → u < suc n → (u < n) ⊎ (u ≡ n)
+  last u low = grind arith
+
+  none_later : (v u : ℕ) → u ≡ n → is_earlier since age v n ≡ false → is_earlier since age v u ≡ false
+  none_later v u at h = subst (λ x. is_earlier since age v x ≡ false) (sym at) h
+
+  stays_out : (o : Option ℕ) → p n ≡ false → NoneLater since age p n o → NoneLater since age p (suc n) o
+  stays_out None out none = λ u low. ⊎_elim (none u) (λ is. ap p is ∙ out) (last u low)
+  stays_out (Some v) out best = (best.0, λ u low h. ⊎_elim (λ less. best.1 u less h) (λ is. clash (sym (ap p is) ∙ h) out) (last u low))
+
+  comes_in : (o : Option ℕ) → p n ≡ true → NoneLater since age p n o → NoneLater since age p (suc n) (later since age n o)
+  comes_in None is none = (is, λ u low h. ⊎_elim (λ less. clash h (none u less)) (λ at. none_later n u at (earlier-itself since age n)) (last u low))
+  comes_in (Some v) is best = by (is_earlier since age n v) refl
+    where
+      by : (b : Bool) → is_earlier since age n v ≡ b → NoneLater since age p (suc n) (if b then Some v else Some n)
+      by true e = (best.0, λ u low h. ⊎_elim (λ less. best.1 u less h) (λ at. none_later v u at (earlier-not_back since age n v e)) (last u low))
+      by false e = (is, λ u low h. ⊎_elim (λ less. over u (best.1 u less h)) (λ at. none_later n u at (earlier-itself since age n)) (last u low))
+        where
+          over : (u : ℕ) → is_earlier since age v u ≡ false → is_earlier since age n u ≡ false
+          over u k = split (is_earlier since age n u) (λ h. clash (earlier-over since age v n u e h) k) (λ h. h)
+
+  one_more : (o : Option ℕ) (b : Bool) → p n ≡ b → NoneLater since age p n o → NoneLater since age p (suc n) (if b then later since age n o else o)
+  one_more o true = comes_in o
+  one_more o false = stays_out o
+
+latest_is : (since age : ℕ → ℕ) (p : ℕ → Bool) (n : ℕ) → NoneLater since age p n (latest_below since age p n)
+latest_is since age p zero = λ u lt. absurd (omega arith)
+latest_is since age p (suc n) = one_more since age p n (latest_below since age p n) (p n) refl (latest_is since age p n)
 
 -- y is reached from x by at most k slots on the way
 abbrev pub hops : (ℕ → ℕ → Bool) → ℕ → ℕ → ℕ → ℕ → Bool
@@ -73,13 +101,13 @@ abbrev pub passes : Victims → (ℕ → ℕ → Bool) → ℕ → ℕ → ℕ �
 passes Youngest edge most t v = circles edge most t v
 passes Fewest edge most t v = circles edge most t v && not (hops (without edge v) most most t t)
 
--- the youngest candidate
-abbrev pub victim : Victims → (ℕ → ℕ → Bool) → ℕ → (ℕ → ℕ) → ℕ → Option ℕ
-victim c edge most age t = youngest_below age (passes c edge most t) most
+-- the latest candidate
+abbrev pub victim : Victims → (ℕ → ℕ → Bool) → ℕ → (ℕ → ℕ) → (ℕ → ℕ) → ℕ → Option ℕ
+victim c edge most since age t = latest_below since age (passes c edge most t) most
 
-abbrev pub IsAnswer : Victims → (ℕ → ℕ → Bool) → (ℕ → ℕ) → ℕ → Option ℕ → Type 0
-IsAnswer c edge age t None = IsOnNoCycle edge t
-IsAnswer c edge age t (Some v) = IsYoungest (IsCandidate c edge t) age v
+abbrev pub IsAnswer : Victims → (ℕ → ℕ → Bool) → (ℕ → ℕ) → (ℕ → ℕ) → ℕ → Option ℕ → Type 0
+IsAnswer c edge since age t None = IsOnNoCycle edge t
+IsAnswer c edge since age t (Some v) = IsLatest (IsCandidate c edge t) since age v
 
 module _ (edge : ℕ → ℕ → Bool) (most : ℕ) (low : (x y : ℕ) → edge x y ≡ true → y < most) where
   -- a walk that meets v goes on from v
@@ -170,12 +198,12 @@ module _ (edge : ℕ → ℕ → Bool) (most : ℕ) (low : (x y : ℕ) → edge 
   itself Youngest t v on = (v, on)
   itself Fewest t v on = (t, freeing-itself edge t (v, on))
 
-  pub victim_is : (c : Victims) (age : ℕ → ℕ) (t : ℕ) → IsAnswer c edge age t (victim c edge most age t)
-  victim_is c age t = by (victim c edge most age t) (youngest_is age (passes c edge most t) most)
+  pub victim_is : (c : Victims) (since age : ℕ → ℕ) (t : ℕ) → IsAnswer c edge since age t (victim c edge most since age t)
+  victim_is c since age t = by (victim c edge most since age t) (latest_is since age (passes c edge most t) most)
     where
       below : (u : ℕ) → IsCandidate c edge t u → u < most
       below u h = let on = candidate-on_cycle c edge t u h in end_low edge most low on.there.0 t u on.there.1
 
-      by : (o : Option ℕ) → Greatest age (passes c edge most t) most o → IsAnswer c edge age t o
+      by : (o : Option ℕ) → NoneLater since age (passes c edge most t) most o → IsAnswer c edge since age t o
       by None none = λ v on. let one = itself c t v on in clash (is_passing c t one.0 one.1) (none one.0 (below one.0 one.1))
-      by (Some v) one = record { is_member = passes_is c t v one.0; greatest = λ u h. one.1 u (below u h) (is_passing c t u h) }
+      by (Some v) one = latest-from since age (IsCandidate c edge t) v (passes_is c t v one.0) (λ u h. one.1 u (below u h) (is_passing c t u h))

@@ -221,7 +221,7 @@ told_nothing s now t below same = ap (filter (λ x. not (x.0.slot == t)))
 
 settled_same_within : (c : Victims) (k : ℕ) (s s' : State) (t : ℕ) → IsOnNoCycle (waits_for s) t → SettledWithin c k s t s' → s' ≡ s
 settled_same_within c zero s s' t none h = h.1
-settled_same_within c (suc k) s s' t none h = absurd (none h.0 (candidate-on_cycle c (waits_for s) t h.0 h.1.is_member))
+settled_same_within c (suc k) s s' t none h = absurd (none h.0 (candidate-on_cycle c (waits_for s) t h.0 h.1.is_member.is_member))
 
 -- it is settled as it stands
 pub settled_same : (c : Victims) (s s' : State) (t : ℕ) → IsOnNoCycle (waits_for s) t → Settled c s t s' → s' ≡ s
