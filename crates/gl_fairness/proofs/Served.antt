@@ -15,9 +15,9 @@ use Rattle.gl_steps.specs.declared.command.Command.{Command}
 use Rattle.gl_steps.specs.Promises.{waits_on}
 use Rattle.gl_steps.proofs.StepsKeepLaw.{steps_keep_law}
 use Rattle.gl_fairness.specs.Waiting.{FirstComeFirstServed, NobodyComesBetween, SameTxn, StoodBefore, WaitsThrough}
-use Rattle.gl_fairness.proofs.Ages.{one_age}
 use Rattle.gl_fairness.proofs.Before.{before}
 use Rattle.gl_fairness.proofs.Steps.{step_before}
+use Rattle.gl_fairness.proofs.Turns.{one_turn}
 
 -- another slot
 pub other_slot : (u t : ℕ) → not (u == t) ≡ true → u ≢ t
@@ -35,7 +35,7 @@ first_come_first_served s s' c a told t n law step begin end u h =
     let stood = (step_before s s' c a told t n law step begin end).stood u (other_slot u t.slot parts.0) parts.1 in
     let was = before_lives s law t.slot n u stood in
     let is = before_lives s' (steps_keep_law s s' c a told law step) t.slot n u parts.1 in
-    (both _ _ parts.0 stood, record { was = was; is = is; age = one_age s s' c a told u step was is })
+    (both _ _ parts.0 stood, record { was = was; is = is; age = (one_turn s s' c a told u step was is).age })
 
 -- one transaction in three states
 same_txn_trans : (a b c : State) (u : ℕ) → SameTxn a b u → SameTxn b c u → SameTxn a c u

@@ -137,6 +137,7 @@ module _ (s : State) (law : IsLawful s) (t : TxnId) (n : NodeId) (m : Mode) (wai
   accepted (command.Index ps f bs) free passed acc = made_is _ acc.4 (λ _. before_same s _ t.slot n (λ v. refl) refl refl)
   accepted (command.Insert u f ks) free passed acc = made_is _ acc.4 (λ _. before_new s law t.slot n m waits next.graph acc.0 acc.1.birth u.slot)
   accepted command.Begin free passed acc = made_is _ acc.4 (λ _. before_same s _ t.slot n (λ v. refl) refl refl)
+  accepted (command.BeginAgain since) free passed acc = made_is _ acc.4 (λ _. before_same s _ t.slot n (λ v. refl) refl refl)
   accepted (command.Lock u q mode) free passed acc = locked u q mode free acc.0
   accepted (command.Try u q mode) free passed acc =
       made_is _ acc.2 (λ _. before_at_once s law t.slot n m waits u.slot q mode (not_false _ (test_fails _ no.WouldBlock passed.1.1.1.1.1.1.1.0)))

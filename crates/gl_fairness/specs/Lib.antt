@@ -1,3 +1,4 @@
 pub mod Waiting
 pub mod Passed
 pub mod Ends
+pub mod Turns

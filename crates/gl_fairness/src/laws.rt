@@ -2,6 +2,8 @@
 
 ghost use Rattle.gl_fairness.specs.Ends.{WaitsEnd, WaitsForOneBefore, WaitsForSomebody};
 ghost use Rattle.gl_fairness.specs.Passed.{PassedAtMost, PassesAreSpent, RaisesEnd};
+ghost use Rattle.gl_fairness.specs.Turns.{EmptyIsKnown, FallsBehindALiving, FallsBehindOthers, FallsBehindSomebody};
+ghost use Rattle.gl_fairness.specs.Turns.{FirstNeverFalls, NoMoreComeBefore, RunsKeepKnown};
 ghost use Rattle.gl_fairness.specs.Waiting.{FirstComeFirstServed, NobodyComesBetween};
 
 /// Nobody new comes before one who waits on a node: whoever stands before it after a step stood before
@@ -35,4 +37,20 @@ pub fn waits_for_somebody()
 /// some step ended it, which told its transaction so, or whose command cancelled or aborted it by name.
 pub fn waits_end()
     ensures { WaitsEnd }
+{}
+
+/// A deadlock takes whoever comes last: of those that may be chosen each other comes before the victim,
+/// as its work wants to be done since an earlier begin, or since the same one and it is older. Where all
+/// on a cycle may be chosen, one on it that comes before the victim stays, so nobody falls whom no living
+/// transaction comes before. (With `Fewest` the first to come may fall, where nobody else frees the slot.)
+/// Of those that come before one that lives on no step makes more, unless a transaction begins again
+/// ahead of it. So along a run without such, whoever comes first never falls.
+pub fn keeps_its_turn()
+    ensures others { FallsBehindOthers }
+    ensures somebody { FallsBehindSomebody }
+    ensures living { FallsBehindALiving }
+    ensures known { RunsKeepKnown }
+    ensures start { EmptyIsKnown }
+    ensures no_more { NoMoreComeBefore }
+    ensures first { FirstNeverFalls }
 {}

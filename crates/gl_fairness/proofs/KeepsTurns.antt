@@ -1,0 +1,95 @@
+-- Whoever lives on is not passed, and whoever comes first never falls.
+use Rattle.std.specs.Prelude.{◌≡◌, ℕ, ◌≤◌, Bool, true, false, ◌&&◌, cond, List, [], ◌∷◌, is_some}
+use Rattle.std.specs.List.{count_by, range_with_len}
+use Rattle.std.proofs.Common.{refl, sym, ap, arith, subst, ⊎_elim, ◌∙◌}
+use Rattle.gl_modes.proofs.Words.{and_both, both, clash, split}
+use Rattle.gl_graph.proofs.Counts.{count_cons}
+use Rattle.gl_waits.proofs.Earlier.{not_later}
+use Rattle.gl_model.specs.Lawful.{IsLawful}
+use Rattle.gl_model.specs.State.{State, age_of, since_of, slots, status_of}
+use Rattle.gl_model.specs.Tellings.{Told}
+use Rattle.gl_steps.specs.declared.command.Answer.{Answer}
+use Rattle.gl_steps.specs.declared.command.Command.{Command}
+use Rattle.gl_steps.specs.Step.{Step}
+use Rattle.gl_steps.proofs.Detection.{steps_keep_settings}
+use Rattle.gl_steps.proofs.LivesOn.{SameTurn}
+use Rattle.gl_steps.proofs.StepsKeepLaw.{steps_keep_law}
+use Rattle.gl_fairness.specs.Turns.{AreKnown, ComesFirst, EmptyIsKnown, Falls, FirstNeverFalls, NoMoreComeBefore, RunsKeepKnown, begins_ahead, comes_before}
+use Rattle.gl_fairness.specs.Waiting.{SameTxn}
+use Rattle.gl_fairness.proofs.Falls.{falls_behind_a_living}
+use Rattle.gl_fairness.proofs.Turns.{IsNew, one_turn, step_turn}
+
+pub empty_is_known : EmptyIsKnown
+empty_is_known d c most t h = clash h refl
+
+step_keeps_known : (s s' : State) (c : Command) (a : Answer) (told : Told) → AreKnown s → Step s c a told s' → AreKnown s'
+step_keeps_known s s' c a told known step t h =
+    ⊎_elim (λ same. let old = known t (sym same.there ∙ h) in let e = same.since in let f = same.age in omega (arith, old, e, f))
+    (λ new. let low = new.low in let e = new.age in omega (arith, low, e))
+    (step_turn s s' c a told t step h)
+
+pub runs_keep_known : RunsKeepKnown
+runs_keep_known s s' [] [] known run = subst AreKnown (sym run) known
+runs_keep_known s s' [] (r ∷ rs) known run = absurd run
+runs_keep_known s s' (c ∷ cs) [] known run = absurd run
+runs_keep_known s s' (c ∷ cs) (r ∷ rs) known run = runs_keep_known run.0 s' cs rs (step_keeps_known s run.0 c r.0 r.1 known run.1) run.2
+
+-- what passes fewer is counted less
+count_less : (p q : ℕ → Bool) (us : List ℕ) → ((u : ℕ) → p u ≡ true → q u ≡ true) → count_by p us ≤ count_by q us
+count_less p q [] sub = omega arith
+count_less p q (u ∷ us) sub =
+    let c = count_cons p u us in let d = count_cons q u us in let rest = count_less p q us sub in
+    let here : cond (p u) 1 0 ≤ cond (q u) 1 0 = one (p u) (q u) (sub u) in omega arith
+  where
+    one : (a b : Bool) → (a ≡ true → b ≡ true) → cond a 1 0 ≤ cond b 1 0
+    one true b h = subst (λ x. 1 ≤ cond x 1 0) (sym (h refl)) (omega arith)
+    one false b h = omega arith
+
+-- who comes before v after a step that begins none ahead of it, came before it already
+module _ (s s' : State) (c : Command) (a : Answer) (told : Told) (v : ℕ) (law : IsLawful s) (known : AreKnown s)
+    (ahead : begins_ahead (since_of s v) c ≡ false) (step : Step s c a told s') (stays : SameTxn s s' v) where
+  own : SameTurn (s.txns v) (s'.txns v)
+  own = one_turn s s' c a told v step stays.was stays.is
+
+  -- a newcomer does not
+  new_behind : (u : ℕ) → IsNew s.begins c (s.txns u) (s'.txns u) → comes_before s' u v ≡ false
+  new_behind u new =
+      let low = known v stays.was in let age = (law.ages v stays.was).1 in let e = new.age in let f = own.age in
+      not_later (since_of s') (age_of s') v u
+      (subst (λ x. x ≤ since_of s' u) (sym own.since) (new.behind (since_of s v) (omega (arith, age, low)) ahead)) (omega (arith, age, e, f))
+
+  came_before : (u : ℕ) → is_some (s'.txns u) ≡ true → comes_before s' u v ≡ true → (is_some (s.txns u) ≡ true) × (comes_before s u v ≡ true)
+  came_before u lives before = ⊎_elim
+      (λ same. let su = same.since in let au = same.age in let sv = own.since in let av = own.age in
+      let e : comes_before s u v ≡ comes_before s' u v = cc in (sym same.there ∙ lives, e ∙ before))
+      (λ new. clash before (new_behind u new))
+      (step_turn s s' c a told u step lives)
+
+pub no_more_come_before : NoMoreComeBefore
+no_more_come_before s s' c a told v law known ahead step stays =
+    subst (λ k. count_by (λ u. is_some (s'.txns u) && comes_before s' u v) (range_with_len 0 k)
+    ≤ count_by (λ u. is_some (s.txns u) && comes_before s u v) (slots s)) (sym (ap (λ x. x.2) (steps_keep_settings s s' c a told step)))
+    (count_less (λ u. is_some (s'.txns u) && comes_before s' u v) (λ u. is_some (s.txns u) && comes_before s u v) (slots s) came)
+  where
+    came : (u : ℕ) → (is_some (s'.txns u) && comes_before s' u v) ≡ true → (is_some (s.txns u) && comes_before s u v) ≡ true
+    came u h =
+        let parts = and_both _ _ h in let was = came_before s s' c a told v law known ahead step stays u parts.0 parts.1 in
+        both _ _ was.0 was.1
+
+pub first_never_falls : FirstNeverFalls
+first_never_falls s s' [] [] v law known young first run =
+    (subst (λ x. ComesFirst x v) (sym run.1) first, λ falls. falls.not_before (ap (λ (x : State). status_of x v) (sym run.1) ∙ falls.after))
+first_never_falls s s' [] (r ∷ rs) v law known young first run = absurd run
+first_never_falls s s' (c ∷ cs) [] v law known young first run = absurd run
+first_never_falls s s' (c ∷ cs) (r ∷ rs) v law known young first run =
+    let mid = run.0 in
+    let rest = first_never_falls mid s' cs rs v (steps_keep_law s mid c r.0 r.1 law run.1) (step_keeps_known s mid c r.0 r.1 known run.1)
+    (ap (λ x. x.1) (steps_keep_settings s mid c r.0 r.1 run.1) ∙ young) stays_first run.4 in
+    (rest.0, λ falls. rest.1 (record { not_before = λ e. not_now (record { not_before = falls.not_before; after = e }); after = falls.after }))
+  where
+    stays_first : ComesFirst run.0 v
+    stays_first u lives = split (comes_before run.0 u v)
+        (λ h. let was = came_before s run.0 c r.0 r.1 v law known run.3 run.1 run.2 u lives h in clash was.1 (first u was.0)) (λ h. h)
+
+    not_now : Falls s run.0 v → ⊥
+    not_now falls = let one = falls_behind_a_living s run.0 c r.0 r.1 v law young run.1 falls in clash one.2 (first one.0 one.1)

@@ -1,0 +1,94 @@
+-- Who comes before whom where a victim is chosen: whoever keeps its turn is not passed, and whoever comes first never falls (own).
+use Rattle.std.specs.Prelude.{◌≡◌, ◌≢◌, ℕ, ◌≤◌, Bool, true, false, ◌&&◌, nat_lt, List, [], ◌∷◌, Some, is_some}
+use Rattle.std.specs.List.{count_by}
+use Rattle.gl_waits.specs.declared.victims.Victims.{Victims}
+use Rattle.gl_waits.specs.declared.victims.Victims.TheVariants.{Youngest}
+use Rattle.gl_waits.specs.Victims.{IsCandidate}
+use Rattle.gl_waits.specs.Waits.{IsOnCycleOf, is_earlier}
+use Rattle.gl_model.specs.declared.answers.Detect.{Detect}
+use Rattle.gl_model.specs.declared.txn.Status.TheVariants.{Condemned}
+use Rattle.gl_model.specs.Lawful.{IsLawful}
+use Rattle.gl_model.specs.State.{State, IsVictim, age_of, choosing, empty_state, since_of, slots, status_of, waits_for}
+use Rattle.gl_model.specs.Tellings.{Told}
+use Rattle.gl_steps.specs.declared.command.Answer.{Answer}
+use Rattle.gl_steps.specs.declared.command.Command.{Command}
+use Rattle.gl_steps.specs.declared.command.Command.TheVariants as command
+use Rattle.gl_steps.specs.Step.{Run, Step}
+use Rattle.gl_fairness.specs.Waiting.{SameTxn}
+
+-- u's work wants to be done since earlier than v's, or since the same begin and u is older
+abbrev pub comes_before : State → ℕ → ℕ → Bool
+comes_before s u v = is_earlier (since_of s) (age_of s) u v
+
+-- whoever else could have been chosen comes before the victim
+abbrev pub FallsBehindOthers : Type 0
+FallsBehindOthers =
+    (c : Victims) (s : State) (t v u : ℕ) → IsLawful s → IsVictim c s t v → IsCandidate c (waits_for s) t u → u ≢ v → comes_before s u v ≡ true
+
+-- u is on a cycle with t, lives, and comes before v
+pub record StaysBefore (s : State) (t u v : ℕ) : Type 0 where
+  pub on_cycle : IsOnCycleOf (waits_for s) t u
+  pub lives : is_some (s.txns u) ≡ true
+  pub before : comes_before s u v ≡ true
+
+-- chosen of all on a cycle, a victim leaves one there that comes before it
+abbrev pub FallsBehindSomebody : Type 0
+FallsBehindSomebody = (s : State) (t v : ℕ) → IsLawful s → IsVictim Youngest s t v → (u : ℕ) × StaysBefore s t u v
+
+-- the transaction in slot v is condemned between the states
+pub record Falls (s s' : State) (v : ℕ) : Type 0 where
+  pub not_before : status_of s v ≢ Some Condemned
+  pub after : status_of s' v ≡ Some Condemned
+
+-- so over a step nobody falls but behind a living one that comes before it
+abbrev pub FallsBehindALiving : Type 0
+FallsBehindALiving =
+    (s s' : State) (c : Command) (a : Answer) (told : Told) (v : ℕ) → IsLawful s → s.victims ≡ Youngest → Step s c a told s' → Falls s s' v
+    → (u : ℕ) × (is_some (s.txns u) ≡ true) × (comes_before s u v ≡ true)
+
+-- how many living transactions come before v
+abbrev pub count_before : State → ℕ → ℕ
+count_before s v = count_by (λ u. is_some (s.txns u) && comes_before s u v) (slots s)
+
+-- nobody's work wants to be done since later than its own begin
+abbrev pub AreKnown : State → Type 0
+AreKnown s = (t : ℕ) → is_some (s.txns t) ≡ true → since_of s t ≤ age_of s t
+
+-- which is so in the empty state
+abbrev pub EmptyIsKnown : Type 0
+EmptyIsKnown = (detect : Detect) (victims : Victims) (most : ℕ) → AreKnown (choosing victims (empty_state detect most))
+
+-- and stays so along a run
+abbrev pub RunsKeepKnown : Type 0
+RunsKeepKnown = (s s' : State) (cs : List Command) (rs : List (Answer × Told)) → AreKnown s → Run s cs rs s' → AreKnown s'
+
+-- a transaction begins again whose work wants to be done since before this number
+abbrev pub begins_ahead : ℕ → Command → Bool
+begins_ahead since (command.BeginAgain n) = nat_lt n since
+begins_ahead since c = false
+
+-- over any step but such a one no more living transactions come before one that lives on
+abbrev pub NoMoreComeBefore : Type 0
+NoMoreComeBefore =
+    (s s' : State) (c : Command) (a : Answer) (told : Told) (v : ℕ) → IsLawful s → AreKnown s → begins_ahead (since_of s v) c ≡ false → Step s c a told s'
+    → SameTxn s s' v
+    → count_before s' v ≤ count_before s v
+
+-- no living transaction comes before v
+abbrev pub ComesFirst : State → ℕ → Type 0
+ComesFirst s v = (u : ℕ) → is_some (s.txns u) ≡ true → comes_before s u v ≡ false
+
+-- a run along which the transaction in slot v lives, and none begins again ahead of it
+abbrev pub LivesThrough : ℕ → State → List Command → List (Answer × Told) → State → Type 0
+LivesThrough v s [] [] s' = (is_some (s.txns v) ≡ true) × (s' ≡ s)
+LivesThrough v s (c ∷ cs) (r ∷ rs) s' =
+    (mid : State) × Step s c r.0 r.1 mid × SameTxn s mid v × (begins_ahead (since_of s v) c ≡ false) × LivesThrough v mid cs rs s'
+LivesThrough v s [] (r ∷ rs) s' = ⊥
+LivesThrough v s (c ∷ cs) [] s' = ⊥
+
+-- along such a run one that comes first does so all along, and never falls
+abbrev pub FirstNeverFalls : Type 0
+FirstNeverFalls =
+    (s s' : State) (cs : List Command) (rs : List (Answer × Told)) (v : ℕ) → IsLawful s → AreKnown s → s.victims ≡ Youngest → ComesFirst s v
+    → LivesThrough v s cs rs s'
+    → ComesFirst s' v × (Falls s s' v → ⊥)
