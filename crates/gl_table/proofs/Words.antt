@@ -68,10 +68,11 @@ pub use Rattle.gl_header.specs.State.{HeaderState, IsLawfulHeader, members_of, s
 pub use Rattle.gl_header.specs.declared.header.Asked.{Asked}
 pub use Rattle.gl_waits.proofs.VictimLemmas.{candidate-on_cycle}
 pub use Rattle.gl_waits.specs.Victims.{IsCandidate}
-pub use Rattle.gl_waits.specs.Waits.{IsLowestYoungest, IsOnCycleOf, IsOnNoCycle, IsWalk, IsYoungest, Reaches}
+pub use Rattle.gl_waits.specs.Waits.{IsLowestLatest, IsOnCycleOf, IsOnNoCycle, IsWalk, Reaches}
 pub use Rattle.gl_waits.specs.declared.board.Board.{Board}
 pub use Rattle.gl_waits.specs.declared.victims.Victims.{Victims}
-pub use Rattle.gl_model.specs.Calls.{answered, asked_at, bad_mode, begin_tests, begun, cancelled, child_held, commit_tests, covered_children, deleted, departed}
+pub use Rattle.gl_model.specs.Calls.{answered, asked_at, bad_mode, begin_tests, begun_again, begun_since, cancelled, child_held, commit_tests}
+pub use Rattle.gl_model.specs.Calls.{covered_children, deleted, departed}
 pub use Rattle.gl_model.specs.Calls.{enqueued, enters_at, first_not_ix, first_of_all, free_slot, freed, freed_unless, granted, held_child, held_children}
 pub use Rattle.gl_model.specs.Calls.{holds_child, is_covered, is_idle, lock_tests, locked_as, moved_to, need_exclusive, need_new_parents, need_parents}
 pub use Rattle.gl_model.specs.Calls.{none_but, not_held, RefusesOnly, released, rule_refusal, shed, some_given, stays, too_many_txns, try_tests, unlock_tests}
@@ -85,7 +86,8 @@ pub use Rattle.gl_table.specs.inside.Slots.{unlisted_by, WaitsEnd, Wakes, WakesL
 pub use Rattle.gl_model.specs.Tellings.{grant_notice, IsBySlot, IsTold, mode_given, notices_in, WakesTold}
 pub use Rattle.gl_header.specs.Headers.{AreDistinct, AreHeaders, Entries, HasItsKey, header_at, header_or_new, held_of, is_granted_at, IsFreeKey, IsOneHolder}
 pub use Rattle.gl_header.specs.Headers.{members_at, queue_of, with_members, with_waiters}
-pub use Rattle.gl_model.specs.State.{age_in, age_of, blocks, choosing, condemned, empty_state, front_at, granted_at, HasNoCycle, intends_over, is_wait}
+pub use Rattle.gl_model.specs.State.{age_in, age_of, since_in, blocks, choosing, condemned, empty_state, front_at, granted_at, HasNoCycle}
+pub use Rattle.gl_model.specs.State.{intends_over, is_wait}
 pub use Rattle.gl_model.specs.State.{is_waiting_at, is_write, IsVictim, lives, members, no_parents, pumped, restatus, Settled, SettledWithin, slots, State}
 pub use Rattle.gl_model.specs.State.{status_in, status_of, Txn, waits_at, waits_for, with_grant, with_graph, with_txn, without_wait, woken}
 pub use Rattle.gl_lock_lists.specs.Lists.{count_in, count_of, covered_in, entry_of, HasRoom, is_listed, loose_of, mode_in, mode_of, NoneMarkedFrom, unlisted}

@@ -2,6 +2,7 @@
 pub mod Stands
 pub mod Law
 pub mod Queries
+pub mod Places
 pub mod Calls
 pub mod Locking
 pub mod Ends

@@ -1,13 +1,13 @@
 -- What a contract sees of a table, the state of the model that it stands for, what holds of every table, and what a listing and a board have.
 use Rattle.gl_slots.specs.Limit.{most_slots}
 use Rattle.std.specs.Prelude.{◌≡◌, ℕ, ◌||◌, List, length, Option, Some, None, is_some, slice_get, Bool, [], map, get_or}
-use Rattle.std.specs.List.{IsDistinct, All, list_any, range_with_len}
+use Rattle.std.specs.List.{IsDistinct, All, count_by, list_any, range_with_len}
 use Rattle.std.specs.Map.{keys_of, lookup}
 use Rattle.std.specs.Option.{option_map_or}
 use Rattle.gl_modes.specs.declared.node.NodeId.{NodeId}
 use Rattle.gl_modes.specs.Nodes.{same_node}
 use Rattle.gl_graph.specs.View.{View, graph_of}
-use Rattle.gl_header.specs.Header.{holds}
+use Rattle.gl_header.specs.Header.{holds, is_ahead}
 use Rattle.gl_waits.specs.declared.victims.Victims.{Victims}
 use Rattle.gl_waits.specs.declared.board.Board.{Board}
 use Rattle.gl_slots.specs.Slots.{bits_of}
@@ -18,10 +18,11 @@ use Rattle.gl_table.specs.declared.seat.Seat.{Seat}
 use Rattle.gl_model.specs.Calls.{held_children}
 use Rattle.gl_header.specs.Headers.{Entries, held_of, queue_of}
 use Rattle.gl_lock_lists.specs.Lists.{mode_in}
-use Rattle.gl_model.specs.State.{is_waiting_at, State, members, Txn, age_of, empty_state, waits_for}
+use Rattle.gl_model.specs.State.{is_waiting_at, State, members, Txn, age_of, empty_state, slots, waits_for}
 use Rattle.gl_table.specs.inside.Seats.{txns_of}
 use Rattle.gl_model.specs.declared.answers.LockRow.{LockRow}
 use Rattle.gl_model.specs.declared.txn.Status.{Status}
+use Rattle.gl_model.specs.declared.txn.Status.TheVariants.{Waiting}
 use Rattle.gl_model.specs.declared.txn.TxnId.{TxnId}
 use Rattle.gl_model.specs.declared.answers.Detect.TheVariants.{ByWatcher}
 
@@ -78,6 +79,15 @@ named_in t (Some x) = Some (record { slot = t; age = x.age }, x.status)
 -- who lives in a slot, and what it is doing
 abbrev pub living_in : State → ℕ → Option (TxnId × Status)
 living_in s t = named_in t (s.txns t)
+
+-- how many stand ahead of a slot in the queue of a node
+abbrev pub ahead_of : State → ℕ → NodeId → ℕ
+ahead_of s t n = count_by (is_ahead (s.queue n) t) (slots s)
+
+-- the same of the node for which a slot that is doing this waits, if it does
+abbrev pub ahead_in : State → ℕ → Option Status → Option ℕ
+ahead_in s t (Some (Waiting n m)) = Some (ahead_of s t n)
+ahead_in s t o = None
 
 -- what a list says of a node, as a row
 abbrev pub row_of : NodeId × Entry → LockRow

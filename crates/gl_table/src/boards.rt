@@ -131,7 +131,8 @@ fn wanted_on(seats: &[Option<Seat>], slot: Slot, node: NodeId) -> Option<Mode>
     }
 }
 
-/// Who waits for whom at this moment, and how old each is, read slot by slot.
+/// Who waits for whom at this moment, how old each is, and since when its work wants to be done, read slot
+/// by slot.
 #[derive(Clone, Copy)]
 pub(crate) struct Waits<'a> {
     pub(crate) headers: &'a Headers,
@@ -160,14 +161,23 @@ impl WaitsFor for Waits<'_> {
 }
 
 impl Ages for Waits<'_> {
-    ghost use Rattle.gl_model.specs.State.{age_in};
+    ghost use Rattle.gl_model.specs.State.{age_in, since_in};
     ghost use Rattle.gl_table.specs.inside.Seats.{txns_of};
 
     ghost age_of = { λ it slot. age_in (txns_of it.seats.now slot) };
 
+    ghost since_of = { λ it slot. since_in (txns_of it.seats.now slot) };
+
     fn age(&self, slot: usize) -> u64 {
         match self.seats.get(slot) {
             Some(Some(seat)) => seat.age,
+            _ => 0,
+        }
+    }
+
+    fn since(&self, slot: usize) -> u64 {
+        match self.seats.get(slot) {
+            Some(Some(seat)) => seat.since,
             _ => 0,
         }
     }

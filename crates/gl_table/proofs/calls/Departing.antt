@@ -37,7 +37,7 @@ active_again goes n m (Some x) e h = let is : x.status ≡ Waiting n m = cc in a
 -- who waits for nothing that goes is as it was
 freed_other : (goes : NodeId → Bool) (x : Option Txn) → ((q : NodeId) (m : Mode) → status_in x ≡ Some (Waiting q m) → goes q ≡ false) → freed_among goes x ≡ x
 freed_other goes None none = refl
-freed_other goes (Some x) none = ap (λ st. Some (record { age = x.age; status = st })) (by x.status (λ q m e. none q m (ap Some e)))
+freed_other goes (Some x) none = ap (λ st. Some (record x { status = st })) (by x.status (λ q m e. none q m (ap Some e)))
   where
     by : (st : Status) → ((q : NodeId) (m : Mode) → st ≡ Waiting q m → goes q ≡ false) → none_among goes st ≡ st
     by Active none' = refl

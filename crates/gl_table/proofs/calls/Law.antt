@@ -1,6 +1,6 @@
 -- What holds of a table's fields: of every table, of a new one, with new nodes and with one transaction more.
 use Rattle.gl_slots.specs.Limit.{most_slots}
-use Rattle.gl_table.proofs.Words.{[], ◌+◌, ◌<◌, ◌==◌, ◌||◌, ◌∙◌, ◌∷◌, ◌≡◌, ◌≤◌, Active, ap, AreDistinct, AreNew, arith, begin_tests, begun, Bool}
+use Rattle.gl_table.proofs.Words.{[], ◌+◌, ◌<◌, ◌==◌, ◌||◌, ◌∙◌, ◌∷◌, ◌≡◌, ◌≤◌, Active, ap, AreDistinct, AreNew, arith, begin_tests, begun_since, Bool}
 use Rattle.gl_table.proofs.Words.{by_list, children_that, choosing, clash, cond, count_in, counted_by, Detect, empty_state, Entry, entry_of, Err, false, find}
 use Rattle.gl_table.proofs.Words.{first_refusal, free_slot, get_or, graph_of, HasNoCycle, held_children, held_of, holds, IfOk, is_among_waiters, is_free}
 use Rattle.gl_table.proofs.Words.{is_live, is_none, is_some, is_wait, is_waiting_at, IsApart, IsDistinct, IsLawful, IsSafe, IsSound, IsUnique, keys_of, length}
@@ -229,8 +229,9 @@ begin-refusal first o left is =
     last : (b : Bool) → first_refusal (None ∷ where_true b no.TooManyTxns ∷ []) ≡ where_true b no.TooManyTxns
     last b = grind (arith, nat_tests)
 
-module _ (i : Inside) (sound : IsSound i) (t : ℕ) (at : Some t ≡ position is_free i.locks.ledger.seats.items)
-    (seats : SeatList) (seated : seats.items ≡ slice_set i.locks.ledger.seats.items t (Some (record { age = i.begins + 1; status = Active }))) where
+module _ (i : Inside) (sound : IsSound i) (t since : ℕ) (at : Some t ≡ position is_free i.locks.ledger.seats.items)
+    (seats : SeatList)
+    (seated : seats.items ≡ slice_set i.locks.ledger.seats.items t (Some (record { age = i.begins + 1; since = since; status = Active }))) where
   abbrev ledger : Ledger
   ledger = record i.locks.ledger { seats = seats }
 
@@ -248,22 +249,23 @@ module _ (i : Inside) (sound : IsSound i) (t : ℕ) (at : Some t ≡ position is
   free = ap (λ o. is_some (txn_in o)) (slice_get-get_or i.locks.ledger.seats.items t None place.0) ∙ none-free _ place.1
 
   seats-same : length seats.items ≡ length i.locks.ledger.seats.items
-  seats-same = ap length seated ∙ length-set i.locks.ledger.seats.items t (Some (record { age = i.begins + 1; status = Active }))
+  seats-same = ap length seated ∙ length-set i.locks.ledger.seats.items t (Some (record { age = i.begins + 1; since = since; status = Active }))
 
-  pub begun-state : now ≡ begun first t
-  begun-state = λ z. record (begun first t) {
-    txns = λ u. (ap (λ xs. txns_of xs u) seated ∙ txns-set i.locks.ledger.seats.items t (Some (record { age = i.begins + 1; status = Active })) place.0 u) z;
+  pub begun-state : now ≡ begun_since first t since
+  begun-state = λ z. record (begun_since first t since) {
+    txns = λ u. (ap (λ xs. txns_of xs u) seated
+        ∙ txns-set i.locks.ledger.seats.items t (Some (record { age = i.begins + 1; since = since; status = Active })) place.0 u) z;
     most = seats-same z;
   }
 
   -- who waits was there before
-  waited : (u : ℕ) → is_wait (status_in ((begun first t).txns u)) ≡ true → is_wait (status_in (first.txns u)) ≡ true
+  waited : (u : ℕ) → is_wait (status_in ((begun_since first t since).txns u)) ≡ true → is_wait (status_in (first.txns u)) ≡ true
   waited u = grind (arith, nat_tests)
 
   pub begun-safe : IsSafe now
   begun-safe = record {
-    lawful = subst IsLawful (sym begun-state) (begun-lawful first sound.lawful t free place.0);
-    no_cycle = λ e. subst HasNoCycle (sym begun-state) (begun-no_cycle first t (sound.no_cycle e));
+    lawful = subst IsLawful (sym begun-state) (begun-lawful first sound.lawful t free place.0 since);
+    no_cycle = λ e. subst HasNoCycle (sym begun-state) (begun-no_cycle first t since (sound.no_cycle e));
   }
 
   pub begun-law : IsLaw i.locks.graph ledger

@@ -185,4 +185,4 @@ cycle_waits s t v on = let step = first_step (waits_for s) v t on.back in ap is_
 
 -- a victim waits
 pub victim_waits : (c : Victims) (s : State) (t v : ℕ) → IsVictim c s t v → is_wait (status_of s v) ≡ true
-victim_waits c s t v one = cycle_waits s t v (candidate-on_cycle c (waits_for s) t v one.is_member)
+victim_waits c s t v one = cycle_waits s t v (candidate-on_cycle c (waits_for s) t v one.is_member.is_member)

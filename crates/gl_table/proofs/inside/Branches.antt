@@ -57,7 +57,7 @@ departed_nothing s o x unheld unawaited = λ i. record s {
 
     freed_none : (u : ℕ) (t : Option Txn) → s.txns u ≡ t → freed_among (λ q. same_node q x) t ≡ t
     freed_none u None e = refl
-    freed_none u (Some t) e = ap (λ st. Some (record { age = t.age; status = st })) (by t.status (ap status_in e))
+    freed_none u (Some t) e = ap (λ st. Some (record t { status = st })) (by t.status (ap status_in e))
       where
         by : (st : Status) → status_of s u ≡ Some st → none_among (λ q. same_node q x) st ≡ st
         by Active h = refl
@@ -248,7 +248,7 @@ departed_none s = λ i. record s { txns = fun_ext (λ u. freed_never (s.txns u))
   where
     freed_never : (x : Option Txn) → freed_among (λ q. false) x ≡ x
     freed_never None = refl
-    freed_never (Some x) = ap (λ st. Some (record { age = x.age; status = st })) (by x.status)
+    freed_never (Some x) = ap (λ st. Some (record x { status = st })) (by x.status)
       where
         by : (st : Status) → none_among (λ q. false) st ≡ st
         by Active = refl

@@ -38,8 +38,8 @@ pub freed_here : (n : NodeId) (m : Mode) (x : Option Txn) → status_in x ≡ So
 freed_here n m None h = absurd (cc)
 freed_here n m (Some x) h =
     let is : x.status ≡ Waiting n m = some_is h in
-    ap (λ st. Some (record { age = x.age; status = none_but st n })) is
-    ∙ ap (λ b. Some (record { age = x.age; status = if b then Active else Waiting n m })) (same_node-refl n)
+    ap (λ st. Some (record x { status = none_but st n })) is
+    ∙ ap (λ b. Some (record x { status = if b then Active else Waiting n m })) (same_node-refl n)
 
 module _ (s : State) (o : IsOrderly s) (n : NodeId) (f : Waiter → Bool) where
   -- a lost wait stands in the queue

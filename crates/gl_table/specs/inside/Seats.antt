@@ -8,7 +8,7 @@ use Rattle.gl_model.specs.State.{Txn, is_wait, status_in}
 abbrev pub txn_in : Option (Option Seat) → Option Txn
 txn_in None = None
 txn_in (Some None) = None
-txn_in (Some (Some x)) = Some (record { age = x.age; status = x.status })
+txn_in (Some (Some x)) = Some (record { age = x.age; since = x.since; status = x.status })
 
 -- the transactions by slot
 abbrev pub txns_of : List (Option Seat) → ℕ → Option Txn

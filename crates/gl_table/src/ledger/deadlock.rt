@@ -76,6 +76,7 @@ impl Ledger {
             Seat {
                 age,
                 status: Status::Waiting { node, wanted },
+                ..
             },
         ) = self.seat(slot)
         else {

@@ -74,6 +74,7 @@ impl Locks {
             Seat {
                 age,
                 status: Status::Waiting { node, .. },
+                ..
             },
         ) = self.ledger.seat(slot)
         {

@@ -2,7 +2,7 @@
 
 ghost use Rattle.std.specs.Prelude.{◌≡◌, ◌+◌, IfOk, IsOk, None, OnErr, Some};
 ghost use Rattle.gl_graph.specs.Refusals.{Refuses, first_refusal};
-ghost use Rattle.gl_model.specs.Calls.{begun, free_slot, begin_tests};
+ghost use Rattle.gl_model.specs.Calls.{begun, begun_again, free_slot, begin_tests};
 ghost use Rattle.gl_table.specs.Table.{state_of};
 
 use super::Table;
@@ -23,6 +23,22 @@ impl Table {
         ensures refuses { Refuses (first_refusal (begin_tests (state_of self.old))) result }
         ensures err { OnErr result (self.new ≡ self.old) }
     {
+        self.begin_again(u64::MAX)
+    }
+
+    /// Begins a transaction as `begin` does, for work that wants to be done since an earlier begin: since
+    /// the age of the transaction that was to do it first. A number above its own age counts as that.
+    /// Of a deadlock the one whose number is the greatest is the next victim.
+    #[inline]
+    pub fn begin_again(&mut self, since: u64) -> Result<TxnId, Refusal>
+        ensures begun { IfOk result (λ t. (free_slot (state_of self.old) ≡ Some t.slot)
+            × (t.age ≡ (state_of self.old).begins + 1)
+            × (state_of self.new ≡ begun_again (state_of self.old) t.slot since)) }
+        ensures deadlock { self.new.deadlock ≡ self.old.deadlock }
+        ensures goes { first_refusal (begin_tests (state_of self.old)) ≡ None → IsOk result }
+        ensures refuses { Refuses (first_refusal (begin_tests (state_of self.old))) result }
+        ensures err { OnErr result (self.new ≡ self.old) }
+    {
         if self.begins == u64::MAX {
             return Err(Refusal::WornOut);
         }
@@ -35,6 +51,7 @@ impl Table {
             slot,
             Seat {
                 age,
+                since: since.min(age),
                 status: Status::Active,
             },
         );

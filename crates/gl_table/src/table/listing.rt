@@ -1,12 +1,12 @@
 //! Listings: who holds what and who waits where, one after the other. None of these takes memory, and
 //! all that is asked between two commands is of one moment.
 
-ghost use Rattle.std.specs.Prelude.{◌≡◌, ◌||◌, ℕ, IfOk, None, Some, get_or, if◌then◌else◌, length, map, slice_get};
+ghost use Rattle.std.specs.Prelude.{◌≡◌, ◌||◌, ℕ, IfOk, None, Some, get_or, if◌then◌else◌, length, map, position, slice_get};
 ghost use Rattle.gl_graph.specs.Refusals.{first_refusal};
-ghost use Rattle.gl_header.specs.Header.{holds};
+ghost use Rattle.gl_header.specs.Header.{holds, is_waiter};
 ghost use Rattle.gl_slots.specs.Slots.{has_slot};
 ghost use Rattle.gl_model.specs.Calls.{RefusesOnly, group_tests, living_tests};
-ghost use Rattle.gl_table.specs.Table.{AreRowsOf, living_in, rows_of, state_of};
+ghost use Rattle.gl_table.specs.Table.{AreRowsOf, ahead_in, living_in, rows_of, state_of};
 ghost use Rattle.gl_model.specs.State.{is_wait, lives, members, status_of, waits_for};
 
 use super::Table;
@@ -92,6 +92,21 @@ impl Table {
         Ok(self.locks.ledger.headers.queue(n))
     }
 
+    /// How many stand ahead of a transaction in the queue of the node that it waits for; `None` where it
+    /// does not live or does not wait.
+    pub fn ahead(&self, t: TxnId) -> Option<usize>
+        ensures { result ≡ (if lives (state_of self.now) t
+            then ahead_in (state_of self.now) t.slot (status_of (state_of self.now) t.slot) else None) }
+    {
+        self.law();
+        match self.status(t) {
+            Some(Status::Waiting { node, .. }) => {
+                place_in(self.locks.ledger.headers.queue(node), t.slot)
+            }
+            _ => None,
+        }
+    }
+
     /// The slots of those for whom a transaction waits: who holds the node in a mode that does not go
     /// with the wanted one, and who stands ahead in its queue. Nobody where it does not wait. Refused
     /// with `NoSuchTxn`.
@@ -107,4 +122,11 @@ impl Table {
             None => Err(Refusal::NoSuchTxn),
         }
     }
+}
+
+/// The place of a slot in a queue.
+fn place_in(queue: &[(Slot, Mode)], slot: Slot) -> Option<usize>
+    ensures { result ≡ position (is_waiter slot) queue.now }
+{
+    queue.iter().position(|waiter| waiter.0 == slot)
 }

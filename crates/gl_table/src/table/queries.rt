@@ -1,10 +1,10 @@
 //! What can be asked, and changes nothing.
 
-ghost use Rattle.std.specs.Prelude.{◌≡◌, ◌&&◌, IfOk, None, Some, if◌then◌else◌};
+ghost use Rattle.std.specs.Prelude.{◌≡◌, ◌&&◌, IfOk, None, Some, if◌then◌else◌, not};
 ghost use Rattle.std.specs.List.{list_any};
 ghost use Rattle.gl_graph.specs.Graph.{is_child, nodes};
 ghost use Rattle.gl_graph.specs.Refusals.{Refuses, first_refusal};
-ghost use Rattle.gl_header.specs.Header.{group_of, holds};
+ghost use Rattle.gl_header.specs.Header.{group_of, holds, is_empty};
 ghost use Rattle.gl_model.specs.Calls.{answered, group_tests, held_children, held_tests, is_idle};
 ghost use Rattle.gl_table.specs.Table.{board_of, state_of};
 ghost use Rattle.gl_model.specs.Lawful.{effective};
@@ -53,6 +53,13 @@ impl Table {
     {
         self.locks.ledger.headers.law();
         self.locks.ledger.headers.is_idle(n)
+    }
+
+    /// Whether somebody waits for the node.
+    pub fn is_awaited(&self, n: NodeId) -> bool
+        ensures { result ≡ not (is_empty ((state_of self.now).queue n)) }
+    {
+        !self.locks.ledger.headers.queue(n).is_empty()
     }
 
     /// How many children of a node a transaction holds; `None` where it does not live or does not

@@ -1,5 +1,5 @@
-use Rattle.gl_table.proofs.Words.{age_in, Graph, IfNone, IsCandidate, IsLowestYoungest, IsOnNoCycle, IsOrderly, IsVictim, List, Option, refl, Seat, shown}
-use Rattle.gl_table.proofs.Words.{state_on, subst, sym, txns_of, waits_for, ℕ}
+use Rattle.gl_table.proofs.Words.{age_in, Graph, IfNone, IsCandidate, IsLowestLatest, IsOnNoCycle, IsOrderly, IsVictim, List, Option, refl, Seat, shown}
+use Rattle.gl_table.proofs.Words.{since_in, state_on, subst, sym, txns_of, waits_for, ℕ}
 use Rattle.gl_table.proofs.inside.Boards.{victim_waits}
 use Rattle.gl_table.proofs.ledger.Ledger.victim.Goals.{In_ok-victim}
 use Rattle.gl_table.proofs.ledger.Ledger.victim.Goals as goal
@@ -7,8 +7,10 @@ use Rattle.gl_table.proofs.ledger.Ledger.victim.Goals as goal
 -- what is read from the locks is what their state says over any graph
 chosen : (c : In_ok-victim) (g : Graph) → IsVictim c.args.victims (state_on g c.args.self.now) c.args.slot c.in_ok-victim.victim
 chosen c g =
-    (subst (λ (seats : List (Option Seat)). IsLowestYoungest
-    (IsCandidate c.args.victims (waits_for (shown c.args.self.now.headers.entries seats 0)) c.args.slot) (λ u. age_in (txns_of seats u)) c.in_ok-victim.victim)
+    (subst (λ (seats : List (Option Seat)). IsLowestLatest
+    (IsCandidate c.args.victims (waits_for (shown c.args.self.now.headers.entries seats 0)) c.args.slot) (λ u. since_in (txns_of seats u))
+    (λ u. age_in (txns_of seats u))
+    c.in_ok-victim.victim)
     c.as_slice.ensures c.in_ok-victim.ensures.some).youngest
 
 pub returns-in_err-victim-clause-none : goal.returns-in_err-victim-clause-none

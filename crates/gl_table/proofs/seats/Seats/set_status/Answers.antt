@@ -12,19 +12,20 @@ invariant_of-self c =
     record {
       few = grind (arith, common_steps, gets, nat_tests, c.self.invariant.few);
       free = λ u. c.self.invariant.free u
-          ∙ sym (free-kept c.self.inside.list.items c.args.slot (record { age = c.in-Some.seat.age; status = c.args.status }) lt lives u);
+          ∙ sym (free-kept c.self.inside.list.items c.args.slot (record c.in-Some.seat { status = c.args.status }) lt lives u);
       living = λ u. c.self.invariant.living u
-          ∙ sym (lives-kept c.self.inside.list.items c.args.slot (record { age = c.in-Some.seat.age; status = c.args.status }) lt lives u);
+          ∙ sym (lives-kept c.self.inside.list.items c.args.slot (record c.in-Some.seat { status = c.args.status }) lt lives u);
       waiting = λ u. c.note.ensures u ∙ ap (λ b. if u == c.args.slot then is_wait (Some c.args.status) else b) (c.self.invariant.waiting u)
-          ∙ sym (waits-set c.self.inside.list.items c.args.slot (Some (record { age = c.in-Some.seat.age; status = c.args.status })) lt u);
+          ∙ sym (waits-set c.self.inside.list.items c.args.slot (Some (record c.in-Some.seat { status = c.args.status })) lt u);
     }
 
 pub returns-in-Some-clause-txns : goal.returns-in-Some-clause-txns
 returns-in-Some-clause-txns c = λ u.
     let lt : c.args.slot < length c.self.inside.list.items = grind (arith, common_steps, c.requires, c.self.view_is) in
-    let was : txns_of c.args.self.now.items c.args.slot ≡ Some (record { age = c.in-Some.seat.age; status = c.in-Some.seat.status }) =
+    let seat = c.in-Some.seat in
+    let was : txns_of c.args.self.now.items c.args.slot ≡ Some (record { age = seat.age; since = seat.since; status = seat.status }) =
     grind (arith, common_steps, nat_tests, gets, elements, c.in-Some.is, c.in-Some.seat-is, c.index_mut-seat.ensures.value, c.requires, c.self.view_is) in
-    txns-set c.self.inside.list.items c.args.slot (Some (record { age = c.in-Some.seat.age; status = c.args.status })) lt u
+    txns-set c.self.inside.list.items c.args.slot (Some (record c.in-Some.seat { status = c.args.status })) lt u
     ∙ ap₂ (λ one other. if u == c.args.slot then one else other) (sym (ap (restatus c.args.status) was))
     (ap (λ (v : SeatList). txns_of v.items u) c.self.view_is)
 

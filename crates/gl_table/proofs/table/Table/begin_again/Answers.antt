@@ -1,9 +1,9 @@
-use Rattle.gl_table.proofs.Words.{◌+◌, ◌∙◌, ◌≡◌, ap, begin_tests, begun, Err, first_refusal, free_slot, is_free, None, none_some, Ok, position, refl, Refuses}
-use Rattle.gl_table.proofs.Words.{Some, state_of, subst, sym, TableView, TxnId}
+use Rattle.gl_table.proofs.Words.{◌+◌, ◌∙◌, ◌≡◌, ap, begin_tests, begun_again, begun_since, Err, first_refusal, free_slot, is_free, None, none_some}
+use Rattle.gl_table.proofs.Words.{Ok, position, refl, Refuses, Some, state_of, subst, sym, TableView, TxnId, view_of}
 use Rattle.gl_modes.specs.declared.refusal.Refusal.TheVariants as no
 use Rattle.gl_table.proofs.calls.Law.{begin-refusal, begun-law, begun-safe, begun-state, found-slot}
-use Rattle.gl_table.proofs.table.Table.begin.Goals.{After-take}
-use Rattle.gl_table.proofs.table.Table.begin.Goals as goal
+use Rattle.gl_table.proofs.table.Table.begin_again.Goals.{After-take}
+use Rattle.gl_table.proofs.table.Table.begin_again.Goals as goal
 
 -- no slot is free
 
@@ -29,17 +29,18 @@ slot c = found-slot c.args.self.now (Some c.in-Some.slot) (seat c ∙ ap (λ (v 
 
 pub invariant_of-self : goal.invariant_of-self
 invariant_of-self c = let at = (goal.at.invariant_of-self c).After-take in
-    begun-safe c.self.inside c.self.invariant c.in-Some.slot (seat at) c.take.new.self c.take.ensures
+    begun-safe c.self.inside c.self.invariant c.in-Some.slot c.min.result (seat at) c.take.new.self c.take.ensures
 
 pub invariant_of-self-inside : goal.invariant_of-self-inside
-invariant_of-self-inside c = begun-law c.self.inside c.self.invariant c.in-Some.slot (seat c) c.take.new.self c.take.ensures
+invariant_of-self-inside c = begun-law c.self.inside c.self.invariant c.in-Some.slot c.min.result (seat c) c.take.new.self c.take.ensures
 
 pub returns-clause-begun : goal.returns-clause-begun
 returns-clause-begun c = let at = (goal.at.returns-clause-begun c).After-take in (
   slot at,
   ap (λ (v : TableView). v.begins + 1) c.self.view_is,
-  begun-state c.self.inside c.self.invariant c.in-Some.slot (seat at) c.take.new.self c.take.ensures
-      ∙ ap (λ (v : TableView). begun (state_of v) c.in-Some.slot) c.self.view_is,
+  begun-state c.self.inside c.self.invariant c.in-Some.slot c.min.result (seat at) c.take.new.self c.take.ensures
+      ∙ ap (begun_since (state_of (view_of c.self.inside)) c.in-Some.slot) c.min.ensures
+      ∙ ap (λ (v : TableView). begun_again (state_of v) c.in-Some.slot c.args.since) c.self.view_is,
 )
 
 pub returns-clause-refuses : goal.returns-clause-refuses
