@@ -35,7 +35,7 @@ use Rattle.gl_steps.specs.declared.command.Answer.TheVariants as answer
 use Rattle.gl_steps.specs.declared.command.Command.TheVariants as command
 use Rattle.gl_catalog.specs.declared.counters.Counters.{Counters}
 use Rattle.gl_catalog.specs.Adopting.{adopting_tests, no_record_mode, worn_twice}
-use Rattle.gl_catalog.specs.Counters.{counted, one_if, rises}
+use Rattle.gl_catalog.specs.Counters.{counted, one_if, raise_passes, rises}
 use Rattle.gl_catalog.specs.Replies.{asking, made}
 use Rattle.gl_steps.specs.Step.{Step, lock_answer}
 use Rattle.gl_steps.specs.Tests.{refusal_of, worn}
@@ -155,5 +155,7 @@ module _ (s s' : State) (law : IsLawful s) (t : TxnId) (f n : NodeId) (keys : Bo
 
   -- it is a grant that converts nothing
   pub counts_grant : (k : Counters) → counted mid (command.Lock t n m) (answer.Granted m) [] s' k
-      ≡ record k { granted = rises k.granted 1; conversions = rises k.conversions (one_if false) }
-  counts_grant k = try_counted mid s' t n m m false k (sym (ap (λ x. lives s t && not (same_mode x NL)) (unheld t.slot) ∙ and-false (lives s t)))
+      ≡ record k { granted = rises k.granted 1; conversions = rises k.conversions (one_if false); passed = rises k.passed (one_if false) }
+  counts_grant k =
+      try_counted mid s' t n m m false false k (sym (ap (λ x. lives s t && not (same_mode x NL)) (unheld t.slot) ∙ and-false (lives s t)))
+      (sym (ap (λ x. lives s t && raise_passes s' n x (s'.held t.slot n)) (unheld t.slot) ∙ and-false (lives s t)))

@@ -1,10 +1,8 @@
 -- What a call that was not refused completes, and what it adds to the counters. For the calls of the manager.
-use Rattle.std.specs.Prelude.{◌≡◌, ℕ, ◌+◌, Bool, not, ◌&&◌, [], Option, Some, None, max, Ok, if◌then◌else◌, length}
+use Rattle.std.specs.Prelude.{◌≡◌, ℕ, ◌+◌, Bool, true, [], Option, Some, None, max, Ok, if◌then◌else◌, length}
 use Rattle.std.specs.List.{count_by}
 use Rattle.std.proofs.Common.{refl, ap, arith, subst, sym, ◌∙◌}
-use Rattle.gl_modes.specs.Modes.{same_mode}
 use Rattle.gl_modes.specs.declared.mode.Mode.{Mode}
-use Rattle.gl_modes.specs.declared.mode.Mode.TheVariants.{NL}
 use Rattle.gl_modes.specs.declared.node.NodeId.{NodeId}
 use Rattle.gl_modes.specs.declared.refusal.Refusal.{Refusal}
 use Rattle.gl_graph.specs.Refusals.{Refuses, first_refusal}
@@ -13,7 +11,7 @@ use Rattle.gl_model.specs.declared.answers.Locked.{Locked}
 use Rattle.gl_model.specs.declared.answers.Locked.TheVariants as locked
 use Rattle.gl_model.specs.declared.txn.TxnId.{TxnId}
 use Rattle.gl_model.specs.Calls.{lock_tests, no_txn}
-use Rattle.gl_model.specs.State.{State}
+use Rattle.gl_model.specs.State.{State, lives}
 use Rattle.gl_model.specs.Tellings.{Told}
 use Rattle.gl_steps.specs.declared.command.Answer.{Answer}
 use Rattle.gl_steps.specs.declared.command.Answer.TheVariants as answer
@@ -22,7 +20,7 @@ use Rattle.gl_steps.specs.declared.command.Command.TheVariants as command
 use Rattle.gl_steps.specs.declared.command.Escalated.{Escalated}
 use Rattle.gl_catalog.specs.declared.counters.Counters.{Counters}
 use Rattle.gl_catalog.specs.Completes.{Completes}
-use Rattle.gl_catalog.specs.Counters.{condemns, counted, grants, holds_already, is_gone, is_grant, is_moved, is_victim, lock_counted, one_if, rises}
+use Rattle.gl_catalog.specs.Counters.{condemns, counted, grants, holds_already, is_gone, is_grant, is_moved, is_victim, lock_counted, one_if, passes_at, rises}
 use Rattle.gl_catalog.specs.Counters.{waiting_in, waits, with_notices}
 use Rattle.gl_catalog.specs.Deadlocks.{KeepsAccepted}
 use Rattle.gl_catalog.specs.Manager.{IsLawfulManager, ManagerView, state_of}
@@ -71,6 +69,7 @@ pub notices_counted : (told : Told) (k : Counters)
       granted = rises k.granted 0;
       waited = rises k.waited 0;
       conversions = rises k.conversions 0;
+      passed = rises k.passed 0;
       granted_later = rises k.granted_later (count_by is_grant told);
       victims = rises k.victims (count_by is_victim told + 0);
       moved = rises k.moved (count_by is_moved told);
@@ -84,6 +83,7 @@ notices_counted told k = λ i. record {
   granted = rises_none k.granted i;
   waited = rises_none k.waited i;
   conversions = rises_none k.conversions i;
+  passed = rises_none k.passed i;
   granted_later = rises k.granted_later (count_by is_grant told);
   victims = ap (rises k.victims) (plus_none (count_by is_victim told)) i;
   moved = rises k.moved (count_by is_moved told);
@@ -98,13 +98,14 @@ notices_counted told k = λ i. record {
     plus_none n = omega arith
 
 -- an escalation, and then its notices
-pub escalation_counted : (s s' : State) (t : TxnId) (n : NodeId) (x : Escalated) (told : Told) (k : Counters)
+pub escalation_counted : (s s' : State) (t : TxnId) (n : NodeId) (x : Escalated) (told : Told) (passed : Bool) (k : Counters) → passed ≡ passes_at s t n s'
     → counted s (command.Escalate t n) (answer.Escalated x) told s' k ≡ with_notices told
-    (record k { escalations = rises k.escalations 1; released_children = rises k.released_children x.released })
-escalation_counted s s' t n x told k = λ i. record {
+    (record k { passed = rises k.passed (one_if passed); escalations = rises k.escalations 1; released_children = rises k.released_children x.released })
+escalation_counted s s' t n x told passed k is = λ i. record {
   granted = rises_none k.granted i;
   waited = rises_none k.waited i;
   conversions = rises_none k.conversions i;
+  passed = rises k.passed (one_if (sym is i));
   granted_later = rises k.granted_later (count_by is_grant told);
   victims = ap (rises k.victims) (plus_none (count_by is_victim told)) i;
   moved = rises k.moved (count_by is_moved told);
@@ -119,16 +120,19 @@ escalation_counted s s' t n x told k = λ i. record {
     plus_none m = omega arith
 
 -- a try that was granted
-pub try_counted : (s s' : State) (t : TxnId) (n : NodeId) (m asked : Mode) (converts : Bool) (k : Counters) → converts ≡ holds_already s t n
+pub try_counted : (s s' : State) (t : TxnId) (n : NodeId) (m asked : Mode) (converts passed : Bool) (k : Counters) → converts ≡ holds_already s t n
+    → passed ≡ passes_at s t n s'
     → counted s (command.Try t n asked) (answer.Granted m) [] s' k ≡ record k {
       granted = rises k.granted 1;
       conversions = rises k.conversions
           (one_if converts);
+      passed = rises k.passed (one_if passed);
     }
-try_counted s s' t n m asked converts k is = λ i. record {
+try_counted s s' t n m asked converts passed k is passes_is = λ i. record {
   granted = rises k.granted 1;
   waited = rises_none k.waited i;
   conversions = rises k.conversions (one_if (sym is i));
+  passed = rises k.passed (one_if (sym passes_is i));
   granted_later = rises_none k.granted_later i;
   victims = rises_none k.victims i;
   moved = rises_none k.moved i;
@@ -139,52 +143,55 @@ try_counted s s' t n m asked converts k is = λ i. record {
   longest_queue = max_none k.longest_queue i;
 }
 
-module _ (s s' : State) (t : TxnId) (n : NodeId) (m : Mode) (told : Told) (converts : Bool) (k : Counters) (is : converts ≡ holds_already s t n) where
+module _ (s s' : State) (t : TxnId) (n : NodeId) (m : Mode) (told : Told) (converts passed : Bool) (k : Counters)
+    (is : converts ≡ holds_already s t n) (passes_is : passed ≡ passes_at s t n s') where
   -- a lock is not refused, whatever it came to
-  pub lock_counts : (x : Locked) → lock_counted s' n converts (answer_of_lock x) told k ≡ counted s (command.Lock t n m) (answer_of_lock x) told s' k
-  lock_counts (locked.Granted held) = λ i. record (lock_counted s' n (is i) (answer.Granted held) told k) {
+  pub lock_counts : (x : Locked) → lock_counted s' n converts passed (answer_of_lock x) told k ≡ counted s (command.Lock t n m) (answer_of_lock x) told s' k
+  lock_counts (locked.Granted held) = λ i. record (lock_counted s' n (is i) (passes_is i) (answer.Granted held) told k) {
     escalations = sym
         (rises_none k.escalations) i;
     released_children = sym (rises_none k.released_children) i;
   }
-  lock_counts locked.Waiting = λ i. record (lock_counted s' n (is i) answer.Waiting told k) {
+  lock_counts locked.Waiting = λ i. record (lock_counted s' n (is i) (passes_is i) answer.Waiting told k) {
     escalations = sym
         (rises_none k.escalations) i;
     released_children = sym (rises_none k.released_children) i;
   }
-  lock_counts locked.Victim = λ i. record (lock_counted s' n (is i) answer.Victim told k) {
+  lock_counts locked.Victim = λ i. record (lock_counted s' n (is i) (passes_is i) answer.Victim told k) {
     escalations = sym
         (rises_none k.escalations) i;
     released_children = sym (rises_none k.released_children) i;
   }
 
--- who was not refused a lock lives, so it holds the node already where it held any mode there
-pub lock_converts : (s : State) (t : TxnId) (n : NodeId) (m : Mode) (x : Mode × Locked) → Refuses (first_refusal (lock_tests s t n m)) (Ok x)
-    → holds_already s t n ≡ not (same_mode (s.held t.slot n) NL)
-lock_converts s t n m x refuses = ap (λ b. b && not (same_mode (s.held t.slot n) NL)) (txn_lives s t (not_refused (no_txn s t) _ (goes _ refuses)).0)
+-- who was not refused a lock lives
+pub lock_lives : (s : State) (t : TxnId) (n : NodeId) (m : Mode) (x : Mode × Locked) → Refuses (first_refusal (lock_tests s t n m)) (Ok x) → lives s t ≡ true
+lock_lives s t n m x refuses = txn_lives s t (not_refused (no_txn s t) _ (goes _ refuses)).0
   where
     goes : (o : Option Refusal) → Refuses o (Ok x) → o ≡ None
     goes None h = refl
     goes (Some r) h = absurd (cc)
 
--- what a lock came to, and then its notices
-module _ (s : State) (n : NodeId) (converts : Bool) (told : Told) (k : Counters) where
-  abbrev pub with_lock : Answer → Counters
-  with_lock a = record k {
-    granted = rises k.granted (one_if (grants a));
-    waited = rises k.waited (one_if (waits a));
-    conversions = rises k.conversions (one_if converts);
-    victims = rises k.victims (one_if (condemns a));
-  }
+-- the counters with what a lock came to
+abbrev pub with_lock : Bool → Bool → Counters → Answer → Counters
+with_lock converts passed k a =
+    record k {
+      granted = rises k.granted (one_if (grants a));
+      waited = rises k.waited (one_if (waits a));
+      conversions = rises k.conversions (one_if converts);
+      passed = rises k.passed (one_if passed);
+      victims = rises k.victims (one_if (condemns a));
+    }
 
+-- what a lock came to, and then its notices
+module _ (s : State) (n : NodeId) (converts passed : Bool) (told : Told) (k : Counters) where
   noted : (a : Answer) → rises (rises k.victims (one_if (condemns a))) (count_by is_victim told) ≡ rises k.victims (count_by is_victim told + one_if
       (condemns a))
   noted a = rises_twice k.victims (one_if (condemns a)) (count_by is_victim told) ∙ ap (rises k.victims) (omega arith)
 
   pub lock_noted : (a : Answer) (waiting queued : ℕ) → waiting ≡ (if waits a then waiting_in s else 0) → queued ≡ (if waits a then length (s.queue n) else 0)
-      → with_notices told (record (with_lock a) { most_waiting = max k.most_waiting waiting; longest_queue = max k.longest_queue queued }) ≡ lock_counted s
-      n converts a told k
-  lock_noted a waiting queued w q = λ i. record (lock_counted s n converts a told k) {
+      → with_notices told (record (with_lock converts passed k a) { most_waiting = max k.most_waiting waiting; longest_queue = max k.longest_queue queued })
+      ≡ lock_counted s n converts passed a told k
+  lock_noted a waiting queued w q = λ i. record (lock_counted s n converts passed a told k) {
     victims = noted a i;
     most_waiting = max k.most_waiting (w i);
     longest_queue = max k.longest_queue (q i);

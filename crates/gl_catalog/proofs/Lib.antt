@@ -4,6 +4,8 @@ pub mod Counts
 pub mod Uncounted
 pub mod Carried
 pub mod Managed
+pub mod Beginning
+pub mod Passing
 pub mod Applied
 pub mod Completed
 pub mod Insertions

@@ -14,6 +14,7 @@ pub raised_by_none : (k : Counters)
       granted = rises k.granted 0;
       waited = rises k.waited 0;
       conversions = rises k.conversions 0;
+      passed = rises k.passed 0;
       granted_later = rises k.granted_later 0;
       victims = rises k.victims 0;
       moved = rises k.moved 0;
@@ -27,6 +28,7 @@ raised_by_none k = λ i. record {
   granted = rises_none k.granted i;
   waited = rises_none k.waited i;
   conversions = rises_none k.conversions i;
+  passed = rises_none k.passed i;
   granted_later = rises_none k.granted_later i;
   victims = rises_none k.victims i;
   moved = rises_none k.moved i;

@@ -1,9 +1,14 @@
 -- What a manager counts: what each command adds to its counters (own).
 use Rattle.std.specs.Prelude.{ℕ, ◌+◌, ◌-◌, Bool, true, false, not, ◌&&◌, length, max, min, if◌then◌else◌}
 use Rattle.std.specs.List.{count_by}
+use Rattle.gl_modes.specs.declared.mode.Mode.{Mode}
+use Rattle.gl_modes.specs.declared.mode.Mode.TheVariants.{NL}
 use Rattle.gl_modes.specs.declared.node.NodeId.{NodeId}
+use Rattle.gl_modes.specs.Modes.{same_mode}
 use Rattle.gl_graph.specs.Refusals.{max_count}
-use Rattle.gl_header.specs.Header.{holds}
+use Rattle.gl_header.specs.Header.{holds, is_empty}
+use Rattle.gl_model.specs.declared.answers.Locked.{Locked}
+use Rattle.gl_model.specs.declared.answers.Locked.TheVariants as locked
 use Rattle.gl_model.specs.declared.answers.Notice.{Notice}
 use Rattle.gl_model.specs.declared.answers.Notice.TheVariants as notice
 use Rattle.gl_model.specs.declared.txn.TxnId.{TxnId}
@@ -22,6 +27,7 @@ no_counts =
       granted = 0;
       waited = 0;
       conversions = 0;
+      passed = 0;
       granted_later = 0;
       victims = 0;
       moved = 0;
@@ -71,6 +77,26 @@ converts s (command.Lock t n m) = holds_already s t n
 converts s (command.Try t n m) = holds_already s t n
 converts s c = false
 
+-- where a node is held in one mode and then in another, and somebody waits for it behind that
+abbrev pub raise_passes : State → NodeId → Mode → Mode → Bool
+raise_passes s n before after = not (same_mode before NL) && not (same_mode after before) && not (is_empty (s.queue n))
+
+-- the same of a lock that came to this, by the mode in which the node was held before
+abbrev pub lock_passes : State → NodeId → Mode → Locked → Bool
+lock_passes s n before (locked.Granted m) = raise_passes s n before m
+lock_passes s n before x = false
+
+-- t lives, held n, and holds it in another mode behind a command that left the second state, in which somebody waits for n
+abbrev pub passes_at : State → TxnId → NodeId → State → Bool
+passes_at s t n s' = lives s t && raise_passes s' n (s.held t.slot n) (s'.held t.slot n)
+
+-- a lock, a try or an escalation by which its transaction holds the node in another mode than before, while somebody still waits for it
+abbrev pub passes : State → Command → State → Bool
+passes s (command.Lock t n m) s' = passes_at s t n s'
+passes s (command.Try t n m) s' = passes_at s t n s'
+passes s (command.Escalate t n) s' = passes_at s t n s'
+passes s c s' = false
+
 -- an escalation was done
 abbrev pub escalates : Answer → Bool
 escalates (answer.Escalated x) = true
@@ -119,6 +145,7 @@ counted s c a told' s' k =
       granted = rises k.granted (one_if (grants a));
       waited = rises k.waited (one_if (waits a));
       conversions = rises k.conversions (one_if (not (refuses a) && converts s c));
+      passed = rises k.passed (one_if (not (refuses a) && passes s c s'));
       granted_later = rises k.granted_later (count_by is_grant told');
       victims = rises k.victims (count_by is_victim told' + one_if (condemns a));
       moved = rises k.moved (count_by is_moved told');
@@ -146,13 +173,15 @@ with_notices told' k =
       gone = rises k.gone (count_by is_gone told');
     }
 
--- the counters after a lock of n in which state s was left, that was answered a and told these; it converts where its transaction held n before
-abbrev pub lock_counted : State → NodeId → Bool → Answer → Told → Counters → Counters
-lock_counted s n converts' a told' k =
+-- the counters after a lock of n in which state s was left, that was answered a and told these; it converts where its transaction held n before, and
+-- may pass somebody who waits
+abbrev pub lock_counted : State → NodeId → Bool → Bool → Answer → Told → Counters → Counters
+lock_counted s n converts' passes' a told' k =
     record k {
       granted = rises k.granted (one_if (grants a));
       waited = rises k.waited (one_if (waits a));
       conversions = rises k.conversions (one_if converts');
+      passed = rises k.passed (one_if passes');
       granted_later = rises k.granted_later (count_by is_grant told');
       victims = rises k.victims (count_by is_victim told' + one_if (condemns a));
       moved = rises k.moved (count_by is_moved told');

@@ -17,6 +17,9 @@ pub struct Counters {
     /// Asks, by lock or by try, of a node that the transaction held already, where they were not
     /// refused.
     pub conversions: u64,
+    /// Asks of a node that the transaction held already, and escalations, that raised the mode in
+    /// which it holds the node while somebody still waits for the node: they passed whoever waits.
+    pub passed: u64,
     /// Waits that ended with a grant.
     pub granted_later: u64,
     /// Transactions that were condemned to end a deadlock, whether they were told so or their own
@@ -39,12 +42,14 @@ pub struct Counters {
 }
 
 impl Counters {
-    /// With what one lock came to. `converts` says whether its transaction held the node already.
-    pub(crate) fn add_lock(&mut self, converts: bool, locked: Locked)
+    /// With what one lock came to. `converts` says whether its transaction held the node already, and
+    /// `passes` whether it passed somebody who waits.
+    pub(crate) fn add_lock(&mut self, converts: bool, passes: bool, locked: Locked)
         ensures { self.new ≡ record self.old {
           granted = rises self.old.granted (one_if (grants (answer_of_lock locked)));
           waited = rises self.old.waited (one_if (waits (answer_of_lock locked)));
           conversions = rises self.old.conversions (one_if converts);
+          passed = rises self.old.passed (one_if passes);
           victims = rises self.old.victims (one_if (condemns (answer_of_lock locked)));
         } }
     {
@@ -53,31 +58,48 @@ impl Counters {
             Locked::Waiting => raise(&mut self.waited, 1),
             Locked::Victim => raise(&mut self.victims, 1),
         }
-        if converts {
-            raise(&mut self.conversions, 1);
-        }
+        self.add_conversion(converts, passes);
     }
 
     /// With one try that was granted.
-    pub(crate) fn add_grant(&mut self, converts: bool)
+    pub(crate) fn add_grant(&mut self, converts: bool, passes: bool)
         ensures { self.new ≡ record self.old {
           granted = rises self.old.granted 1;
           conversions = rises self.old.conversions (one_if converts);
+          passed = rises self.old.passed (one_if passes);
         } }
     {
         raise(&mut self.granted, 1);
+        self.add_conversion(converts, passes);
+    }
+
+    /// With an ask, if it was a conversion, and if it passed somebody who waits.
+    fn add_conversion(&mut self, converts: bool, passes: bool)
+        ensures { self.new ≡ record self.old {
+          conversions = rises self.old.conversions (one_if converts);
+          passed = rises self.old.passed (one_if passes);
+        } }
+    {
         if converts {
             raise(&mut self.conversions, 1);
         }
+        if passes {
+            raise(&mut self.passed, 1);
+        }
     }
 
-    /// With one escalation that released so many children.
-    pub(crate) fn add_escalation(&mut self, released: u32)
+    /// With one escalation that released so many children. `passes` says whether it passed somebody who
+    /// waits.
+    pub(crate) fn add_escalation(&mut self, passes: bool, released: u32)
         ensures { self.new ≡ record self.old {
+          passed = rises self.old.passed (one_if passes);
           escalations = rises self.old.escalations 1;
           released_children = rises self.old.released_children released;
         } }
     {
+        if passes {
+            raise(&mut self.passed, 1);
+        }
         raise(&mut self.escalations, 1);
         raise(&mut self.released_children, u64::from(released));
     }

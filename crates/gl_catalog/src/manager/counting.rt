@@ -1,14 +1,18 @@
 //! What the manager counts of each command.
 
-ghost use Rattle.std.specs.Prelude.{◌≡◌, if◌then◌else◌, length};
-ghost use Rattle.gl_catalog.specs.Counters.{holds_already, lock_counted, waiting_in, waits};
+ghost use Rattle.std.specs.Prelude.{◌≡◌, if◌then◌else◌, length, not};
+ghost use Rattle.gl_modes.specs.Modes.{same_mode};
+ghost use Rattle.gl_modes.specs.declared.mode.Mode.TheVariants.{NL};
+ghost use Rattle.gl_model.specs.State.{lives};
+ghost use Rattle.gl_table.specs.Table.{state_of as table_state};
+ghost use Rattle.gl_catalog.specs.Counters.{lock_counted, lock_passes, raise_passes, waiting_in, waits};
 ghost use Rattle.gl_catalog.specs.Manager.{state_of};
 ghost use Rattle.gl_steps.specs.Step.{answer_of_lock};
 
 use super::Manager;
 use crate::counters::Counters;
 use gl_modes::{Mode, NodeId};
-use gl_table::{Locked, Notice, TxnId};
+use gl_table::{Locked, Notice, Table, TxnId};
 
 impl Manager {
     /// What the manager has been doing since it was made. It takes no memory.
@@ -18,20 +22,24 @@ impl Manager {
         self.counters
     }
 
-    /// Counts what a lock of a node came to, by whom it told. `converts` says whether its transaction
+    /// Counts what a lock of a node came to, by whom it told, and by the mode in which its transaction
     /// held the node before.
     pub(super) fn count_lock(
         &mut self,
         n: NodeId,
-        converts: bool,
+        held: Mode,
         locked: Locked,
         told: &[(TxnId, Notice)],
     )
-        ensures { self.new ≡ record self.old { counters = lock_counted (state_of self.old) n converts (answer_of_lock locked) told.now self.old.counters } }
+        ensures { self.new ≡ record self.old {
+          counters = lock_counted (state_of self.old) n (not (same_mode held NL))
+              (lock_passes (state_of self.old) n held locked) (answer_of_lock locked) told.now self.old.counters;
+        } }
     {
         self.law();
         let (waiting, queued) = self.waits_seen(n, locked);
-        self.counters.add_lock(converts, locked);
+        let passes = lock_passes(&self.table, n, held, locked);
+        self.counters.add_lock(held != Mode::NL, passes, locked);
         self.counters.add_waits(waiting, queued);
         self.counters.add_notices(told);
     }
@@ -48,13 +56,13 @@ impl Manager {
         }
     }
 
-    /// Whether a transaction lives and holds a node.
-    pub(super) fn holds_already(&self, t: TxnId, n: NodeId) -> bool
-        ensures { result ≡ holds_already (state_of self.now) t n }
+    /// The mode in which a transaction holds a node, `NL` where it does not live.
+    pub(super) fn held_by(&self, t: TxnId, n: NodeId) -> Mode
+        ensures { result ≡ (if lives (state_of self.now) t then (state_of self.now).held t.slot n else NL) }
     {
         match self.table.mode(t, n) {
-            Some(mode) => mode != Mode::NL,
-            None => false,
+            Some(mode) => mode,
+            None => Mode::NL,
         }
     }
 
@@ -80,5 +88,23 @@ impl Manager {
             Ok(waiters) => waiters.len() as u64,
             Err(_) => 0,
         }
+    }
+}
+
+/// Whether somebody waits for a node that was held in one mode and then in another. Where the mode was
+/// not raised nothing is looked up.
+pub(super) fn raise_passes(table: &Table, n: NodeId, before: Mode, after: Mode) -> bool
+    ensures { result ≡ raise_passes (table_state table.now) n before after }
+{
+    before != Mode::NL && after != before && table.is_awaited(n)
+}
+
+/// The same of a lock, by what it came to.
+fn lock_passes(table: &Table, n: NodeId, before: Mode, locked: Locked) -> bool
+    ensures { result ≡ lock_passes (table_state table.now) n before locked }
+{
+    match locked {
+        Locked::Granted(mode) => raise_passes(table, n, before, mode),
+        _ => false,
     }
 }

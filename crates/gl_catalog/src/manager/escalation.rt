@@ -12,6 +12,7 @@ ghost use Rattle.gl_catalog.specs.Replies.{CallSteps, rising, rose, said};
 ghost use Rattle.gl_steps.specs.Tests.{escalate_asks, worn};
 
 use super::Manager;
+use super::counting::raise_passes;
 use gl_graph::Kind;
 use gl_modes::{Mode, NodeId, Refusal};
 use gl_steps::Escalated;
@@ -62,11 +63,13 @@ impl Manager {
         } else {
             Mode::S
         };
+        let held = self.held_by(t, n);
         let mode = self.table.try_lock(t, n, asked)?;
         let (released, kept) = self.table.shed_telling(t, n, told);
         self.table.law();
         self.accepted += 1;
-        self.counters.add_escalation(released);
+        let passes = raise_passes(&self.table, n, held, self.table.mode_at(t.slot, n));
+        self.counters.add_escalation(passes, released);
         self.counters.add_notices(told.as_slice());
         Ok(Escalated {
             mode,

@@ -6,7 +6,7 @@ ghost use Rattle.gl_graph.specs.Refusals.{first_refusal};
 ghost use Rattle.gl_header.specs.Header.{holds};
 ghost use Rattle.gl_slots.specs.Slots.{has_slot};
 ghost use Rattle.gl_model.specs.Calls.{RefusesOnly, group_tests, living_tests};
-ghost use Rattle.gl_table.specs.Table.{AreRowsOf, living_in, rows_of};
+ghost use Rattle.gl_table.specs.Table.{AreRowsOf, ahead_in, living_in, rows_of};
 ghost use Rattle.gl_model.specs.State.{lives, members, status_of, waits_for};
 ghost use Rattle.gl_catalog.specs.Manager.{state_of};
 
@@ -75,6 +75,15 @@ impl Manager {
         ensures refused { RefusesOnly (first_refusal (group_tests (state_of self.now) n)) result }
     {
         self.table.queue(n)
+    }
+
+    /// How many stand ahead of a transaction in the queue of the node that it waits for; `None` where it
+    /// does not live or does not wait.
+    pub fn ahead(&self, t: TxnId) -> Option<usize>
+        ensures { result ≡ (if lives (state_of self.now) t
+            then ahead_in (state_of self.now) t.slot (status_of (state_of self.now) t.slot) else None) }
+    {
+        self.table.ahead(t)
     }
 
     /// The slots of those for whom a transaction waits: who holds the node in a mode that does not go

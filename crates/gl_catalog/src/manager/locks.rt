@@ -11,6 +11,7 @@ ghost use Rattle.gl_catalog.specs.Manager.{state_of};
 ghost use Rattle.gl_catalog.specs.Replies.{CallSteps, asking, began, doing, took};
 
 use super::Manager;
+use super::counting::raise_passes;
 use gl_modes::{Mode, NodeId, Refusal};
 use gl_table::{Locked, Told, TxnId};
 
@@ -23,6 +24,21 @@ impl Manager {
     {
         self.check_count()?;
         let txn = self.table.begin()?;
+        self.table.law();
+        self.accepted += 1;
+        Ok(txn)
+    }
+
+    /// Begins a transaction for work that wants to be done since an earlier begin: since the age of the
+    /// transaction that was to do it first. Of a deadlock the one whose number is the greatest is the
+    /// next victim, so a victim that begins again with its first age keeps its turn. It may want memory.
+    pub fn begin_again(&mut self, since: u64) -> Result<TxnId, Refusal>
+        ensures step { CallSteps (state_of self.old) (command.BeginAgain since) began result (state_of self.new) }
+        ensures completes { IfOk result (λ x. Completes (command.BeginAgain since) self.old (began x) self.new) }
+        ensures err { OnErr result (self.new ≡ self.old) }
+    {
+        self.check_count()?;
+        let txn = self.table.begin_again(since)?;
         self.table.law();
         self.accepted += 1;
         Ok(txn)
@@ -47,7 +63,7 @@ impl Manager {
         let (held, locked) = self.table.lock_from(t, n, mode, told)?;
         self.table.law();
         self.accepted += 1;
-        self.count_lock(n, held != Mode::NL, locked, told.as_slice());
+        self.count_lock(n, held, locked, told.as_slice());
         Ok(locked)
     }
 
@@ -59,11 +75,12 @@ impl Manager {
         ensures err { OnErr result (self.new ≡ self.old) }
     {
         self.check_count()?;
-        let converts = self.holds_already(t, n);
+        let held = self.held_by(t, n);
         let mode = self.table.try_lock(t, n, mode)?;
         self.table.law();
         self.accepted += 1;
-        self.counters.add_grant(converts);
+        let passes = raise_passes(&self.table, n, held, mode);
+        self.counters.add_grant(held != Mode::NL, passes);
         Ok(mode)
     }
 

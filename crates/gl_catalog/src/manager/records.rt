@@ -128,7 +128,7 @@ impl Manager {
             .adopt_under(t, file, keys, parents.as_slice(), mode)?;
         self.table.law();
         self.accepted += 2;
-        self.counters.add_grant(false);
+        self.counters.add_grant(false, false);
         Ok(rec)
     }
 

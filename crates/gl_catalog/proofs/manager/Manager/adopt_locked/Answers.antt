@@ -35,7 +35,11 @@ returns-clause-adopts c =
       locks = locks (state_of m) s' c.law.ensures.lawful c.args.t c.args.file n c.args.keys c.args.mode may born is;
       accepted = ap (λ (v : ManagerView). v.accepted + 2) c.self.view_is;
       counters = c.add_grant.ensures
-          ∙ ap (λ (v : ManagerView). record v.counters { granted = rises v.counters.granted 1; conversions = rises v.counters.conversions (one_if false) })
+          ∙ ap (λ (v : ManagerView). record v.counters {
+            granted = rises v.counters.granted 1;
+            conversions = rises v.counters.conversions (one_if false);
+            passed = rises v.counters.passed (one_if false);
+          })
           c.self.view_is
           ∙ sym (counts_grant (state_of m) s' c.law.ensures.lawful c.args.t c.args.file n c.args.keys c.args.mode may born m.counters);
       deadlock = c.in_ok-rec.ensures.deadlock ∙ ap (λ (v : ManagerView). v.table.deadlock) c.self.view_is;

@@ -32,6 +32,12 @@ returns-in-Begin c =
     c.begun_answer.ensures c.in-Begin.is c.begin.ensures.err (λ x h. h)
     c.args.told.now c.requires.empty c.begin.ensures.step c.begin.ensures.completes
 
+pub returns-in-BeginAgain : goal.returns-in-BeginAgain
+returns-in-BeginAgain c =
+    carries_quietly answer.Begun c.args.self.now c.begin_again.new.self _ c.args.command c.begin_again.result c.begun_answer-in-BeginAgain.result
+    c.begun_answer-in-BeginAgain.ensures c.in-BeginAgain.is c.begin_again.ensures.err (λ x h. h)
+    c.args.told.now c.requires.empty c.begin_again.ensures.step c.begin_again.ensures.completes
+
 pub returns-in-Lock : goal.returns-in-Lock
 returns-in-Lock c =
     carries_telling answer_of_lock c.args.self.now c.lock_telling.new.self _ c.args.command c.lock_telling.result c.lock_answer.result

@@ -6,15 +6,16 @@ use Rattle.gl_table.specs.Table.{state_of as table_state}
 use Rattle.gl_table.proofs.calls.Calls.{test_passed}
 use Rattle.gl_steps.specs.declared.command.Command.TheVariants as command
 use Rattle.gl_steps.specs.declared.command.Escalated.{Escalated}
-use Rattle.gl_catalog.specs.Counters.{rises, with_notices}
-use Rattle.gl_model.specs.State.{counting}
+use Rattle.gl_catalog.specs.Counters.{one_if, passes_at, raise_passes, rises, with_notices}
+use Rattle.gl_catalog.proofs.Passing.{read_passes}
+use Rattle.gl_model.specs.State.{counting, lives}
 use Rattle.gl_catalog.specs.Manager.{IsLawfulManager, ManagerView, state_of}
 use Rattle.gl_catalog.specs.Replies.{CallSteps, rising}
 use Rattle.gl_catalog.specs.Sound.{view_of}
 use Rattle.gl_steps.specs.Tests.{escalate_asks, worn}
 use Rattle.gl_catalog.proofs.Completed.{completed, escalation_counted}
 use Rattle.gl_catalog.proofs.Raising.{asked_is, asks_err, raised_acting, reads, shed_step, tried_err}
-use Rattle.gl_catalog.proofs.manager.Manager.escalate_telling.Goals.{After-try_lock, then-writes_below, else-writes_below}
+use Rattle.gl_catalog.proofs.manager.Manager.escalate_telling.Goals.{After-add_notices, After-try_lock, then-writes_below, else-writes_below}
 use Rattle.gl_catalog.proofs.manager.Manager.escalate_telling.Goals as goal
 
 passed : (c : After-try_lock) → first_refusal (worn (state_of (view_of c.self.inside)) ∷ escalate_asks (state_of
@@ -71,6 +72,15 @@ returns-clause-step c =
     c.shed_telling-released.result.1 c.shed_telling-released.new.notices (table_state c.shed_telling-released.new.self)
     c.shed_telling-released.ensures.state c.shed_telling-released.ensures.released c.shed_telling-released.ensures.kept c.shed_telling-released.ensures.told)
 
+-- whether it passed somebody
+raised : (c : After-add_notices) → c.raise_passes-passes.result ≡ passes_at (state_of c.args.self.now) c.args.t c.args.n
+    (counting (c.self.inside.accepted + 1) (table_state c.shed_telling-released.new.self))
+raised c =
+    let s' = counting (c.self.inside.accepted + 1) (table_state c.shed_telling-released.new.self) in
+    let s = state_of c.args.self.now in
+    c.raise_passes-passes.ensures ∙ (λ i. raise_passes s' c.args.n (c.held_by-held.ensures i) (c.mode_at.ensures i))
+    ∙ read_passes s' c.args.n (lives s c.args.t) (s.held c.args.t.slot c.args.n) (s'.held c.args.t.slot c.args.n)
+
 pub returns-clause-completes : goal.returns-clause-completes
 returns-clause-completes c =
     let told = c.shed_telling-released.new.notices.items in
@@ -86,10 +96,11 @@ returns-clause-completes c =
     (c.add_notices.ensures ∙ (λ i. with_notices (c.as_slice.ensures.value i) (c.add_escalation.ensures i))
     ∙ ap (λ (v : ManagerView). with_notices told
     (record v.counters {
+      passed = rises v.counters.passed (one_if c.raise_passes-passes.result);
       escalations = rises v.counters.escalations 1;
       released_children = rises v.counters.released_children
           c.shed_telling-released.result.0;
     })) c.self.view_is
     ∙ sym (escalation_counted (state_of c.args.self.now) (state_of
     (record { table = c.shed_telling-released.new.self; accepted = c.self.inside.accepted + 1; counters = c.add_notices.new.self })) c.args.t c.args.n
-    did told c.args.self.now.counters))
+    did told c.raise_passes-passes.result c.args.self.now.counters (raised c)))

@@ -1,4 +1,6 @@
-use Rattle.std.specs.Prelude.{◌+◌, Err, Result}
+use Rattle.std.specs.Prelude.{◌+◌, Err, Result, not}
+use Rattle.gl_modes.specs.Modes.{same_mode}
+use Rattle.gl_modes.specs.declared.mode.Mode.TheVariants.{NL}
 use Rattle.std.proofs.Common.{ap, refl, rules, subst, sym, ◌≡◌, ◌∙◌}
 use Rattle.gl_modes.proofs.Words.{no}
 use Rattle.gl_modes.specs.declared.mode.Mode.{Mode}
@@ -7,12 +9,14 @@ use Rattle.gl_model.specs.Calls.{try_tests}
 use Rattle.gl_table.specs.Table.{state_of as table_state}
 use Rattle.gl_steps.specs.declared.command.Answer.TheVariants as answer
 use Rattle.gl_steps.specs.declared.command.Command.TheVariants as command
-use Rattle.gl_catalog.specs.Counters.{one_if, rises}
-use Rattle.gl_model.specs.State.{counting}
+use Rattle.gl_catalog.specs.Counters.{holds_already, one_if, passes_at, raise_passes, rises}
+use Rattle.gl_catalog.proofs.Passing.{granted_held, read_converts, read_passes}
+use Rattle.gl_model.specs.State.{State, counting, lives}
 use Rattle.gl_catalog.specs.Manager.{IsLawfulManager, ManagerView, state_of}
 use Rattle.gl_catalog.specs.Replies.{CallSteps, took}
 use Rattle.gl_catalog.proofs.Managed.{managed_err_or_memory, managed_ok, managed_worn, never_true}
 use Rattle.gl_catalog.proofs.Completed.{completed, try_counted}
+use Rattle.gl_catalog.proofs.manager.Manager.try_lock.Goals.{After-add_grant}
 use Rattle.gl_catalog.proofs.manager.Manager.try_lock.Goals as goal
 
 pub returns-in_err-check_count-clause-step : goal.returns-in_err-check_count-clause-step
@@ -40,6 +44,25 @@ returns-clause-step c =
     c.in_ok-mode.mode c.try_lock.new.self c.in_ok-check_count.ensures c.in_ok-mode.ensures.refuses refl
     (ap answer.Granted c.in_ok-mode.ensures.mode, refl, ap (counting c.self.inside.accepted) c.in_ok-mode.ensures.state)
 
+-- whether the node was held before
+converts : (c : After-add_grant) → c.ne.result ≡ holds_already (state_of c.args.self.now) c.args.t c.args.n
+converts c =
+    let is : c.ne.result ≡ not (same_mode c.held_by-held.result NL) = search rules in
+    is ∙ ap (λ m. not (same_mode m NL)) c.held_by-held.ensures
+    ∙ read_converts (lives (state_of c.args.self.now) c.args.t) ((state_of c.args.self.now).held c.args.t.slot c.args.n)
+
+-- and whether the try passed somebody
+passed : (c : After-add_grant) → c.raise_passes-passes.result ≡ passes_at (state_of c.args.self.now) c.args.t c.args.n
+    (counting (c.self.inside.accepted + 1) (table_state c.try_lock.new.self))
+passed c =
+    let s' = counting (c.self.inside.accepted + 1) (table_state c.try_lock.new.self) in
+    let s = state_of c.args.self.now in
+    let now : c.in_ok-mode.mode ≡ s'.held c.args.t.slot c.args.n =
+    c.in_ok-mode.ensures.mode ∙ sym (ap (λ (x : State). x.held c.args.t.slot c.args.n) c.in_ok-mode.ensures.state
+    ∙ granted_held (table_state c.self.inside.table) c.args.t c.args.n c.args.mode) in
+    c.raise_passes-passes.ensures ∙ (λ i. raise_passes s' c.args.n (c.held_by-held.ensures i) (now i))
+    ∙ read_passes s' c.args.n (lives s c.args.t) (s.held c.args.t.slot c.args.n) (s'.held c.args.t.slot c.args.n)
+
 pub returns-clause-completes : goal.returns-clause-completes
 returns-clause-completes c =
     completed c.args.self.now (record { table = c.try_lock.new.self; accepted = c.self.inside.accepted + 1; counters = c.add_grant.new.self })
@@ -50,8 +73,9 @@ returns-clause-completes c =
     (c.add_grant.ensures ∙ ap (λ (v : ManagerView). record v.counters {
       granted = rises v.counters.granted 1;
       conversions = rises v.counters.conversions
-          (one_if c.holds_already-converts.result);
+          (one_if c.ne.result);
+      passed = rises v.counters.passed (one_if c.raise_passes-passes.result);
     }) c.self.view_is
     ∙ sym (try_counted (state_of c.args.self.now) (state_of
     (record { table = c.try_lock.new.self; accepted = c.self.inside.accepted + 1; counters = c.add_grant.new.self })) c.args.t c.args.n
-    c.in_ok-mode.mode c.args.mode c.holds_already-converts.result c.args.self.now.counters c.holds_already-converts.ensures))
+    c.in_ok-mode.mode c.args.mode c.ne.result c.raise_passes-passes.result c.args.self.now.counters (converts c) (passed c)))
