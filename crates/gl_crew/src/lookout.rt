@@ -12,7 +12,7 @@ ghost use Rattle.gl_waits.specs.Waits.{IsLowestYoungest, IsOnCycle, IsOnNoCycle}
 use gl_catalog::{Answer, Command};
 use gl_shared::{Naming, Session, Share, Shared, Watcher};
 use gl_table::TxnId;
-use gl_waits::{Board, Slot, Slots, suspects, youngest_of};
+use gl_waits::{Board, Slot, suspects, youngest};
 use std::sync::Wait;
 use std::sync::atomic::{AtomicBool, Ordering};
 use std::thread::yield_now;
@@ -67,8 +67,7 @@ fn youngest_suspect(board: &Board) -> Option<TxnId>
     ensures some { IfSome result (λ txn. IsLowestYoungest (IsOnCycle (board_edge board.now)) (age_in board.now) txn.slot) }
     ensures age { IfSome result (λ txn. txn.age ≡ age_in board.now txn.slot) }
 {
-    let suspects = Slots::from_bits(suspects(board));
-    let at = youngest_of(&board.ages, suspects)?;
+    let at = youngest(board, suspects(board))?;
     Some(TxnId {
         slot: at as Slot,
         age: board.ages[at],

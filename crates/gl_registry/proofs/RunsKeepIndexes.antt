@@ -93,6 +93,7 @@ accepted_keeps s law (command.Move t n ps) a told s' stays free acc =
     let m = move_moves s law t n ps free in
     subst (KeepsAll s.graph) (sym (ap (λ z. z.graph) acc.2)) (moves_keeps s law t.slot n m.0 _ _ m.1)
 accepted_keeps s law command.Begin a told s' stays free acc = same_keeps s.graph s'.graph (ap (λ z. z.graph) acc.4)
+accepted_keeps s law (command.BeginAgain since) a told s' stays free acc = same_keeps s.graph s'.graph (ap (λ z. z.graph) acc.4)
 accepted_keeps s law (command.Lock t n m) a told s' stays free acc =
     same_keeps s.graph s'.graph (split (enters_at s t.slot n m) (λ e. ap (λ z. z.graph) (acc.0.at_once e))
     (λ e. wait_graph s s' law t.slot n (wanted s t.slot n m) (acc.0.waits e)))

@@ -261,6 +261,7 @@ module _ (v : RegistryView) (law : IsLawful (state_of v.manager)) where
       subst (SameRecords has s.graph) (sym (ap (λ (z : State). z.graph) acc.2))
       (moved_same has s.graph n m.0 _ _ m.1.there m.1.key plain (m.1.alike.rec ∙ plain) m.1.graph)
   accepted_same command.Begin a told s' off free acc = same_graph has s.graph s'.graph (ap (λ (z : State). z.graph) acc.4)
+  accepted_same (command.BeginAgain since) a told s' off free acc = same_graph has s.graph s'.graph (ap (λ (z : State). z.graph) acc.4)
   accepted_same (command.Lock t n m) a told s' off free acc =
       same_graph has s.graph s'.graph (split (enters_at s t.slot n m) (λ e. ap (λ (z : State). z.graph) (acc.0.at_once e))
       (λ e. wait_graph s s' law t.slot n (wanted s t.slot n m) (acc.0.waits e)))

@@ -41,7 +41,7 @@ use Rattle.gl_steps.specs.Tests.{may_want_memory, refusal_of, worn}
 idle_done : (c : Victims) (k : ℕ) (s s' : State) (t : ℕ) → is_wait (status_of s t) ≡ false → SettledWithin c k s t s' → s' ≡ s
 idle_done c zero s s' t idle h = h.1
 idle_done c (suc k) s s' t idle h =
-    let chosen = candidate-on_cycle c (waits_for s) t h.0 h.1.is_member in
+    let chosen = candidate-on_cycle c (waits_for s) t h.0 h.1.is_member.is_member in
     let on : IsOnCycleOf (waits_for s) h.0 t = record { there = chosen.back; back = chosen.there } in
     absurd (true≢false (sym (cycle_waits s h.0 t on) ∙ idle))
 

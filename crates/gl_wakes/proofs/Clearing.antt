@@ -20,6 +20,7 @@ emptied_query (command.Delete t r) boxes asks = refl
 emptied_query (command.Rekey t r i key) boxes asks = refl
 emptied_query (command.Move t n ps) boxes asks = refl
 emptied_query command.Begin boxes asks = refl
+emptied_query (command.BeginAgain since) boxes asks = refl
 emptied_query (command.Try t n m) boxes asks = refl
 emptied_query (command.Unlock t n) boxes asks = refl
 emptied_query (command.Escalate t n) boxes asks = refl

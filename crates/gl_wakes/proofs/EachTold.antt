@@ -23,6 +23,7 @@ module _ (Holds : Told → Type 0) (s : State) (none : Holds []) (all : (now : S
   accepted (command.Rekey t r i key) a list s' acc = subst Holds (sym acc.1) (all s')
   accepted (command.Move t n ps) a list s' acc = subst Holds (sym acc.1) (all s')
   accepted command.Begin a list s' acc = subst Holds (sym acc.3) none
+  accepted (command.BeginAgain since) a list s' acc = subst Holds (sym acc.3) none
   accepted (command.Lock t n m) a list s' acc = subst Holds (sym acc.2) (but t.slot s')
   accepted (command.Try t n m) a list s' acc = subst Holds (sym acc.1) none
   accepted (command.Unlock t n) a list s' acc = subst Holds (sym acc.1) (all s')

@@ -36,6 +36,7 @@ names_its_slot (command.Inner ps) t h = h
 names_its_slot (command.File ps) t h = h
 names_its_slot (command.Index ps f bs) t h = h
 names_its_slot command.Begin t h = h
+names_its_slot (command.BeginAgain since) t h = h
 names_its_slot (command.Lock u n m) t h = h
 names_its_slot (command.Try u n m) t h = h
 names_its_slot (command.Unlock u n) t h = h
