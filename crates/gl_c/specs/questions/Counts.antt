@@ -23,6 +23,7 @@ counts_of accepted c = record {
   released_children = c.released_children;
   most_waiting = c.most_waiting;
   longest_queue = c.longest_queue;
+  passed = c.passed;
 }
 
 -- a call that asks for the counts: nothing changes

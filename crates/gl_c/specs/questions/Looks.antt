@@ -16,7 +16,7 @@ use Rattle.gl_model.specs.declared.answers.Detect.TheVariants.{AtBlock, ByWatche
 use Rattle.gl_waits.specs.declared.victims.Victims.{Victims}
 use Rattle.gl_waits.specs.declared.victims.Victims.TheVariants.{Youngest, Fewest}
 use Rattle.gl_model.specs.Calls.{held_children, group_tests}
-use Rattle.gl_table.specs.Table.{living_in, rows_of}
+use Rattle.gl_table.specs.Table.{ahead_in, living_in, rows_of}
 use Rattle.gl_model.specs.State.{lives, members, status_of}
 use Rattle.gl_steps.specs.declared.command.Answer.TheVariants as answer
 use Rattle.gl_catalog.specs.Manager.{ManagerView, state_of}
@@ -98,6 +98,10 @@ looked m query.MostNodes = count_reply (state_of m).graph.most
 looked m query.MostBounds = count_reply (state_of m).graph.most_bounds
 looked m (query.Living slot) = lived (living_in (state_of m) slot)
 looked m (query.Doing t) = doing (if lives (state_of m) t then status_of (state_of m) t.slot else None)
+looked m (query.Ahead t) =
+    if lives (state_of m) t
+    then counted (refused_reply no.NotWaiting) (ahead_in (state_of m) t.slot (status_of (state_of m) t.slot))
+    else refused_reply no.NoSuchTxn
 looked m (query.LockCount t) = counted (refused_reply no.NoSuchTxn) (if lives (state_of m) t then Some (length (rows_of m.table t.slot)) else None)
 looked m (query.LockAt t place) =
     row_reply (if lives (state_of m) t then wait_of (status_of (state_of m) t.slot) else None)

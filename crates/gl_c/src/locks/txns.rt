@@ -24,6 +24,14 @@ pub extern "C" fn bs_call_begin(manager: &mut Handle) -> Reply
     manager.ask(Command::Begin)
 }
 
+/// A new transaction for work that wants to be done since an earlier begin.
+#[unsafe(no_mangle)]
+pub extern "C" fn bs_call_begin_again(manager: &mut Handle, since: u64) -> Reply
+    ensures { Asks (guarded_in manager.old) (command.BeginAgain since) result (guarded_in manager.new) }
+{
+    manager.ask(Command::BeginAgain { since })
+}
+
 /// Asks for a lock, and waits where it cannot be granted at once.
 #[unsafe(no_mangle)]
 pub extern "C" fn bs_call_lock(

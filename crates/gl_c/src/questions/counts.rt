@@ -23,6 +23,7 @@ pub struct Counts {
     pub released_children: u64,
     pub most_waiting: u64,
     pub longest_queue: u64,
+    pub passed: u64,
 }
 
 impl Counts {
@@ -42,6 +43,7 @@ impl Counts {
             released_children: counters.released_children,
             most_waiting: counters.most_waiting,
             longest_queue: counters.longest_queue,
+            passed: counters.passed,
         }
     }
 }

@@ -71,6 +71,14 @@ pub extern "C" fn bs_call_doing(manager: &mut Handle, txn: Txn) -> Reply
     manager.look(Query::Doing { txn: txn.id() })
 }
 
+/// How many stand ahead of a transaction in the queue of the node that it waits for.
+#[unsafe(no_mangle)]
+pub extern "C" fn bs_call_ahead(manager: &mut Handle, txn: Txn) -> Reply
+    ensures { Looks (guarded_in manager.old) (query.Ahead (txn_id txn)) result (guarded_in manager.new) }
+{
+    manager.look(Query::Ahead { txn: txn.id() })
+}
+
 /// How many nodes a transaction holds or waits for.
 #[unsafe(no_mangle)]
 pub extern "C" fn bs_call_lock_count(manager: &mut Handle, txn: Txn) -> Reply

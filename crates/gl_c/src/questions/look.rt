@@ -4,6 +4,7 @@ ghost use Rattle.std.specs.Prelude.{◌≡◌};
 ghost use Rattle.std.specs.Option.{option_map};
 ghost use Rattle.gl_modes.specs.declared.refusal.Refusal.TheVariants as no;
 ghost use Rattle.gl_graph.specs.View.{graph_of};
+ghost use Rattle.gl_c.specs.declared.questions.look.Query.TheVariants as query;
 ghost use Rattle.gl_c.specs.questions.Looks.{counted, detect_number, found, index_at, interval_with, kind_number, looked, records_of, victims_number, waited};
 ghost use Rattle.gl_c.specs.Numbers.{no_place};
 ghost use Rattle.gl_c.specs.answers.Replies.{refused_reply, status_reply};
@@ -62,6 +63,8 @@ pub(crate) enum Query {
     Living { slot: Slot },
     /// What a transaction is doing.
     Doing { txn: TxnId },
+    /// How many stand ahead of a transaction in the queue of the node that it waits for.
+    Ahead { txn: TxnId },
     /// How many nodes a transaction holds or waits for.
     LockCount { txn: TxnId },
     /// A node that a transaction holds or waits for.
@@ -99,6 +102,7 @@ pub(crate) fn look(manager: &Manager, query: Query) -> Reply
         Query::MostBounds => Reply::with_count(u64::from(graph.most_bounds())),
         Query::Living { slot } => living_reply(manager.living(slot)),
         Query::Doing { txn } => doing_reply(manager.status(txn)),
+        Query::Ahead { txn } => ahead_reply(manager, txn),
         Query::LockCount { txn } => lock_count_reply(manager.lock_count(txn)),
         Query::LockAt { txn, place } => {
             row_reply(manager.waiting(txn), manager.lock_at(txn, place))
@@ -118,6 +122,18 @@ fn waiting_reply(wait: Option<(NodeId, Mode)>) -> Reply
             node: Node::of(node),
             ..Reply::with_status(WAITING)
         },
+        None => Reply::refused(Refusal::NotWaiting),
+    }
+}
+
+fn ahead_reply(manager: &Manager, txn: TxnId) -> Reply
+    ensures { result ≡ looked manager.now (query.Ahead txn) }
+{
+    if manager.status(txn).is_none() {
+        return Reply::refused(Refusal::NoSuchTxn);
+    }
+    match manager.ahead(txn) {
+        Some(count) => Reply::with_count(count as u64),
         None => Reply::refused(Refusal::NotWaiting),
     }
 }
