@@ -3,7 +3,7 @@
 
 use crate::story::{A, Ask, B, C, N1, N2, N3, N4, N5, N6, NOTHING, Step, Story, play_all};
 use gl_catalog::{Answer, Counters, Escalated};
-use gl_modes::Mode::{IS, IX, S, X};
+use gl_modes::Mode::{IS, IX, S, SIX, X};
 use gl_modes::{NodeId, Refusal};
 use gl_table::TxnId;
 
@@ -31,6 +31,26 @@ const HELD_FILE: &[Step] = &[
     Step::Ask(Ask::Lock(A, X, FILE), Answer::Granted(X)),
     Step::Ask(Ask::Lock(B, IS, DB), Answer::Granted(IS)),
     Step::Ask(Ask::Try(C, IS, DB), Answer::Granted(IS)),
+];
+
+const TWO_PASSED: Counters = Counters {
+    granted: 4,
+    waited: 1,
+    conversions: 3,
+    most_waiting: 1,
+    longest_queue: 1,
+    passed: 2,
+    ..NOTHING
+};
+
+/// One raises its mode while another waits; to ask for what is held raises none.
+const PASSES: &[Step] = &[
+    Step::Ask(Ask::Lock(A, S, DB), Answer::Granted(S)),
+    Step::Ask(Ask::Lock(B, X, DB), Answer::Waiting),
+    Step::Ask(Ask::Lock(A, IS, DB), Answer::Granted(S)),
+    Step::Ask(Ask::Try(A, IX, DB), Answer::Granted(SIX)),
+    Step::Ask(Ask::Lock(A, X, DB), Answer::Granted(X)),
+    Step::Counted(TWO_PASSED),
 ];
 
 /// Two have waited for the file at once.
@@ -262,6 +282,7 @@ fn all_is_counted(rt: HostRuntime) {
             "refusals and queries are not counted",
             &[ROOT, FILED, PAIR, HELD_FILE, REFUSED],
         ),
+        ("raises past a wait are counted", &[ROOT, PAIR, PASSES]),
         ("victims are counted", &[ROOT, PAIR, READERS, ASKER_FALLS]),
         (
             "a victim that is told is counted",

@@ -6,6 +6,8 @@
 #[cfg(test)]
 mod act;
 #[cfg(test)]
+mod again;
+#[cfg(test)]
 mod answering;
 #[cfg(test)]
 mod calls;

@@ -44,6 +44,7 @@ pub enum Ask {
     File(&'static [NodeId]),
     Index(&'static [NodeId], NodeId, &'static [u64]),
     Begin,
+    BeginAgain(u64),
     Lock(TxnId, Mode, NodeId),
     Try(TxnId, Mode, NodeId),
     Commit(TxnId),
@@ -99,6 +100,7 @@ pub const NOTHING: Counters = Counters {
     released_children: 0,
     most_waiting: 0,
     longest_queue: 0,
+    passed: 0,
 };
 
 /// The command that is asked.
@@ -112,6 +114,7 @@ pub fn command_of(ask: Ask) -> Command<'static> {
             bounds,
         },
         Ask::Begin => Command::Begin,
+        Ask::BeginAgain(since) => Command::BeginAgain { since },
         Ask::Lock(txn, mode, node) => Command::Lock { txn, node, mode },
         Ask::Try(txn, mode, node) => Command::Try { txn, node, mode },
         Ask::Commit(txn) => Command::Commit { txn },

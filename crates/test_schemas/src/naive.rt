@@ -19,9 +19,11 @@ pub struct Claim {
     pub mode: Mode,
 }
 
+/// Since which number of begins its work wants to be done tells, with its age, who falls.
 #[derive(Clone, Copy)]
 struct Living {
     id: TxnId,
+    since: u64,
     condemned: bool,
 }
 
@@ -198,18 +200,29 @@ impl Naive {
         self.waits_for(t, u) || self.waits_by_one(t, u) || self.waits_by_two(t, u)
     }
 
-    /// The youngest of those on a cycle of waits with a transaction.
+    /// Since which number of begins the work of a transaction wants to be done.
+    fn since(&self, t: TxnId) -> u64 {
+        match self.find(t) {
+            Some(living) => living.since,
+            None => 0,
+        }
+    }
+
+    /// Of those on a cycle of waits with a transaction the one whose work wants to be done since the latest
+    /// begin, of such the youngest.
     fn victim(&self, t: TxnId) -> Option<TxnId> {
-        let mut youngest = None;
-        let mut age = 0;
+        let mut latest = None;
+        let mut least = (0, 0);
         for wait in self.waits.iter() {
             let u = wait.txn;
-            if age < u.age && self.reaches(t, u) && self.reaches(u, t) {
-                youngest = Some(u);
-                age = u.age;
+            let (since, age) = (self.since(u), u.age);
+            let is_later = least.0 < since || (least.0 == since && least.1 < age);
+            if is_later && self.reaches(t, u) && self.reaches(u, t) {
+                latest = Some(u);
+                least = (since, age);
             }
         }
-        youngest
+        latest
     }
 }
 
@@ -431,6 +444,7 @@ impl Naive {
             if is_of(self.living[slot], t) {
                 self.living[slot] = Some(Living {
                     id: t,
+                    since: self.since(t),
                     condemned: true,
                 });
             }
@@ -449,16 +463,25 @@ impl Naive {
         Ok(())
     }
 
-    fn begin(&mut self) -> Result<Answer, Refusal> {
+    fn begin(&mut self, since: Option<u64>) -> Result<Answer, Refusal> {
         for slot in 0..TXNS {
             if self.living[slot].is_none() {
                 self.begins = self.begins.saturating_add(1);
+                let age = self.begins;
                 let id = TxnId {
                     slot: slot as Slot,
-                    age: self.begins,
+                    age,
+                };
+                let since = match since {
+                    Some(since) if since < age => since,
+                    _ => age,
                 };
                 let condemned = false;
-                self.living[slot] = Some(Living { id, condemned });
+                self.living[slot] = Some(Living {
+                    id,
+                    since,
+                    condemned,
+                });
                 return Ok(Answer::Begun(id));
             }
         }
@@ -662,7 +685,8 @@ impl Naive {
     /// The same of a command that changes no node.
     fn carry_out_of_locks(&mut self, command: &Command<'_>) -> Result<Answer, Refusal> {
         match *command {
-            Command::Begin => self.begin(),
+            Command::Begin => self.begin(None),
+            Command::BeginAgain { since } => self.begin(Some(since)),
             Command::Commit { txn } => {
                 self.check_active(txn)?;
                 self.end(txn)

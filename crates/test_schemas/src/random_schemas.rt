@@ -299,8 +299,15 @@ impl Work {
 
 /// Work of one transaction.
 impl Work {
+    /// Begins, for work that is new or for that of who ended last.
     fn begins(&mut self, rt: &impl Abort) -> TxnId {
-        match self.asks(rt, Command::Begin) {
+        let command = if self.seldom(2) {
+            let since = self.ended.age;
+            Command::BeginAgain { since }
+        } else {
+            Command::Begin
+        };
+        match self.asks(rt, command) {
             Answer::Begun(txn) => txn,
             _ => TxnId::NONE,
         }
