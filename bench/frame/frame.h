@@ -9,7 +9,7 @@
 #include <stdint.h>
 
 /* How many threads can be together. */
-enum { MOST_TOGETHER = 16 };
+enum { MOST_TOGETHER = 64 };
 
 /* How many turns are timed, and which of them counts, from the shortest on. What else the machine does only adds to
  * the time of one thread, so that its best turn counts; several have lucky turns, in which they come one after the

@@ -9,10 +9,10 @@
 #include <stdbool.h>
 
 enum {
-  INNER_NODES = 3,          /* a data base, an area, a file: the path to the records */
-  MOST_RECORDS = 1000,      /* how many records a play can have */
-  CREW = 4,                 /* how many threads the crew has, where nothing else is said */
-  MOST_CREW = MOST_TOGETHER /* and how many a crew can have */
+  INNER_NODES = 3,     /* a data base, an area, a file: the path to the records */
+  MOST_RECORDS = 1000, /* how many records a play can have */
+  CREW = 4,            /* how many threads the crew has, where nothing else is said */
+  MOST_CREW = 16       /* and how many a crew can have */
 };
 
 /* How Berkeley DB is used. Where a line has several ways, its fastest is taken. */
