@@ -4,10 +4,11 @@
 #     bench/victims.sh [STEPS]
 #
 # First a mix: lockers ask for one of 48 nodes, in a mode, both at random, three times of four, and else
-# commit; who falls aborts and begins again. STEPS such calls are played (12000 where none is given), once by
-# each choice with the same numbers at random. A line says how many lockers there are, which choice it is,
-# how many blocks closed a cycle, how many fell for them, how many at most for one, how many aborts there
-# were for a commit, and how many commits.
+# commit; who falls aborts and begins again, as new work or with the number of its first begin, so that it keeps
+# its turn. STEPS such calls are played (12000 where none is given), once by each choice and way to begin again
+# with the same numbers at random. A line says how many lockers there are, which choice it is, whether turns are
+# kept, how many blocks closed a cycle, how many fell for them, how many at most for one, how many aborts there
+# were for a commit, how many commits, and how often one work fell at most before it was committed.
 #
 # Then the cost of the block that closes a cycle when 127 wait, in nanoseconds, the best of nine turns, and
 # where valgrind's callgrind is at hand in instructions: of a ring, where each waits for the next; and of a

@@ -140,6 +140,7 @@ static void dump_put_counters(const dump_copy *copy, FILE *out) {
   dump_put_count(counts->released_children, "locks were released by them", out);
   dump_put_count(counts->most_waiting, "transactions waited at once, at most", out);
   dump_put_count(counts->longest_queue, "waited for one node at once, at most", out);
+  dump_put_count(counts->passed, "locks were raised while somebody waited for their node", out);
   dump_put_count(copy->nodes, "nodes live", out);
   dump_put_count(copy->most, "transactions may live at once", out);
 }

@@ -5,11 +5,11 @@
  * WHAT IS PROVED, AND WHAT IS NOT. The library is proved: what each command does and whom it tells, what became of
  * a wait (bs_verdict), whose sleepers are to be woken (bs_ended), that a look gives a whole board and never an older
  * one. Written in C here, and tested: the mutex and the conditions, and the line of those who sleep for a slot. They
- * are in table_enter, round each call; table_wake, behind each command; table_hand_on, behind what may have ended a
- * transaction; table_sleep, where a lock waits; table_sleep_in_line, where a begin does; bs_table_end; and
- * table_watch_over, the thread that watches. So is what several calls with the manager come to together, of which each
- * is proved: table_try_up and table_give_back, of a path that is tried, and table_row_tried, of a row. And so are asks,
- * whose end comes by a call of the engine's: table_go_on, at the end of each hold that may have ended one, and
+ * are in table_enter and table_release, round each call; table_wake, behind each command; table_hand_on, behind what
+ * may have ended a transaction; table_sleep, where a lock waits; table_sleep_in_line, where a begin does; bs_table_end;
+ * and table_watch_over, the thread that watches. So is what several calls with the manager come to together, of which
+ * each is proved: table_try_up and table_give_back, of a path that is tried, and table_row_tried, of a row. And so are
+ * asks, whose end comes by a call of the engine's: table_go_on, at the end of each hold that may have ended one, and
  * table_tell, behind it. All else here makes calls of burlapslate.h between these.
  */
 #include "burlapslate_shared.h"
@@ -18,10 +18,12 @@
 #include <pthread.h>
 #include <signal.h>
 #include <stdlib.h>
+#include <unistd.h>
 
 /* One who sleeps for a slot, in the frame of its own call: its place in the line, and what its begin was answered. */
 typedef struct table_turn {
   struct table_turn *ahead, *behind;
+  uint64_t since;      /* when its work began, or TABLE_NEW_WORK */
   bs_reply begun;      /* BS_WAITING: its turn has not come */
   pthread_cond_t came;
 } table_turn;
@@ -92,21 +94,25 @@ typedef struct table_asks {
 /* A table is ending as soon as it is to wake all who sleep, and ended when its manager is gone. */
 typedef enum table_stage { TABLE_OPEN = 0, TABLE_ENDING, TABLE_ENDED } table_stage;
 
-/* All but the latch is read and written with it held. */
+/* All but the latch, and `looks`, is read and written with it held. What each call reads and writes comes first, up to
+ * the count of `told`: 80 bytes, which lie in two lines of the cache wherever malloc puts a table. */
 struct bs_table {
   pthread_mutex_t latch;
-  bs_table *held_before;          /* of one that is held by bs_table_hold: what its holder held before */
-  table_stage stage;
   bs_manager manager;
+  table_stage stage;
+  bool is_due;                    /* this hold may have ended waits: who waited is woken or told as it ends */
+  table_turn *first;              /* the line of those who sleep for a slot, by their arrival, up to `last` */
   bs_notices told;                /* by the last command whose caller wanted no list */
+  table_turn *last;
+  table_asks *asks;               /* null, where nobody can ask without a sleep */
+  size_t sleepers;                /* how many threads sleep, for a lock or for a slot */
+  uint64_t waited;                /* how many commands had been accepted when the last lock was left waiting */
+  bs_slots to_wake;               /* the slots whose sleepers are to be woken behind this hold */
+  bs_table *held_before;          /* of one that is held by bs_table_hold: what its holder held before */
+  uint32_t looks;                 /* how often one who finds the latch held looks again before it sleeps */
   pthread_cond_t ended[BS_SLOTS]; /* by slot: a wait may be over */
   table_way *ways[BS_SLOTS];      /* by slot: who sleeps on a path */
   table_deadline deadlines[BS_SLOTS]; /* by slot: of the transaction of this age, and of no later one */
-  table_turn *first, *last;       /* the line of those who sleep for a slot, by their arrival */
-  size_t sleepers;                /* how many threads sleep, for a lock or for a slot */
-  uint64_t waited;                /* how many commands had been accepted when the last lock was left waiting */
-  bool is_due;                    /* this hold may have ended waits of asks: that is looked at before it ends */
-  table_asks *asks;               /* null, where nobody can ask without a sleep */
   size_t to_tell;                 /* how many ends of asks are to be told, and asks that tell others' before they end */
   pthread_cond_t left;            /* the last who slept has left an ending table, or the last end was told */
   bool is_watched;                /* there is a thread that watches, and it looks by `eye` */
@@ -123,6 +129,32 @@ struct bs_table {
 /* ------------------------------------------------------------------------------------------------
  * The latch and the wake-ups.
  */
+
+/* Who finds the latch held looks again so often before it sleeps, and pauses so many times ahead of each look. A hold
+ * is mostly over by the first look, and to sleep and be woken takes longer than all of them. Who looked more often
+ * would get the latch sooner, but all together would do less: between two looks a thread makes several calls, and what
+ * they write stays in its own cache. With one processor nobody gives the latch back meanwhile, and nobody looks. */
+enum { TABLE_LOOKS = 10, TABLE_PAUSES = 200 };
+
+static inline void table_pause(void) {
+#if defined(__x86_64__)
+  __builtin_ia32_pause();
+#endif
+}
+
+static TABLE_APART void table_take_held(bs_table *table) {
+  uint32_t look, pause;
+  for (look = 0; look < table->looks; look++) {
+    for (pause = 0; pause < TABLE_PAUSES; pause++) table_pause();
+    if (pthread_mutex_trylock(&table->latch) == 0) return;
+  }
+  pthread_mutex_lock(&table->latch);
+}
+
+/* Takes the latch. */
+static inline void table_take(bs_table *table) {
+  if (pthread_mutex_trylock(&table->latch) != 0) table_take_held(table);
+}
 
 /* What this thread holds by bs_table_hold, the last table first. */
 static __thread __attribute__((tls_model("initial-exec"))) bs_table *table_held;
@@ -143,7 +175,7 @@ static __thread __attribute__((tls_model("initial-exec"))) table_asked_list *tab
 
 static TABLE_APART void table_release_and_tell(bs_table *table);
 
-/* Gives the latch back, behind all that its hold has brought about. */
+/* Gives the latch back, with all that its hold has brought about. */
 static inline void table_release(bs_table *table) {
   if (table->is_due) table_release_and_tell(table);
   else pthread_mutex_unlock(&table->latch);
@@ -157,7 +189,7 @@ static TABLE_APART bool table_turned_away(bs_table *table) {
 /* Takes the latch of a table, and answers whether the table is open; where it is not, the latch is not held. */
 static inline bool table_enter(bs_table *table) {
   if (table == NULL || table_holds(table)) return false;
-  pthread_mutex_lock(&table->latch);
+  table_take(table);
   return table->stage == TABLE_OPEN || table_turned_away(table);
 }
 
@@ -182,23 +214,15 @@ bs_status bs_call_table_shut(bs_table *table) {
   return BS_DONE;
 }
 
-/* Wakes who sleeps for a slot of these, of which the first is `first`. */
-static inline void table_wake_word(bs_table *table, uint64_t word, size_t first) {
-  for (; word != 0; word &= word - 1) pthread_cond_broadcast(&table->ended[first + (size_t)__builtin_ctzll(word)]);
-}
-
 /* Notes that the waits of asks in these slots may be over. */
 static void table_note_due(bs_table *table, const bs_slots *ended) {
   table_asks *asks = table->asks;
   size_t i;
-  for (i = 0; i < BS_SLOTS / 64; i++) {
-    uint64_t due = ended->words[i] & asks->asked.words[i];
-    asks->due.words[i] |= due;
-    if (due != 0) table->is_due = true;
-  }
+  for (i = 0; i < BS_SLOTS / 64; i++) asks->due.words[i] |= ended->words[i] & asks->asked.words[i];
 }
 
-/* Wakes those whose wait the last command may have ended, which bs_ended says, where that was not refused. */
+/* Notes that those are to be woken whose wait the last command may have ended, which bs_ended says, where that was not
+ * refused. */
 static TABLE_APART void table_wake_ended(bs_table *table, bs_status status) {
   bs_slots ended;
   size_t i;
@@ -206,7 +230,8 @@ static TABLE_APART void table_wake_ended(bs_table *table, bs_status status) {
                      status == BS_OTHER_KEYS;
   if (!is_accepted) return;
   ended = bs_call_ended(&table->manager).slots;
-  for (i = 0; i < BS_SLOTS / 64; i++) table_wake_word(table, ended.words[i], i * 64);
+  for (i = 0; i < BS_SLOTS / 64; i++) table->to_wake.words[i] |= ended.words[i];
+  table->is_due = true;
   if (table->asks != NULL) table_note_due(table, &ended);
 }
 
@@ -216,15 +241,16 @@ static inline void table_wait_began(bs_table *table) {
   pthread_cond_signal(&table->began);
 }
 
-/* Behind a command that was answered so: wakes those whose wait it may have ended. It is not asked who that is where
- * there is nobody: where it told nobody, and ends no wait by name. A cancel and an abort end one by name. */
+/* Behind a command that was answered so: those are to be woken whose wait it may have ended. It is not asked who that
+ * is where there is nobody: where it told nobody, and ends no wait by name. A cancel and an abort end one by name. */
 static inline void table_wake(bs_table *table, bs_status status, const bs_notices *told, bool by_name) {
   if (by_name || told->count > 0) table_wake_ended(table, status);
   if (status == BS_WAITING) table_wait_began(table);
 }
 
 /* Sleeps on a condition, with the latch held before and behind it, to a time at most where that is not null: whether
- * that is over, by ETIMEDOUT. The thread's cancellation is held off: it would keep the latch. */
+ * that is over, by ETIMEDOUT. Nobody is to be woken or told any more by the one who sleeps. The thread's cancellation
+ * is held off: it would keep the latch. */
 static int table_doze(bs_table *table, pthread_cond_t *on, const struct timespec *until) {
   int state, late;
   pthread_setcancelstate(PTHREAD_CANCEL_DISABLE, &state);
@@ -255,12 +281,13 @@ static const struct timespec *table_earlier(const bs_table *table, bs_txn txn, c
   return own->time.tv_sec == until->tv_sec && own->time.tv_nsec < until->tv_nsec ? &own->time : until;
 }
 
-/* Within a call that goes on: tells what this hold has brought about, with the latch held before and behind it. Others
- * use the table meanwhile. */
-static TABLE_APART void table_tell_between(bs_table *table) {
-  if (!table->is_due) return;
-  table_release_and_tell(table);
-  pthread_mutex_lock(&table->latch);
+/* Within a call that goes on: wakes and tells whom this hold has brought something, with the latch held before and
+ * behind it; whether there was anybody. Others use the table meanwhile. */
+static TABLE_APART bool table_tell_between(bs_table *table) {
+  if (!table->is_due) return false;
+  table_release(table);
+  table_take(table);
+  return true;
 }
 
 /* What became of a lock that was left waiting. */
@@ -271,7 +298,8 @@ static bs_reply table_verdict(bs_table *table, bs_txn txn, bs_node node, bs_mode
 
 /* Of a lock that was answered BS_WAITING: sleeps, with the latch held before and behind it, until it has its verdict,
  * or the time is over, or the table ends. What became of the wait is asked before the clock. The time is copied: a
- * deadline that another thread sets meanwhile is of later waits. Whose ask it has ended is told before it sleeps. */
+ * deadline that another thread sets meanwhile is of later waits. Whose wait it has ended is woken or told before it
+ * sleeps. */
 static TABLE_APART bs_reply table_sleep(bs_table *table, bs_txn txn, bs_node node, bs_mode mode,
                                         const struct timespec *until) {
   struct timespec time;
@@ -283,10 +311,7 @@ static TABLE_APART bs_reply table_sleep(bs_table *table, bs_txn txn, bs_node nod
     until = &time;
   }
   table->sleepers++;
-  if (table->is_due) {
-    table_tell_between(table);
-    reply = table_verdict(table, txn, node, mode);
-  }
+  if (table_tell_between(table)) reply = table_verdict(table, txn, node, mode);
   while (reply.status == BS_WAITING && late != ETIMEDOUT) {
     late = table_doze(table, &table->ended[txn.slot], until);
     reply = table_verdict(table, txn, node, mode);
@@ -307,6 +332,14 @@ static void table_make_steady(pthread_cond_t *cond) {
   pthread_condattr_setclock(&steady, CLOCK_MONOTONIC);
   pthread_cond_init(cond, &steady);
   pthread_condattr_destroy(&steady);
+}
+
+/* Of a begin for new work, which wants to be done since no earlier begin. */
+#define TABLE_NEW_WORK UINT64_MAX
+
+/* Begins a transaction, whose work wants to be done since this number. */
+static inline bs_reply table_begin_since(bs_table *table, uint64_t since) {
+  return since == TABLE_NEW_WORK ? bs_begin(&table->manager) : bs_begin_again(&table->manager, since);
 }
 
 static void table_join_line(bs_table *table, table_turn *own) {
@@ -330,7 +363,7 @@ static void table_leave_line(bs_table *table, table_turn *own) {
 static TABLE_APART void table_serve_line(bs_table *table) {
   while (table->first != NULL) {
     table_turn *next = table->first;
-    bs_reply begun = bs_begin(&table->manager);
+    bs_reply begun = table_begin_since(table, next->since);
     if (begun.status == BS_TOO_MANY_TXNS) return;
     next->begun = begun;
     table_leave_line(table, next);
@@ -344,9 +377,10 @@ static inline void table_hand_on(bs_table *table) {
 
 /* Sleeps for a slot, with the latch held before and behind it, until somebody has begun for the one who sleeps, or the
  * time is over, or the table ends. Whether it has begun is asked before the clock. */
-static TABLE_APART bs_reply table_sleep_in_line(bs_table *table, const struct timespec *until) {
+static TABLE_APART bs_reply table_sleep_in_line(bs_table *table, uint64_t since, const struct timespec *until) {
   table_turn own;
   int late = 0;
+  own.since = since;
   own.begun = bs_call_only(BS_WAITING);
   table_make_steady(&own.came);
   table_join_line(table, &own);
@@ -448,6 +482,7 @@ static bs_table *table_new_table(void) {
   if (table == NULL) return NULL;
   memset(table, 0, sizeof *table);
   pthread_mutex_init(&table->latch, NULL);
+  table->looks = sysconf(_SC_NPROCESSORS_ONLN) > 1 ? TABLE_LOOKS : 0;
   for (slot = 0; slot < BS_SLOTS; slot++) table_make_steady(&table->ended[slot]);
   table_make_steady(&table->left);
   table_make_steady(&table->began);
@@ -531,7 +566,7 @@ bs_reply bs_table_end(bs_table *table) {
   if (table->asks != NULL) table_end_asks(table);
   table_release(table);
   if (table->is_watched) pthread_join(table->watch, NULL);
-  pthread_mutex_lock(&table->latch);
+  table_take(table);
   while (table->sleepers + table->to_tell > 0) table_doze(table, &table->left, NULL);
   reply = bs_end(&table->manager);
   table->stage = TABLE_ENDED;
@@ -544,7 +579,7 @@ bs_reply bs_table_free(bs_table **table) {
   bool is_ended;
   if (table == NULL || *table == NULL) return bs_call_null();
   if (table_holds(*table)) return bs_call_only(BS_IN_USE);
-  pthread_mutex_lock(&(*table)->latch);
+  table_take(*table);
   is_ended = (*table)->stage == TABLE_ENDED;
   pthread_mutex_unlock(&(*table)->latch);
   if (!is_ended) return bs_call_only(BS_IN_USE);
@@ -582,13 +617,21 @@ bs_reply bs_table_begin(bs_table *table) {
   TABLE_ASK(table, bs_begin(&table->manager));
 }
 
-bs_reply bs_table_begin_in_turn(bs_table *table, const struct timespec *until) {
+bs_reply bs_table_begin_again(bs_table *table, uint64_t since) {
+  TABLE_ASK(table, bs_begin_again(&table->manager, since));
+}
+
+bs_reply bs_table_begin_again_in_turn(bs_table *table, uint64_t since, const struct timespec *until) {
   bs_reply reply;
   if (!table_enter_to_sleep(table, until)) return table_no_sleep(table);
-  reply = bs_begin(&table->manager);
-  if (reply.status == BS_TOO_MANY_TXNS) reply = table_sleep_in_line(table, until);
+  reply = table_begin_since(table, since);
+  if (reply.status == BS_TOO_MANY_TXNS) reply = table_sleep_in_line(table, since, until);
   table_release(table);
   return reply;
+}
+
+bs_reply bs_table_begin_in_turn(bs_table *table, const struct timespec *until) {
+  return bs_table_begin_again_in_turn(table, TABLE_NEW_WORK, until);
 }
 
 bs_reply bs_table_deadline(bs_table *table, bs_txn txn, const struct timespec *until) {
@@ -992,7 +1035,6 @@ static void table_go_on(bs_table *table) {
     bs_reply end = ask == NULL ? bs_call_only(BS_WAITING) : table_ask_became(table, ask);
     if (end.status != BS_WAITING) table_end_ask(table, ask, end);
   }
-  table->is_due = asks->over.first != NULL;
 }
 
 static void table_spare(bs_table *table, table_asked *ask) {
@@ -1013,7 +1055,7 @@ static void table_tell_one(table_asked *ask) {
   bs_table *held = table_held;
   table->asks->on_end(table->asks->context, ask->txn, ask->end, ask->word);
   while (table_held != held && table_held != NULL) bs_table_let_go(table_held);
-  pthread_mutex_lock(&table->latch);
+  table_take(table);
   table_spare(table, ask);
   table_was_told(table);
   pthread_mutex_unlock(&table->latch);
@@ -1040,13 +1082,33 @@ static void table_tell(table_asked_list *over) {
   pthread_setcancelstate(state, &state);
 }
 
-static TABLE_APART void table_release_and_tell(bs_table *table) {
-  table_asked_list over;
+/* Takes the asks whose wait has ended, to tell their ends. */
+static table_asked_list table_take_over(bs_table *table) {
+  table_asked_list over = { NULL, NULL };
+  if (table->asks == NULL) return over;
   table_go_on(table);
   over = table->asks->over;
   table->asks->over.first = NULL;
+  return over;
+}
+
+/* Who sleeps is woken behind the hold, since who wakes takes the latch: a table's memory is there as long as anybody is
+ * in a call with it. */
+static void table_wake_sleepers(bs_table *table, const bs_slots *slots) {
+  size_t i;
+  for (i = 0; i < BS_SLOTS / 64; i++) {
+    uint64_t word = slots->words[i];
+    for (; word != 0; word &= word - 1) pthread_cond_broadcast(&table->ended[i * 64 + (size_t)__builtin_ctzll(word)]);
+  }
+}
+
+static TABLE_APART void table_release_and_tell(bs_table *table) {
+  table_asked_list over = table_take_over(table);
+  bs_slots to_wake = table->to_wake;
+  memset(&table->to_wake, 0, sizeof table->to_wake);
   table->is_due = false;
   pthread_mutex_unlock(&table->latch);
+  table_wake_sleepers(table, &to_wake);
   if (over.first != NULL) table_tell(&over);
 }
 
@@ -1099,7 +1161,7 @@ static TABLE_APART bs_reply table_ask_and_tell(bs_table *table, table_asked *own
   own->is_inside = true;
   table->to_tell++;
   table_release_and_tell(table);
-  pthread_mutex_lock(&table->latch);
+  table_take(table);
   own->is_inside = false;
   if (own->has_ended) {
     reply = own->end;
@@ -1263,7 +1325,11 @@ static bs_reply table_row_made(bs_table *table, const bs_command *c, bs_txn txn)
   return table_row_tried(table, txn, &row, c->mode);
 }
 
-/* Makes a command of those that ask for locks or give them back, but for the most frequent. */
+static TABLE_APART bs_reply table_no_slot(void) {
+  return bs_call_only(BS_TOO_MANY_TXNS);
+}
+
+/* Makes a command of those that begin, that ask for locks or give them back, but for the most frequent. */
 static TABLE_APART bs_reply table_other_made(bs_table *table, const bs_command *c, bs_txn txn, bs_notices *told) {
   bs_manager *m = &table->manager;
   switch (c->kind) {
@@ -1278,12 +1344,9 @@ static TABLE_APART bs_reply table_other_made(bs_table *table, const bs_command *
     case BS_DO_UNLOCK_ROW: return bs_unlock_row(m, txn, c->file, c->number, told);
     case BS_DO_TRY_PATH: return table_path_tried(table, txn, c->node, c->mode, c->keep);
     case BS_DO_TRY_ROW: return table_row_made(table, c, txn);
+    case BS_DO_BEGIN_AGAIN: return table->first != NULL ? table_no_slot() : bs_begin_again(m, c->number);
     default: return bs_call_only(BS_BAD_NUMBER);
   }
-}
-
-static TABLE_APART bs_reply table_no_slot(void) {
-  return bs_call_only(BS_TOO_MANY_TXNS);
 }
 
 /* Makes a command. A slot that the list has freed is for those who sleep for one. */
@@ -1353,7 +1416,7 @@ size_t bs_table_run(bs_table *table, bs_command *commands, size_t count) {
   while (done < count) {
     bs_command *next = &commands[done];
     if (table_run_next(table, next, begun) != BS_DONE) break;
-    if (next->kind == BS_DO_BEGIN) begun = next->reply.txn;
+    if (next->kind == BS_DO_BEGIN || next->kind == BS_DO_BEGIN_AGAIN) begun = next->reply.txn;
     done++;
   }
   table_hand_on(table);
@@ -1445,7 +1508,7 @@ static void *table_watch_over(void *place) {
   bs_board board;
   uint64_t seen = 0; /* it never falls: all waits up to this count of commands are settled */
   memset(&board, 0, sizeof board);
-  pthread_mutex_lock(&table->latch);
+  table_take(table);
   while (table->stage == TABLE_OPEN) {
     if (table->waited <= seen) {
       pthread_cond_wait(&table->began, &table->latch);
@@ -1454,7 +1517,7 @@ static void *table_watch_over(void *place) {
     seen = table->waited;
     pthread_mutex_unlock(&table->latch);
     bs_look(&table->eye, &board);
-    pthread_mutex_lock(&table->latch);
+    table_take(table);
     if (table->stage != TABLE_OPEN) break;
     if (board.epoch < seen) bs_read_board(&table->manager, &board);
     seen = board.epoch;

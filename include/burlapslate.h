@@ -66,7 +66,7 @@ extern "C" {
 /* The version of what is declared here. The first number rises where a program has to be changed for it, or the second
  * while the first is 0. The second rises where something is added, the third where neither. */
 #define BS_VERSION_MAJOR 0
-#define BS_VERSION_MINOR 15
+#define BS_VERSION_MINOR 16
 #define BS_VERSION_PATCH 0
 
 /* How many transactions can live at once, and so how many notices a call can have. A library can be built for another
@@ -263,6 +263,7 @@ typedef struct bs_counts {
   uint64_t released_children; /* children that escalations released */
   uint64_t most_waiting;      /* the most transactions that waited at once, behind a lock that waits */
   uint64_t longest_queue;     /* the most that waited for one node at once, behind a lock that waits for it */
+  uint64_t passed;            /* modes that were raised at once on a node for which somebody else waits still */
 } bs_counts;
 
 /* The version of the library as one number: a million times the first, a thousand times the second, and the third. */
@@ -340,6 +341,16 @@ static inline bs_reply bs_add_index(bs_manager *manager, const bs_node *parents,
 /* A new transaction, in `txn`. Refused with BS_TOO_MANY_TXNS. Takes memory. */
 static inline bs_reply bs_begin(bs_manager *manager) {
   return manager == NULL ? bs_call_null() : bs_call_begin(manager);
+}
+
+/* A new transaction, as bs_begin, for work that an earlier one was to do, which fell or gave up: `since` is the age of
+ * the first of these. Of a deadlock's members the one falls whose work is the latest by that number, of several such
+ * the youngest; the number of one that bs_begin began is its own age. So work that begins again with its first number
+ * falls only for work that is older, and of that there is less with each that ends: with BS_YOUNGEST no deadlock takes
+ * its oldest. With BS_FEWEST it does where nobody else ends it. A number above its own age counts as that. With 0
+ * it is older than all that bs_begin began. Refused as bs_begin. */
+static inline bs_reply bs_begin_again(bs_manager *manager, uint64_t since) {
+  return manager == NULL ? bs_call_null() : bs_call_begin_again(manager, since);
 }
 
 /* Asks for a mode on a node: to read (BS_IS, BS_S) intentions to read or more are needed on one parent, to
@@ -744,6 +755,13 @@ static inline bs_reply bs_living(const bs_manager *manager, uint32_t slot) {
  * mode in `mode`, what is held and what was asked joined. Refused with BS_NO_SUCH_TXN. */
 static inline bs_reply bs_doing(const bs_manager *manager, bs_txn txn) {
   return bs_call_can_ask(manager) ? bs_call_doing(manager, txn) : bs_call_unasked(manager);
+}
+
+/* How many stand ahead of a transaction that waits, in the queue of its node, in `count`: those alone, and members that
+ * will be raised, can be granted the node before it. Refused with BS_NO_SUCH_TXN, BS_NOT_WAITING. Costs a step for each
+ * that waits there. */
+static inline bs_reply bs_ahead(const bs_manager *manager, bs_txn txn) {
+  return bs_call_can_ask(manager) ? bs_call_ahead(manager, txn) : bs_call_unasked(manager);
 }
 
 /* How many nodes a transaction holds or waits for, in `count`. Refused with BS_NO_SUCH_TXN. */

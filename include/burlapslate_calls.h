@@ -19,6 +19,7 @@ bs_reply bs_call_row_file(bs_manager *manager, const bs_node *parents, size_t co
 bs_reply bs_call_add_index(bs_manager *manager, const bs_node *parents, size_t count, bs_node file,
                            const uint64_t *bounds, size_t bound_count);
 bs_reply bs_call_begin(bs_manager *manager);
+bs_reply bs_call_begin_again(bs_manager *manager, uint64_t since);
 bs_reply bs_call_lock(bs_manager *manager, bs_txn txn, bs_node node, bs_mode mode, bs_notices *told);
 bs_reply bs_call_lock_path(bs_manager *manager, bs_txn txn, bs_node node, bs_mode mode, bs_notices *told);
 bs_reply bs_call_try(bs_manager *manager, bs_txn txn, bs_node node, bs_mode mode);
@@ -69,6 +70,7 @@ bs_reply bs_call_most(const bs_manager *manager);
 bs_reply bs_call_most_nodes(const bs_manager *manager);
 bs_reply bs_call_most_bounds(const bs_manager *manager);
 bs_reply bs_call_living(const bs_manager *manager, uint32_t slot);
+bs_reply bs_call_ahead(const bs_manager *manager, bs_txn txn);
 bs_reply bs_call_doing(const bs_manager *manager, bs_txn txn);
 bs_reply bs_call_lock_count(const bs_manager *manager, bs_txn txn);
 bs_reply bs_call_lock_at(const bs_manager *manager, bs_txn txn, size_t place);

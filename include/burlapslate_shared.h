@@ -135,6 +135,11 @@ bs_reply bs_table_begin(bs_table *table);
  * finds that. BS_TIMED_OUT: its time came first, and nothing has begun. BS_NO_MEMORY may also come behind a sleep. */
 bs_reply bs_table_begin_in_turn(bs_table *table, const struct timespec *until);
 
+/* As these two, of a transaction for work that wants to be done since an earlier begin, as bs_begin_again has it. That
+ * is no earlier place in the line of those who sleep for a slot. */
+bs_reply bs_table_begin_again(bs_table *table, uint64_t since);
+bs_reply bs_table_begin_again_in_turn(bs_table *table, uint64_t since, const struct timespec *until);
+
 /* From now on each wait of a transaction for a lock ends at this time at the latest, whatever the call that waits says;
  * with null that is over. A wait that sleeps already keeps its time. It is the transaction's own: the next one of its
  * slot has none. Refused with BS_NO_SUCH_TXN, and with BS_BAD_NUMBER where it is no time. */
@@ -274,13 +279,13 @@ bs_reply bs_table_expire(bs_table *table, struct timespec *next);
  */
 
 /* What a command of a list is. Each makes the call of its name, with the fields of a bs_command that have the names of
- * what that call is given; `node` is also its `record`, and `key_count`, `parent_count` and `bound_count` are the
- * counts of its lists. */
+ * what that call is given; `node` is also its `record`, `number` its `since`, and `key_count`, `parent_count` and
+ * `bound_count` are the counts of its lists. */
 enum bs_command_kinds {
   BS_DO_BEGIN = 1, BS_DO_LOCK, BS_DO_LOCK_PATH, BS_DO_TRY, BS_DO_UNLOCK, BS_DO_ESCALATE, BS_DO_CANCEL, BS_DO_COMMIT,
   BS_DO_ABORT, BS_DO_SETTLE, BS_DO_INSERT, BS_DO_DELETE, BS_DO_ADOPT, BS_DO_FORGET, BS_DO_REKEY, BS_DO_MOVE, BS_DO_DROP,
   BS_DO_ADD_INNER, BS_DO_ADD_FILE, BS_DO_ADD_ROW_FILE, BS_DO_ADD_INDEX, BS_DO_INDEX_BY, BS_DO_LOCK_ROW,
-  BS_DO_UNLOCK_ROW, BS_DO_REKEY_ROW, BS_DO_TRY_PATH, BS_DO_TRY_ROW
+  BS_DO_UNLOCK_ROW, BS_DO_REKEY_ROW, BS_DO_TRY_PATH, BS_DO_TRY_ROW, BS_DO_BEGIN_AGAIN
 };
 
 /* A command of a list. It is written with the names of its fields, all others zero, or made by a function below. All
@@ -323,8 +328,8 @@ static inline bs_command bs_do_at(uint32_t kind, bs_txn txn, bs_node node, bs_mo
   return command;
 }
 
-/* In a list, the transaction that the last BS_DO_BEGIN ahead began; with none ahead it names nobody. So a whole short
- * transaction can be one list, which is made again and again. No transaction has this name. */
+/* In a list, the transaction that the last BS_DO_BEGIN or BS_DO_BEGIN_AGAIN ahead began; with none ahead it names
+ * nobody. So a whole short transaction can be one list, which is made again and again. No transaction has this name. */
 static inline bs_txn bs_begun(void) {
   bs_txn txn = { UINT32_MAX, 0 };
   return txn;

@@ -31,6 +31,8 @@ static bs_txn begun(bs_manager *m) {
 struct locker {
   bs_txn txn;
   bool waits;
+  uint64_t since; /* the first begin of its work */
+  long falls;     /* how often that fell since then */
 };
 
 struct mix {
@@ -38,7 +40,8 @@ struct mix {
   bs_node nodes[NODES];
   struct locker lockers[BS_SLOTS]; /* by slot */
   uint64_t state;
-  long deadlocks, victims, worst, aborts, commits;
+  bool keeps_turns; /* work that fell begins again with its first number */
+  long deadlocks, victims, worst, aborts, commits, most_falls;
 };
 
 /* The next of a row of numbers that looks like chance (Marsaglia's xorshift). */
@@ -63,13 +66,24 @@ static long take_notices(struct mix *x, bool fell[BS_SLOTS]) {
   return victims;
 }
 
+static void begin_work(struct mix *x, size_t slot) {
+  struct locker *l = &x->lockers[slot];
+  l->txn = begun(&x->manager);
+  l->since = l->txn.age;
+  l->falls = 0;
+  WANT(l->txn.slot == slot);
+}
+
 static void abort_and_begin(struct mix *x, size_t slot) {
+  struct locker *l = &x->lockers[slot];
   bool none[BS_SLOTS] = { false };
-  DONE(bs_abort(&x->manager, x->lockers[slot].txn, &told));
+  DONE(bs_abort(&x->manager, l->txn, &told));
   WANT(take_notices(x, none) == 0);
   x->aborts++;
-  x->lockers[slot].txn = begun(&x->manager);
-  WANT(x->lockers[slot].txn.slot == slot);
+  l->falls++;
+  if (l->falls > x->most_falls) x->most_falls = l->falls;
+  l->txn = x->keeps_turns ? DONE(bs_begin_again(&x->manager, l->since)).txn : begun(&x->manager);
+  WANT(l->txn.slot == slot);
 }
 
 static void ask(struct mix *x, size_t slot) {
@@ -98,8 +112,7 @@ static void commit_and_begin(struct mix *x, size_t slot) {
   DONE(bs_commit(&x->manager, x->lockers[slot].txn, &told));
   WANT(take_notices(x, none) == 0);
   x->commits++;
-  x->lockers[slot].txn = begun(&x->manager);
-  WANT(x->lockers[slot].txn.slot == slot);
+  begin_work(x, slot);
 }
 
 /* A locker that does not wait: there always is one, as nobody waits in a cycle. */
@@ -109,7 +122,7 @@ static size_t active(struct mix *x, uint32_t lockers) {
   return slot;
 }
 
-static void play(uint32_t choice, size_t lockers, long steps) {
+static void play(uint32_t choice, bool keeps_turns, size_t lockers, long steps) {
   bs_options options = { 0 };
   static const bs_manager none = BS_NO_MANAGER_HERE;
   static struct mix x;
@@ -117,10 +130,11 @@ static void play(uint32_t choice, size_t lockers, long steps) {
   memset(&x, 0, sizeof x);
   x.manager = none;
   x.state = 88172645463325252u;
+  x.keeps_turns = keeps_turns;
   options.victims = choice;
   DONE(bs_make(&x.manager, &options));
   for (i = 0; i < NODES; i++) x.nodes[i] = made_root(&x.manager);
-  for (i = 0; i < lockers; i++) x.lockers[i].txn = begun(&x.manager);
+  for (i = 0; i < lockers; i++) begin_work(&x, i);
   while (steps-- > 0) {
     size_t slot = active(&x, (uint32_t)lockers);
     if (chance(&x, COMMIT_ONE_OF) == 0) {
@@ -129,9 +143,10 @@ static void play(uint32_t choice, size_t lockers, long steps) {
       ask(&x, slot);
     }
   }
-  printf("%3zu lockers, %-8s: %5ld deadlocks, %5ld victims, %3ld at worst, %.2f aborts a commit, %5ld commits\n",
-         lockers, name_of(choice), x.deadlocks, x.victims, x.worst,
-         x.commits == 0 ? 0.0 : (double)x.aborts / (double)x.commits, x.commits);
+  printf("%3zu lockers, %-8s, %-14s: %5ld deadlocks, %5ld victims, %3ld at worst, %.2f aborts a commit, %5ld commits, "
+         "one work fell %ld times\n",
+         lockers, name_of(choice), keeps_turns ? "turns are kept" : "begins anew", x.deadlocks, x.victims, x.worst,
+         x.commits == 0 ? 0.0 : (double)x.aborts / (double)x.commits, x.commits, x.most_falls);
   DONE(bs_end(&x.manager));
 }
 
@@ -139,8 +154,10 @@ static void play_all(long steps) {
   static const size_t crowds[] = { 16, 32, 64, 128 };
   size_t i;
   for (i = 0; i < sizeof crowds / sizeof crowds[0]; i++) {
-    play(BS_YOUNGEST, crowds[i], steps);
-    play(BS_FEWEST, crowds[i], steps);
+    play(BS_YOUNGEST, false, crowds[i], steps);
+    play(BS_YOUNGEST, true, crowds[i], steps);
+    play(BS_FEWEST, false, crowds[i], steps);
+    play(BS_FEWEST, true, crowds[i], steps);
   }
 }
 

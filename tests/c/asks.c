@@ -1076,6 +1076,37 @@ static void a_sleeper_and_an_ask(void) {
   close_table();
 }
 
+/* A function that makes no call of the table. */
+static void hear_alone(void *context, bs_txn txn, bs_reply end, void *word) {
+  (void)context, (void)txn;
+  WANT(end.status == BS_DONE);
+  ++*(int *)word;
+}
+
+static void *reads_root(void *arg) {
+  DONE(bs_table_lock(table, *(bs_txn *)arg, root, BS_S, NULL));
+  return NULL;
+}
+
+/* One commit ends the wait of one who sleeps and that of an ask, and nobody calls the table behind it. */
+static void a_commit_wakes_and_tells(void) {
+  pthread_t thread;
+  int heard = 0;
+  bs_txn a, b;
+  DONE(make_table(&table, BS_AT_BLOCK, BS_YOUNGEST, BS_SLOTS));
+  DONE(bs_table_on_end(table, hear_alone, NULL));
+  root = DONE(bs_table_add_inner(table, NULL, 0)).node;
+  a = begin(), b = begin();
+  DONE(bs_table_lock(table, a, root, BS_X, NULL));
+  start(&thread, reads_root, &b);
+  while (wait_in(table, b).status != BS_WAITING) nap();
+  WAITS(bs_table_ask(table, begin(), root, BS_S, NULL, &heard));
+  DONE(bs_table_commit(table, a, NULL));
+  WANT(heard == 1);
+  join(thread);
+  close_table();
+}
+
 /* ------------------------------------------------------------------------------------------------
  * Races.
  */
@@ -1564,6 +1595,7 @@ int main(int count, char **words) {
   TELL(an_end_waits_for_a_call);
   TELL(a_list_is_left_waiting);
   TELL(a_sleeper_and_an_ask);
+  TELL(a_commit_wakes_and_tells);
   TELL(asks_and_commits);
   TELL(asks_and_aborts);
   TELL(a_crowd_asks_and_sleeps);

@@ -24,7 +24,7 @@
 
 enum kind {
   BEGIN, LOCK, LOCK_PATH, LOCK_ROW, TRY, UNLOCK, UNLOCK_ROW, ESCALATE, CANCEL, COMMIT, ABORT, SETTLE, INSERT, DELETE,
-  REKEY, REKEY_ROW, MOVE, DROP, INDEX_BY, ADD_INNER, ADD_FILE, ADD_ROW_FILE, ADD_INDEX, KINDS
+  REKEY, REKEY_ROW, MOVE, DROP, INDEX_BY, ADD_INNER, ADD_FILE, ADD_ROW_FILE, ADD_INDEX, BEGIN_AGAIN, KINDS
 };
 
 enum { MOST_NUMBERS = 3, MOST_PARENTS = 2 };
@@ -100,6 +100,7 @@ static bs_reply made(bs_manager *m, const struct call *c, bs_notices *told) {
   told->count = 0;
   switch (c->kind) {
     case BEGIN: return bs_begin(m);
+    case BEGIN_AGAIN: return bs_begin_again(m, c->key);
     case LOCK: return bs_lock(m, c->txn, c->node, c->mode, told);
     case LOCK_PATH: return bs_lock_path(m, c->txn, c->node, c->mode, told);
     case LOCK_ROW: return bs_lock_row(m, c->txn, c->node, c->row, c->numbers, c->number_count, c->mode, told);
@@ -162,9 +163,12 @@ static bs_reply serve(bs_manager *m, struct call call, bs_notices *told) {
 /* Whether the begin is for one who sleeps for a slot: then it is not this thread's. */
 static bool is_handed_on(void);
 
-static bs_reply served_begin(bs_manager *m) {
+static bs_reply served_begin(bs_manager *m, enum kind kind, uint64_t since) {
   size_t last = my_last, last_but_one = my_last_but_one;
-  bs_reply reply = serve(m, adding(BEGIN, NULL, 0), NULL);
+  struct call call = adding(kind, NULL, 0);
+  bs_reply reply;
+  call.key = since;
+  reply = serve(m, call, NULL);
   if (is_handed_on()) my_last = last, my_last_but_one = last_but_one;
   return reply;
 }
@@ -260,7 +264,8 @@ static bs_reply served_index(bs_manager *m, enum kind kind, bs_txn txn, const bs
   return serve(m, call, NULL);
 }
 
-#define bs_begin(m) served_begin(m)
+#define bs_begin(m) served_begin(m, BEGIN, 0)
+#define bs_begin_again(m, since) served_begin(m, BEGIN_AGAIN, since)
 #define bs_lock(m, txn, node, mode, told) served_lock(m, LOCK, txn, node, mode, told)
 #define bs_lock_path(m, txn, node, mode, told) served_lock(m, LOCK_PATH, txn, node, mode, told)
 #define bs_try(m, txn, node, mode) served_try(m, txn, node, mode)
@@ -391,7 +396,8 @@ struct session {
   size_t number;
   uint64_t dice;
   bs_txn txn;
-  bool is_game; /* anybody may end its transaction */
+  uint64_t since; /* of work that fell, its first begin; else 0 */
+  bool is_game;   /* anybody may end its transaction */
   long adds[ACCOUNTS], changes[FILES][ROWS], victims, slept, late, others, indexes;
   pthread_t thread;
 };
@@ -444,12 +450,16 @@ static bs_reply as_cancelled(bs_reply reply) {
   return reply;
 }
 
+static bool is_begin(const struct call *call) {
+  return call->kind == BEGIN || call->kind == BEGIN_AGAIN;
+}
+
 /* A begin may have been served in another thread. */
 static bs_reply as_begun(bs_reply reply) {
   size_t i;
   pthread_mutex_lock(&table->latch);
   i = log_count;
-  while (i > 0 && (log_of_calls[i - 1].call.kind != BEGIN || !same_reply(reply, log_of_calls[i - 1].reply))) i--;
+  while (i > 0 && !(is_begin(&log_of_calls[i - 1].call) && same_reply(reply, log_of_calls[i - 1].reply))) i--;
   WANT(i > 0);
   pthread_mutex_unlock(&table->latch);
   return reply;
@@ -783,14 +793,22 @@ static void name_game(struct session *s, bool is_game) {
   pthread_mutex_unlock(&names);
 }
 
+/* Work that fell begins again, and keeps its turn. */
+static bs_txn begin_work(const struct session *s) {
+  if (s->since == 0) return as_begun(DONE(bs_table_begin_in_turn(table, NULL))).txn;
+  return as_begun(DONE(bs_table_begin_again_in_turn(table, s->since, NULL))).txn;
+}
+
 static void one_transaction(struct session *s) {
   bs_status status = BS_DONE;
   size_t i, count = 1 + pick(s, 6);
-  s->txn = as_begun(DONE(bs_table_begin_in_turn(table, NULL))).txn;
+  s->txn = begin_work(s);
   s->is_game = pick(s, 6) == 0;
   name_game(s, s->is_game);
   for (i = 0; i < count && status != BS_VICTIM && status != BS_TXN_CONDEMNED; i++) status = any_command(s).status;
   if (status == BS_VICTIM) s->victims++;
+  if (status != BS_VICTIM) s->since = 0;
+  else if (s->since == 0) s->since = s->txn.age;
   name_game(s, false);
   if (status == BS_VICTIM || pick(s, 8) == 0) status = as_served(bs_table_abort(table, s->txn, NULL)).status;
   else status = as_served(bs_table_commit(table, s->txn, NULL)).status;
@@ -889,7 +907,7 @@ static void compare_named(const struct call *call) {
 
 static void replay_one(bs_manager *m, size_t at, bs_notices *told) {
   const struct served *s = &log_of_calls[at];
-  bool is_by_txn = s->call.kind <= INDEX_BY && s->call.kind != BEGIN;
+  bool is_by_txn = s->call.kind <= INDEX_BY && !is_begin(&s->call);
   bool was_waiting = is_by_txn && wait_of(m, s->call.txn).status == BS_WAITING;
   bs_reply reply = made(m, &s->call, told);
   size_t i;

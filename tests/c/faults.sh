@@ -65,8 +65,15 @@ late-forgets-to-wake	s/  table_wake(table, reply.status, &table->told, true);//
 path-ends-above	s/ && (reply.status != BS_DONE || path.is_last)) return reply;/) return reply;/
 nobody-is-named	s/by_name || told->count/told->count/
 nobody-is-told	s/by_name || told->count > 0/by_name/
-first-word-sleeps-on	s/  for (i = 0; i < BS_SLOTS \/ 64; i++) table_wake_word/  for (i = 1; i < BS_SLOTS \/ 64; i++) table_wake_word/
-words-but-the-first-sleep-on	s/  for (i = 0; i < BS_SLOTS \/ 64; i++) table_wake_word/  for (i = 0; i < 1; i++) table_wake_word/
+first-word-sleeps-on	s/  for (i = 0; i < BS_SLOTS \/ 64; i++) table->to_wake/  for (i = 1; i < BS_SLOTS \/ 64; i++) table->to_wake/
+words-but-the-first-sleep-on	s/  for (i = 0; i < BS_SLOTS \/ 64; i++) table->to_wake/  for (i = 0; i < 1; i++) table->to_wake/
+who-looks-does-not-take	/table_take_held(bs_table/,/^}/s/    if (pthread_mutex_trylock(&table->latch) == 0) return;/    if (pthread_mutex_trylock(\&table->latch) == 0) { pthread_mutex_unlock(\&table->latch); return; }/
+who-looks-does-not-sleep	/table_take_held(bs_table/,/^}/s/^  pthread_mutex_lock(&table->latch);$//
+last-command-alone-wakes	s/table->to_wake.words\[i\] |= ended/table->to_wake.words[i] = ended/
+nobody-is-to-wake	/table_wake_ended(/,/^}/s/^  table->is_due = true;$//
+release-wakes-nobody	s/^  table_wake_sleepers(table, &to_wake);//
+release-wakes-one	s/^    for (; word != 0; word \&= word - 1) pthread_cond_broadcast/    if (word != 0) pthread_cond_broadcast/
+release-wakes-the-first-word	/table_wake_sleepers(/,/^}/s/  for (i = 0; i < BS_SLOTS \/ 64; i++) {/  for (i = 0; i < 1; i++) {/
 watch-is-not-woken	s/^  pthread_cond_signal(&table->began);//
 watch-forgets-to-wake	s/  table_wake(table, \(bs_settle(.*\)\.status, &table->told, false);/  \1;/
 path-forgets-a-cancel	s/  path->is_cancelled = true;//
@@ -92,6 +99,11 @@ hold-is-anybodys	s/^static __thread [^ ]* bs_table/static bs_table/
 hold-forgets-the-one-before	s/^  table->held_before = table_held;/  table->held_before = NULL;/
 let-go-holds-on	s/^  \*at = table->held_before;//
 begin-passes-the-line	s/table->first != NULL ? table_no_slot() : bs_begin(m);/bs_begin(m);/
+begin-again-passes-the-line	s/table->first != NULL ? table_no_slot() : bs_begin_again(m, c->number);/bs_begin_again(m, c->number);/
+listed-work-is-new	s/bs_begin_again(m, c->number);/bs_begin(m);/
+work-in-the-line-is-new	s/    bs_reply begun = table_begin_since(table, next->since);/    bs_reply begun = bs_begin(\&table->manager);/
+work-in-turn-is-new	s/  reply = table_begin_since(table, since);/  reply = bs_begin(\&table->manager);/
+work-again-is-new	s/  TABLE_ASK(table, bs_begin_again(&table->manager, since));/  TABLE_ASK(table, bs_begin(\&table->manager));/
 last-comes-first	s/    table_turn \*next = table->first;/    table_turn *next = table->last;/
 call-keeps-the-slot	s/  table_hand_on(table);  *\\$/ \\/
 run-keeps-the-slot	/^size_t bs_table_run(/,/^}/s/^  table_hand_on(table);$//
@@ -104,7 +116,7 @@ deadline-is-of-the-slot	s/  if (own->age != txn.age) return until;/  if (own->ag
 deadline-hides-the-call	s/  return own->time.tv_sec == until->tv_sec .*/  return \&own->time;/
 ahead-by-a-second-less	s/    time.tv_sec++;//
 asks-are-told-under-the-latch	/table_release_and_tell(bs_table \*table) {/,/^}/s/^  pthread_mutex_unlock(&table->latch);$//; /table_release_and_tell(bs_table \*table) {/,/^}/s/^  if (over.first != NULL) table_tell(&over);/&\n  pthread_mutex_unlock(\&table->latch);/
-asks-are-not-due	s/    if (due != 0) table->is_due = true;//
+asks-are-not-due	s/^  for (i = 0; i < BS_SLOTS \/ 64; i++) asks->due.words.*//
 asks-of-a-word-are-not-due	/table_note_due(/,/^}/s/  for (i = 0; i < BS_SLOTS/  for (i = 1; i < BS_SLOTS/
 one-of-two-is-told	s/^    over->first = next->next;/    over->first = next->next == NULL ? NULL : next->next->next;/
 asks-are-told-by-falling-slots	s/__builtin_ctzll(\*word)/(63 - __builtin_clzll(*word))/; s/      \*word &= \*word - 1;/      *word \&= ~((uint64_t)1 << slot % 64);/
@@ -138,8 +150,8 @@ last-call-says-nothing	s/  if (table->stage == TABLE_ENDING \&\& table->to_tell 
 a-call-ends-a-table	s/  if (table != NULL \&\& table_telling != NULL) return bs_call_only(BS_IN_USE);//
 a-call-sleeps	s/  return table_telling == NULL \&\& table_enter_until/  return table_enter_until/
 a-call-is-cancelled	/^static void table_tell(/,/^}/s/  pthread_setcancelstate(PTHREAD_CANCEL_DISABLE, &state);/  state = PTHREAD_CANCEL_ENABLE;/
-a-sleeper-tells-behind-its-sleep	/^static TABLE_APART bs_reply table_sleep(/,/^}/s/^  if (table->is_due) {/  if (false) {/
-a-sleeper-does-not-look-again	/^  if (table->is_due) {/,/^  }/s/    reply = table_verdict(.*//
+a-sleeper-tells-behind-its-sleep	s/^  if (table_tell_between(table)) reply/  if (false) reply/
+a-sleeper-does-not-look-again	s/^  if (table_tell_between(table)) reply = table_verdict(.*/  table_tell_between(table);/
 watch-tells-nobody-before-it-rests	/^static void \*table_watch_over(/,/^}/s/^    table_tell_between(table);$//
 a-list-tells-nobody	/^size_t bs_table_run(/,/^}/s/  table_release(table);/  pthread_mutex_unlock(\&table->latch);/
 a-call-tells-nobody	s/  table_release(table);                                         \\/  pthread_mutex_unlock(\&(table)->latch); \\/

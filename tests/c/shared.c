@@ -776,8 +776,9 @@ static void set_up_slots(uint32_t most) {
   root = DONE(bs_table_add_inner(table, NULL, 0)).node;
 }
 
-/* One who begins in a thread of its own. */
+/* One who begins in a thread of its own, for new work or, where that is not 0, since an earlier begin. */
 struct beginner {
+  uint64_t since;
   const struct timespec *until;
   bs_reply reply;
   pthread_t thread;
@@ -785,7 +786,8 @@ struct beginner {
 
 static void *begin_in_turn(void *arg) {
   struct beginner *b = (struct beginner *)arg;
-  b->reply = bs_table_begin_in_turn(table, b->until);
+  if (b->since == 0) b->reply = bs_table_begin_in_turn(table, b->until);
+  else b->reply = bs_table_begin_again_in_turn(table, b->since, b->until);
   return NULL;
 }
 
@@ -793,15 +795,16 @@ static void await_sleepers(size_t count) {
   while (sleepers() != count) nap();
 }
 
-static void start_to_begin(struct beginner *b, const struct timespec *until) {
+static void start_to_begin(struct beginner *b, uint64_t since, const struct timespec *until) {
   memset(b, 0, sizeof *b);
+  b->since = since;
   b->until = until;
   start(&b->thread, begin_in_turn, b);
 }
 
 /* Has a thread come into the line, the last of so many. */
 static void line_up(struct beginner *b, size_t count) {
-  start_to_begin(b, NULL);
+  start_to_begin(b, 0, NULL);
   await_sleepers(count);
 }
 
@@ -951,6 +954,67 @@ static void a_later_begin_does_not_pass(void) {
   close_table();
 }
 
+/* Of two who read the root, and both want to write it, the one in `falls` gives way. Both end. */
+static void falls_behind(bs_txn falls, bs_txn stays) {
+  bs_command list[1];
+  ANSWERS(BS_DONE, bs_table_lock(table, falls, root, BS_S, NULL));
+  ANSWERS(BS_DONE, bs_table_lock(table, stays, root, BS_S, NULL));
+  list[0] = bs_do_at(BS_DO_LOCK, stays, root, BS_X);
+  WANT(bs_table_run(table, list, 1) == 0 && list[0].reply.status == BS_WAITING);
+  ANSWERS(BS_VICTIM, bs_table_lock(table, falls, root, BS_X, NULL));
+  DONE(bs_table_abort(table, falls, NULL));
+  WANT(DONE(bs_table_await(table, stays, root, BS_X, NULL)).mode == BS_X);
+  DONE(bs_table_commit(table, stays, NULL));
+}
+
+/* Who falls is the one whose work began last, whoever of the two has the greater age. */
+static void a_victim_keeps_its_turn(void) {
+  bs_command list[2];
+  bs_txn first, other, again;
+  set_up(BS_AT_BLOCK);
+  first = begin();
+  DONE(bs_table_abort(table, first, NULL));
+  other = begin(), again = DONE(bs_table_begin_again(table, first.age)).txn;
+  WANT(again.age == other.age + 1);
+  falls_behind(other, again);
+  other = begin(), again = DONE(bs_table_begin_again(table, other.age)).txn;
+  falls_behind(again, other);
+  other = begin(), again = DONE(bs_table_begin_again(table, UINT64_MAX)).txn;
+  falls_behind(again, other);
+  other = begin(), again = DONE(bs_table_begin_again(table, 0)).txn;
+  falls_behind(other, again);
+  other = begin(), again = DONE(bs_table_begin_again_in_turn(table, first.age, NULL)).txn;
+  falls_behind(other, again);
+  other = begin();
+  list[0] = bs_do(BS_DO_BEGIN_AGAIN, bs_begun()), list[0].number = first.age;
+  list[1] = bs_do_at(BS_DO_LOCK, bs_begun(), root, BS_S);
+  WANT(bs_table_run(table, list, 2) == 2 && list[0].reply.txn.age == other.age + 1);
+  falls_behind(other, list[0].reply.txn);
+  close_table();
+}
+
+/* In the line of those who sleep for a slot the old work has no earlier place, and it keeps its turn behind it. */
+static void a_begin_again_sleeps_for_a_slot(void) {
+  struct beginner one, two;
+  bs_command list[1];
+  bs_txn a, b, new_work, old_work;
+  set_up_slots(2);
+  a = begin(), b = begin();
+  line_up(&one, 1);
+  start_to_begin(&two, a.age, NULL);
+  await_sleepers(2);
+  ANSWERS(BS_TOO_MANY_TXNS, bs_table_begin_again(table, a.age));
+  list[0] = bs_do(BS_DO_BEGIN_AGAIN, bs_begun());
+  WANT(bs_table_run(table, list, 1) == 0 && list[0].reply.status == BS_TOO_MANY_TXNS);
+  DONE(bs_table_commit(table, a, NULL));
+  new_work = begun(&one);
+  DONE(bs_table_commit(table, b, NULL));
+  old_work = begun(&two);
+  WANT(new_work.age == b.age + 1 && old_work.age == new_work.age + 1);
+  falls_behind(new_work, old_work);
+  close_table();
+}
+
 /* A list may free several slots: each is handed on behind its last command. */
 static void a_list_frees_slots(void) {
   struct beginner one, two;
@@ -984,7 +1048,7 @@ static bool some_leave_the_line_in(long microseconds) {
   holder = begin();
   until = moment_in(microseconds);
   for (i = 0; i < 5; i++) {
-    start_to_begin(&all[i], i % 2 == 0 ? &until : NULL);
+    start_to_begin(&all[i], 0, i % 2 == 0 ? &until : NULL);
     is_in_time = comes_into_line(i + 1, &until) && is_in_time;
   }
   for (i = 0; i < 5; i += 2) {
@@ -1024,7 +1088,7 @@ static bool begins_behind_the_time(long microseconds) {
   set_up_slots(1);
   a = begin();
   until = moment_in(microseconds);
-  start_to_begin(&one, &until);
+  start_to_begin(&one, 0, &until);
   while (!is_in_line && !is_over(&until)) {
     nap();
     WANT(bs_table_hold(table) != NULL);
@@ -1057,7 +1121,7 @@ static void times_and_turns(void) {
     bs_txn a = begin();
     struct timespec until = moment_in(60 + (long)roll(&dice, 60)), pause = { 0, 0 };
     struct beginner one;
-    start_to_begin(&one, &until);
+    start_to_begin(&one, 0, &until);
     pause.tv_nsec = (long)roll(&dice, 80000);
     nanosleep(&pause, NULL);
     DONE(bs_table_commit(table, a, NULL));
@@ -1082,7 +1146,7 @@ static void an_end_with_a_line(void) {
   a = begin(), b = begin();
   DONE(bs_table_lock(table, a, root, BS_X, NULL));
   send(&asker, b, root, BS_X);
-  for (i = 0; i < 200; i++) start_to_begin(&line[i], i % 2 == 0 ? &until : NULL);
+  for (i = 0; i < 200; i++) start_to_begin(&line[i], 0, i % 2 == 0 ? &until : NULL);
   await_sleepers(201);
   end_as_all_leave();
   back(&asker, BS_NO_MANAGER);
@@ -1986,7 +2050,7 @@ static void commands_that_are_none(void) {
   WANT(list[1].reply.status == BS_NOT_MADE && list[2].reply.status == BS_NOT_MADE);
   WANT(bs_do(BS_DO_COMMIT, a).reply.status == BS_NOT_MADE);
   WANT(bs_do_at(BS_DO_TRY, a, root, BS_X).reply.status == BS_NOT_MADE);
-  for (kind = BS_DO_TRY_ROW + 1; kind != 0; kind <<= 1) {
+  for (kind = BS_DO_BEGIN_AGAIN + 1; kind != 0; kind <<= 1) {
     list[0] = bs_do_at(kind, a, root, BS_X);
     WANT(bs_table_run(table, list, 1) == 0 && list[0].reply.status == BS_BAD_NUMBER);
   }
@@ -2667,7 +2731,7 @@ static void a_skip_is_refused(void) {
   bs_txn t;
   set_up(BS_AT_BLOCK);
   t = begin();
-  for (kind = 0; kind <= BS_DO_TRY_ROW + 1; kind++) {
+  for (kind = 0; kind <= BS_DO_BEGIN_AGAIN + 1; kind++) {
     bool is_try = kind == BS_DO_TRY || kind == BS_DO_TRY_PATH || kind == BS_DO_TRY_ROW;
     list[0] = bs_do_at(kind, t, root, BS_IS), list[1] = bs_do_at(BS_DO_TRY, t, root, BS_X);
     list[0].told = &told, told.count = 7;
@@ -3237,6 +3301,8 @@ static void refuses_all(bs_table *none, bs_status status, bs_txn t) {
   WANT(told.count == 0);
   ANSWERS(status, bs_table_begin(none));
   ANSWERS(status, bs_table_begin_in_turn(none, NULL));
+  ANSWERS(status, bs_table_begin_again(none, 1));
+  ANSWERS(status, bs_table_begin_again_in_turn(none, 1, NULL));
   ANSWERS(status, bs_table_deadline(none, t, NULL));
   ANSWERS(status, bs_table_lock(none, t, root, BS_X, NULL));
   ANSWERS(status, bs_table_lock_path(none, t, root, BS_X, NULL));
@@ -3465,6 +3531,8 @@ int main(int count, char **words) {
   TELL(a_grant_behind_the_time);
   TELL(times_and_grants);
   TELL(a_begin_sleeps_for_a_slot);
+  TELL(a_victim_keeps_its_turn);
+  TELL(a_begin_again_sleeps_for_a_slot);
   TELL(turns_over_all_slots);
   TELL(turns_over_four_slots);
   TELL(a_later_begin_does_not_pass);

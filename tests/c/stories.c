@@ -135,12 +135,38 @@ static void a_conversion_goes_ahead(void) {
   DONE(bs_lock(&m, a, root, BS_S, &told));
   DONE(bs_lock(&m, b, root, BS_S, &told));
   WANT(bs_lock(&m, c, root, BS_X, &told).status == BS_WAITING);
+  WANT(DONE(bs_ahead(&m, c)).count == 0 && bs_ahead(&m, a).status == BS_NOT_WAITING);
   WANT(bs_lock(&m, a, root, BS_X, &told).status == BS_WAITING);
+  WANT(DONE(bs_ahead(&m, c)).count == 1 && DONE(bs_ahead(&m, a)).count == 0);
   DONE(bs_commit(&m, b, &told));
   WANT(told.count == 1 && is_told(0, a, BS_TOLD_GRANTED) && told.at[0].mode == BS_X);
+  WANT(DONE(bs_ahead(&m, c)).count == 0 && bs_ahead(&m, a).status == BS_NOT_WAITING);
   WANT(bs_held(&m, c, root).mode == BS_NL);
   DONE(bs_cancel(&m, c, &told));
   WANT(bs_cancel(&m, c, &told).status == BS_NOT_WAITING);
+  DONE(bs_end(&m));
+}
+
+static bs_counts counts_of(const bs_manager *m) {
+  bs_counts counts;
+  DONE(bs_counters(m, &counts));
+  return counts;
+}
+
+/* A member that fits passes who waits, and is counted where that raised its mode. */
+static void a_conversion_passes(void) {
+  bs_manager m = BS_NO_MANAGER_HERE;
+  bs_node root = begin_manager(&m, BS_AT_BLOCK);
+  bs_txn a = begin(&m), b = begin(&m);
+  DONE(bs_lock(&m, a, root, BS_S, &told));
+  WANT(bs_lock(&m, b, root, BS_X, &told).status == BS_WAITING);
+  WANT(DONE(bs_lock(&m, a, root, BS_IS, &told)).mode == BS_S && counts_of(&m).passed == 0);
+  WANT(DONE(bs_try(&m, a, root, BS_IX)).mode == BS_SIX && counts_of(&m).passed == 1);
+  WANT(DONE(bs_lock(&m, a, root, BS_X, &told)).mode == BS_X && counts_of(&m).passed == 2);
+  DONE(bs_cancel(&m, b, &told));
+  DONE(bs_unlock(&m, a, root, &told));
+  DONE(bs_lock(&m, a, root, BS_S, &told));
+  WANT(DONE(bs_lock(&m, a, root, BS_X, &told)).mode == BS_X && counts_of(&m).passed == 2); /* Nobody waits. */
   DONE(bs_end(&m));
 }
 
@@ -1028,6 +1054,7 @@ static void no_transaction_by(bs_manager *m, bs_txn none, const struct file *f) 
   WANT(bs_held(m, none, f->low).status == BS_NO_SUCH_TXN && bs_effective(m, none, f->low).status == BS_NO_SUCH_TXN);
   WANT(bs_children(m, none, f->file).status == BS_NO_SUCH_TXN);
   WANT(bs_doing(m, none).status == BS_NO_SUCH_TXN && bs_lock_count(m, none).status == BS_NO_SUCH_TXN);
+  WANT(bs_ahead(m, none).status == BS_NO_SUCH_TXN);
   WANT(bs_lock_at(m, none, 0).status == BS_NO_SUCH_TXN && bs_waits_for(m, none).status == BS_NO_SUCH_TXN);
 }
 
@@ -1194,6 +1221,7 @@ static void a_constant_place(void) {
   WANT(bs_interval_of(&never, node, 0).status == BS_NO_MANAGER && bs_place(&never, node).status == BS_NO_MANAGER);
   WANT(bs_has_records(&never, node).status == BS_NO_MANAGER && bs_living(&never, 0).status == BS_NO_MANAGER);
   WANT(bs_doing(&never, txn).status == BS_NO_MANAGER && bs_lock_count(&never, txn).status == BS_NO_MANAGER);
+  WANT(bs_ahead(&never, txn).status == BS_NO_MANAGER);
   WANT(bs_lock_at(&never, txn, 0).status == BS_NO_MANAGER && bs_queue_len(&never, node).status == BS_NO_MANAGER);
   WANT(bs_queue_at(&never, node, 0).status == BS_NO_MANAGER && bs_holders(&never, node).status == BS_NO_MANAGER);
   WANT(bs_waits_for(&never, txn).status == BS_NO_MANAGER && bs_ended(&never).status == BS_NO_MANAGER);
@@ -1228,6 +1256,7 @@ static void places_without_a_manager(void) {
   bs_node root = begin_manager(&m, BS_AT_BLOCK);
   bs_txn a = begin(&m);
   WANT(bs_begin(&never).status == BS_NO_MANAGER && bs_len(&never).status == BS_NO_MANAGER);
+  WANT(bs_begin_again(&never, 1).status == BS_NO_MANAGER);
   WANT(bs_end(&never).status == BS_NO_MANAGER);
   WANT(make_manager(&m, BS_AT_BLOCK, 1).status == BS_IN_USE);
   DONE(bs_lock(&m, a, root, BS_X, &told));
@@ -1242,7 +1271,7 @@ static void places_without_a_manager(void) {
   DONE(make_manager(&m, BS_AT_BLOCK, 1));
   WANT(bs_lock(&m, a, root, BS_X, &told).status == BS_NO_SUCH_TXN);
   begin(&m);
-  WANT(bs_begin(&m).status == BS_TOO_MANY_TXNS);
+  WANT(bs_begin(&m).status == BS_TOO_MANY_TXNS && bs_begin_again(&m, 1).status == BS_TOO_MANY_TXNS);
   DONE(bs_end(&m));
 }
 
@@ -1276,6 +1305,7 @@ static void null_pointers(void) {
   bs_txn a = begin(&m);
   WANT(bs_make(NULL, NULL).status == BS_NULL_POINTER && bs_end(NULL).status == BS_NULL_POINTER);
   WANT(bs_begin(NULL).status == BS_NULL_POINTER && bs_len(NULL).status == BS_NULL_POINTER);
+  WANT(bs_begin_again(NULL, 1).status == BS_NULL_POINTER);
   WANT(bs_lock(&m, a, root, BS_X, NULL).status == BS_NULL_POINTER);
   WANT(bs_lock_path(&m, a, root, BS_X, NULL).status == BS_NULL_POINTER);
   WANT(bs_held(&m, a, root).mode == BS_NL);
@@ -1630,6 +1660,7 @@ int main(void) {
   TELL(modes_join);
   TELL(a_commit_grants);
   TELL(a_conversion_goes_ahead);
+  TELL(a_conversion_passes);
   TELL(a_deadlock_has_a_victim);
   TELL(a_choice_of_victims);
   TELL(an_older_asker_condemns_the_younger);
