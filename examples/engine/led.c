@@ -58,9 +58,9 @@ static void *run_follower(void *arg) {
 }
 
 static void lead(struct follower *f, struct txn *leader) {
-  *leader = txn_begin(f->bank, FOR_EVER);
+  *leader = txn_begin(f->bank, NULL, FOR_EVER);
   want(f->story, txn_lock_account(leader, f->wanted, BS_X), BS_DONE);
-  f->txn = txn_begin(f->bank, f->patience);
+  f->txn = txn_begin(f->bank, NULL, f->patience);
   f->given_up = f->bank->counts.given_up;
   f->before = bank_lock_counts(f->bank);
   start(&f->thread, run_follower, f);
@@ -192,7 +192,7 @@ static void *pay(void *arg) {
 }
 
 static uint64_t balance_of(struct bank *b, bs_node account) {
-  struct txn t = txn_begin(b, FOR_EVER);
+  struct txn t = txn_begin(b, NULL, FOR_EVER);
   uint64_t balance;
   want("balance", txn_lock_account(&t, account, BS_S), BS_DONE);
   balance = txn_read(&t, account);
@@ -210,7 +210,7 @@ void led_payments(struct bank *b, bool skips_lock) {
   for (i = 0; i < 2; i++) {
     payments[i].other = &payments[1 - i];
     payments[i].order.arg = &payments[i];
-    payments[i].txn = txn_begin(b, FOR_EVER);
+    payments[i].txn = txn_begin(b, NULL, FOR_EVER);
   }
   for (i = 0; i < 2; i++) start(&payments[i].thread, pay, &payments[i]);
   for (i = 0; i < 2; i++) pthread_join(payments[i].thread, NULL);

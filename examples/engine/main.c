@@ -60,7 +60,7 @@ static bs_node any_account(struct worker *w) {
   return bank_account_from(w->bank, roll(w, MOST_ACCOUNTS));
 }
 
-/* Whether a transaction that was rolled back is to begin again. */
+/* Whether the work of a transaction that was rolled back is to begin again. */
 static bool is_to_repeat(bs_status status) {
   return status == BS_VICTIM || status == BS_TIMED_OUT;
 }
@@ -79,7 +79,8 @@ static void *run_teller(void *arg) {
   size_t i;
   for (i = 0; i < TRANSFERS; i++) {
     struct order o = any_order(w);
-    while (is_to_repeat(transfer(w->bank, &o))) continue;
+    uint64_t since = 0;
+    while (is_to_repeat(transfer(w->bank, &since, &o))) continue;
   }
   return NULL;
 }
@@ -91,11 +92,12 @@ static void *run_branch(void *arg) {
   for (i = 0; i < CHANGES; i++) {
     struct order o = any_order(w);
     unsigned patience = PATIENCE;
+    uint64_t since = 0;
     bs_status status = BS_TIMED_OUT;
     while (same_node(o.from, o.to)) o.to = any_account(w);
     for (; is_to_repeat(status); patience = FOR_EVER) {
-      if (i % 8 < 4) status = open_account(w->bank, o.from, o.amount, patience);
-      else status = close_account(w->bank, o.from, o.to, patience);
+      if (i % 8 < 4) status = open_account(w->bank, &since, o.from, o.amount, patience);
+      else status = close_account(w->bank, &since, o.from, o.to, patience);
     }
   }
   return NULL;
@@ -105,7 +107,8 @@ static void *run_auditor(void *arg) {
   struct worker *w = arg;
   size_t i;
   for (i = 0; i < AUDITS; i++) {
-    while (is_to_repeat(audit(w->bank, FOUNDERS * FIRST_BALANCE))) continue;
+    uint64_t since = 0;
+    while (is_to_repeat(audit(w->bank, &since, FOUNDERS * FIRST_BALANCE))) continue;
   }
   return NULL;
 }
@@ -115,7 +118,8 @@ static void *run_lister(void *arg) {
   size_t i;
   for (i = 0; i < LISTS; i++) {
     size_t place = (size_t)roll(w, INTERVALS);
-    while (is_to_repeat(list_interval(w->bank, place))) continue;
+    uint64_t since = 0;
+    while (is_to_repeat(list_interval(w->bank, &since, place))) continue;
   }
   return NULL;
 }

@@ -144,9 +144,13 @@ static void roll_back(struct txn *t) {
   MUST(bs_table_abort(t->bank->locks, t->name, NULL));
 }
 
-struct txn txn_begin(struct bank *b, unsigned patience) {
+/* Either way it sleeps where all slots are taken. */
+struct txn txn_begin(struct bank *b, uint64_t *since, unsigned patience) {
   struct txn t = { .bank = b, .patience = patience };
-  t.name = MUST(bs_table_begin_in_turn(b->locks, NULL)).txn; /* It sleeps where all slots are taken. */
+  bool is_again = since != NULL && *since != 0;
+  if (is_again) t.name = MUST(bs_table_begin_again_in_turn(b->locks, *since, NULL)).txn;
+  else t.name = MUST(bs_table_begin_in_turn(b->locks, NULL)).txn;
+  if (since != NULL && !is_again) *since = t.name.age;
   return t;
 }
 

@@ -34,7 +34,10 @@ struct txn {
   bs_node closed;
 };
 
-struct txn txn_begin(struct bank *b, unsigned patience);
+/* Begins a transaction. Work that is done again, since a transaction for it was rolled back, keeps its turn among those
+ * whom a deadlock takes: `since` is 0 before its first begin, is written then, and is handed in each time. With null
+ * it is new work. */
+struct txn txn_begin(struct bank *b, uint64_t *since, unsigned patience);
 
 /* Commits where all went well so far, else rolls back. BS_DONE: it is committed; a commit may have to wait
  * for locks too. */

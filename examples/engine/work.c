@@ -39,22 +39,22 @@ bs_status move_money(struct txn *t, const struct order *o) {
   return BS_DONE;
 }
 
-bs_status transfer(struct bank *b, const struct order *o) {
-  struct txn t = txn_begin(b, FOR_EVER);
+bs_status transfer(struct bank *b, uint64_t *since, const struct order *o) {
+  struct txn t = txn_begin(b, since, FOR_EVER);
   bs_status status = finish(&t, move_money(&t, o), &b->counts.transfers);
   if (status == BS_GONE) bank_count(b, &b->counts.no_account);
   return status;
 }
 
 void found_account(struct bank *b, uint64_t balance) {
-  struct txn t = txn_begin(b, FOR_EVER);
+  struct txn t = txn_begin(b, NULL, FOR_EVER);
   t.opens = true;
   t.deposit = balance;
   if (txn_end(&t, BS_DONE) != BS_DONE) fail("an account was not founded");
 }
 
-bs_status open_account(struct bank *b, bs_node donor, uint64_t deposit, unsigned patience) {
-  struct txn t = txn_begin(b, patience);
+bs_status open_account(struct bank *b, uint64_t *since, bs_node donor, uint64_t deposit, unsigned patience) {
+  struct txn t = txn_begin(b, since, patience);
   bs_status status = txn_lock_account(&t, donor, BS_X);
   if (status == BS_DONE) {
     uint64_t balance = txn_read(&t, donor);
@@ -65,9 +65,9 @@ bs_status open_account(struct bank *b, bs_node donor, uint64_t deposit, unsigned
   return finish(&t, status, &b->counts.opened);
 }
 
-bs_status close_account(struct bank *b, bs_node account, bs_node heir, unsigned patience) {
+bs_status close_account(struct bank *b, uint64_t *since, bs_node account, bs_node heir, unsigned patience) {
   struct order all = { account, heir, UINT64_MAX, let_others_run, NULL, false };
-  struct txn t = txn_begin(b, patience);
+  struct txn t = txn_begin(b, since, patience);
   t.closes = true;
   t.closed = account;
   return finish(&t, move_money(&t, &all), &b->counts.closed);
@@ -109,8 +109,8 @@ static void want_same(const char *what, struct totals first, struct totals again
        first.count, first.sum, again.count, again.sum);
 }
 
-bs_status audit(struct bank *b, uint64_t sum) {
-  struct txn t = txn_begin(b, FOR_EVER);
+bs_status audit(struct bank *b, uint64_t *since, uint64_t sum) {
+  struct txn t = txn_begin(b, since, FOR_EVER);
   struct totals totals = { 0, 0 };
   bs_status status = read_all(&t, &totals);
   if (status == BS_DONE) {
@@ -121,8 +121,8 @@ bs_status audit(struct bank *b, uint64_t sum) {
   return finish(&t, status, &b->counts.audits);
 }
 
-bs_status list_interval(struct bank *b, size_t place) {
-  struct txn t = txn_begin(b, FOR_EVER);
+bs_status list_interval(struct bank *b, uint64_t *since, size_t place) {
+  struct txn t = txn_begin(b, since, FOR_EVER);
   bs_status status = txn_lock_interval(&t, place);
   if (status == BS_DONE) {
     struct totals totals = bank_total_of_interval(b, place);

@@ -1,6 +1,6 @@
 /*
  * work.h: what transactions do with accounts. Each call but move_money is one transaction: it answers
- * BS_DONE where it is committed, else why it was rolled back.
+ * BS_DONE where it is committed, else why it was rolled back. `since` is as txn_begin takes it.
  */
 #ifndef WORK_H
 #define WORK_H
@@ -22,19 +22,19 @@ void let_others_run(void *unused);
 /* A part of a transaction. */
 bs_status move_money(struct txn *t, const struct order *o);
 
-bs_status transfer(struct bank *b, const struct order *o);
+bs_status transfer(struct bank *b, uint64_t *since, const struct order *o);
 
 /* Opens an account with money from nowhere, while nothing else runs. */
 void found_account(struct bank *b, uint64_t balance);
 
 /* Open an account with money of another, and close one, whose money goes to another. */
-bs_status open_account(struct bank *b, bs_node donor, uint64_t deposit, unsigned patience);
-bs_status close_account(struct bank *b, bs_node account, bs_node heir, unsigned patience);
+bs_status open_account(struct bank *b, uint64_t *since, bs_node donor, uint64_t deposit, unsigned patience);
+bs_status close_account(struct bank *b, uint64_t *since, bs_node account, bs_node heir, unsigned patience);
 
 /* Reads all accounts, and then again. Fails where they do not have this sum, or the totals differ. */
-bs_status audit(struct bank *b, uint64_t sum);
+bs_status audit(struct bank *b, uint64_t *since, uint64_t sum);
 
 /* Reads all accounts of an interval, and then again. Fails where the totals differ. */
-bs_status list_interval(struct bank *b, size_t place);
+bs_status list_interval(struct bank *b, uint64_t *since, size_t place);
 
 #endif

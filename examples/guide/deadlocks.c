@@ -33,6 +33,26 @@ void deadlocks_at_block(void) {
   DONE(bs_end(&m));
 }
 
+/* Work that fell begins again with the number of its first begin: then it is the other's turn to fall. */
+void a_victim_keeps_its_turn(void) {
+  bs_manager m;
+  struct shop s;
+  bs_txn fell, other, again;
+  open_manager(&m, BS_AT_BLOCK, BS_YOUNGEST);
+  s = make_shop(&m);
+  other = begin(&m);
+  fell = begin(&m);
+  WANT(close_cycle(&m, &s, other, fell) == BS_VICTIM);
+  DONE(bs_abort(&m, fell, &told));
+  DONE(bs_commit(&m, other, &told));
+  other = begin(&m);
+  again = DONE(bs_begin_again(&m, fell.age)).txn;
+  WANT(close_cycle(&m, &s, other, again) == BS_WAITING && is_told(0, other, BS_TOLD_VICTIM));
+  DONE(bs_abort(&m, other, &told));
+  WANT(is_told(0, again, BS_TOLD_GRANTED));
+  DONE(bs_end(&m));
+}
+
 /* Two young readers hold what an old writer asks for, and wait for what it holds. */
 static bs_status ask_among_readers(uint32_t victims) {
   bs_manager m;

@@ -109,6 +109,7 @@ int main(void) {
   TELL(implied_is_not_held);
   TELL(what_each_answer_asks);
   TELL(deadlocks_at_block);
+  TELL(a_victim_keeps_its_turn);
   TELL(whom_a_deadlock_takes);
   TELL(old_boards_do_no_harm);
   TELL(a_watcher_of_your_own);

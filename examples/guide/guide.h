@@ -87,6 +87,7 @@ void what_each_answer_asks(void);
 
 /* deadlocks.c */
 void deadlocks_at_block(void);
+void a_victim_keeps_its_turn(void);
 void whom_a_deadlock_takes(void);
 void old_boards_do_no_harm(void);
 

@@ -33,9 +33,9 @@ static void close_table(void) {
   DONE(bs_table_free(&table));
 }
 
-/* Moves one from a row to another: BS_DONE, or why it was rolled back. */
-static bs_status move_one(size_t from, size_t to) {
-  bs_txn t = DONE(bs_table_begin(table)).txn;
+/* Moves one from a row to another, work that wants to be done since a begin: BS_DONE, or why it was rolled back. */
+static bs_status move_one(size_t from, size_t to, uint64_t *since) {
+  bs_txn t = DONE(bs_table_begin_again(table, *since)).txn;
   bs_status status = bs_table_lock_path(table, t, shop.rows[from], BS_X, NULL).status;
   if (status == BS_DONE) status = bs_table_lock_path(table, t, shop.rows[to], BS_X, NULL).status;
   if (status == BS_DONE) {
@@ -45,13 +45,16 @@ static bs_status move_one(size_t from, size_t to) {
   } else {
     DONE(bs_table_abort(table, t, NULL));
   }
+  if (*since > t.age) *since = t.age; /* Its first begin. */
   return status;
 }
 
+/* A victim begins again with the number of its first begin, so that it does not fall for work that came later. */
 static void *move_many(void *arg) {
   size_t *from = arg, i;
   for (i = 0; i < 200; i++) {
-    while (move_one(*from, 1 - *from) == BS_VICTIM) continue;
+    uint64_t since = UINT64_MAX;
+    while (move_one(*from, 1 - *from, &since) == BS_VICTIM) continue;
   }
   return NULL;
 }

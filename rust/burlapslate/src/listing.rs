@@ -187,6 +187,8 @@ pub struct Counters {
     pub most_waiting: u64,
     /// The most that waited for one node at once, behind a lock that waits for it.
     pub longest_queue: u64,
+    /// Modes that were raised at once on a node for which somebody else waits still.
+    pub passed: u64,
 }
 
 /// A line for each: the number, and what it counts.
@@ -211,6 +213,10 @@ impl fmt::Display for Counters {
             (self.released_children, "locks were released by them"),
             (self.most_waiting, "transactions waited at once, at most"),
             (self.longest_queue, "waited for one node at once, at most"),
+            (
+                self.passed,
+                "locks were raised while somebody waited for their node",
+            ),
         ];
         lines
             .iter()

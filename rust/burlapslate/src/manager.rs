@@ -335,6 +335,33 @@ impl Manager {
         accepted(sys::bs_call_begin(&mut self.pinned.place)).map(|reply| reply.txn)
     }
 
+    /// A new transaction, as by [`begin`](Manager::begin), for work that an earlier one was to do, which fell or gave
+    /// up: `since` is the age of the first of these ([`Txn::age`](Txn::age)). Of a deadlock's members the one falls
+    /// whose work is the latest by that number, of several such the youngest; the number of one that
+    /// [`begin`](Manager::begin) began is its own age. So work that begins again with its first number falls only for
+    /// work that is older. With [`Victims::Fewest`](crate::Victims::Fewest) its oldest member falls also where nobody
+    /// else ends a deadlock. A number above its own age counts as that.
+    ///
+    /// Refused as [`begin`](Manager::begin).
+    ///
+    /// ```
+    /// # use burlapslate::{Asked, Detect, Manager, Mode, SLOTS};
+    /// let mut m = Manager::new(Detect::AtBlock, SLOTS)?;
+    /// let shop = m.add_inner(&[])?;
+    /// let first = m.begin()?;
+    /// m.abort(first)?; // It fell, say.
+    /// let other = m.begin()?;
+    /// let again = m.begin_again(first.age())?;
+    /// m.lock(other, shop, Mode::S)?;
+    /// m.lock(again, shop, Mode::S)?;
+    /// m.lock(again, shop, Mode::X)?;
+    /// assert_eq!(m.lock(other, shop, Mode::X)?.0, Asked::Victim); // Though it is the older of the two.
+    /// # Ok::<(), burlapslate::Refusal>(())
+    /// ```
+    pub fn begin_again(&mut self, since: u64) -> Result<Txn, Refusal> {
+        accepted(sys::bs_call_begin_again(&mut self.pinned.place, since)).map(|reply| reply.txn)
+    }
+
     /// Asks for a mode on a node: to read ([`IS`](Mode::IS), [`S`](Mode::S)) intentions to read or
     /// more are needed on one parent, to write ([`IX`](Mode::IX), [`SIX`](Mode::SIX),
     /// [`X`](Mode::X)) intentions to write or more on all parents. What is held and what is asked
@@ -1108,6 +1135,14 @@ impl Manager {
     /// Refused with [`NoSuchTxn`](Refusal::NoSuchTxn).
     pub fn waits_for(&self, txn: Txn) -> Result<Slots, Refusal> {
         found(sys::bs_call_waits_for(&self.pinned.place, txn))
+    }
+
+    /// How many stand ahead of a transaction that waits, in the queue of its node: those alone, and members that
+    /// will be raised, can be granted the node before it.
+    ///
+    /// Refused with [`NoSuchTxn`](Refusal::NoSuchTxn), [`NotWaiting`](Refusal::NotWaiting).
+    pub fn ahead(&self, txn: Txn) -> Result<u64, Refusal> {
+        accepted(sys::bs_call_ahead(&self.pinned.place, txn)).map(|reply| reply.count)
     }
 
     /// The deadlock of which the last victim fell; `None` where nobody ever fell.

@@ -244,6 +244,7 @@ unsafe extern "C" {
     ) -> Reply;
 
     pub(crate) safe fn bs_call_begin(manager: &mut Place) -> Reply;
+    pub(crate) safe fn bs_call_begin_again(manager: &mut Place, since: u64) -> Reply;
     pub(crate) safe fn bs_call_lock(
         manager: &mut Place,
         txn: Txn,
@@ -391,6 +392,7 @@ unsafe extern "C" {
     pub(crate) safe fn bs_call_most_bounds(manager: &Place) -> Reply;
     pub(crate) safe fn bs_call_living(manager: &Place, slot: u32) -> Reply;
     pub(crate) safe fn bs_call_doing(manager: &Place, txn: Txn) -> Reply;
+    pub(crate) safe fn bs_call_ahead(manager: &Place, txn: Txn) -> Reply;
     pub(crate) safe fn bs_call_lock_count(manager: &Place, txn: Txn) -> Reply;
     pub(crate) safe fn bs_call_lock_at(manager: &Place, txn: Txn, place: usize) -> Reply;
     pub(crate) safe fn bs_call_holders(manager: &Place, node: Node) -> Found;
@@ -619,8 +621,8 @@ mod layouts {
             (offset_of!(Deadlock, count), offset_of!(Deadlock, at)),
             (16, 24)
         );
-        assert_eq!(room::<Counters>(), (96, 8));
-        assert_eq!(offset_of!(Counters, longest_queue), 88);
+        assert_eq!(room::<Counters>(), (104, 8));
+        assert_eq!(offset_of!(Counters, passed), 96);
         assert_eq!(room::<Found>(), (8 + set, 8));
         assert_eq!(
             (offset_of!(Found, status), offset_of!(Found, slots)),

@@ -148,14 +148,43 @@ impl Table {
     /// # Ok::<(), burlapslate::Refusal>(())
     /// ```
     pub fn begin_in_turn(&self) -> Result<Session<'_>, Refusal> {
-        let begun = self.begin_until(None)?;
+        let begun = self.begin_until(None, None)?;
+        begun.ok_or(Refusal::TooManyTxns) // But no time comes first.
+    }
+
+    /// As [`begin`](Table::begin), of a transaction for work that wants to be done since an earlier begin, as
+    /// [`Manager::begin_again`] has it.
+    ///
+    /// ```
+    /// # use burlapslate::{Detect, Mode, Stop, Table, SLOTS};
+    /// let table = Table::new(Detect::AtBlock, SLOTS)?;
+    /// let db = table.add_inner(&[])?;
+    /// let mut session = table.begin()?;
+    /// let since = session.txn().age();
+    /// while session.lock(db, Mode::X) == Err(Stop::Victim) {
+    ///     session.abort();
+    ///     session = table.begin_again(since)?;
+    /// }
+    /// session.commit()?;
+    /// # Ok::<(), Stop>(())
+    /// ```
+    pub fn begin_again(&self, since: u64) -> Result<Session<'_>, Refusal> {
+        let txn = self.ask(|m| m.begin_again(since))?;
+        Ok(Session::of(self, txn))
+    }
+
+    /// As [`begin_in_turn`](Table::begin_in_turn), for work that wants to be done since an earlier begin. That is no
+    /// earlier place in the line of those who sleep for a slot.
+    pub fn begin_again_in_turn(&self, since: u64) -> Result<Session<'_>, Refusal> {
+        let begun = self.begin_until(Some(since), None)?;
         begun.ok_or(Refusal::TooManyTxns) // But no time comes first.
     }
 
     /// As [`begin_in_turn`](Table::begin_in_turn), but it sleeps no longer than this time, and is
     /// answered [`Stop::TimedOut`] then. A slot that is free at the same moment is a begin.
     pub fn begin_timeout(&self, time: Duration) -> Result<Session<'_>, Stop> {
-        self.begin_until(deadline(time))?.ok_or(Stop::TimedOut)
+        self.begin_until(None, deadline(time))?
+            .ok_or(Stop::TimedOut)
     }
 
     /// As [`begin`](Table::begin), of a session that is one of the table's owners: whatever keeps it, as a
@@ -186,6 +215,19 @@ impl Table {
     /// As [`begin_in_turn`](Table::begin_in_turn), of a session that is one of the table's owners.
     pub fn begin_shared_in_turn(self: &Arc<Table>) -> Result<Session<'static>, Refusal> {
         Ok(Session::shared(self, self.begin_in_turn()?))
+    }
+
+    /// As [`begin_again`](Table::begin_again), of a session that is one of the table's owners.
+    pub fn begin_shared_again(self: &Arc<Table>, since: u64) -> Result<Session<'static>, Refusal> {
+        Ok(Session::shared(self, self.begin_again(since)?))
+    }
+
+    /// As [`begin_again_in_turn`](Table::begin_again_in_turn), of a session that is one of the table's owners.
+    pub fn begin_shared_again_in_turn(
+        self: &Arc<Table>,
+        since: u64,
+    ) -> Result<Session<'static>, Refusal> {
+        Ok(Session::shared(self, self.begin_again_in_turn(since)?))
     }
 
     /// As [`begin_timeout`](Table::begin_timeout), of a session that is one of the table's owners.
@@ -388,13 +430,17 @@ impl Table {
 
     /// Begins, or sleeps for a slot; `None`, where its time came first. Whether its turn has come is asked
     /// before the clock.
-    fn begin_until(&self, until: Option<Instant>) -> Result<Option<Session<'_>>, Refusal> {
+    fn begin_until(
+        &self,
+        since: Option<u64>,
+        until: Option<Instant>,
+    ) -> Result<Option<Session<'_>>, Refusal> {
         let mut guarded = self.guarded();
-        match guarded.manager.begin() {
+        match begin_since(&mut guarded.manager, since) {
             Err(Refusal::TooManyTxns) => {}
             begun => return Ok(Some(Session::of(self, begun?))),
         }
-        let place = guarded.turns.join()?;
+        let place = guarded.turns.join(since)?;
         loop {
             drop(guarded);
             park_until(until);
@@ -675,12 +721,20 @@ fn no_paths() -> Result<Box<[Option<Path>]>, Refusal> {
     Ok(paths.into_boxed_slice())
 }
 
+/// Begins a transaction for new work, or for such as wants to be done since an earlier begin.
+fn begin_since(manager: &mut Manager, since: Option<u64>) -> Result<Txn, Refusal> {
+    match since {
+        Some(since) => manager.begin_again(since),
+        None => manager.begin(),
+    }
+}
+
 /// Behind what may have ended a transaction: begins for those who sleep for a slot, while one is free. So
 /// no hold of the latch leaves a slot free while somebody sleeps for one.
 fn hand_on(guarded: &mut Guarded) {
     let Guarded { manager, turns, .. } = guarded;
     while turns.has_next() {
-        match manager.begin() {
+        match begin_since(manager, turns.next_since()) {
             Err(Refusal::TooManyTxns) => return,
             begun => turns.serve(begun),
         }

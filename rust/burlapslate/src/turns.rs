@@ -17,6 +17,8 @@ pub(crate) struct Turns {
 
 struct Turn {
     place: Place,
+    /// When its work began, where that was earlier.
+    since: Option<u64>,
     sleeper: Thread,
     /// What its begin was answered; of those in front alone.
     begun: Option<Result<Txn, Refusal>>,
@@ -41,8 +43,8 @@ impl Turns {
         }
     }
 
-    /// This thread comes into the line.
-    pub(crate) fn join(&mut self) -> Result<Place, Refusal> {
+    /// This thread comes into the line, for new work or for such as wants to be done since an earlier begin.
+    pub(crate) fn join(&mut self, since: Option<u64>) -> Result<Place, Refusal> {
         self.line
             .try_reserve(1)
             .map_err(|_refused| Refusal::NoMemory)?;
@@ -52,6 +54,7 @@ impl Turns {
         MY_ARRIVAL.set(self.arrivals);
         self.line.push_back(Turn {
             place,
+            since,
             sleeper: thread::current(),
             begun: None,
         });
@@ -61,6 +64,11 @@ impl Turns {
     /// Whether somebody sleeps whose turn has not come.
     pub(crate) fn has_next(&self) -> bool {
         self.served < self.line.len()
+    }
+
+    /// Since which begin the work of the next one wants to be done, where that was earlier than its own.
+    pub(crate) fn next_since(&self) -> Option<u64> {
+        self.line[self.served].since
     }
 
     /// How many sleep whose turn has not come.

@@ -58,7 +58,9 @@ fn a_conversion_goes_ahead() {
     grant(&mut m, a, &[root], Mode::S);
     grant(&mut m, b, &[root], Mode::S);
     wait(&mut m, c, root, Mode::X);
+    assert_eq!((m.ahead(c), m.ahead(a)), (Ok(0), Err(Refusal::NotWaiting)));
     wait(&mut m, a, root, Mode::X);
+    assert_eq!((m.ahead(c), m.ahead(a)), (Ok(1), Ok(0)));
     tells(
         m.commit(b).unwrap(),
         &[Notice::Granted {
@@ -118,6 +120,58 @@ fn a_deadlock_has_a_victim() {
             mode: Mode::X,
         }],
     );
+}
+
+/// Of two who read the root, and both want to write it, the first one falls, though it asks last.
+fn falls_behind(m: &mut Manager, root: Node, falls: Txn, stays: Txn) {
+    grant(m, falls, &[root], Mode::S);
+    grant(m, stays, &[root], Mode::S);
+    wait(m, stays, root, Mode::X);
+    assert_eq!(ask(m, falls, root, Mode::X), Asked::Victim);
+    let granted = Notice::Granted {
+        txn: stays,
+        node: root,
+        mode: Mode::X,
+    };
+    tells(m.abort(falls).unwrap(), &[granted]);
+    m.commit(stays).unwrap();
+}
+
+/// Who falls is the one whose work began last; of one begin the younger falls.
+#[test]
+fn a_victim_keeps_its_turn() {
+    let (mut m, root) = at_block();
+    let [first] = begin(&mut m);
+    m.abort(first).unwrap();
+    for since in [first.age(), 0] {
+        let [other] = begin(&mut m);
+        let again = m.begin_again(since).unwrap();
+        assert_eq!(again.age(), other.age() + 1);
+        falls_behind(&mut m, root, other, again);
+    }
+    let [other] = begin(&mut m);
+    let again = m.begin_again(other.age()).unwrap();
+    falls_behind(&mut m, root, again, other);
+    let [other] = begin(&mut m);
+    let again = m.begin_again(u64::MAX).unwrap();
+    falls_behind(&mut m, root, again, other);
+}
+
+/// A member that fits passes who waits, and is counted where that raised its mode.
+#[test]
+fn a_conversion_passes() {
+    let (mut m, root) = at_block();
+    let [a, b] = begin(&mut m);
+    grant(&mut m, a, &[root], Mode::S);
+    wait(&mut m, b, root, Mode::X);
+    for (mode, held, passed) in [
+        (Mode::IS, Mode::S, 0),
+        (Mode::IX, Mode::SIX, 1),
+        (Mode::X, Mode::X, 2),
+    ] {
+        assert_eq!(m.try_lock(a, root, mode), Ok(held));
+        assert_eq!(m.counters().passed, passed);
+    }
 }
 
 /// Two young readers hold what an old writer asks for, and wait for what it holds.

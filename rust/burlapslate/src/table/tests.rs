@@ -115,6 +115,39 @@ fn turns_over_four_slots() {
     turns_over(4);
 }
 
+/// In the line the old work has no earlier place; it keeps its turn behind it.
+#[test]
+fn work_that_begins_again_sleeps_in_line() {
+    let (table, root) = &table_of(2);
+    let (old, other) = (table.begin().unwrap(), table.begin().unwrap());
+    let since = age(&old);
+    thread::scope(|scope| {
+        let new_work = scope.spawn(|| table.begin_in_turn().unwrap());
+        await_line(table, 1);
+        let old_work = scope.spawn(|| table.begin_again_in_turn(since).unwrap());
+        await_line(table, 2);
+        let refused = table.begin_again(since).unwrap_err();
+        assert_eq!(refused, Refusal::TooManyTxns);
+        old.abort();
+        let mut new_work = new_work.join().unwrap();
+        other.commit().unwrap();
+        let mut old_work = old_work.join().unwrap();
+        assert_eq!(age(&old_work), age(&new_work) + 1);
+        new_work.lock(*root, Mode::S).unwrap();
+        old_work.lock(*root, Mode::S).unwrap();
+        let raises = scope.spawn(move || {
+            assert_eq!(old_work.lock(*root, Mode::X), Ok(Mode::X));
+            old_work.commit().unwrap();
+        });
+        while table.with(|m| m.counters().waited) == 0 {
+            thread::yield_now();
+        }
+        assert_eq!(new_work.lock(*root, Mode::X), Err(Stop::Victim));
+        new_work.abort();
+        raises.join().unwrap();
+    });
+}
+
 /// Not even while the one who came earlier is still asleep over its slot.
 #[test]
 fn a_later_begin_does_not_pass() {
