@@ -1,22 +1,28 @@
 #!/usr/bin/env bash
-# c_library.sh [--look | --headers] [--slots N]: builds the library for C where it is not there or older than its sources,
+# c_library.sh [--look | --headers | --beside LOG] [--slots N]: builds the library for C where it is not there or older than its sources,
 # and prints what a program over include/burlapslate.h is linked with: what is written in C (c/), the proved library, and
 # the toolchain's calls for memory. `rt` is to be found by PATH. With --look it builds nothing, and ends with status 1
 # where there is something to prove. With --headers it builds nothing, and prints the folder in which the headers of the
 # library stand once it is built. N is how many transactions can live at once: 128, or 1024. The library for 1024 is
-# proved in out/slots-1024, over gl_wide_slots, and stands there with its headers. CC names another compiler than cc.
+# proved in out/slots-1024, over gl_wide_slots, and stands there with its headers. With --beside it goes beside an `rt ci`
+# that writes this log: it proves the library for 128 as soon as what that stands on is there, and leaves it where it
+# belongs once a line 'rt ci ended with status N' stands there. CC names another compiler than cc.
 set -uo pipefail
 top=$(cd "$(dirname "$0")/.." && pwd) || exit 2
 
 usage() {
-  sed -n '2,8s/^# //p' "$0" >&2
+  sed -n '2,10s/^# //p' "$0" >&2
   exit 2
 }
 
-asked='' slots=128
+asked='' slots=128 log=''
 while [ $# -gt 0 ]; do
   case $1 in
     --look | --headers) asked=$1 && shift ;;
+    --beside)
+      [ $# -ge 2 ] || usage
+      log=$2 && shift 2
+      ;;
     --slots)
       [ $# -ge 2 ] || usage
       slots=$2 && shift 2
@@ -53,8 +59,18 @@ is_newer() {
   return 1
 }
 
-# build_over_kept: as `rt lib`, over the proved libraries that `rt ci` has left, which `rt lib` proves again. It is
-# handed what `rt check` hands, so that nothing is proved again which `rt check` has kept of gl_c; `rt ci` keeps none.
+# build_in FOLDER LIBRARY WORD..: proves and builds gl_c, whose sources stand in the folder, over the libraries that the
+# words hand it. It is handed what `rt check` hands, so that nothing is proved again which `rt check` has kept of it.
+build_in() {
+  cd "$1" && mkdir -p out || return 1
+  "$kit/bin/rattle" build --crate-name gl_c src/lib.rt --crate-type staticlib \
+    --extern "std=$kit/rlibs/std.rlib" -L "dependency=$kit/rlibs" "${@:3}" \
+    --antt-project "$kit/rattle/logic/antt-project.json" --logic-built "$kit/logic_built" \
+    --links gl_c= --incremental out/incremental --toolchain "$kit/toolchain" --backend llvm --jobs 2 -o "$2"
+}
+
+# build_over_kept: as `rt lib`, over the proved libraries that `rt ci` has left, which `rt lib` proves again; of gl_c
+# `rt ci` keeps none.
 build_over_kept() {
   local crate rlib with=()
   for crate in "${named[@]}"; do
@@ -63,11 +79,45 @@ build_over_kept() {
     [ -e "$rlib" ] && ! is_newer "$rlib" "$crate" || return 1
     with+=(--extern "$crate=$rlib" -L "dependency=${rlib%/*}")
   done
-  cd "$top/crates/gl_c" && mkdir -p out || return 1
-  "$kit/bin/rattle" build --crate-name gl_c src/lib.rt --crate-type staticlib \
-    --extern "std=$kit/rlibs/std.rlib" -L "dependency=$kit/rlibs" "${with[@]}" \
-    --antt-project "$kit/rattle/logic/antt-project.json" --logic-built "$kit/logic_built" \
-    --links gl_c= --incremental out/incremental --toolchain "$kit/toolchain" --backend llvm --jobs 2 -o "$library"
+  build_in "$top/crates/gl_c" "$library" "${with[@]}"
+}
+
+# has_ended: whether the `rt ci` of the log has ended, and has put back what stood in the place of its libraries.
+has_ended() {
+  grep -q '^rt ci ended with status ' "$log"
+}
+
+# build_beside FOLDER: the same beside an `rt ci`, in the folder. Links keep the libraries there, since that run puts back
+# at its end what stood in their place. Fails where a library does not come.
+build_beside() {
+  local crate rlib with=()
+  cp -r "$top/crates/gl_c/"{src,specs,proofs} "$1" || return 1
+  for crate in "${named[@]}"; do
+    rlib=$kit/rlibs/$crate.rlib
+    if [ -d "$top/crates/$crate" ]; then
+      rlib=$1/$crate.rlib
+      until grep -q "^rt: $crate \(proved$\|is kept: \)" "$log"; do
+        ! has_ended || return 1
+        sleep 2
+      done
+      cp -al "$top/crates/$crate/out/rlib/$crate.rlib" "$rlib" || return 1
+    fi
+    with+=(--extern "$crate=$rlib" -L "dependency=${rlib%/*}")
+  done
+  build_in "$1" "$1/libgl_c.a" "${with[@]}"
+}
+
+# put_beside: builds so, and once that run has ended puts the library in its place. Where it comes to nothing the library
+# is built behind that run, as ever.
+put_beside() {
+  local work
+  work=$(mktemp -d "$top/.git/library.XXXXXX") || return
+  if (build_beside "$work"); then
+    until has_ended; do sleep 1; done
+    mkdir -p "${library%/*}" && mv "$work/libgl_c.a" "$library"
+  fi
+  until has_ended; do sleep 1; done
+  rm -rf "$work"
 }
 
 # is_old: whether there is no library, or a source is newer than it.
@@ -106,9 +156,12 @@ if [ "$asked" = --look ]; then
   ! is_old
   exit
 fi
-if is_old; then
+[ -z "$log" ] || ! is_old || put_beside >&2
+if is_old || [ -n "$log" ]; then
   sum=$("$top/tools/sources.sh" crates) || exit 1
-  if [ "$slots" = 128 ]; then
+  if ! is_old; then
+    true # It is there by now.
+  elif [ "$slots" = 128 ]; then
     (build_over_kept) >&2 || (cd "$top/crates/gl_c" && rt lib) >&2 || exit 1
   else
     (build_wide) >&2 || exit 1

@@ -181,7 +181,7 @@ class GrowingLibraries(Libraries):
             said = open(self.log, encoding="utf-8", errors="replace").read()
         except OSError:
             said = "0 passed, 1 failed\n"
-        for name in sorted(set(re.findall(r"^rt: (\w+) proved$", said, re.M)) - self.proved):
+        for name in sorted(set(re.findall(r"^rt: (\w+) (?:proved$|is kept: )", said, re.M)) - self.proved):
             if os.path.isdir(super().folder(name)):
                 shutil.copytree(super().folder(name), f"{self.kept}/{name}", copy_function=os.link)
             self.proved.add(name)

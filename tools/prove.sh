@@ -1,0 +1,30 @@
+#!/usr/bin/env bash
+# prove.sh FOLDER: `rt ci` at the top of the repository, with its status, its output and its last line. Beside it goes a
+# run over the longest chain of crates that stand on each other, in a copy in FOLDER without wrong bodies. `rt ci` over all
+# gives one processor to each proof where RT_JOBS is set, and two of four have nothing to do while the chain is proved.
+# The run over the chain gives each proof the processors that are idle; of the crates of tests it has the one that takes
+# longest, which the other would begin last. What passes there is kept by the toolchain, and the other run takes it. It writes FOLDER/chain.log. Where nothing can be kept, or where the toolchain takes no names of
+# crates, it ends at once or in vain, and `rt ci` proves all itself.
+set -uo pipefail
+[ $# -eq 1 ] || { sed -n '2s/^# //p' "$0" >&2; exit 2; }
+folder=$1
+cd "$(dirname "$0")/.." || exit 2
+log=$folder/chain.log
+: >"$log"
+
+chain() {
+  mkdir "$folder/chain" || return
+  tar --exclude=out --exclude=must-fail --exclude=wrong -cf - crates crates.txt HANDLES | tar -xf - -C "$folder/chain" || return
+  cd "$folder/chain" && env -u RT_JOBS rt ci gl_crew test_threads >"$log" 2>&1
+}
+
+chain &
+chained=$!
+# So it has begun the chain. The other run waits for each of its crates, and looks once a second whether that is there: by
+# then the next one is begun. Meanwhile it proves all others.
+sleep 5
+export RT_JOBS=${RT_JOBS:-$(tools/jobs.sh)}
+nice -n 5 rt ci
+status=$?
+wait "$chained"
+exit "$status"
