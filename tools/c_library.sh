@@ -111,13 +111,12 @@ build_beside() {
 # is built behind that run, as ever.
 put_beside() {
   local work
-  work=$(mktemp -d "$top/.git/library.XXXXXX") || return
-  if (build_beside "$work"); then
+  if work=$(mktemp -d "$top/.git/library.XXXXXX") && (build_beside "$work"); then
     until has_ended; do sleep 1; done
     mkdir -p "${library%/*}" && mv "$work/libgl_c.a" "$library"
   fi
   until has_ended; do sleep 1; done
-  rm -rf "$work"
+  [ -z "$work" ] || rm -rf "$work"
 }
 
 # is_old: whether there is no library, or a source is newer than it.
