@@ -82,9 +82,10 @@ build_over_kept() {
   build_in "$top/crates/gl_c" "$library" "${with[@]}"
 }
 
-# has_ended: whether the `rt ci` of the log has ended, and has put back what stood in the place of its libraries.
+# has_ended: whether the `rt ci` of the log has ended, and has put back what stood in the place of its libraries; or the
+# log is gone, as behind a test run that has failed.
 has_ended() {
-  grep -q '^rt ci ended with status ' "$log"
+  [ ! -e "$log" ] || grep -q '^rt ci ended with status ' "$log"
 }
 
 # build_beside FOLDER: the same beside an `rt ci`, in the folder. Links keep the libraries there, since that run puts back

@@ -3,8 +3,9 @@
 # run over the longest chain of crates that stand on each other, in a copy in FOLDER without wrong bodies. `rt ci` over all
 # gives one processor to each proof where RT_JOBS is set, and two of four have nothing to do while the chain is proved.
 # The run over the chain gives each proof the processors that are idle; of the crates of tests it has the one that takes
-# longest, which the other would begin last. What passes there is kept by the toolchain, and the other run takes it. It writes FOLDER/chain.log. Where nothing can be kept, or where the toolchain takes no names of
-# crates, it ends at once or in vain, and `rt ci` proves all itself.
+# longest, which the other would begin last. What passes there is kept by the toolchain, and the other run takes it. It
+# writes FOLDER/chain.log. Where nothing can be kept, or where the toolchain takes no names of crates, it ends at once or
+# in vain, and `rt ci` proves all itself.
 set -uo pipefail
 [ $# -eq 1 ] || { sed -n '2s/^# //p' "$0" >&2; exit 2; }
 folder=$1
