@@ -12,13 +12,15 @@ use Rattle.indexmap.specs.IndexMap.{swap_remove_by}
 use Rattle.std.proofs.Common.{ap, ap₂, arith, lt-ltb, refl, subst, sym, ◌∙◌}
 use Rattle.std.proofs.Math.Bool.{and-false}
 use Rattle.std.proofs.lemmas.Bool.Decides.{nat_tests}
-use Rattle.std.proofs.lemmas.List.{get_or-set_other, get_or-set_same, get_or-take, length-take-le}
+use Rattle.std.proofs.lemmas.List.{get_or-set_other, get_or-set_same, get_or-take, length-take-le, take-set, take-take}
+use Rattle.std.proofs.lemmas.Map.Keys.{IsDistinct-head, IsDistinct-tail}
 use Rattle.std.proofs.lemmas.Option.{get_or_from_slice_get, slice_get-get_or, slice_get_within}
-use Rattle.std.specs.List.{list_any, position_or_len}
+use Rattle.std.specs.List.{AllByRecursion, IsDistinct, list_any, position_or_len}
 use Rattle.std.specs.Map.{lookup}
 use Rattle.std.specs.Option.{option_map_or}
-use Rattle.std.specs.Prelude.{Bool, List, None, Option, Some, [], cond, false, get_or, if◌then◌else◌, is_some, length, map, nat_lt, not, slice_get}
-use Rattle.std.specs.Prelude.{slice_index_or, slice_set, suc, swap_remove, true, unwrap_or, zero, ℕ, ◌&&◌, ◌++◌, ◌+◌, ◌-◌, ◌<◌, ◌==◌, ◌∷◌, ◌≡◌, ◌≢◌, ◌≤◌}
+use Rattle.std.specs.Prelude.{Bool, List, None, Option, Some, [], cond, drop, false, get_or, if◌then◌else◌, is_some, length, map, nat_lt, not, slice_get}
+use Rattle.std.specs.Prelude.{slice_index_or, slice_set, suc, swap_remove, take, true, unwrap_or, zero, ℕ, ◌&&◌, ◌++◌, ◌+◌, ◌-◌, ◌<◌, ◌==◌, ◌∷◌, ◌≡◌, ◌≢◌, ◌≤◌}
+use Rattle.std.specs.Prelude.{◌||◌}
 use Rattle.std.proofs.lemmas.List.{length-set}
 
 -- What a write at one node does at every node.
@@ -243,6 +245,66 @@ module _ (ks rest : List NodeId) (at : ℕ) (n : NodeId) (is : rest ≡ swap_rem
       let other : m ≢ n = gone m (listed_at rest i m found) in
       let was = moved_later ks taken.0 at taken.1 n taken.2 here i m low (ap (λ l. slice_get l i) (sym (is ∙ taken.3)) ∙ found) other in
       same m other ∙ later was.0 m was.1 was.2
+
+-- a node that is among them stands at a place
+pub place_of_listed : (ks : List NodeId) (n : NodeId) → list_any (same_node n) ks ≡ true → (i : ℕ) × (slice_get ks i ≡ Some n)
+place_of_listed [] n h = absurd (cc)
+place_of_listed (k ∷ ks) n h = split (same_node n k) (λ e. (0, ap Some (sym (same_node-equal n k e))))
+    (λ e. let rest = place_of_listed ks n (sym (ap (λ b. b || list_any (same_node n) ks) e) ∙ h) in (suc rest.0, rest.1))
+
+-- the same among those from a place on
+pub place_from : (ks : List NodeId) (mark : ℕ) (n : NodeId) → list_any (same_node n) (drop mark ks) ≡ true → (i : ℕ) × (mark ≤ i) × (slice_get ks i ≡ Some n)
+place_from ks zero n h = let at = place_of_listed ks n h in (at.0, omega arith, at.1)
+place_from [] (suc mark) n h = absurd (cc)
+place_from (k ∷ ks) (suc mark) n h = let rest = place_from ks mark n h in let low : mark ≤ rest.0 = rest.1 in (suc rest.0, omega (arith, low), rest.2)
+
+-- a node that stands behind another where each stands once is another
+later_differs : (k : NodeId) (ks : List NodeId) (at : ℕ) (n : NodeId) → AllByRecursion (λ y. same_node k y ≡ false) ks → slice_get ks at ≡ Some n
+    → same_node k n ≡ false
+later_differs k [] at n h here = absurd (cc)
+later_differs k (x ∷ xs) zero n h here = ap (same_node k) (sym (some_is here)) ∙ h.0
+later_differs k (x ∷ xs) (suc at) n h here = later_differs k xs at n h.1 here
+
+-- so the first of a node is the one at its place
+once_at : (ks : List NodeId) (at : ℕ) (n : NodeId) → IsDistinct same_node ks → slice_get ks at ≡ Some n → position_or_len (same_node n) ks ≡ at
+once_at [] at n once here = absurd (cc)
+once_at (k ∷ ks) zero n once here =
+    ap (λ b. cond (not b) (1 + position_or_len (same_node n) ks) 0) (same_node-from_equal n k (sym (some_is here)))
+once_at (k ∷ ks) (suc at) n once here =
+    let rest : position_or_len (same_node n) ks ≡ at = once_at ks at n (IsDistinct-tail same_node k ks once) here in
+    let more : cond (not (same_node n k)) (1 + position_or_len (same_node n) ks) 0 ≡ 1 + position_or_len (same_node n) ks =
+    ap (λ b. cond (not b) (1 + position_or_len (same_node n) ks) 0)
+    (same_node-sym n k ∙ later_differs k ks at n (IsDistinct-head same_node k ks once) here) in
+    omega (arith, more, rest)
+
+-- the first that passes is taken out of its place
+taken_there : {K : Type 0} (t : K → Bool) (ks : List K) (at : ℕ) → position_or_len t ks ≡ at → at < length ks
+    → (d : K) × (swap_remove_by t ks ≡ swap_remove ks at d)
+taken_there t [] at first lt = absurd (omega arith)
+taken_there t (x ∷ xs) at first lt = (
+  x,
+  ap (λ p. option_map_or (λ i. swap_remove (x ∷ xs) i x) (cond (nat_lt p (length (x ∷ xs))) (Some p) None) (x ∷ xs)) first
+      ∙ ap (λ b. option_map_or (λ i. swap_remove (x ∷ xs) i x) (cond b (Some at) None) (x ∷ xs)) (lt-ltb at (length (x ∷ xs)) lt),
+)
+
+-- a node is taken out where each stands once
+module _ (ks rest : List NodeId) (n : NodeId) (is : rest ≡ swap_remove_by (same_node n) ks) where
+  -- those before it stay
+  pub stay_before : IsDistinct same_node ks → (at : ℕ) → slice_get ks at ≡ Some n → take at rest ≡ take at ks
+  stay_before once at here =
+      let lt : at < length ks = slice_get_within ks at n here in
+      let there = taken_there (same_node n) ks at (once_at ks at n once here) lt in
+      let last : NodeId = slice_index_or ks (length ks - 1) there.0 in
+      ap (take at) (is ∙ there.1) ∙ take-take at (length ks - 1) (slice_set ks at last) (omega (arith, lt)) ∙ take-set ks at last
+
+  -- and it was one
+  pub one_fewer : list_any (same_node n) ks ≡ true → length rest + 1 ≡ length ks
+  one_fewer among =
+      let at = place_of_listed ks n among in
+      let lt : at.0 < length ks = slice_get_within ks at.0 n at.1 in
+      let there = taken_first (same_node n) ks at.0 n at.1 (same_node-refl n) in
+      let shorter : length rest ≡ length ks - 1 = ap length (is ∙ there.3) ∙ moved_length ks there.0 at.0 there.1 n there.2 at.1 in
+      omega (arith, lt, shorter)
 
 -- what is still listed was not taken out
 pub not_taken : (a b : Bool) → (a && not b) ≡ true → b ≡ false

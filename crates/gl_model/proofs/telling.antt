@@ -4,3 +4,4 @@ pub mod Ways
 pub mod Lists
 pub mod Fronts
 pub mod GivenUp
+pub mod Unlocks

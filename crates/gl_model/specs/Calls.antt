@@ -1,6 +1,6 @@
 -- What each call of the table leaves, why it is refused, and what it answers.
 use Rattle.std.specs.Prelude.{ℕ, Bool, not, ◌&&◌, ◌||◌, ◌≡◌, ◌+◌, true, false, ◌==◌, List, [], Option, Some, None, if◌then◌else◌, is_none, ◌∷◌, ◌++◌, is_some}
-use Rattle.std.specs.Prelude.{length, min}
+use Rattle.std.specs.Prelude.{drop, length, min, take}
 use Rattle.std.specs.Prelude.{IsOk, IfErr, OnErr, OnOk, Result, Ok, Err, ◌⊎◌}
 use Rattle.std.specs.List.{list_any, list_all, count_by, filter, find}
 use Rattle.gl_modes.specs.declared.node.NodeId.{NodeId}
@@ -68,6 +68,19 @@ granted s t n m = with_grant s t n (wanted s t n m)
 -- one node is released, and grants from its front
 abbrev pub unlocked : State → ℕ → NodeId → State
 unlocked s t n = pumped (with_grant s t n NL) (same_node n)
+
+-- nodes are released one after the other, each where it is held and no child of it is
+abbrev pub Unlocks : State → ℕ → List NodeId → State → Type 0
+Unlocks s t [] s' = s' ≡ s
+Unlocks s t (n ∷ ns) s' = (holds (members s n) t ≡ true) × (holds_child s t n ≡ false) × Unlocks (unlocked s t n) t ns s'
+
+-- t, which held nodes in this order, went back to a mark in that order (own, savepoints): it released some of them, which are gone from it, none of those
+-- before the mark, which stand as they stood, and of each other node that it kept it holds a child
+pub record GoesBack (s : State) (t mark : ℕ) (order ns order' : List NodeId) (s' : State) : Type 0 where
+  pub unlocks : Unlocks s t ns s'
+  pub fewer : length order' + length ns ≡ length order
+  pub before : take mark order' ≡ take mark order
+  pub stays : (n : NodeId) → list_any (same_node n) (drop mark order') ≡ true → holds_child s' t n ≡ true
 
 -- t's wait is taken back, and its node grants from its front
 abbrev pub cancelled : State → ℕ → State

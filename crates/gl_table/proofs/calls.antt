@@ -6,6 +6,7 @@ pub mod Places
 pub mod Calls
 pub mod Locking
 pub mod Ends
+pub mod Back
 pub mod Moves
 pub mod Departing
 pub mod Records

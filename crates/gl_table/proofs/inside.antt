@@ -1,6 +1,7 @@
 -- Headers, lists and seats: what the code keeps.
 pub mod Slots
 pub mod Lists
+pub mod Orders
 pub mod Seats
 pub mod Woken
 pub mod Boards
@@ -9,6 +10,7 @@ pub mod Released
 pub mod Withdrawn
 pub mod Departures
 pub mod Marked
+pub mod Back
 pub mod Asks
 pub mod Enqueues
 pub mod TurnedAway

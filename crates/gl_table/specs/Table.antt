@@ -97,6 +97,10 @@ row_of (n, e) = record { node = n; mode = e.mode; children = e.children }
 abbrev pub rows_of : TableView → ℕ → List LockRow
 rows_of v t = map row_of (get_or v.lists t [])
 
+-- the nodes of a slot, in the order of its list
+abbrev pub nodes_of : TableView → ℕ → List NodeId
+nodes_of v t = keys_of (get_or v.lists t [])
+
 -- the row is of this node
 abbrev pub is_row_of : NodeId → LockRow → Bool
 is_row_of n r = same_node n r.node

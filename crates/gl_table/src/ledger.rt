@@ -18,7 +18,7 @@ ghost use Rattle.gl_table.specs.inside.Steps.{AreExactFor, CanTellWaiters, HasWo
 ghost use Rattle.gl_model.specs.Lawful.{effect_on};
 ghost use Rattle.gl_table.specs.inside.Seats.{txn_in, txns_of};
 ghost use Rattle.gl_table.specs.Table.{row_of};
-ghost use Rattle.gl_table.specs.inside.Slots.{CanEnd, CanHold, Wakes, books_of, by_list, counted_by, held_by};
+ghost use Rattle.gl_table.specs.inside.Slots.{CanEnd, CanHold, Wakes, books_of, by_list, childless_in, counted_by, held_by};
 
 use crate::effective::effective;
 use crate::seat::Seat;
@@ -120,6 +120,18 @@ impl Ledger {
             mode,
             children,
         })
+    }
+
+    /// The node at a place in the list of a slot, where no child of it is held.
+    pub(crate) fn childless_at(&self, slot: Slot, place: usize) -> Option<NodeId>
+        ensures { result ≡ by_list (λ l. childless_in (slice_get l.entries.entries place)) None self.now.lists.items slot }
+    {
+        let (node, entry) = self.lists.get(slot as usize)?.at(place)?;
+        if entry.children == 0 {
+            Some(node)
+        } else {
+            None
+        }
     }
 
     /// The held child of a node that was born first.

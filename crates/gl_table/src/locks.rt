@@ -8,6 +8,7 @@ use crate::ledger::Ledger;
 use gl_graph::Graph;
 use gl_header::GrantList;
 
+mod back;
 mod end;
 mod reads;
 mod release;

@@ -1,10 +1,10 @@
 -- One list of many is written, gets room, a node or a mode. For all that writes lists.
 use Rattle.gl_table.proofs.Words.{[], ◌&&◌, ◌+◌, ◌<◌, ◌==◌, ◌^◌, ◌||◌, ◌∙◌, ◌∷◌, ◌≡◌, ◌≢◌, ◌≤◌, Agrees, and-false, ap, ap₂, arith, as_left, Bool, by_list}
 use Rattle.gl_table.proofs.Words.{CanHold, count_by, count_in, count_of, counted_by, CountsHeld, Entry, false, fun_ext, HasRoom, HasRoomAt, held_by}
-use Rattle.gl_table.proofs.Words.{if◌then◌else◌, is_listed, is_some, IsWritten, KeepsLists, length, length-set, List, list_any, listed_by, LockList, lookup}
-use Rattle.gl_table.proofs.Words.{map-set_same, Mode, mode_in, mode_of, nat_tests, NL, NodeId, not, number_same, option_map_or, refl, room_by, same_mode}
-use Rattle.gl_table.proofs.Words.{same_mode-equal, same_node, same_node-equal, same_number, slice_get, slice_get-get_or, slice_index_or, slice_set, Some, spare}
-use Rattle.gl_table.proofs.Words.{split, State, Strikes, subst, suc, sym, true, unlisted, unlisted_by, Writing, zero, ℕ}
+use Rattle.gl_table.proofs.Words.{if◌then◌else◌, is_listed, is_some, IsWritten, KeepsLists, keys, LeavesPlace, length, length-set, List, list_any, listed_by}
+use Rattle.gl_table.proofs.Words.{LockList, lookup, map-set_same, Mode, mode_in, mode_of, nat_tests, NL, NodeId, nodes_by, not, number_same, option_map_or}
+use Rattle.gl_table.proofs.Words.{refl, room_by, same_mode, same_mode-equal, same_node, same_node-equal, same_number, slice_get, slice_get-get_or}
+use Rattle.gl_table.proofs.Words.{slice_index_or, slice_set, Some, spare, split, State, Strikes, subst, suc, sym, true, unlisted, unlisted_by, Writing, zero, ℕ}
 use Rattle.gl_model.proofs.queues.Waiters.{if-false, if-true}
 
 -- One list of many is written.
@@ -85,6 +85,7 @@ module _ (ls : List LockList) (t : ℕ) (l l' : LockList) (lt : t < length ls) (
     counts = λ u q. by_slot (λ x. count_of x q) 0 u (λ k. counted_by ls u q + (if k then is.more u q else 0))
         (λ e was. counts q ∙ ap₂ (λ v (k : ℕ). k + is.more v q) (sym (same_number u t e)) was) (none_more (counted_by ls u q));
     rooms = λ u e. by_list-set ls t l' lt (λ x. spare x.loose) 0 u ∙ ap (λ b. if b then spare l'.loose else room_by ls u) e;
+    orders = λ u e. by_list-set ls t l' lt (λ x. keys x.entries) [] u ∙ ap (λ b. if b then keys l'.entries else nodes_by ls u) e;
   }
 
   -- a node is taken out of one list, in which no child of it is counted
@@ -115,8 +116,9 @@ module _ (ls : List LockList) (t : ℕ) (n : NodeId) (ps : List NodeId) (l l' : 
 -- a list is written whole, with these modes, nodes, counts and room
 pub struck-written : (ls : List LockList) (t : ℕ) (l l' : LockList) (n : NodeId) (ps : List NodeId) → t < length ls → l ≡ slice_index_or ls t l
     → ((q : NodeId) → mode_of l' q ≡ (if same_node q n then NL else mode_of l q)) → ((q : NodeId) → is_listed l' q ≡ (is_listed l q && not (same_node q n)))
-    → ((q : NodeId) → count_of l' q + count_by (same_node q) ps ≡ count_of l q) → Strikes ls (slice_set ls t l') t n ps
-struck-written ls t l l' n ps lt at modes listed counts = record {
+    → ((q : NodeId) → count_of l' q + count_by (same_node q) ps ≡ count_of l q) → (is_listed l n ≡ true → LeavesPlace n (keys l.entries) (keys l'.entries))
+    → Strikes ls (slice_set ls t l') t n ps
+struck-written ls t l l' n ps lt at modes listed counts leaves = record {
   len = length-set ls t l';
   modes = λ u q. by_slot ls t l l' lt at (λ x. mode_of x q) NL u (λ k. if k && same_node q n then NL else held_by ls u q)
       (λ e was. modes q ∙ ap (λ x. if same_node q n then NL else x) was) refl;
@@ -127,6 +129,10 @@ struck-written ls t l l' n ps lt at modes listed counts = record {
       ∙ sym (by_list-here ls t l lt at u e (λ x. count_of x q) 0))
       (λ e. ap (λ b. (if b then count_of l' q else counted_by ls u q) + (if b then count_by (same_node q) ps else 0)) e ∙ sym (none_more (counted_by ls u q)));
   rooms = λ u e. by_list-set ls t l' lt (λ x. spare x.loose) 0 u ∙ ap (λ b. if b then spare l'.loose else room_by ls u) e;
+  place = λ h. subst (λ (order : List NodeId). LeavesPlace n order (nodes_by (slice_set ls t l') t)) (sym (by_list-at (λ x. keys x.entries) [] ls t l lt at))
+      (subst (λ (order : List NodeId). LeavesPlace n (keys l.entries) order)
+      (sym (by_list-set ls t l' lt (λ x. keys x.entries) [] t ∙ if-true _ (number_same t t refl)))
+      (leaves (sym (by_list-at (λ x. is_listed x n) false ls t l lt at) ∙ h)));
 }
 
 -- One list is written: all others agree as they did.

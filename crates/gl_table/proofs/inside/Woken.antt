@@ -131,6 +131,7 @@ module _ {b mid : Books} {n : NodeId} {who : ℕ → Bool} {is : Writing} {says 
             (λ e. (own (λ v. who v ≡ false) fresh u e, own (λ v. is'.more v q ≡ is.more v q) (more q) u e))
             ∙ ap (λ c. counted_by b.lists u q + (if c then is.more u q else 0)) (sym (both u));
         rooms = λ u off. let out = or_no (who u) (u == t) (sym (both u) ∙ off) in ends.lists.rooms u out.1 ∙ over.lists.rooms u out.0;
+        orders = λ u off. let out = or_no (who u) (u == t) (sym (both u) ∙ off) in ends.lists.orders u out.1 ∙ over.lists.orders u out.0;
       };
       tells = record {
         by_slot = ends.tells.by_slot;
@@ -208,6 +209,7 @@ ends_none {b} {n} {is} {says} who none kept =
         listed = λ u q. sym (ap (λ c. if c then false else listed_by b.lists u q) (and-false is.gone));
         counts = λ u q. none_more (counted_by b.lists u q);
         rooms = λ u e. refl;
+        orders = λ u e. refl;
       };
       tells = record { by_slot = kept.by_slot; notices = λ u. refl };
     })

@@ -1,10 +1,10 @@
 -- The told list and the lists of all transactions by slot: what it is to wake and to free waiters.
 use Rattle.gl_slots.specs.Limit.{most_slots}
 use Rattle.std.specs.Prelude.{ℕ, Bool, true, ◌&&◌, ◌==◌, ◌≡◌, Option, ◌+◌, ◌<◌, ◌≤◌, ◌^◌, false, map, List, length, None, if◌then◌else◌}
-use Rattle.std.specs.Prelude.{slice_get}
+use Rattle.std.specs.Prelude.{[], slice_get, Some, take}
 use Rattle.std.specs.List.{count_by, list_any}
 use Rattle.std.specs.Option.{option_map_or}
-use Rattle.indexmap.specs.IndexMap.{spare}
+use Rattle.indexmap.specs.IndexMap.{keys, spare}
 use Rattle.gl_modes.specs.declared.mode.Mode.{Mode}
 use Rattle.gl_modes.specs.declared.mode.Mode.TheVariants.{NL}
 use Rattle.gl_modes.specs.declared.node.NodeId.{NodeId}
@@ -14,6 +14,7 @@ use Rattle.gl_header.specs.Header.{Waiter, holds, is_among_waiters}
 use Rattle.gl_header.specs.Sound.{is_distinct}
 use Rattle.gl_model.specs.declared.answers.Notice.{Notice}
 use Rattle.gl_model.specs.Tellings.{IsOnWay, Told, told_to, IsBySlot, IsTold, mode_given, notices_in}
+use Rattle.gl_lock_lists.specs.declared.list.Entry.{Entry}
 use Rattle.gl_lock_lists.specs.declared.list.LockList.{LockList}
 use Rattle.gl_table.specs.declared.seat.Seat.{Seat}
 use Rattle.gl_model.specs.declared.txn.Status.TheVariants.{Active}
@@ -52,6 +53,15 @@ by_list f none ls t = option_map_or f (slice_get ls t) none
 abbrev pub held_by : List LockList → ℕ → NodeId → Mode
 held_by ls t n = by_list (λ l. mode_of l n) NL ls t
 
+-- the nodes of a list, in their order
+abbrev pub nodes_by : List LockList → ℕ → List NodeId
+nodes_by ls t = by_list (λ l. keys l.entries) [] ls t
+
+-- the node of which a list says this, where no child of it is counted
+abbrev pub childless_in : Option (NodeId × Entry) → Option NodeId
+childless_in None = None
+childless_in (Some (n, e)) = if e.children == 0 then Some n else None
+
 -- a list has the node
 abbrev pub listed_by : List LockList → ℕ → NodeId → Bool
 listed_by ls t n = by_list (λ l. is_listed l n) false ls t
@@ -88,6 +98,7 @@ pub record IsWritten (ls : List LockList) (n : NodeId) (who : ℕ → Bool) (is 
   pub listed : (u : ℕ) (q : NodeId) → listed_by ls' u q ≡ (if is.gone && (who u && same_node q n) then false else listed_by ls u q)
   pub counts : (u : ℕ) (q : NodeId) → counted_by ls' u q ≡ counted_by ls u q + (if who u then is.more u q else 0)
   pub rooms : (u : ℕ) → who u ≡ false → room_by ls' u ≡ room_by ls u
+  pub orders : (u : ℕ) → who u ≡ false → nodes_by ls' u ≡ nodes_by ls u
 
 -- a node with these parents is held in this mode; where it was not held before it counts as a child of each parent
 abbrev pub as_held : List LockList → NodeId → List NodeId → (ℕ → Mode) → Writing
@@ -157,6 +168,11 @@ pub record CanStrike (ls : List LockList) (t : ℕ) (n : NodeId) (ps : List Node
   pub childless : counted_by ls t n ≡ 0
   pub some : (q : NodeId) → count_by (same_node q) ps ≤ counted_by ls t q
 
+-- the node is gone from an order: those before it stand as they stood
+pub record LeavesPlace (n : NodeId) (order order' : List NodeId) : Type 0 where
+  pub before : (place : ℕ) → slice_get order place ≡ Some n → take place order' ≡ take place order
+  pub fewer : length order' + 1 ≡ length order
+
 -- the lists once the node is taken out of one; each parent has one held child less
 pub record Strikes (ls ls' : List LockList) (t : ℕ) (n : NodeId) (ps : List NodeId) : Type 0 where
   pub len : length ls' ≡ length ls
@@ -164,6 +180,7 @@ pub record Strikes (ls ls' : List LockList) (t : ℕ) (n : NodeId) (ps : List No
   pub listed : (u : ℕ) (q : NodeId) → listed_by ls' u q ≡ (if (u == t) && same_node q n then false else listed_by ls u q)
   pub counts : (u : ℕ) (q : NodeId) → counted_by ls' u q + (if u == t then count_by (same_node q) ps else 0) ≡ counted_by ls u q
   pub rooms : (u : ℕ) → (u == t) ≡ false → room_by ls' u ≡ room_by ls u
+  pub place : listed_by ls t n ≡ true → LeavesPlace n (nodes_by ls t) (nodes_by ls' t)
 
 -- the list of t while the children of n that its lock covered in s are released: they are marked, and all else is as it is now
 pub record IsShedding (s now : State) (t : ℕ) (n : NodeId) (l : LockList) : Type 0 where

@@ -10,7 +10,7 @@ ghost use Rattle.gl_modes.specs.declared.mode.Mode.{Mode as AMode};
 ghost use Rattle.gl_modes.specs.declared.mode.Mode.TheVariants.{NL};
 ghost use Rattle.gl_modes.specs.declared.node.NodeId.{NodeId as Node};
 ghost use Rattle.gl_table.specs.inside.Locks.{state_at};
-ghost use Rattle.gl_table.specs.inside.Slots.{CanTell};
+ghost use Rattle.gl_table.specs.inside.Slots.{CanTell, LeavesPlace, nodes_by};
 
 use crate::ledger::leave::strike;
 use crate::locks::Locks;
@@ -26,6 +26,7 @@ impl Locks {
         requires childless { held_children (state_at self.old) slot node ≡ 0 }
         requires tell { CanTell told.old.items (λ u. is_among_waiters u ((state_at self.old).queue node)) }
         ensures state { state_at self.new ≡ unlocked (state_at self.old) slot node }
+        ensures place { LeavesPlace node (nodes_by self.old.ledger.lists.items slot) (nodes_by self.new.ledger.lists.items slot) }
         ensures tells { WakesTold (state_at self.old).txns node (front_at (with_grant (state_at self.old) slot node NL) node) told.old.items told.new.items }
     {
         self.graph.law();

@@ -1,9 +1,10 @@
 //! Locks are given back.
 
-ghost use Rattle.std.specs.Prelude.{◌≡◌, [], OnErr, OnOk};
+ghost use Rattle.std.specs.Prelude.{◌≡◌, [], IfOk, List, OnErr, OnOk, length};
 ghost use Rattle.gl_graph.specs.Refusals.{first_refusal};
-ghost use Rattle.gl_model.specs.Calls.{KeepsAll, RefusesOnly, released, unlocked, commit_tests, living_tests, unlock_tests};
-ghost use Rattle.gl_table.specs.Table.{state_of};
+ghost use Rattle.gl_modes.specs.declared.node.NodeId.{NodeId as Node};
+ghost use Rattle.gl_model.specs.Calls.{GoesBack, KeepsAll, RefusesOnly, released, unlocked, commit_tests, living_tests, unlock_tests};
+ghost use Rattle.gl_table.specs.Table.{nodes_of, state_of};
 ghost use Rattle.gl_model.specs.Tellings.{told};
 
 use super::Table;
@@ -25,6 +26,30 @@ impl Table {
         self.check_childless(t, n)?;
         self.locks.release(t.slot, n, notices);
         Ok(())
+    }
+
+    /// Goes back to a mark: releases what an active transaction has locked since it had so many locks,
+    /// but for nodes of which it still holds a child; and says how many were released. A mode that was
+    /// raised since stays raised. What was locked before keeps its place among the transaction's locks.
+    /// Puts the notices into an empty list. Refused with `NoSuchTxn`, `TxnWaiting` and `TxnCondemned`.
+    ///
+    /// It takes no memory. Linear in the locks since the mark, but where one was locked before its parent.
+    pub fn release_since_telling(
+        &mut self,
+        t: TxnId,
+        mark: usize,
+        notices: &mut Told,
+    ) -> Result<usize, Refusal>
+        requires empty { notices.old.items ≡ [] }
+        ensures back { IfOk result (λ k. (ns : List Node) × GoesBack (state_of self.old) t.slot mark (nodes_of self.old t.slot) ns
+            (nodes_of self.new t.slot) (state_of self.new) × (k ≡ length ns)) }
+        ensures told { OnOk result (notices.new.items ≡ told (state_of self.old) (state_of self.new)) }
+        ensures deadlock { self.new.deadlock ≡ self.old.deadlock }
+        ensures refuses { RefusesOnly (first_refusal (commit_tests (state_of self.old) t)) result }
+        ensures kept { OnErr result (KeepsAll self.old self.new notices.old notices.new) }
+    {
+        self.check_active(t)?;
+        Ok(self.locks.release_since(t.slot, mark, notices))
     }
 
     /// As `commit`, with the notices put into an empty list.

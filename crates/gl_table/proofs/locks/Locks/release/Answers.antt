@@ -1,4 +1,5 @@
 use Rattle.gl_table.proofs.Words.{◌<◌, ◌∙◌, Agrees, CanStrike, CountsHeld, IsOrderly, List, NodeId, State, state_at, Strikes, subst, sym, ℕ}
+use Rattle.gl_table.proofs.inside.Back.{place_left}
 use Rattle.gl_table.proofs.inside.Released.{agrees_released, can_strike, counts_released}
 use Rattle.gl_model.proofs.law.Keeps.{txn_there}
 use Rattle.gl_model.proofs.telling.Fronts.{orderly_unlocked}
@@ -36,3 +37,9 @@ invariant_of-self c =
           (counts_released s l.orderly c.law.ensures.lawful c.args.slot c.args.node c.requires.active live c.requires.holds l.ledger.lists.items
           c.drop_and_wake.new.self.lists.items l.agree l.count woken.lists c.strike.new.lists.items struck u);
     }
+
+pub returns-clause-place : goal.returns-clause-place
+returns-clause-place c =
+    let l = c.args.self.now in
+    place_left (state_at l) l.orderly c.args.slot c.requires.active c.args.node c.requires.holds (l.agree c.args.slot) c.drop_and_wake.ensures.woken.lists
+    c.strike.ensures.place
