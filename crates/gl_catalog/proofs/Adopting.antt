@@ -84,7 +84,7 @@ module _ (s : State) (t : TxnId) (f : NodeId) (keys : List ℕ) (m : Mode) where
       }
 
 -- below the greatest count one command more can be counted
-counts_one : (s : State) → s.accepted + 1 ≤ max_count → worn s ≡ None
+pub counts_one : (s : State) → s.accepted + 1 ≤ max_count → worn s ≡ None
 counts_one s room = ap (λ b. where_true b no.WornOut) (number_other s.accepted max_count (λ e. absurd (omega (arith, e, room))))
 
 -- S and X are no bad modes, on a record or elsewhere

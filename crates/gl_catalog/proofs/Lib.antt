@@ -27,3 +27,5 @@ pub mod StillWanted
 pub mod PathSteps
 pub mod PathRuns
 pub mod PathOthers
+-- going back to a savepoint
+pub mod GoingBack

@@ -6,3 +6,4 @@ pub mod Completes
 pub mod Sound
 pub mod Paths
 pub mod Adopting
+pub mod Savepoints

@@ -30,6 +30,7 @@ mod moves;
 mod nodes;
 mod paths;
 mod records;
+mod savepoints;
 mod schema;
 
 pub use paths::Reached;

@@ -58,7 +58,7 @@ all_forget [] = refl
 all_forget (n ∷ gone) = all_forget gone
 
 -- rows are let go
-each_goes : (s s' : State) (ns ns' : Names) (rows : List Row) → LetsEachGo s ns rows s' ns' → Upkeep s s'
+pub each_goes : (s s' : State) (ns ns' : Names) (rows : List Row) → LetsEachGo s ns rows s' ns' → Upkeep s s'
 each_goes s s' ns ns' rows lets = record { lines = map forgets lets.forgotten.0; run = lets.forgotten.1; kept = all_forget lets.forgotten.0 }
 
 -- what a command keeps of deadlocks, by its answer

@@ -15,7 +15,7 @@ pub mod Dropped
 mod Forgets
 -- what they are to those who wait: their own commands, among records that come and go
 pub mod Upkeep
-mod CarriedOut
+pub mod CarriedOut
 -- indexes stay
 pub mod KeptIndexes
 pub mod DroppedIndexes
@@ -30,3 +30,4 @@ pub mod NodeRows
 mod NamesStay
 mod KeptOnRows
 mod Served
+mod GoingBack

@@ -38,7 +38,7 @@ abbrev pub KeepsAll : Graph → Graph → Type 0
 KeepsAll g g' = (f : NodeId) → KeepsIndexes g g' f
 
 -- the same graph
-same_keeps : (g g' : Graph) → g' ≡ g → KeepsAll g g'
+pub same_keeps : (g g' : Graph) → g' ≡ g → KeepsAll g g'
 same_keeps g g' e f = subst (λ x. KeepsIndexes g x f) (sym e) (keeps_itself g f)
 
 -- a node is born

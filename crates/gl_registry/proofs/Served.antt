@@ -91,7 +91,7 @@ pub over_same : (s s' : State) (t : TxnId) → IsLawful s → s' ≡ s → lives
 over_same s s' t law same alive = over_run s s' [] [] t law same alive refl refl
 
 -- rows lie where they lay
-over_parents : (s s' : State) (t : TxnId) (granted : Bool) → Over s s' t granted → (f : NodeId) → SameParents s s' f
+pub over_parents : (s s' : State) (t : TxnId) (granted : Bool) → Over s s' t granted → (f : NodeId) → SameParents s s' f
 over_parents s s' t granted over f = same_parents s.graph s'.graph f (over.indexes f)
 
 -- a path's steps, of which the last one alone tells anybody
@@ -107,7 +107,7 @@ over_path (suc k) u ask m last r m' t law path alive apart =
     (over_path k u ask mid last r m' t first.law path.5 first.keeps.alive apart)
 
 -- the same rows behind
-same_rows : (v v' : RegistryView) (t : TxnId) (granted : Bool) → IsRegistry v → Over (state_of v.manager) (state_of v'.manager) t granted
+pub same_rows : (v v' : RegistryView) (t : TxnId) (granted : Bool) → IsRegistry v → Over (state_of v.manager) (state_of v'.manager) t granted
     → NamesHold v.rows (state_of v'.manager).graph → v'.rows ≡ v.rows → KeepsOnRows v v' t granted
 same_rows v v' t granted is over holds rows =
     keeps_on_rows v v' t granted is (record { law = over.law; names = subst (λ (x : RowsView). NamesHold x (state_of v'.manager).graph) (sym rows) holds })
@@ -194,7 +194,7 @@ no_drop_all (l ∷ lines) is =
     let b = and_both (is_upkeep l.0) (list_all (λ (x : Line). is_upkeep x.0) lines) is in
     ap (λ x. x || list_any is_drop (map (λ (k : Line). k.0) lines)) (no_drop_one l.0 b.0) ∙ no_drop_all lines b.1
 
-over_upkeep : (s s' : State) (t : TxnId) → IsLawful s → Upkeep s s' → lives s t ≡ true → Over s s' t false
+pub over_upkeep : (s s' : State) (t : TxnId) → IsLawful s → Upkeep s s' → lives s t ≡ true → Over s s' t false
 over_upkeep s s' t law h alive =
     over_as s s' t (quiet_all t s s' h.lines h.kept h.run)
     (over_run s s' (map (λ (l : Line). l.0) h.lines) (map (λ (l : Line). l.1) h.lines) t law h.run alive (unnamed_all t h.lines h.kept)

@@ -25,6 +25,7 @@ use Rattle.gl_registry.specs.declared.call.RowCall.{RowCall}
 use Rattle.gl_registry.specs.declared.row.Row.{Row}
 use Rattle.gl_registry.specs.Applying.{AppliesCall, own_command, unnamed}
 use Rattle.gl_registry.specs.Names.{NamesHold}
+use Rattle.gl_registry.specs.Releasing.{GoesBackTo}
 use Rattle.gl_registry.specs.Rows.{RegistryView, name_of}
 use Rattle.gl_registry.specs.Serving.{LocksWay, ServesBy, touches_rows}
 
@@ -176,6 +177,13 @@ abbrev pub PathsKeepOnRows : Type 0
 PathsKeepOnRows =
     (v v' : RegistryView) (u : TxnId) (ask : Ask) (result : Result Reached Refusal) (told : Told) (t : TxnId) → IsRegistry v → LocksWay u ask v result told v'
     → lives (state_of v.manager) t ≡ true → same_txn t u ≡ false → KeepsOnRows v v' t (is_granted t told)
+
+-- one that goes back to a savepoint leaves it to each other living transaction (own)
+abbrev pub BacksKeepOnRows : Type 0
+BacksKeepOnRows =
+    (v v' : RegistryView) (u : TxnId) (mark : ℕ) (result : Result ℕ Refusal) (told : Told) (t : TxnId) → IsRegistry v
+    → GoesBackTo u mark v.manager v.rows result told v'.manager v'.rows → lives (state_of v.manager) t ≡ true → same_txn t u ≡ false
+    → KeepsOnRows v v' t (is_granted t told)
 
 -- the call names t as its transaction: so does the command that it carries out, whatever its row's node
 abbrev pub names_in : TxnId → RowCall → Bool

@@ -6,6 +6,7 @@ use Rattle.std.specs.Map.{lookup}
 use Rattle.gl_modes.specs.declared.node.NodeId.{NodeId}
 use Rattle.gl_modes.specs.declared.refusal.Refusal.{Refusal}
 use Rattle.gl_graph.specs.Graph.{Graph, is_live}
+use Rattle.gl_graph.specs.Refusals.{first_refusal}
 use Rattle.gl_model.specs.declared.txn.TxnId.{TxnId}
 use Rattle.gl_model.specs.State.{State}
 use Rattle.gl_model.specs.Tellings.{Told}
@@ -13,6 +14,7 @@ use Rattle.gl_steps.specs.declared.command.Command.{Command}
 use Rattle.gl_steps.specs.declared.command.Command.TheVariants as command
 use Rattle.gl_catalog.specs.Manager.{ManagerView, state_of}
 use Rattle.gl_catalog.specs.Replies.{Says, doing}
+use Rattle.gl_catalog.specs.Savepoints.{TakesBack, back_tests}
 use Rattle.gl_steps.specs.Tests.{refusal_of}
 use Rattle.gl_registry.specs.declared.answer.RowRefusal.{RowRefusal}
 use Rattle.gl_registry.specs.declared.answer.RowRefusal.TheVariants as row_no
@@ -112,3 +114,8 @@ EndsTxn c m v slot (Err r) told m' v' = IsRefused m v c r told m' v'
 abbrev pub GivesBack : {A : Type 0} → (A → Says) → Command → ManagerView → RowsView → ℕ → Result A Refusal → Told → ManagerView → RowsView → Type 0
 GivesBack says c m v slot (Ok x) told m' v' = (mid : ManagerView) × Does m c (says x) mid × LetsGoAsked mid v slot m' v' × (v'.asked ≡ v.asked)
 GivesBack says c m v slot (Err r) told m' v' = IsRefused m v c r told m' v'
+
+-- a transaction goes back to a mark, and the rows that it has asked for are let go
+abbrev pub GoesBackTo : TxnId → ℕ → ManagerView → RowsView → Result ℕ Refusal → Told → ManagerView → RowsView → Type 0
+GoesBackTo t mark m v (Ok k) told m' v' = (mid : ManagerView) × TakesBack t mark k m told mid × LetsGoAsked mid v t.slot m' v' × (v'.asked ≡ v.asked)
+GoesBackTo t mark m v (Err r) told m' v' = (first_refusal (back_tests m t mark) ≡ Some r) × Refused {A = ℕ} m v r (Err r) told m' v'

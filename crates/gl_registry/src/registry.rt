@@ -9,6 +9,7 @@ ghost use Rattle.gl_graph.specs.Graph.{first_parent};
 ghost use Rattle.gl_graph.specs.View.{graph_of};
 ghost use Rattle.gl_registry.specs.Applying.{AppliesCall, AppliesRow, CarriesOut, answer_in, naming, own_command};
 ghost use Rattle.gl_registry.specs.Names.{NameWell, NamesHold};
+ghost use Rattle.gl_registry.specs.Releasing.{GoesBackTo};
 ghost use Rattle.gl_registry.specs.Rows.{has_asked, has_rows, name_of};
 ghost use Rattle.gl_registry.specs.Serving.{LocksWay, ServesBy, touches_rows};
 
@@ -128,6 +129,21 @@ impl Registry {
         ensures { LocksWay t (node, mode) self.old result told.new.items self.new }
     {
         self.manager.lock_path_telling(t, node, mode, told)
+    }
+
+    /// Goes back to a savepoint, as `Manager::release_since_telling`. Rows that nobody holds or waits for
+    /// any more are let go.
+    pub fn release_since(
+        &mut self,
+        t: TxnId,
+        mark: usize,
+        told: &mut Told,
+    ) -> Result<usize, Refusal>
+        requires empty { told.old.items ≡ [] }
+        ensures { GoesBackTo t mark self.old.manager self.old.rows result told.new.items self.new.manager self.new.rows }
+    {
+        self.manager.law();
+        self.rows.release_since(&mut self.manager, t, mark, told)
     }
 
     /// Carries out one call about rows. Notices are put into an empty list.

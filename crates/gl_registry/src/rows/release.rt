@@ -8,7 +8,7 @@
 ghost use Rattle.std.specs.Prelude.{◌≡◌, []};
 ghost use Rattle.gl_steps.specs.declared.command.Command.TheVariants as command;
 ghost use Rattle.gl_catalog.specs.Replies.{doing, rising};
-ghost use Rattle.gl_registry.specs.Releasing.{EndsTxn, GivesBack, RekeysRow, UnlocksRow};
+ghost use Rattle.gl_registry.specs.Releasing.{EndsTxn, GivesBack, GoesBackTo, RekeysRow, UnlocksRow};
 
 use super::Rows;
 use crate::answer::RowRefusal;
@@ -121,5 +121,22 @@ impl Rows {
         let escalated = manager.escalate_telling(t, node, told)?;
         let_each_go(&mut self.names, manager, rows_in(&self.asked, t.slot));
         Ok(escalated)
+    }
+
+    /// Goes back to a savepoint: unlocks what a transaction has locked since it had so many locks.
+    /// Refused as `Manager::release_since_telling`.
+    pub(crate) fn release_since(
+        &mut self,
+        manager: &mut Manager,
+        t: TxnId,
+        mark: usize,
+        told: &mut Told,
+    ) -> Result<usize, Refusal>
+        requires empty { told.old.items ≡ [] }
+        ensures { GoesBackTo t mark manager.old self.old result told.new.items manager.new self.new }
+    {
+        let released = manager.release_since_telling(t, mark, told)?;
+        let_each_go(&mut self.names, manager, rows_in(&self.asked, t.slot));
+        Ok(released)
     }
 }

@@ -1,3 +1,4 @@
+use Rattle.gl_registry.proofs.GoingBack.{backs_keep_on_rows}
 use Rattle.gl_registry.proofs.KeptRows.{others_keep_row_effects}
 use Rattle.gl_registry.proofs.Served.{calls_keep_on_rows, commands_keep_on_rows, paths_keep_on_rows}
 use Rattle.gl_registry.proofs.StandingIndexes.{others_keep_by_indexes}
@@ -14,6 +15,9 @@ returns-clause-by_command c = commands_keep_on_rows
 
 pub returns-clause-by_path : goal.returns-clause-by_path
 returns-clause-by_path c = paths_keep_on_rows
+
+pub returns-clause-by_back : goal.returns-clause-by_back
+returns-clause-by_back c = backs_keep_on_rows
 
 pub returns-clause-by_call : goal.returns-clause-by_call
 returns-clause-by_call c = calls_keep_on_rows

@@ -1,0 +1,46 @@
+-- A transaction goes back to a savepoint: what it has locked since is unlocked again (own).
+use Rattle.std.specs.Prelude.{◌≡◌, ℕ, ◌-◌, nat_lt, List, [], ◌∷◌, ◌++◌, length, map, Option, None}
+use Rattle.std.specs.List.{All}
+use Rattle.gl_modes.specs.declared.node.NodeId.{NodeId}
+use Rattle.gl_modes.specs.declared.refusal.Refusal.{Refusal}
+use Rattle.gl_modes.specs.declared.refusal.Refusal.TheVariants as no
+use Rattle.gl_graph.specs.Refusals.{first_refusal, max_count, where_true}
+use Rattle.gl_model.specs.declared.txn.TxnId.{TxnId}
+use Rattle.gl_model.specs.Calls.{GoesBack, commit_tests}
+use Rattle.gl_model.specs.State.{State}
+use Rattle.gl_model.specs.Tellings.{Told, told}
+use Rattle.gl_steps.specs.declared.command.Answer.TheVariants as answer
+use Rattle.gl_steps.specs.declared.command.Command.TheVariants as command
+use Rattle.gl_steps.specs.Step.{Run}
+use Rattle.gl_table.specs.Table.{nodes_of, state_of as table_state}
+use Rattle.gl_catalog.specs.Counters.{with_notices}
+use Rattle.gl_catalog.specs.Manager.{ManagerView, state_of}
+use Rattle.gl_catalog.specs.Paths.{LeavesAllBut}
+use Rattle.gl_catalog.specs.Replies.{Says, doing}
+
+-- so many commands cannot be counted any more
+abbrev pub worn_for : State → ℕ → Option Refusal
+worn_for s k = where_true (nat_lt (max_count - s.accepted) k) no.WornOut
+
+-- how many locks a transaction has had since it had so many
+abbrev pub count_since : ManagerView → ℕ → ℕ → ℕ
+count_since m t mark = length (nodes_of m.table t) - mark
+
+-- why one does not go back: it is not active, or a command cannot be counted for each lock since the mark
+abbrev pub back_tests : ManagerView → TxnId → ℕ → List (Option Refusal)
+back_tests m t mark = commit_tests (state_of m) t ++ worn_for (state_of m) (count_since m t.slot mark) ∷ []
+
+-- t, against which no test stands, goes back to a mark and releases so many nodes: each by a command that unlocks it, and together they tell these; each
+-- of them is counted, the last deadlock stays, and all others are left what a command of t leaves them
+pub record TakesBack (t : TxnId) (mark k : ℕ) (m : ManagerView) (told' : Told) (m' : ManagerView) : Type 0 where
+  pub tests : first_refusal (back_tests m t mark) ≡ None
+  pub nodes : List NodeId
+  pub count : k ≡ length nodes
+  pub back : GoesBack (table_state m.table) t.slot mark (nodes_of m.table t.slot) nodes (nodes_of m'.table t.slot) (table_state m'.table)
+  pub replies : List Says
+  pub run : Run (state_of m) (map (λ n. command.Unlock t n) nodes) replies (state_of m')
+  pub done : All (λ (r : Says). r.0 ≡ answer.Done) replies
+  pub tells : told' ≡ told (state_of m) (state_of m')
+  pub counters : m'.counters ≡ with_notices told' m.counters
+  pub deadlock : m'.table.deadlock ≡ m.table.deadlock
+  pub others : LeavesAllBut t (state_of m) (doing told' tt) (state_of m')

@@ -1,0 +1,59 @@
+//! Savepoints: a transaction goes back to what it held.
+
+ghost use Rattle.std.specs.Prelude.{◌≡◌, IfOk, OnErr, [], true};
+ghost use Rattle.gl_graph.specs.Refusals.{first_refusal, verdict};
+ghost use Rattle.gl_model.specs.Calls.{RefusesOnly};
+ghost use Rattle.gl_model.specs.State.{lives};
+ghost use Rattle.gl_catalog.specs.Manager.{state_of};
+ghost use Rattle.gl_catalog.specs.Savepoints.{TakesBack, back_tests, count_since, worn_for};
+
+use super::Manager;
+use gl_modes::Refusal;
+use gl_table::{Told, TxnId};
+
+impl Manager {
+    /// Goes back to a savepoint: unlocks what an active transaction has locked since it had so many
+    /// locks, but for nodes of which it still holds a child; and says how many were unlocked. What it had
+    /// at the mark it has still, in that mode or, where that was raised since, in the greater one.
+    ///
+    /// The mark is what `lock_count` said. What a transaction locks stands behind what it had, and a
+    /// release puts the last of its locks into the place of the released. So a mark is good until a lock
+    /// of before it is released; behind that fewer go than were locked since, and never one of before.
+    ///
+    /// It is one command for each node that is unlocked, and tells at once all that they tell. Refused, in
+    /// this order, with `NoSuchTxn`, `TxnWaiting`, `TxnCondemned`, and with `WornOut` where not each lock
+    /// since the mark can be counted. It takes no memory.
+    pub fn release_since_telling(
+        &mut self,
+        t: TxnId,
+        mark: usize,
+        told: &mut Told,
+    ) -> Result<usize, Refusal>
+        requires empty { told.old.items ≡ [] }
+        ensures back { IfOk result (λ k. TakesBack t mark k self.old told.new.items self.new) }
+        ensures refuses { RefusesOnly (first_refusal (back_tests self.old t mark)) result }
+        ensures untold { OnErr result (told.new ≡ told.old) }
+        ensures err { OnErr result (self.new ≡ self.old) }
+    {
+        self.check_active(t)?;
+        self.check_count_since(t, mark)?;
+        let released = self.table.release_since_telling(t, mark, told)?;
+        self.table.law();
+        self.accepted += released as u64;
+        self.counters.add_notices(told.as_slice());
+        Ok(released)
+    }
+
+    /// Whether a command can be counted for each lock of a living transaction since a mark.
+    fn check_count_since(&self, t: TxnId, mark: usize) -> Result<(), Refusal>
+        requires lives { lives (state_of self.now) t ≡ true }
+        ensures { result ≡ verdict (worn_for (state_of self.now) (count_since self.now t.slot mark)) }
+    {
+        let locks = self.table.lock_count(t).unwrap_or(0);
+        if (u64::MAX - self.accepted) < locks.saturating_sub(mark) as u64 {
+            Err(Refusal::WornOut)
+        } else {
+            Ok(())
+        }
+    }
+}
