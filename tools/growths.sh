@@ -4,7 +4,7 @@
 # with status 1 there.
 #
 # plays: the program `test_growths` prints the same as with no growth refused.
-# script: `gltool --listings --schema` answers tools/every_form.script. Either it finds no memory, or bad words where its
+# script: `gltool --listings --schema --savepoints` answers tools/every_form.script. Either it finds no memory, or bad words where its
 #   words were not read, before it has read anything; or one line is answered with want of memory, and all
 #   others as in the script without that line. A growth that reading the words can do without changes nothing.
 # crews: `gltool` runs a small crew by each way of detection. It ends in time, and counts every command of
@@ -78,7 +78,7 @@ one_line_refused() {
   local line
   line=$(refused_line "$work/came")
   [ -n "$line" ] || fail "not one line is answered with want of memory"
-  without "$line" | "$program" --listings --schema >"$work/wanted" || fail "status $? without the line"
+  without "$line" | "$program" --listings --schema --savepoints >"$work/wanted" || fail "status $? without the line"
   grep -v '^no 1 NoMemory$' "$work/came" >"$work/others"
   same "$work/wanted" "$work/others"
 }
@@ -87,10 +87,10 @@ refuse_in_script() {
   local program=$top/crates/gltool/out/gltool status
   script=$top/tools/every_form.script
   local reads_words=yes
-  with_growth 0 "$program" --listings --schema <"$script" >"$work/whole" || exit 1
+  with_growth 0 "$program" --listings --schema --savepoints <"$script" >"$work/whole" || exit 1
   growths_of "the script"
   for ((n = 1; n <= growths; n++)); do
-    status=$({ with_growth "$n" "$program" --listings --schema >"$work/came" 2>"$work/fault"; echo $?; cat >"$work/left"; } <"$script")
+    status=$({ with_growth "$n" "$program" --listings --schema --savepoints >"$work/came" 2>"$work/fault"; echo $?; cat >"$work/left"; } <"$script")
     case $status in
       0) { [ "$reads_words" ] && cmp -s "$work/whole" "$work/came"; } || one_line_refused ;;
       1) reads_words= && ended_early "no memory" ;;

@@ -5,3 +5,4 @@ pub mod Registers
 pub mod Serving
 pub mod Printing
 pub mod Openings
+pub mod Orders

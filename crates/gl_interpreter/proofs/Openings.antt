@@ -5,6 +5,7 @@ use Rattle.gl_modes.proofs.Words.{none_some}
 use Rattle.gl_catalog.specs.Manager.{ManagerView, state_of}
 use Rattle.std.specs.Str.{bytes_eq}
 use Rattle.gl_model.specs.State.{choosing, empty_state}
+use Rattle.gl_table.specs.Table.{nodes_of}
 use Rattle.gl_script.specs.declared.form.Version.{Version}
 use Rattle.gl_script.specs.declared.form.Version.TheVariants as version
 use Rattle.gl_interpreter.specs.Report.{Answers, Going, Opens, Prints, version_of}
@@ -18,18 +19,19 @@ wide false v h = absurd (none_some h)
 
 -- a version was chosen
 pub chooses : (v : Version) (two : ManagerView) (s s' : Script) (line : List ℕ) → IsReadyWith (Some two) s → version_of line ≡ Some v
-    → s'.language ≡ record { version = v; listings = s.language.listings; schema = s.language.schema } → s'.names ≡ s.names
-    → s'.locks ≡ state_of two → s'.deadlock ≡ two.table.deadlock
+    → s'.language ≡ record { version = v; listings = s.language.listings; schema = s.language.schema; savepoints = s.language.savepoints }
+    → s'.names ≡ s.names → s'.locks ≡ state_of two → s'.deadlock ≡ two.table.deadlock → s'.orders ≡ nodes_of two.table
     → Prints (stage_with (Some two) s) line (codes "ok\n") (stage_with None s')
 unfolding Prints
-chooses v two s s' line ready says is names locks deadlock =
+chooses v two s s' line ready says is names locks deadlock orders =
     let c = choices_of s in
     let most = wide (bytes_eq line (codes "granular 2")) v says in
     let all = locks ∙ ready.0 ∙ ap (λ m. choosing c.victims (empty_state c.detect m)) (sym most) in
-    let none = names ∙ ap (λ (x : Script). x.names) ready.2 in
+    let none = names ∙ ap (λ (x : Script). x.names) ready.3 in
     let no_victim = deadlock ∙ ready.1 in
+    let nothing_held = orders ∙ ready.2 in
     subst (λ o. Opens c o line (codes "ok\n") (Going s')) (sym says)
-    (refl, λ i. Going (record { language = is i; names = none i; locks = all i; deadlock = no_victim i }))
+    (refl, λ i. Going (record { language = is i; names = none i; locks = all i; deadlock = no_victim i; orders = nothing_held i }))
 
 -- any other line is one of the script
 pub goes_on : (two : Option ManagerView) (s s' : Script) (line text : List ℕ) → IsReadyWith two s
@@ -38,7 +40,7 @@ pub goes_on : (two : Option ManagerView) (s s' : Script) (line text : List ℕ) 
 unfolding Prints
 goes_on None s s' line text ready other answers = (s', answers, refl)
 goes_on (Some m) s s' line text ready other answers =
-    subst (λ o. Opens (choices_of s) o line text (Going s')) (sym (other m refl)) (s', subst (λ x. Answers x line text s') ready.2 answers, refl)
+    subst (λ o. Opens (choices_of s) o line text (Going s')) (sym (other m refl)) (s', subst (λ x. Answers x line text s') ready.3 answers, refl)
 
 pub nothing : {X : Type 0} (o : Option X) → is_some o ≡ false → o ≡ None
 nothing None h = refl

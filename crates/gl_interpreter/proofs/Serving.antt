@@ -1,14 +1,29 @@
 -- A command of a script is refused here, or handed on.
 use Rattle.std.proofs.Common.{◌≡◌, Bool, true, Err, Ok, sym, subst, inl, inr}
+use Rattle.gl_table.specs.Table.{nodes_of}
+use Rattle.gl_catalog.specs.Manager.{state_of}
 use Rattle.gl_modes.specs.declared.refusal.Refusal.{Refusal}
 use Rattle.gl_modes.specs.declared.refusal.Refusal.TheVariants as no
 use Rattle.gl_model.specs.Tellings.{Told}
-use Rattle.gl_steps.specs.declared.command.Answer.{Answer}
 use Rattle.gl_script.specs.Grammar.{Command}
+use Rattle.gl_interpreter.specs.declared.desk.Desk.{Desk}
+use Rattle.gl_interpreter.specs.declared.request.Said.{Said}
 use Rattle.gl_interpreter.specs.Rooms.{IsRoomed}
 use Rattle.gl_interpreter.specs.Script.{DoesWhere, HandedOn, RefusedHere, Script, declared, is_name}
+use Rattle.gl_interpreter.specs.Views.{names_of, script_of}
 
-module _ (s : Script) (c : Command) (a : Answer) (told : Told) (s' : Script) (taken : Bool) (room : Type 0) where
+-- the script is the same where language, names and manager are
+pub same_script : (x y : Desk) → names_of x ≡ names_of y → x.language ≡ y.language → x.manager ≡ y.manager → script_of x ≡ script_of y
+same_script x y names language manager =
+    λ i. record {
+      language = language i;
+      names = names i;
+      locks = state_of (manager i);
+      deadlock = (manager i).table.deadlock;
+      orders = nodes_of (manager i).table;
+    }
+
+module _ (s : Script) (c : Command) (a : Said) (told : Told) (s' : Script) (taken : Bool) (room : Type 0) where
   -- there is no room for the name, or it is in use
   pub does_refused : (r : Refusal) → IsRoomed taken room (Err r) → is_name (declared c) ≡ true → RefusedHere r s a told s' → DoesWhere taken s c a told s'
   does_refused no.NameTaken is named h = subst (λ b. DoesWhere b s c a told s') (sym is) h

@@ -17,7 +17,9 @@ use Rattle.gl_model.specs.Tellings.{Told}
 use Rattle.gl_steps.specs.declared.command.Answer.{Answer}
 use Rattle.gl_steps.specs.declared.command.Answer.TheVariants as answer
 use Rattle.gl_script.specs.Grammar.{Text, Node, Plain, Interval, Command, Inner, File, Index, Lock, Try, Unlock, Cancel, Commit, Abort, Settle}
-use Rattle.gl_script.specs.Grammar.{Insert, Delete, Rekey, Escalate, Move, Group, Held, Effective, Drop, IndexBy, node_text}
+use Rattle.gl_script.specs.Grammar.{Insert, Delete, Rekey, Escalate, Move, Group, Held, Effective, Drop, IndexBy, Mark, Release, node_text}
+use Rattle.gl_interpreter.specs.declared.request.Said.{Said}
+use Rattle.gl_interpreter.specs.declared.request.Said.TheVariants as said
 use Rattle.gl_interpreter.specs.Script.{Script, Declared, NodeName, TxnName, Nothing, declared, node_named}
 
 -- a dot, and the place of an interval
@@ -72,6 +74,8 @@ used_txn (Held t n) = t
 used_txn (Effective t n) = t
 used_txn (Drop t n) = t
 used_txn (IndexBy t n ps f bs) = t
+used_txn (Mark t) = t
+used_txn (Release t k) = t
 used_txn c = []
 
 -- a space, and the first of these nodes whose name is not in use
@@ -109,7 +113,7 @@ effect_text effect.None = codes "none"
 effect_text effect.S = codes "S"
 effect_text effect.X = codes "X"
 
--- the line of an answer
+-- the line of an answer of the manager
 abbrev pub answer_line : Script → Command → Answer → Text
 answer_line s c answer.Done = codes "ok\n"
 answer_line s c (answer.Node n) = codes "ok\n"
@@ -123,6 +127,11 @@ answer_line s c (answer.Escalated e) = codes "ok " ++ mode_text e.mode ++ codes 
 answer_line s c (answer.Effect e) = codes "ok " ++ effect_text e ++ 10 ∷ []
 answer_line s c (answer.Refused r) = refusal_line r (who_text s c r)
 
+-- the line of what is answered
+abbrev pub said_line : Script → Command → Said → Text
+said_line s c (said.Answer a) = answer_line s c a
+said_line s c (said.Count k) = codes "ok " ++ decimal k ++ 10 ∷ []
+
 -- what a transaction is told
 abbrev pub notice_text : Script → Notice → Text
 notice_text s (notice.Granted n m) = codes " granted " ++ mode_text m ++ 32 ∷ called s n
@@ -135,5 +144,5 @@ abbrev pub told_line : Script → TxnId × Notice → Text
 told_line s x = codes "told " ++ s.names.txn_name x.0 ++ notice_text s x.1 ++ 10 ∷ []
 
 -- all that is printed for a command, in the state after it
-abbrev pub printed : Script → Command → Answer → Told → Text
-printed s c a told = answer_line s c a ++ flat_map (told_line s) told
+abbrev pub printed : Script → Command → Said → Told → Text
+printed s c a told = said_line s c a ++ flat_map (told_line s) told

@@ -5,10 +5,10 @@ use Rattle.std.specs.Io.KnownBytes.{Consumes, Appends}
 use Rattle.std.specs.Str.{bytes_eq}
 use Rattle.gl_words.specs.declared.requests.Choices.{Choices}
 use Rattle.gl_model.specs.Tellings.{Told}
-use Rattle.gl_steps.specs.declared.command.Answer.{Answer}
 use Rattle.gl_script.specs.declared.form.Version.{Version}
 use Rattle.gl_script.specs.declared.form.Version.TheVariants as version
 use Rattle.gl_script.specs.Grammar.{Text, Command, Line, Lists, Listing, Orders, Says}
+use Rattle.gl_interpreter.specs.declared.request.Said.{Said}
 use Rattle.gl_interpreter.specs.Printed.{printed}
 use Rattle.gl_interpreter.specs.Rows.{Shows}
 use Rattle.gl_interpreter.specs.Script.{Script, Does, begun}
@@ -27,10 +27,10 @@ bad_line = codes "no 20 BadLine\n"
 pub record Carries (s : Script) (line text : Text) (s' : Script) : Type 0 where
   pub command : Command
   pub says : Says s.language line (Orders command)
-  pub answer : Answer
+  pub said : Said
   pub told : Told
-  pub does : Does s command answer told s'
-  pub text_is : text ≡ printed s' command answer told
+  pub does : Does s command said told s'
+  pub text_is : text ≡ printed s' command said told
 
 -- a listing, and the text that it shows; the script is as before
 pub record Tells (s : Script) (line text : Text) (s' : Script) : Type 0 where

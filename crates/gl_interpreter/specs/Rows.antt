@@ -1,5 +1,5 @@
 -- What a listing prints: one line for each row, in the state of one moment.
-use Rattle.std.specs.Prelude.{◌≡◌, ℕ, Bool, List, [], ◌∷◌, ◌++◌, codes, decimal, flat_map, Option, Some, None, if◌then◌else◌}
+use Rattle.std.specs.Prelude.{◌≡◌, ℕ, Bool, List, [], ◌∷◌, ◌++◌, codes, decimal, flat_map, map, Option, Some, None, if◌then◌else◌}
 use Rattle.std.specs.List.{filter, range_with_len}
 use Rattle.gl_modes.specs.declared.mode.Mode.{Mode}
 use Rattle.gl_modes.specs.declared.node.NodeId.{NodeId}
@@ -125,7 +125,8 @@ Shows s (Holders n) text = text ≡ node_listing s n (flat_map (holder_row s (no
 Shows s (Queue n) text = text ≡ node_listing s n (flat_map (waiter_row s) (s.locks.queue (node_id s n)))
 Shows s (Locks t) text =
     let slot = (txn_id s.names t).slot in
-    (rows : List LockRow) × AreRowsOf s.locks slot rows × (text ≡ txn_listing s t (flat_map (lock_row s (wait_of (status_of s.locks slot))) rows))
+    (rows : List LockRow) × AreRowsOf s.locks slot rows × (map (λ (r : LockRow). r.node) rows ≡ s.orders slot)
+    × (text ≡ txn_listing s t (flat_map (lock_row s (wait_of (status_of s.locks slot))) rows))
 Shows s (Waits t) text = text ≡ txn_listing s t (flat_map (blocker_row s) (slots_where (waits_for s.locks (txn_id s.names t).slot)))
 Shows s Txns text = text ≡ codes "ok\n" ++ txn_rows s
 Shows s Cycle text = text ≡ codes "ok\n" ++ deadlock_rows s s.deadlock.victim s.deadlock.cycle.items

@@ -1,35 +1,51 @@
--- A script between two lines, and what a command of it does: names become ids, and the command is a step of the manager (own).
-use Rattle.std.specs.Prelude.{◌≡◌, ◌⊎◌, ℕ, Bool, true, false, List, [], map, Option, Some, None, is_some, unwrap_or}
+-- A script between two lines, and what a command of it does: names become ids, and the command is a step of the manager, or steps of it (own).
+use Rattle.std.specs.Prelude.{◌≡◌, ◌⊎◌, ℕ, Bool, true, false, List, [], length, map, Option, Some, None, is_some, unwrap_or, if◌then◌else◌}
+use Rattle.std.specs.Prelude.{IfOk, OnErr, Result, Ok, Err}
 use denote.Bor.{Bor}
 use Rattle.gl_modes.specs.declared.node.NodeId.{NodeId}
 use Rattle.gl_modes.specs.declared.refusal.Refusal.{Refusal}
 use Rattle.gl_modes.specs.declared.refusal.Refusal.TheVariants as no
 use Rattle.gl_graph.specs.Graph.{Graph, interval_at}
+use Rattle.gl_graph.specs.Refusals.{first_refusal}
 use Rattle.gl_words.specs.declared.requests.Choices.{Choices}
 use Rattle.gl_model.specs.declared.txn.TxnId.{TxnId}
 use Rattle.gl_model.specs.declared.deadlock.Deadlock.{Deadlock}
 use Rattle.gl_model.specs.Deadlocks.{no_deadlock}
-use Rattle.gl_model.specs.State.{State, choosing, empty_state}
+use Rattle.gl_model.specs.Calls.{RefusesOnly}
+use Rattle.gl_model.specs.State.{State, choosing, empty_state, lives}
 use Rattle.gl_model.specs.Tellings.{Told}
+use Rattle.gl_table.specs.Table.{nodes_of}
 use Rattle.gl_steps.specs.declared.command.Answer.{Answer}
 use Rattle.gl_steps.specs.declared.command.Answer.TheVariants as answer
 use Rattle.gl_steps.specs.declared.command.Command.{Command as Asked}
 use Rattle.gl_steps.specs.declared.command.Command.TheVariants as command
 use Rattle.gl_catalog.specs.Deadlocks.{KeptBy}
+use Rattle.gl_catalog.specs.Manager.{IsLawfulManager, ManagerView, state_of}
+use Rattle.gl_catalog.specs.Savepoints.{TakesBack, back_tests}
 use Rattle.gl_steps.specs.Step.{Step}
 use Rattle.gl_script.specs.declared.form.Language.{Language}
 use Rattle.gl_script.specs.declared.form.Version.{Version}
 use Rattle.gl_script.specs.declared.form.Version.TheVariants as version
 use Rattle.gl_script.specs.Grammar.{Text, Node, Plain, Interval, Command, Inner, File, Index, Begin, Lock, Try, Unlock, Cancel, Commit, Abort, Settle}
-use Rattle.gl_script.specs.Grammar.{Insert, Delete, Rekey, Escalate, Move, Group, Held, Effective, Drop, IndexBy}
+use Rattle.gl_script.specs.Grammar.{Insert, Delete, Rekey, Escalate, Move, Group, Held, Effective, Drop, IndexBy, Mark, Release}
+use Rattle.gl_interpreter.specs.declared.request.Request.{Request}
+use Rattle.gl_interpreter.specs.declared.request.Request.TheVariants as request
+use Rattle.gl_interpreter.specs.declared.request.Said.{Said}
+use Rattle.gl_interpreter.specs.declared.request.Said.TheVariants as said
 use Rattle.gl_interpreter.specs.Names.{Names, no_names, with_node, with_txn, without_node, without_txn}
 
--- its language, the names that it has declared, the locks, and the deadlock of which the last victim fell
+-- its language, the names that it has declared, the locks, the deadlock of which the last victim fell, and for each slot the nodes that it holds or
+-- waits for, in the order in which they are kept
 pub record Script : Type 0 where
   pub language : Language
   pub names : Names
   pub locks : State
   pub deadlock : Deadlock
+  pub orders : ℕ → List NodeId
+
+-- nobody holds or waits for anything
+abbrev pub no_orders : ℕ → List NodeId
+no_orders t = []
 
 -- how many transactions may live at once
 abbrev pub most_of : Version → ℕ
@@ -39,11 +55,12 @@ most_of version.Two = 128
 -- a script of which no line was carried out
 abbrev pub begun : Choices → Version → Script
 begun c v = record {
-  language = record { version = v; listings = c.listings; schema = c.schema };
+  language = record { version = v; listings = c.listings; schema = c.schema; savepoints = c.savepoints };
   names = no_names;
   locks =
       choosing c.victims (empty_state c.detect (most_of v));
   deadlock = no_deadlock;
+  orders = no_orders;
 }
 
 -- the interval of an index that stands for itself
@@ -72,32 +89,34 @@ plain_id names n = unwrap_or (names.node n) (record { key = 0; birth = 0 })
 abbrev pub txn_id : Names → Text → TxnId
 txn_id names t = unwrap_or (names.txn t) (record { slot = 0; age = 0 })
 
--- the command of the manager that is asked: the same, with ids for names
-abbrev pub Asks : Script → Command → Asked → Type 0
-Asks s (Inner n ps) k = (xs : Bor (List NodeId)) × (xs.now ≡ node_ids s ps) × (k ≡ command.Inner xs)
-Asks s (File n ps) k = (xs : Bor (List NodeId)) × (xs.now ≡ node_ids s ps) × (k ≡ command.File xs)
+-- what is asked of the manager: the same, with ids for names
+abbrev pub Asks : Script → Command → Request → Type 0
+Asks s (Inner n ps) k = (xs : Bor (List NodeId)) × (xs.now ≡ node_ids s ps) × (k ≡ request.Apply (command.Inner xs))
+Asks s (File n ps) k = (xs : Bor (List NodeId)) × (xs.now ≡ node_ids s ps) × (k ≡ request.Apply (command.File xs))
 Asks s (Index n ps f bs) k =
-    (xs : Bor (List NodeId)) × (xs.now ≡ node_ids s ps) × ((ys : Bor (List ℕ)) × (ys.now ≡ bs) × (k ≡ command.Index xs (plain_id s.names f) ys))
-Asks s (Begin t) k = k ≡ command.Begin
-Asks s (Lock t m n) k = k ≡ command.Lock (txn_id s.names t) (node_id s n) m
-Asks s (Try t m n) k = k ≡ command.Try (txn_id s.names t) (node_id s n) m
-Asks s (Unlock t n) k = k ≡ command.Unlock (txn_id s.names t) (node_id s n)
-Asks s (Cancel t) k = k ≡ command.Cancel (txn_id s.names t)
-Asks s (Commit t) k = k ≡ command.Commit (txn_id s.names t)
-Asks s (Abort t) k = k ≡ command.Abort (txn_id s.names t)
-Asks s (Settle t) k = k ≡ command.Settle (txn_id s.names t)
-Asks s (Insert t r f ks) k = (ys : Bor (List ℕ)) × (ys.now ≡ ks) × (k ≡ command.Insert (txn_id s.names t) (plain_id s.names f) ys)
-Asks s (Delete t r) k = k ≡ command.Delete (txn_id s.names t) (plain_id s.names r)
-Asks s (Rekey t r i key) k = k ≡ command.Rekey (txn_id s.names t) (plain_id s.names r) (plain_id s.names i) key
-Asks s (Escalate t n) k = k ≡ command.Escalate (txn_id s.names t) (node_id s n)
-Asks s (Move t n ps) k = (xs : Bor (List NodeId)) × (xs.now ≡ node_ids s ps) × (k ≡ command.Move (txn_id s.names t) (node_id s n) xs)
-Asks s (Group n) k = k ≡ command.Group (node_id s n)
-Asks s (Held t n) k = k ≡ command.Held (txn_id s.names t) (node_id s n)
-Asks s (Effective t n) k = k ≡ command.Effective (txn_id s.names t) (node_id s n)
-Asks s (Drop t n) k = k ≡ command.Drop (txn_id s.names t) (plain_id s.names n)
+    (xs : Bor (List NodeId)) × (xs.now ≡ node_ids s ps) × ((ys : Bor (List ℕ)) × (ys.now ≡ bs) × (k ≡ request.Apply (command.Index xs (plain_id s.names f) ys)))
+Asks s (Begin t) k = k ≡ request.Apply command.Begin
+Asks s (Lock t m n) k = k ≡ request.Apply (command.Lock (txn_id s.names t) (node_id s n) m)
+Asks s (Try t m n) k = k ≡ request.Apply (command.Try (txn_id s.names t) (node_id s n) m)
+Asks s (Unlock t n) k = k ≡ request.Apply (command.Unlock (txn_id s.names t) (node_id s n))
+Asks s (Cancel t) k = k ≡ request.Apply (command.Cancel (txn_id s.names t))
+Asks s (Commit t) k = k ≡ request.Apply (command.Commit (txn_id s.names t))
+Asks s (Abort t) k = k ≡ request.Apply (command.Abort (txn_id s.names t))
+Asks s (Settle t) k = k ≡ request.Apply (command.Settle (txn_id s.names t))
+Asks s (Insert t r f ks) k = (ys : Bor (List ℕ)) × (ys.now ≡ ks) × (k ≡ request.Apply (command.Insert (txn_id s.names t) (plain_id s.names f) ys))
+Asks s (Delete t r) k = k ≡ request.Apply (command.Delete (txn_id s.names t) (plain_id s.names r))
+Asks s (Rekey t r i key) k = k ≡ request.Apply (command.Rekey (txn_id s.names t) (plain_id s.names r) (plain_id s.names i) key)
+Asks s (Escalate t n) k = k ≡ request.Apply (command.Escalate (txn_id s.names t) (node_id s n))
+Asks s (Move t n ps) k = (xs : Bor (List NodeId)) × (xs.now ≡ node_ids s ps) × (k ≡ request.Apply (command.Move (txn_id s.names t) (node_id s n) xs))
+Asks s (Group n) k = k ≡ request.Apply (command.Group (node_id s n))
+Asks s (Held t n) k = k ≡ request.Apply (command.Held (txn_id s.names t) (node_id s n))
+Asks s (Effective t n) k = k ≡ request.Apply (command.Effective (txn_id s.names t) (node_id s n))
+Asks s (Drop t n) k = k ≡ request.Apply (command.Drop (txn_id s.names t) (plain_id s.names n))
 Asks s (IndexBy t n ps f bs) k =
     (xs : Bor (List NodeId)) × (xs.now ≡ node_ids s ps)
-    × ((ys : Bor (List ℕ)) × (ys.now ≡ bs) × (k ≡ command.IndexBy (txn_id s.names t) xs (plain_id s.names f) ys))
+    × ((ys : Bor (List ℕ)) × (ys.now ≡ bs) × (k ≡ request.Apply (command.IndexBy (txn_id s.names t) xs (plain_id s.names f) ys)))
+Asks s (Mark t) k = k ≡ request.Mark (txn_id s.names t)
+Asks s (Release t mark) k = k ≡ request.Release (txn_id s.names t) mark
 
 -- what a line declares: the name of a node, that of a transaction, or nothing
 pub data Declared : Type 0 where
@@ -150,26 +169,81 @@ renamed names (Delete t r) a = without_deleted names r a
 renamed names (Drop t n) a = without_deleted names n a
 renamed names c a = named_as names (declared c) a
 
--- the command is handed on, and is a step of the manager
-pub record HandedOn (s : Script) (c : Command) (a : Answer) (told : Told) (s' : Script) : Type 0 where
-  pub asked : Asked
+-- what the manager is asked to apply is a step of it; the orders stay where it is not counted
+pub record Steps (s : Script) (c : Command) (asked : Asked) (a : Said) (told : Told) (s' : Script) : Type 0 where
+  pub given : Answer
+  pub said_is : a ≡ said.Answer given
+  pub step : Step s.locks asked given told s'.locks
+  pub deadlock : KeptBy asked s.locks s.deadlock given s'.locks s'.deadlock
+  pub orders : s'.locks.accepted ≡ s.locks.accepted → s'.orders ≡ s.orders
+  pub names : s'.names ≡ renamed s.names c given
+
+-- the manager stands for the locks of the script, its last deadlock and its orders: so each order has just the nodes that its slot holds or waits for,
+-- each once
+pub record StandsFor (m : ManagerView) (s : Script) : Type 0 where
+  pub lawful : IsLawfulManager m
+  pub locks : state_of m ≡ s.locks
+  pub deadlock : m.table.deadlock ≡ s.deadlock
+  pub orders : (t : ℕ) → nodes_of m.table t ≡ s.orders t
+
+-- some manager does
+abbrev pub IsStoodFor : Script → Type 0
+IsStoodFor s = (m : ManagerView) × StandsFor m s
+
+-- a count of nodes, or why there is none
+abbrev pub counted : Result ℕ Refusal → Said
+counted (Ok k) = said.Count k
+counted (Err r) = said.Answer (answer.Refused r)
+
+-- what is answered to a mark: how many nodes the transaction holds or waits for, where it lives
+abbrev pub mark_of : Script → TxnId → Said
+mark_of s t = if lives s.locks t then said.Count (length (s.orders t.slot)) else said.Answer (answer.Refused no.NoSuchTxn)
+
+-- a mark changes nothing, and nobody is told
+pub record Marks (s : Script) (t : TxnId) (a : Said) (told : Told) (s' : Script) : Type 0 where
+  pub stood : IsStoodFor s
+  pub said_is : a ≡ mark_of s t
+  pub nobody_told : told ≡ []
+  pub same : s' ≡ s
+
+-- a transaction goes back to a mark, as its manager takes it back; refused, it changes nothing
+pub record Releases (s : Script) (t : TxnId) (mark : ℕ) (a : Said) (told : Told) (s' : Script) : Type 0 where
+  pub before : ManagerView
+  pub after : ManagerView
+  pub stood : StandsFor before s
+  pub stands : StandsFor after s'
+  pub result : Result ℕ Refusal
+  pub said_is : a ≡ counted result
+  pub back : IfOk result (λ k. TakesBack t mark k before told after)
+  pub refuses : RefusesOnly (first_refusal (back_tests before t mark)) result
+  pub untold : OnErr result (told ≡ [])
+  pub unchanged : OnErr result (s' ≡ s)
+  pub names : s'.names ≡ s.names
+
+-- what is asked is served
+abbrev pub Serves : Script → Command → Request → Said → Told → Script → Type 0
+Serves s c (request.Apply asked) a told s' = Steps s c asked a told s'
+Serves s c (request.Mark t) a told s' = Marks s t a told s'
+Serves s c (request.Release t mark) a told s' = Releases s t mark a told s'
+
+-- the command is handed on, and served
+pub record HandedOn (s : Script) (c : Command) (a : Said) (told : Told) (s' : Script) : Type 0 where
+  pub asked : Request
   pub asks : Asks s c asked
-  pub step : Step s.locks asked a told s'.locks
-  pub deadlock : KeptBy asked s.locks s.deadlock a s'.locks s'.deadlock
-  pub names : s'.names ≡ renamed s.names c a
+  pub serves : Serves s c asked a told s'
   pub language : s'.language ≡ s.language
 
 -- the command is refused here, and changes nothing
-pub record RefusedHere (r : Refusal) (s : Script) (a : Answer) (told : Told) (s' : Script) : Type 0 where
-  pub answer_is : a ≡ answer.Refused r
+pub record RefusedHere (r : Refusal) (s : Script) (a : Said) (told : Told) (s' : Script) : Type 0 where
+  pub said_is : a ≡ said.Answer (answer.Refused r)
   pub nobody_told : told ≡ []
   pub same : s' ≡ s
 
 -- A name that is in use cannot be declared again. Where memory for a new name is wanting, the command is not handed on either.
-abbrev pub DoesWhere : Bool → Script → Command → Answer → Told → Script → Type 0
+abbrev pub DoesWhere : Bool → Script → Command → Said → Told → Script → Type 0
 DoesWhere true s c a told s' = RefusedHere no.NameTaken s a told s'
 DoesWhere false s c a told s' = HandedOn s c a told s' ⊎ ((is_name (declared c) ≡ true) × RefusedHere no.NoMemory s a told s')
 
 -- what a command of the script does
-abbrev pub Does : Script → Command → Answer → Told → Script → Type 0
+abbrev pub Does : Script → Command → Said → Told → Script → Type 0
 Does s c a told s' = DoesWhere (is_in_use s.names (declared c)) s c a told s'

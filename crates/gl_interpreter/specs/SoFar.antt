@@ -6,10 +6,11 @@ use Rattle.gl_model.specs.Deadlocks.{no_deadlock}
 use Rattle.gl_model.specs.State.{choosing, empty_state}
 use Rattle.gl_model.specs.Tellings.{Told}
 use Rattle.gl_catalog.specs.Manager.{ManagerView, state_of}
-use Rattle.gl_steps.specs.declared.command.Answer.{Answer}
+use Rattle.gl_table.specs.Table.{nodes_of}
 use Rattle.gl_script.specs.Grammar.{Command, Listing}
 use Rattle.gl_script.specs.declared.form.Version.TheVariants as version
 use Rattle.gl_interpreter.specs.declared.interpreter.Interpreter.{Interpreter}
+use Rattle.gl_interpreter.specs.declared.request.Said.{Said}
 use Rattle.gl_interpreter.specs.declared.script.Tool.{Tool}
 use Rattle.gl_interpreter.specs.declared.script.RunFault.{RunFault}
 use Rattle.gl_interpreter.specs.declared.script.RunFault.TheVariants.{Write}
@@ -18,13 +19,19 @@ use Rattle.gl_interpreter.specs.Report.{Answers, Opening, Going, Prints, Report,
 use Rattle.gl_interpreter.specs.Held.{Hands, Holds}
 use Rattle.gl_interpreter.specs.Printed.{printed}
 use Rattle.gl_interpreter.specs.Rows.{Shows}
-use Rattle.gl_interpreter.specs.Script.{Does, Script, begun}
+use Rattle.gl_interpreter.specs.Script.{Does, Script, begun, no_orders}
 use Rattle.gl_interpreter.specs.Views.{script_of}
 
 -- how the script is answered
 abbrev pub choices_of : Script → Choices
 choices_of s =
-    record { detect = s.locks.detect; victims = s.locks.victims; listings = s.language.listings; schema = s.language.schema }
+    record {
+      detect = s.locks.detect;
+      victims = s.locks.victims;
+      listings = s.language.listings;
+      schema = s.language.schema;
+      savepoints = s.language.savepoints;
+    }
 
 -- a script has not begun where the manager of version 2 is still at hand
 abbrev pub stage_with : Option ManagerView → Script → Stage
@@ -39,7 +46,7 @@ stage_of i = stage_with i.two (script_of i.desk)
 abbrev pub IsReadyWith : Option ManagerView → Script → Type 0
 IsReadyWith None s = Unit
 IsReadyWith (Some two) s = let c = choices_of s in (state_of two ≡ choosing c.victims (empty_state c.detect 128))
-    × (two.table.deadlock ≡ no_deadlock) × (s ≡ begun c version.One)
+    × (two.table.deadlock ≡ no_deadlock) × (nodes_of two.table ≡ no_orders) × (s ≡ begun c version.One)
 
 abbrev pub IsReady : Interpreter → Type 0
 IsReady i = IsReadyWith i.two (script_of i.desk)
@@ -52,8 +59,8 @@ pub record IsFresh (choices : Choices) (i : Interpreter) : Type 0 where
 -- a command was carried out, and what is printed for it was handed on
 unfoldable pub Obeys : Option (List ℕ) → Sink → Interpreter → Command → Option (List ℕ) → Sink → Interpreter → Type 0
 Obeys w sink i command w' sink' i' =
-    (answer : Answer) × (told : Told) × Does (script_of i.desk) command answer told (script_of i'.desk) × (i'.two ≡ i.two)
-    × Hands w sink w' sink' (printed (script_of i'.desk) command answer told)
+    (said : Said) × (told : Told) × Does (script_of i.desk) command said told (script_of i'.desk) × (i'.two ≡ i.two)
+    × Hands w sink w' sink' (printed (script_of i'.desk) command said told)
 
 -- what a listing shows was handed on
 unfoldable pub IsShown : Option (List ℕ) → Sink → Script → Listing → Option (List ℕ) → Sink → Type 0

@@ -4,6 +4,7 @@ use Rattle.std.specs.Str.{bytes_eq}
 use Rattle.indexmap.specs.IndexMap.{get, spare}
 use Rattle.arrayvec.specs.ArrayVec.{ArrayVec}
 use Rattle.gl_modes.specs.Nodes.{same_node}
+use Rattle.gl_table.specs.Table.{nodes_of}
 use Rattle.gl_catalog.specs.Manager.{state_of}
 use Rattle.gl_script.specs.Grammar.{Text}
 use Rattle.gl_interpreter.specs.declared.desk.Desk.{Desk}
@@ -44,4 +45,11 @@ names_of desk =
 
 -- the script that a desk stands for
 abbrev pub script_of : Desk → Script
-script_of desk = record { language = desk.language; names = names_of desk; locks = state_of desk.manager; deadlock = desk.manager.table.deadlock }
+script_of desk =
+    record {
+      language = desk.language;
+      names = names_of desk;
+      locks = state_of desk.manager;
+      deadlock = desk.manager.table.deadlock;
+      orders = nodes_of desk.manager.table;
+    }

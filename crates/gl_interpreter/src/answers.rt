@@ -16,6 +16,7 @@ ghost use Rattle.gl_interpreter.specs.Printed.{
   notice_text,
   place_text,
   refusal_line,
+  said_line,
   some_unused,
   told_line,
   used_nodes,
@@ -26,6 +27,7 @@ ghost use Rattle.gl_interpreter.specs.Script.{declared, node_named};
 ghost use Rattle.gl_interpreter.specs.Views.{script_of};
 
 use crate::desk::Desk;
+use crate::request::Said;
 use crate::sink::{Sink, put};
 use gl_catalog::{Answer, Escalated};
 use gl_modes::{NodeId, Refusal};
@@ -49,8 +51,35 @@ pub(crate) fn put_notices<W: Write>(
     }
 }
 
-/// Prints the line of an answer. The desk is as it is after the command.
-pub(crate) fn put_answer<W: Write>(
+/// Prints the line of what is answered. The desk is as it is after the command.
+pub(crate) fn put_said<W: Write>(
+    sink: &mut Sink,
+    writer: &mut W,
+    desk: &Desk,
+    form: &Form,
+    lists: &Lists,
+    said: Said,
+)
+    ensures { Hands (W.contents writer.old) sink.old (W.contents writer.new) sink.new
+        (said_line (script_of desk.now) (command_of form.now lists.now) said) }
+{
+    match said {
+        Said::Answer(answer) => put_answer(sink, writer, desk, form, lists, answer),
+        Said::Count(count) => put_count(sink, writer, count),
+    }
+}
+
+/// Prints `ok` and a count.
+fn put_count<W: Write>(sink: &mut Sink, writer: &mut W, count: usize)
+    ensures { Hands (W.contents writer.old) sink.old (W.contents writer.new) sink.new (codes "ok " ++ decimal count ++ 10 ∷ []) }
+{
+    put(sink, writer, b"ok ");
+    put_number(sink, writer, count as u64);
+    put(sink, writer, b"\n");
+}
+
+/// Prints the line of an answer of the manager.
+fn put_answer<W: Write>(
     sink: &mut Sink,
     writer: &mut W,
     desk: &Desk,
@@ -202,6 +231,8 @@ fn txn_name(form: &Form) -> &[u8]
         Form::Effective { txn, .. } => txn.as_slice(),
         Form::Drop { txn, .. } => txn.as_slice(),
         Form::IndexBy { txn, .. } => txn.as_slice(),
+        Form::Mark { txn } => txn.as_slice(),
+        Form::Release { txn, .. } => txn.as_slice(),
         _ => &[],
     }
 }
@@ -271,6 +302,8 @@ fn put_first_unused<W: Write>(
         Form::Commit { .. } => {}
         Form::Abort { .. } => {}
         Form::Settle { .. } => {}
+        Form::Mark { .. } => {}
+        Form::Release { .. } => {}
     }
 }
 

@@ -27,6 +27,7 @@ ghost use Rattle.gl_interpreter.specs.Script.{
 ghost use Rattle.gl_interpreter.specs.Views.{HasRoom, id_in, name_in, names_of, script_of};
 
 use crate::register::Register;
+use crate::request::{Request, Said};
 use arrayvec::ArrayVec;
 use gl_catalog::{Answer, Command, Manager};
 use gl_modes::{NodeId, Refusal};
@@ -80,18 +81,23 @@ impl Desk {
         lists: &Lists,
         ids: &mut Ids,
         told: &mut Told,
-    ) -> Answer
+    ) -> Said
         requires empty { told.old.items ≡ [] }
         ensures does { Does (script_of self.old) (command_of form.now lists.now) result told.new.items (script_of self.new) }
     {
         if let Err(refusal) = self.make_room(form) {
-            return Answer::Refused(refusal);
+            return Said::Answer(Answer::Refused(refusal));
         }
         self.resolve(lists, ids);
-        let command = self.command(form, lists, ids.as_slice());
-        let answer = self.manager.apply_telling(command, told);
-        self.rename(form, answer);
-        answer
+        match self.request(form, lists, ids.as_slice()) {
+            Request::Apply(command) => {
+                let answer = self.manager.apply_telling(command, told);
+                self.rename(form, answer);
+                Said::Answer(answer)
+            }
+            Request::Mark(txn) => self.mark(txn),
+            Request::Release(txn, mark) => self.release(txn, mark, told),
+        }
     }
 
     /// Whether the name that a line declares is free, and there is room for it.
@@ -122,97 +128,99 @@ impl Desk {
         }
     }
 
-    /// The command of the manager that a line asks for.
-    fn command<'a>(&self, form: &Form, lists: &'a Lists, ids: &'a [NodeId]) -> Command<'a>
+    /// What a line asks of the manager.
+    fn request<'a>(&self, form: &Form, lists: &'a Lists, ids: &'a [NodeId]) -> Request<'a>
         requires { ids.now ≡ node_ids (script_of self.now) (nodes_of lists.now) }
         ensures { Asks (script_of self.now) (command_of form.now lists.now) result }
     {
         let numbers = lists.numbers.as_slice();
         match form {
-            Form::Inner { .. } => Command::Inner { parents: ids },
-            Form::File { .. } => Command::File { parents: ids },
-            Form::Index { file, .. } => Command::Index {
+            Form::Inner { .. } => Request::Apply(Command::Inner { parents: ids }),
+            Form::File { .. } => Request::Apply(Command::File { parents: ids }),
+            Form::Index { file, .. } => Request::Apply(Command::Index {
                 parents: ids,
                 file: self.plain_id(file),
                 bounds: numbers,
-            },
-            Form::Begin { .. } => Command::Begin,
-            Form::Lock { txn, mode, node } => Command::Lock {
+            }),
+            Form::Begin { .. } => Request::Apply(Command::Begin),
+            Form::Lock { txn, mode, node } => Request::Apply(Command::Lock {
                 txn: self.txn_id(txn),
                 node: self.node_id(node),
                 mode: *mode,
-            },
-            Form::Try { txn, mode, node } => Command::Try {
+            }),
+            Form::Try { txn, mode, node } => Request::Apply(Command::Try {
                 txn: self.txn_id(txn),
                 node: self.node_id(node),
                 mode: *mode,
-            },
-            Form::Unlock { txn, node } => Command::Unlock {
+            }),
+            Form::Unlock { txn, node } => Request::Apply(Command::Unlock {
                 txn: self.txn_id(txn),
                 node: self.node_id(node),
-            },
-            Form::Cancel { txn } => Command::Cancel {
+            }),
+            Form::Cancel { txn } => Request::Apply(Command::Cancel {
                 txn: self.txn_id(txn),
-            },
-            Form::Commit { txn } => Command::Commit {
+            }),
+            Form::Commit { txn } => Request::Apply(Command::Commit {
                 txn: self.txn_id(txn),
-            },
-            Form::Abort { txn } => Command::Abort {
+            }),
+            Form::Abort { txn } => Request::Apply(Command::Abort {
                 txn: self.txn_id(txn),
-            },
-            Form::Settle { txn } => Command::Settle {
+            }),
+            Form::Settle { txn } => Request::Apply(Command::Settle {
                 txn: self.txn_id(txn),
-            },
-            Form::Insert { txn, file, .. } => Command::Insert {
+            }),
+            Form::Insert { txn, file, .. } => Request::Apply(Command::Insert {
                 txn: self.txn_id(txn),
                 file: self.plain_id(file),
                 keys: numbers,
-            },
-            Form::Delete { txn, rec } => Command::Delete {
+            }),
+            Form::Delete { txn, rec } => Request::Apply(Command::Delete {
                 txn: self.txn_id(txn),
                 rec: self.plain_id(rec),
-            },
+            }),
             Form::Rekey {
                 txn,
                 rec,
                 index,
                 key,
-            } => Command::Rekey {
+            } => Request::Apply(Command::Rekey {
                 txn: self.txn_id(txn),
                 rec: self.plain_id(rec),
                 index: self.plain_id(index),
                 key: *key,
-            },
-            Form::Escalate { txn, node } => Command::Escalate {
+            }),
+            Form::Escalate { txn, node } => Request::Apply(Command::Escalate {
                 txn: self.txn_id(txn),
                 node: self.node_id(node),
-            },
-            Form::Move { txn, node } => Command::Move {
+            }),
+            Form::Move { txn, node } => Request::Apply(Command::Move {
                 txn: self.txn_id(txn),
                 node: self.node_id(node),
                 parents: ids,
-            },
-            Form::Group { node } => Command::Group {
+            }),
+            Form::Group { node } => Request::Apply(Command::Group {
                 node: self.node_id(node),
-            },
-            Form::Held { txn, node } => Command::Held {
+            }),
+            Form::Held { txn, node } => Request::Apply(Command::Held {
                 txn: self.txn_id(txn),
                 node: self.node_id(node),
-            },
-            Form::Effective { txn, node } => Command::Effective {
+            }),
+            Form::Effective { txn, node } => Request::Apply(Command::Effective {
                 txn: self.txn_id(txn),
                 node: self.node_id(node),
-            },
-            Form::Drop { txn, node } => Command::Drop {
+            }),
+            Form::Drop { txn, node } => Request::Apply(Command::Drop {
                 txn: self.txn_id(txn),
                 node: self.plain_id(node),
-            },
-            Form::IndexBy { txn, file, .. } => Command::IndexBy {
+            }),
+            Form::IndexBy { txn, file, .. } => Request::Apply(Command::IndexBy {
                 txn: self.txn_id(txn),
                 parents: ids,
                 file: self.plain_id(file),
                 bounds: numbers,
-            },
+            }),
+            Form::Mark { txn } => Request::Mark(self.txn_id(txn)),
+            Form::Release { txn, mark } => Request::Release(self.txn_id(txn), *mark),
         }
     }
 

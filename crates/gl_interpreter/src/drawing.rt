@@ -49,8 +49,8 @@ pub enum PictureFault {
 
 /// Draws the state in which the script that `reader` gives ends. The words are those of a script, and in
 /// front of them may stand `--graph` or `--waits`. `--listings` may be among them, and changes no
-/// picture: neither a listing nor a bad line changes the state. So may `--schema`: what was dropped is
-/// then not drawn. Answers the exit status: 0 at the end, 1
+/// picture: neither a listing nor a bad line changes the state. So may `--schema` and `--savepoints`: what
+/// was dropped or released is then not drawn. Answers the exit status: 0 at the end, 1
 /// after a fault, 2 for words that ask for nothing that is drawn; after anything but 0 one line that says
 /// why was given to `faults`.
 pub fn draw_script<S: AsStr, R: Read, W: Write, E: Write>(

@@ -5,7 +5,7 @@ ghost use Rattle.gl_script.specs.Views.{command_of};
 ghost use Rattle.gl_interpreter.specs.Report.{version_of};
 ghost use Rattle.gl_interpreter.specs.SoFar.{Answered, CarriesOut, IsFresh, Obeys};
 
-use crate::answers::{put_answer, put_notices};
+use crate::answers::{put_notices, put_said};
 use crate::desk::{Desk, Ids};
 use crate::listings::put_listing;
 use crate::sink::{Sink, put};
@@ -47,11 +47,13 @@ impl Interpreter {
             victims,
             listings,
             schema,
+            savepoints,
         } = choices;
         let language = Language {
             version: Version::One,
             listings,
             schema,
+            savepoints,
         };
         let Ok(one) = Manager::choosing(alloc, detect, victims, 64) else {
             return None;
@@ -59,6 +61,8 @@ impl Interpreter {
         let Ok(two) = Manager::choosing(alloc, detect, victims, 128) else {
             return None;
         };
+        one.law(); // Nothing stands in its lists.
+        two.law();
         Some(Interpreter {
             desk: Desk::new(alloc, language, one),
             two: Some(two),
@@ -119,10 +123,10 @@ impl Interpreter {
         ensures { Obeys (W.contents writer.old) sink.old self.old (command_of form.now self.old.lists) (W.contents writer.new) sink.new self.new }
     {
         self.told.clear();
-        let answer = self
+        let said = self
             .desk
             .serve(form, &self.lists, &mut self.ids, &mut self.told);
-        put_answer(sink, writer, &self.desk, form, &self.lists, answer);
+        put_said(sink, writer, &self.desk, form, &self.lists, said);
         put_notices(sink, writer, &self.desk, self.told.as_slice());
     }
 }

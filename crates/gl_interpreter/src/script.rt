@@ -67,8 +67,8 @@ pub fn run<R: Read, W: Write>(
     run_choosing(alloc, reader, writer, Choices::plain(detect))
 }
 
-/// Answers a script, line by line as it is read, with deadlocks found, victims chosen, and listings and
-/// lines that change the schema had as `choices` says.
+/// Answers a script, line by line as it is read, with deadlocks found, victims chosen, and listings, lines
+/// that change the schema and savepoints had as `choices` says.
 ///
 /// What is written is the report of what is read; with `Ok` all of the reader was read. Whatever the
 /// outcome, at most 16,777,217 bytes were read, and with `Ok` at most 16,777,216. The answers

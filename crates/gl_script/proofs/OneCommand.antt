@@ -10,7 +10,7 @@ use Rattle.gl_modes.specs.Modes.{mode_text}
 use Rattle.gl_modes.proofs.Spellings.{mode_text-injective}
 use Rattle.gl_script.specs.declared.form.Language.{Language}
 use Rattle.gl_script.specs.Grammar.{Text, Command, Inner, File, Index, Begin, Lock, Try, Unlock, Cancel, Commit, Abort, Settle, Insert, Delete, Rekey}
-use Rattle.gl_script.specs.Grammar.{Escalate, Move, Group, Held, Effective, Drop, IndexBy, Listing, Holders, Queue, Locks, Waits, Txns, Cycle}
+use Rattle.gl_script.specs.Grammar.{Escalate, Move, Group, Held, Effective, Drop, IndexBy, Mark, Release, Listing, Holders, Queue, Locks, Waits, Txns, Cycle}
 use Rattle.gl_script.specs.Grammar.{Line, Orders, Lists}
 use Rattle.gl_script.specs.Grammar.{Node, Plain, Interval, IsNode, IsNumber, AreSomeNodes, node_text, parents, fields, listing_fields, SaysFields}
 use Rattle.gl_script.specs.Grammar.{ListsFields, LineFields, LineSaysOneCommand}
@@ -157,6 +157,12 @@ one_of_fields l all (IndexBy s m ps g ks) (IndexBy t n qs h bs) p q =
     let txn : s ≡ t = cc in
     let parts = same_of_index s m n ps qs g h ks bs p.0.2 q.0.2 p.0.4 q.0.4 (cc) in
     λ i. IndexBy (txn i) (parts.0 i) (parts.1 i) (parts.2 i) (parts.3 i)
+one_of_fields l all (Mark s) (Mark t) p q = ap Mark (same_of_name _ s t (sym p.2 ∙ q.2))
+one_of_fields l all (Release s j) (Release t k) p q =
+    let same : fields (Release s j) ≡ fields (Release t k) = sym p.2 ∙ q.2 in
+    let txn : s ≡ t = cc in
+    let spelt : decimal j ≡ decimal k = cc in
+    ap₂ Release txn (decimal_injective j k p.0.1 q.0.1 spelt)
 one_of_fields l all (Index m ps g ks) (IndexBy t n qs h bs) p q = absurd (one_before_colon m ps _ t n _ p.0.1 q.0.1 (behind_first _ _ _ _ (sym p.2 ∙ q.2)))
 one_of_fields l all (IndexBy t n qs h bs) (Index m ps g ks) p q = absurd (one_before_colon m ps _ t n _ q.0.1 p.0.1 (behind_first _ _ _ _ (sym q.2 ∙ p.2)))
 one_of_fields l all c d p q = absurd (differ l all c d p q refl)

@@ -34,6 +34,8 @@ first_verb g rest (grammar.Held t n) e = (verb.Held, cc)
 first_verb g rest (grammar.Effective t n) e = (verb.Effective, cc)
 first_verb g rest (grammar.Drop t n) e = (verb.Drop, cc)
 first_verb g rest (grammar.IndexBy t n ps f bs) e = (verb.Index, cc)
+first_verb g rest (grammar.Mark t) e = (verb.Mark, cc)
+first_verb g rest (grammar.Release t k) e = (verb.Release, cc)
 
 -- the topic that a listing's line begins with
 pub first_topic : (f : Text) (rest : List Text) (l : Listing) → f ∷ rest ≡ listing_fields l → (t : Topic) × (f ≡ topic_word t)

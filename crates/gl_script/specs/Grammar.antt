@@ -38,6 +38,8 @@ pub data Command : Type 0 where
   Effective : (txn : Text) → (node : Node) → Command
   Drop : (txn : Text) → (node : Text) → Command
   IndexBy : (txn : Text) → (name : Text) → (parents : List Node) → (file : Text) → (bounds : List ℕ) → Command
+  Mark : (txn : Text) → Command
+  Release : (txn : Text) → (mark : ℕ) → Command
 
 -- What a line can want listed.
 pub data Listing : Type 0 where
@@ -106,6 +108,8 @@ IsCommand (Held t n) = IsName t × IsNode n
 IsCommand (Effective t n) = IsName t × IsNode n
 IsCommand (Drop t n) = IsName t × IsName n
 IsCommand (IndexBy t n ps f bs) = IsName t × IsName n × AreSomeNodes ps × IsName f × All IsNumber bs
+IsCommand (Mark t) = IsName t
+IsCommand (Release t k) = IsName t × IsNumber k
 
 -- the names and numbers of a listing are such
 abbrev pub IsListing : Listing → Type 0
@@ -116,11 +120,13 @@ IsListing (Waits t) = IsName t
 IsListing Txns = Unit
 IsListing Cycle = Unit
 
--- no node moves in a script of version 1, and a schema changes where the language has the lines for it
+-- no node moves in a script of version 1; a schema changes, and transactions go back, where the language has the lines for it
 abbrev pub IsOfLanguage : Language → Command → Type 0
 IsOfLanguage l (Move t n ps) = l.version ≢ version.One
 IsOfLanguage l (Drop t n) = l.schema ≡ true
 IsOfLanguage l (IndexBy t n ps f bs) = l.schema ≡ true
+IsOfLanguage l (Mark t) = l.savepoints ≡ true
+IsOfLanguage l (Release t k) = l.savepoints ≡ true
 IsOfLanguage l c = Unit
 
 -- how a node is spelt: its name, or the index, a dot and the interval's number
@@ -156,6 +162,8 @@ fields (Held t n) = codes "held" ∷ t ∷ node_text n ∷ []
 fields (Effective t n) = codes "effective" ∷ t ∷ node_text n ∷ []
 fields (Drop t n) = codes "drop" ∷ t ∷ n ∷ []
 fields (IndexBy t n ps f bs) = codes "index" ∷ t ∷ n ∷ parents ps ++ codes "on" ∷ f ∷ codes "at" ∷ map decimal bs
+fields (Mark t) = codes "mark" ∷ t ∷ []
+fields (Release t k) = codes "release" ∷ t ∷ decimal k ∷ []
 
 -- the fields of a listing's line
 abbrev pub listing_fields : Listing → List Text

@@ -47,6 +47,8 @@ command_of (form.Held t n) lists = grammar.Held t.items (node_of n)
 command_of (form.Effective t n) lists = grammar.Effective t.items (node_of n)
 command_of (form.Drop t n) lists = grammar.Drop t.items n.items
 command_of (form.IndexBy t n f) lists = grammar.IndexBy t.items n.items (nodes_of lists) f.items lists.numbers.items
+command_of (form.Mark t) lists = grammar.Mark t.items
+command_of (form.Release t k) lists = grammar.Release t.items k
 
 -- the listing of a value
 abbrev pub listing_of : Listing → grammar.Listing

@@ -28,6 +28,8 @@ word verb.Group = codes "group"
 word verb.Held = codes "held"
 word verb.Effective = codes "effective"
 word verb.Drop = codes "drop"
+word verb.Mark = codes "mark"
+word verb.Release = codes "release"
 
 -- the first field of a topic's lines
 abbrev pub topic_word : Topic → Text

@@ -12,7 +12,7 @@ use crate::reads::{Name, Used, next_name};
 use crate::series::MOST_LISTED;
 use crate::shapes::{
     index_parts, insert_parts, name_parents, name_some_parents, only_name, only_node, rekey_parts,
-    txn_mode_node, txn_name, txn_node, txn_node_parents,
+    txn_mode_node, txn_name, txn_node, txn_node_parents, txn_number,
 };
 use crate::verb::Verb;
 use arrayvec::ArrayVec;
@@ -35,6 +35,8 @@ pub struct Language {
     pub listings: bool,
     /// Whether those by which a schema changes are among them: `drop`, and `index` by a transaction.
     pub schema: bool,
+    /// Whether those by which a transaction goes back are among them: `mark` and `release`.
+    pub savepoints: bool,
 }
 
 /// A command, as a line has it. The parents, bounds and keys of the line are [`Lists`] beside it.
@@ -143,6 +145,15 @@ pub enum Form {
         name: Name,
         file: Name,
     },
+    /// How many nodes a transaction holds or waits for: a mark to which it can go back.
+    Mark {
+        txn: Name,
+    },
+    /// Go back to a mark.
+    Release {
+        txn: Name,
+        mark: u64,
+    },
 }
 
 /// What a line lists: the parents of a node, and the bounds of an index or the keys of a record. A
@@ -208,6 +219,8 @@ pub(crate) fn read_command(
         Verb::Held => txn_node(fields, |txn, node| Form::Held { txn, node }),
         Verb::Effective => txn_node(fields, |txn, node| Form::Effective { txn, node }),
         Verb::Drop => read_drop(language, fields),
+        Verb::Mark => read_mark(language, fields),
+        Verb::Release => read_release(language, fields),
     }
 }
 
@@ -236,6 +249,30 @@ fn read_drop(language: Language, fields: &mut Fields) -> Option<Form>
 {
     if language.schema {
         txn_name(fields, |txn, node| Form::Drop { txn, node })
+    } else {
+        None
+    }
+}
+
+/// What follows the word `mark`, where there are savepoints.
+fn read_mark(language: Language, fields: &mut Fields) -> Option<Form>
+    ensures says { IfSome result (λ form. (lists : TheLists) → SaysFields language (codes "mark" ∷ left fields.old) (command_of form lists)) }
+    ensures none { IfNone result ((c : Command) → SaysFields language (codes "mark" ∷ left fields.old) c → ⊥) }
+{
+    if language.savepoints {
+        only_name(fields, |txn| Form::Mark { txn })
+    } else {
+        None
+    }
+}
+
+/// What follows the word `release`, where there are savepoints.
+fn read_release(language: Language, fields: &mut Fields) -> Option<Form>
+    ensures says { IfSome result (λ form. (lists : TheLists) → SaysFields language (codes "release" ∷ left fields.old) (command_of form lists)) }
+    ensures none { IfNone result ((c : Command) → SaysFields language (codes "release" ∷ left fields.old) c → ⊥) }
+{
+    if language.savepoints {
+        txn_number(fields, |txn, mark| Form::Release { txn, mark })
     } else {
         None
     }

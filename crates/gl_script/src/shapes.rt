@@ -75,6 +75,21 @@ pub(crate) fn txn_name<F: FnOnce(Name, Name) -> Form>(fields: &mut Fields, form:
     Some(form(txn, name))
 }
 
+/// A transaction and a number.
+pub(crate) fn txn_number<F: FnOnce(Name, u64) -> Form>(fields: &mut Fields, form: F) -> Option<Form>
+    requires form { F.IsAlwaysCallable form }
+    ensures found { IfSome result (λ r. (txn : _) × (number : _) × F.post form txn number r × IsName txn.items × IsNumber number
+        × (left fields.old ≡ txn.items ∷ decimal number ∷ [])) }
+    ensures none { IfNone result ((t : Text) (k : ℕ) → IsName t → IsNumber k → left fields.old ≢ t ∷ decimal k ∷ []) }
+{
+    let txn = next_name(fields)?;
+    let number = read_number(fields.next()?)?;
+    if !fields.is_done() {
+        return None;
+    }
+    Some(form(txn, number))
+}
+
 /// A transaction, a record, an index and a key.
 pub(crate) fn rekey_parts<F: FnOnce(Name, Name, Name, u64) -> Form>(
     fields: &mut Fields,

@@ -27,6 +27,8 @@ pub(crate) enum Verb {
     Held,
     Effective,
     Drop,
+    Mark,
+    Release,
 }
 
 /// The verb that the bytes are, if they are one.
@@ -55,6 +57,8 @@ pub(crate) fn read_verb(text: &[u8]) -> Option<Verb>
         b"held" => Some(Verb::Held),
         b"effective" => Some(Verb::Effective),
         b"drop" => Some(Verb::Drop),
+        b"mark" => Some(Verb::Mark),
+        b"release" => Some(Verb::Release),
         _ => None,
     }
 }

@@ -34,9 +34,9 @@ bare_app = let app = new_app (codes "gltool") in record app { top = record app.t
 -- the command line
 abbrev pub tool_app : App
 tool_app =
-    with_rule (with_rule (with_rule (with_rule (with_rule (with_rule bare_app
+    with_rule (with_rule (with_rule (with_rule (with_rule (with_rule (with_rule bare_app
     (option_rule (codes "detect"))) (option_rule (codes "victims"))) (flag_rule (codes "listings"))) (flag_rule (codes "schema")))
-    (option_rule (codes "crew"))) (option_rule (codes "rounds"))
+    (flag_rule (codes "savepoints"))) (option_rule (codes "crew"))) (option_rule (codes "rounds"))
 
 -- the values that clap finds in the words
 unfoldable pub rows_in : List Text → List Row
@@ -70,18 +70,20 @@ abbrev pub IsNumberTo : ℕ → Text → ℕ → Type 0
 IsNumberTo most word n = IsNumeral 10 (without_leading_plus word) × (digits_value 10 (without_leading_plus word) ≡ n) × (1 ≤ n) × (n ≤ most)
 
 -- what the values of the options ask for: both numbers, and none of the further lines, or neither number
-abbrev pub IsAsked : Option Text → Option Text → Bool → Bool → Option Text → Option Text → Asked → Type 0
-IsAsked way choice listings schema None None (Script choices) =
+abbrev pub IsAsked : Option Text → Option Text → Bool → Bool → Bool → Option Text → Option Text → Asked → Type 0
+IsAsked way choice listings schema savepoints None None (Script choices) =
     IsWay way choices.detect × IsChoice choice choices.victims × (choices.listings ≡ listings) × (choices.schema ≡ schema)
-IsAsked way choice false false (Some crew) (Some rounds) (Crew s r detect victims) =
+    × (choices.savepoints ≡ savepoints)
+IsAsked way choice false false false (Some crew) (Some rounds) (Crew s r detect victims) =
     IsNumberTo 128 crew s × IsNumberTo 100000 rounds r × IsWay way detect × IsChoice choice victims
-IsAsked way choice listings schema crew rounds asked = ⊥
+IsAsked way choice listings schema savepoints crew rounds asked = ⊥
 
 -- what the values that clap found ask for
 abbrev pub IsAskedIn : List Row → Asked → Type 0
 IsAskedIn rows asked =
     IsAsked (first_of (codes "detect") rows) (first_of (codes "victims") rows) (is_set (first_of (codes "listings") rows))
-    (is_set (first_of (codes "schema") rows)) (first_of (codes "crew") rows) (first_of (codes "rounds") rows) asked
+    (is_set (first_of (codes "schema") rows)) (is_set (first_of (codes "savepoints") rows)) (first_of (codes "crew") rows)
+    (first_of (codes "rounds") rows) asked
 
 -- clap takes the words, and they ask for this by what it finds in them
 abbrev pub AsksFor : List Text → Asked → Type 0
@@ -89,7 +91,7 @@ AsksFor words asked = (faults_in words ≡ []) × IsAskedIn (rows_in words) aske
 
 -- the choices where no more than the way of detection is named: the youngest falls, and there are none of the further lines
 abbrev pub plain : Detect → Choices
-plain detect = record { detect = detect; victims = Youngest; listings = false; schema = false }
+plain detect = record { detect = detect; victims = Youngest; listings = false; schema = false; savepoints = false }
 
 -- the plan of what is asked
 abbrev pub plan_of : Asked → Plan

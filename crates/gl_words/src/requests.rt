@@ -6,19 +6,20 @@ ghost use Rattle.gl_words.specs.Planned.{plain, plan_of};
 use gl_model::Detect;
 use gl_waits::Victims;
 
-/// How a script is answered: how deadlocks are found, whom they take, and whether it has the listings and
-/// the lines by which a schema changes.
+/// How a script is answered: how deadlocks are found, whom they take, and whether it has the listings, the
+/// lines by which a schema changes, and those by which a transaction goes back.
 #[derive(Clone, Copy, Debug, PartialEq, Eq)]
 pub struct Choices {
     pub detect: Detect,
     pub victims: Victims,
     pub listings: bool,
     pub schema: bool,
+    pub savepoints: bool,
 }
 
 impl Choices {
     /// The choices where no more than the way of detection is named: the youngest falls, and there are
-    /// neither listings nor lines by which a schema changes.
+    /// none of the further lines.
     pub fn plain(detect: Detect) -> Choices
         ensures { result ≡ plain detect }
     {
@@ -27,6 +28,7 @@ impl Choices {
             victims: Victims::Youngest,
             listings: false,
             schema: false,
+            savepoints: false,
         }
     }
 }

@@ -58,11 +58,13 @@ fn read_words<S: AsStr>(alloc: Global, words: &[S]) -> Result<Asked, Unread>
     let victims = matches.get_str("victims");
     let listings = is_set(matches.get_str("listings"));
     let schema = is_set(matches.get_str("schema"));
+    let savepoints = is_set(matches.get_str("savepoints"));
     match asked_of(
         detect,
         victims,
         listings,
         schema,
+        savepoints,
         matches.get_str("crew"),
         matches.get_str("rounds"),
     ) {
@@ -79,6 +81,7 @@ fn command<'a>(alloc: Global) -> Result<Command<'a>, AllocError>
     let victims = option(alloc, "victims");
     let listings = flag(alloc, "listings");
     let schema = flag(alloc, "schema");
+    let savepoints = flag(alloc, "savepoints");
     let crew = option(alloc, "crew");
     let rounds = option(alloc, "rounds");
     Command::new(alloc, "gltool")
@@ -87,6 +90,7 @@ fn command<'a>(alloc: Global) -> Result<Command<'a>, AllocError>
         .arg(victims)?
         .arg(listings)?
         .arg(schema)?
+        .arg(savepoints)?
         .arg(crew)?
         .arg(rounds)
 }
@@ -124,21 +128,24 @@ fn asked_of(
     victims: Option<&str>,
     listings: bool,
     schema: bool,
+    savepoints: bool,
     crew: Option<&str>,
     rounds: Option<&str>,
 ) -> Option<Asked>
-    ensures some { IfSome result (λ asked. IsAsked (text detect.entry) (text victims.entry) listings schema (text crew.entry) (text rounds.entry) asked) }
+    ensures some { IfSome result (λ asked.
+        IsAsked (text detect.entry) (text victims.entry) listings schema savepoints (text crew.entry) (text rounds.entry) asked) }
     ensures none { IfNone result ((asked : WhatIsAsked)
-        → ¬ (IsAsked (text detect.entry) (text victims.entry) listings schema (text crew.entry) (text rounds.entry) asked)) }
+        → ¬ (IsAsked (text detect.entry) (text victims.entry) listings schema savepoints (text crew.entry) (text rounds.entry) asked)) }
 {
     let detect = way(detect)?;
     let victims = choice(victims)?;
-    match (crew, rounds, listings || schema) {
+    match (crew, rounds, listings || schema || savepoints) {
         (None, None, _) => Some(Asked::Script(Choices {
             detect,
             victims,
             listings,
             schema,
+            savepoints,
         })),
         (Some(crew), Some(rounds), false) => Some(Asked::Crew {
             sessions: number_to(MOST_SESSIONS, crew)?,

@@ -28,7 +28,7 @@ const LEFT_WAITING: &[u8] = b"ok\nok\nok\nok S\nok S\nwait\nwait\n";
 
 const NO_WORDS: [&str; 0] = [];
 
-const REFUSED: [&[&str]; 38] = [
+const REFUSED: [&[&str]; 45] = [
     &["x"],
     &[""],
     &["-h"],
@@ -67,6 +67,13 @@ const REFUSED: [&[&str]; 38] = [
     &["--schema", "--schema"],
     &["--schema=true"],
     &["--schemas"],
+    &["--savepoints", "--crew", "4", "--rounds", "1"],
+    &["--crew=4", "--rounds=1", "--savepoints"],
+    &["--crew=4", "--rounds=1", "--savepoints", "--schema"],
+    &["--savepoints", "--savepoints"],
+    &["--savepoints=true"],
+    &["--savepoints", "x"],
+    &["--savepoint"],
 ];
 
 /// A script that lists, with the word and without.
@@ -76,53 +83,117 @@ const LISTS_LISTED: &[u8] = b"ok\nok\nok\n";
 
 const LISTS_UNLISTED: &[u8] = b"ok\nno 20 BadLine\nno 20 BadLine\n";
 
-/// Words that ask for a script, and what they choose: the way, the victims, the listings and the lines by
-/// which a schema changes.
-const CHOSEN: [(&[&str], Detect, Victims, bool, bool); 15] = [
-    (&[], AtBlock, Youngest, false, false),
-    (&["--detect", "at-block"], AtBlock, Youngest, false, false),
-    (&["--detect=at-block"], AtBlock, Youngest, false, false),
-    (
-        &["--detect", "by-watcher"],
-        ByWatcher,
-        Youngest,
-        false,
-        false,
-    ),
-    (&["--detect=by-watcher"], ByWatcher, Youngest, false, false),
-    (&["--victims", "fewest"], AtBlock, Fewest, false, false),
-    (&["--victims=fewest"], AtBlock, Fewest, false, false),
-    (&["--victims", "youngest"], AtBlock, Youngest, false, false),
+/// What is chosen where nothing is said.
+const PLAIN: Choices = Choices {
+    detect: AtBlock,
+    victims: Youngest,
+    listings: false,
+    schema: false,
+    savepoints: false,
+};
+
+/// What is chosen by one word.
+const WATCHED: Choices = Choices {
+    detect: ByWatcher,
+    ..PLAIN
+};
+
+const FEW: Choices = Choices {
+    victims: Fewest,
+    ..PLAIN
+};
+
+const LISTED: Choices = Choices {
+    listings: true,
+    ..PLAIN
+};
+
+const SCHEMA: Choices = Choices {
+    schema: true,
+    ..PLAIN
+};
+
+const SAVEPOINTS: Choices = Choices {
+    savepoints: true,
+    ..PLAIN
+};
+
+/// What is chosen by all of them.
+const EVERYTHING: Choices = Choices {
+    detect: ByWatcher,
+    victims: Fewest,
+    listings: true,
+    schema: true,
+    savepoints: true,
+};
+
+/// Words that ask for a script, and what they choose.
+const CHOSEN: [(&[&str], Choices); 19] = [
+    (&[], PLAIN),
+    (&["--detect", "at-block"], PLAIN),
+    (&["--detect=at-block"], PLAIN),
+    (&["--detect", "by-watcher"], WATCHED),
+    (&["--detect=by-watcher"], WATCHED),
+    (&["--victims", "fewest"], FEW),
+    (&["--victims=fewest"], FEW),
+    (&["--victims", "youngest"], PLAIN),
     (
         &["--victims=fewest", "--detect=by-watcher"],
-        ByWatcher,
-        Fewest,
-        false,
-        false,
+        Choices {
+            victims: Fewest,
+            ..WATCHED
+        },
     ),
-    (&["--listings"], AtBlock, Youngest, true, false),
-    (
-        &["--detect", "at-block", "--listings"],
-        AtBlock,
-        Youngest,
-        true,
-        false,
-    ),
+    (&["--listings"], LISTED),
+    (&["--detect", "at-block", "--listings"], LISTED),
     (
         &["--listings", "--victims=fewest", "--detect=by-watcher"],
-        ByWatcher,
-        Fewest,
-        true,
-        false,
+        Choices {
+            schema: false,
+            savepoints: false,
+            ..EVERYTHING
+        },
     ),
-    (&["--schema"], AtBlock, Youngest, false, true),
-    (&["--schema", "--listings"], AtBlock, Youngest, true, true),
+    (&["--schema"], SCHEMA),
+    (
+        &["--schema", "--listings"],
+        Choices {
+            schema: true,
+            ..LISTED
+        },
+    ),
     (
         &["--listings", "--detect=by-watcher", "--schema"],
-        ByWatcher,
-        Youngest,
-        true,
-        true,
+        Choices {
+            victims: Youngest,
+            savepoints: false,
+            ..EVERYTHING
+        },
+    ),
+    (&["--savepoints"], SAVEPOINTS),
+    (
+        &["--savepoints", "--schema"],
+        Choices {
+            savepoints: true,
+            ..SCHEMA
+        },
+    ),
+    (
+        &["--listings", "--savepoints"],
+        Choices {
+            savepoints: true,
+            ..LISTED
+        },
+    ),
+    (
+        &[
+            "--savepoints",
+            "--victims=fewest",
+            "--listings",
+            "--detect=by-watcher",
+            "--schema",
+        ],
+        EVERYTHING,
     ),
 ];
 
@@ -219,13 +290,7 @@ fn ends<H: Threads + Wait + Sync + Abort>(
 
 #[test]
 fn a_script_is_chosen_by_words(rt: HostRuntime) {
-    for (words, detect, victims, listings, schema) in CHOSEN {
-        let choices = Choices {
-            detect,
-            victims,
-            listings,
-            schema,
-        };
+    for (words, choices) in CHOSEN {
         choose(&rt, rt.alloc(), words, choices);
     }
 }
@@ -253,45 +318,65 @@ const DROPS_DONE: &[u8] = b"ok\nok\nok X\nok\nno 2 NoSuchNode db\n";
 
 const DROPS_UNREAD: &[u8] = b"ok\nok\nok X\nno 20 BadLine\nok X\n";
 
+/// A script in which a transaction goes back, with the word and without.
+const GOES_BACK: &[u8] = b"inner db\nbegin a\nmark a\nlock a X db\nrelease a 0\ngroup db\n";
+
+const WENT_BACK: &[u8] = b"ok\nok\nok 0\nok X\nok 1\nok NL\n";
+
+const STAYED: &[u8] = b"ok\nok\nno 20 BadLine\nok X\nno 20 BadLine\nok X\n";
+
+/// A script that ends with status 0, and what it prints with these words.
+fn prints<H: Threads + Wait + Sync + Abort>(
+    rt: &H,
+    alloc: Global,
+    script: &[u8],
+    rows: &[(&[&str], &[u8])],
+) -> Result<(), Fail> {
+    for (words, report) in rows {
+        let (mut reader, mut out) = (script, Vec::with_capacity(alloc, 256)?);
+        let mut faults = Vec::with_capacity(alloc, 256)?;
+        let ended = program(rt, alloc, *words, &mut reader, &mut out, &mut faults);
+        same(rt, ended, 0);
+        same(rt, out.as_slice(), *report);
+        same(rt, faults.is_empty(), true);
+    }
+    Ok(())
+}
+
 /// A schema changes with the word alone.
 #[test]
 fn a_schema_changes_by_its_word(rt: HostRuntime) -> Result<(), Fail> {
-    let alloc = rt.alloc();
-    let rows: [(&[&str], &[u8]); 4] = [
+    let rows: [(&[&str], &[u8]); 5] = [
         (&[], DROPS_UNREAD),
         (&["--listings"], DROPS_UNREAD),
+        (&["--savepoints"], DROPS_UNREAD),
         (&["--schema"], DROPS_DONE),
         (&["--schema", "--listings"], DROPS_DONE),
     ];
-    for (words, report) in rows {
-        let (mut reader, mut out) = (DROPS, Vec::with_capacity(alloc, 256)?);
-        let mut faults = Vec::with_capacity(alloc, 256)?;
-        let ended = program(&rt, alloc, words, &mut reader, &mut out, &mut faults);
-        same(&rt, ended, 0);
-        same(&rt, out.as_slice(), report);
-        assert!(rt; faults.is_empty());
-    }
-    Ok(())
+    prints(&rt, rt.alloc(), DROPS, &rows)
 }
 
 /// The listings of a script are answered with the word alone.
 #[test]
 fn listings_run_by_their_word(rt: HostRuntime) -> Result<(), Fail> {
-    let alloc = rt.alloc();
     let rows: [(&[&str], &[u8]); 3] = [
         (&[], LISTS_UNLISTED),
         (&["--victims=fewest"], LISTS_UNLISTED),
         (&["--listings"], LISTS_LISTED),
     ];
-    for (words, report) in rows {
-        let (mut reader, mut out) = (LISTS, Vec::with_capacity(alloc, 256)?);
-        let mut faults = Vec::with_capacity(alloc, 256)?;
-        let ended = program(&rt, alloc, words, &mut reader, &mut out, &mut faults);
-        same(&rt, ended, 0);
-        same(&rt, out.as_slice(), report);
-        assert!(rt; faults.is_empty());
-    }
-    Ok(())
+    prints(&rt, rt.alloc(), LISTS, &rows)
+}
+
+/// Transactions go back with the word alone.
+#[test]
+fn transactions_go_back_by_their_word(rt: HostRuntime) -> Result<(), Fail> {
+    let rows: [(&[&str], &[u8]); 4] = [
+        (&[], STAYED),
+        (&["--listings", "--schema"], STAYED),
+        (&["--savepoints"], WENT_BACK),
+        (&["--schema", "--savepoints"], WENT_BACK),
+    ];
+    prints(&rt, rt.alloc(), GOES_BACK, &rows)
 }
 
 /// Ends with status 0, and has read nothing and written this line.

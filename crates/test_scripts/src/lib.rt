@@ -24,6 +24,8 @@ mod records;
 #[cfg(test)]
 mod rows;
 #[cfg(test)]
+mod savepoints;
+#[cfg(test)]
 mod schema;
 #[cfg(test)]
 mod streams;

@@ -1,6 +1,6 @@
 //! The examples of the manual, `docs/SCRIPT.md`: each as it stands there.
 
-use crate::rows::{AT_BLOCK, BY_WATCHER, LISTED, Lines, SCHEMA, try_out};
+use crate::rows::{AT_BLOCK, BY_WATCHER, LISTED, Lines, SAVEPOINTS, SCHEMA, try_out};
 use std::test::Fail;
 
 /// The shop, from which most examples go on.
@@ -117,6 +117,14 @@ const UNCHANGED: Lines = &[
     ("index a i : db on t at", "no 20 BadLine"),
 ];
 
+/// Without the word a line by which a transaction goes back is a bad line.
+const UNSAVED: Lines = &[
+    ("inner db", "ok"),
+    ("begin a", "ok"),
+    ("mark a", "no 20 BadLine"),
+    ("release a 0", "no 20 BadLine"),
+];
+
 /// An index is dropped and made with finer bounds, while a reader waits for it.
 const FINER: Lines = &[
     ("begin w", "ok"),
@@ -150,6 +158,60 @@ const DROPPED: Lines = &[
     ("file db : db", "no 2 NoSuchNode db"),
     ("inner db", "ok"),
     ("held a db", "ok NL"),
+];
+
+/// A statement locks records, and is given up. What it raised stays, and what that stands on.
+const GIVEN_UP: Lines = &[
+    ("begin z", "ok"),
+    ("lock z IX db", "ok IX"),
+    ("lock z IX orders", "ok IX"),
+    ("lock z IX by_day", "ok IX"),
+    ("lock z IX by_day.0", "ok IX"),
+    ("lock z IX by_day.1", "ok IX"),
+    ("insert z o1 orders 20", "ok"),
+    ("insert z o2 orders 150", "ok"),
+    ("commit z", "ok"),
+    ("begin a", "ok"),
+    ("begin b", "ok"),
+    ("lock a IX db", "ok IX"),
+    ("lock a IX orders", "ok IX"),
+    ("lock a S o1", "ok S"),
+    ("mark a", "ok 3"),
+    ("lock a IX by_day", "ok IX"),
+    ("lock a IX by_day.0", "ok IX"),
+    ("lock a X o1", "ok X"),
+    ("lock a IX by_day.1", "ok IX"),
+    ("lock a X o2", "ok X"),
+    ("lock b IS db", "ok IS"),
+    ("lock b IS orders", "ok IS"),
+    ("lock b S o2", "wait"),
+    ("release a 3", "ok 2\ntold b granted S o2"),
+    ("held a by_day.1", "ok NL"),
+    ("held a o1", "ok X"),
+    ("held a by_day.0", "ok IX"),
+    ("mark a", "ok 5"),
+];
+
+/// Marks lie in one another, and a transaction that waits does not go back.
+const NESTED: Lines = &[
+    ("begin a", "ok"),
+    ("begin b", "ok"),
+    ("mark a", "ok 0"),
+    ("lock a IX db", "ok IX"),
+    ("lock a IX orders", "ok IX"),
+    ("mark a", "ok 2"),
+    ("lock a IX by_day", "ok IX"),
+    ("lock a IX by_day.0", "ok IX"),
+    ("release a 2", "ok 2"),
+    ("lock a S by_day", "ok S"),
+    ("release a 2", "ok 1"),
+    ("release a 2", "ok 0"),
+    ("release a 0", "ok 2"),
+    ("lock b X db", "ok X"),
+    ("lock a IS db", "wait"),
+    ("mark a", "ok 1"),
+    ("release a 0", "no 4 TxnWaiting"),
+    ("release c 0", "no 3 NoSuchTxn c"),
 ];
 
 /// A lock on the file in place of locks on its records, for a writer and for a reader.
@@ -319,7 +381,9 @@ const REFUSALS: Lines = &[
 
 #[test]
 fn examples_of_the_manual(rt: HostRuntime) -> Result<(), Fail> {
-    for lines in [VERSIONS, NODES, MOVES, DEADLOCK, UNLISTED, UNCHANGED] {
+    for lines in [
+        VERSIONS, NODES, MOVES, DEADLOCK, UNLISTED, UNCHANGED, UNSAVED,
+    ] {
         try_out(&rt, rt.alloc(), AT_BLOCK, &[lines])?;
     }
     for lines in [LISTINGS, CYCLE] {
@@ -350,6 +414,14 @@ fn examples_of_the_shop(rt: HostRuntime) -> Result<(), Fail> {
 fn examples_of_a_schema_that_changes(rt: HostRuntime) -> Result<(), Fail> {
     for lines in [FINER, DROPPED] {
         try_out(&rt, rt.alloc(), SCHEMA, &[SHOP, lines])?;
+    }
+    Ok(())
+}
+
+#[test]
+fn examples_of_savepoints(rt: HostRuntime) -> Result<(), Fail> {
+    for lines in [GIVEN_UP, NESTED] {
+        try_out(&rt, rt.alloc(), SAVEPOINTS, &[SHOP, lines])?;
     }
     Ok(())
 }

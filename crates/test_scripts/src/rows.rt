@@ -19,6 +19,7 @@ pub(crate) const AT_BLOCK: Choices = Choices {
     victims: Victims::Youngest,
     listings: false,
     schema: false,
+    savepoints: false,
 };
 
 /// Where one victim is to be enough.
@@ -60,6 +61,18 @@ pub(crate) const SCHEMA: Choices = Choices {
 /// With these and the listings.
 pub(crate) const LISTED_SCHEMA: Choices = Choices {
     schema: true,
+    ..LISTED
+};
+
+/// With the lines by which a transaction goes back.
+pub(crate) const SAVEPOINTS: Choices = Choices {
+    savepoints: true,
+    ..AT_BLOCK
+};
+
+/// With these and the listings.
+pub(crate) const LISTED_SAVEPOINTS: Choices = Choices {
+    savepoints: true,
     ..LISTED
 };
 

@@ -10,6 +10,7 @@ fn says_nothing(version: Version, listings: bool, line: &[u8]) -> bool {
         version,
         listings,
         schema: false,
+        savepoints: false,
     };
     line.len() <= 256 && parse(language, line, &mut Lists::new()).is_none()
 }

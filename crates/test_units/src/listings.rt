@@ -15,6 +15,7 @@ fn listing_in(version: Version, line: &[u8]) -> Option<Listing> {
         version,
         listings: true,
         schema: false,
+        savepoints: false,
     };
     match parse(language, line, &mut Lists::new()) {
         Some(Line::List(listing)) => Some(listing),
@@ -107,6 +108,7 @@ fn commands_beside_listings(rt: HostRuntime) {
         version: Version::Two,
         listings: true,
         schema: false,
+        savepoints: false,
     };
     let form = order_in(language, b"begin holders", &mut lists);
     assert!(rt; matches!(&form, Some(Form::Begin { txn }) if is(txn, b"holders")));

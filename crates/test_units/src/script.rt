@@ -136,6 +136,7 @@ fn says(rt: &impl Abort, version: Version, rows: Rows) {
         version,
         listings: false,
         schema: false,
+        savepoints: false,
     };
     for (place, (line, said)) in rows.iter().enumerate() {
         let is_so = match order_in(language, line, &mut lists) {
@@ -238,6 +239,7 @@ fn moves_from_version_two_on(rt: HostRuntime) {
         version: Version::One,
         listings: false,
         schema: false,
+        savepoints: false,
     };
     assert!(rt; order_in(language, MOVE, &mut Lists::new()).is_none());
     says(&rt, Version::Two, ROWS);

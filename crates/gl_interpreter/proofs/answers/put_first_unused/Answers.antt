@@ -38,3 +38,9 @@ returns-in-Abort g c = rw c.in-Abort.is (Hands-none _ _)
 
 pub returns-in-Settle : goal.returns-in-Settle
 returns-in-Settle g c = rw c.in-Settle.is (Hands-none _ _)
+
+pub returns-in-Mark : goal.returns-in-Mark
+returns-in-Mark g c = rw c.in-Mark.is (Hands-none _ _)
+
+pub returns-in-Release : goal.returns-in-Release
+returns-in-Release g c = rw c.in-Release.is (Hands-none _ _)

@@ -1,4 +1,4 @@
-use Rattle.std.proofs.Common.{◌≡◌, List, [], ◌∷◌, ◌++◌, Some, None, not, flat_map, refl, ap, sym, ◌∙◌, subst}
+use Rattle.std.proofs.Common.{◌≡◌, List, [], ◌∷◌, ◌++◌, Some, None, not, flat_map, map, refl, ap, sym, ◌∙◌, subst}
 use Rattle.std.specs.Prelude.{codes}
 use Rattle.gl_modes.specs.declared.refusal.Refusal.TheVariants.{NoSuchTxn}
 use Rattle.gl_graph.specs.Refusals.{first_refusal, where_true}
@@ -14,6 +14,7 @@ use Rattle.gl_interpreter.specs.Printed.{refusal_line}
 use Rattle.gl_interpreter.specs.Rows.{listed, lock_row}
 use Rattle.gl_interpreter.specs.SoFar.{IsShown}
 use Rattle.gl_interpreter.specs.Views.{script_of}
+use Rattle.gl_interpreter.proofs.Orders.{nodes_in_order}
 use Rattle.gl_interpreter.proofs.RowByRow.{counting_rows, failed, listed_refusal, listed_rows}
 use Rattle.gl_interpreter.proofs.Writing.{Hands-then}
 use Rattle.gl_interpreter.proofs.listings.put_locks.Goals as goal
@@ -29,12 +30,13 @@ returns-in-Some g c =
     let text = codes "ok\n" ++ flat_map (lock_row s (wait_of (status_of s.locks txn.slot))) (rows_of v txn.slot) in (
       text,
       subst (λ (t : TxnId). (rows : List LockRow) × AreRowsOf s.locks t.slot rows
-          × (text ≡ listed (first_refusal (living_tests s.locks t)) (32 ∷ c.args.name.now.items)
+          × (map (λ (r : LockRow). r.node) rows ≡ s.orders t.slot) × (text ≡ listed (first_refusal (living_tests s.locks t)) (32 ∷ c.args.name.now.items)
           (flat_map (lock_row s (wait_of (status_of s.locks t.slot))) rows)))
           c.txn_id-txn.ensures (
             rows_of v txn.slot,
             counting_rows c.args.desk.now.manager.accepted _ _ _
                 (are_rows v c.law.ensures.lists c.law.ensures.unique txn.slot),
+            nodes_in_order v txn.slot,
             listed_rows _ _ _ _ none refl,
           ),
       Hands-then _ _ _ _ _ _ _ _ c.put.ensures c.put_each_lock.ensures,
@@ -51,12 +53,13 @@ returns-in-None g c =
     let text = refusal_line NoSuchTxn (32 ∷ c.args.name.now.items) in (
       text,
       subst (λ (t : TxnId). (rows : List LockRow) × AreRowsOf s.locks t.slot rows
-          × (text ≡ listed (first_refusal (living_tests s.locks t)) (32 ∷ c.args.name.now.items)
+          × (map (λ (r : LockRow). r.node) rows ≡ s.orders t.slot) × (text ≡ listed (first_refusal (living_tests s.locks t)) (32 ∷ c.args.name.now.items)
           (flat_map (lock_row s (wait_of (status_of s.locks t.slot))) rows)))
           c.txn_id-txn.ensures (
             rows_of v txn.slot,
             counting_rows c.args.desk.now.manager.accepted _ _ _
                 (are_rows v c.law.ensures.lists c.law.ensures.unique txn.slot),
+            nodes_in_order v txn.slot,
             listed_refusal _ _ _ _ refused,
           ),
       c.put_no_txn.ensures,

@@ -1,19 +1,16 @@
-use Rattle.std.proofs.Common.{◌≡◌, refl, ap, ◌∙◌, subst}
+use Rattle.std.proofs.Common.{refl, ap, sym, ◌∙◌, subst}
+use Rattle.gl_table.specs.Table.{nodes_of}
 use Rattle.gl_catalog.specs.Deadlocks.{KeepsDeadlock}
 use Rattle.gl_catalog.specs.Manager.{ManagerView, state_of}
 use Rattle.gl_steps.specs.Step.{Step}
 use Rattle.gl_script.specs.Views.{command_of}
-use Rattle.gl_interpreter.specs.declared.desk.Desk.{Desk}
+use Rattle.gl_interpreter.specs.declared.request.Request.{Request}
+use Rattle.gl_interpreter.specs.declared.request.Said.TheVariants as said
 use Rattle.gl_interpreter.specs.Rooms.{HasRoomFor}
-use Rattle.gl_interpreter.specs.Script.{Asks, Script, declared, is_in_use, renamed}
+use Rattle.gl_interpreter.specs.Script.{Asks, IsStoodFor, Releases, Script, Serves, declared, is_in_use, mark_of, renamed}
 use Rattle.gl_interpreter.specs.Views.{names_of, script_of}
-use Rattle.gl_interpreter.proofs.Serving.{does_handed, does_refused}
+use Rattle.gl_interpreter.proofs.Serving.{does_handed, does_refused, same_script}
 use Rattle.gl_interpreter.proofs.desk.Desk.serve.Goals as goal
-
--- the script is the same where language, names and manager are
-same_script : (x y : Desk) → names_of x ≡ names_of y → x.language ≡ y.language → x.manager ≡ y.manager → script_of x ≡ script_of y
-same_script x y names language manager =
-    λ i. record { language = language i; names = names i; locks = state_of (manager i); deadlock = (manager i).table.deadlock }
 
 pub rename-requires : goal.rename-requires
 rename-requires c = record { room = λ lists. (rw c.in_default.is at (c.make_room.ensures.room lists)).0.1 }
@@ -26,31 +23,82 @@ returns-in-Err c =
       does = does_refused (script_of c.args.self.now) asked _ _ _ (is_in_use (names_of c.args.self.now) (declared asked))
           (HasRoomFor c.make_room.new.self (declared asked)) c.in-Err.refusal room.0 room.1
           (record {
-            answer_is = refl;
+            said_is = refl;
             nobody_told = c.requires.empty;
             same = same_script c.make_room.new.self c.args.self.now c.make_room.ensures.names c.make_room.ensures.language c.make_room.ensures.manager;
           });
     }
 
-pub returns : goal.returns
-returns c =
+pub returns-in-Apply : goal.returns-in-Apply
+returns-in-Apply c =
+    let s = script_of c.args.self.now in
     let asked = command_of c.args.form.now c.args.lists.now in
     let room = rw c.in_default.is at (c.make_room.ensures.room c.args.lists.now) in
     let same = same_script c.make_room.new.self c.args.self.now c.make_room.ensures.names c.make_room.ensures.language c.make_room.ensures.manager in
     record {
-      does = does_handed (script_of c.args.self.now) asked _ _ _ (is_in_use (names_of c.args.self.now) (declared asked))
-          (HasRoomFor c.make_room.new.self (declared asked)) room.0
+      does = does_handed s asked _ _ _ (is_in_use (names_of c.args.self.now) (declared asked)) (HasRoomFor c.make_room.new.self (declared asked)) room.0
           (record {
-            asked = c.command-command.result;
-            asks = subst (λ (s : Script). Asks s asked c.command-command.result) same c.command-command.ensures;
-            step = rw c.rename.ensures.manager
-                (subst (λ m. Step (state_of m) c.command-command.result c.apply_telling-answer.result c.apply_telling-answer.new.told.items
-                (state_of c.apply_telling-answer.new.self)) c.make_room.ensures.manager c.apply_telling-answer.ensures.step);
-            deadlock = rw c.rename.ensures.manager
-                (subst (λ (m : ManagerView).
-                KeepsDeadlock c.command-command.result m c.apply_telling-answer.result c.apply_telling-answer.new.self)
-                c.make_room.ensures.manager c.apply_telling-answer.ensures.deadlock);
-            names = c.rename.ensures.names c.args.lists.now ∙ ap (λ n. renamed n asked c.apply_telling-answer.result) c.make_room.ensures.names;
+            asked = c.request.result;
+            asks = subst (λ (s : Script). Asks s asked c.request.result) same c.request.ensures;
+            serves = subst (λ (r : Request).
+                Serves s asked r (said.Answer c.apply_telling-answer.result) c.apply_telling-answer.new.told.items (script_of c.rename.new.self))
+                (sym c.in-Apply.is)
+                (record {
+                  given = c.apply_telling-answer.result;
+                  said_is = refl;
+                  step = rw c.rename.ensures.manager
+                      (subst (λ m. Step (state_of m) c.in-Apply.command c.apply_telling-answer.result c.apply_telling-answer.new.told.items
+                      (state_of c.apply_telling-answer.new.self)) c.make_room.ensures.manager c.apply_telling-answer.ensures.step);
+                  deadlock = rw c.rename.ensures.manager
+                      (subst (λ (m : ManagerView). KeepsDeadlock c.in-Apply.command m c.apply_telling-answer.result c.apply_telling-answer.new.self)
+                      c.make_room.ensures.manager c.apply_telling-answer.ensures.deadlock);
+                  orders = λ uncounted. ap (λ (m : ManagerView). nodes_of m.table) (c.rename.ensures.manager ∙ c.apply_telling-answer.ensures.same
+                      (ap (λ (m : ManagerView). m.accepted) (sym c.rename.ensures.manager) ∙ uncounted
+                      ∙ ap (λ (m : ManagerView). m.accepted) (sym c.make_room.ensures.manager)) ∙ c.make_room.ensures.manager);
+                  names = c.rename.ensures.names c.args.lists.now ∙ ap (λ n. renamed n asked c.apply_telling-answer.result) c.make_room.ensures.names;
+                });
             language = c.rename.ensures.language ∙ c.make_room.ensures.language;
+          });
+    }
+
+pub returns-in-Mark : goal.returns-in-Mark
+returns-in-Mark c =
+    let s = script_of c.args.self.now in
+    let asked = command_of c.args.form.now c.args.lists.now in
+    let room = rw c.in_default.is at (c.make_room.ensures.room c.args.lists.now) in
+    let same = same_script c.make_room.new.self c.args.self.now c.make_room.ensures.names c.make_room.ensures.language c.make_room.ensures.manager in
+    record {
+      does = does_handed s asked _ _ _ (is_in_use (names_of c.args.self.now) (declared asked)) (HasRoomFor c.make_room.new.self (declared asked)) room.0
+          (record {
+            asked = c.request.result;
+            asks = subst (λ (s : Script). Asks s asked c.request.result) same c.request.ensures;
+            serves = subst (λ (r : Request).
+                Serves s asked r c.mark.result c.args.told.now.items (script_of c.make_room.new.self)) (sym c.in-Mark.is)
+                (record {
+                  stood = subst IsStoodFor same c.mark.ensures.stood;
+                  said_is = c.mark.ensures.mark ∙ ap (λ (x : Script). mark_of x c.in-Mark.txn) same;
+                  nobody_told = c.requires.empty;
+                  same = same;
+                });
+            language = c.make_room.ensures.language;
+          });
+    }
+
+pub returns-in-Release : goal.returns-in-Release
+returns-in-Release c =
+    let s = script_of c.args.self.now in
+    let asked = command_of c.args.form.now c.args.lists.now in
+    let room = rw c.in_default.is at (c.make_room.ensures.room c.args.lists.now) in
+    let same = same_script c.make_room.new.self c.args.self.now c.make_room.ensures.names c.make_room.ensures.language c.make_room.ensures.manager in
+    record {
+      does = does_handed s asked _ _ _ (is_in_use (names_of c.args.self.now) (declared asked)) (HasRoomFor c.make_room.new.self (declared asked)) room.0
+          (record {
+            asked = c.request.result;
+            asks = subst (λ (s : Script). Asks s asked c.request.result) same c.request.ensures;
+            serves = subst (λ (r : Request).
+                Serves s asked r c.release.result c.release.new.told.items (script_of c.release.new.self)) (sym c.in-Release.is)
+                (subst (λ (x : Script). Releases x c.in-Release.txn c.in-Release.mark c.release.result c.release.new.told.items (script_of c.release.new.self))
+                same c.release.ensures.releases);
+            language = c.release.ensures.language ∙ c.make_room.ensures.language;
           });
     }

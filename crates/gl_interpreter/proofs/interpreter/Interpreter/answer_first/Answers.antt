@@ -1,6 +1,7 @@
 use Rattle.std.proofs.Common.{◌≡◌, None, Some, sym, ap, ◌∙◌, subst}
 use Rattle.std.specs.Prelude.{codes}
 use Rattle.gl_modes.proofs.Words.{none_some}
+use Rattle.gl_table.specs.Table.{nodes_of}
 use Rattle.gl_catalog.specs.Manager.{ManagerView, state_of}
 use Rattle.gl_interpreter.specs.Report.{Prints}
 use Rattle.gl_interpreter.specs.SoFar.{Answered, CarriesOut, IsReadyWith, stage_with}
@@ -17,7 +18,8 @@ returns-in-Some-Some g c ready =
     let prints = chooses c.in-Some-Some.version c.in-Some-Some.manager (script_of old.desk) (script_of c.begin_version.new.self) c.args.line.now
     (subst (λ o. IsReadyWith o (script_of old.desk)) some ready) (sym c.chosen_version.ensures ∙ c.in-Some-Some.is-1)
     c.begin_version.ensures.language c.begin_version.ensures.names (ap state_of c.begin_version.ensures.manager)
-    (ap (λ (m : ManagerView). m.table.deadlock) c.begin_version.ensures.manager) in (
+    (ap (λ (m : ManagerView). m.table.deadlock) c.begin_version.ensures.manager)
+    (ap (λ (m : ManagerView). nodes_of m.table) c.begin_version.ensures.manager) in (
       codes "ok\n",
       rw c.take.ensures.after (subst (λ o. Prints (stage_with o (script_of old.desk)) c.args.line.now (codes "ok\n")
           (stage_with None (script_of c.begin_version.new.self))) (sym some) prints),

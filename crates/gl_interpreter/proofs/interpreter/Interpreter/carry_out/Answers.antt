@@ -51,7 +51,7 @@ returns-in-Order g c =
         record {
           command = command_of c.in-Order.form c.parse.new.lists;
           says = rw (c.in-Some.is, c.in-Order.is) at c.parse.ensures.says;
-          answer = done.0;
+          said = done.0;
           told = done.1;
           does = done.2;
           text_is = refl;

@@ -7,4 +7,4 @@ pub returns : goal.returns
 unfolding Obeys
 returns g c =
     let notices = rw c.as_slice.ensures.value at c.put_notices.ensures in
-    (c.serve-answer.result, c.serve-answer.new.told.items, c.serve-answer.ensures.does, refl, Hands-then _ _ _ _ _ _ _ _ c.put_answer.ensures notices)
+    (c.serve-said.result, c.serve-said.new.told.items, c.serve-said.ensures.does, refl, Hands-then _ _ _ _ _ _ _ _ c.put_said.ensures notices)
