@@ -8,7 +8,8 @@
  * are in table_enter and table_release, round each call; table_wake, behind each command; table_hand_on, behind what
  * may have ended a transaction; table_sleep, where a lock waits; table_sleep_in_line, where a begin does; bs_table_end;
  * and table_watch_over, the thread that watches. So is what several calls with the manager come to together, of which
- * each is proved: table_try_up and table_give_back, of a path that is tried, and table_row_tried, of a row. And so are
+ * each is proved: table_try_up and table_give_back, of a path that is tried, table_row_tried, of a row, and
+ * table_instantly, of a lock for an instant, which table_give_instants_back gives back as it is granted. And so are
  * asks, whose end comes by a call of the engine's: table_go_on, at the end of each hold that may have ended one, and
  * table_tell, behind it. All else here makes calls of burlapslate.h between these.
  */
@@ -36,6 +37,13 @@ typedef struct table_way {
   bool is_last;      /* it is that of the path */
   bool is_cancelled;
 } table_way;
+
+/* A lock that is waited for, to be given back as it is granted; and what it was granted as, once it was. */
+typedef struct table_instant {
+  bs_txn txn;
+  bs_node node;
+  bs_reply came; /* BS_WAITING: it was not granted yet */
+} table_instant;
 
 /* The time at which each wait of a transaction ends at last; of age 0 there is none. */
 typedef struct table_deadline {
@@ -113,6 +121,8 @@ struct bs_table {
   pthread_cond_t ended[BS_SLOTS]; /* by slot: a wait may be over */
   table_way *ways[BS_SLOTS];      /* by slot: who sleeps on a path */
   table_deadline deadlines[BS_SLOTS]; /* by slot: of the transaction of this age, and of no later one */
+  bs_slots instantly;             /* the slots that wait for a lock for an instant */
+  table_instant instants[BS_SLOTS]; /* by slot: for which, up to its next wait */
   size_t to_tell;                 /* how many ends of asks are to be told, and asks that tell others' before they end */
   pthread_cond_t left;            /* the last who slept has left an ending table, or the last end was told */
   bool is_watched;                /* there is a thread that watches, and it looks by `eye` */
@@ -221,18 +231,71 @@ static void table_note_due(bs_table *table, const bs_slots *ended) {
   for (i = 0; i < BS_SLOTS / 64; i++) asks->due.words[i] |= ended->words[i] & asks->asked.words[i];
 }
 
+/* Adds what a later command told: that is others, since whoever is told waits no more. */
+static void table_tell_too(bs_notices *told, const bs_notices *more) {
+  size_t i;
+  for (i = 0; i < more->count && told->count < BS_SLOTS; i++) {
+    const bs_notice *next = &more->at[i];
+    size_t place = told->count++;
+    for (; place > 0 && told->at[place - 1].txn.slot > next->txn.slot; place--) told->at[place] = told->at[place - 1];
+    told->at[place] = *next;
+  }
+}
+
+/* Takes the lowest of some slots out; BS_SLOTS, where there is none. */
+static uint32_t table_take_slot(bs_slots *slots) {
+  uint32_t i;
+  for (i = 0; i < BS_SLOTS / 64; i++) {
+    uint64_t *word = &slots->words[i];
+    if (*word != 0) {
+      uint32_t slot = i * 64 + (uint32_t)__builtin_ctzll(*word);
+      *word &= *word - 1;
+      return slot;
+    }
+  }
+  return BS_SLOTS;
+}
+
+/* Notes that those are to be woken whose wait the last command has ended; and which of them waited for an instant. */
+static void table_note_ended(bs_table *table, bs_slots *granted) {
+  bs_slots ended = bs_call_ended(&table->manager).slots;
+  size_t i;
+  for (i = 0; i < BS_SLOTS / 64; i++) {
+    uint64_t instantly = table->instantly.words[i] & ended.words[i];
+    table->to_wake.words[i] |= ended.words[i];
+    table->instantly.words[i] &= ~instantly;
+    granted->words[i] |= instantly;
+  }
+  table->is_due = true;
+  if (table->asks != NULL) table_note_due(table, &ended);
+}
+
+/* Gives the locks back that were granted to these for an instant, in the hold in which they were granted: so nobody
+ * finds them held. What one gives back may grant others. */
+static TABLE_APART void table_give_instants_back(bs_table *table, bs_slots *granted, bs_notices *told) {
+  uint32_t slot = table_take_slot(granted);
+  for (; slot < BS_SLOTS; slot = table_take_slot(granted)) {
+    table_instant *own = &table->instants[slot];
+    bs_reply held = bs_held(&table->manager, own->txn, own->node);
+    bs_notices more;
+    if (held.status != BS_DONE || held.mode == BS_NL) continue; /* its wait has ended in another way */
+    own->came = held;
+    if (bs_unlock(&table->manager, own->txn, own->node, &more).status == BS_DONE && more.count > 0) {
+      table_note_ended(table, granted);
+      table_tell_too(told, &more);
+    }
+  }
+}
+
 /* Notes that those are to be woken whose wait the last command may have ended, which bs_ended says, where that was not
  * refused. */
-static TABLE_APART void table_wake_ended(bs_table *table, bs_status status) {
-  bs_slots ended;
-  size_t i;
+static TABLE_APART void table_wake_ended(bs_table *table, bs_status status, bs_notices *told) {
+  bs_slots granted = { { 0 } };
   bool is_accepted = status == BS_DONE || status == BS_WAITING || status == BS_VICTIM || status == BS_ON_THE_WAY ||
                      status == BS_OTHER_KEYS;
   if (!is_accepted) return;
-  ended = bs_call_ended(&table->manager).slots;
-  for (i = 0; i < BS_SLOTS / 64; i++) table->to_wake.words[i] |= ended.words[i];
-  table->is_due = true;
-  if (table->asks != NULL) table_note_due(table, &ended);
+  table_note_ended(table, &granted);
+  table_give_instants_back(table, &granted, told);
 }
 
 /* A wait began: who watches is woken. */
@@ -243,8 +306,8 @@ static inline void table_wait_began(bs_table *table) {
 
 /* Behind a command that was answered so: those are to be woken whose wait it may have ended. It is not asked who that
  * is where there is nobody: where it told nobody, and ends no wait by name. A cancel and an abort end one by name. */
-static inline void table_wake(bs_table *table, bs_status status, const bs_notices *told, bool by_name) {
-  if (by_name || told->count > 0) table_wake_ended(table, status);
+static inline void table_wake(bs_table *table, bs_status status, bs_notices *told, bool by_name) {
+  if (by_name || told->count > 0) table_wake_ended(table, status, told);
   if (status == BS_WAITING) table_wait_began(table);
 }
 
@@ -290,10 +353,22 @@ static TABLE_APART bool table_tell_between(bs_table *table) {
   return true;
 }
 
-/* What became of a lock that was left waiting. */
+static bool table_is_same_node(bs_node one, bs_node other) {
+  return one.key == other.key && one.birth == other.birth;
+}
+
+/* What became of a lock that was left waiting. The manager knows nothing of one that was given back as it came. */
+static bs_reply table_became(bs_table *table, bs_txn txn, bs_node node, bs_mode mode) {
+  bs_reply reply = bs_call_verdict(&table->manager, txn, node, mode);
+  const table_instant *own;
+  if (reply.status != BS_NOT_WAITING) return reply;
+  own = &table->instants[txn.slot];
+  return own->came.status == BS_DONE && own->txn.age == txn.age && table_is_same_node(own->node, node) ? own->came : reply;
+}
+
+/* The same for one who sleeps: a table that ends answers so. */
 static bs_reply table_verdict(bs_table *table, bs_txn txn, bs_node node, bs_mode mode) {
-  if (table->stage == TABLE_ENDING) return table_no_table(table);
-  return bs_call_verdict(&table->manager, txn, node, mode);
+  return table->stage == TABLE_ENDING ? table_no_table(table) : table_became(table, txn, node, mode);
 }
 
 /* Of a lock that was answered BS_WAITING: sleeps, with the latch held before and behind it, until it has its verdict,
@@ -644,12 +719,76 @@ bs_reply bs_table_deadline(bs_table *table, bs_txn txn, const struct timespec *u
   return table_leave(table, bs_call_only(BS_DONE));
 }
 
+/* Gives a lock back that was granted at once, for an instant. Nobody waits behind it, since a newcomer passes no queue;
+ * but it is not left to that. */
+static void table_give_back_at_once(bs_table *table, bs_txn txn, bs_node node) {
+  bs_reply reply = bs_unlock(&table->manager, txn, node, &table->told);
+  table_wake(table, reply.status, &table->told, false);
+}
+
+/* A transaction waits anew: what came for an instant before is nothing to that. */
+static void table_waits(bs_table *table, bs_txn txn) {
+  table->instants[txn.slot].came.status = BS_WAITING;
+}
+
+/* Makes the call bs_lock, or bs_lock_path, for an instant: a node that was not held is given back as soon as it is
+ * granted. */
+static TABLE_APART bs_reply table_instantly(bs_table *table, bs_txn txn, bs_node node, bs_mode mode, bool is_path,
+                                            bs_notices *told) {
+  bs_manager *m = &table->manager;
+  bool is_new = bs_held(m, txn, node).mode == BS_NL;
+  bs_reply reply = is_path ? bs_lock_path(m, txn, node, mode, told) : bs_lock(m, txn, node, mode, told);
+  table_wake(table, reply.status, told, false);
+  if (is_new && reply.status == BS_DONE) table_give_back_at_once(table, txn, node);
+  if (reply.status == BS_WAITING) table_waits(table, txn);
+  if (is_new && reply.status == BS_WAITING && (!is_path || table_is_same_node(reply.node, node))) {
+    table_instant *own = &table->instants[txn.slot];
+    own->txn = txn;
+    own->node = node;
+    table->instantly.words[txn.slot / 64] |= (uint64_t)1 << txn.slot % 64;
+  }
+  return reply;
+}
+
+/* The mode of an ask, without what else it says. */
+static inline bs_mode table_mode_of(bs_mode asked) {
+  return asked & ~(bs_mode)BS_INSTANT;
+}
+
+/* Makes the call bs_lock with the latch held. */
+static inline bs_reply table_lock_now(bs_table *table, bs_txn txn, bs_node node, bs_mode asked, bs_notices *told) {
+  bs_reply reply;
+  if ((asked & BS_INSTANT) != 0) return table_instantly(table, txn, node, table_mode_of(asked), false, told);
+  reply = bs_lock(&table->manager, txn, node, asked, told);
+  table_wake(table, reply.status, told, false);
+  if (reply.status == BS_WAITING) table_waits(table, txn);
+  return reply;
+}
+
+/* Makes the call bs_lock_path with the latch held. */
+static inline bs_reply table_path_now(bs_table *table, bs_txn txn, bs_node node, bs_mode asked, bs_notices *told) {
+  bs_reply reply;
+  if ((asked & BS_INSTANT) != 0) return table_instantly(table, txn, node, table_mode_of(asked), true, told);
+  reply = bs_lock_path(&table->manager, txn, node, asked, told);
+  table_wake(table, reply.status, told, false);
+  if (reply.status == BS_WAITING) table_waits(table, txn);
+  return reply;
+}
+
+/* Makes the call bs_try with the latch held. */
+static inline bs_reply table_try_now(bs_table *table, bs_txn txn, bs_node node, bs_mode asked) {
+  bs_manager *m = &table->manager;
+  bool is_new = (asked & BS_INSTANT) != 0 && bs_held(m, txn, node).mode == BS_NL;
+  bs_reply reply = bs_try(m, txn, node, table_mode_of(asked));
+  if (is_new && reply.status == BS_DONE) table_give_back_at_once(table, txn, node);
+  return reply;
+}
+
 bs_reply bs_table_lock(bs_table *table, bs_txn txn, bs_node node, bs_mode mode, const struct timespec *until) {
   bs_reply reply;
   if (!table_enter_to_sleep(table, until)) return table_no_sleep(table);
-  reply = bs_lock(&table->manager, txn, node, mode, &table->told);
-  table_wake(table, reply.status, &table->told, false);
-  if (reply.status == BS_WAITING) reply = table_sleep(table, txn, node, mode, until);
+  reply = table_lock_now(table, txn, node, mode, &table->told);
+  if (reply.status == BS_WAITING) reply = table_sleep(table, txn, node, table_mode_of(mode), until);
   table_release(table);
   return reply;
 }
@@ -657,14 +796,22 @@ bs_reply bs_table_lock(bs_table *table, bs_txn txn, bs_node node, bs_mode mode, 
 bs_reply bs_table_await(bs_table *table, bs_txn txn, bs_node node, bs_mode mode, const struct timespec *until) {
   bs_reply reply;
   if (!table_enter_to_sleep(table, until)) return table_no_sleep(table);
-  reply = bs_call_verdict(&table->manager, txn, node, mode);
+  reply = table_became(table, txn, node, mode);
   if (reply.status == BS_WAITING) reply = table_sleep(table, txn, node, mode, until);
   table_release(table);
   return reply;
 }
 
 bs_reply bs_table_try(bs_table *table, bs_txn txn, bs_node node, bs_mode mode) {
-  TABLE_ASK(table, bs_try(&table->manager, txn, node, mode));
+  TABLE_ASK(table, table_try_now(table, txn, node, mode));
+}
+
+bs_reply bs_table_mark(bs_table *table, bs_txn txn) {
+  TABLE_ASK(table, bs_mark(&table->manager, txn));
+}
+
+bs_reply bs_table_release_since(bs_table *table, bs_txn txn, uint64_t savepoint, bs_notices *told) {
+  TABLE_TELL(table, told, false, bs_release_since(&table->manager, txn, savepoint, list));
 }
 
 bs_reply bs_table_unlock(bs_table *table, bs_txn txn, bs_node node, bs_notices *told) {
@@ -704,16 +851,11 @@ bs_reply bs_table_escalate(bs_table *table, bs_txn txn, bs_node node, bs_notices
   TABLE_TELL(table, told, false, bs_escalate(&table->manager, txn, node, list));
 }
 
-static bool table_is_same_node(bs_node one, bs_node other) {
-  return one.key == other.key && one.birth == other.birth;
-}
-
 /* Makes the call bs_lock_path with the latch held, and sleeps where that waits. */
 static bs_reply table_path_inside(bs_table *table, bs_txn txn, bs_node node, bs_mode mode,
                                   const struct timespec *until) {
-  bs_reply reply = bs_lock_path(&table->manager, txn, node, mode, &table->told);
+  bs_reply reply = table_path_now(table, txn, node, mode, &table->told);
   table_way path;
-  table_wake(table, reply.status, &table->told, false);
   if (reply.status != BS_WAITING) return reply;
   path.txn = txn;
   path.at = reply.node;
@@ -882,6 +1024,7 @@ static bs_reply table_ask_row(bs_table *table, bs_txn txn, const table_row *row,
   bs_reply reply =
     bs_lock_row(&table->manager, txn, row->file, row->number, row->keys, row->count, mode, &table->told);
   table_wake(table, reply.status, &table->told, false);
+  if (reply.status == BS_WAITING) table_waits(table, txn);
   return reply;
 }
 
@@ -981,8 +1124,7 @@ bs_reply bs_table_rekey_row(bs_table *table, bs_txn txn, bs_node file, uint64_t 
 static bs_reply table_ask_path(bs_table *table, table_asked *ask) {
   bs_reply reply;
   do {
-    reply = bs_lock_path(&table->manager, ask->txn, ask->node, ask->mode, &table->told);
-    table_wake(table, reply.status, &table->told, false);
+    reply = table_path_now(table, ask->txn, ask->node, ask->mode, &table->told);
   } while (reply.status == BS_ON_THE_WAY);
   if (reply.status == BS_WAITING) {
     ask->at = reply.node;
@@ -1000,7 +1142,7 @@ static void table_ask_waits(bs_table *table, table_asked *ask) {
 
 /* What became of the wait of an ask. A path that has not come to its end goes on. */
 static bs_reply table_ask_became(bs_table *table, table_asked *ask) {
-  bs_reply reply = bs_call_verdict(&table->manager, ask->txn, ask->at, ask->wanted);
+  bs_reply reply = table_became(table, ask->txn, ask->at, ask->wanted);
   bool is_on_the_way = reply.status == BS_MOVED || (reply.status == BS_DONE && !table_is_same_node(ask->at, ask->node));
   if (ask->kind == TABLE_ROW && reply.status == BS_DONE) {
     return table_row_again(table, ask->txn, &ask->row, ask->mode, ask->at, reply);
@@ -1011,26 +1153,12 @@ static bs_reply table_ask_became(bs_table *table, table_asked *ask) {
   return reply;
 }
 
-/* The next slot whose ask is to be looked at, which is looked at then; BS_SLOTS, where there is none. */
-static uint32_t table_take_due(table_asks *asks) {
-  uint32_t i;
-  for (i = 0; i < BS_SLOTS / 64; i++) {
-    uint64_t *word = &asks->due.words[i];
-    if (*word != 0) {
-      uint32_t slot = i * 64 + (uint32_t)__builtin_ctzll(*word);
-      *word &= *word - 1;
-      return slot;
-    }
-  }
-  return BS_SLOTS;
-}
-
 /* Before a hold ends: looks at the asks whose wait it may have ended, by rising slots. A path that goes on may end more
  * of them. */
 static void table_go_on(bs_table *table) {
   table_asks *asks = table->asks;
-  uint32_t slot = table_take_due(asks);
-  for (; slot < BS_SLOTS; slot = table_take_due(asks)) {
+  uint32_t slot = table_take_slot(&asks->due);
+  for (; slot < BS_SLOTS; slot = table_take_slot(&asks->due)) {
     table_asked *ask = asks->at[slot];
     bs_reply end = ask == NULL ? bs_call_only(BS_WAITING) : table_ask_became(table, ask);
     if (end.status != BS_WAITING) table_end_ask(table, ask, end);
@@ -1192,9 +1320,8 @@ bs_reply bs_table_ask(bs_table *table, bs_txn txn, bs_node node, bs_mode mode, c
   if (own == NULL) return reply;
   own->kind = TABLE_NODE;
   own->at = node;
-  own->wanted = mode;
-  reply = bs_lock(&table->manager, txn, node, mode, &table->told);
-  table_wake(table, reply.status, &table->told, false);
+  own->wanted = table_mode_of(mode);
+  reply = table_lock_now(table, txn, node, mode, &table->told);
   return table_leave_asked(table, own, reply);
 }
 
@@ -1206,7 +1333,7 @@ bs_reply bs_table_ask_await(bs_table *table, bs_txn txn, bs_node node, bs_mode m
   own->kind = TABLE_NODE;
   own->at = node;
   own->wanted = mode;
-  reply = bs_verdict(&table->manager, txn, node, mode);
+  reply = table_became(table, txn, node, mode);
   if (reply.status == BS_WAITING && table->asks->at[txn.slot] != NULL) reply.status = BS_IN_USE;
   return table_leave_asked(table, own, reply);
 }
@@ -1296,27 +1423,21 @@ bs_reply bs_table_expire(bs_table *table, struct timespec *next) {
  * Several commands in one hold of the latch, with nobody's between them.
  */
 
-/* Adds what a later command told: that is others, since whoever is told waits no more. */
-static void table_tell_too(bs_notices *told, const bs_notices *more) {
-  size_t i;
-  for (i = 0; i < more->count && told->count < BS_SLOTS; i++) {
-    const bs_notice *next = &more->at[i];
-    size_t place = told->count++;
-    for (; place > 0 && told->at[place - 1].txn.slot > next->txn.slot; place--) told->at[place] = told->at[place - 1];
-    told->at[place] = *next;
-  }
-}
-
 /* A path in a list. Where others fell for a lock above it goes on, as a path that may sleep does: they are woken, and
  * no command of theirs comes between. The caller's list, where there is one, has whom all its locks told. */
 static bs_reply table_path_made(bs_table *table, const bs_command *c, bs_txn txn, bs_notices *told) {
-  bs_reply reply = bs_lock_path(&table->manager, txn, c->node, c->mode, told);
+  bs_reply reply = table_path_now(table, txn, c->node, c->mode, told);
   while (reply.status == BS_ON_THE_WAY) {
-    table_wake(table, reply.status, told, false);
-    reply = bs_lock_path(&table->manager, txn, c->node, c->mode, &table->told);
+    reply = table_path_now(table, txn, c->node, c->mode, &table->told);
     if (told != &table->told) table_tell_too(told, &table->told);
   }
   return reply;
+}
+
+/* A lock in a list. It is noted behind it whom that wakes. */
+static inline bs_reply table_lock_made(bs_table *table, const bs_command *c, bs_txn txn, bs_notices *told) {
+  if ((c->mode & BS_INSTANT) == 0) return bs_lock(&table->manager, txn, c->node, c->mode, told);
+  return table_instantly(table, txn, c->node, table_mode_of(c->mode), false, told);
 }
 
 /* A row in a list that is tried. */
@@ -1334,7 +1455,8 @@ static TABLE_APART bs_reply table_other_made(bs_table *table, const bs_command *
   bs_manager *m = &table->manager;
   switch (c->kind) {
     case BS_DO_LOCK_PATH: return table_path_made(table, c, txn, told);
-    case BS_DO_TRY: return bs_try(m, txn, c->node, c->mode);
+    case BS_DO_TRY: return table_try_now(table, txn, c->node, c->mode);
+    case BS_DO_RELEASE_SINCE: return bs_release_since(m, txn, c->number, told);
     case BS_DO_UNLOCK: return bs_unlock(m, txn, c->node, told);
     case BS_DO_ESCALATE: return bs_escalate(m, txn, c->node, told);
     case BS_DO_CANCEL: return table_cancel_path(table, txn, bs_cancel(m, txn, told));
@@ -1354,7 +1476,7 @@ static inline bs_reply table_made(bs_table *table, const bs_command *c, bs_txn t
   bs_manager *m = &table->manager;
   switch (c->kind) {
     case BS_DO_BEGIN: return table->first != NULL ? table_no_slot() : bs_begin(m);
-    case BS_DO_LOCK: return bs_lock(m, txn, c->node, c->mode, told);
+    case BS_DO_LOCK: return table_lock_made(table, c, txn, told);
     case BS_DO_COMMIT: return bs_commit(m, txn, told);
     case BS_DO_INSERT: return bs_insert(m, txn, c->file, c->keys, c->key_count);
     case BS_DO_DELETE: return bs_delete(m, txn, c->node, told);
@@ -1382,7 +1504,8 @@ static void table_not_made(bs_command *commands, size_t count) {
 /* Of a command that waits: the reply has the node and the mode that are to be awaited. The library says the node of a
  * path and of a row, and of a path in which mode it is waited for is asked. */
 static inline void table_say_for_what(bs_table *table, bs_command *c, bs_txn txn) {
-  c->reply.mode = c->kind == BS_DO_LOCK_PATH ? bs_call_doing(&table->manager, txn).mode : c->mode;
+  if (c->kind != BS_DO_LOCK_PATH && (c->mode & BS_INSTANT) == 0) table_waits(table, txn);
+  c->reply.mode = c->kind == BS_DO_LOCK_PATH ? bs_call_doing(&table->manager, txn).mode : table_mode_of(c->mode);
   if (c->kind == BS_DO_LOCK) c->reply.node = c->node;
 }
 

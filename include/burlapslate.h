@@ -66,7 +66,7 @@ extern "C" {
 /* The version of what is declared here. The first number rises where a program has to be changed for it, or the second
  * while the first is 0. The second rises where something is added, the third where neither. */
 #define BS_VERSION_MAJOR 0
-#define BS_VERSION_MINOR 16
+#define BS_VERSION_MINOR 17
 #define BS_VERSION_PATCH 0
 
 /* How many transactions can live at once, and so how many notices a call can have. A library can be built for another
@@ -395,6 +395,27 @@ static inline bs_reply bs_try(bs_manager *manager, bs_txn txn, bs_node node, bs_
  * BS_HELD_CHILD. Costs a look-up, and a step for each waiter that is granted. */
 static inline bs_reply bs_unlock(bs_manager *manager, bs_txn txn, bs_node node, bs_notices *told) {
   return bs_call_lacks(manager, told) ? bs_call_null() : bs_call_unlock(manager, txn, node, told);
+}
+
+/* A savepoint of a transaction, in `count`, for bs_release_since: how many nodes it holds or waits for. Nothing is kept
+ * for it. It is good until the transaction gives a lock back that it had by then: by bs_unlock, bs_unlock_row,
+ * bs_escalate, bs_delete or bs_drop, or as another takes the node away. Refused with BS_NO_SUCH_TXN. */
+static inline bs_reply bs_mark(const bs_manager *manager, bs_txn txn) {
+  return bs_call_can_ask(manager) ? bs_call_lock_count(manager, txn) : bs_call_unasked(manager);
+}
+
+/* Goes back to a savepoint: releases what the transaction has locked since, children before their parents; how many
+ * nodes that were is in `count`. What it had by then it has still, in that mode, or in the greater one to which it was
+ * raised since: no command lowers a mode, and what was held before is not known any more. For the same reason a node
+ * stays of which it holds a child still: that was held before by another parent, or was raised since, which took
+ * intentions on all its parents. Rows that nobody holds any more are let go. Behind a savepoint that is not good any
+ * more fewer nodes go, and never one of before.
+ * It is one command for each node. Refused, before anything is released, with BS_NO_SUCH_TXN, BS_TXN_WAITING,
+ * BS_TXN_CONDEMNED, and with BS_WORN_OUT where not each lock since can be counted. Takes no memory. Costs a step for
+ * each lock since, for each waiter that is granted, and for each row that the transaction has asked for. */
+static inline bs_reply bs_release_since(bs_manager *manager, bs_txn txn, uint64_t savepoint, bs_notices *told) {
+  if (bs_call_lacks(manager, told)) return bs_call_null();
+  return bs_call_release_since(manager, txn, (size_t)savepoint, told);
 }
 
 /* Takes the wait of a transaction back. A row that it waited for is let go. The transaction itself is told nothing:

@@ -24,6 +24,7 @@ bs_reply bs_call_lock(bs_manager *manager, bs_txn txn, bs_node node, bs_mode mod
 bs_reply bs_call_lock_path(bs_manager *manager, bs_txn txn, bs_node node, bs_mode mode, bs_notices *told);
 bs_reply bs_call_try(bs_manager *manager, bs_txn txn, bs_node node, bs_mode mode);
 bs_reply bs_call_unlock(bs_manager *manager, bs_txn txn, bs_node node, bs_notices *told);
+bs_reply bs_call_release_since(bs_manager *manager, bs_txn txn, size_t mark, bs_notices *told);
 bs_reply bs_call_settle(bs_manager *manager, bs_txn txn, bs_notices *told);
 bs_reply bs_call_insert(bs_manager *manager, bs_txn txn, bs_node file, const uint64_t *keys, size_t count);
 bs_reply bs_call_delete(bs_manager *manager, bs_txn txn, bs_node record, bs_notices *told);

@@ -145,6 +145,17 @@ bs_reply bs_table_begin_again_in_turn(bs_table *table, uint64_t since, const str
  * slot has none. Refused with BS_NO_SUCH_TXN, and with BS_BAD_NUMBER where it is no time. */
 bs_reply bs_table_deadline(bs_table *table, bs_txn txn, const struct timespec *until);
 
+/* Joined to the mode of a lock, as in BS_X | BS_INSTANT: the lock is asked for and waited for as any, and given back as
+ * soon as it is granted, in the same hold of the latch. So BS_DONE says that it could be had, in `mode`, and nobody
+ * found it held; those behind it in the queue come next. It is for keys that are to be free as one goes by, as the
+ * interval is that a new key parts. A node that the transaction holds already is raised, and stays so: no command
+ * lowers a mode. One of which it holds a child by another parent stays too, since bs_unlock refuses that. What a path
+ * locks above its node stays. A grant and a release are two commands. Taken by bs_table_lock, bs_table_lock_path,
+ * bs_table_try, bs_table_ask, bs_table_ask_path, and in a list by BS_DO_LOCK, BS_DO_LOCK_PATH and BS_DO_TRY. It is no
+ * mode: all other calls refuse it with BS_BAD_NUMBER. What is awaited by bs_table_await is the mode without it. That such a lock came
+ * is known to the table alone: bs_verdict of the manager that it lends answers BS_NOT_WAITING. */
+#define BS_INSTANT 256u
+
 /* As bs_lock, but it never answers BS_WAITING: a lock that has to wait sleeps until its end. */
 bs_reply bs_table_lock(bs_table *table, bs_txn txn, bs_node node, bs_mode mode, const struct timespec *until);
 
@@ -184,6 +195,10 @@ enum bs_keeps { BS_KEEP_NOTHING = 0, BS_KEEP_WAY = 1 };
 bs_reply bs_table_try_path(bs_table *table, bs_txn txn, bs_node node, bs_mode mode, uint32_t keep);
 
 bs_reply bs_table_unlock(bs_table *table, bs_txn txn, bs_node node, bs_notices *told);
+
+/* A savepoint, and the way back to it. A sleeper has none: what waits is refused with BS_TXN_WAITING. */
+bs_reply bs_table_mark(bs_table *table, bs_txn txn);
+bs_reply bs_table_release_since(bs_table *table, bs_txn txn, uint64_t savepoint, bs_notices *told);
 
 /* Takes a wait back, and wakes who sleeps for it: that one is answered BS_NOT_WAITING. So is one whose wait on the way
  * of a path was granted, and that is not awake yet: its path ends there. */
@@ -279,13 +294,13 @@ bs_reply bs_table_expire(bs_table *table, struct timespec *next);
  */
 
 /* What a command of a list is. Each makes the call of its name, with the fields of a bs_command that have the names of
- * what that call is given; `node` is also its `record`, `number` its `since`, and `key_count`, `parent_count` and
+ * what that call is given; `node` is also its `record`, `number` its `since` or its `savepoint`, and `key_count`, `parent_count` and
  * `bound_count` are the counts of its lists. */
 enum bs_command_kinds {
   BS_DO_BEGIN = 1, BS_DO_LOCK, BS_DO_LOCK_PATH, BS_DO_TRY, BS_DO_UNLOCK, BS_DO_ESCALATE, BS_DO_CANCEL, BS_DO_COMMIT,
   BS_DO_ABORT, BS_DO_SETTLE, BS_DO_INSERT, BS_DO_DELETE, BS_DO_ADOPT, BS_DO_FORGET, BS_DO_REKEY, BS_DO_MOVE, BS_DO_DROP,
   BS_DO_ADD_INNER, BS_DO_ADD_FILE, BS_DO_ADD_ROW_FILE, BS_DO_ADD_INDEX, BS_DO_INDEX_BY, BS_DO_LOCK_ROW,
-  BS_DO_UNLOCK_ROW, BS_DO_REKEY_ROW, BS_DO_TRY_PATH, BS_DO_TRY_ROW, BS_DO_BEGIN_AGAIN
+  BS_DO_UNLOCK_ROW, BS_DO_REKEY_ROW, BS_DO_TRY_PATH, BS_DO_TRY_ROW, BS_DO_BEGIN_AGAIN, BS_DO_RELEASE_SINCE
 };
 
 /* A command of a list. It is written with the names of its fields, all others zero, or made by a function below. All
@@ -341,7 +356,8 @@ static inline bs_txn bs_begun(void) {
  *   - it was refused, or the asker is BS_VICTIM;
  *   - BS_WAITING: a lock, a path or a row waits, for `node` in `mode`. bs_table_await awaits these. Behind the grant
  *     the list is run again from this command on: what is held by then is granted at once, a path goes on to the next
- *     node, and a row says whether its keys are the node's own;
+ *     node, and a row says whether its keys are the node's own. Behind that of a lock for an instant it is run from the
+ *     next command on;
  *   - BS_OTHER_KEYS: the row is held, but its keys are others than was said.
  * Those behind it were not made, and their replies are BS_NOT_MADE. All others are answered as the call of their name.
  * A path goes on where others fell for a lock above, and is never BS_ON_THE_WAY: its `told` has whom all its locks

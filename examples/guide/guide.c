@@ -85,6 +85,8 @@ int main(void) {
   TELL(more_clients_than_slots);
   TELL(locks_that_do_not_wait);
   TELL(jobs_in_a_table);
+  TELL(savepoints);
+  TELL(locks_for_an_instant);
   TELL(an_event_loop);
   TELL(which_node_for_what);
   TELL(pages_as_records);

@@ -46,6 +46,10 @@ void more_clients_than_slots(void);
 void locks_that_do_not_wait(void);
 void jobs_in_a_table(void);
 
+/* savepoints.c */
+void savepoints(void);
+void locks_for_an_instant(void);
+
 /* loop.c */
 void an_event_loop(void);
 

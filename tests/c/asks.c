@@ -303,6 +303,33 @@ static void each_end_of_an_ask(void) {
   ends(rekeys, BS_MOVED);
 }
 
+/* A savepoint ends an ask. And those for an instant end one behind the other in one hold, each with one call; a path goes
+ * on to its node for an instant, and gives that back alone. */
+static void a_savepoint_ends_asks_for_an_instant(void) {
+  struct heard one, two, path, last;
+  bs_txn a, b, c, d, e;
+  set_up(BS_AT_BLOCK);
+  a = begin(), b = begin(), c = begin(), d = begin(), e = begin();
+  WANT(DONE(ask(&one, b, root, BS_X | BS_INSTANT)).mode == BS_X && calls == 0);
+  holds(b, root, BS_NL);
+  DONE(bs_table_lock(table, a, root, BS_X, NULL));
+  WAITS(ask(&one, b, root, BS_X | BS_INSTANT));
+  WAITS(ask(&two, c, root, BS_X | BS_INSTANT));
+  WAITS(ask_path(&path, d, low, BS_X | BS_INSTANT));
+  WAITS(ask(&last, e, root, BS_S));
+  DONE(bs_table_release_since(table, a, 0, &told));
+  WANT(HEARD_BY_NOW(&one, BS_DONE).mode == BS_X && HEARD_BY_NOW(&two, BS_DONE).mode == BS_X);
+  WANT(HEARD_BY_NOW(&path, BS_DONE).mode == BS_X && calls == 3 && told.count == 3);
+  holds(b, root, BS_NL);
+  holds(c, root, BS_NL);
+  holds(d, below, BS_IX);
+  holds(d, low, BS_NL);
+  DONE(bs_table_commit(table, d, NULL));
+  WANT(HEARD_BY_NOW(&last, BS_DONE).mode == BS_S && calls == 4);
+  holds(e, root, BS_S);
+  close_table();
+}
+
 static void an_escalation_ends_an_ask(void) {
   struct heard h;
   bs_node parents[2], child;
@@ -1562,6 +1589,7 @@ int main(int count, char **words) {
   TELL(an_ask_is_answered_at_once);
   TELL(a_commit_ends_all);
   TELL(each_end_of_an_ask);
+  TELL(a_savepoint_ends_asks_for_an_instant);
   TELL(an_escalation_ends_an_ask);
   TELL(a_move_and_a_drop_end_asks);
   TELL(a_lock_fells_an_ask);

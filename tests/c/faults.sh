@@ -15,12 +15,12 @@ trap 'rm -rf "$work"' EXIT
 # for each condition. The library may need more words (FAULT_LINKS).
 faults() {
   local call
-  for call in bs_table_lock table_path_inside table_ask_row; do
-    printf '%s-forgets-to-wake\t/%s(/,/^}/s/  table_wake(table, reply.status, &table->told, false);//\n' "$call" "$call"
+  for call in table_lock_now table_path_now table_ask_row; do
+    printf '%s-forgets-to-wake\t/%s(/,/^}/s/  table_wake(table, reply.status, [^,]*told, false);//\n' "$call" "$call"
     printf '%s-is-not-watched\t/%s(/,/^}/s/wake(table, reply.status,/wake(table, reply.status == BS_WAITING ? BS_DONE : reply.status,/\n' \
       "$call" "$call"
   done
-  for call in unlock{,_row} cancel commit abort escalate settle delete drop rekey{,_row} move; do
+  for call in unlock{,_row} release_since cancel commit abort escalate settle delete drop rekey{,_row} move; do
     printf '%s-forgets-to-wake\ts/TABLE_TELL(table, told, [a-z]*, \\(.*_%s(.*\\)list))/TABLE_ASK(table, \\1table_list_of(table, told)))/\n' \
       "$call" "$call"
   done
@@ -54,10 +54,21 @@ skip-keeps-replies	s/  if (place < count) table_not_made(.*//
 other-keys-wake-nobody	s/^ *status == BS_OTHER_KEYS;/false;/
 run-forgets-to-wake	s/  table_wake(table, next->reply.status, told, by_name);//
 run-forgets-names	s/  by_name = next->kind .*/  by_name = false;/
+savepoint-is-of-nobody	s/    case BS_DO_RELEASE_SINCE: return bs_release_since(m, txn, c->number, told);/    case BS_DO_RELEASE_SINCE: return bs_release_since(m, txn, c->key, told);/
+instant-stays-held	s/^  table_give_instants_back(table, &granted, told);//
+instant-stays-held-at-once	s/  if (is_new \&\& reply.status == BS_DONE) table_give_back_at_once(.*//
+instant-gives-back-what-was-held	s/  bool is_new = bs_held(m, txn, node).mode == BS_NL;/  bool is_new = true;/
+instant-of-an-ended-wait	s/    table->instantly.words\[i\] &= ~instantly;//
+instant-came-and-is-not-known	/table_became(/,/^}/s/^  if (reply.status != BS_NOT_WAITING) return reply;/  return reply;/
+instant-that-came-is-the-next-wait	/table_waits(/,/^}/s/^  table->instants.*//
+instant-wakes-nobody	/table_give_instants_back(/,/^}/s/^      table_note_ended(table, granted);//
+instant-tells-nobody	s/^      table_tell_too(told, &more);//
+instant-is-awaited-by-its-word	s/ : table_mode_of(c->mode);/ : c->mode;/
+instant-sleeps-by-its-word	s/table_sleep(table, txn, node, table_mode_of(mode), until)/table_sleep(table, txn, node, mode, until)/
+instant-asks-by-its-word	s/  own->wanted = table_mode_of(mode);/  own->wanted = mode;/
 run-says-not-for-what	s/  if (next->reply.status == BS_WAITING) .*//
 run-takes-a-slot-for-begun	s/  bs_txn txn = next->txn.slot == none.slot .*/  bs_txn txn = next->txn.age == none.age ? begun : next->txn;/
 list-path-stops-on-the-way	s/  while (reply.status == BS_ON_THE_WAY) {/  while (false) {/
-list-path-forgets-to-wake	/table_path_made(/,/^}/s/    table_wake(table, reply.status, told, false);//
 list-path-tells-the-last	s/ table_tell_too(told, &table->told);/ *told = table->told;/
 list-path-tells-the-first	s/    if (told != &table->told) table_tell_too(.*//
 list-path-tells-unordered	s/    for (; place > 0 && told->at\[place - 1\].*//
@@ -65,12 +76,12 @@ late-forgets-to-wake	s/  table_wake(table, reply.status, &table->told, true);//
 path-ends-above	s/ && (reply.status != BS_DONE || path.is_last)) return reply;/) return reply;/
 nobody-is-named	s/by_name || told->count/told->count/
 nobody-is-told	s/by_name || told->count > 0/by_name/
-first-word-sleeps-on	s/  for (i = 0; i < BS_SLOTS \/ 64; i++) table->to_wake/  for (i = 1; i < BS_SLOTS \/ 64; i++) table->to_wake/
-words-but-the-first-sleep-on	s/  for (i = 0; i < BS_SLOTS \/ 64; i++) table->to_wake/  for (i = 0; i < 1; i++) table->to_wake/
+first-word-sleeps-on	/table_note_ended(/,/^}/s/  for (i = 0; i < BS_SLOTS/  for (i = 1; i < BS_SLOTS/
+words-but-the-first-sleep-on	/table_note_ended(/,/^}/s/  for (i = 0; i < BS_SLOTS \/ 64; i++) {/  for (i = 0; i < 1; i++) {/
 who-looks-does-not-take	/table_take_held(bs_table/,/^}/s/    if (pthread_mutex_trylock(&table->latch) == 0) return;/    if (pthread_mutex_trylock(\&table->latch) == 0) { pthread_mutex_unlock(\&table->latch); return; }/
 who-looks-does-not-sleep	/table_take_held(bs_table/,/^}/s/^  pthread_mutex_lock(&table->latch);$//
 last-command-alone-wakes	s/table->to_wake.words\[i\] |= ended/table->to_wake.words[i] = ended/
-nobody-is-to-wake	/table_wake_ended(/,/^}/s/^  table->is_due = true;$//
+nobody-is-to-wake	/table_note_ended(/,/^}/s/^  table->is_due = true;$//
 release-wakes-nobody	s/^  table_wake_sleepers(table, &to_wake);//
 release-wakes-one	s/^    for (; word != 0; word \&= word - 1) pthread_cond_broadcast/    if (word != 0) pthread_cond_broadcast/
 release-wakes-the-first-word	/table_wake_sleepers(/,/^}/s/  for (i = 0; i < BS_SLOTS \/ 64; i++) {/  for (i = 0; i < 1; i++) {/
@@ -128,13 +139,11 @@ what-is-held-in-a-call-stays-held	s/^  while (table_held != held && table_held !
 asked-path-does-not-go-on	s/  if (ask->kind != TABLE_PATH || !is_on_the_way) return reply;/  return reply;/
 asked-path-does-not-begin-anew	s/  bool is_on_the_way = reply.status == BS_MOVED || /  bool is_on_the_way = /
 asked-path-stops-on-the-way	/^static bs_reply table_ask_path(/,/^}/s/  } while (reply.status == BS_ON_THE_WAY);/  } while (false);/
-asked-path-wakes-nobody	/^static bs_reply table_ask_path(/,/^}/s/    table_wake(table, reply.status, &table->told, false);//
 asked-path-forgets-its-node	s/    ask->at = reply.node;//
 asked-path-forgets-its-time	s/  if (reply.status == BS_WAITING) table_ask_waits(table, ask);//
 asked-row-is-not-asked-again	s/  if (ask->kind == TABLE_ROW \&\& reply.status == BS_DONE) {/  if (false) {/
 asked-row-keeps-no-keys	s/  if (reply.status == BS_WAITING) table_keep_keys(own);//
 asked-row-keeps-all-keys	s/  if (own->row.count > BS_MOST_PARENTS) .*//
-ask-wakes-nobody	/^bs_reply bs_table_ask(/,/^}/s/  table_wake(table, reply.status, &table->told, false);//
 ask-is-not-noted	s/  table->asks->asked.words\[slot \/ 64\] |= .*//
 ask-is-awaited-twice	s/  if (reply.status == BS_WAITING \&\& table->asks->at\[txn.slot\] != NULL) .*//
 ask-has-no-time	s/  ask->has_time = time != NULL;/  ask->has_time = false;/

@@ -48,7 +48,8 @@ for name in $(sed -n 's/^static inline [a-z_]* bs_\([a-z_]*\)(bs_manager \*manag
   grep -Eq "bs_table_$name\(bs_table \*{1,2}table" "$headers/burlapslate_shared.h" || fails "there is no bs_table_$name"
 done
 for name in $(sed -n 's/^static inline [a-z_]* bs_\([a-z_]*\)(const bs_manager \*manager.*/\1/p' "$headers/burlapslate.h"); do
-  ! grep -q "bs_table_$name(" "$headers/burlapslate_shared.h" || fails "there is a bs_table_$name"
+  # A savepoint is set so often that the one question has a call of its own.
+  [ "$name" = mark ] || ! grep -q "bs_table_$name(" "$headers/burlapslate_shared.h" || fails "there is a bs_table_$name"
 done
 "$top/tools/names.sh" || exit 1
 

@@ -2050,7 +2050,7 @@ static void commands_that_are_none(void) {
   WANT(list[1].reply.status == BS_NOT_MADE && list[2].reply.status == BS_NOT_MADE);
   WANT(bs_do(BS_DO_COMMIT, a).reply.status == BS_NOT_MADE);
   WANT(bs_do_at(BS_DO_TRY, a, root, BS_X).reply.status == BS_NOT_MADE);
-  for (kind = BS_DO_BEGIN_AGAIN + 1; kind != 0; kind <<= 1) {
+  for (kind = BS_DO_RELEASE_SINCE + 1; kind != 0; kind <<= 1) {
     list[0] = bs_do_at(kind, a, root, BS_X);
     WANT(bs_table_run(table, list, 1) == 0 && list[0].reply.status == BS_BAD_NUMBER);
   }
@@ -2814,6 +2814,199 @@ static void each_job_is_done_once(void) {
   DONE(bs_counters(bs_table_hold(table), &counts));
   DONE(bs_table_let_go(table));
   WANT(counts.waited == 0 && counts.condemned == 0 && sleepers() == 0);
+  close_table();
+}
+
+/* ------------------------------------------------------------------------------------------------
+ * Savepoints, and locks for an instant.
+ */
+
+static void a_savepoint_wakes(void) {
+  struct asker one;
+  bs_txn a, b;
+  uint64_t mark;
+  set_up(BS_AT_BLOCK);
+  a = begin(), b = begin();
+  DONE(bs_table_lock(table, a, root, BS_IX, NULL));
+  mark = DONE(bs_table_mark(table, a)).count;
+  DONE(bs_table_lock_path(table, a, low, BS_X, NULL));
+  send_by_path(&one, b, low, BS_S);
+  WANT(mark == 1 && DONE(bs_table_release_since(table, a, mark, &told)).count == 4);
+  WANT(told.count == 1 && is_told(0, b, BS_TOLD_GRANTED));
+  back(&one, BS_DONE);
+  holds(b, low, BS_S);
+  holds(a, root, BS_IX);
+  WANT(locks_of(a) == 1 && DONE(bs_table_release_since(table, a, mark, NULL)).count == 0);
+  close_table();
+}
+
+/* A list goes back to a savepoint, and locks others. */
+static void a_savepoint_in_a_list(void) {
+  bs_command list[3];
+  bs_txn a;
+  set_up(BS_AT_BLOCK);
+  a = begin();
+  DONE(bs_table_lock(table, a, root, BS_IX, NULL));
+  list[0] = bs_do_at(BS_DO_LOCK_PATH, a, low, BS_X);
+  list[1] = bs_do(BS_DO_RELEASE_SINCE, a);
+  list[1].number = 1;
+  list[2] = bs_do_at(BS_DO_LOCK_PATH, a, above, BS_X);
+  WANT(bs_table_run(table, list, 3) == 3 && list[1].reply.count == 4);
+  holds(a, low, BS_NL);
+  holds(a, above, BS_X);
+  list[1].txn.age++;
+  WANT(bs_table_run(table, list + 1, 1) == 0 && list[1].reply.status == BS_NO_SUCH_TXN);
+  close_table();
+}
+
+/* One that is granted at once is given back at once; what the path locked above it stays. */
+static void a_lock_for_an_instant(void) {
+  bs_txn a, b;
+  set_up(BS_AT_BLOCK);
+  a = begin(), b = begin();
+  WANT(DONE(bs_table_lock(table, a, root, BS_X | BS_INSTANT, NULL)).mode == BS_X && locks_of(a) == 0);
+  WANT(DONE(bs_table_lock_path(table, a, low, BS_X | BS_INSTANT, NULL)).mode == BS_X && locks_of(a) == 4);
+  holds(a, below, BS_IX);
+  holds(a, low, BS_NL);
+  WANT(DONE(bs_table_try(table, a, low, BS_X | BS_INSTANT)).mode == BS_X && locks_of(a) == 4);
+  DONE(bs_table_lock_path(table, b, low, BS_S, NULL));
+  ANSWERS(BS_WOULD_BLOCK, bs_table_try(table, a, low, BS_X | BS_INSTANT));
+  WANT(DONE(bs_table_try(table, a, low, BS_S | BS_INSTANT)).mode == BS_S && locks_of(a) == 4);
+  ANSWERS(BS_BAD_MODE, bs_table_lock(table, a, low, BS_IX | BS_INSTANT, NULL));
+  ANSWERS(BS_BAD_MODE, bs_table_lock(table, a, low, BS_NL | BS_INSTANT, NULL));
+  ANSWERS(BS_BAD_NUMBER, bs_table_lock(table, a, low, (BS_X + 1) | BS_INSTANT, NULL));
+  ANSWERS(BS_BAD_NUMBER, bs_table_lock(table, a, low, BS_X | BS_INSTANT << 1, NULL));
+  ANSWERS(BS_BAD_NUMBER, bs_table_try_path(table, a, low, BS_S | BS_INSTANT, BS_KEEP_WAY));
+  ANSWERS(BS_BAD_NUMBER, bs_table_await(table, a, low, BS_S | BS_INSTANT, NULL));
+  ANSWERS(BS_BAD_NUMBER, bs_table_lock_row(table, a, file, 1, NULL, 0, BS_S | BS_INSTANT, NULL));
+  close_table();
+}
+
+/* Those that wait are given back in the hold in which they are granted: so one commit goes through all of them, up to a
+ * lock that stays, and a caller's list has them all. */
+static void instants_in_a_row(void) {
+  struct asker one, two, three, last;
+  bs_txn a, b, c, d, e;
+  set_up(BS_AT_BLOCK);
+  a = begin(), b = begin(), c = begin(), d = begin(), e = begin();
+  DONE(bs_table_lock(table, a, root, BS_X, NULL));
+  send(&one, b, root, BS_X | BS_INSTANT);
+  send(&two, c, root, BS_S | BS_INSTANT);
+  send_by_path(&three, d, root, BS_X | BS_INSTANT);
+  send(&last, e, root, BS_X);
+  WANT(queue_at(root) == 4);
+  DONE(bs_table_commit(table, a, &told));
+  WANT(told.count == 4 && is_told(0, b, BS_TOLD_GRANTED) && is_told(1, c, BS_TOLD_GRANTED));
+  WANT(is_told(2, d, BS_TOLD_GRANTED) && is_told(3, e, BS_TOLD_GRANTED) && queue_at(root) == 0);
+  WANT(back(&one, BS_DONE).mode == BS_X && back(&two, BS_DONE).mode == BS_S && back(&three, BS_DONE).mode == BS_X);
+  WANT(back(&last, BS_DONE).mode == BS_X && locks_of(b) == 0 && locks_of(c) == 0 && locks_of(d) == 0);
+  holds(e, root, BS_X);
+  close_table();
+}
+
+/* Whose wait for an instant ends in another way has nothing to give back, and its next lock stays. */
+static void an_instant_that_never_comes(void) {
+  struct asker one;
+  struct timespec until;
+  bs_txn a, b, c;
+  set_up(BS_AT_BLOCK);
+  a = begin(), b = begin(), c = begin();
+  DONE(bs_table_lock(table, a, root, BS_X, NULL));
+  until = moment_in(1000);
+  ANSWERS(BS_TIMED_OUT, bs_table_lock(table, b, root, BS_X | BS_INSTANT, &until));
+  send(&one, b, root, BS_X | BS_INSTANT);
+  DONE(bs_table_cancel(table, b, NULL));
+  back(&one, BS_NOT_WAITING);
+  send(&one, b, root, BS_X);
+  DONE(bs_table_commit(table, a, NULL));
+  back(&one, BS_DONE);
+  holds(b, root, BS_X);
+  send(&one, c, root, BS_X | BS_INSTANT);
+  DONE(bs_table_abort(table, c, NULL));
+  back(&one, BS_NO_SUCH_TXN);
+  c = begin();
+  send(&one, c, root, BS_S);
+  DONE(bs_table_commit(table, b, NULL));
+  back(&one, BS_DONE);
+  holds(c, root, BS_S);
+  close_table();
+}
+
+/* What came for an instant is no answer to the next wait, even for the same node. */
+static void an_instant_that_came_is_over(void) {
+  struct asker one;
+  bs_txn a, b;
+  set_up(BS_AT_BLOCK);
+  a = begin(), b = begin();
+  DONE(bs_table_lock(table, a, root, BS_X, NULL));
+  send(&one, b, root, BS_X | BS_INSTANT);
+  DONE(bs_table_release_since(table, a, 0, NULL));
+  back(&one, BS_DONE);
+  DONE(bs_table_lock(table, a, root, BS_X, NULL));
+  send(&one, b, root, BS_X);
+  DONE(bs_table_cancel(table, b, NULL));
+  back(&one, BS_NOT_WAITING);
+  send_by_path(&one, b, root, BS_X);
+  DONE(bs_table_cancel(table, b, NULL));
+  back(&one, BS_NOT_WAITING);
+  close_table();
+}
+
+/* Who asks for an instant may fall, as any who waits; and its locks stay until it aborts. */
+static void an_instant_falls(void) {
+  struct asker one, two;
+  bs_txn a, b;
+  set_up(BS_AT_BLOCK);
+  a = begin(), b = begin();
+  DONE(bs_table_lock_path(table, a, low, BS_X, NULL));
+  DONE(bs_table_lock_path(table, b, high, BS_X, NULL));
+  send(&one, b, low, BS_S | BS_INSTANT);
+  send(&two, a, high, BS_S | BS_INSTANT);
+  back(&one, BS_VICTIM);
+  WANT(locks_of(b) == 5);
+  DONE(bs_table_abort(table, b, NULL));
+  WANT(back(&two, BS_DONE).mode == BS_S && locks_of(a) == 5);
+  holds(a, high, BS_NL);
+  close_table();
+}
+
+/* What is held already is raised, and stays; what is held for a child by another parent stays too. */
+static void an_instant_of_what_is_held(void) {
+  bs_txn a;
+  set_up(BS_AT_BLOCK);
+  a = begin();
+  DONE(bs_table_lock_path(table, a, file, BS_S, NULL));
+  WANT(DONE(bs_table_lock_path(table, a, file, BS_X | BS_INSTANT, NULL)).mode == BS_X);
+  holds(a, file, BS_X);
+  DONE(bs_table_lock(table, a, low, BS_S, NULL));
+  WANT(DONE(bs_table_lock_path(table, a, below, BS_IS | BS_INSTANT, NULL)).mode == BS_IS);
+  holds(a, below, BS_IS);
+  DONE(bs_table_unlock(table, a, low, NULL));
+  DONE(bs_table_unlock(table, a, below, NULL));
+  close_table();
+}
+
+/* In a list the one that waits is awaited in its mode, and the list goes on behind it. */
+static void an_instant_in_a_list(void) {
+  bs_command list[3];
+  bs_txn a, b;
+  set_up(BS_AT_BLOCK);
+  a = begin(), b = begin();
+  list[0] = bs_do_at(BS_DO_LOCK_PATH, a, low, BS_X | BS_INSTANT);
+  list[1] = bs_do_at(BS_DO_TRY, a, low, BS_S | BS_INSTANT);
+  list[2] = bs_do_at(BS_DO_LOCK, a, high, BS_S | BS_INSTANT);
+  WANT(bs_table_run(table, list, 3) == 3 && list[2].reply.mode == BS_S && locks_of(a) == 4);
+  DONE(bs_table_lock_path(table, b, high, BS_X, NULL));
+  WANT(bs_table_run(table, list, 3) == 2 && list[2].reply.status == BS_WAITING && list[2].reply.mode == BS_S);
+  WANT(same_node(list[2].reply.node, high));
+  DONE(bs_table_commit(table, b, &told));
+  WANT(told.count == 1 && is_told(0, a, BS_TOLD_GRANTED));
+  WANT(DONE(bs_table_await(table, a, high, BS_S, NULL)).mode == BS_S && locks_of(a) == 4);
+  b = begin();
+  DONE(bs_table_lock_path(table, b, low, BS_S, NULL));
+  WANT(bs_table_run(table, list, 1) == 0 && list[0].reply.status == BS_WAITING && list[0].reply.mode == BS_X);
+  DONE(bs_table_commit(table, b, NULL));
+  WANT(DONE(bs_table_await(table, a, low, BS_X, NULL)).mode == BS_X && locks_of(a) == 4);
   close_table();
 }
 
@@ -3592,6 +3785,15 @@ int main(int count, char **words) {
   TELL(a_skip_takes_the_first_that_is_free);
   TELL(a_skip_is_refused);
   TELL(each_job_is_done_once);
+  TELL(a_savepoint_wakes);
+  TELL(a_savepoint_in_a_list);
+  TELL(a_lock_for_an_instant);
+  TELL(instants_in_a_row);
+  TELL(an_instant_that_never_comes);
+  TELL(an_instant_that_came_is_over);
+  TELL(an_instant_falls);
+  TELL(an_instant_of_what_is_held);
+  TELL(an_instant_in_a_list);
   TELL(a_watcher_looks);
   TELL(a_ninth_watcher);
   TELL(one_of_two_watchers_goes_on);

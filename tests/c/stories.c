@@ -750,6 +750,112 @@ static void an_escalation(void) {
   DONE(bs_end(&m));
 }
 
+/* What was locked since goes, and who waits for it is told. What was had by then stays, as it was raised since. */
+static void a_savepoint(void) {
+  bs_manager m = BS_NO_MANAGER_HERE;
+  bs_node root = begin_manager(&m, BS_AT_BLOCK);
+  struct file f = make_file(&m, root);
+  bs_txn a = begin(&m), b = begin(&m), c = begin(&m);
+  uint64_t accepted, first, second;
+  DONE(bs_lock_path(&m, a, f.low, BS_S, &told));
+  first = DONE(bs_mark(&m, a)).count;
+  WANT(first == 3 && bs_held(&m, a, root).mode == BS_IS);
+  DONE(bs_lock_path(&m, a, f.above, BS_IX, &told));
+  second = DONE(bs_mark(&m, a)).count;
+  DONE(bs_lock_path(&m, a, f.high, BS_X, &told));
+  WANT(second == 5 && DONE(bs_mark(&m, a)).count == 6 && bs_held(&m, a, f.file).mode == BS_IX);
+  DONE(bs_lock_path(&m, b, f.file, BS_IS, &told));
+  WANT(bs_lock(&m, b, f.high, BS_S, &told).status == BS_WAITING);
+  DONE(bs_lock_path(&m, c, f.index, BS_IX, &told));
+  accepted = accepted_by(&m);
+  WANT(DONE(bs_release_since(&m, a, second, &told)).count == 1 && accepted_by(&m) == accepted + 1);
+  WANT(told.count == 1 && is_told(0, b, BS_TOLD_GRANTED) && bs_held(&m, a, f.high).mode == BS_NL);
+  WANT(DONE(bs_release_since(&m, a, second, &told)).count == 0 && told.count == 0);
+  WANT(DONE(bs_release_since(&m, a, first, &told)).count == 2 && accepted_by(&m) == accepted + 3);
+  WANT(bs_held(&m, a, root).mode == BS_IX && bs_held(&m, a, f.file).mode == BS_IX);
+  WANT(bs_held(&m, a, f.low).mode == BS_S && bs_held(&m, a, f.index).mode == BS_NL);
+  WANT(bs_held(&m, c, f.index).mode == BS_IX && DONE(bs_mark(&m, a)).count == first);
+  WANT(DONE(bs_release_since(&m, a, 0, &told)).count == 3 && told.count == 0 && DONE(bs_mark(&m, a)).count == 0);
+  DONE(bs_end(&m));
+}
+
+/* A record that was read by its file is written since: so it needs the interval that was locked for that. */
+static void a_savepoint_before_a_raise(void) {
+  bs_manager m = BS_NO_MANAGER_HERE;
+  bs_node root = begin_manager(&m, BS_AT_BLOCK);
+  struct file f = make_file(&m, root);
+  bs_txn a = begin(&m);
+  uint64_t mark;
+  DONE(bs_lock_path(&m, a, f.low, BS_S, &told));
+  mark = DONE(bs_mark(&m, a)).count;
+  DONE(bs_lock_path(&m, a, f.high, BS_X, &told));
+  DONE(bs_lock_path(&m, a, f.low, BS_X, &told));
+  WANT(mark == 3 && DONE(bs_mark(&m, a)).count == 7);
+  WANT(DONE(bs_release_since(&m, a, mark, &told)).count == 2);
+  WANT(bs_held(&m, a, f.high).mode == BS_NL && bs_held(&m, a, f.above).mode == BS_NL);
+  WANT(bs_held(&m, a, f.low).mode == BS_X && bs_held(&m, a, f.below).mode == BS_IX);
+  WANT(bs_held(&m, a, f.index).mode == BS_IX && DONE(bs_release_since(&m, a, mark, &told)).count == 0);
+  DONE(bs_commit(&m, a, &told));
+  DONE(bs_end(&m));
+}
+
+/* Where a lock of before it is given back, fewer go than were locked since, and none that was had by then. */
+static void a_savepoint_that_is_spoilt(void) {
+  bs_manager m = BS_NO_MANAGER_HERE;
+  bs_node root = begin_manager(&m, BS_AT_BLOCK), others[4];
+  bs_txn a = begin(&m);
+  uint64_t mark;
+  size_t i;
+  for (i = 0; i < 4; i++) others[i] = DONE(bs_add_inner(&m, NULL, 0)).node;
+  DONE(bs_lock(&m, a, root, BS_X, &told));
+  DONE(bs_lock(&m, a, others[0], BS_X, &told));
+  mark = DONE(bs_mark(&m, a)).count;
+  for (i = 1; i < 4; i++) DONE(bs_lock(&m, a, others[i], BS_X, &told));
+  DONE(bs_unlock(&m, a, root, &told));
+  WANT(DONE(bs_release_since(&m, a, mark, &told)).count == 2 && bs_held(&m, a, others[0]).mode == BS_X);
+  WANT(DONE(bs_mark(&m, a)).count == mark && DONE(bs_release_since(&m, a, mark, &told)).count == 0);
+  DONE(bs_end(&m));
+}
+
+static void a_savepoint_of_rows(void) {
+  bs_manager m = BS_NO_MANAGER_HERE;
+  struct file f = begin_rows(&m);
+  bs_txn a = begin(&m), b = begin(&m);
+  uint64_t mark;
+  DONE(lock_row(&m, a, f, 1, 10, BS_X));
+  mark = DONE(bs_mark(&m, a)).count;
+  DONE(lock_row(&m, a, f, 2, 110, BS_X));
+  DONE(lock_row(&m, a, f, 3, 120, BS_S));
+  DONE(lock_row(&m, b, f, 3, 120, BS_S));
+  WANT(DONE(bs_release_since(&m, a, mark, &told)).count == 3 && told.count == 0);
+  WANT(has_node(&m, f, 1) && !has_node(&m, f, 2) && has_node(&m, f, 3));
+  DONE(bs_commit(&m, b, &told));
+  WANT(!has_node(&m, f, 3) && has_node(&m, f, 1));
+  WANT(DONE(bs_release_since(&m, a, mark - 1, &told)).count == 1 && !has_node(&m, f, 1));
+  DONE(bs_end(&m));
+}
+
+static void a_savepoint_is_refused(void) {
+  bs_manager m = BS_NO_MANAGER_HERE;
+  bs_node root = begin_manager(&m, BS_AT_BLOCK), other = DONE(bs_add_inner(&m, NULL, 0)).node;
+  bs_txn a = begin(&m), b = begin(&m), none = b;
+  none.age = 999;
+  WANT(bs_mark(&m, none).status == BS_NO_SUCH_TXN && bs_release_since(&m, none, 0, &told).status == BS_NO_SUCH_TXN);
+  DONE(bs_lock(&m, a, root, BS_X, &told));
+  DONE(bs_lock(&m, b, other, BS_X, &told));
+  WANT(bs_lock(&m, b, root, BS_X, &told).status == BS_WAITING && DONE(bs_mark(&m, b)).count == 2);
+  told.count = 7;
+  WANT(bs_release_since(&m, b, 0, &told).status == BS_TXN_WAITING && told.count == 0);
+  WANT(bs_lock(&m, a, other, BS_X, &told).status == BS_WAITING && is_told(0, b, BS_TOLD_VICTIM));
+  WANT(bs_release_since(&m, b, 0, &told).status == BS_TXN_CONDEMNED && bs_held(&m, b, other).mode == BS_X);
+  DONE(bs_abort(&m, b, &told));
+  WANT(DONE(bs_release_since(&m, a, UINT64_MAX, &told)).count == 0 && bs_held(&m, a, other).mode == BS_X);
+  WANT(bs_release_since(&m, a, 0, NULL).status == BS_NULL_POINTER);
+  WANT(bs_release_since(NULL, a, 0, &told).status == BS_NULL_POINTER && bs_mark(NULL, a).status == BS_NULL_POINTER);
+  DONE(bs_end(&m));
+  WANT(bs_release_since(&m, a, 0, &told).status == BS_NO_MANAGER && bs_mark(&m, a).status == BS_NO_MANAGER);
+}
+
 static void a_file_moves(void) {
   bs_node other;
   bs_manager m = BS_NO_MANAGER_HERE;
@@ -1687,6 +1793,11 @@ int main(void) {
   TELL(rows_come_and_go);
   TELL(an_escalation_of_rows);
   TELL(an_escalation);
+  TELL(a_savepoint);
+  TELL(a_savepoint_before_a_raise);
+  TELL(a_savepoint_that_is_spoilt);
+  TELL(a_savepoint_of_rows);
+  TELL(a_savepoint_is_refused);
   TELL(a_file_moves);
   TELL(a_drop_is_refused);
   TELL(an_index_by_is_refused);

@@ -3,3 +3,4 @@ pub mod Serving
 pub mod Paths
 pub mod RowCalls
 pub mod Showing
+pub mod Backs

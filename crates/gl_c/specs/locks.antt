@@ -1,4 +1,5 @@
--- What calls of transactions do: paths, rows, and what became of a wait.
+-- What calls of transactions do: paths, rows, savepoints, and what became of a wait.
 pub mod Paths
 pub mod Rows
+pub mod Savepoints
 pub mod Verdicts

@@ -51,7 +51,7 @@ named : (u k : ℕ) (o : Option Notice) (x : TxnId × Notice) → addressed (rec
 named u k None x e = absurd (cc e)
 named u k (Some y) x e = let is : (record { slot = u; age = k }, y) ≡ x = cc e in ap (λ (z : TxnId × Notice). z.0.slot) (sym is)
 
-told_rises : (s s' : State) → s.most ≤ most_slots → RisingTo 0 (told s s') most_slots
+pub told_rises : (s s' : State) → s.most ≤ most_slots → RisingTo 0 (told s s') most_slots
 told_rises s s' few =
     rising_on 0 (0 + s.most) most_slots (told s s')
     (each_slot (λ t. addressed (record { slot = t; age = age_of s t }) (told_from s' t (status_of s t)))

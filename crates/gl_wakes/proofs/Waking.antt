@@ -66,6 +66,12 @@ wakes_ended c told slots is s s' a step law t n below was gone =
     (λ x h. turned t.slot x.0.slot (slot_of t x.0 h)) so) ∙ or-true (names_slot c t.slot))
     (λ so. ap (λ b. b || list_any (λ x. x.0.slot == t.slot) told) (names_its_slot c t so))
 
+-- whoever is told has its slot in the set of those
+pub told_wakes : (list : Told) (slots : Slots) (t : TxnId) → ((u : ℕ) → u < most_slots → has_slot slots u ≡ (false || list_any (λ x. x.0.slot == u) list))
+    → t.slot < most_slots → is_told t list ≡ true → has_slot slots t.slot ≡ true
+told_wakes list slots t is below so =
+    is t.slot below ∙ any_weaker (λ x. same_txn t x.0) (λ x. x.0.slot == t.slot) list (λ x h. turned t.slot x.0.slot (slot_of t x.0 h)) so
+
 -- the same list
 pub wakes_told : (c : Command) (told told' : Told) (slots : Slots) → told ≡ told' → WakesEnded c told slots → WakesEnded c told' slots
 wakes_told c told told' slots same wakes = subst (λ (l : Told). WakesEnded c l slots) same wakes

@@ -171,10 +171,10 @@ module _ (m : ManagerView) (v : RowsView) (a : RowAnswer) (told : Told) (m' : Ma
 -- Any other is a step of its own command.
 
 -- records that come and go leave who waits
-leaves_idle : (s s' : State) → LeavesAll s s' → NobodyWaits s → NobodyWaits s'
+pub leaves_idle : (s s' : State) → LeavesAll s s' → NobodyWaits s → NobodyWaits s'
 leaves_idle s s' left idle t = ap (λ (x : State). is_wait (status_of x t)) left.is ∙ idle t
 
-low : (s s' : State) → (s' ≡ s) ⊎ (s.accepted < s'.accepted) → s.accepted ≤ s'.accepted
+pub low : (s s' : State) → (s' ≡ s) ⊎ (s.accepted < s'.accepted) → s.accepted ≤ s'.accepted
 low s s' (inl same) = let as_many = ap (λ (x : State). x.accepted) same in omega (arith, as_many)
 low s s' (inr later) = omega (arith, later)
 

@@ -5,6 +5,7 @@ ghost use Rattle.gl_steps.specs.declared.command.Answer.TheVariants as answer;
 ghost use Rattle.gl_c.specs.locks.Paths.{path_reply, reached_reply, reply_at};
 ghost use Rattle.gl_c.specs.answers.Replies.{count_reply, refused_at, refused_reply, reply_of, served_reply, status_reply};
 ghost use Rattle.gl_c.specs.locks.Rows.{call_reply, row_lock_status};
+ghost use Rattle.gl_c.specs.locks.Savepoints.{back_reply};
 ghost use Rattle.gl_c.specs.locks.Verdicts.{verdict_reply};
 
 use crate::names::{Node, Txn};
@@ -130,6 +131,16 @@ impl Reply {
             Locked::Granted(_) => Reply::with_status(ON_THE_WAY).at(at),
             Locked::Waiting => Reply::with_status(WAITING).at(at),
             Locked::Victim => Reply::with_status(VICTIM).at(at),
+        }
+    }
+
+    /// What C is answered for a transaction that goes back.
+    pub(crate) fn of_back(released: Result<usize, Refusal>) -> Reply
+        ensures { result ≡ back_reply released }
+    {
+        match released {
+            Ok(released) => Reply::with_count(released as u64),
+            Err(refusal) => Reply::refused(refusal),
         }
     }
 

@@ -8,6 +8,7 @@ ghost use Rattle.gl_c.specs.Names.{node_id, txn_id};
 ghost use Rattle.gl_c.specs.answers.Notices.{Tells};
 ghost use Rattle.gl_c.specs.Numbers.{bad_number, mode_at};
 ghost use Rattle.gl_c.specs.locks.Paths.{CarriesPath};
+ghost use Rattle.gl_c.specs.locks.Savepoints.{CarriesBack};
 
 use crate::answers::notices::Notices;
 use crate::answers::reply::Reply;
@@ -106,6 +107,19 @@ pub extern "C" fn bs_call_unlock(
         node: node.id(),
     };
     manager.carry_out(command, told)
+}
+
+/// Goes back to a savepoint: unlocks what was locked since the transaction had so many locks.
+#[unsafe(no_mangle)]
+pub extern "C" fn bs_call_release_since(
+    manager: &mut Handle,
+    txn: Txn,
+    mark: usize,
+    told: &mut Notices,
+) -> Reply
+    ensures { CarriesBack (guarded_in manager.old) (txn_id txn) mark result told.new (guarded_in manager.new) }
+{
+    manager.release_since(txn.id(), mark, told)
 }
 
 /// Raises the lock of a node, and releases the children whose locks it then implies.

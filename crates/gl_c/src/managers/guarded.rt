@@ -14,6 +14,7 @@ ghost use Rattle.gl_wakes.specs.Boxes.{verdict_of};
 ghost use Rattle.gl_c.specs.managers.Managing.{IsNew};
 ghost use Rattle.gl_c.specs.locks.Paths.{ServesPath, ends_waiting};
 ghost use Rattle.gl_c.specs.locks.Rows.{ServesRow, comes_to_nothing, is_waited_for};
+ghost use Rattle.gl_c.specs.locks.Savepoints.{ServesBack};
 ghost use Rattle.gl_c.specs.managers.Serving.{HasShown, ServesNodes, ShowsNobodyLast, ShowsOn};
 ghost use Rattle.gl_c.specs.watchers.Watching.{OnlyShows};
 
@@ -182,6 +183,30 @@ impl Guarded {
         let due = self.is_board_due();
         let _ = self.show_if(due);
         answer
+    }
+
+    /// Goes back to a savepoint, with the notices put into an empty list. Watchers are shown one board
+    /// behind all of it.
+    pub(crate) fn serve_back(
+        &mut self,
+        txn: TxnId,
+        mark: usize,
+        told: &mut Told,
+    ) -> Result<usize, Refusal>
+        requires empty { told.old.items ≡ [] }
+        ensures { ServesBack self.old txn mark result told.new.items self.new }
+    {
+        self.registry.law();
+        let released = self.registry.release_since(txn, mark, told)?;
+        let unlocking = Command::Unlock {
+            txn,
+            node: NodeId::NONE,
+        };
+        self.boxes.deliver(&unlocking, told.as_slice());
+        self.ended = ended_by(&unlocking, told.as_slice());
+        let due = self.is_board_due();
+        let _ = self.show_if(due);
+        Ok(released)
     }
 
     /// Whether the board of now is due: somebody watches, and somebody waits or waited when watchers were

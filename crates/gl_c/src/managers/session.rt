@@ -11,6 +11,7 @@ ghost use Rattle.gl_wakes.specs.Boxes.{verdict_of};
 ghost use Rattle.gl_c.specs.managers.Carries.{Answers, Replies};
 ghost use Rattle.gl_c.specs.questions.Looks.{looked};
 ghost use Rattle.gl_c.specs.locks.Paths.{RepliesPath};
+ghost use Rattle.gl_c.specs.locks.Savepoints.{RepliesBack};
 ghost use Rattle.gl_c.specs.managers.Managing.{IsNew};
 ghost use Rattle.gl_c.specs.locks.Rows.{AnswersRow, RepliesRow, named_reply};
 ghost use Rattle.gl_c.specs.locks.Verdicts.{verdict_reply};
@@ -99,6 +100,16 @@ impl Session {
         notices.put(self.told.as_slice());
         self.told.clear();
         Reply::of_path(node, reached)
+    }
+
+    /// Goes back to a savepoint, and writes down whom it tells.
+    pub(crate) fn release_since(&mut self, txn: TxnId, mark: usize, notices: &mut Notices) -> Reply
+        ensures { RepliesBack self.old txn mark result notices.new self.new }
+    {
+        let released = self.guarded.serve_back(txn, mark, &mut self.told);
+        notices.put(self.told.as_slice());
+        self.told.clear();
+        Reply::of_back(released)
     }
 
     /// Carries out a call about rows, and writes down whom it tells.

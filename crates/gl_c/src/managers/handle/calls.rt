@@ -15,6 +15,7 @@ ghost use Rattle.gl_model.specs.State.{members, waits_for};
 ghost use Rattle.gl_catalog.specs.Manager.{IsLawfulManager};
 ghost use Rattle.gl_c.specs.questions.Looks.{Looks};
 ghost use Rattle.gl_c.specs.locks.Paths.{CarriesPath};
+ghost use Rattle.gl_c.specs.locks.Savepoints.{CarriesBack};
 ghost use Rattle.gl_c.specs.answers.Notices.{Tells};
 ghost use Rattle.gl_c.specs.Numbers.{no_manager};
 ghost use Rattle.gl_c.specs.answers.Replies.{status_reply};
@@ -124,6 +125,19 @@ impl Handle {
             return declined(told);
         };
         let reply = session.lock_path(txn, node, mode, told);
+        *self = Handle::of(alloc, session);
+        reply
+    }
+
+    /// Goes back to a savepoint, and writes down whom it tells.
+    pub(crate) fn release_since(&mut self, txn: TxnId, mark: usize, told: &mut Notices) -> Reply
+        ensures { CarriesBack (guarded_in self.old) txn mark result told.new (guarded_in self.new) }
+    {
+        let alloc = self.alloc;
+        let Some(mut session) = self.take() else {
+            return declined(told);
+        };
+        let reply = session.release_since(txn, mark, told);
         *self = Handle::of(alloc, session);
         reply
     }

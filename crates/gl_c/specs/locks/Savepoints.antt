@@ -1,0 +1,55 @@
+-- What a call does by which a transaction goes back to a savepoint.
+use Rattle.std.specs.Prelude.{◌≡◌, ℕ, false, [], Option, Some, None, Result, Ok, Err}
+use Rattle.gl_modes.specs.declared.refusal.Refusal.{Refusal}
+use Rattle.gl_model.specs.declared.txn.TxnId.{TxnId}
+use Rattle.gl_model.specs.Tellings.{Told}
+use Rattle.gl_table.specs.Table.{board_of}
+use Rattle.gl_steps.specs.declared.command.Command.{Command}
+use Rattle.gl_steps.specs.declared.command.Command.TheVariants as command
+use Rattle.gl_steps.specs.Promises.{NobodyWaits}
+use Rattle.gl_catalog.specs.Manager.{state_of}
+use Rattle.gl_registry.specs.Releasing.{GoesBackTo, no_node}
+use Rattle.gl_wakes.specs.Boxes.{Delivers}
+use Rattle.gl_c.specs.declared.answers.notices.Notices.{Notices}
+use Rattle.gl_c.specs.declared.answers.reply.Reply.{Reply}
+use Rattle.gl_c.specs.managers.Carries.{Declines}
+use Rattle.gl_c.specs.managers.Guarded.{GuardedView}
+use Rattle.gl_c.specs.managers.Serving.{ShowsNobodyLast, ShowsOn, Wakes}
+use Rattle.gl_c.specs.Numbers.{no_manager}
+use Rattle.gl_c.specs.answers.Notices.{Tells}
+use Rattle.gl_c.specs.answers.Replies.{count_reply, refused_reply}
+
+-- each of its commands unlocks a node; who is told of one is the same whatever the node
+abbrev pub unlocking : TxnId → Command
+unlocking t = command.Unlock t no_node
+
+-- a transaction goes back to a mark; the notices stand in their boxes; whose wait was ended is known; watchers are shown the board behind it, whole, or
+-- nothing
+pub record GoesBackThere (g : GuardedView) (t : TxnId) (told : Told) (g' : GuardedView) : Type 0 where
+  pub boxes : Delivers g.boxes told g'.boxes
+  pub wakes : Wakes (unlocking t) g.manager told g'.manager g'.ended
+  pub shown : ShowsOn g.waited (board_of (state_of g'.manager)) g.shown g'.shown
+  pub quiet : g'.waited ≡ false → NobodyWaits (state_of g'.manager) × ShowsNobodyLast g'.shown
+
+-- so it is where that is not refused; else nothing changes, and nobody is told
+abbrev pub ServesBack : GuardedView → TxnId → ℕ → Result ℕ Refusal → Told → GuardedView → Type 0
+ServesBack g t mark (Ok k) told g' = GoesBackTo t mark g.manager g.rows (Ok k) told g'.manager g'.rows × GoesBackThere g t told g'
+ServesBack g t mark (Err r) told g' = GoesBackTo t mark g.manager g.rows (Err r) told g'.manager g'.rows × (g' ≡ g)
+
+-- what C is answered: how many nodes were unlocked
+abbrev pub back_reply : Result ℕ Refusal → Reply
+back_reply (Ok k) = count_reply k
+back_reply (Err r) = refused_reply r
+
+-- a transaction goes back, and C is answered, and told whom it tells
+pub record RepliesBack (g : GuardedView) (t : TxnId) (mark : ℕ) (r : Reply) (notices : Notices) (g' : GuardedView) : Type 0 where
+  pub result : Result ℕ Refusal
+  pub told : Told
+  pub serves : ServesBack g t mark result told g'
+  pub replied : r ≡ back_reply result
+  pub tells : Tells notices told
+
+-- a call that goes back: it does so where there is a manager
+abbrev pub CarriesBack : Option GuardedView → TxnId → ℕ → Reply → Notices → Option GuardedView → Type 0
+CarriesBack None t mark r notices s' = Declines None no_manager r s' × Tells notices []
+CarriesBack (Some g) t mark r notices s' = (g' : GuardedView) × (s' ≡ Some g') × RepliesBack g t mark r notices g'
