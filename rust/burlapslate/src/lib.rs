@@ -113,7 +113,7 @@ mod watcher;
 
 pub use board::{Board, SlotIter, Slots};
 pub use listing::{Counters, Deadlock, Doing, Listing, LockRow, Stuck, TxnRow, Waiter};
-pub use manager::{Asked, Escalated, Manager, Options, Reached, RowAsked, Wait};
+pub use manager::{Asked, Escalated, Manager, Mark, Options, Reached, RowAsked, Wait};
 pub use mode::{Detect, Kind, Mode, Victims};
 pub use names::{Node, Row, Txn};
 pub use notices::{Notice, Notices};

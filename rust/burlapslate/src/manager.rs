@@ -95,6 +95,10 @@ pub struct Wait {
     pub mode: Mode,
 }
 
+/// A savepoint of a transaction: how many nodes it held or waited for.
+#[derive(Clone, Copy, PartialEq, Eq, Hash, Debug)]
+pub struct Mark(usize);
+
 /// How an escalation went.
 #[derive(Clone, Copy, PartialEq, Eq, Hash, Debug)]
 pub struct Escalated {
@@ -462,6 +466,48 @@ impl Manager {
         let Pinned { place, told } = &mut *self.pinned;
         accepted(sys::bs_call_unlock(place, txn, node, told))?;
         Ok(Notices::of(told))
+    }
+
+    /// A savepoint of a transaction, for [`release_since`](Manager::release_since). Nothing is kept for it.
+    /// It is good until the transaction gives a lock back that it had by then, or another takes that
+    /// lock's node away.
+    ///
+    /// Refused with [`NoSuchTxn`](Refusal::NoSuchTxn).
+    pub fn mark(&self, txn: Txn) -> Result<Mark, Refusal> {
+        self.lock_count(txn).map(Mark)
+    }
+
+    /// Goes back to a savepoint: releases what the transaction has locked since, children before their
+    /// parents, and answers how many nodes that were. What it had by then it has still, in that mode, or
+    /// in the greater one to which it was raised since: no mode is ever lowered. A node of which it holds
+    /// a child still stays too: that was held before by another parent, or was raised since, which took
+    /// intentions on all its parents. Rows that nobody holds any more are let go. Behind a savepoint that
+    /// is not good any more fewer nodes go, and never one of before.
+    ///
+    /// It is one command for each node. Refused, before anything is released, with
+    /// [`NoSuchTxn`](Refusal::NoSuchTxn), [`TxnWaiting`](Refusal::TxnWaiting),
+    /// [`TxnCondemned`](Refusal::TxnCondemned), and with [`WornOut`](Refusal::WornOut) where not each lock
+    /// since can be counted. Takes no memory. Costs a step for each lock since, for each waiter that is
+    /// granted, and for each row that the transaction has asked for.
+    ///
+    /// ```
+    /// # use burlapslate::{Detect, Manager, Mode, SLOTS};
+    /// # let mut m = Manager::new(Detect::AtBlock, SLOTS)?;
+    /// # let db = m.add_inner(&[])?;
+    /// # let (orders, prices) = (m.add_file(&[db])?, m.add_file(&[db])?);
+    /// let txn = m.begin()?;
+    /// let _ = m.lock_path(txn, orders, Mode::S)?;
+    /// let mark = m.mark(txn)?;
+    /// let _ = m.lock_path(txn, prices, Mode::X)?;
+    /// let (released, _told) = m.release_since(txn, mark)?;
+    /// assert_eq!((released, m.held(txn, prices)?), (1, Mode::NL));
+    /// assert_eq!((m.held(txn, orders)?, m.held(txn, db)?), (Mode::S, Mode::IX)); // It was raised.
+    /// # Ok::<(), burlapslate::Refusal>(())
+    /// ```
+    pub fn release_since(&mut self, txn: Txn, mark: Mark) -> Result<(usize, Notices<'_>), Refusal> {
+        let Pinned { place, told } = &mut *self.pinned;
+        let reply = accepted(sys::bs_call_release_since(place, txn, mark.0, told))?;
+        Ok((reply.count as usize, Notices::of(told)))
     }
 
     /// Takes the wait of a transaction back. A row that it waited for is let go.

@@ -1,6 +1,6 @@
 //! A transaction of a shared table, in the hands of a thread.
 
-use crate::manager::Escalated;
+use crate::manager::{Escalated, Mark};
 use crate::mode::Mode;
 use crate::names::{Node, Row, Txn};
 use crate::refusal::Refusal;
@@ -220,6 +220,36 @@ impl<'t> Session<'t> {
         self.table.lock(self.txn, node, mode, self.until(None))
     }
 
+    /// As [`lock`](Session::lock), for an instant: it is asked for and waited for as any lock, and given
+    /// back as soon as it is granted, in the same hold of the latch. So it answers that the lock could be
+    /// had, and in which mode, and nobody found it held; those behind it in the queue come next. It is for
+    /// keys that are to be free as one goes by, as the interval is that a new key parts.
+    ///
+    /// A node that the transaction holds already is raised, and stays so, since no mode is ever lowered.
+    /// One of which it holds a child by another parent stays too, since [`unlock`](Session::unlock)
+    /// refuses that.
+    ///
+    /// ```
+    /// # use burlapslate::{Detect, Mode, Stop, Table, SLOTS};
+    /// # let table = Table::new(Detect::AtBlock, SLOTS)?;
+    /// # let db = table.add_inner(&[])?;
+    /// let mut session = table.begin()?;
+    /// assert_eq!(session.lock_instant(db, Mode::X), Ok(Mode::X));
+    /// assert_eq!(table.with(|m| m.group(db)), Ok(Mode::NL));
+    /// # Ok::<(), Stop>(())
+    /// ```
+    pub fn lock_instant(&mut self, node: Node, mode: Mode) -> Result<Mode, Stop> {
+        self.table
+            .lock_instant(self.txn, node, mode, self.until(None))
+    }
+
+    /// As [`lock_path`](Session::lock_path), with the node itself for an instant, as
+    /// [`lock_instant`](Session::lock_instant). What is locked above it stays locked.
+    pub fn lock_path_instant(&mut self, node: Node, mode: Mode) -> Result<Mode, Stop> {
+        self.table
+            .lock_path_instant(self.txn, node, mode, self.until(None))
+    }
+
     /// As [`lock`](Session::lock), but the wait is taken back after this time, and answered with
     /// [`Stop::TimedOut`]. A grant that comes at the same moment is a grant.
     ///
@@ -378,6 +408,13 @@ impl<'t> Session<'t> {
         self.table.lock_async(self.txn, node, mode, until).await
     }
 
+    /// As [`lock_instant`](Session::lock_instant), for a task, as [`lock_async`](Session::lock_async).
+    pub async fn lock_instant_async(&mut self, node: Node, mode: Mode) -> Result<Mode, Stop> {
+        let until = self.until(None);
+        let lock = self.table.lock_instant_async(self.txn, node, mode, until);
+        lock.await
+    }
+
     /// As [`lock_path`](Session::lock_path), for a task, as [`lock_async`](Session::lock_async). Behind each
     /// grant on the way the task is woken, to ask for the next lock. Where the future is dropped, what was
     /// locked before stays locked.
@@ -498,6 +535,33 @@ impl<'t> Session<'t> {
     /// As [`Manager::unlock`](crate::Manager::unlock).
     pub fn unlock(&mut self, node: Node) -> Result<(), Refusal> {
         self.table.serve(|m| m.unlock(self.txn, node).map(drop))
+    }
+
+    /// As [`Manager::mark`](crate::Manager::mark).
+    pub fn mark(&self) -> Result<Mark, Refusal> {
+        self.table.with(|m| m.mark(self.txn))
+    }
+
+    /// As [`Manager::release_since`](crate::Manager::release_since): how many nodes it released.
+    ///
+    /// ```
+    /// # use burlapslate::{Detect, Mode, Stop, Table, SLOTS};
+    /// # let table = Table::new(Detect::AtBlock, SLOTS)?;
+    /// # let db = table.add_inner(&[])?;
+    /// # let file = table.add_file(&[db])?;
+    /// let mut session = table.begin()?;
+    /// session.lock(db, Mode::IX)?;
+    /// let mark = session.mark()?;
+    /// session.lock(file, Mode::X)?;
+    /// assert_eq!(session.release_since(mark), Ok(1));
+    /// assert_eq!(table.with(|m| m.group(file)), Ok(Mode::NL));
+    /// # Ok::<(), Stop>(())
+    /// ```
+    pub fn release_since(&mut self, mark: Mark) -> Result<usize, Refusal> {
+        self.table.serve(|m| {
+            m.release_since(self.txn, mark)
+                .map(|(released, _)| released)
+        })
     }
 
     /// As [`Manager::escalate`](crate::Manager::escalate).

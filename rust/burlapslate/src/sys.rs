@@ -266,6 +266,12 @@ unsafe extern "C" {
         node: Node,
         told: &mut Notices,
     ) -> Reply;
+    pub(crate) safe fn bs_call_release_since(
+        manager: &mut Place,
+        txn: Txn,
+        mark: usize,
+        told: &mut Notices,
+    ) -> Reply;
     pub(crate) safe fn bs_call_settle(manager: &mut Place, txn: Txn, told: &mut Notices) -> Reply;
 
     fn bs_call_insert(

@@ -10,6 +10,7 @@ use crate::turns::Turns;
 use crate::watcher::Watcher;
 use crate::SLOTS;
 use asks::{Hold, Tasks};
+use instants::{no_instants, InstantLock};
 use std::fmt;
 use std::sync::{Arc, Condvar, Mutex, MutexGuard, PoisonError};
 use std::thread;
@@ -63,7 +64,12 @@ struct Guarded {
     paths: Box<[Option<Path>]>,
     /// Those who wait and sleep in no thread.
     tasks: Tasks,
+    /// By slot, who waits for a lock for an instant.
+    instants: Box<[Option<InstantLock>]>,
 }
+
+/// An ask for a path: one that stays, or one whose node is locked for an instant.
+type PathAsk = fn(&Table, &mut Guarded, Txn, Node, Mode) -> Result<Reached, Refusal>;
 
 /// One who sleeps on a path.
 #[derive(Clone, Copy)]
@@ -100,6 +106,7 @@ impl Table {
             is_unwatched: false,
             turns: Turns::new(),
             paths: no_paths()?,
+            instants: no_instants()?,
             tasks: Tasks::new(),
         };
         Ok(Table {
@@ -473,7 +480,21 @@ impl Table {
         until: Option<Instant>,
     ) -> Result<Mode, Stop> {
         let mut guarded = self.guarded();
-        match self.asked(&mut guarded, txn, node, mode)? {
+        let asked = self.asked(&mut guarded, txn, node, mode)?;
+        self.end_of(guarded, asked, txn, node, mode, until)
+    }
+
+    /// What a lock that was asked for comes to, behind a sleep where it waits.
+    fn end_of<'t>(
+        &'t self,
+        guarded: Hold<'t>,
+        asked: Asked,
+        txn: Txn,
+        node: Node,
+        mode: Mode,
+        until: Option<Instant>,
+    ) -> Result<Mode, Stop> {
+        match asked {
             Asked::Granted(mode) => Ok(mode),
             Asked::Victim => Err(Stop::Victim),
             Asked::Waiting => self.sleep(guarded, txn, node, mode, until).1,
@@ -490,7 +511,7 @@ impl Table {
     ) -> Result<Asked, Refusal> {
         let (asked, told) = guarded.manager.lock(txn, node, mode)?;
         let tells = !told.is_empty();
-        self.wake_behind(guarded, tells, asked == Asked::Waiting);
+        self.wake_behind(guarded, txn, tells, asked == Asked::Waiting);
         Ok(asked)
     }
 
@@ -533,7 +554,7 @@ impl Table {
     ) -> Result<(RowAsked, Node), Refusal> {
         let (asked, node, told) = guarded.manager.lock_row(txn, row, keys, mode)?;
         let tells = !told.is_empty();
-        self.wake_behind(guarded, tells, asked == RowAsked::Waiting);
+        self.wake_behind(guarded, txn, tells, asked == RowAsked::Waiting);
         Ok((asked, node))
     }
 
@@ -545,12 +566,35 @@ impl Table {
         mode: Mode,
         until: Option<Instant>,
     ) -> Result<Mode, Stop> {
+        self.lock_path_by(Table::reached, txn, node, mode, until)
+    }
+
+    /// Asks for a path, and wakes whom that tells.
+    fn reached(
+        &self,
+        guarded: &mut Guarded,
+        txn: Txn,
+        node: Node,
+        mode: Mode,
+    ) -> Result<Reached, Refusal> {
+        let (reached, told) = guarded.manager.lock_path(txn, node, mode)?;
+        let tells = !told.is_empty();
+        self.wake_behind(guarded, txn, tells, matches!(reached, Reached::Waiting(_)));
+        Ok(reached)
+    }
+
+    /// The same by an ask of such a kind.
+    fn lock_path_by(
+        &self,
+        ask: PathAsk,
+        txn: Txn,
+        node: Node,
+        mode: Mode,
+        until: Option<Instant>,
+    ) -> Result<Mode, Stop> {
         let mut guarded = self.guarded();
         loop {
-            let (reached, told) = guarded.manager.lock_path(txn, node, mode)?;
-            let tells = !told.is_empty();
-            self.wake_behind(&mut guarded, tells, matches!(reached, Reached::Waiting(_)));
-            match reached {
+            match ask(self, &mut guarded, txn, node, mode)? {
                 Reached::Granted(mode) => return Ok(mode),
                 Reached::Victim => return Err(Stop::Victim),
                 Reached::Above(_) => {}
@@ -571,14 +615,15 @@ impl Table {
         }
     }
 
-    /// Behind a lock: wakes those whose wait it ended, where it told somebody, and who watches, where
-    /// it was left waiting.
-    fn wake_behind(&self, guarded: &mut Guarded, tells: bool, waits: bool) {
+    /// Behind a lock of a transaction: wakes those whose wait it ended, where it told somebody, and who
+    /// watches, where it was left waiting. What came for an instant before is nothing to that wait.
+    fn wake_behind(&self, guarded: &mut Guarded, txn: Txn, tells: bool, waits: bool) {
         if tells {
             self.wake(guarded);
         }
         if waits {
             guarded.waited = guarded.manager.accepted();
+            guarded.instants[txn.slot()] = None;
             self.began.notify_all();
         }
     }
@@ -595,7 +640,7 @@ impl Table {
     ) -> (Hold<'t>, Result<Mode, Stop>) {
         let ended = &self.ended[txn.slot()];
         if guarded.ring() {
-            if let Some(end) = guarded.manager.verdict(txn, node, mode) {
+            if let Some(end) = guarded.verdict(txn, node, mode) {
                 return (guarded, end);
             }
         }
@@ -605,7 +650,7 @@ impl Table {
                 None => (wait(ended, guarded), false),
                 Some(until) => wait_until(ended, guarded, until),
             };
-            if let Some(end) = guarded.manager.verdict(txn, node, mode) {
+            if let Some(end) = guarded.verdict(txn, node, mode) {
                 return (guarded, end);
             }
             if is_late {
@@ -625,11 +670,13 @@ impl Table {
         end
     }
 
-    /// Wakes those whose wait the last command may have ended: tasks where the latch is given back.
+    /// Wakes those whose wait the last command may have ended: tasks where the latch is given back. A lock
+    /// that was granted for an instant is given back before anybody else has the latch.
     fn wake(&self, guarded: &mut Guarded) {
         for slot in guarded.manager.ended() {
             self.ended[slot].notify_all();
             guarded.tasks.ring(slot);
+            self.end_instant(guarded, slot);
         }
     }
 
@@ -642,10 +689,10 @@ impl Table {
                 .map(|suspect| guarded.manager.settle(suspect).map(drop));
             board.clear_row(slot);
             if let Some(Ok(())) = settled {
-                self.wake(guarded);
                 for told in guarded.manager.ended() {
                     board.clear_row(told);
                 }
+                self.wake(guarded);
             }
         }
     }
@@ -774,6 +821,7 @@ impl fmt::Debug for Table {
 }
 
 mod asks;
+mod instants;
 mod tries;
 
 #[cfg(test)]

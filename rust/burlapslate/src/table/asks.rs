@@ -172,7 +172,7 @@ impl<'a> Waiting<'a> {
 
     fn verdict(&self, hold: &Hold<'_>) -> Option<Result<Mode, Stop>> {
         let Wait { node, mode } = self.wait;
-        hold.manager.verdict(self.txn, node, mode)
+        hold.verdict(self.txn, node, mode)
     }
 
     /// Notes the task of a wait that goes on. Without memory the wait is taken back, and that is its end.
@@ -262,13 +262,35 @@ impl Table {
         mode: Mode,
         until: Option<Instant>,
     ) -> Result<Mode, Stop> {
-        match self.asked(&mut self.guarded(), txn, node, mode)? {
-            Asked::Granted(mode) => return Ok(mode),
-            Asked::Victim => return Err(Stop::Victim),
-            Asked::Waiting => {}
+        let asked = self.asked(&mut self.guarded(), txn, node, mode)?;
+        self.wait_of(asked, txn, Wait { node, mode }, until).await
+    }
+
+    /// As `lock_async`, for an instant.
+    pub(crate) async fn lock_instant_async(
+        &self,
+        txn: Txn,
+        node: Node,
+        mode: Mode,
+        until: Option<Instant>,
+    ) -> Result<Mode, Stop> {
+        let asked = self.asked_instantly(&mut self.guarded(), txn, node, mode)?;
+        self.wait_of(asked, txn, Wait { node, mode }, until).await
+    }
+
+    /// What a lock that was asked for comes to, behind its wait.
+    async fn wait_of(
+        &self,
+        asked: Asked,
+        txn: Txn,
+        wait: Wait,
+        until: Option<Instant>,
+    ) -> Result<Mode, Stop> {
+        match asked {
+            Asked::Granted(mode) => Ok(mode),
+            Asked::Victim => Err(Stop::Victim),
+            Asked::Waiting => Waiting::of(self, txn, wait, until).await.0,
         }
-        let wait = Wait { node, mode };
-        Waiting::of(self, txn, wait, until).await.0
     }
 
     /// A path; where a lock on its way was granted, the task goes on with the next one.
@@ -305,7 +327,7 @@ impl Table {
         loop {
             let (reached, told) = guarded.manager.lock_path(txn, node, mode)?;
             let tells = !told.is_empty();
-            self.wake_behind(guarded, tells, matches!(reached, Reached::Waiting(_)));
+            self.wake_behind(guarded, txn, tells, matches!(reached, Reached::Waiting(_)));
             match reached {
                 Reached::Granted(mode) => return Ok(Ok(Ok(mode))),
                 Reached::Victim => return Ok(Ok(Err(Stop::Victim))),

@@ -105,7 +105,7 @@ impl Table {
         for node in path.taken.iter().rev() {
             let released = guarded.manager.unlock(path.txn, *node);
             let tells = released.is_ok_and(|told| !told.is_empty());
-            self.wake_behind(guarded, tells, false);
+            self.wake_behind(guarded, path.txn, tells, false);
         }
     }
 
