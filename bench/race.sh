@@ -33,7 +33,8 @@
 # - A deadlock of two: both hold a node in X and ask for the other's. The younger falls and aborts, and the
 #   older is granted and commits. Ours is in one thread, and in another line in two as theirs; both then meet
 #   at a barrier twice a round, on either side.
-# - The commit is that of 1,000 records in X and three nodes in IX. Taking them is not measured.
+# - The commit is that of 1,000 records in X and three nodes in IX. Taking them is not measured. Back to a savepoint is
+#   the release of the records alone. Theirs has none.
 # - The lines of bs_table are calls of include/burlapslate_shared.h: a short transaction in one thread, alone and
 #   beside a thread that looks at boards all the time, whose instructions are not counted; a wait and its grant
 #   between two threads, where a commit and the next ask are one bs_table_run; 1, 4 and 16 threads; and 4 and 16 with
@@ -41,6 +42,8 @@
 # - The four threads do short transactions on records of their own; a round is one transaction of any of
 #   them. Ours has one mutex, held round each call. Theirs is measured likewise, without DB_THREAD, and with
 #   DB_THREAD and no mutex, with one partition and with as many as it takes by itself.
+# - Behind all that come the threads of bench/threads.sh on records of their own and on one for all, by calls and in
+#   lists: transactions and commands a second, and how long one takes.
 
 # shellcheck source-path=SCRIPTDIR source=frame/frame.sh
 . "$(dirname "$0")/frame/frame.sh" || exit 2
@@ -56,9 +59,11 @@ build() {
 # count WORD WAY: the instructions of a round; of the commit, and of one thread with a table, of what is measured in it.
 count() {
   local few=1000 many=3000 measured=()
-  [ "$1" != commit ] || { few=2 many=6; }
+  case $1 in
+    commit | back) few=2 many=6 ;;
+  esac
   case $1.$2 in
-    commit.* | table.ours | table-watched.ours) measured=(--toggle-collect='measured*') ;;
+    commit.* | back.* | table.ours | table-watched.ours) measured=(--toggle-collect='measured*') ;;
   esac
   each "$few" "$many" "${measured[@]}" "$work/race" play "$1" "$2"
 }
@@ -99,3 +104,5 @@ while IFS=$'\t' read -r word ways title <&3 && IFS=$'\t' read -r _ ours theirs <
   fi
   row "$title" "${columns[@]}"
 done 3<"$work/lines" 4<"$work/times"
+echo
+"$top/bench/threads.sh" 0.2 own own-list hot hot-list

@@ -12,6 +12,7 @@
 #
 # - A record has one index, and lies with all others in one interval. Each step goes over all records, by rising key or
 #   at random, a hundred in a transaction, with intentions on four nodes above; or all in one transaction.
+# - Behind that come the threads of bench/threads.sh on rows of 10,000, by nodes and by numbers.
 
 # shellcheck source-path=SCRIPTDIR source=frame/frame.sh
 . "$(dirname "$0")/frame/frame.sh" || exit 2
@@ -64,3 +65,5 @@ echo
 for side in "${sides[@]}"; do
   for order in rising random; do rows "$order" "$side" || exit 1; done
 done
+echo
+"$top/bench/threads.sh" 0.2 nodes nodes-list numbers numbers-list

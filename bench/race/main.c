@@ -68,6 +68,7 @@ static const struct line lines[] = {
     ours_deadlock_paired, THEIRS(theirs_deadlock_paired), 1, { THREADED } },
   { "commit", "commit of 1,000 records and their path", 0, MOST_RECORDS, 200, BEST,
     ours_commit, THEIRS(theirs_commit), 2, { KEPT, FRESH } },
+  { "back", "back to a savepoint ahead of 1,000 records", 0, MOST_RECORDS, 200, BEST, ours_back, NULL, 0, { 0 } },
   { "crew", "four threads, one mutex on either side", 0, CREW, 1, MEDIAN,
     ours_crew, THEIRS(theirs_crew), 2, { KEPT, FRESH } },
   { "crew-own", "four threads, theirs with DB_THREAD", 0, CREW, 1, MEDIAN,

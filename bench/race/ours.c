@@ -117,19 +117,45 @@ static MEASURED void measured_commit(bs_txn txn, bs_notices *told) {
   quiet(bs_commit(&manager, txn, told), told);
 }
 
+/* A transaction with all records and the path to them, and a savepoint between these. */
+static bs_txn with_all_records(bs_notices *told, uint64_t *savepoint) {
+  bs_txn txn = begun();
+  size_t i;
+  lock_path(txn, BS_IX, told);
+  *savepoint = DONE(bs_mark(&manager, txn)).count;
+  for (i = 0; i < record_count; i++) quiet(bs_lock(&manager, txn, records[i], BS_X, told), told);
+  WANT(bs_children(&manager, txn, inner[2]).count == record_count);
+  return txn;
+}
+
 uint64_t ours_commit(long rounds) {
   bs_notices *told = &sessions[0].notices;
   uint64_t taken = 0;
   while (rounds-- > 0) {
-    bs_txn txn = begun();
-    uint64_t start;
-    size_t i;
-    lock_path(txn, BS_IX, told);
-    for (i = 0; i < record_count; i++) quiet(bs_lock(&manager, txn, records[i], BS_X, told), told);
-    WANT(bs_children(&manager, txn, inner[2]).count == record_count);
-    start = now();
+    uint64_t savepoint;
+    bs_txn txn = with_all_records(told, &savepoint);
+    uint64_t start = now();
     measured_commit(txn, told);
     taken += now() - start;
+  }
+  return taken;
+}
+
+static MEASURED void measured_back(bs_txn txn, uint64_t savepoint, bs_notices *told) {
+  quiet(bs_release_since(&manager, txn, savepoint, told), told);
+}
+
+uint64_t ours_back(long rounds) {
+  bs_notices *told = &sessions[0].notices;
+  uint64_t taken = 0;
+  while (rounds-- > 0) {
+    uint64_t savepoint;
+    bs_txn txn = with_all_records(told, &savepoint);
+    uint64_t start = now();
+    measured_back(txn, savepoint, told);
+    taken += now() - start;
+    WANT(bs_children(&manager, txn, inner[2]).count == 0);
+    quiet(bs_commit(&manager, txn, told), told);
   }
   return taken;
 }

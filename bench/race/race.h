@@ -47,6 +47,9 @@ play ours_read, theirs_read;
 /* The commit of all records and the path to them. What leads to it is neither timed nor counted. */
 play ours_commit, theirs_commit;
 
+/* The way back to a savepoint that was set behind the path, so all records go. Theirs has none. */
+play ours_back;
+
 /* A lock that waits, and the commit that grants it. */
 play ours_wait, ours_wait_paired, theirs_wait_paired;
 
