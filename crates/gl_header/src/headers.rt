@@ -197,6 +197,18 @@ impl Headers {
         }
     }
 
+    /// The mode in which a slot holds a node, `NL` for none.
+    #[inline]
+    pub fn mode_of(&self, slot: Slot, node: NodeId) -> Mode
+        ensures { result ≡ held_of self.now.entries slot node }
+    {
+        match self.seen(node) {
+            Seen::One(holder, mode) if holder == slot => mode,
+            Seen::Shared(header) => header.mode_of(slot),
+            _ => Mode::NL,
+        }
+    }
+
     /// The slots that hold a node.
     pub fn holders(&self, node: NodeId) -> Slots
         ensures { (u : ℕ) → has_slot result u ≡ holds (members_at self.now.entries node) u }
