@@ -29,7 +29,7 @@ ghost use Rattle.indexmap.specs.IndexMap.{get, index_map_len, index_of, keys, sp
 ghost use Rattle.gl_modes.specs.Nodes.{same_node};
 ghost use Rattle.gl_node_map.specs.Lends.{lends_at, lends_get};
 
-use crate::rows::{Recent, move_all, place_in, place_of, put};
+use crate::rows::{Recent, move_all, place_in, place_of, put, take_out};
 use gl_modes::NodeId;
 use indexmap::IndexMap;
 use std::alloc::{AllocError, Global};
@@ -233,7 +233,7 @@ impl<V: Copy> NodeMap<V> {
             let place = place_of(&self.rows, node)?;
             Some(self.rows.swap_remove(place).1)
         } else {
-            self.map.swap_remove(&node)
+            take_out(&mut self.map, node)
         }
     }
 

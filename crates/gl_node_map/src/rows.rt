@@ -1,10 +1,10 @@
 //! Few rows, which are scanned, and more, which stand in a map. What is done with a map stands apart, so
 //! that the ways over few rows are short.
 
-ghost use Rattle.std.specs.Prelude.{◌≡◌, ◌+◌, ◌<◌, ◌≤◌, [], IsTrue, Some, length, vec_capacity, position};
+ghost use Rattle.std.specs.Prelude.{◌≡◌, ◌+◌, ◌<◌, ◌≤◌, [], IfNone, IsTrue, None, Some, if◌then◌else◌, is_some, length, vec_capacity, position};
 ghost use Rattle.std.specs.List.{IsDistinct};
 ghost use Rattle.std.specs.Map.{keys_of};
-ghost use Rattle.indexmap.specs.IndexMap.{index_of, insert_entry, spare, IsUnique, Updates};
+ghost use Rattle.indexmap.specs.IndexMap.{get, index_map_len, index_of, insert_entry, spare, swap_remove_entry, IsUnchanged, IsUnique, Updates};
 ghost use Rattle.gl_modes.specs.Nodes.{same_node};
 
 use gl_modes::NodeId;
@@ -87,6 +87,27 @@ pub(crate) fn put<V: Copy>(map: &mut IndexMap<NodeId, V>, node: NodeId, value: V
     ensures unique { IsUnique same_node map.new }
 {
     map.insert(node, value).unwrap();
+}
+
+/// Takes the row of a node out of a map, and gives its value. What was put in last takes its place. It is
+/// looked for there first: what goes is mostly what came last.
+#[inline(never)]
+pub(crate) fn take_out<V: Copy>(map: &mut IndexMap<NodeId, V>, node: NodeId) -> Option<V>
+    ensures value { result ≡ get same_node map.old node }
+    ensures updates { Updates same_node map.old map.new node None }
+    ensures entries { map.new.entries ≡ swap_remove_entry (same_node node) map.old.entries }
+    ensures unchanged { IfNone result (IsUnchanged map.old map.new) }
+    ensures len { index_map_len map.new + (if is_some result then 1 else 0) ≡ index_map_len map.old }
+    ensures room { spare map.old ≤ spare map.new }
+    ensures unique { IsUnique same_node map.new }
+{
+    let last = map.len().saturating_sub(1);
+    if stands_at(map, last, node) {
+        let (_, value) = map.swap_remove_index(last)?;
+        Some(value)
+    } else {
+        map.swap_remove(&node)
+    }
 }
 
 /// Moves all rows into the map, in their order.
