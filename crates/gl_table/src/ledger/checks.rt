@@ -56,9 +56,8 @@ impl Ledger {
         if is_bad_mode(kind, mode) {
             return Err(Refusal::BadMode);
         }
-        let list = &self.lists[t.slot as usize];
-        let held = list.mode(node);
-        check_rule(list, parents, sup(held, mode))?;
+        let held = self.headers.mode_of(t.slot, node); // By its key: in a list a new node is looked for in vain.
+        check_rule(&self.lists[t.slot as usize], parents, sup(held, mode))?;
         Ok((held, parents))
     }
 }

@@ -65,5 +65,5 @@ returns-in_ok-place-clause-unique g c = subst (λ es. IsDistinct same_node (keys
 pub returns-else-is_empty-clause-updates : goal.returns-else-is_empty-clause-updates
 returns-else-is_empty-clause-updates g c =
     let was : c.args.self.now.entries ≡ c.self.inside.map.entries = search rules in
-    let now : c.self.inside.rows.items ++ c.swap_remove-else-is_empty.new.self.entries ≡ c.swap_remove-else-is_empty.new.self.entries = search rules in
-    writes_as c.args.node _ _ _ _ _ was now c.swap_remove-else-is_empty.ensures.updates
+    let now : c.self.inside.rows.items ++ c.take_out.new.map.entries ≡ c.take_out.new.map.entries = search rules in
+    writes_as c.args.node _ _ _ _ _ was now c.take_out.ensures.updates
