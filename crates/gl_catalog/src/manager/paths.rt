@@ -58,7 +58,8 @@ impl Manager {
     ///
     /// Refused, in this order, with `WornOut`, `NoSuchTxn`, `TxnWaiting`, `TxnCondemned`,
     /// `NoSuchNode` and `BadMode` before anything is locked; with `WornOut` and `NoMemory` also on
-    /// the way. It wants memory for locks alone. The way up is looked at before it is locked: to write
+    /// the way. It wants memory for locks alone. The node itself is asked first, so that where all above
+    /// it is held nothing else is looked at. Else the way up is looked at before it is locked: to write
     /// once, from each node that wants another parent once more, to read from the node for each ask.
     pub fn lock_path_telling(
         &mut self,
@@ -76,7 +77,6 @@ impl Manager {
     {
         self.law();
         let mut above = Above::new();
-        self.climb(t, node, mode, &mut above);
         'path: loop {
             let reached = self.lock_first(t, node, mode, &mut above, told)?;
             // A grant is counted, so that the path ends where the count does, if not before.

@@ -56,8 +56,9 @@ impl Ledger {
         if is_bad_mode(kind, mode) {
             return Err(Refusal::BadMode);
         }
-        let held = self.headers.mode_of(t.slot, node); // By its key: in a list a new node is looked for in vain.
-        check_rule(&self.lists[t.slot as usize], parents, sup(held, mode))?;
+        let held = self.headers.mode_of(t.slot, node); // A list would look for a new node in vain.
+        let list = &self.lists[t.slot as usize];
+        check_rule(list, parents, sup(held, mode))?;
         Ok((held, parents))
     }
 }
