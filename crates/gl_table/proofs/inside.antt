@@ -12,6 +12,7 @@ pub mod Departures
 pub mod Marked
 pub mod Back
 pub mod Asks
+pub mod Covered
 pub mod Enqueues
 pub mod TurnedAway
 pub mod Vacated

@@ -16,7 +16,7 @@ use gl_graph::Graph;
 use gl_header::Asked;
 use gl_lock_lists::LockList;
 use gl_model::{Locked, Status};
-use gl_modes::{Mode, NodeId, Refusal, sup};
+use gl_modes::{Mode, NodeId, Refusal, covers, sup};
 use gl_slots::Slot;
 use std::alloc::AllocError;
 
@@ -85,6 +85,9 @@ impl Ledger {
     {
         graph.law();
         self.headers.law();
+        if covers(held, mode) {
+            return Ok(Asked::Granted(held)); // Nothing changes.
+        }
         let is_member = held != Mode::NL;
         let Ok(()) = self.make_room_to_ask(slot, node, mode, is_member) else {
             return Err(Refusal::NoMemory);

@@ -1,11 +1,13 @@
 use Rattle.gl_table.proofs.Words.{◌&&◌, ◌+◌, ◌<◌, ◌^◌, ◌∙◌, ◌≡◌, ◌≤◌, Agrees, and-false, ap, ap₂, AreHeaders, arith, Asked, asked_at, clash, count_by}
 use Rattle.gl_table.proofs.Words.{count_of, CountsHeld, enters_at, false, graph_of, held_of, holds, if◌then◌else◌, is_granted_at, MayAct, members, mode_of}
 use Rattle.gl_table.proofs.Words.{NL, not, not-false, not-true, parents_of, refl, rules, same_mode, same_node, spare, state_in, subst, supremum, sym, true}
-use Rattle.gl_table.proofs.Words.{unlisted, wanted, with_item, ℕ}
+use Rattle.gl_table.proofs.Words.{unlisted, wanted, with_item, is_at_least, ℕ}
 use Rattle.gl_header.specs.declared.header.Asked.TheVariants as asked
 use Rattle.gl_table.specs.declared.ledger.Ledger.{Ledger}
+use Rattle.gl_table.specs.inside.Steps.{HasAsked}
 use Rattle.gl_table.proofs.inside.Asks.{answer-enters, answer-waits, is_granted, IsGranted, own-few, own-listed, own-mode, own-room}
 use Rattle.gl_table.proofs.inside.Asks.{parents-room, roomy_may, roomy_ready, roomy_same, roomy_says, says_is, slot-listed, state-same}
+use Rattle.gl_table.proofs.inside.Covered.{covered-asked}
 use Rattle.gl_table.proofs.inside.Enqueues.{has_wait-set, HasWait, is_enqueued, IsEnqueued}
 use Rattle.gl_table.proofs.inside.Asks.{its_key}
 use Rattle.gl_table.proofs.inside.Slots.{also_held, also_listed, counts-entered, has_node-set, none_more}
@@ -49,6 +51,16 @@ ask-requires-clause-alone c = let p = (goal.at.ask-requires-clause-alone c).Afte
     its_key c.make_room_to_ask.new.self
     (subst AreHeaders (sym (ap (λ (x : Ledger). x.headers.entries) c.make_room_to_ask.ensures.rest)) c.law-2.ensures.headers) (may_now p).orderly
     c.law.ensures.lawful c.args.node c.requires.can.live
+
+-- no more is asked than is held
+
+pub returns-then-covers-clause-asked : goal.returns-then-covers-clause-asked
+returns-then-covers-clause-asked c =
+    let is : c.args.held ≡ held_of c.args.self.now.headers.entries c.args.slot c.args.node =
+    c.requires.can.held_is ∙ (c.requires.act.exact.agree c.args.slot).modes c.args.node in
+    subst (λ h. HasAsked (state_in c.args.graph.now c.args.self.now) (state_in c.args.graph.now c.args.self.now) c.args.slot c.args.node c.args.mode
+    (asked.Granted h)) (sym is) (covered-asked c.args.graph.now c.args.self.now c.args.slot c.args.node c.args.mode c.requires.act c.law-2.ensures.headers
+    c.requires.can.lock (ap (λ h. is_at_least h c.args.mode) (sym is) ∙ sym c.covers.ensures ∙ c.if-covers.true))
 
 -- the refusals
 
