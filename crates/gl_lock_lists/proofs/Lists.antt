@@ -277,6 +277,14 @@ once_at (k ∷ ks) (suc at) n once here =
     (same_node-sym n k ∙ later_differs k ks at n (IsDistinct-head same_node k ks once) here) in
     omega (arith, more, rest)
 
+-- and it does not stand before it
+pub none_before : (ks : List NodeId) (at : ℕ) (n : NodeId) → IsDistinct same_node ks → slice_get ks at ≡ Some n → list_any (same_node n) (take at ks) ≡ false
+none_before [] at n once here = absurd (cc)
+none_before (k ∷ ks) zero n once here = refl
+none_before (k ∷ ks) (suc at) n once here =
+    ap₂ (λ a b. a || b) (same_node-sym n k ∙ later_differs k ks at n (IsDistinct-head same_node k ks once) here)
+    (none_before ks at n (IsDistinct-tail same_node k ks once) here)
+
 -- the first that passes is taken out of its place
 taken_there : {K : Type 0} (t : K → Bool) (ks : List K) (at : ℕ) → position_or_len t ks ≡ at → at < length ks
     → (d : K) × (swap_remove_by t ks ≡ swap_remove ks at d)

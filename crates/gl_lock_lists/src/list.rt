@@ -245,24 +245,6 @@ impl LockList {
         }
     }
 
-    /// Takes out the node that was listed last, whatever is counted of its children.
-    #[inline]
-    pub fn pop(&mut self) -> Option<NodeId>
-        ensures none { IfNone result ((q : Node) → is_listed self.old q ≡ false) }
-        ensures none_same { IfNone result (self.new ≡ self.old) }
-        ensures was { IfSome result (λ n. is_listed self.old n ≡ true) }
-        ensures listed { IfSome result (λ n. (q : Node) → is_listed self.new q ≡ (is_listed self.old q && not (same_node q n))) }
-        ensures modes { IfSome result (λ n. (q : Node) → mode_of self.new q ≡ (if same_node q n then NL else mode_of self.old q)) }
-        ensures loose { self.new.loose ≡ self.old.loose }
-        ensures shorter { IfSome result (λ n. length self.new.entries.entries + 1 ≡ length self.old.entries.entries) }
-    {
-        if self.entries.is_empty() {
-            return None;
-        }
-        let (n, _) = self.entries.pop().unwrap();
-        Some(n)
-    }
-
     /// Takes everything out, and keeps the room.
     pub fn clear(&mut self)
         ensures listed { (n : Node) → is_listed self.new n ≡ false }

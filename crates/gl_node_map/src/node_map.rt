@@ -253,8 +253,8 @@ impl<V: Copy> NodeMap<V> {
         }
     }
 
-    /// Takes everything out, and keeps the room. A map that is empty already is left alone: to clear it
-    /// would write all its room.
+    /// Takes everything out, and keeps the room. Of a map it writes no more than stands in it, and not all
+    /// its room.
     pub fn clear(&mut self)
         ensures empty { IsEmpty self.new }
         ensures len { index_map_len self.new ≡ 0 }
@@ -265,6 +265,6 @@ impl<V: Copy> NodeMap<V> {
         if self.map.is_empty() {
             return;
         }
-        self.map.clear();
+        self.map.truncate(0);
     }
 }

@@ -59,7 +59,7 @@ fn stands_at<V: Copy>(map: &IndexMap<NodeId, V>, place: usize, node: NodeId) -> 
 }
 
 /// Where the row of a node stands in a map: where one was found last, or else by its hash.
-#[inline(never)]
+#[inline]
 pub(crate) fn place_in<V: Copy>(
     map: &IndexMap<NodeId, V>,
     recent: Recent,
@@ -73,8 +73,16 @@ pub(crate) fn place_in<V: Copy>(
     } else if stands_at(map, recent.last, node) {
         Some(recent.last)
     } else {
-        map.get_index_of(&node)
+        search(map, node)
     }
+}
+
+/// Where the row of a node stands in a map, by its hash.
+#[inline(never)]
+fn search<V: Copy>(map: &IndexMap<NodeId, V>, node: NodeId) -> Option<usize>
+    ensures { result ≡ index_of same_node map.now node }
+{
+    map.get_index_of(&node)
 }
 
 /// Puts a value into a map that has room, last where its node is new.

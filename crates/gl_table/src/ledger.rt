@@ -122,6 +122,15 @@ impl Ledger {
         })
     }
 
+    /// The node at a place in the list of a slot.
+    #[inline]
+    fn node_at(&self, slot: Slot, place: usize) -> Option<NodeId>
+        ensures { result ≡ by_list (λ l. option_map (λ x. x.0) (slice_get l.entries.entries place)) None self.now.lists.items slot }
+    {
+        let (node, _) = self.lists.get(slot as usize)?.at(place)?;
+        Some(node)
+    }
+
     /// The node at a place in the list of a slot, where no child of it is held.
     pub(crate) fn childless_at(&self, slot: Slot, place: usize) -> Option<NodeId>
         ensures { result ≡ by_list (λ l. childless_in (slice_get l.entries.entries place)) None self.now.lists.items slot }

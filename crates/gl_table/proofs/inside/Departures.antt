@@ -2,7 +2,7 @@
 use Rattle.gl_table.proofs.Words.{[], ◌&&◌, ◌+◌, ◌<◌, ◌==◌, ◌||◌, ◌∙◌, ◌≡◌, Active, after_grants, Agrees, and-false, and-not_self, and-true, and_both, ap, ap₂}
 use Rattle.gl_table.proofs.Words.{arith, Bool, cancelled, CanTell, clash, count_by, CountsHeld, drop, false, front, front_at, fun_ext, grant_notice, granted_at}
 use Rattle.gl_table.proofs.Words.{held_children, holds, if◌then◌else◌, is_among_waiters, is_wait, is_waiting_at, IsBySlot, IsLawfulGraph, IsOnWay, IsOrderly}
-use Rattle.gl_table.proofs.Words.{length, List, listed, LockList, members, Mode, mode_given, nat_tests, NL, NodeId, nodes, None, not, not_true, notices_in}
+use Rattle.gl_table.proofs.Words.{length, List, listed, LockList, members, Mode, mode_given, nat_tests, NL, NodeId, nodes_by, None, not, not_true, notices_in}
 use Rattle.gl_table.proofs.Words.{number_same, Option, or-false, or-true, or_comm, parents_of, pumped, refl, released, restatus, same_mode, same_node}
 use Rattle.gl_table.proofs.Words.{same_node-equal, same_node-refl, same_node-sym, Some, split, State, Status, status_in, status_of, stripped, subst, sym, Told}
 use Rattle.gl_table.proofs.Words.{told_to, true, Txn, TxnId, unlocked, Waiter, Waiting, WakesLists, WakesTold, with_grant, with_txn, without_wait}
@@ -236,11 +236,11 @@ module _ {s now : State} {t : ℕ} {ls : List LockList} {was told : Told} (is : 
         (is.orderly.holders_live t n holding) holding holds_no_more
         (λ q e. ap (λ m. not (same_mode m NL)) (held_after q ∙ ap (λ k. if k then NL else now.held t q) e)) p
 
-    -- and t holds fewer nodes
-    pub leaving_fewer : IsLawfulGraph now.graph
-        → count_by (λ q. holds (members (unlocked now t n) q) t) (nodes now.graph) < count_by (λ q. holds (members now q) t) (nodes now.graph)
-    leaving_fewer law = fewer (λ q. holds (members now q) t) (λ q. holds (members (unlocked now t n) q) t) n (nodes now.graph) holds_still
-        (listed now.graph law n (is.orderly.holders_live t n holding)) holding holds_no_more
+    -- the list of t has its nodes in the order in which it had them
+    pub leaving_order : {mid ls' : List LockList} → WakesLists mid n (parents_of now.graph n) (front_at (with_grant now t n NL) n) ls'
+        → nodes_by ls' t ≡ nodes_by mid t
+    leaving_order wakes =
+        wakes.orders t (not_true _ (λ h. clash (front_stands (with_grant now t n NL) n (well_granted now is.orderly t n NL n) t h) (leaving_out n)))
 
     -- the node was released, while the list of t was written or out of its place
     pub leaving_one : {mid ls' : List LockList} {told' : Told} → IsLawfulGraph now.graph → ((u : ℕ) → (u == t) ≡ false → Agrees now mid u)

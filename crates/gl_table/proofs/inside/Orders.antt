@@ -3,10 +3,13 @@ use Rattle.gl_table.proofs.Words.{[], ◌==◌, ◌∙◌, ◌∷◌, ◌≡◌,
 use Rattle.gl_table.proofs.Words.{is_some, IsApart, IsUnique, keys, keys_of, LeavesPlace, length, List, listed_by, LockList, lookup_from_place, loose_of, map}
 use Rattle.gl_table.proofs.Words.{node_equivalence, NodeId, nodes_by, None, none_some, Option, option_map, refl, same_node, same_number, slice_get}
 use Rattle.gl_table.proofs.Words.{slice_get-map, Some, some_is, split, subst, suc, sym, true, zero, ℕ}
+use Rattle.gl_table.proofs.Words.{◌&&◌, ◌+◌, ◌||◌, and-false, and-true, IsDistinct, list_any, not, or-false, or-true, same_node-equal, same_node-refl, take}
+use Rattle.std.proofs.lemmas.List.Folds.{list_any_more}
 use Rattle.std.proofs.lemmas.Map.Made.{is_some-lookup}
+use Rattle.std.proofs.lemmas.Option.{get_or_from_slice_get, slice_get_within}
 use Rattle.indexmap.proofs.SetLemmas.{keys_swap_remove_entry}
 use Rattle.indexmap.specs.IndexMap.{swap_remove_entry}
-use Rattle.gl_lock_lists.proofs.Lists.{one_fewer, stay_before}
+use Rattle.gl_lock_lists.proofs.Lists.{none_before, one_fewer, stay_before}
 use Rattle.gl_model.proofs.queues.Waiters.{if-false, if-true}
 
 -- no list has a node twice
@@ -19,6 +22,45 @@ pub rows_are : (ls : List LockList) (t : ℕ) → by_list (λ l. length (keys l.
 rows_are [] t = refl
 rows_are (l ∷ ls) zero = refl
 rows_are (l ∷ ls) (suc t) = rows_are ls t
+
+-- no list has a node twice, by slot
+pub unique_at : (ls : List LockList) (t : ℕ) → IsDistinct same_node (nodes_by ls t)
+unfolding IsDistinct
+unique_at [] t = tt
+unique_at (l ∷ ls) zero = unique_in l
+unique_at (l ∷ ls) (suc t) = unique_at ls t
+
+-- what a list has stands in its order
+pub listed_as : (ls : List LockList) (t : ℕ) (q : NodeId) → list_any (same_node q) (nodes_by ls t) ≡ listed_by ls t q
+listed_as [] t q = refl
+listed_as (l ∷ ls) zero q = sym (is_some-lookup (same_node q) l.entries.entries)
+listed_as (l ∷ ls) (suc t) q = listed_as ls t q
+
+-- the node at a place of it
+pub node_there : (ls : List LockList) (t i : ℕ) → by_list (λ l. option_map (λ x. x.0) (slice_get l.entries.entries i)) None ls t ≡ slice_get (nodes_by ls t) i
+node_there [] t i = refl
+node_there (l ∷ ls) zero i = sym (slice_get-map (λ x. x.0) l.entries.entries i)
+node_there (l ∷ ls) (suc t) i = node_there ls t i
+
+-- what stands before a place, and before the next
+module _ (ks : List NodeId) (i m : ℕ) (n : NodeId) (next : m ≡ i + 1) (at : slice_get ks i ≡ Some n) where
+  abbrev before : NodeId → Bool
+  before q = list_any (same_node q) (take i ks)
+
+  one_more : (q : NodeId) → list_any (same_node q) (take m ks) ≡ (before q || same_node q n)
+  one_more q = ap (λ k. list_any (same_node q) (take k ks)) next ∙ list_any_more (same_node q) ks i n (slice_get_within ks i n at)
+      ∙ ap (λ k. before q || same_node q k) (get_or_from_slice_get ks i n n at)
+
+  pub among_these : list_any (same_node n) (take m ks) ≡ true
+  among_these = one_more n ∙ ap (λ b. before n || b) (same_node-refl n) ∙ or-true (before n)
+
+  pub all_but_this : IsDistinct same_node ks → (q : NodeId)
+      → list_any (same_node q) (take i ks) ≡ (list_any (same_node q) (take m ks) && not (same_node q n))
+  all_but_this once q = split (same_node q n)
+      (λ e. ap (λ k. list_any (same_node k) (take i ks)) (same_node-equal q n e) ∙ none_before ks i n once at
+      ∙ sym (ap (λ b. list_any (same_node q) (take m ks) && not b) e ∙ and-false (list_any (same_node q) (take m ks))))
+      (λ e. sym (ap (λ b. list_any (same_node q) (take m ks) && not b) e ∙ and-true (list_any (same_node q) (take m ks)) ∙ one_more q
+      ∙ ap (λ b. before q || b) e ∙ or-false (before q)))
 
 -- as a contract sees them
 pub order_seen : (ls : List LockList) (t : ℕ) → nodes_by ls t ≡ keys_of (get_or (map (λ l. l.entries.entries) ls) t [])

@@ -155,13 +155,6 @@ module _ (ls : List LockList) (t : ℕ) (new : LockList) (lt : t < length ls) wh
     pub counts-set : (s : State) → CountsHeld s ls u → CountsHeld s (slice_set ls t new) u
     counts-set s count p = other_list (λ l. count_of l p) 0 ∙ count p
 
--- a node is taken out of one list
-pub popped-listed : (ls : List LockList) (t : ℕ) (l l' : LockList) → t < length ls → l ≡ slice_index_or ls t l → (n : NodeId)
-    → ((q : NodeId) → is_listed l' q ≡ (is_listed l q && not (same_node q n)))
-    → (q : NodeId) → listed_by (slice_set ls t l') t q ≡ (listed_by ls t q && not (same_node q n))
-popped-listed ls t l l' lt at n listed q = own_list ls t l' lt (λ x. is_listed x q) false ∙ listed q
-    ∙ ap (λ b. b && not (same_node q n)) (sym (by_list-at (λ x. is_listed x q) false ls t l lt at))
-
 -- The counts of one list of many are written, and neither its nodes nor their modes.
 
 module _ (ls : List LockList) (t : ℕ) (l l' : LockList) (lt : t < length ls) (at : l ≡ slice_index_or ls t l) where

@@ -50,7 +50,8 @@ pub(crate) fn end_wait(
 }
 
 impl Ledger {
-    /// Releases one node after the other, until the slot's list is empty. The list `granted` is filled anew.
+    /// Releases one node after the other, from the back of the slot's list to its front. The list itself is left
+    /// as it is, for whoever takes all out of it at once. The list `granted` is filled anew.
     pub(crate) fn leave_all(
         &mut self,
         graph: &Graph,
@@ -68,8 +69,12 @@ impl Ledger {
         ensures tells { TellsOthers slot (state_in graph.now self.old) (state_in graph.now self.new) told.old.items told.new.items }
     {
         graph.law();
-        while let Some(node) = self.lists[slot as usize].pop() {
-            self.drop_and_wake(graph, slot, node, granted, told);
+        let mut at = self.rows(slot);
+        while at > 0 {
+            at -= 1;
+            if let Some(node) = self.node_at(slot, at) {
+                self.drop_and_wake(graph, slot, node, granted, told);
+            }
         }
     }
 
