@@ -345,32 +345,23 @@ impl LockList {
         ensures counts { (q : Node) → count_of self.new q ≡ count_of self.old q }
         ensures keys { keys self.new.entries ≡ keys self.old.entries }
     {
-        if let Some((child, _)) = self.entries.get_index(at) {
-            let child = *child;
-            if self.covers(graph, node, child) {
+        if let Some((child, entry)) = self.entries.get_index(at) {
+            let (child, entry) = (*child, *entry);
+            if self.covers(graph, node, child, entry) {
                 self.set_mode(child, Mode::NL);
             }
         }
     }
 
-    /// Whether the node is a child that the lock on a node covers.
-    fn covers(&self, graph: &Graph, node: NodeId, child: NodeId) -> bool
+    /// Whether the node, of which this is said, is a child that the lock on a node covers.
+    fn covers(&self, graph: &Graph, node: NodeId, child: NodeId, entry: Entry) -> bool
+        requires said { entry_of self.now child ≡ Some entry }
         ensures { result ≡ covered_in (graph_of graph.now) self.now node child }
     {
-        is_child(graph, node, child)
-            && self.holds(child)
-            && self.count(child) == 0
-            && (self.mode(child) != Mode::X || self.all_exclusive(graph.parents(child)))
-    }
-
-    /// How many children of the node are held.
-    fn count(&self, n: NodeId) -> u32
-        ensures { result ≡ count_of self.now n }
-    {
-        match self.entry(n) {
-            Some(entry) => entry.children,
-            None => self.loose.get(&n).copied().unwrap_or(0),
-        }
+        is_held(entry)
+            && entry.children == 0
+            && is_child(graph, node, child)
+            && (entry.mode != Mode::X || self.all_exclusive(graph.parents(child)))
     }
 
     /// Whether all of these are held in `X`.
@@ -391,14 +382,22 @@ impl LockList {
         ensures none { IfNone result (self.new ≡ self.old) }
         ensures taken { IfSome result (λ n. IsTakenOut (graph_of graph.now) self.old n self.new) }
     {
-        let node = *self.entries.get_index(at)?.0;
-        if self.holds(node) {
+        let row = self.entries.get_index(at)?;
+        let node = *row.0;
+        if is_held(*row.1) {
             return None;
         }
         self.leave(node);
         self.count_down(graph.parents(node));
         Some(node)
     }
+}
+
+/// Whether the node is held of which this is said.
+fn is_held(entry: Entry) -> bool
+    ensures { result ≡ not (same_mode entry.mode NL) }
+{
+    !matches!(entry.mode, Mode::NL)
 }
 
 /// Whether the node is a parent of this one.
