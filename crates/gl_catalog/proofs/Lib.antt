@@ -18,7 +18,6 @@ pub mod MoveChecks
 pub mod KeyedBy
 pub mod Relocations
 pub mod Rekeyings
-pub mod Wanting
 -- locks along a path
 pub mod Climbing
 pub mod KeptWays

@@ -59,7 +59,7 @@ fn stands_at<V: Copy>(map: &IndexMap<NodeId, V>, place: usize, node: NodeId) -> 
 }
 
 /// Where the row of a node stands in a map: where one was found last, or else by its hash.
-#[inline]
+#[inline(never)]
 pub(crate) fn place_in<V: Copy>(
     map: &IndexMap<NodeId, V>,
     recent: Recent,
@@ -77,7 +77,8 @@ pub(crate) fn place_in<V: Copy>(
     }
 }
 
-/// Where the row of a node stands in a map, by its hash.
+/// Where the row of a node stands in a map, by its hash. It stands apart, so that whoever finds it where one
+/// was found last saves no registers.
 #[inline(never)]
 fn search<V: Copy>(map: &IndexMap<NodeId, V>, node: NodeId) -> Option<usize>
     ensures { result ≡ index_of same_node map.now node }

@@ -1,7 +1,7 @@
 //! The tests that the manager makes before it changes anything, each with the refusal that it
 //! answers.
 
-ghost use Rattle.std.specs.Prelude.{◌≡◌, ◌∷◌, [], true};
+ghost use Rattle.std.specs.Prelude.{◌≡◌, true};
 ghost use Rattle.gl_graph.specs.Graph.{is_live};
 ghost use Rattle.gl_graph.specs.Refusals.{first_refusal, verdict};
 ghost use Rattle.gl_model.specs.Calls.{commit_tests, first_not_ix};
@@ -11,7 +11,7 @@ ghost use Rattle.gl_catalog.specs.Manager.{state_of};
 ghost use Rattle.gl_steps.specs.Tests.{worn};
 
 use super::Manager;
-use gl_modes::{Mode, NodeId, Refusal, covers};
+use gl_modes::{Mode, NodeId, Refusal};
 use gl_table::TxnId;
 
 impl Manager {
@@ -62,27 +62,12 @@ impl Manager {
         }
     }
 
-    /// Whether a living transaction holds a node in IX or greater, as one who writes below it must.
-    pub(super) fn check_writes(&self, t: TxnId, n: NodeId) -> Result<(), Refusal>
-        requires txn { lives (state_of self.now) t ≡ true }
-        ensures { result ≡ verdict (first_not_ix ((state_of self.now).held t.slot) (n ∷ [])) }
-    {
-        if covers(self.mode(t, n), Mode::IX) {
-            Ok(())
-        } else {
-            Err(Refusal::NeedParents { node: n })
-        }
-    }
-
     /// Whether a living transaction holds each of these in IX or greater; refused with the first that
     /// it does not.
     pub(super) fn check_writable(&self, t: TxnId, nodes: &[NodeId]) -> Result<(), Refusal>
         requires txn { lives (state_of self.now) t ≡ true }
         ensures { result ≡ verdict (first_not_ix ((state_of self.now).held t.slot) nodes.now) }
     {
-        for node in nodes {
-            self.check_writes(t, *node)?;
-        }
-        Ok(())
+        self.table.check_writable(t, nodes)
     }
 }

@@ -8,9 +8,10 @@ use Rattle.gl_table.proofs.Words.{lookup_from_place, map, Members, members, memb
 use Rattle.gl_table.proofs.Words.{node_equivalence, NodeId, nodes, None, none_some, not, not_held, not_true, Ok, Option, option_map}
 use Rattle.gl_table.proofs.Words.{option_map_or, queue_of, range-from_each, refl, Refusal, Refuses, RefusesOnly, Result, row_of, rows_of, rule_refusal}
 use Rattle.gl_table.proofs.Words.{same_mode, same_node, shown, slice_get, slice_get-get_or, slice_get-map, slot_limit, Some, split, StandOnce, State, state_of}
-use Rattle.gl_table.proofs.Words.{subst, suc, sum_by-cons, sym, TableView, true, txns_of, unused-nobody, verdict, view_of, where_true, zero, ℕ}
+use Rattle.gl_table.proofs.Words.{subst, suc, sum_by-cons, sym, TableView, true, Txn, txns_of, unused-nobody, verdict, view_of, where_true, zero, ℕ}
 use Rattle.gl_model.proofs.queues.Walks.{same}
 use Rattle.gl_model.specs.Calls.{RefusesLock, lock_tests}
+use Rattle.gl_model.specs.State.{live_by}
 use Rattle.gl_model.specs.declared.txn.TxnId.{TxnId}
 use Rattle.gl_model.proofs.telling.Lists.{place}
 use Rattle.gl_table.specs.declared.table.Table.TheInside.{Inside}
@@ -18,6 +19,11 @@ use Rattle.std.specs.List.{All}
 use Rattle.gl_modes.specs.declared.refusal.Refusal.TheVariants as no
 use Rattle.gl_model.proofs.law.Keeps.{lawful-within}
 use Rattle.gl_model.proofs.law.Records.{free-idle, idle-free}
+
+-- who lives has a name
+pub named : (age : ℕ) (o : Option Txn) → live_by age o ≡ true → is_some o ≡ true
+named age None h = absurd (cc)
+named age (Some x) h = refl
 
 -- What the lists say of held children, as the tests of an unlock.
 

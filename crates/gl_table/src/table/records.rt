@@ -13,7 +13,7 @@ ghost use Rattle.gl_table.specs.Table.{state_of};
 ghost use Rattle.gl_model.specs.Tellings.{told};
 
 use super::Table;
-use crate::rule::check_rule;
+use crate::rule::{check_rule, check_writable};
 use gl_model::{Told, TxnId};
 use gl_modes::{Mode, NodeId, Refusal};
 
@@ -82,6 +82,15 @@ impl Table {
         ensures { result ≡ verdict (rule_refusal ((state_of self.now).held t.slot) parents.now mode) }
     {
         check_rule(&self.locks.ledger.lists[t.slot as usize], parents, mode)
+    }
+
+    /// Whether a living transaction holds each of these in IX or greater, as one who writes below them
+    /// must. Refused with `NeedParents`: the first that it does not. It takes no memory.
+    pub fn check_writable(&self, t: TxnId, nodes: &[NodeId]) -> Result<(), Refusal>
+        requires txn { lives (state_of self.now) t ≡ true }
+        ensures { result ≡ verdict (first_not_ix ((state_of self.now).held t.slot) nodes.now) }
+    {
+        check_writable(&self.locks.ledger.lists[t.slot as usize], nodes)
     }
 
     /// Makes a record of a file that nobody holds, with a key for each of the file's indexes, in order
