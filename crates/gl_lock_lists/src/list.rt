@@ -139,7 +139,7 @@ impl LockList {
     }
 
     /// Lists a node, with the count of its held children.
-    #[inline]
+    #[inline(always)]
     pub fn enter(&mut self, n: NodeId, mode: Mode)
         requires new { is_listed self.old n ≡ false }
         requires room { 0 < spare self.old.entries }
@@ -182,6 +182,7 @@ impl LockList {
     }
 
     /// Counts one held child more of each of these nodes.
+    #[inline(always)]
     pub fn count_up(&mut self, parents: &[NodeId])
         requires room { unlisted self.old parents.now ≤ spare self.old.loose }
         requires few { (q : Node) → list_any (same_node q) parents.now ≡ true → count_of self.old q + count_by (same_node q) parents.now < 2 ^ 32 }

@@ -182,7 +182,7 @@ impl Ledger {
     /// Takes the grant of a slot from the header of a node, which then grants from its front. The
     /// slot's own list is left as it is. The list `granted` is filled anew; whoever drops several
     /// grants has one for all.
-    #[inline]
+    #[inline(always)]
     pub(crate) fn drop_and_wake(
         &mut self,
         graph: &Graph,
