@@ -279,6 +279,7 @@ impl Headers {
 
     /// Takes a grant away, and grants from the front of the node's queue. The list is filled anew with
     /// those whom it granted, in the queue's order. It takes no memory.
+    #[inline(always)]
     pub fn drop_grant(&mut self, slot: Slot, node: NodeId, granted: &mut GrantList)
         requires holds { holds (members_at self.old.entries node) slot ≡ true }
         requires not_waiting { is_among_waiters slot (queue_of self.old.entries node) ≡ false }

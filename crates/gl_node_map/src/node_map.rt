@@ -199,7 +199,7 @@ impl<V: Copy> NodeMap<V> {
     }
 
     /// Puts a value last, under a node that has none. There must be room.
-    #[inline]
+    #[inline(always)]
     pub fn insert_new(&mut self, node: NodeId, value: V)
         requires new { get same_node self.old node ≡ None }
         requires room { 0 < spare self.old }

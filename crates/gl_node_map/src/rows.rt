@@ -115,8 +115,22 @@ pub(crate) fn take_out<V: Copy>(map: &mut IndexMap<NodeId, V>, node: NodeId) -> 
         let (_, value) = map.swap_remove_index(last)?;
         Some(value)
     } else {
-        map.swap_remove(&node)
+        search_out(map, node)
     }
+}
+
+/// The same by its hash.
+#[inline(never)]
+fn search_out<V: Copy>(map: &mut IndexMap<NodeId, V>, node: NodeId) -> Option<V>
+    ensures value { result ≡ get same_node map.old node }
+    ensures updates { Updates same_node map.old map.new node None }
+    ensures entries { map.new.entries ≡ swap_remove_entry (same_node node) map.old.entries }
+    ensures unchanged { IfNone result (IsUnchanged map.old map.new) }
+    ensures len { index_map_len map.new + (if is_some result then 1 else 0) ≡ index_map_len map.old }
+    ensures room { spare map.old ≤ spare map.new }
+    ensures unique { IsUnique same_node map.new }
+{
+    map.swap_remove(&node)
 }
 
 /// Moves all rows into the map, in their order.

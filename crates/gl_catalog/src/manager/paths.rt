@@ -58,9 +58,9 @@ impl Manager {
     ///
     /// Refused, in this order, with `WornOut`, `NoSuchTxn`, `TxnWaiting`, `TxnCondemned`,
     /// `NoSuchNode` and `BadMode` before anything is locked; with `WornOut` and `NoMemory` also on
-    /// the way. It wants memory for locks alone. The node itself is asked first, so that where all above
-    /// it is held nothing else is looked at. Else the way up is looked at before it is locked: to write
-    /// once, from each node that wants another parent once more, to read from the node for each ask.
+    /// the way. It wants memory for locks alone. Who holds something asks for the node first: where all
+    /// above it is held nothing else is looked at. Else the way up is looked at before it is locked: to
+    /// write once, from each node that wants another parent once more, to read from the node for each ask.
     pub fn lock_path_telling(
         &mut self,
         t: TxnId,
@@ -77,6 +77,9 @@ impl Manager {
     {
         self.law();
         let mut above = Above::new();
+        if self.table.lock_count(t) == Some(0) {
+            self.climb(t, node, mode, &mut above); // Its parents are wanted, if it has any.
+        }
         'path: loop {
             let reached = self.lock_first(t, node, mode, &mut above, told)?;
             // A grant is counted, so that the path ends where the count does, if not before.
