@@ -149,6 +149,36 @@ fn a_header_is_found_by_its_key(rt: HostRuntime) {
     asks(&rt, &mut headers, 6, other, Mode::S, None);
 }
 
+/// The modes in which slots 4, 5 and 6 hold a node.
+fn modes_of(headers: &Headers, node: NodeId) -> [Mode; 3] {
+    [
+        headers.mode_of(4, node),
+        headers.mode_of(5, node),
+        headers.mode_of(6, node),
+    ]
+}
+
+#[test]
+fn each_slot_has_its_mode(rt: HostRuntime) {
+    let mut headers = new_headers(&rt, rt.alloc());
+    let (node, later) = (node_of(70, 2), node_of(70, 3));
+    same(&rt, modes_of(&headers, node), [Mode::NL; 3]);
+    gets(&rt, &mut headers, 5, node, Mode::IX);
+    same(
+        &rt,
+        modes_of(&headers, node),
+        [Mode::NL, Mode::IX, Mode::NL],
+    );
+    same(&rt, modes_of(&headers, later), [Mode::NL; 3]);
+    gets(&rt, &mut headers, 6, node, Mode::IS);
+    asks(&rt, &mut headers, 4, node, Mode::X, Some(Asked::Waiting));
+    same(
+        &rt,
+        modes_of(&headers, node),
+        [Mode::NL, Mode::IX, Mode::IS],
+    );
+}
+
 #[test]
 fn a_key_is_used_again(rt: HostRuntime) {
     let mut headers = new_headers(&rt, rt.alloc());
