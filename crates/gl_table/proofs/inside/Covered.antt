@@ -1,7 +1,10 @@
 -- An ask for no more than is held: it is granted at once, and changes nothing. For asks.
-use Rattle.gl_table.proofs.Words.{◌&&◌, ◌==◌, ◌∙◌, ◌≡◌, ◌≢◌, and_both, ap, ap₂, are_compatible, AreHeaders, Asked, both, clash, enters_at, fun_ext, granted, header_at}
-use Rattle.gl_table.proofs.Words.{header_or_new, HeaderState, held_of, holds, is_at_least, is_granted_at, MayAct, members_of, Mode, NL, NodeId, None, not, not_NL}
-use Rattle.gl_table.proofs.Words.{Option, or_left, refl, same_mode-equal, same_node, same_node-equal, same_number, slot_limit, Some, split, if◌then◌else◌, State, state_in, subst}
+use Rattle.gl_table.proofs.Words.{AreHeaders, and_both, ap, ap₂, are_compatible, both, clash, enters_at, fun_ext, granted, header_at, ◌&&◌, ◌==◌}
+use Rattle.gl_table.proofs.Words.{◌∙◌, ◌≡◌, ◌≢◌}
+use Rattle.gl_table.proofs.Words.{HeaderState, MayAct, Mode, NL, NodeId, None, header_or_new, held_of, holds, is_at_least, is_granted_at, members_of, not}
+use Rattle.gl_table.proofs.Words.{not_NL}
+use Rattle.gl_table.proofs.Words.{Option, Some, State, if◌then◌else◌, or_left, refl, same_mode-equal, same_node, same_node-equal, same_number, slot_limit}
+use Rattle.gl_table.proofs.Words.{split, state_in}
 use Rattle.gl_table.proofs.Words.{supremum, sym, true, View, ℕ, at_least-not_NL}
 use Rattle.gl_header.specs.State.{IsLawfulHeader, is_granted, wanted}
 use Rattle.gl_header.specs.declared.header.Asked.TheVariants as asked
@@ -51,7 +54,8 @@ module _ (g : View) (l : Ledger) (t : ℕ) (n : NodeId) (m : Mode) (may : MayAct
   -- so the answer is what is held
   pub covered-asked : HasAsked s s t n m (asked.Granted (s.held t n))
   covered-asked = record {
-    answered = sym (ap (λ b. if b then asked.Granted (supremum (s.held t n) m) else asked.Waiting) enters ∙ ap asked.Granted (covered-wanted (s.held t n) m covers));
+    answered = sym (ap (λ b. if b then asked.Granted (supremum (s.held t n) m) else asked.Waiting) enters
+        ∙ ap asked.Granted (covered-wanted (s.held t n) m covers));
     enters = λ e. stays;
     waits = λ e. absurd (clash enters e);
   }

@@ -1,8 +1,8 @@
 -- A slot leaves its nodes one after the other. For commits, aborts and escalations.
-use Rattle.gl_table.proofs.Words.{[], ◌&&◌, ◌+◌, ◌<◌, ◌==◌, ◌||◌, ◌∙◌, ◌≡◌, Active, after_grants, Agrees, and-false, and-not_self, and-true, and_both, ap, ap₂}
+use Rattle.gl_table.proofs.Words.{[], ◌&&◌, ◌+◌, ◌==◌, ◌||◌, ◌∙◌, ◌≡◌, Active, after_grants, Agrees, and-false, and-not_self, and-true, and_both, ap, ap₂}
 use Rattle.gl_table.proofs.Words.{arith, Bool, cancelled, CanTell, clash, count_by, CountsHeld, drop, false, front, front_at, fun_ext, grant_notice, granted_at}
 use Rattle.gl_table.proofs.Words.{held_children, holds, if◌then◌else◌, is_among_waiters, is_wait, is_waiting_at, IsBySlot, IsLawfulGraph, IsOnWay, IsOrderly}
-use Rattle.gl_table.proofs.Words.{length, List, listed, LockList, members, Mode, mode_given, nat_tests, NL, NodeId, nodes_by, None, not, not_true, notices_in}
+use Rattle.gl_table.proofs.Words.{length, List, LockList, members, Mode, mode_given, nat_tests, NL, NodeId, nodes_by, None, not, not_true, notices_in}
 use Rattle.gl_table.proofs.Words.{number_same, Option, or-false, or-true, or_comm, parents_of, pumped, refl, released, restatus, same_mode, same_node}
 use Rattle.gl_table.proofs.Words.{same_node-equal, same_node-refl, same_node-sym, Some, split, State, Status, status_in, status_of, stripped, subst, sym, Told}
 use Rattle.gl_table.proofs.Words.{told_to, true, Txn, TxnId, unlocked, Waiter, Waiting, WakesLists, WakesTold, with_grant, with_txn, without_wait}
@@ -11,7 +11,7 @@ use Rattle.gl_model.specs.declared.answers.Notice.TheVariants as notice
 use Rattle.gl_table.proofs.inside.Released.{agrees_unlocked, counts_unlocked, unlocked_own}
 use Rattle.gl_model.proofs.law.Keeps.{waiting_is}
 use Rattle.gl_lock_lists.proofs.Children.{nl_is}
-use Rattle.gl_model.proofs.queues.Counts.{children_down, fewer}
+use Rattle.gl_model.proofs.queues.Counts.{children_down}
 use Rattle.gl_model.proofs.queues.Edits.{without_none}
 use Rattle.gl_model.proofs.queues.Fronts.{granted_waits, out_of_own, pumped-pumped, stripped_after}
 use Rattle.gl_model.proofs.queues.Waiters.{grants_other, if-false, if-true}

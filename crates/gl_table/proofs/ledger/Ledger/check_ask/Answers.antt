@@ -1,4 +1,5 @@
-use Rattle.gl_table.proofs.Words.{◌∙◌, ◌≡◌, ap, ap₂, bad_mode, commit_tests, first_refusal, fun_ext, graph_of, held_by, held_of, lock_tests, mode_of, NL, NodeId, None}
+use Rattle.gl_table.proofs.Words.{NL, NodeId, None, ap, ap₂, bad_mode, commit_tests, first_refusal, fun_ext, graph_of, held_by, held_of, lock_tests}
+use Rattle.gl_table.proofs.Words.{mode_of, ◌∙◌, ◌≡◌}
 use Rattle.gl_table.proofs.Words.{parents_of, rule_refusal, rules, state_in, supremum, sym, where_true}
 use Rattle.gl_modes.specs.declared.refusal.Refusal.TheVariants as no
 use Rattle.gl_graph.specs.Graph.{node_at, shape_of}
@@ -55,7 +56,8 @@ module _ (c : After-check_rule) where
   left =
       rule_decides (state_in c.args.graph.now c.args.self.now) c.args.t c.args.node c.args.mode may
       (live_by (node_at (graph_of c.args.graph.now) c.args.node) c.in-Some.kind c.in-Some.ensures.kind) good
-      ∙ ap (λ h. rule_refusal h (parents_of (graph_of c.args.graph.now) c.args.node) (supremum (held_of c.args.self.now.headers.entries c.args.t.slot c.args.node) c.args.mode))
+      ∙ ap (λ h. rule_refusal h (parents_of (graph_of c.args.graph.now) c.args.node)
+      (supremum (held_of c.args.self.now.headers.entries c.args.t.slot c.args.node) c.args.mode))
       (fun_ext (λ q. sym (said q ∙ (c.requires.exact.agree c.args.t.slot).modes q)))
       ∙ ap₂ (rule_refusal (mode_of c.index-list.result.now)) (sym c.in-Some.ensures.parents)
       (sym (c.sup.ensures ∙ ap (λ h. supremum h c.args.mode) c.mode_of-held.ensures))

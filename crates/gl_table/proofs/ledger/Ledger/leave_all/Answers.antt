@@ -1,4 +1,5 @@
-use Rattle.gl_table.proofs.Words.{◌-◌, ◌==◌, ◌||◌, ◌∙◌, ◌≡◌, ◌&&◌, ap, arith, holds, is_wait, length, List, list_any, members, NodeId, nodes_by, none_some, not, or-false, true}
+use Rattle.gl_table.proofs.Words.{List, NodeId, ap, arith, holds, length, list_any, members, nodes_by, none_some, not, or-false, true, ◌&&◌, ◌-◌}
+use Rattle.gl_table.proofs.Words.{◌||◌, ◌∙◌, ◌≡◌}
 use Rattle.gl_table.proofs.Words.{same_node, slice_get, slice_get-get_or, refl, false, Some, State, state_in, subst, sym, take, ℕ}
 use Rattle.std.proofs.lemmas.List.{take_all}
 use Rattle.gl_lock_lists.proofs.Children.{nl_is}
