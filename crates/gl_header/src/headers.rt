@@ -197,15 +197,18 @@ impl Headers {
         }
     }
 
-    /// The mode in which a slot holds a node, `NL` for none.
+    /// The mode in which a slot holds a node, `NL` for none; `None` where the node has a header of its own,
+    /// as one that several hold.
     #[inline]
-    pub fn mode_of(&self, slot: Slot, node: NodeId) -> Mode
-        ensures { result ≡ held_of self.now.entries slot node }
+    pub fn mode_in_place(&self, slot: Slot, node: NodeId) -> Option<Mode>
+        ensures mode { IfSome result (λ mode. mode ≡ held_of self.now.entries slot node) }
+        ensures none { IfNone result (is_some (header_at self.now.entries node) ≡ true) }
     {
         match self.seen(node) {
-            Seen::One(holder, mode) if holder == slot => mode,
-            Seen::Shared(header) => header.mode_of(slot),
-            _ => Mode::NL,
+            Seen::Nobody => Some(Mode::NL),
+            Seen::One(holder, mode) if holder == slot => Some(mode),
+            Seen::One(..) => Some(Mode::NL),
+            Seen::Shared(_) => None,
         }
     }
 

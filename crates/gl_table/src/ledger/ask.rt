@@ -85,10 +85,10 @@ impl Ledger {
     {
         graph.law();
         self.headers.law();
-        if covers(held, mode) {
+        let is_member = held != Mode::NL;
+        if is_member && covers(held, mode) {
             return Ok(Asked::Granted(held)); // Nothing changes.
         }
-        let is_member = held != Mode::NL;
         let Ok(()) = self.make_room_to_ask(slot, node, mode, is_member) else {
             return Err(Refusal::NoMemory);
         };

@@ -7,6 +7,7 @@ ghost use Rattle.gl_graph.specs.Graph.{Graph as AGraph, parents_of};
 ghost use Rattle.gl_graph.specs.Refusals.{first_refusal, verdict};
 ghost use Rattle.gl_graph.specs.Shapes.{Shape, is_record_shape, kind_in};
 ghost use Rattle.gl_graph.specs.View.{graph_of};
+ghost use Rattle.gl_header.specs.Headers.{held_of};
 ghost use Rattle.gl_table.specs.inside.Ledger.{AreExact, state_in, state_on};
 ghost use Rattle.gl_table.specs.inside.Slots.{held_by};
 ghost use Rattle.gl_model.specs.Calls.{commit_tests, lock_tests};
@@ -16,6 +17,7 @@ use crate::rule::check_rule;
 use gl_graph::{Graph, Kind};
 use gl_model::{Status, TxnId};
 use gl_modes::{Mode, NodeId, Refusal, sup};
+use gl_slots::Slot;
 
 impl Ledger {
     /// Whether the name names a transaction that lives and neither waits nor is condemned.
@@ -30,6 +32,19 @@ impl Ledger {
                 Status::Condemned => Err(Refusal::TxnCondemned),
             },
             _ => Err(Refusal::NoSuchTxn),
+        }
+    }
+
+    /// The mode in which a slot holds a node, `NL` for none. A node is looked for in the slot's list only
+    /// where others hold it or wait for it: most are new, and would be looked for in vain.
+    #[inline(always)]
+    fn held(&self, slot: Slot, node: NodeId) -> Mode
+        requires agree { held_by self.now.lists.items slot node ≡ held_of self.now.headers.entries slot node }
+        ensures { result ≡ held_by self.now.lists.items slot node }
+    {
+        match self.headers.mode_in_place(slot, node) {
+            Some(mode) => mode,
+            None => self.mode(slot, node),
         }
     }
 
@@ -56,7 +71,7 @@ impl Ledger {
         if is_bad_mode(kind, mode) {
             return Err(Refusal::BadMode);
         }
-        let held = self.headers.mode_of(t.slot, node); // A list would look for a new node in vain.
+        let held = self.held(t.slot, node);
         let list = &self.lists[t.slot as usize];
         check_rule(list, parents, sup(held, mode))?;
         Ok((held, parents))

@@ -95,20 +95,20 @@ pub set_mode-requires : goal.set_mode-requires
 set_mode-requires c =
     let p = (goal.at.set_mode-requires c).After-make_room_to_ask in
     own-listed c.args.graph.now c.make_room_to_ask.new.self c.args.slot (may_now p) c.index_mut-list.result.now c.index_mut-list.ensures.value
-    c.args.node ∙ member_now p ∙ c.if-is_member.true
+    c.args.node ∙ member_now p ∙ c.if-is_member-2.true
 
 pub enter-requires-clause-new : goal.enter-requires-clause-new
 enter-requires-clause-new c =
     let p = (goal.at.enter-requires-clause-new c).After-make_room_to_ask in
     own-listed c.args.graph.now c.make_room_to_ask.new.self c.args.slot (may_now p) c.index_mut-list.result.now c.index_mut-list.ensures.value
-    c.args.node ∙ member_now p ∙ c.if-is_member.false
+    c.args.node ∙ member_now p ∙ c.if-is_member-2.false
 
 pub enter-requires-clause-room : goal.enter-requires-clause-room
 enter-requires-clause-room c =
     (own-room c.args.graph.now c.make_room_to_ask.new.self c.args.slot (may_now (goal.at.enter-requires-clause-room c).After-make_room_to_ask)
     c.index_mut-list.result.now c.index_mut-list.ensures.value
     (c.in-Ok.ensures.room (ap (λ b. b && is_granted_at c.args.self.now.headers.entries c.args.slot c.args.node c.args.mode)
-    c.if-is_member.false))).0
+    c.if-is_member-2.false))).0
 
 pub count_up-requires-clause-room : goal.count_up-requires-clause-room
 count_up-requires-clause-room c =
@@ -116,7 +116,7 @@ count_up-requires-clause-room c =
     let room = (own-room c.args.graph.now c.make_room_to_ask.new.self c.args.slot
     (may_now (goal.at.count_up-requires-clause-room c).After-make_room_to_ask) x c.index_mut-list.ensures.value
     (c.in-Ok.ensures.room (ap (λ b. b && is_granted_at c.args.self.now.headers.entries c.args.slot c.args.node c.args.mode)
-    c.if-is_member.false))).1 in
+    c.if-is_member-2.false))).1 in
     let kept = c.enter.ensures.room in
     subst (λ ps. unlisted c.enter.new.self ps ≤ spare c.enter.new.self.loose) (sym c.requires.can.parents_are)
     (parents-room c.args.graph.now c.law.ensures.lawful c.args.node c.enter.new.self (omega arith))
@@ -158,11 +158,11 @@ put_raised c m held = let g = c.args.graph.now in let l = c.make_room_to_ask.new
     is_granted _ r c.in_ok-asked.asked c.in-Granted.wanted c.law.ensures.lawful c.requires.can.live
     c.requires.can.lock c.in_ok-asked.ensures.answer c.in-Granted.is c.in_ok-asked.ensures.asked.granted refl
     (has_node-set l.lists.items t x x' listed c.index_mut-list.ensures.value n c.in-Granted.wanted c.set_mode.ensures.modes
-    (λ q. c.set_mode.ensures.listed q ∙ also_listed x n (own-listed g l t r.may x c.index_mut-list.ensures.value n ∙ r.is_held ∙ c.if-is_member.true) q))
+    (λ q. c.set_mode.ensures.listed q ∙ also_listed x n (own-listed g l t r.may x c.index_mut-list.ensures.value n ∙ r.is_held ∙ c.if-is_member-2.true) q))
     (counts-entered l.lists.items t x x' listed c.index_mut-list.ensures.value
     (λ q. if same_mode (held_of l.headers.entries t n) NL then count_by (same_node q) (parents_of (graph_of g) n) else 0)
     (λ q. c.set_mode.ensures.counts q ∙ none_more (count_of x q)
-    ∙ ap (λ b. count_of x q + (if b then count_by (same_node q) (parents_of (graph_of g) n) else 0)) (sym (not-true _ (r.is_held ∙ c.if-is_member.true)))))
+    ∙ ap (λ b. count_of x q + (if b then count_by (same_node q) (parents_of (graph_of g) n) else 0)) (sym (not-true _ (r.is_held ∙ c.if-is_member-2.true)))))
 
 -- a newcomer is granted: its list has the node
 put_new : (c : After-count_up) → MayAct c.args.graph.now c.args.self.now c.args.slot
@@ -184,7 +184,7 @@ put_new c m held = let g = c.args.graph.now in let l = c.make_room_to_ask.new.se
     (counts-entered l.lists.items t x x' listed c.index_mut-list.ensures.value
     (λ q. if same_mode (held_of l.headers.entries t n) NL then count_by (same_node q) (parents_of (graph_of g) n) else 0)
     (λ q. c.count_up.ensures.counts q ∙ ap₂ (λ k ps. k + count_by (same_node q) ps) (c.enter.ensures.counts q) c.requires.can.parents_are
-    ∙ ap (λ b. count_of x q + (if b then count_by (same_node q) (parents_of (graph_of g) n) else 0)) (sym (not-false _ (r.is_held ∙ c.if-is_member.false)))))
+    ∙ ap (λ b. count_of x q + (if b then count_by (same_node q) (parents_of (graph_of g) n) else 0)) (sym (not-false _ (r.is_held ∙ c.if-is_member-2.false)))))
 
 -- the list of one who waits has the node
 listed : (c : After-set_status) → MayAct c.args.graph.now c.make_room_to_ask.new.self c.args.slot
