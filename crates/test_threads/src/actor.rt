@@ -285,16 +285,15 @@ impl<N: Naming, R: Wait + Abort> Actor<'_, '_, N, R> {
     }
 }
 
-/// Has a session ask at least so many commands, and commit. Gives back its share and what it asked.
-pub fn acts<N: Naming, R: Wait + Abort>(
-    rt: &R,
+/// A session that has begun a transaction.
+fn begun<'a, 'b, N: Naming, R: Wait + Abort>(
+    rt: &'a R,
     alloc: Global,
-    table: &Shared<N>,
-    forest: &Forest,
+    table: &'b Shared<N>,
+    forest: &'a Forest,
     share: Share<N>,
     number: u64,
-    commands: u32,
-) -> (Share<N>, Vec<Entry>) {
+) -> Actor<'a, 'b, N, R> {
     let mut actor = Actor {
         rt,
         alloc,
@@ -308,13 +307,11 @@ pub fn acts<N: Naming, R: Wait + Abort>(
         told: Told::new(),
     };
     actor.begins();
-    for _ in 0..commands {
-        if actor.diary.len() >= commands as usize {
-            break;
-        }
-        actor.goes_on();
-        yield_now(); // Else one after the other could do all its work, where processors are few.
-    }
+    actor
+}
+
+/// Its share and what it asked, once it has committed.
+fn ended<N: Naming, R: Wait + Abort>(mut actor: Actor<'_, '_, N, R>) -> (Share<N>, Vec<Entry>) {
     actor.commits();
     let Actor {
         rt: _,
@@ -329,4 +326,42 @@ pub fn acts<N: Naming, R: Wait + Abort>(
         told: _,
     } = actor;
     (session.end(), diary)
+}
+
+/// Has a session ask at least so many commands, and commit. Gives back its share and what it asked.
+pub fn acts<N: Naming, R: Wait + Abort>(
+    rt: &R,
+    alloc: Global,
+    table: &Shared<N>,
+    forest: &Forest,
+    share: Share<N>,
+    number: u64,
+    commands: u32,
+) -> (Share<N>, Vec<Entry>) {
+    let mut actor = begun(rt, alloc, table, forest, share, number);
+    for _ in 0..commands {
+        if actor.diary.len() >= commands as usize {
+            break;
+        }
+        actor.goes_on();
+        yield_now(); // Else one after the other could do all its work, where processors are few.
+    }
+    ended(actor)
+}
+
+/// Has a session that is alone with the table insert a record and escalate to its file. Gives back its
+/// share and what it asked. Among many an escalation is granted only by chance.
+pub fn escalates_alone<N: Naming, R: Wait + Abort>(
+    rt: &R,
+    alloc: Global,
+    table: &Shared<N>,
+    forest: &Forest,
+    share: Share<N>,
+) -> (Share<N>, Vec<Entry>) {
+    let mut actor = begun(rt, alloc, table, forest, share, 0);
+    actor.inserts();
+    let (txn, node) = (actor.txn, forest.nodes[FILES + part(actor.beside)]);
+    let escalated = actor.ask_plain(Command::Escalate { txn, node });
+    assert!(rt; matches!(escalated, Answer::Escalated(_)));
+    ended(actor)
 }

@@ -1,6 +1,6 @@
 //! 128 sessions ask what they draw, and what they did was one run.
 
-use crate::actor::{Act, Entry, acts};
+use crate::actor::{Act, Entry, acts, escalates_alone};
 use crate::forest::{Forest, add_forest};
 use crate::stage::{enact, new_manager, suspect_on};
 use crate::story::Story;
@@ -91,11 +91,13 @@ fn settle<N: Naming, R: Wait + Abort>(rt: &R, session: &mut Session<'_, N>, txn:
     }
 }
 
-/// Settles the youngest suspect of each look until the others have ended, and writes down what it asked.
+/// Settles the youngest suspect of each look until the others have ended, then escalates, and writes down
+/// what it asked.
 fn settles_all<N: Naming, R: Wait + Abort>(
     rt: &R,
     alloc: Global,
     table: &Shared<N>,
+    forest: &Forest,
     share: Share<N>,
     watcher: &mut Watcher<N>,
     ended: &AtomicBool,
@@ -111,10 +113,9 @@ fn settles_all<N: Naming, R: Wait + Abort>(
         }
         yield_now();
     }
-    Left {
-        share: session.end(),
-        diary,
-    }
+    let (share, last) = escalates_alone(rt, alloc, table, forest, session.end());
+    let _ = diary.extend_from_slice(last.as_slice());
+    Left { share, diary }
 }
 
 /// A seat for each share.
@@ -178,7 +179,7 @@ impl Crowd {
         let (left, settler) = join(
             rt,
             move || act_all(rt, alloc, table, forest, seats, flag),
-            move || settles_all(rt, alloc, table, share, looking, flag),
+            move || settles_all(rt, alloc, table, forest, share, looking, flag),
         );
         let mut left = left.unwrap_or(Vec::new(alloc));
         let _ = left.push(settler);
