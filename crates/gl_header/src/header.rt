@@ -199,15 +199,22 @@ impl Header {
         ensures at_once { is_granted self.old slot mode ≡ true → IsOk result }
         ensures lawful { IsLawfulHeader self.new }
     {
-        match self.enter_or_wait(slot, mode) {
+        match self.enter_or_wait(slot, self.mode_of(slot), mode) {
             Ok(asked) => Ok(asked),
             Err(_) => Err(Refusal::NoMemory),
         }
     }
 
-    /// As `ask`, with its one refusal in the shape that takes no room in the answer.
-    pub(crate) fn enter_or_wait(&mut self, slot: Slot, mode: Mode) -> Result<Asked, AllocError>
+    /// As `ask`, where the slot holds the mode `held`, with its one refusal in the shape that takes no
+    /// room in the answer.
+    pub(crate) fn enter_or_wait(
+        &mut self,
+        slot: Slot,
+        held: Mode,
+        mode: Mode,
+    ) -> Result<Asked, AllocError>
         requires may { MayAsk self.old.queue slot mode }
+        requires held { held ≡ members_of self.old slot }
         ensures answer { IfOk result (λ answer. answer ≡ asked self.old slot mode) }
         ensures members { OnOk result (members_of self.new ≡ asked_members self.old slot mode) }
         ensures queue { OnOk result (self.new.queue ≡ asked_queue self.old slot mode) }
@@ -215,7 +222,6 @@ impl Header {
         ensures at_once { is_granted self.old slot mode ≡ true → IsOk result }
         ensures lawful { IsLawfulHeader self.new }
     {
-        let held = self.mode_of(slot);
         let wanted = sup(held, mode);
         if self.enters(slot, held, wanted) {
             self.granted.hold(slot, held, wanted);

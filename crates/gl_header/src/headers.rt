@@ -197,18 +197,16 @@ impl Headers {
         }
     }
 
-    /// The mode in which a slot holds a node, `NL` for none; `None` where the node has a header of its own,
-    /// as one that several hold.
+    /// The mode in which a slot holds a node, `NL` for none.
     #[inline]
-    pub fn mode_in_place(&self, slot: Slot, node: NodeId) -> Option<Mode>
-        ensures mode { IfSome result (λ mode. mode ≡ held_of self.now.entries slot node) }
-        ensures none { IfNone result (is_some (header_at self.now.entries node) ≡ true) }
+    pub fn mode_of(&self, slot: Slot, node: NodeId) -> Mode
+        ensures { result ≡ held_of self.now.entries slot node }
     {
         match self.seen(node) {
-            Seen::Nobody => Some(Mode::NL),
-            Seen::One(holder, mode) if holder == slot => Some(mode),
-            Seen::One(..) => Some(Mode::NL),
-            Seen::Shared(_) => None,
+            Seen::Nobody => Mode::NL,
+            Seen::One(holder, mode) if holder == slot => mode,
+            Seen::One(..) => Mode::NL,
+            Seen::Shared(header) => header.mode_of(slot),
         }
     }
 
@@ -258,10 +256,18 @@ impl Headers {
         }
     }
 
-    /// Asks for a mode: it is granted at once, or the slot waits in its place. The only refusal is
-    /// `NoMemory`; a member that is granted at once never meets it.
-    pub fn ask(&mut self, slot: Slot, node: NodeId, mode: Mode) -> Result<Asked, Refusal>
+    /// Asks for a mode, where the slot holds the node in the mode `held`: it is granted at once, or the
+    /// slot waits in its place. The only refusal is `NoMemory`; a member that is granted at once never
+    /// meets it.
+    pub fn ask(
+        &mut self,
+        slot: Slot,
+        node: NodeId,
+        held: Mode,
+        mode: Mode,
+    ) -> Result<Asked, Refusal>
         requires may { MayAsk (queue_of self.old.entries node) slot mode }
+        requires held { held ≡ held_of self.old.entries slot node }
         requires alone { HasItsKey self.old.entries node }
         ensures answer { IfOk result (λ answer. answer ≡ asked (header_or_new (header_at self.old.entries node)) slot mode) }
         ensures asked { OnOk result (IsAskedAt self.old.entries slot node mode self.new.entries) }
@@ -274,7 +280,8 @@ impl Headers {
             return Err(Refusal::NoMemory);
         };
         let place = &mut self.places[node.key];
-        let Ok(asked) = ask_at(place, self.alloc, &mut self.spare, node.birth, slot, mode) else {
+        let spare = &mut self.spare;
+        let Ok(asked) = ask_at(place, self.alloc, spare, node.birth, slot, held, mode) else {
             return Err(Refusal::NoMemory);
         };
         Ok(asked)

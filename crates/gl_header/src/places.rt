@@ -107,7 +107,7 @@ pub(crate) fn grow(places: &mut Vec<Place>, key: usize) -> Result<(), AllocError
     add_places(places, key)
 }
 
-/// Makes places up to that of a key, which has none yet.
+/// Makes places up to that of a key, which has none yet, and as many more as there is room for then.
 #[cold]
 #[inline(never)]
 fn add_places(places: &mut Vec<Place>, key: usize) -> Result<(), AllocError>
@@ -120,7 +120,8 @@ fn add_places(places: &mut Vec<Place>, key: usize) -> Result<(), AllocError>
     let Some(len) = key.checked_add(1) else {
         return Err(AllocError);
     };
-    places.resize_with(len, || Place::Free)?;
+    places.reserve(len - places.len())?;
+    places.resize_with(places.capacity(), || Place::Free)?;
     Ok(())
 }
 
@@ -167,19 +168,22 @@ fn share(
     Ok(here)
 }
 
-/// Asks at a place that has the node of this birth, or none: a first holder and its conversions stand
-/// there in place, a second slot takes a box. Where there is no memory, the place stays as it is.
+/// Asks at a place that has the node of this birth, or none, where the slot holds the mode `held`: a first
+/// holder and its conversions stand there in place, a second slot takes a box. Where there is no memory,
+/// the place stays as it is.
 pub(crate) fn ask_at(
     place: &mut Place,
     alloc: Global,
     spare: &mut Vec<Box<Shared>>,
     birth: u64,
     slot: Slot,
+    held: Mode,
     mode: Mode,
 ) -> Result<Asked, AllocError>
     requires place { IsPlaceFor birth place.old }
     requires spare { All IsIdle spare.old.items }
     requires may { MayAsk (queue_by place.old) slot mode }
+    requires held { held ≡ members_by place.old slot }
     ensures spare { All IsIdle spare.new.items }
     ensures answer { IfOk result (λ answer. answer ≡ asked (header_of (stands place.old)) slot mode) }
     ensures stands { OnOk result (IsAskedPlace place.old birth slot mode place.new) }
@@ -193,24 +197,24 @@ pub(crate) fn ask_at(
         }
         Place::Held {
             slot: holder,
-            mode: held,
+            mode: own,
             ..
         } if *holder == slot => {
-            let wanted = sup(*held, mode);
-            *held = wanted;
+            let wanted = sup(*own, mode);
+            *own = wanted;
             Ok(Asked::Granted(wanted))
         }
         Place::Held {
             slot: holder,
-            mode: held,
+            mode: other,
             ..
         } => {
-            let mut here = share(alloc, spare, birth, *holder, *held)?;
-            let asked = here.header.enter_or_wait(slot, mode)?;
+            let mut here = share(alloc, spare, birth, *holder, *other)?;
+            let asked = here.header.enter_or_wait(slot, held, mode)?;
             *place = Place::Shared(here);
             Ok(asked)
         }
-        Place::Shared(here) => here.header.enter_or_wait(slot, mode),
+        Place::Shared(here) => here.header.enter_or_wait(slot, held, mode),
     }
 }
 

@@ -11,6 +11,7 @@ ghost use Rattle.std.specs.List.{find, list_any};
 ghost use Rattle.gl_graph.specs.Graph.{is_child, is_live, nodes, parents_of};
 ghost use Rattle.gl_graph.specs.View.{graph_of};
 ghost use Rattle.gl_header.specs.Header.{holds, is_among_waiters};
+ghost use Rattle.gl_header.specs.Headers.{held_of};
 ghost use Rattle.gl_model.specs.Calls.{unlocked};
 ghost use Rattle.gl_model.specs.State.{is_write, is_waiting_at, pumped, without_wait, members, with_grant};
 ghost use Rattle.gl_table.specs.inside.Ledger.{state_in, AreNew};
@@ -78,14 +79,13 @@ impl Ledger {
         self.seats.get(slot)
     }
 
-    /// The mode in which a slot holds a node, `NL` for none.
+    /// The mode in which a slot holds a node, `NL` for none. It is read at the node, and not looked for in
+    /// the slot's list: most nodes that are asked for are new, and would be looked for in vain.
+    #[inline(always)]
     pub(crate) fn mode(&self, slot: Slot, node: NodeId) -> Mode
-        ensures { result ≡ held_by self.now.lists.items slot node }
+        ensures { result ≡ held_of self.now.headers.entries slot node }
     {
-        match self.lists.get(slot as usize) {
-            Some(list) => list.mode(node),
-            None => Mode::NL,
-        }
+        self.headers.mode_of(slot, node)
     }
 
     /// How many children of a node a slot holds, where it holds the node.

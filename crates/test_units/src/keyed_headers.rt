@@ -48,7 +48,8 @@ fn ask(
     if !may_ask(headers, slot, node, mode) {
         return Ok(None);
     }
-    Ok(Some(headers.ask(slot, node, mode)?))
+    let held = headers.mode_of(slot, node);
+    Ok(Some(headers.ask(slot, node, held, mode)?))
 }
 
 /// An ask that comes to this.
@@ -149,29 +150,33 @@ fn a_header_is_found_by_its_key(rt: HostRuntime) {
     asks(&rt, &mut headers, 6, other, Mode::S, None);
 }
 
-/// The modes in which slots 4, 5 and 6 hold a node, as far as they stand in place.
-fn modes_of(headers: &Headers, node: NodeId) -> [Option<Mode>; 3] {
+/// The modes in which slots 4, 5 and 6 hold a node.
+fn modes_of(headers: &Headers, node: NodeId) -> [Mode; 3] {
     [
-        headers.mode_in_place(4, node),
-        headers.mode_in_place(5, node),
-        headers.mode_in_place(6, node),
+        headers.mode_of(4, node),
+        headers.mode_of(5, node),
+        headers.mode_of(6, node),
     ]
 }
 
 #[test]
-fn one_holder_stands_in_place(rt: HostRuntime) {
+fn one_holder_and_several_are_told_apart(rt: HostRuntime) {
     let mut headers = new_headers(&rt, rt.alloc());
     let (node, later) = (node_of(70, 2), node_of(70, 3));
-    same(&rt, modes_of(&headers, node), [Some(Mode::NL); 3]);
+    same(&rt, modes_of(&headers, node), [Mode::NL; 3]);
     gets(&rt, &mut headers, 5, node, Mode::IX);
     same(
         &rt,
         modes_of(&headers, node),
-        [Some(Mode::NL), Some(Mode::IX), Some(Mode::NL)],
+        [Mode::NL, Mode::IX, Mode::NL],
     );
-    same(&rt, modes_of(&headers, later), [Some(Mode::NL); 3]);
+    same(&rt, modes_of(&headers, later), [Mode::NL; 3]);
     gets(&rt, &mut headers, 6, node, Mode::IS);
-    same(&rt, modes_of(&headers, node), [None; 3]);
+    same(
+        &rt,
+        modes_of(&headers, node),
+        [Mode::NL, Mode::IX, Mode::IS],
+    );
 }
 
 #[test]

@@ -92,7 +92,7 @@ impl Ledger {
         let Ok(()) = self.make_room_to_ask(slot, node, mode, is_member) else {
             return Err(Refusal::NoMemory);
         };
-        let asked = self.headers.ask(slot, node, mode)?;
+        let asked = self.headers.ask(slot, node, held, mode)?;
         let list = &mut self.lists[slot as usize];
         match asked {
             Asked::Granted(wanted) if is_member => list.set_mode(node, wanted),

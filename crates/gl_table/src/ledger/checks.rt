@@ -7,7 +7,6 @@ ghost use Rattle.gl_graph.specs.Graph.{Graph as AGraph, parents_of};
 ghost use Rattle.gl_graph.specs.Refusals.{first_refusal, verdict};
 ghost use Rattle.gl_graph.specs.Shapes.{Shape, is_record_shape, kind_in};
 ghost use Rattle.gl_graph.specs.View.{graph_of};
-ghost use Rattle.gl_header.specs.Headers.{held_of};
 ghost use Rattle.gl_table.specs.inside.Ledger.{AreExact, state_in, state_on};
 ghost use Rattle.gl_table.specs.inside.Slots.{held_by};
 ghost use Rattle.gl_model.specs.Calls.{commit_tests, lock_tests};
@@ -35,19 +34,6 @@ impl Ledger {
         }
     }
 
-    /// The mode in which a slot holds a node, `NL` for none. A node is looked for in the slot's list only
-    /// where others hold it or wait for it: most are new, and would be looked for in vain.
-    #[inline(always)]
-    fn held(&self, slot: Slot, node: NodeId) -> Mode
-        requires agree { held_by self.now.lists.items slot node ≡ held_of self.now.headers.entries slot node }
-        ensures { result ≡ held_by self.now.lists.items slot node }
-    {
-        match self.headers.mode_in_place(slot, node) {
-            Some(mode) => mode,
-            None => self.mode(slot, node),
-        }
-    }
-
     /// The tests of an ask, whether it waits or not. Answers the mode in which the node is held, and
     /// its parents, so that whoever then asks looks up neither.
     #[inline(always)]
@@ -71,7 +57,7 @@ impl Ledger {
         if is_bad_mode(kind, mode) {
             return Err(Refusal::BadMode);
         }
-        let held = self.held(t.slot, node);
+        let held = self.mode(t.slot, node);
         let list = &self.lists[t.slot as usize];
         check_rule(list, parents, sup(held, mode))?;
         Ok((held, parents))

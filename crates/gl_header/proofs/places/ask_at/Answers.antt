@@ -34,43 +34,43 @@ returns-in-Free-clause-stands c = record {
 
 -- the one holder asks
 
-is : (c : goal.After-sup-wanted) → c.args.place.now ≡ Held c.args.slot c.in-Held.held c.in-Held.birth
-is c = c.in-Held.is ∙ ap (λ t. Held t c.in-Held.held c.in-Held.birth) c.if-holder-slot.true
+is : (c : goal.After-sup-wanted) → c.args.place.now ≡ Held c.args.slot c.in-Held.own c.in-Held.birth
+is c = c.in-Held.is ∙ ap (λ t. Held t c.in-Held.own c.in-Held.birth) c.if-holder-slot.true
 
-lawful : (c : goal.After-sup-wanted) → IsLawfulHeader (held_by_one c.in-Held.holder c.in-Held.held)
-lawful c = c.requires.place.lawful.lawful (c.in-Held.birth, held_by_one c.in-Held.holder c.in-Held.held) (ap stands c.in-Held.is)
+lawful : (c : goal.After-sup-wanted) → IsLawfulHeader (held_by_one c.in-Held.holder c.in-Held.own)
+lawful c = c.requires.place.lawful.lawful (c.in-Held.birth, held_by_one c.in-Held.holder c.in-Held.own) (ap stands c.in-Held.is)
 
 raised : (c : goal.After-sup-wanted) → c.sup-wanted.result ≢ NL
 raised c e = clash (ap (λ k. same_mode k NL) e)
-    (ap (λ k. same_mode k NL) c.sup-wanted.ensures ∙ supremum-not_NL c.in-Held.held c.args.mode (not_NL c.args.mode c.requires.may.lock))
+    (ap (λ k. same_mode k NL) c.sup-wanted.ensures ∙ supremum-not_NL c.in-Held.own c.args.mode (not_NL c.args.mode c.requires.may.lock))
 
 pub returns-in-Held-clause-answer : goal.returns-in-Held-clause-answer
 returns-in-Held-clause-answer c =
     ap Granted c.sup-wanted.ensures
-    ∙ (own-answer c.args.slot c.in-Held.held c.args.mode ∙ ap (λ p. asked (header_of (stands p)) c.args.slot c.args.mode) (sym (is c)))
+    ∙ (own-answer c.args.slot c.in-Held.own c.args.mode ∙ ap (λ p. asked (header_of (stands p)) c.args.slot c.args.mode) (sym (is c)))
 
 pub returns-in-Held-clause-stands : goal.returns-in-Held-clause-stands
 returns-in-Held-clause-stands c = record {
   header = held_by_one c.in-Held.holder c.sup-wanted.result;
   there = ap (λ b. Some (b, held_by_one c.in-Held.holder c.sup-wanted.result))
-      (c.requires.place.own.birth (c.in-Held.birth, held_by_one c.in-Held.holder c.in-Held.held) (ap stands c.in-Held.is));
-  lawful = alone-lawful c.in-Held.holder c.sup-wanted.result (alone-below c.in-Held.holder c.in-Held.held (lawful c)) (raised c);
+      (c.requires.place.own.birth (c.in-Held.birth, held_by_one c.in-Held.holder c.in-Held.own) (ap stands c.in-Held.is));
+  lawful = alone-lawful c.in-Held.holder c.sup-wanted.result (alone-below c.in-Held.holder c.in-Held.own (lawful c)) (raised c);
   members = ap (λ t. with_mode nobody t c.sup-wanted.result) c.if-holder-slot.true
       ∙ (ap (with_mode nobody c.args.slot) c.sup-wanted.ensures
-      ∙ (own-members c.args.slot c.in-Held.held c.args.mode
+      ∙ (own-members c.args.slot c.in-Held.own c.args.mode
       ∙ ap (λ p. asked_members (header_of (stands p)) c.args.slot c.args.mode) (sym (is c))));
-  queue = own-queue c.args.slot c.in-Held.held c.args.mode ∙ ap (λ p. asked_queue (header_of (stands p)) c.args.slot c.args.mode) (sym (is c));
+  queue = own-queue c.args.slot c.in-Held.own c.args.mode ∙ ap (λ p. asked_queue (header_of (stands p)) c.args.slot c.args.mode) (sym (is c));
 }
 
 -- another slot asks
 
 pub share-requires-clause-below : goal.share-requires-clause-below
-share-requires-clause-below c = alone-below c.in-Held.holder c.in-Held.held
-    (c.requires.place.lawful.lawful (c.in-Held.birth, held_by_one c.in-Held.holder c.in-Held.held) (ap stands c.in-Held.is))
+share-requires-clause-below c = alone-below c.in-Held.holder c.in-Held.own
+    (c.requires.place.lawful.lawful (c.in-Held.birth, held_by_one c.in-Held.holder c.in-Held.own) (ap stands c.in-Held.is))
 
 pub share-requires-clause-lock : goal.share-requires-clause-lock
-share-requires-clause-lock c = alone-lock c.in-Held.holder c.in-Held.held
-    (c.requires.place.lawful.lawful (c.in-Held.birth, held_by_one c.in-Held.holder c.in-Held.held) (ap stands c.in-Held.is))
+share-requires-clause-lock c = alone-lock c.in-Held.holder c.in-Held.own
+    (c.requires.place.lawful.lawful (c.in-Held.birth, held_by_one c.in-Held.holder c.in-Held.own) (ap stands c.in-Held.is))
 
 -- a refusal in a box leaves it as it was
 pub returns-in-Shared-clause-err : goal.returns-in-Shared-clause-err

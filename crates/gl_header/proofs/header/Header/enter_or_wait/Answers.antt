@@ -17,11 +17,11 @@ granted c =
     = subst (λ (x : HeaderState). is_among_waiters c.args.slot x.queue ≡ false) (sym c.self.view_is) c.requires.may.not_waiting in
     let w : c.sup-wanted.result ≡ wanted (state_of c.self.inside) c.args.slot c.args.mode
     = subst (λ (x : HeaderState). c.sup-wanted.result ≡ wanted x c.args.slot c.args.mode) (sym c.self.view_is)
-    (c.sup-wanted.ensures ∙ ap (λ x. supremum x c.args.mode) c.mode_of-held.ensures) in
+    (c.sup-wanted.ensures ∙ ap (λ x. supremum x c.args.mode) c.requires.held) in
     let g : is_granted (state_of c.self.inside) c.args.slot c.args.mode ≡ true
     = subst (λ (x : HeaderState). is_granted x c.args.slot c.args.mode ≡ true) (sym c.self.view_is)
     (sym (c.enters.ensures ∙ ap (λ m. enters slot_limit (members_of c.args.self.now) c.args.self.now.queue c.args.slot m)
-    (c.sup-wanted.ensures ∙ ap (λ x. supremum x c.args.mode) c.mode_of-held.ensures)) ∙ c.if-enters.true) in
+    (c.sup-wanted.ensures ∙ ap (λ x. supremum x c.args.mode) c.requires.held)) ∙ c.if-enters.true) in
     lawful-granted (state_of c.self.inside) c.args.slot c.args.mode c.sup-wanted.result
     (held_by c.hold.new.self) c.self.invariant.lawful free c.requires.may.below g w c.hold.ensures.held
 
@@ -45,11 +45,11 @@ invariant_of-self-2 c =
     = subst (λ (x : HeaderState). is_among_waiters c.args.slot x.queue ≡ false) (sym c.self.view_is) c.requires.may.not_waiting in
     let w : c.sup-wanted.result ≡ wanted (state_of c.self.inside) c.args.slot c.args.mode
     = subst (λ (x : HeaderState). c.sup-wanted.result ≡ wanted x c.args.slot c.args.mode) (sym c.self.view_is)
-    (c.sup-wanted.ensures ∙ ap (λ x. supremum x c.args.mode) c.mode_of-held.ensures) in
+    (c.sup-wanted.ensures ∙ ap (λ x. supremum x c.args.mode) c.requires.held) in
     let g : is_granted (state_of c.self.inside) c.args.slot c.args.mode ≡ false
     = subst (λ (x : HeaderState). is_granted x c.args.slot c.args.mode ≡ false) (sym c.self.view_is)
     (sym (c.enters.ensures ∙ ap (λ m. enters slot_limit (members_of c.args.self.now) c.args.self.now.queue c.args.slot m)
-    (c.sup-wanted.ensures ∙ ap (λ x. supremum x c.args.mode) c.mode_of-held.ensures)) ∙ c.if-enters.false) in
+    (c.sup-wanted.ensures ∙ ap (λ x. supremum x c.args.mode) c.requires.held)) ∙ c.if-enters.false) in
     record {
       group = c.self.invariant.group;
       lawful = lawful-waiting (state_of c.self.inside) c.args.slot c.args.mode c.sup-wanted.result c.enqueue.new.queue.items c.self.invariant.lawful
@@ -60,9 +60,9 @@ pub returns-clause-queue : goal.returns-clause-queue
 returns-clause-queue c =
     let g : is_granted c.args.self.now c.args.slot c.args.mode ≡ false =
     sym (c.enters.ensures ∙ ap (λ m. enters slot_limit (members_of c.args.self.now) c.args.self.now.queue c.args.slot m)
-    (c.sup-wanted.ensures ∙ ap (λ x. supremum x c.args.mode) c.mode_of-held.ensures)) ∙ c.if-enters.false in
+    (c.sup-wanted.ensures ∙ ap (λ x. supremum x c.args.mode) c.requires.held)) ∙ c.if-enters.false in
     let w : c.sup-wanted.result ≡ wanted c.args.self.now c.args.slot c.args.mode =
-    c.sup-wanted.ensures ∙ ap (λ x. supremum x c.args.mode) c.mode_of-held.ensures in
+    c.sup-wanted.ensures ∙ ap (λ x. supremum x c.args.mode) c.requires.held in
     subst (λ (x : HeaderState). is_granted x c.args.slot c.args.mode ≡ false → c.sup-wanted.result ≡ wanted x c.args.slot c.args.mode
     → c.enqueue.new.queue.items ≡ asked_queue x c.args.slot c.args.mode) c.self.view_is
     (λ k v. queue-waiting (state_of c.self.inside) c.args.slot c.args.mode c.sup-wanted.result c.enqueue.new.queue.items

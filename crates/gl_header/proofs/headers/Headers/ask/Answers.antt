@@ -1,4 +1,4 @@
-use Rattle.std.proofs.Common.{◌≡◌, ◌∙◌, ap, refl}
+use Rattle.std.proofs.Common.{◌≡◌, ◌∙◌, ap, refl, sym}
 use Rattle.gl_modes.proofs.Words.{clash}
 use Rattle.gl_header.specs.Answers.{asked}
 use Rattle.gl_header.specs.Header.{holds, is_among_waiters}
@@ -38,6 +38,11 @@ ask_at-requires-clause-may c = record {
       ∙ c.requires.may.not_waiting;
   lock = c.requires.may.lock;
 }
+
+pub ask_at-requires-clause-held : goal.ask_at-requires-clause-held
+ask_at-requires-clause-held c =
+    c.requires.held
+    ∙ ap (λ (h : HeaderState). members_of h c.args.slot) (sym (here (goal.at.ask_at-requires-clause-held c).After-index_mut-place).header)
 
 pub returns-in_default-ask_at-clause-member : goal.returns-in_default-ask_at-clause-member
 returns-in_default-ask_at-clause-member c = let i = here (goal.at.returns-in_default-ask_at-clause-member c).After-index_mut-place in λ member granted.

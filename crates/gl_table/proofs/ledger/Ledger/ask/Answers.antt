@@ -52,6 +52,12 @@ ask-requires-clause-alone c = let p = (goal.at.ask-requires-clause-alone c).Afte
     (subst AreHeaders (sym (ap (λ (x : Ledger). x.headers.entries) c.make_room_to_ask.ensures.rest)) c.law-2.ensures.headers) (may_now p).orderly
     c.law.ensures.lawful c.args.node c.requires.can.live
 
+-- the header says of the slot what its list does
+pub ask-requires-clause-held : goal.ask-requires-clause-held
+ask-requires-clause-held c =
+    c.requires.can.held_is ∙ (c.requires.act.exact.agree c.args.slot).modes c.args.node
+    ∙ ap (λ (x : Ledger). held_of x.headers.entries c.args.slot c.args.node) (sym c.make_room_to_ask.ensures.rest)
+
 -- no more is asked than is held
 
 pub returns-then-covers-clause-asked : goal.returns-then-covers-clause-asked

@@ -35,9 +35,6 @@ index-list-requires c =
     (test_passed _ c.in_ok-check_active.field-0 (c.in_ok-check_active.ensures (graph_of c.args.graph.now))) in
     search (rules, is)
 
-pub held-held-requires : goal.held-held-requires
-held-held-requires c = record { agree = (c.requires.exact.agree c.args.t.slot).modes c.args.node }
-
 -- all but the rule of the graph has passed
 module _ (c : After-check_rule) where
   may : first_refusal (commit_tests (state_in c.args.graph.now c.args.self.now) c.args.t) ≡ None
@@ -63,7 +60,7 @@ module _ (c : After-check_rule) where
       (supremum (held_of c.args.self.now.headers.entries c.args.t.slot c.args.node) c.args.mode))
       (fun_ext (λ q. sym (said q ∙ (c.requires.exact.agree c.args.t.slot).modes q)))
       ∙ ap₂ (rule_refusal (mode_of c.index-list.result.now)) (sym c.in-Some.ensures.parents)
-      (sym (c.sup.ensures ∙ ap (λ h. supremum h c.args.mode) (c.held-held.ensures ∙ (c.requires.exact.agree c.args.t.slot).modes c.args.node)))
+      (sym (c.sup.ensures ∙ ap (λ h. supremum h c.args.mode) c.mode-held.ensures))
 
 pub returns-in_err-check_rule-clause-refused : goal.returns-in_err-check_rule-clause-refused
 returns-in_err-check_rule-clause-refused c =
@@ -75,4 +72,4 @@ pub returns-clause-passed : goal.returns-clause-passed
 returns-clause-passed c = left (goal.at.returns-clause-passed c).After-check_rule ∙ test_passed _ c.in_ok-check_rule.field-0 c.in_ok-check_rule.ensures
 
 pub returns-clause-held : goal.returns-clause-held
-returns-clause-held c = c.held-held.ensures
+returns-clause-held c = c.mode-held.ensures ∙ sym ((c.requires.exact.agree c.args.t.slot).modes c.args.node)
