@@ -28,7 +28,7 @@ use gl_modes::{Mode, NodeId, Refusal, covers};
 use gl_table::{Locked, Told, TxnId};
 
 /// How many nodes above a path keeps.
-const MOST_KEPT: usize = 16;
+const MOST_KEPT: usize = 8;
 
 /// The nodes above that a path knows to be wanted, upwards.
 type Above = ArrayVec<NodeId, MOST_KEPT>;
@@ -59,8 +59,9 @@ impl Manager {
     /// Refused, in this order, with `WornOut`, `NoSuchTxn`, `TxnWaiting`, `TxnCondemned`,
     /// `NoSuchNode` and `BadMode` before anything is locked; with `WornOut` and `NoMemory` also on
     /// the way. It wants memory for locks alone. Who holds something asks for the node first: where all
-    /// above it is held nothing else is looked at. Else the way up is looked at before it is locked: to
-    /// write once, from each node that wants another parent once more, to read from the node for each ask.
+    /// above it is held nothing else is looked at. Else the way up is looked at before it is locked, from
+    /// the parent that a refusal names: to write once, from each node that wants another parent once more,
+    /// to read from the node for each ask.
     pub fn lock_path_telling(
         &mut self,
         t: TxnId,
@@ -78,7 +79,7 @@ impl Manager {
         self.law();
         let mut above = Above::new();
         if self.table.lock_count(t) == Some(0) {
-            self.climb(t, node, mode, &mut above); // Its parents are wanted, if it has any.
+            self.climb(t, node, mode, &mut above); // A refused ask costs more than a look.
         }
         'path: loop {
             let reached = self.lock_first(t, node, mode, &mut above, told)?;
@@ -118,9 +119,10 @@ impl Manager {
                     });
                 }
                 Err(refusal) => {
-                    if missing_parent(refusal).is_none() {
+                    let Some(parent) = missing_parent(refusal) else {
                         return Err(refusal);
-                    }
+                    };
+                    keep(above, parent);
                     self.climb(t, node, mode, above);
                 }
             }
