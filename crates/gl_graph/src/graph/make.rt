@@ -230,7 +230,8 @@ impl Graph {
     }
 
     /// The parents of a record of this file with these keys: the file and then, for each index, the
-    /// interval that holds the key. It takes no memory.
+    /// interval that holds the key. It takes no memory. Inlined, since the list would else be copied.
+    #[inline(always)]
     pub fn record_parents(&self, file: NodeId, keys: &[u64]) -> ArrayVec<NodeId, 8>
         requires file { is_file_shape (shape_of (graph_of self.now) file) ≡ true }
         requires keys { length keys.now ≡ length (indexes_of (graph_of self.now) file) }
