@@ -3,8 +3,10 @@
 //! Each call takes the manager whose nodes these are.
 
 ghost use Rattle.std.specs.Prelude.{◌≡◌, ℕ, IfErr, IfOk, None, false, length};
+ghost use Rattle.std.specs.List.{list_any};
 ghost use Rattle.gl_modes.specs.declared.node.NodeId.{NodeId as ANode};
 ghost use Rattle.gl_modes.specs.declared.refusal.Refusal.{Refusal as ARefusal};
+ghost use Rattle.gl_modes.specs.Nodes.{same_node};
 ghost use Rattle.gl_registry.specs.declared.row.Row.{Row as ARow};
 ghost use Rattle.gl_registry.specs.Files.{MakesFile};
 ghost use Rattle.gl_registry.specs.Releasing.{node_for};
@@ -22,6 +24,9 @@ use std::marker::Model;
 
 mod lock;
 mod release;
+
+/// How many files are looked through.
+const FEW: usize = 8;
 
 /// The files that have rows, the node of each row that stands, and for each slot the rows that its
 /// transaction has asked for.
@@ -59,11 +64,11 @@ impl Rows {
         })
     }
 
-    /// Whether the node is a file of rows. Where no file is, nothing is hashed.
+    /// Whether the node is a file of rows.
     pub(crate) fn has(&self, file: NodeId) -> bool
         ensures { result ≡ has_rows self.now file }
     {
-        !self.files.is_empty() && self.files.contains(&file)
+        is_among(&self.files, file)
     }
 
     /// The node by which a row is named.
@@ -87,7 +92,7 @@ impl Rows {
     {
         match self.names.get(&row) {
             Some(node) => Ok(*node),
-            None if self.files.contains(&row.file) => Ok(NodeId::NONE),
+            None if self.has(row.file) => Ok(NodeId::NONE),
             None => Err(RowRefusal::NotRows),
         }
     }
@@ -126,4 +131,15 @@ impl Rows {
     {
         self.files.swap_remove(&node);
     }
+}
+
+/// Whether a file is one of these. A few are looked through: to hash a name takes longer.
+#[inline]
+pub(crate) fn is_among(files: &IndexSet<NodeId>, file: NodeId) -> bool
+    ensures { result ≡ list_any (same_node file) files.now.keys }
+{
+    if files.len() > FEW {
+        return files.contains(&file);
+    }
+    files.as_slice().iter().any(|listed| file == *listed)
 }

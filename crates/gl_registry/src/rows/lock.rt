@@ -12,7 +12,7 @@ ghost use Rattle.gl_registry.specs.Locking.{LocksRow, RenewsNode, first_locked};
 ghost use Rattle.gl_registry.specs.Naming.{LocksName};
 ghost use Rattle.gl_registry.specs.Rows.{name_of, same_row};
 
-use super::Rows;
+use super::{Rows, is_among};
 use crate::answer::{RowLocked, RowRefusal};
 use crate::row::Row;
 use crate::sets::{make_room, put};
@@ -100,7 +100,7 @@ fn lock_named(
             Ok(RowLocked::first(node, mode))
         }
         Entry::Vacant(entry) => {
-            if !files.contains(&row.file) {
+            if !is_among(files, row.file) {
                 return Err(RowRefusal::NotRows);
             }
             let node = manager.adopt_locked(t, row.file, keys, mode)?;
