@@ -115,15 +115,6 @@ CountsDown-last None (Some j) k h i some last =
     let same : k ≡ j = cc in
     omega arith
 
--- the node at the end of the entries is among them
-pub is_some-lookup_last : {X : Type 0} (n : NodeId) (v : X) (es : List (NodeId × X)) → is_some (lookup (same_node n) (es ++ (n, v) ∷ [])) ≡ true
-is_some-lookup_last n v [] = ap (λ b. is_some (cond b (Some v) None)) (same_node-refl n)
-is_some-lookup_last n v (e ∷ es) = by (same_node n e.0) (is_some-lookup_last n v es)
-  where
-    by : (b : Bool) → is_some (lookup (same_node n) (es ++ (n, v) ∷ [])) ≡ true → is_some (cond b (Some e.1) (lookup (same_node n) (es ++ (n, v) ∷ []))) ≡ true
-    by true h = refl
-    by false h = h
-
 -- The node at a place of a list is marked.
 
 -- the key at a place is that of the entry there

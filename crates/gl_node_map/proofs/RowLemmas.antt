@@ -9,7 +9,7 @@ use Rattle.std.proofs.lemmas.Option.{slice_get-get_or, slice_get-map}
 use Rattle.std.specs.Cmp.{IsEquivalence}
 use Rattle.std.specs.List.{AllByRecursion, IsDistinct, swap_remove}
 use Rattle.std.specs.Map.{keys_of, KeepsOthers, lookup, set_value}
-use Rattle.std.specs.Option.{is_some, option_map, option_to_list}
+use Rattle.std.specs.Option.{is_some, option_map}
 use Rattle.indexmap.specs.IndexMap.{insert_entry, Updates}
 use Rattle.indexmap.specs.Layout.{hash_map, set_value_at}
 use Rattle.indexmap.proofs.CallerLemmas.{insert_entry-new}
@@ -64,22 +64,6 @@ module _ {V : Type 0} where
   pub none_taken : (n : NodeId) (es : List (NodeId × V)) → position (same_node n) (keys_of es) ≡ None → Writes n es es None
   none_taken n es none = none_out same_node node_equivalence (same_node n) (node_equivalence.congr n) es es none refl
 
-  last_at : (fs : List (NodeId × V)) (p : NodeId × V) → slice_get (fs ++ p ∷ []) (length fs) ≡ Some p
-  last_at [] p = refl
-  last_at (f ∷ fs) p = last_at fs p
-
-  -- what is left once the last row is taken out
-  pub last_out : (es fs : List (NodeId × V)) (o : Option (NodeId × V)) → es ≡ fs ++ option_to_list o → IsDistinct same_node (keys_of es)
-      → IsDistinct same_node (keys_of fs) × IfSome o (λ p. Writes p.0 es fs None)
-  last_out es fs None is distinct = (subst (λ (l : List (NodeId × V)). IsDistinct same_node (keys_of l)) (is ∙ append-nil fs) distinct, tt)
-  last_out es fs (Some p) is distinct =
-      let n : length es - 1 ≡ length fs = omega (arith, ap length is, length_push fs p) in
-      let at : slice_get es (length es - 1) ≡ Some p = ap (slice_get es) n ∙ ap (λ l. slice_get l (length fs)) is ∙ last_at fs p in
-      let front : fs ≡ swap_remove es (length es - 1) p =
-      sym (take_at fs (p ∷ []) (length es - 1) (sym n)) ∙ ap (take (length es - 1)) (sym is) ∙ sym (swap_remove_last es p) in
-      let out = row_out es distinct (length es - 1) p at fs front in
-      (out.unique, out.updated)
-
   miss : (t : NodeId → Bool) (k : NodeId) (v : V) → t k ≡ false → (es : List (NodeId × V)) → lookup t (es ++ (k, v) ∷ []) ≡ lookup t es
   miss t k v h [] = ap (λ b. cond b (Some v) None) h
   miss t k v h (e ∷ es) = ap (λ l. cond (t e.0) (Some e.1) l) (miss t k v h es)
@@ -119,11 +103,6 @@ module _ {V : Type 0} where
   -- the same of lists that are equal to these
   pub writes_as : (n : NodeId) (es fs es' fs' : List (NodeId × V)) (o : Option V) → es' ≡ es → fs' ≡ fs → Writes n es fs o → Writes n es' fs' o
   writes_as n es fs es' fs' o same now w = subst (λ l. Writes n l fs' o) (sym same) (subst (λ l. Writes n es l o) (sym now) w)
-
-  pub last_writes_as : (es fs es' fs' : List (NodeId × V)) (o : Option (NodeId × V)) → es' ≡ es → fs' ≡ fs → IfSome o (λ p. Writes p.0 es fs None)
-      → IfSome o (λ p. Writes p.0 es' fs' None)
-  last_writes_as es fs es' fs' None same now w = tt
-  last_writes_as es fs es' fs' (Some p) same now w = writes_as p.0 es fs es' fs' None same now w
 
   -- the rows before a place, and the one there
   pub put_next : (rows es : List (NodeId × V)) (i : ℕ) (d : NodeId × V) → i < length rows → IsDistinct same_node (keys_of rows) → es ≡ take i rows

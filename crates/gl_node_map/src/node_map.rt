@@ -24,7 +24,7 @@ ghost use Rattle.std.specs.Prelude.{
 };
 ghost use Rattle.std.specs.Borrow.{sem};
 ghost use Rattle.std.specs.Map.Iter.{deref_pair};
-ghost use Rattle.std.specs.Option.{option_copied, option_copied_mut, option_map, option_to_list};
+ghost use Rattle.std.specs.Option.{option_copied, option_copied_mut, option_map};
 ghost use Rattle.indexmap.specs.IndexMap.{get, index_map_len, index_of, keys, spare, values, swap_remove_entry, IsEmpty, IsUnchanged, IsUnique, Updates};
 ghost use Rattle.gl_modes.specs.Nodes.{same_node};
 ghost use Rattle.gl_node_map.specs.Lends.{lends_at, lends_get};
@@ -234,22 +234,6 @@ impl<V: Copy> NodeMap<V> {
             Some(self.rows.swap_remove(place).1)
         } else {
             take_out(&mut self.map, node)
-        }
-    }
-
-    /// Takes out what was put in last.
-    pub fn pop(&mut self) -> Option<(NodeId, V)>
-        ensures entries { self.old.entries ≡ self.new.entries ++ option_to_list result }
-        ensures found { IsSome result ↔ (0 < index_map_len self.old) }
-        ensures updates { IfSome result (λ p. Updates same_node self.old self.new p.0 None) }
-        ensures len { index_map_len self.new + (if is_some result then 1 else 0) ≡ index_map_len self.old }
-        ensures room { spare self.old ≤ spare self.new }
-        ensures unique { IsUnique same_node self.new }
-    {
-        if self.map.is_empty() {
-            self.rows.pop()
-        } else {
-            self.map.pop()
         }
     }
 

@@ -98,22 +98,6 @@ fn a_list_is_what_a_map_is(rt: HostRuntime) {
     are_alike(&rt, &pair);
 }
 
-/// Pops all, and once more.
-fn pops_all(rt: &impl Abort, alloc: Global, rows: u64) {
-    let mut pair = filled(rt, alloc, rows);
-    for _ in 0..=rows {
-        same(rt, pair.list.pop(), pair.map.pop());
-        are_alike(rt, &pair);
-    }
-}
-
-#[test]
-fn what_was_put_in_last_is_popped(rt: HostRuntime) {
-    for rows in [0, 1, 15, 16, 17, 18, 40] {
-        pops_all(&rt, rt.alloc(), rows);
-    }
-}
-
 /// Writes the first value, the last one and one that is not there, and takes all away.
 fn writes_and_clears(rt: &impl Abort, alloc: Global, rows: u64) {
     let mut pair = filled(rt, alloc, rows);

@@ -183,17 +183,3 @@ module _ (g g' : Graph) (law : IsLawfulGraph g) (law' : IsLawfulGraph g') (n : N
       let all : children_that g' f p ≡ children_that g f p = ap (λ t. children_that g' t p) (sym alike) ∙ rest_same p ∙ ap (λ t. children_that g t p) alike in
       ap₂ (λ (k : ℕ) b. k + (if b then count_by (same_node p) (parents_of g n) else 0)) all e
       ∙ sym (ap (λ b. children_that g f p + (if b then count_by (same_node p) (parents_of g' n) else 0)) e))
-
--- How many nodes pass a test, where all that pass it pass another test.
-
-fewer_or_same : (p q : NodeId → Bool) (xs : List NodeId) → ((c : NodeId) → q c ≡ true → p c ≡ true) → count_by q xs ≤ count_by p xs
-fewer_or_same p q [] less = omega arith
-fewer_or_same p q (x ∷ xs) less = grind (arith, nat_tests, p x, q x, less x, fewer_or_same p q xs less, count_cons q x xs, count_cons p x xs)
-
--- where one node passes the other alone, they are fewer
-pub fewer : (p q : NodeId → Bool) (n : NodeId) (xs : List NodeId) → ((c : NodeId) → q c ≡ true → p c ≡ true) → list_any (same_node n) xs ≡ true → p n ≡ true
-    → q n ≡ false → count_by q xs < count_by p xs
-fewer p q n [] less among was gone = clash among refl
-fewer p q n (x ∷ xs) less among was gone =
-    let cq = count_cons q x xs in let cp = count_cons p x xs in
-    grind (arith, nat_tests, p x, q x, less x, same_node n x, same_node-equal n x, fewer_or_same p q xs less, fewer p q n xs less, cq, cp)
