@@ -91,13 +91,11 @@ fn settle<N: Naming, R: Wait + Abort>(rt: &R, session: &mut Session<'_, N>, txn:
     }
 }
 
-/// Settles the youngest suspect of each look until the others have ended, then escalates, and writes down
-/// what it asked.
+/// Settles the youngest suspect of each look until the others have ended, and writes down what it asked.
 fn settles_all<N: Naming, R: Wait + Abort>(
     rt: &R,
     alloc: Global,
     table: &Shared<N>,
-    forest: &Forest,
     share: Share<N>,
     watcher: &mut Watcher<N>,
     ended: &AtomicBool,
@@ -113,7 +111,20 @@ fn settles_all<N: Naming, R: Wait + Abort>(
         }
         yield_now();
     }
-    let (share, last) = escalates_alone(rt, alloc, table, forest, session.end());
+    let share = session.end();
+    Left { share, diary }
+}
+
+/// Escalates, and writes down what it asked behind what was asked before.
+fn escalate_last<N: Naming, R: Wait + Abort>(
+    rt: &R,
+    alloc: Global,
+    table: &Shared<N>,
+    forest: &Forest,
+    left: Left<N>,
+) -> Left<N> {
+    let Left { share, mut diary } = left;
+    let (share, last) = escalates_alone(rt, alloc, table, forest, share);
     let _ = diary.extend_from_slice(last.as_slice());
     Left { share, diary }
 }
@@ -179,10 +190,10 @@ impl Crowd {
         let (left, settler) = join(
             rt,
             move || act_all(rt, alloc, table, forest, seats, flag),
-            move || settles_all(rt, alloc, table, forest, share, looking, flag),
+            move || settles_all(rt, alloc, table, share, looking, flag),
         );
         let mut left = left.unwrap_or(Vec::new(alloc));
-        let _ = left.push(settler);
+        let _ = left.push(escalate_last(rt, alloc, table, forest, settler));
         let (shares, diaries) = part_all(alloc, left);
         let diary = join_all(alloc, diaries.as_slice());
         self.replay(rt, alloc, diary);
