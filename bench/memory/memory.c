@@ -10,7 +10,7 @@
 #include <malloc.h>
 #include <stdio.h>
 
-enum { RECORDS = 100000, PER_TRANSACTION = 100, HEAD = 8 };
+enum { RECORDS = 100000, PER_TRANSACTION = 100, HEAD = 8, MOST_INDEXES = 3 };
 
 static size_t taken;
 
@@ -82,18 +82,29 @@ static size_t empty_table(void) {
   return with;
 }
 
-/* Records come, a hundred in a transaction, so that no list is large before the locks are taken. */
-static size_t records_come(void) {
-  size_t before = taken;
+/* Records of a file come, with one key for all of its indexes, of each of which this is the interval: a hundred in a
+ * transaction, so that no list is large before the locks are taken. */
+static size_t records_come(bs_node of, const bs_node *intervals, size_t indexes) {
+  size_t before = taken, i;
   uint64_t key = 0;
   while (key < RECORDS) {
-    bs_txn t = begin_at(file, below);
+    bs_txn t = begin_at(of, intervals[0]);
+    for (i = 1; i < indexes; i++) DONE(bs_lock_path(&m, t, intervals[i], BS_IX, &told));
     do {
-      records[key] = DONE(bs_insert(&m, t, file, &key, 1)).node;
+      uint64_t keys[MOST_INDEXES] = { key, key, key };
+      records[key] = DONE(bs_insert(&m, t, of, keys, indexes)).node;
     } while (++key % PER_TRANSACTION != 0);
     DONE(bs_commit(&m, t, &told));
   }
   return taken - before;
+}
+
+/* The same of a file with three indexes. */
+static size_t wide_records_come(void) {
+  bs_node wide = DONE(bs_add_file(&m, &db, 1)).node, intervals[MOST_INDEXES];
+  size_t i;
+  for (i = 0; i < MOST_INDEXES; i++) intervals[i] = interval_of(wide);
+  return records_come(wide, intervals, MOST_INDEXES);
 }
 
 static void lock_from(bs_txn t, size_t from, size_t count) {
@@ -134,13 +145,13 @@ int main(void) {
   row("for 1", empty_manager(1));
   row("an empty bs_table", empty_table());
   set_up();
-  row("a record that nobody locks, of 100,000", each(records_come(), RECORDS));
+  row("a record that nobody locks, of 100,000", each(records_come(file, &below, 1), RECORDS));
   lock_all(1, &with, &behind);
   row("a lock of a record in X, of 100,000 by one transaction", each(with, RECORDS));
   row("of it, what stays with the manager behind the commit", each(behind, RECORDS));
   DONE(bs_end(&m));
   set_up();
-  (void)records_come();
+  (void)records_come(file, &below, 1);
   lock_all(PER_TRANSACTION, &with, &behind);
   row("a lock of a record in X, of 100,000 by a hundred transactions", each(with, RECORDS));
   DONE(bs_end(&m));
@@ -148,6 +159,9 @@ int main(void) {
   lock_rows(&with, &behind);
   row("a row by its number while it is locked in X, of 100,000", each(with, RECORDS));
   row("of it, what stays with the manager behind the commit", each(behind, RECORDS));
+  DONE(bs_end(&m));
+  set_up();
+  row("a record with three indexes that nobody locks, of 100,000", each(wide_records_come(), RECORDS));
   DONE(bs_end(&m));
   return 0;
 }
