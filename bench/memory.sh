@@ -5,9 +5,10 @@
 #     bench/memory.sh
 #
 # It prints a line for each. Each figure is what is taken from before to behind, by the number of records. Records have one
-# index of one interval, or three, and come a hundred in a transaction. Places for nodes, headers and locks lie in arrays that double
-# when they are full, so a figure hangs on the number of records too. CC names another compiler than cc; SLOTS=1024 takes the
-# library for so many transactions, in place of that for 128. It ends with status 1 where an answer is not as it should be.
+# index, or three where a line says so, each of one interval, and come a hundred in a transaction. Places for nodes,
+# headers and locks lie in arrays that double when they are full, so a figure hangs on the number of records too. CC names
+# another compiler than cc; SLOTS=1024 takes the library for so many transactions, in place of that for 128. It ends with
+# status 1 where an answer is not as it should be.
 
 # shellcheck source-path=SCRIPTDIR source=frame/frame.sh
 . "$(dirname "$0")/frame/frame.sh" || exit 2
