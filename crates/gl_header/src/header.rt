@@ -178,7 +178,7 @@ impl Header {
 
     /// Whether a slot that holds the mode `held` is granted `wanted` at once.
     #[inline]
-    fn enters(&self, slot: Slot, held: Mode, wanted: Mode) -> bool
+    pub(crate) fn enters(&self, slot: Slot, held: Mode, wanted: Mode) -> bool
         requires held { held ≡ members_of self.now slot }
         ensures { result ≡ enters slot_limit (members_of self.now) self.now.queue slot wanted }
     {

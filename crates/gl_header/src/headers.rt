@@ -70,7 +70,7 @@ use crate::header::{Asked, Header};
 use crate::places::{
     Place, Seen, Shared, ask_at, dismiss_at, drop_grant_at, drop_wait_at, grow, seen_in,
 };
-use gl_modes::{Mode, NodeId, Refusal, compatible};
+use gl_modes::{Mode, NodeId, Refusal, compatible, sup};
 use gl_slots::{Slot, Slots};
 use std::alloc::{AllocError, Global};
 use std::marker::Model;
@@ -245,14 +245,15 @@ impl Headers {
         }
     }
 
-    /// Whether `ask` would grant at once.
-    pub fn would_grant(&self, slot: Slot, node: NodeId, mode: Mode) -> bool
+    /// Whether `ask` would grant at once, where the slot holds the node in the mode `held`.
+    pub fn would_grant(&self, slot: Slot, node: NodeId, held: Mode, mode: Mode) -> bool
+        requires held { held ≡ held_of self.now.entries slot node }
         ensures { result ≡ is_granted_at self.now.entries slot node mode }
     {
         match self.seen(node) {
             Seen::Nobody => true,
-            Seen::One(holder, held) => holder == slot || compatible(mode, held),
-            Seen::Shared(header) => header.would_grant(slot, mode),
+            Seen::One(holder, other) => holder == slot || compatible(mode, other),
+            Seen::Shared(header) => header.enters(slot, held, sup(held, mode)),
         }
     }
 

@@ -200,9 +200,8 @@ pub(crate) fn ask_at(
             mode: own,
             ..
         } if *holder == slot => {
-            let wanted = sup(*own, mode);
-            *own = wanted;
-            Ok(Asked::Granted(wanted))
+            *own = sup(held, mode);
+            Ok(Asked::Granted(*own))
         }
         Place::Held {
             slot: holder,

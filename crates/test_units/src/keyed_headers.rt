@@ -64,6 +64,11 @@ fn asks(
     same(rt, ask(headers, slot, node, mode), Ok(wanted));
 }
 
+/// Whether an ask would be granted at once.
+fn would_grant(headers: &Headers, slot: u8, node: NodeId, mode: Mode) -> bool {
+    headers.would_grant(slot, node, headers.mode_of(slot, node), mode)
+}
+
 /// New headers.
 fn new_headers(rt: &impl Abort, alloc: Global) -> Headers {
     Headers::new(alloc).expect(rt, "no memory")
@@ -137,14 +142,14 @@ fn a_header_is_found_by_its_key(rt: HostRuntime) {
     let (near, far, other) = (node_of(0, 1), node_of(70, 2), node_of(70, 3));
     same(&rt, is_gone(&headers, far), (true, true));
     same(&rt, headers.group(far), Mode::NL);
-    same(&rt, headers.would_grant(5, far, Mode::X), true);
+    same(&rt, would_grant(&headers, 5, far, Mode::X), true);
     gets(&rt, &mut headers, 5, far, Mode::X);
     gets(&rt, &mut headers, 6, near, Mode::IS);
     same(&rt, headers.group(far), Mode::X);
     same(&rt, headers.group(near), Mode::IS);
     same(&rt, held_by(&headers, far, [5, 6]), [true, false]);
     same(&rt, held_by(&headers, near, [5, 6]), [false, true]);
-    same(&rt, headers.would_grant(6, far, Mode::IS), false);
+    same(&rt, would_grant(&headers, 6, far, Mode::IS), false);
     same(&rt, is_gone(&headers, other), (true, false));
     same(&rt, headers.group(other), Mode::NL);
     asks(&rt, &mut headers, 6, other, Mode::S, None);

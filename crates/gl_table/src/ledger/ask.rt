@@ -1,11 +1,13 @@
 //! Asking for a node: granted at once, or queued.
 
-ghost use Rattle.std.specs.Prelude.{◌&&◌, ◌<◌, ◌≡◌, IfErr, IfOk, IsOk, OnErr, OnOk, false, length, true};
+ghost use Rattle.std.specs.Prelude.{◌&&◌, ◌<◌, ◌≡◌, IfErr, IfOk, IsOk, OnErr, OnOk, false, length, not, true};
 ghost use Rattle.gl_header.specs.Header.{holds};
-ghost use Rattle.gl_header.specs.Headers.{is_granted_at};
+ghost use Rattle.gl_header.specs.Headers.{held_of, is_granted_at};
 ghost use Rattle.gl_model.specs.Calls.{enters_at};
 ghost use Rattle.gl_model.specs.State.{members};
+ghost use Rattle.gl_modes.specs.declared.mode.Mode.TheVariants.{NL};
 ghost use Rattle.gl_modes.specs.declared.refusal.Refusal.{Refusal as ARefusal};
+ghost use Rattle.gl_modes.specs.Modes.{same_mode};
 ghost use Rattle.gl_table.specs.inside.Ledger.{AreExact, KeepsLocks, state_in};
 ghost use Rattle.gl_table.specs.inside.Slots.{HasRoomAt, KeepsLists};
 ghost use Rattle.gl_table.specs.inside.Steps.{CanAsk, HasAsked, HasGrant, MayAct};
@@ -31,27 +33,28 @@ pub(crate) fn make_room(lists: &mut Vec<LockList>, slot: Slot) -> Result<(), All
 }
 
 impl Ledger {
-    /// Makes room in the list of a slot for what an ask comes to. A conversion that is granted at once
-    /// needs none, so that want of memory does not refuse it.
+    /// Makes room in the list of a slot, which holds the node in the mode `held`, for what an ask comes
+    /// to. A conversion that is granted at once needs none, so that want of memory does not refuse it.
     #[inline]
     fn make_room_to_ask(
         &mut self,
         slot: Slot,
         node: NodeId,
+        held: Mode,
         mode: Mode,
-        is_member: bool,
     ) -> Result<(), AllocError>
-        requires { slot < length self.old.lists.items }
+        requires listed { slot < length self.old.lists.items }
+        requires held { held ≡ held_of self.old.headers.entries slot node }
         ensures rest { self.new ≡ record self.old { lists = self.new.lists } }
         ensures kept { KeepsLists self.old.lists.items self.new.lists.items }
-        ensures room { OnOk result ((is_member && is_granted_at self.old.headers.entries slot node mode) ≡ false
+        ensures room { OnOk result ((not (same_mode held NL) && is_granted_at self.old.headers.entries slot node mode) ≡ false
             → HasRoomAt self.new.lists.items slot) }
-        ensures at_once { (is_member && is_granted_at self.old.headers.entries slot node mode) ≡ true → IsOk result }
+        ensures at_once { (not (same_mode held NL) && is_granted_at self.old.headers.entries slot node mode) ≡ true → IsOk result }
     {
         match make_room(&mut self.lists, slot) {
             Ok(()) => Ok(()),
             Err(no_memory) => {
-                if is_member && self.headers.would_grant(slot, node, mode) {
+                if held != Mode::NL && self.headers.would_grant(slot, node, held, mode) {
                     Ok(())
                 } else {
                     Err(no_memory)
@@ -89,7 +92,7 @@ impl Ledger {
         if is_member && covers(held, mode) {
             return Ok(Asked::Granted(held)); // Nothing changes.
         }
-        let Ok(()) = self.make_room_to_ask(slot, node, mode, is_member) else {
+        let Ok(()) = self.make_room_to_ask(slot, node, held, mode) else {
             return Err(Refusal::NoMemory);
         };
         let asked = self.headers.ask(slot, node, held, mode)?;

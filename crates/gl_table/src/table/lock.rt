@@ -99,7 +99,7 @@ impl Table {
     {
         let locks = &mut self.locks;
         let (held, parents) = locks.ledger.check_ask(&locks.graph, t, n, mode)?;
-        if !locks.ledger.headers.would_grant(t.slot, n, mode) {
+        if !locks.ledger.headers.would_grant(t.slot, n, held, mode) {
             return Err(Refusal::WouldBlock);
         }
         locks

@@ -3,18 +3,19 @@ use Rattle.std.proofs.lemmas.Result.{on_err_weaker}
 use Rattle.std.specs.Box.{with_value}
 use Rattle.std.specs.Prelude.{Some}
 use Rattle.gl_modes.specs.declared.mode.Mode.TheVariants.{NL}
-use Rattle.gl_modes.specs.Modes.{same_mode}
+use Rattle.gl_modes.specs.Modes.{same_mode, supremum}
 use Rattle.gl_modes.proofs.ModeLemmas.{not_NL, supremum-not_NL}
 use Rattle.gl_modes.proofs.Words.{clash}
 use Rattle.gl_header.specs.Answers.{asked, asked_members, asked_queue}
 use Rattle.gl_header.specs.Groups.{nobody}
 use Rattle.gl_header.specs.Header.{with_mode}
-use Rattle.gl_header.specs.Places.{header_of, stands}
+use Rattle.gl_header.specs.Places.{header_of, members_by, stands}
 use Rattle.gl_header.specs.State.{IsLawfulHeader, held_by_one}
 use Rattle.gl_header.specs.declared.header.Asked.TheVariants.{Granted}
 use Rattle.gl_header.specs.declared.places.Place.TheVariants.{Held, Shared}
 use Rattle.gl_header.specs.declared.places.Shared.{Shared as SharedBox}
-use Rattle.gl_header.proofs.Alone.{alone-below, alone-lawful, alone-lock, free-answer, free-members, free-queue, own-answer, own-members, own-queue}
+use Rattle.gl_header.proofs.Alone.{alone-below, alone-here, alone-lawful, alone-lock, free-answer, free-members, free-queue, own-answer, own-members, own-queue}
+use Rattle.gl_header.proofs.places.ask_at.Goals.{After-sup}
 use Rattle.gl_header.proofs.places.ask_at.Goals as goal
 
 -- nobody holds
@@ -34,32 +35,38 @@ returns-in-Free-clause-stands c = record {
 
 -- the one holder asks
 
-is : (c : goal.After-sup-wanted) → c.args.place.now ≡ Held c.args.slot c.in-Held.own c.in-Held.birth
+is : (c : After-sup) → c.args.place.now ≡ Held c.args.slot c.in-Held.own c.in-Held.birth
 is c = c.in-Held.is ∙ ap (λ t. Held t c.in-Held.own c.in-Held.birth) c.if-holder-slot.true
 
-lawful : (c : goal.After-sup-wanted) → IsLawfulHeader (held_by_one c.in-Held.holder c.in-Held.own)
+wanted_is : (c : After-sup) → c.sup.result ≡ supremum c.in-Held.own c.args.mode
+wanted_is c =
+    c.sup.ensures
+    ∙ ap (λ m. supremum m c.args.mode)
+    (c.requires.held ∙ ap (λ p. members_by p c.args.slot) (is c) ∙ alone-here c.args.slot c.in-Held.own)
+
+lawful : (c : After-sup) → IsLawfulHeader (held_by_one c.in-Held.holder c.in-Held.own)
 lawful c = c.requires.place.lawful.lawful (c.in-Held.birth, held_by_one c.in-Held.holder c.in-Held.own) (ap stands c.in-Held.is)
 
-raised : (c : goal.After-sup-wanted) → c.sup-wanted.result ≢ NL
+raised : (c : After-sup) → c.sup.result ≢ NL
 raised c e = clash (ap (λ k. same_mode k NL) e)
-    (ap (λ k. same_mode k NL) c.sup-wanted.ensures ∙ supremum-not_NL c.in-Held.own c.args.mode (not_NL c.args.mode c.requires.may.lock))
+    (ap (λ k. same_mode k NL) c.sup.ensures ∙ supremum-not_NL c.args.held c.args.mode (not_NL c.args.mode c.requires.may.lock))
 
 pub returns-in-Held-clause-answer : goal.returns-in-Held-clause-answer
-returns-in-Held-clause-answer c =
-    ap Granted c.sup-wanted.ensures
-    ∙ (own-answer c.args.slot c.in-Held.own c.args.mode ∙ ap (λ p. asked (header_of (stands p)) c.args.slot c.args.mode) (sym (is c)))
+returns-in-Held-clause-answer c = let p = (goal.at.returns-in-Held-clause-answer c).After-sup in
+    ap Granted (wanted_is p)
+    ∙ (own-answer c.args.slot c.in-Held.own c.args.mode ∙ ap (λ x. asked (header_of (stands x)) c.args.slot c.args.mode) (sym (is p)))
 
 pub returns-in-Held-clause-stands : goal.returns-in-Held-clause-stands
-returns-in-Held-clause-stands c = record {
-  header = held_by_one c.in-Held.holder c.sup-wanted.result;
-  there = ap (λ b. Some (b, held_by_one c.in-Held.holder c.sup-wanted.result))
+returns-in-Held-clause-stands c = let p = (goal.at.returns-in-Held-clause-stands c).After-sup in record {
+  header = held_by_one c.in-Held.holder c.sup.result;
+  there = ap (λ b. Some (b, held_by_one c.in-Held.holder c.sup.result))
       (c.requires.place.own.birth (c.in-Held.birth, held_by_one c.in-Held.holder c.in-Held.own) (ap stands c.in-Held.is));
-  lawful = alone-lawful c.in-Held.holder c.sup-wanted.result (alone-below c.in-Held.holder c.in-Held.own (lawful c)) (raised c);
-  members = ap (λ t. with_mode nobody t c.sup-wanted.result) c.if-holder-slot.true
-      ∙ (ap (with_mode nobody c.args.slot) c.sup-wanted.ensures
+  lawful = alone-lawful c.in-Held.holder c.sup.result (alone-below c.in-Held.holder c.in-Held.own (lawful p)) (raised p);
+  members = ap (λ t. with_mode nobody t c.sup.result) c.if-holder-slot.true
+      ∙ (ap (with_mode nobody c.args.slot) (wanted_is p)
       ∙ (own-members c.args.slot c.in-Held.own c.args.mode
-      ∙ ap (λ p. asked_members (header_of (stands p)) c.args.slot c.args.mode) (sym (is c))));
-  queue = own-queue c.args.slot c.in-Held.own c.args.mode ∙ ap (λ p. asked_queue (header_of (stands p)) c.args.slot c.args.mode) (sym (is c));
+      ∙ ap (λ x. asked_members (header_of (stands x)) c.args.slot c.args.mode) (sym (is p))));
+  queue = own-queue c.args.slot c.in-Held.own c.args.mode ∙ ap (λ x. asked_queue (header_of (stands x)) c.args.slot c.args.mode) (sym (is p));
 }
 
 -- another slot asks

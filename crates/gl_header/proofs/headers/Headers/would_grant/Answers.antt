@@ -18,13 +18,13 @@ returns-in-Nobody c =
 pub returns-then-holder-slot : goal.returns-then-holder-slot
 returns-then-holder-slot c =
     number_same c.in-One.holder c.args.slot c.if-holder-slot.true
-    ∙ sym (own-granted c.args.slot c.in-One.held c.args.mode)
-    ∙ ap (λ t. is_granted (held_by_one t c.in-One.held) c.args.slot c.args.mode) (sym c.if-holder-slot.true)
+    ∙ sym (own-granted c.args.slot c.in-One.other c.args.mode)
+    ∙ ap (λ t. is_granted (held_by_one t c.in-One.other) c.args.slot c.args.mode) (sym c.if-holder-slot.true)
     ∙ ap (λ o. is_granted (header_or_new o) c.args.slot c.args.mode) c.in-One.ensures.is
 
 pub returns-else-holder-slot : goal.returns-else-holder-slot
 returns-else-holder-slot c =
     c.compatible.ensures
-    ∙ other-granted c.in-One.holder c.in-One.held c.args.slot c.args.mode
+    ∙ other-granted c.in-One.holder c.in-One.other c.args.slot c.args.mode
     (alone-below _ _ (c.in-One.ensures.lawful _ (sym c.in-One.ensures.is))) (λ e. c.if-holder-slot.false (sym e))
     ∙ ap (λ o. is_granted (header_or_new o) c.args.slot c.args.mode) c.in-One.ensures.is

@@ -16,11 +16,14 @@ use Rattle.gl_table.proofs.ledger.Ledger.ask.Goals.{After-make_room_to_ask, Afte
 use Rattle.gl_table.proofs.ledger.Ledger.ask.Goals.{else-not-is_member}
 use Rattle.gl_table.proofs.ledger.Ledger.ask.Goals as goal
 
--- whether the slot holds the node, as its list says
+-- whether the slot holds the node, as the caller says
+held_is : (c : After-make_room_to_ask) → c.ne-is_member.result ≡ not (same_mode c.args.held NL)
+held_is c = search rules
+
+-- and as its list says
 member_is : (c : After-make_room_to_ask) → c.ne-is_member.result ≡ holds (members (state_in c.args.graph.now c.args.self.now) c.args.node) c.args.slot
 member_is c =
-    let is : c.ne-is_member.result ≡ not (same_mode c.args.held NL) = search rules in
-    is ∙ ap (λ m. not (same_mode m NL)) (c.requires.can.held_is ∙ (c.requires.act.exact.agree c.args.slot).modes c.args.node)
+    held_is c ∙ ap (λ m. not (same_mode m NL)) (c.requires.can.held_is ∙ (c.requires.act.exact.agree c.args.slot).modes c.args.node)
 
 -- with the room that was made, all is as it was
 
@@ -53,6 +56,10 @@ ask-requires-clause-alone c = let p = (goal.at.ask-requires-clause-alone c).Afte
     c.law.ensures.lawful c.args.node c.requires.can.live
 
 -- the header says of the slot what its list does
+
+pub make_room_to_ask-requires-clause-held : goal.make_room_to_ask-requires-clause-held
+make_room_to_ask-requires-clause-held c = c.requires.can.held_is ∙ (c.requires.act.exact.agree c.args.slot).modes c.args.node
+
 pub ask-requires-clause-held : goal.ask-requires-clause-held
 ask-requires-clause-held c =
     c.requires.can.held_is ∙ (c.requires.act.exact.agree c.args.slot).modes c.args.node
@@ -78,7 +85,8 @@ pub returns-in_default-clause-held : goal.returns-in_default-clause-held
 returns-in_default-clause-held c =
     let p = (goal.at.returns-in_default-clause-held c).After-make_room_to_ask in
     λ h e. clash (c.in_default.ensures.at_once
-    (ap₂ (λ x y. x && y) (member_is p ∙ h) (says_is c.args.graph.now c.args.self.now c.args.slot c.args.node c.args.mode c.requires.act ∙ e))) refl
+    (ap₂ (λ x y. x && y) (sym (held_is p) ∙ member_is p ∙ h)
+    (says_is c.args.graph.now c.args.self.now c.args.slot c.args.node c.args.mode c.requires.act ∙ e))) refl
 
 pub returns-in_err-asked-clause-exact : goal.returns-in_err-asked-clause-exact
 returns-in_err-asked-clause-exact c =
@@ -111,18 +119,17 @@ enter-requires-clause-new c =
 
 pub enter-requires-clause-room : goal.enter-requires-clause-room
 enter-requires-clause-room c =
-    (own-room c.args.graph.now c.make_room_to_ask.new.self c.args.slot (may_now (goal.at.enter-requires-clause-room c).After-make_room_to_ask)
-    c.index_mut-list.result.now c.index_mut-list.ensures.value
+    let p = (goal.at.enter-requires-clause-room c).After-make_room_to_ask in
+    (own-room c.args.graph.now c.make_room_to_ask.new.self c.args.slot (may_now p) c.index_mut-list.result.now c.index_mut-list.ensures.value
     (c.in-Ok.ensures.room (ap (λ b. b && is_granted_at c.args.self.now.headers.entries c.args.slot c.args.node c.args.mode)
-    c.if-is_member-2.false))).0
+    (sym (held_is p) ∙ c.if-is_member-2.false)))).0
 
 pub count_up-requires-clause-room : goal.count_up-requires-clause-room
 count_up-requires-clause-room c =
-    let x = c.index_mut-list.result.now in
-    let room = (own-room c.args.graph.now c.make_room_to_ask.new.self c.args.slot
-    (may_now (goal.at.count_up-requires-clause-room c).After-make_room_to_ask) x c.index_mut-list.ensures.value
+    let p = (goal.at.count_up-requires-clause-room c).After-make_room_to_ask in
+    let room = (own-room c.args.graph.now c.make_room_to_ask.new.self c.args.slot (may_now p) c.index_mut-list.result.now c.index_mut-list.ensures.value
     (c.in-Ok.ensures.room (ap (λ b. b && is_granted_at c.args.self.now.headers.entries c.args.slot c.args.node c.args.mode)
-    c.if-is_member-2.false))).1 in
+    (sym (held_is p) ∙ c.if-is_member-2.false)))).1 in
     let kept = c.enter.ensures.room in
     subst (λ ps. unlisted c.enter.new.self ps ≤ spare c.enter.new.self.loose) (sym c.requires.can.parents_are)
     (parents-room c.args.graph.now c.law.ensures.lawful c.args.node c.enter.new.self (omega arith))
@@ -143,10 +150,10 @@ enter-requires-then-not-is_member-clause-new c =
 
 pub enter-requires-then-not-is_member-clause-room : goal.enter-requires-then-not-is_member-clause-room
 enter-requires-then-not-is_member-clause-room c =
-    (own-room c.args.graph.now c.make_room_to_ask.new.self c.args.slot
-    (may_now (goal.at.enter-requires-then-not-is_member-clause-room c).After-make_room_to_ask) c.index_mut-list.result.now c.index_mut-list.ensures.value
+    let p = (goal.at.enter-requires-then-not-is_member-clause-room c).After-make_room_to_ask in
+    (own-room c.args.graph.now c.make_room_to_ask.new.self c.args.slot (may_now p) c.index_mut-list.result.now c.index_mut-list.ensures.value
     (c.in-Ok.ensures.room (ap (λ b. b && is_granted_at c.args.self.now.headers.entries c.args.slot c.args.node c.args.mode)
-    c.if-not-is_member.true))).0
+    (sym (held_is p) ∙ c.if-not-is_member.true)))).0
 
 -- a conversion is granted: its list has the mode
 put_raised : (c : After-set_mode) → MayAct c.args.graph.now c.args.self.now c.args.slot
@@ -158,8 +165,9 @@ put_raised c m held = let g = c.args.graph.now in let l = c.make_room_to_ask.new
     let x = c.index_mut-list.result.now in let x' = c.set_mode.new.self in
     let now = sym (roomy_says l m c.make_room_to_ask.ensures.rest c.make_room_to_ask.ensures.kept n c.args.mode)
     ∙ answer-enters _ _ _ _ c.in_ok-asked.ensures.answer c.in-Granted.is in
+    let is : c.ne-is_member.result ≡ not (same_mode c.args.held NL) = search rules in
     let r = roomy_ready l m c.make_room_to_ask.ensures.rest c.make_room_to_ask.ensures.kept n c.args.mode c.ne-is_member.result true held
-    now c.in-Ok.ensures.room in
+    now (λ e. c.in-Ok.ensures.room (ap (λ b. b && is_granted_at c.args.self.now.headers.entries t n c.args.mode) (sym is) ∙ e)) in
     let listed = slot-listed g l t r.may in
     is_granted _ r c.in_ok-asked.asked c.in-Granted.wanted c.law.ensures.lawful c.requires.can.live
     c.requires.can.lock c.in_ok-asked.ensures.answer c.in-Granted.is c.in_ok-asked.ensures.asked.granted refl
@@ -180,8 +188,9 @@ put_new c m held = let g = c.args.graph.now in let l = c.make_room_to_ask.new.se
     let x = c.index_mut-list.result.now in let x' = c.count_up.new.self in
     let now = sym (roomy_says l m c.make_room_to_ask.ensures.rest c.make_room_to_ask.ensures.kept n c.args.mode)
     ∙ answer-enters _ _ _ _ c.in_ok-asked.ensures.answer c.in-Granted-2.is in
+    let is : c.ne-is_member.result ≡ not (same_mode c.args.held NL) = search rules in
     let r = roomy_ready l m c.make_room_to_ask.ensures.rest c.make_room_to_ask.ensures.kept n c.args.mode c.ne-is_member.result true held
-    now c.in-Ok.ensures.room in
+    now (λ e. c.in-Ok.ensures.room (ap (λ b. b && is_granted_at c.args.self.now.headers.entries t n c.args.mode) (sym is) ∙ e)) in
     let listed = slot-listed g l t r.may in
     is_granted _ r c.in_ok-asked.asked c.in-Granted-2.wanted c.law.ensures.lawful c.requires.can.live
     c.requires.can.lock c.in_ok-asked.ensures.answer c.in-Granted-2.is c.in_ok-asked.ensures.asked.granted refl
@@ -202,8 +211,8 @@ listed c m is blocked = let g = c.args.graph.now in let l = c.make_room_to_ask.n
     let x = c.index_mut-list.result.now in let at = c.index_mut-list.ensures.value in
     let held = held_of l.headers.entries t n in
     let there = slot-listed g l t m in
-    let room = (own-room g l t m x at (c.in-Ok.ensures.room (ap (λ b. c.ne-is_member.result && b) blocked
-    ∙ and-false c.ne-is_member.result))).1 in
+    let room = (own-room g l t m x at (c.in-Ok.ensures.room (ap (λ b. not (same_mode c.args.held NL) && b) blocked
+    ∙ and-false (not (same_mode c.args.held NL))))).1 in
     elim c.if-not-is_member.branch [
       | then-not-is_member w ↦ subst (λ ls. HasWait l.lists.items ls.items t n held) (sym (ap (λ y. y.lists) w.self-is))
           (has_wait-set l.lists.items t x w.enter-then-not-is_member.new.self there at n held
@@ -234,8 +243,9 @@ put : (c : After-set_status) → MayAct c.args.graph.now c.args.self.now c.args.
     → IsEnqueued c.args.graph.now c.args.self.now (record c.if-not-is_member.self { seats = c.set_status.new.self }) c.args.slot c.args.node
     c.args.mode
 put c m held = let g = c.args.graph.now in let l = c.make_room_to_ask.new.self in let t = c.args.slot in let n = c.args.node in
+    let is : c.ne-is_member.result ≡ not (same_mode c.args.held NL) = search rules in
     let r = roomy_ready l m c.make_room_to_ask.ensures.rest c.make_room_to_ask.ensures.kept n c.args.mode c.ne-is_member.result false held
-    (blocks c m) c.in-Ok.ensures.room in
+    (blocks c m) (λ e. c.in-Ok.ensures.room (ap (λ b. b && is_granted_at c.args.self.now.headers.entries t n c.args.mode) (sym is) ∙ e)) in
     is_enqueued g c.args.self.now l (record c.if-not-is_member.self { seats = c.set_status.new.self }) t n c.args.mode c.sup-wanted.result _ r
     c.ask.new.self.entries c.if-not-is_member.self.seats.items
     (ap (λ h. h.entries) (same_headers c)) c.in_ok-asked.ensures.asked.waits (ap (λ x. x.items) (same_seats c)) c.set_status.ensures.len

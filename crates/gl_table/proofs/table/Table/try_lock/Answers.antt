@@ -38,6 +38,11 @@ may : (c : In_ok-held) → MayLock (state_of (view_of c.self.inside)) c.args.t c
 may c = subst (λ (v : TableView). MayLock (state_of v) c.args.t c.args.n c.args.mode) (sym c.self.view_is)
     (may_lock_by (state_of c.args.self.now) c.args.t c.args.n c.args.mode (passed c))
 
+pub would_grant-requires : goal.would_grant-requires
+would_grant-requires c =
+    let act = may_ask c.self.inside c.self.invariant c.args.t c.args.n c.args.mode (may (goal.at.would_grant-requires c).In_ok-held) in
+    record { held = c.in_ok-held.ensures.held ∙ (act.exact.agree c.args.t.slot).modes c.args.n }
+
 pub grant-requires-clause-act : goal.grant-requires-clause-act
 grant-requires-clause-act c = may_ask c.self.inside c.self.invariant c.args.t c.args.n c.args.mode (may (goal.at.grant-requires-clause-act c).In_ok-held)
 
