@@ -59,6 +59,8 @@ enum Step {
     Node(Option<NodeId>),
     /// Whether a file has rows.
     HasRows(NodeId, bool),
+    /// So many files of rows are made.
+    Files(usize),
 }
 
 const ROW: Row = Row {
@@ -120,6 +122,7 @@ fn take(rt: &impl Abort, registry: &mut Registry, place: Place, step: Step) {
         Step::Named(rows) => same(rt, (place, registry.len()), (place, rows)),
         Step::Node(node) => same(rt, (place, registry.node(ROW)), (place, node)),
         Step::HasRows(file, has) => same(rt, (place, registry.has_rows(file)), (place, has)),
+        Step::Files(count) => make_files(rt, registry, place, count),
         Step::Stand(nodes) => same(
             rt,
             (place, registry.manager().graph().len()),
@@ -135,6 +138,16 @@ fn take(rt: &impl Abort, registry: &mut Registry, place: Place, step: Step) {
 fn applies(rt: &impl Abort, registry: &mut Registry, place: Place, call: Call, wanted: RowAnswer) {
     let answer = registry.apply(call_of(call), &mut Told::new());
     same(rt, (place, answer), (place, wanted));
+}
+
+/// Makes so many files of rows, and sees that each has rows.
+fn make_files(rt: &impl Abort, registry: &mut Registry, place: Place, count: usize) {
+    for _file in 0..count {
+        let call = RowCall::File { parents: &[DB] };
+        if let RowAnswer::Answered(Answer::Node(file)) = registry.apply(call, &mut Told::new()) {
+            same(rt, (place, registry.has_rows(file)), (place, true));
+        }
+    }
 }
 
 /// A registry over a root with a file of records.
@@ -287,6 +300,26 @@ const HAS_NO_ROWS: &[Step] = &[
     Step::HasRows(FILE, true),
 ];
 
+/// The last of twenty files of rows, which are more than are scanned.
+const LAST: NodeId = NodeId { key: 25, birth: 26 };
+
+/// The node that a row gets where the first of them stood.
+const AGAIN: NodeId = NodeId { key: 6, birth: 27 };
+
+const IS_ONE_OF_MANY: &[Step] = &[
+    Step::Files(20),
+    Step::HasRows(FILE, true),
+    Step::HasRows(LAST, true),
+    Step::HasRows(RECORDS, false),
+    Step::Serve(Ask::Insert(A, LAST, &[]), None),
+    Step::Apply(Call::LockRecord(A), RowAnswer::NotRows),
+    Step::Serve(Ask::Try(A, X, N7), Some(Answer::Granted(X))),
+    Step::Serve(Ask::Drop(A, N7), Some(Answer::Done)),
+    Step::HasRows(N7, false),
+    Step::HasRows(LAST, true),
+    Step::Lock(A, &[5], X, AGAIN, WRITTEN, true),
+];
+
 /// The number of a row that is locked in X stays until its transaction ends: so it is deleted.
 const NOT_WAITING: RowAnswer = RowAnswer::Answered(Answer::Refused(Refusal::NotWaiting));
 
@@ -330,6 +363,10 @@ fn rows_have_nodes_while_they_are_locked(rt: HostRuntime) {
         (
             "a file of records has no rows",
             &[OPEN, WRITER, HAS_NO_ROWS],
+        ),
+        (
+            "a file of rows is one of many",
+            &[OPEN, WRITER, IS_ONE_OF_MANY],
         ),
         (
             "a number is free at the commit",
