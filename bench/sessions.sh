@@ -8,8 +8,8 @@
 #
 # - A round is the seven calls of bench/locks.sh. `manager` makes them by calls of burlapslate.h, and `calls` by those
 #   of burlapslate_shared.h, so that the difference is the latch; `lists` by one bs_table_run of all seven.
-# - `watched` is the same with a watcher. It is shown the board behind each command while somebody waits, so the
-#   difference to the same unwatched is what telling it seven boards costs; while nobody waits it is told nothing.
+# - `watched` is the same with a watcher. A round has to do with nobody's wait, so the watcher is shown nothing: the
+#   difference to the same unwatched is what it costs to know that.
 # - `boards`, `questions` and `looks` are one call each: bs_table_read_board, bs_table_group, and bs_table_look.
 # - Each is measured alone; beside 100 other transactions, of which 50 hold a root each and 50 wait for it; and beside
 #   126 that wait for one root in a queue, and one who holds it. Nobody sleeps for these waits.
@@ -19,10 +19,11 @@
 # Watchers that are told every command, the notes that sessions give them, and replies with a list of notices each no
 # program in C can reach: they are not measured.
 #
-# What was counted in November 2026, in instructions: a round 3734 by the manager, 4291 by calls and 4206 by a list,
-# whoever waits elsewhere, and by calls 14 more with a watcher while nobody waits; a board 1790 alone, 12692 beside 100
-# elsewhere and 18512 beside a queue of 126; to show one 13130 and 18960 beside these, for each command; a question 140,
-# a look 1200. In time, the best of nine on a core of an Intel Xeon at 2.5 GHz that other work shares: a round 0.41,
+# What was counted in November 2026, in instructions: a round 3102 by the manager, 4035 by calls and 3687 by a list,
+# whoever waits elsewhere, and by calls 366 more with a watcher while nobody waits, and 472 while others do (some 92000
+# in 0.17, which showed a board behind each command); a board 1890 alone, 12243 beside 100 elsewhere and 18101 beside a
+# queue of 126; to show one, behind a command by which a wait may have changed, 16491 and 26659 beside these; a question
+# 221, a look 1015. In time, the best of nine on a core of an Intel Xeon at 2.5 GHz that other work shares: a round 0.41,
 # 0.48 and 0.57 microseconds, a board 0.24, 1.4 and 2.0, a look 0.17.
 
 # shellcheck source-path=SCRIPTDIR source=frame/frame.sh

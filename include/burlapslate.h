@@ -66,8 +66,8 @@ extern "C" {
 /* The version of what is declared here. The first number rises where a program has to be changed for it, or the second
  * while the first is 0. The second rises where something is added, the third where neither. */
 #define BS_VERSION_MAJOR 0
-#define BS_VERSION_MINOR 17
-#define BS_VERSION_PATCH 2
+#define BS_VERSION_MINOR 18
+#define BS_VERSION_PATCH 0
 
 /* How many transactions can live at once, and so how many notices a call can have. A library can be built for another
  * number, and is then installed with headers that have it here. */
@@ -628,10 +628,13 @@ static inline bs_found bs_ended(const bs_manager *manager) {
 
 /* ------------------------------------------------------------------------------------------------
  * Watchers: who waits for whom, without the mutex of the manager. A manager that has watchers shows them its
- * board behind each accepted command, as long as somebody waits or waited when it was last shown. So a board
- * that shows no wait is older than the last command only where nobody waits. To show a board takes memory, some
- * three kilobytes, with 1,024 slots 136; where that is refused the command is done all the same, and the next one shows
- * the board.
+ * board behind each accepted command by which a wait may have come, gone or changed. Where it shows none, the last
+ * board shows every wait that stands, with the ages of those who wait and of those for whom they wait; its epoch and
+ * all other ages are of its own moment. It shows none, where nobody waits, behind a command that leaves nobody waiting.
+ * Else it shows none behind a command that tells nobody and makes a node or a transaction, or is one of a transaction
+ * that neither waits nor holds a node for which somebody waits: a lock, path or row that is granted at once, an unlock,
+ * a commit or an abort. To show a board takes memory, some three kilobytes, with 1,024 slots 136; where that is refused
+ * the command is done all the same, and the next one shows the board.
  */
 
 /* Makes a watcher of a manager at a place that has none, which knows the board of this moment. Refused with

@@ -3041,6 +3041,54 @@ static void a_watcher_looks(void) {
   ANSWERS(BS_NO_WATCHER, bs_look(&watcher, &board));
 }
 
+/* What is done by who has to do with no wait is not shown: the board before shows every wait still. Where a wait may
+ * have come, gone or changed, the board behind it is. */
+static void a_watcher_is_shown_changes(void) {
+  static bs_board board;
+  bs_watcher watcher = BS_NO_WATCHER_HERE;
+  struct asker one, two;
+  bs_txn a, b, c;
+  uint64_t seen;
+  set_up(BS_AT_BLOCK);
+  DONE(bs_table_watch(table, &watcher));
+  a = begin(), b = begin();
+  DONE(bs_table_lock_path(table, a, low, BS_X, NULL));
+  send_by_path(&one, b, low, BS_X);
+  DONE(bs_look(&watcher, &board));
+  WANT(waits_on_board(&board, b, a) && board.epoch == accepted_in(table));
+  seen = board.epoch;
+
+  c = begin();
+  DONE(bs_table_lock_path(table, c, high, BS_X, NULL));
+  DONE(bs_table_unlock(table, c, high, NULL));
+  DONE(bs_table_lock(table, c, high, BS_S, NULL));
+  DONE(bs_table_commit(table, c, NULL));
+  DONE(bs_look(&watcher, &board));
+  WANT(board.epoch == seen && seen < accepted_in(table));
+  WANT(waits_on_board(&board, b, a) && board.ages[b.slot] == b.age && board.ages[a.slot] == a.age);
+
+  c = begin();
+  send_by_path(&two, c, low, BS_X);
+  DONE(bs_look(&watcher, &board));
+  WANT(waits_on_board(&board, b, a) && waits_on_board(&board, c, a) && waits_on_board(&board, c, b));
+  WANT(board.ages[c.slot] == c.age && board.epoch == accepted_in(table));
+
+  DONE(bs_table_commit(table, a, NULL));
+  back(&one, BS_DONE);
+  DONE(bs_look(&watcher, &board));
+  WANT(!waits_on_board(&board, b, a) && waits_on_board(&board, c, b) && !waits_on_board(&board, c, a));
+  DONE(bs_table_commit(table, b, NULL));
+  back(&two, BS_DONE);
+  DONE(bs_look(&watcher, &board));
+  WANT(!waits_on_board(&board, c, b) && board.epoch == accepted_in(table));
+
+  DONE(bs_table_commit(table, c, NULL));
+  DONE(bs_look(&watcher, &board));
+  WANT(board.epoch < accepted_in(table));
+  DONE(bs_watch_end(&watcher));
+  close_table();
+}
+
 static void a_ninth_watcher(void) {
   static const bs_watcher none = BS_NO_WATCHER_HERE;
   bs_watcher all[9];
@@ -3795,6 +3843,7 @@ int main(int count, char **words) {
   TELL(an_instant_of_what_is_held);
   TELL(an_instant_in_a_list);
   TELL(a_watcher_looks);
+  TELL(a_watcher_is_shown_changes);
   TELL(a_ninth_watcher);
   TELL(one_of_two_watchers_goes_on);
   TELL(watchers_come_and_go);

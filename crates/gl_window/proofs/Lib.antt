@@ -4,3 +4,5 @@ pub mod Idle
 pub mod Lists
 pub mod RealBoards
 pub mod SeatSteps
+pub mod Spared
+pub mod Waits

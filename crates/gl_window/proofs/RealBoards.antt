@@ -23,14 +23,14 @@ use Rattle.gl_model.proofs.telling.Fronts.{waits_there}
 use Rattle.gl_model.proofs.queues.Waiters.{ahead_is, ahead_second}
 use Rattle.gl_model.proofs.law.Orderly.{lawful_orderly}
 use Rattle.gl_catalog.specs.Manager.{IsLawfulManager, ManagerView, state_of}
-use Rattle.gl_window.specs.Boards.{Fine}
+use Rattle.gl_window.specs.Boards.{Fine, ShowsWaits}
 
 module _ (s : State) (law : IsLawful s) (few : s.most ≤ most_slots) where
   -- who waits lives, and so does who is waited for
-  waiter_lives : (x y : ℕ) → waits_for s x y ≡ true → is_some (s.txns x) ≡ true
+  pub waiter_lives : (x y : ℕ) → waits_for s x y ≡ true → is_some (s.txns x) ≡ true
   waiter_lives x y h = txn_there (s.txns x) _ (step_is s x y h).2.waits
 
-  awaited_lives : (x y : ℕ) → waits_for s x y ≡ true → is_some (s.txns y) ≡ true
+  pub awaited_lives : (x y : ℕ) → waits_for s x y ≡ true → is_some (s.txns y) ≡ true
   awaited_lives x y h =
       let o = lawful_orderly s law in
       let st = step_is s x y h in let n = st.0 in
@@ -56,6 +56,10 @@ module _ (s : State) (law : IsLawful s) (few : s.most ≤ most_slots) where
   -- the board shows the age of each slot that it has
   age_shown : (x : ℕ) → x < most_slots → age_in (board_of s) x ≡ age_of s x
   age_shown x inside = get_or-map-range_with_len (age_of s) 0 most_slots x x 0 inside (omega arith)
+
+  -- so it shows the waits
+  pub shows_waits : ShowsWaits s (board_of s)
+  shows_waits = record { waits = edges; ages = λ x y h. let inside = low x y h in (age_shown x inside.0, age_shown y inside.1) }
 
   aged : (x : ℕ) → x < most_slots → is_some (s.txns x) ≡ true → 0 < age_in (board_of s) x
   aged x inside there = let a = (law.ages x there).0 in let e = age_shown x inside in omega (arith, a, e)

@@ -1,11 +1,16 @@
 -- Lists of published boards.
 use Rattle.std.specs.Prelude.{◌≡◌, ℕ, ◌≤◌, ◌<◌, true, false, List, [], ◌∷◌, ◌++◌}
 use mathlib.Core.List.{IsPrefix}
+use Rattle.gl_modes.specs.declared.node.NodeId.{NodeId}
+use Rattle.gl_header.specs.Header.{holds}
+use Rattle.gl_slots.specs.Slots.{has_slot}
+use Rattle.gl_slots.specs.declared.slots.Slots.{Slots}
 use Rattle.gl_waits.specs.declared.board.Board.{Board}
 use Rattle.gl_waits.specs.Boards.{age_in, board_edge, ShowsNobody}
 use Rattle.gl_waits.specs.Waits.{IsOnNoCycle}
 use Rattle.gl_model.specs.declared.answers.Detect.{Detect}
 use Rattle.gl_model.specs.declared.answers.Detect.TheVariants.{AtBlock}
+use Rattle.gl_model.specs.State.{State, age_of, is_wait, is_waiting_at, members, status_of, waits_for}
 
 -- the epoch of the last board of the list, or e
 abbrev pub last_epoch : ℕ → List Board → ℕ
@@ -40,3 +45,18 @@ pub record IsLawful (detect : Detect) (first : Board) (list : List Board) : Type
   pub begins : IsPrefix (first ∷ []) list
   pub rising : Rising 0 list
   pub fine : AllFine detect list
+
+-- the set has all parties to waits: who waits, and who holds a node for which somebody waits
+abbrev pub HasParties : State → Slots → Type 0
+HasParties s set =
+    (t : ℕ) → has_slot set t ≡ false
+    → (is_wait (status_of s t) ≡ false) × ((u : ℕ) (n : NodeId) → is_waiting_at s u n ≡ true → holds (members s n) t ≡ false)
+
+-- the board shows the waits of the state: each, with the ages of who waits and of whom it waits for
+pub record ShowsWaits (s : State) (b : Board) : Type 0 where
+  pub waits : (t u : ℕ) → board_edge b t u ≡ waits_for s t u
+  pub ages : (t u : ℕ) → waits_for s t u ≡ true → (age_in b t ≡ age_of s t) × (age_in b u ≡ age_of s u)
+
+-- the last board of the list shows them
+abbrev pub EndsWithWaits : State → List Board → Type 0
+EndsWithWaits s list = (board : Board) × Ends list board × ShowsWaits s board

@@ -1,5 +1,14 @@
 -- When watchers are told.
-use Rattle.std.specs.Prelude.{Bool, true}
+use Rattle.std.specs.Prelude.{Bool, true, false, not, ◌&&◌, Option, Some, None, if◌then◌else◌}
+use Rattle.gl_slots.specs.Slots.{has_none, has_slot}
+use Rattle.gl_slots.specs.declared.slots.Slots.{Slots}
+use Rattle.gl_header.specs.Header.{is_empty}
+use Rattle.gl_model.specs.Tellings.{Told}
+use Rattle.gl_catalog.specs.Counters.{grants}
+use Rattle.gl_steps.specs.Served.{leaves_waiting}
+use Rattle.gl_steps.specs.declared.command.Answer.{Answer}
+use Rattle.gl_steps.specs.declared.command.Command.{Command}
+use Rattle.gl_steps.specs.declared.command.Command.TheVariants as command
 use Rattle.gl_window.specs.declared.telling.Telling.{Telling}
 use Rattle.gl_window.specs.declared.telling.Telling.TheVariants.{Always, WhileWaiting}
 
@@ -7,3 +16,37 @@ use Rattle.gl_window.specs.declared.telling.Telling.TheVariants.{Always, WhileWa
 abbrev pub is_due : Telling → Bool → Bool
 is_due Always waited = true
 is_due WhileWaiting waited = waited
+
+-- whether a command is one that leaves all waits where it tells nobody, and none of these parties to waits gives it: a lock that is granted, or nodes
+-- that are released; or it makes a node or a transaction, or takes a record away for which there is no lock
+abbrev pub spares_waits : Slots → Command → Answer → Bool
+spares_waits parties (command.Inner ps) a = true
+spares_waits parties (command.File ps) a = true
+spares_waits parties (command.Index ps f bs) a = true
+spares_waits parties command.Begin a = true
+spares_waits parties (command.BeginAgain since) a = true
+spares_waits parties (command.Lock t n m) a = grants a && not (has_slot parties t.slot)
+spares_waits parties (command.Try t n m) a = not (has_slot parties t.slot)
+spares_waits parties (command.Unlock t n) a = not (has_slot parties t.slot)
+spares_waits parties (command.Commit t) a = not (has_slot parties t.slot)
+spares_waits parties (command.Abort t) a = not (has_slot parties t.slot)
+spares_waits parties (command.Insert t f keys) a = true
+spares_waits parties (command.Adopt f keys) a = true
+spares_waits parties (command.Forget r) a = true
+spares_waits parties (command.IndexBy t ps f bs) a = true
+spares_waits parties c a = false
+
+-- whether an accepted command is known to have left all waits as they were, by the parties to waits before it: where there were none, it leaves nobody
+-- waiting
+abbrev pub leaves_waits : Slots → Command → Answer → Told → Bool
+leaves_waits parties c a told = if has_none parties then not (leaves_waiting a) else is_empty told && spares_waits parties c a
+
+-- all parties to waits, where it is known that the board that was shown last shows the waits: behind such a command it is known still
+abbrev pub still_parties : Option Slots → Command → Answer → Told → Option Slots
+still_parties None c a told = None
+still_parties (Some parties) c a told = if leaves_waits parties c a told then Some parties else None
+
+-- the same behind a call of which it is known alone that it leaves nobody waiting where nobody waited
+abbrev pub still_nobody : Option Slots → Option Slots
+still_nobody None = None
+still_nobody (Some parties) = if has_none parties then Some parties else None

@@ -4,6 +4,7 @@
 
 mod history;
 mod now;
+mod parties;
 mod publisher;
 mod seats;
 mod telling;
@@ -12,6 +13,7 @@ mod window;
 
 pub use history::{Head, Line};
 pub use now::board_now;
+pub use parties::parties_of;
 pub use publisher::{Publisher, WatchFault};
-pub use telling::{Telling, is_due, may_show_waits};
+pub use telling::{Telling, is_due, keep_nobody, keep_parties, leaves_waits, may_show_waits};
 pub use watcher::Watcher;

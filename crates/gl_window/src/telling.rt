@@ -1,10 +1,13 @@
-//! When watchers are told, and whether a board shows that somebody waits.
+//! When watchers are told, and of which waits they know.
 
 ghost use Rattle.std.specs.Prelude.{◌≡◌, false};
 ghost use Rattle.gl_waits.specs.Boards.{ShowsNobody};
-ghost use Rattle.gl_window.specs.Tellings.{is_due};
+ghost use Rattle.gl_window.specs.Tellings.{is_due, leaves_waits, spares_waits, still_nobody, still_parties};
 ghost use Rattle.gl_window.specs.declared.telling.Telling.TheVariants.{WhileWaiting};
 
+use gl_model::{Notice, TxnId};
+use gl_slots::Slots;
+use gl_steps::{Answer, Command, leaves_waiting};
 use gl_waits::Board;
 
 /// When a session tells watchers of a command that was accepted. A note tells in any case.
@@ -34,4 +37,78 @@ pub fn may_show_waits(telling: Telling, board: &Board) -> bool
     ensures some { telling ≡ WhileWaiting → ShowsNobody board.now → result ≡ false }
 {
     telling == Telling::Always || !board.shows_nobody()
+}
+
+/// Notes all parties to waits, where it is known that the board that was shown last shows the waits: behind
+/// a command that was accepted it is known still, where the command is known to have left all waits as they
+/// were. Where nobody watches, nothing is known, and each command comes by here.
+#[inline(always)]
+pub fn keep_parties(
+    parties: &mut Option<Slots>,
+    command: &Command<'_>,
+    answer: &Answer,
+    told: &[(TxnId, Notice)],
+)
+    ensures { parties.new ≡ still_parties parties.old command.now answer.now told.now }
+{
+    if let Some(known) = *parties {
+        if !leaves_waits(known, command, answer, told) {
+            *parties = None;
+        }
+    }
+}
+
+/// The same behind a call of which it is known alone that it leaves nobody waiting where nobody waited.
+pub fn keep_nobody(parties: &mut Option<Slots>)
+    ensures { parties.new ≡ still_nobody parties.old }
+{
+    if let Some(known) = *parties {
+        if !known.is_empty() {
+            *parties = None;
+        }
+    }
+}
+
+/// Whether a command that was accepted is known to have left all waits as they were, by the parties to
+/// waits before it.
+pub fn leaves_waits(
+    parties: Slots,
+    command: &Command<'_>,
+    answer: &Answer,
+    told: &[(TxnId, Notice)],
+) -> bool
+    ensures { result ≡ leaves_waits parties command.now answer.now told.now }
+{
+    if parties.is_empty() {
+        !leaves_waiting(answer)
+    } else {
+        told.is_empty() && spares_waits(parties, command, answer)
+    }
+}
+
+/// Whether a command is one that leaves all waits where it tells nobody, and none of these parties to
+/// waits gives it. One who holds no node for which somebody waits is granted no other, since it stands
+/// behind the queue there.
+fn spares_waits(parties: Slots, command: &Command<'_>, answer: &Answer) -> bool
+    ensures { result ≡ spares_waits parties command.now answer.now }
+{
+    match command {
+        Command::Lock { txn, .. } => {
+            matches!(answer, Answer::Granted(_)) && !parties.contains(txn.slot)
+        }
+        Command::Try { txn, .. }
+        | Command::Unlock { txn, .. }
+        | Command::Commit { txn }
+        | Command::Abort { txn } => !parties.contains(txn.slot),
+        Command::Inner { .. }
+        | Command::File { .. }
+        | Command::Index { .. }
+        | Command::Begin
+        | Command::BeginAgain { .. }
+        | Command::Insert { .. }
+        | Command::Adopt { .. }
+        | Command::Forget { .. }
+        | Command::IndexBy { .. } => true,
+        _ => false,
+    }
 }

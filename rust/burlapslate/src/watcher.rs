@@ -8,10 +8,10 @@ use std::fmt;
 
 /// One who looks at the boards that a manager shows, with no mutex and no wait.
 ///
-/// A manager that has watchers shows them its board behind each accepted command, as long as
-/// somebody waits or waited when it was last shown. So a board that shows no wait is older than the
-/// last command only where nobody waits. A watcher may outlive its manager: then it sees the last
-/// board that was shown.
+/// A manager that has watchers shows them its board behind each accepted command by which a wait may
+/// have come, gone or changed. Where it shows none, the last board shows every wait that stands, with
+/// the ages of those who wait and of those for whom they wait; its epoch and all other ages are of its
+/// own moment. A watcher may outlive its manager: then it sees the last board that was shown.
 ///
 /// ```
 /// use burlapslate::{Board, Detect, Mode, Table, SLOTS};

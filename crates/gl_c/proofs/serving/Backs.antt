@@ -1,7 +1,7 @@
 -- What it is to go back to a savepoint, to those who are told, who wait and who watch. For Guarded.serve_back.
 use Rattle.gl_slots.specs.declared.slots.Slots.{Slots}
 use Rattle.gl_slots.specs.Limit.{most_slots}
-use Rattle.std.specs.Prelude.{◌≡◌, ℕ, ◌+◌, ◌<◌, ◌≤◌, ◌==◌, ◌||◌, false, List, [], ◌∷◌, Option, Some, None, Ok, map}
+use Rattle.std.specs.Prelude.{◌≡◌, ℕ, ◌+◌, ◌<◌, ◌≤◌, ◌==◌, ◌||◌, false, List, [], ◌∷◌, Option, Some, None, Ok, map, is_none}
 use Rattle.std.specs.List.{list_any}
 use Rattle.std.proofs.Common.{refl, sym, ap, subst, ◌∙◌, arith}
 use Rattle.gl_modes.proofs.Words.{and_both, split}
@@ -42,7 +42,8 @@ use Rattle.gl_c.specs.managers.Guarded.{GuardedView, registry_in}
 use Rattle.gl_c.specs.locks.Savepoints.{ServesBack}
 use Rattle.gl_c.specs.managers.Serving.{ShowsOn}
 use Rattle.gl_c.proofs.serving.RowCalls.{leaves_idle, low}
-use Rattle.gl_c.proofs.serving.Serving.{IsQuiet}
+use Rattle.gl_c.proofs.serving.Serving.{Knows}
+use Rattle.gl_window.specs.Tellings.{still_nobody}
 
 -- One node after the other is unlocked: all live on, nobody begins to wait, and the limit and the way of detection stay.
 
@@ -134,9 +135,9 @@ pub back_some : (g after : GuardedView) (t : TxnId) (mark k : ℕ) (list : Told)
     → GoesBackTo t mark g.manager g.rows (Ok k) list v.manager v.rows → Delivers g.boxes list boxes
     → (after.manager ≡ v.manager) × (after.boxes ≡ boxes) × (after.ended ≡ ended) × (after.rows ≡ v.rows)
     → ((u : ℕ) → u < most_slots → has_slot ended u ≡ (false || list_any (λ x. x.0.slot == u) list))
-    → ShowsOn g.waited (board_of (state_of v.manager)) g.shown after.shown → IsQuiet after.manager after.shown after.waited
+    → ShowsOn (is_none (still_nobody g.parties)) (board_of (state_of v.manager)) g.shown after.shown → Knows after.manager after.shown after.parties
     → ServesBack g t mark (Ok k) list after
-back_some g after t mark k list v boxes ended h delivered kept slots shown quiet =
+back_some g after t mark k list v boxes ended h delivered kept slots shown knows =
     let same : registry_in after ≡ v = λ i. record { manager = kept.0 i; rows = kept.3 i } in (
       subst (λ (x : RegistryView). GoesBackTo t mark g.manager g.rows (Ok k) list x.manager x.rows) (sym same) h,
       record {
@@ -147,7 +148,7 @@ back_some g after t mark k list v boxes ended h delivered kept slots shown quiet
               (back_ended (registry_in g) v t mark k list h ended slots));
           slots = λ u below. ap (λ n. has_slot n u) kept.2 ∙ slots u below;
         };
-        shown = subst (λ (x : ManagerView). ShowsOn g.waited (board_of (state_of x)) g.shown after.shown) (sym kept.0) shown;
-        quiet = quiet;
+        shown = subst (λ (x : ManagerView). ShowsOn (is_none (still_nobody g.parties)) (board_of (state_of x)) g.shown after.shown) (sym kept.0) shown;
+        known = knows;
       },
     )

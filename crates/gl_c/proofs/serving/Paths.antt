@@ -1,12 +1,14 @@
 -- What a path is to those who are told, who wait and who watch. For Guarded.serve_path.
 use Rattle.gl_slots.specs.declared.slots.Slots.{Slots}
 use Rattle.gl_slots.specs.Limit.{most_slots}
-use Rattle.std.specs.Prelude.{◌≡◌, ◌⊎◌, ℕ, zero, suc, ◌+◌, ◌<◌, ◌≤◌, ◌==◌, ◌||◌, not, Bool, true, false, [], ◌∷◌, length, OnErr, Result, Ok, Err}
+use Rattle.std.specs.Prelude.{◌≡◌, ◌⊎◌, ℕ, zero, suc, ◌+◌, ◌<◌, ◌≤◌, ◌==◌, ◌||◌, not, Bool, true, false, [], ◌∷◌, length, OnErr, Option, Some, None, Result}
+use Rattle.std.specs.Prelude.{Ok, Err, ◌&&◌, if◌then◌else◌}
 use Rattle.std.specs.List.{list_any}
 use Rattle.std.proofs.lemmas.Bool.Decides.{nat_tests}
 use Rattle.std.proofs.Common.{refl, sym, ap, subst, ◌∙◌, inl, inr, ⊎_elim, arith}
 use mathlib.Core.Bool.{true≢false}
-use Rattle.gl_modes.proofs.Words.{and_both, split}
+use Rattle.std.proofs.lemmas.Bool.{not-true}
+use Rattle.gl_modes.proofs.Words.{and_both, both as both_true, split}
 use Rattle.gl_modes.specs.declared.mode.Mode.{Mode}
 use Rattle.gl_modes.specs.declared.node.NodeId.{NodeId}
 use Rattle.gl_slots.specs.Slots.{has_slot}
@@ -37,11 +39,19 @@ use Rattle.gl_steps.proofs.WaitsEnd.{ends_waits}
 use Rattle.gl_steps.specs.Served.{Counts, is_refused}
 use Rattle.gl_wakes.specs.Notices.{RisingTo}
 use Rattle.gl_wakes.specs.Wakes.{HasEnded}
-use Rattle.gl_window.proofs.Idle.{neither}
 use Rattle.gl_wakes.proofs.Rising.{step_rises}
 use Rattle.gl_steps.proofs.Serving.{step_counts}
 use Rattle.gl_wakes.proofs.Waking.{wakes_ended}
-use Rattle.gl_c.specs.locks.Paths.{ends_waiting, is_left_waiting}
+use Rattle.gl_header.specs.Header.{is_empty}
+use Rattle.gl_model.specs.Lawful.{IsLawful}
+use Rattle.gl_slots.specs.Slots.{has_none}
+use Rattle.gl_window.proofs.Spared.{none_in as none_in_told, step_spares}
+use Rattle.gl_window.proofs.Waits.{Spares, nobody_spared, none_waits, spared_itself, spares_then}
+use Rattle.gl_window.specs.Boards.{HasParties}
+use Rattle.gl_window.specs.Strip.{Strip}
+use Rattle.gl_c.proofs.serving.Showing.{knows_if}
+use Rattle.gl_c.specs.managers.Serving.{KnowsWaits}
+use Rattle.gl_c.specs.locks.Paths.{ends_waiting, goes_well, is_left_waiting, leaves_on_path, still_on_path}
 
 -- a lock leaves the limit of transactions
 settled_most : (c : Victims) (k : ℕ) (s s' : State) (t : ℕ) → SettledWithin c k s t s' → s'.most ≡ s.most
@@ -148,6 +158,25 @@ module _ (t : TxnId) (ask last : Ask) (r : Says) (m' : ManagerView) where
       path_quiet k path.2
       (nobody_waits_on (state_of m) (state_of path.2) (lock_of t path.0) path.1.0 path.1.1 idle (λ is. absurd (cc (is, yes.1))) path.3.step) goes path.5
 
+  -- where its transaction is no party to a wait, and its last ask is refused, or is granted and tells nobody, it spares all waits
+  path_spares : (set : Slots) (k : ℕ) (m : ManagerView) → IsLawful (state_of m) → (state_of m).most ≤ most_slots → HasParties (state_of m) set
+      → has_slot set t.slot ≡ false → (refuses r.0 ≡ true) ⊎ ((grants r.0 ≡ true) × (r.1 ≡ [])) → IsPath k t ask m last r m'
+      → Spares set (state_of m) (state_of m')
+  path_spares set zero m law few has out (inl refused) path =
+      subst (λ (x : ManagerView). Spares set (state_of m) (state_of x)) (sym (path.0.unchanged refused)) (spared_itself set (state_of m) has)
+  path_spares set zero m law few has out (inr went) path =
+      step_spares set (state_of m) law few has r.0 r.1 (state_of m') went.1 (lock_of t last) path.0.step (both_true (grants r.0) _ went.0 (ap not out))
+  path_spares set (suc k) m law few has out well path =
+      let on = and_both (grants path.1.0) (length path.1.1 == 0) (and_both _ _ path.4).0 in
+      let none = none_told ask.0 path.0.0 path.1 path.4 in
+      let first : Spares set (state_of m) (state_of path.2) =
+      step_spares set (state_of m) law few has path.1.0 path.1.1 (state_of path.2) none (lock_of t path.0) path.3.step
+      (both_true (grants path.1.0) _ on.0 (ap not out)) in
+      spares_then set (state_of m) (state_of path.2) (state_of m') first
+      (path_spares set k path.2
+      (steps_keep_law (state_of m) (state_of path.2) (lock_of t path.0) path.1.0 path.1.1 law path.3.step)
+      (subst (λ n. n ≤ most_slots) (sym (lock_most t path.0 (state_of m) (state_of path.2) path.1.0 path.1.1 path.3.step)) few) first.parties out well path.5)
+
   -- whose wait it ends is told by its last ask
   pub path_ended : (k : ℕ) (m : ManagerView) (slots : Slots) → ((u : ℕ) → u < most_slots → has_slot slots u ≡ (false || list_any (λ x. x.0.slot == u) r.1))
       → IsPath k t ask m last r m' → HasEnded (state_of m) (state_of m') slots
@@ -209,10 +238,30 @@ module _ (t : TxnId) (ask : Ask) (m m' : ManagerView) (told : Told) where
     pub told_rises : (state_of m).most ≤ most_slots → RisingTo 0 told most_slots
     told_rises few = subst (λ (l : Told). RisingTo 0 l most_slots) (told_is result none) (path_rises t ask path.1 says m' path.0 m few path.2)
 
-    pub stays_quiet : (waited : Bool) → (waited ≡ false → NobodyWaits (state_of m)) → (waited || ends_waiting result) ≡ false → NobodyWaits (state_of m')
-    stays_quiet waited quiet e =
-        let both = neither waited (ends_waiting result) e in
-        path_quiet t ask path.1 says m' path.0 m (quiet both.0) (none_waiting result both.1) path.2
+    pub stays_quiet : NobodyWaits (state_of m) → ends_waiting result ≡ false → NobodyWaits (state_of m')
+    stays_quiet idle goes = path_quiet t ask path.1 says m' path.0 m idle (none_waiting result goes) path.2
+
+    -- what is known of the waits behind it
+    pub path_known : IsLawful (state_of m) → (state_of m).most ≤ most_slots → (shown : Option Strip) (parties : Option Slots)
+        → KnowsWaits (state_of m) shown parties → KnowsWaits (state_of m') shown (still_on_path parties t result told)
+    path_known law few shown None known = tt
+    path_known law few shown (Some set) known =
+        knows_if (state_of m) (state_of m') shown set (leaves_on_path set t result told) (λ e. by (has_none set) refl e) known
+      where
+        well : (x : Result Reached Refusal) → goes_well x ≡ true → told ≡ []
+            → (refuses (said (reaching told) x).0 ≡ true) ⊎ ((grants (said (reaching told) x).0 ≡ true) × ((said (reaching told) x).1 ≡ []))
+        well (Ok x) e untold = inr (e, untold)
+        well (Err x) e untold = inl refl
+
+        by : (b : Bool) → has_none set ≡ b
+            → (if b then not (ends_waiting result) else is_empty told && (goes_well result && not (has_slot set t.slot))) ≡ true
+            → Spares set (state_of m) (state_of m')
+        by true is e =
+            let idle = none_waits (state_of m) set known.0 is in
+            nobody_spared set (state_of m) (state_of m') idle (stays_quiet idle (not-true _ e))
+        by false is e =
+            let b = and_both (is_empty told) _ e in let c = and_both (goes_well result) _ b.1 in
+            path_spares t ask path.1 says m' set path.0 m law few known.0 (not-true _ c.1) (well result c.0 (none_in_told told b.0)) path.2
 
     pub ended_told : (slots : Slots) → ((u : ℕ) → u < most_slots → has_slot slots u ≡ (false || list_any (λ x. x.0.slot == u) told))
         → HasEnded (state_of m) (state_of m') slots

@@ -1,14 +1,14 @@
 -- What a call about rows is to those who are told, who wait and who watch. For Guarded.serve_row.
 use Rattle.gl_slots.specs.declared.slots.Slots.{Slots}
 use Rattle.gl_slots.specs.Limit.{most_slots}
-use Rattle.std.specs.Prelude.{◌≡◌, ◌⊎◌, ℕ, ◌<◌, ◌≤◌, ◌==◌, ◌||◌, ◌&&◌, not, Bool, true, false, List, [], Option, Some, None, Result, Ok, Err}
+use Rattle.std.specs.Prelude.{◌≡◌, ◌⊎◌, ℕ, ◌<◌, ◌≤◌, ◌==◌, ◌||◌, ◌&&◌, not, true, false, List, [], Option, Some, None, Result, Ok, Err, is_none, if◌then◌else◌}
 use Rattle.std.specs.List.{list_any}
 use Rattle.std.proofs.Common.{refl, sym, ap, subst, ◌∙◌, inl, inr, arith}
 use mathlib.Core.Bool.{true≢false}
 use denote.Bor.{Bor}
 use Rattle.gl_modes.specs.declared.node.NodeId.{NodeId}
 use Rattle.gl_modes.specs.declared.refusal.Refusal.{Refusal}
-use Rattle.gl_slots.specs.Slots.{has_slot}
+use Rattle.gl_slots.specs.Slots.{has_none, has_slot}
 use Rattle.gl_model.specs.declared.answers.Locked.{Locked}
 use Rattle.gl_model.specs.declared.answers.Locked.TheVariants as locked
 use Rattle.gl_model.specs.declared.txn.TxnId.{TxnId}
@@ -25,7 +25,6 @@ use Rattle.gl_steps.specs.Promises.{NobodyWaits, waits_on}
 use Rattle.gl_catalog.specs.Replies.{doing, made, rising}
 use Rattle.gl_steps.specs.Step.{answer_of_lock}
 use Rattle.gl_steps.proofs.Detection.{steps_keep_detect}
-use Rattle.gl_steps.proofs.WaitsBegin.{nobody_waits_on}
 use Rattle.gl_registry.specs.declared.answer.RowAnswer.{RowAnswer}
 use Rattle.gl_registry.specs.declared.answer.RowLocked.{RowLocked}
 use Rattle.gl_registry.specs.declared.answer.RowRefusal.{RowRefusal}
@@ -45,14 +44,20 @@ use Rattle.gl_steps.specs.Served.{is_query, is_refused, leaves_waiting}
 use Rattle.gl_wakes.specs.Notices.{RisingTo}
 use Rattle.gl_wakes.specs.Wakes.{names_slot}
 use Rattle.gl_wakes.specs.Wakes.{HasEnded}
-use Rattle.gl_window.proofs.Idle.{neither}
+use Rattle.gl_window.proofs.Waits.{Spares}
+use Rattle.gl_window.specs.Boards.{HasParties}
+use Rattle.gl_window.specs.Strip.{Strip}
+use Rattle.gl_window.specs.Tellings.{spares_waits, still_parties}
 use Rattle.gl_wakes.proofs.Rising.{step_rises}
 use Rattle.gl_steps.proofs.Serving.{step_counts}
 use Rattle.gl_wakes.proofs.Waking.{wakes_ended}
 use Rattle.gl_c.specs.managers.Guarded.{GuardedView, registry_in}
-use Rattle.gl_c.specs.locks.Rows.{ServesRow, comes_to_nothing, is_waited_for}
-use Rattle.gl_c.specs.managers.Serving.{ShowsOn}
-use Rattle.gl_c.proofs.serving.Serving.{IsQuiet, same_view, shows_same}
+use Rattle.gl_c.specs.locks.Rows.{ServesRow, comes_to_nothing, still_by}
+use Rattle.gl_c.specs.managers.Serving.{KnowsWaits, ShowsOn}
+use Rattle.gl_c.proofs.serving.Showing.{knows_on, knows_still}
+use Rattle.gl_header.specs.Header.{is_empty}
+use Rattle.gl_model.specs.Lawful.{IsLawful}
+use Rattle.gl_c.proofs.serving.Serving.{Knows, same_view, shows_same}
 
 -- which node it is makes no difference to boxes, and to whose wait is taken back
 emptied_as : (v u : RowsView) (c : RowCall) (boxes : List Slot) → emptied (own_command v c) boxes ≡ emptied (own_command u c) boxes
@@ -74,6 +79,29 @@ names_as v u (call.Commit t) k = refl
 names_as v u (call.Abort t) k = refl
 names_as v u (call.Cancel t) k = refl
 names_as v u (call.Escalate t n) k = refl
+
+-- and to whether its waits are left
+spares_as : (v u : RowsView) (c : RowCall) (set : Slots) (a : Answer) → spares_waits set (own_command v c) a ≡ spares_waits set (own_command u c) a
+spares_as v u (call.File ps) set a = refl
+spares_as v u (call.Lock t row keys m) set a = refl
+spares_as v u (call.Unlock t row) set a = refl
+spares_as v u (call.Rekey t row index key) set a = refl
+spares_as v u (call.Commit t) set a = refl
+spares_as v u (call.Abort t) set a = refl
+spares_as v u (call.Cancel t) set a = refl
+spares_as v u (call.Escalate t n) set a = refl
+
+still_as : (v u : RowsView) (c : RowCall) (parties : Option Slots) (o : Option Answer) (told : Told)
+    → still_by parties (own_command v c) o told ≡ still_by parties (own_command u c) o told
+still_as v u c None o told = refl
+still_as v u c (Some set) None told = refl
+still_as v u c (Some set) (Some a) told =
+    ap (λ b. if (if has_none set then not (leaves_waiting a) else is_empty told && b) then Some set else None) (spares_as v u c set a)
+
+-- a call that is answered is judged as its command is
+answered_by : (parties : Option Slots) (c : Command) (a : Answer) (told : Told) → still_parties parties c a told ≡ still_by parties c (Some a) told
+answered_by None c a told = refl
+answered_by (Some set) c a told = refl
 
 -- no call only asks
 no_query : (v : RowsView) (c : RowCall) → is_query (own_command v c) ≡ false
@@ -174,6 +202,16 @@ module _ (m : ManagerView) (v : RowsView) (a : RowAnswer) (told : Told) (m' : Ma
 pub leaves_idle : (s s' : State) → LeavesAll s s' → NobodyWaits s → NobodyWaits s'
 leaves_idle s s' left idle t = ap (λ (x : State). is_wait (status_of x t)) left.is ∙ idle t
 
+spared_by : (s s' : State) → LeavesAll s s' → (set : Slots) → HasParties s set → Spares set s s'
+spared_by s s' left set has =
+    subst (Spares set s) (sym left.is)
+    (record { same = record { waits = λ t u. refl; ages = λ t u h. (refl, refl) }; parties = has })
+
+-- and so all that is known of waits
+knows_left : (s s' : State) → LeavesAll s s' → (shown : Option Strip) (parties : Option Slots) → KnowsWaits s shown parties → KnowsWaits s' shown parties
+knows_left s s' left shown None known = tt
+knows_left s s' left shown (Some set) known = knows_on s s' shown set (spared_by s s' left set known.0) known
+
 pub low : (s s' : State) → (s' ≡ s) ⊎ (s.accepted < s'.accepted) → s.accepted ≤ s'.accepted
 low s s' (inl same) = let as_many = ap (λ (x : State). x.accepted) same in omega (arith, as_many)
 low s s' (inr later) = omega (arith, later)
@@ -216,13 +254,16 @@ module _ (m : ManagerView) (c : Command) (told : Told) (m' : ManagerView) where
     told_rises few =
         step_rises h.ahead c done.answer told h.behind (subst (λ n. n ≤ most_slots) (sym (ap (λ (x : State). x.most) left_before.is)) few) h.step
 
-    stays_quiet : (waited waits : Bool) → waits ≡ is_waited_for o → (waited ≡ false → NobodyWaits (state_of m)) → (waited || waits) ≡ false
-        → NobodyWaits (state_of m')
-    stays_quiet waited waits so quiet e =
-        let both = neither waited waits e in
-        leaves_idle h.behind (state_of m') left_after
-        (nobody_waits_on h.ahead h.behind c done.answer told (leaves_idle (state_of m) h.ahead left_before (quiet both.0))
-        (λ is. true≢false (sym (so ∙ ap is_waited_for done.is ∙ ap leaves_waiting is) ∙ both.1)) h.step)
+    -- what is known of the waits behind it
+    known_still : IsLawful (state_of m) → (state_of m).most ≤ most_slots → (shown : Option Strip) (parties : Option Slots)
+        → KnowsWaits (state_of m) shown parties → KnowsWaits (state_of m') shown (still_by parties c o told)
+    known_still law few shown parties known =
+        subst (λ x. KnowsWaits (state_of m') shown (still_by parties c x told)) (sym done.is)
+        (subst (KnowsWaits (state_of m') shown) (answered_by parties c done.answer told)
+        (knows_left h.behind (state_of m') left_after shown (still_parties parties c done.answer told)
+        (knows_still h.ahead h.behind shown parties c done.answer told (upkeep_law (state_of m) h.ahead law h.before)
+        (subst (λ n. n ≤ most_slots) (sym (ap (λ (x : State). x.most) left_before.is)) few) h.step
+        (knows_left (state_of m) h.ahead left_before shown parties known))))
 
     ends : (slots : Slots) → ((u : ℕ) → u < most_slots → has_slot slots u ≡ (names_slot c u || list_any (λ x. x.0.slot == u) told))
         → HasEnded (state_of m) (state_of m') slots
@@ -248,9 +289,11 @@ module _ (g : RegistryView) (c : RowCall) (a : RowAnswer) (told : Told) (v : Reg
   pub row_rises : (state_of g.manager).most ≤ most_slots → RisingTo 0 told most_slots
   row_rises = told_rises g.manager command told v.manager (answer_in a) done
 
-  pub row_quiet : (waited waits : Bool) → waits ≡ is_waited_for (answer_in a) → (waited ≡ false → NobodyWaits (state_of g.manager)) → (waited || waits) ≡ false
-      → NobodyWaits (state_of v.manager)
-  row_quiet = stays_quiet g.manager command told v.manager (answer_in a) done
+  pub row_known : IsLawful (state_of g.manager) → (state_of g.manager).most ≤ most_slots → (shown : Option Strip) (parties : Option Slots)
+      → KnowsWaits (state_of g.manager) shown parties → KnowsWaits (state_of v.manager) shown (still_by parties (own_command unnamed c) (answer_in a) told)
+  row_known law few shown parties known =
+      subst (KnowsWaits (state_of v.manager) shown) (sym (still_as unnamed (naming c g.rows v.rows) c parties (answer_in a) told))
+      (known_still g.manager command told v.manager (answer_in a) done law few shown parties known)
 
   row_ends : (slots : Slots) → ((u : ℕ) → u < most_slots → has_slot slots u ≡ (names_slot command u || list_any (λ x. x.0.slot == u) told))
       → HasEnded (state_of g.manager) (state_of v.manager) slots
@@ -259,9 +302,9 @@ module _ (g : RegistryView) (c : RowCall) (a : RowAnswer) (told : Told) (v : Reg
 -- A call that came to nothing.
 pub row_none : (g : GuardedView) (c : RowCall) (a : RowAnswer) (told : Told) (v : RegistryView)
     → AppliesCall (registry_in g) c a told v → CarriesOut g.manager (own_command (naming c g.rows v.rows) c) (answer_in a) told v.manager
-    → comes_to_nothing (answer_in a) ≡ true → IsQuiet g.manager g.shown g.waited
+    → comes_to_nothing (answer_in a) ≡ true → Knows g.manager g.shown g.parties
     → ServesRow g c a told (record g { manager = v.manager; rows = v.rows })
-row_none g c a told v applies own so quiet =
+row_none g c a told v applies own so knows =
     let same = nothing_done g.manager g.rows a told v.manager v.rows so c applies in
     record {
       applies = applies;
@@ -270,8 +313,8 @@ row_none g c a told v applies own so quiet =
       counted = λ came. absurd (true≢false (sym so ∙ came));
       boxes = λ came. absurd (true≢false (sym so ∙ came));
       wakes = λ came. absurd (true≢false (sym so ∙ came));
-      shown = shows_same (g.waited || is_waited_for (answer_in a)) (board_of (state_of v.manager)) g.shown;
-      quiet = subst (λ (x : ManagerView). IsQuiet x g.shown g.waited) (sym same.1) quiet;
+      shown = shows_same (is_none (still_by g.parties (own_command (naming c g.rows v.rows) c) (answer_in a) told)) (board_of (state_of v.manager)) g.shown;
+      known = subst (λ (x : ManagerView). Knows x g.shown g.parties) (sym same.1) knows;
     }
 
 -- One that came to something. Its notices went by the command that names no node.
@@ -281,9 +324,10 @@ pub row_some : (g after : GuardedView) (c : RowCall) (a : RowAnswer) (told : Tol
     → ((mid : List Slot) × Delivers g.boxes told mid × (boxes ≡ emptied (own_command unnamed c) mid))
     → (after.manager ≡ v.manager) × (after.boxes ≡ boxes) × (after.ended ≡ ended) × (after.rows ≡ v.rows)
     → ((u : ℕ) → u < most_slots → has_slot ended u ≡ (names_slot (own_command unnamed c) u || list_any (λ x. x.0.slot == u) told))
-    → ShowsOn (g.waited || is_waited_for (answer_in a)) (board_of (state_of v.manager)) g.shown after.shown → IsQuiet after.manager after.shown after.waited
+    → ShowsOn (is_none (still_by g.parties (own_command unnamed c) (answer_in a) told)) (board_of (state_of v.manager)) g.shown after.shown
+    → Knows after.manager after.shown after.parties
     → ServesRow g c a told after
-row_some g after c a told v boxes ended applies own came delivered kept slots shown quiet =
+row_some g after c a told v boxes ended applies own came delivered kept slots shown knows =
     let same : registry_in after ≡ v = λ i. record { manager = kept.0 i; rows = kept.3 i } in
     let named : (u : ℕ) → u < most_slots → has_slot ended u ≡ (names_slot (own_command (naming c g.rows v.rows) c) u || list_any (λ x. x.0.slot == u) told) =
     λ u below. slots u below ∙ ap (λ b. b || list_any (λ x. x.0.slot == u) told) (names_as unnamed (naming c g.rows v.rows) c u) in
@@ -300,6 +344,9 @@ row_some g after c a told v boxes ended applies own came delivered kept slots sh
         slots = λ u below. ap (λ k. has_slot k u) kept.2 ∙ slots u below
             ∙ ap (λ b. b || list_any (λ x. x.0.slot == u) told) (names_as unnamed (naming c g.rows after.rows) c u);
       };
-      shown = subst (λ (x : ManagerView). ShowsOn (g.waited || is_waited_for (answer_in a)) (board_of (state_of x)) g.shown after.shown) (sym kept.0) shown;
-      quiet = quiet;
+      shown = subst (λ (x : ManagerView). ShowsOn (is_none (still_by g.parties (own_command (naming c g.rows after.rows) c) (answer_in a) told))
+          (board_of (state_of x)) g.shown after.shown) (sym kept.0)
+          (subst (λ (o : Option Slots). ShowsOn (is_none o) (board_of (state_of v.manager)) g.shown after.shown)
+          (still_as unnamed (naming c g.rows after.rows) c g.parties (answer_in a) told) shown);
+      known = knows;
     }

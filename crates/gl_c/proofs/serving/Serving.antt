@@ -1,6 +1,6 @@
 -- What a command does, put together: of one that is not accepted, and of one that is; and what a path does.
 use Rattle.gl_slots.specs.declared.slots.Slots.{Slots}
-use Rattle.std.specs.Prelude.{◌≡◌, ℕ, ◌<◌, ◌||◌, Bool, true, false, List, [], Option, Some, None, Result}
+use Rattle.std.specs.Prelude.{◌≡◌, ℕ, ◌<◌, Bool, true, false, List, [], Option, Some, None, Result, is_none}
 use Rattle.std.proofs.Common.{refl, sym, ap, subst, ◌∙◌, inl, arith}
 use mathlib.Core.Bool.{true≢false}
 use Rattle.gl_waits.specs.declared.board.Board.{Board}
@@ -13,27 +13,27 @@ use Rattle.gl_steps.specs.declared.command.Command.{Command}
 use Rattle.gl_catalog.specs.declared.manager.paths.Reached.{Reached}
 use Rattle.gl_catalog.specs.Manager.{ManagerView, state_of}
 use Rattle.gl_catalog.specs.Paths.{Ask, lock_of}
-use Rattle.gl_steps.specs.Promises.{NobodyWaits}
 use Rattle.gl_registry.specs.Rows.{RegistryView, RowsView}
 use Rattle.gl_registry.specs.Serving.{Applies, LeavesRows, LocksWay, ServesBy, dropped_by, touches_rows}
 use Rattle.gl_registry.proofs.Dropped.{unaccepted_leaves}
 use Rattle.gl_wakes.specs.Boxes.{Delivers, Slot, cleared, emptied}
-use Rattle.gl_steps.specs.Served.{accepts, leaves_waiting}
+use Rattle.gl_steps.specs.Served.{accepts}
 use Rattle.gl_window.specs.Strip.{Strip}
+use Rattle.gl_window.specs.Tellings.{still_parties}
 use Rattle.gl_wakes.proofs.Clearing.{cleared_not}
 use Rattle.gl_wakes.proofs.Notices.{delivers_none}
 use Rattle.gl_c.specs.managers.Guarded.{GuardedView, registry_in}
-use Rattle.gl_c.specs.locks.Paths.{ServesPath, ends_waiting}
-use Rattle.gl_c.specs.managers.Serving.{Serves, ServesUnless, ShowsNobodyLast, ShowsOn, Wakes}
+use Rattle.gl_c.specs.locks.Paths.{ServesPath, still_on_path}
+use Rattle.gl_c.specs.managers.Serving.{KnowsWaits, Serves, ServesUnless, ShowsOn, Wakes}
 
 -- where nothing is shown
-pub shows_same : (waited : Bool) (board : Board) (shown : Option Strip) → ShowsOn waited board shown shown
-shows_same waited board None = refl
-shows_same waited board (Some s) = (s, refl, record { book = refl; detect = refl; list = inl refl })
+pub shows_same : (due : Bool) (board : Board) (shown : Option Strip) → ShowsOn due board shown shown
+shows_same due board None = refl
+shows_same due board (Some s) = (s, refl, record { book = refl; detect = refl; list = inl refl })
 
--- what is known where nobody is noted to have waited
-abbrev pub IsQuiet : ManagerView → Option Strip → Bool → Type 0
-IsQuiet m shown waited = waited ≡ false → NobodyWaits (state_of m) × ShowsNobodyLast shown
+-- what is known of the waits of a manager
+abbrev pub Knows : ManagerView → Option Strip → Option Slots → Type 0
+Knows m shown parties = KnowsWaits (state_of m) shown parties
 
 some_is : (a b : Answer) → Some a ≡ Some b → a ≡ b
 some_is a b e = cc e
@@ -73,15 +73,15 @@ same_view g v same rows = λ i. record g { manager = same i; rows = rows i }
 
 -- a command that is not accepted
 pub serves_not : (g : GuardedView) (c : Command) (a : Answer) (told : Told) (v : RegistryView) → Applies g.manager c a told v.manager → accepts c a ≡ false
-    → told ≡ [] → v.manager ≡ g.manager → LeavesRows (dropped_by c a) g.rows v.rows → IsQuiet g.manager g.shown g.waited
+    → told ≡ [] → v.manager ≡ g.manager → LeavesRows (dropped_by c a) g.rows v.rows → Knows g.manager g.shown g.parties
     → Serves g c a told (record g { manager = v.manager; rows = v.rows })
-serves_not g c a told v applies not_so none same rows quiet = record {
+serves_not g c a told v applies not_so none same rows knows = record {
   applies = applies;
   boxes = (g.boxes, delivers_none told g.boxes none, sym (cleared_not c a g.boxes not_so));
   not_accepted = λ _. (same_view g v same (unaccepted_leaves c a g.rows v.rows not_so rows), none);
   wakes = λ so. absurd (true≢false (sym so ∙ not_so));
-  shown = shows_same (g.waited || leaves_waiting a) (board_of (state_of v.manager)) g.shown;
-  quiet = subst (λ (x : ManagerView). IsQuiet x g.shown g.waited) (sym same) quiet;
+  shown = shows_same (is_none (still_parties g.parties c a told)) (board_of (state_of v.manager)) g.shown;
+  known = subst (λ (x : ManagerView). Knows x g.shown g.parties) (sym same) knows;
   rows = rows;
 }
 
@@ -91,32 +91,34 @@ pub serves_yes : (g after : GuardedView) (c : Command) (a : Answer) (told : Told
     → ((mid : List Slot) × Delivers g.boxes told mid × (boxes ≡ cleared c a mid))
     → (after.manager ≡ v.manager) × (after.boxes ≡ boxes) × (after.ended ≡ ended) × (after.rows ≡ v.rows)
     → Wakes c g.manager told v.manager ended
-    → ShowsOn (g.waited || leaves_waiting a) (board_of (state_of v.manager)) g.shown after.shown → IsQuiet after.manager after.shown after.waited
+    → ShowsOn (is_none (still_parties g.parties c a told)) (board_of (state_of v.manager)) g.shown after.shown
+    → Knows after.manager after.shown after.parties
     → Serves g c a told after
-serves_yes g after c a told v boxes ended applies so rows delivered kept wakes shown quiet = record {
+serves_yes g after c a told v boxes ended applies so rows delivered kept wakes shown knows = record {
   applies = subst (λ (x : ManagerView). Applies g.manager c a told x) (sym kept.0) applies;
   boxes = (delivered.0, delivered.1, kept.1 ∙ delivered.2);
   not_accepted = λ not_so. absurd (true≢false (sym so ∙ not_so));
   wakes = λ _. subst (λ (n : Slots). Wakes c g.manager told after.manager n) (sym kept.2)
       (subst (λ (x : ManagerView). Wakes c g.manager told x ended) (sym kept.0) wakes);
-  shown = subst (λ (x : ManagerView). ShowsOn (g.waited || leaves_waiting a) (board_of (state_of x)) g.shown after.shown) (sym kept.0) shown;
-  quiet = quiet;
+  shown = subst (λ (x : ManagerView). ShowsOn (is_none (still_parties g.parties c a told)) (board_of (state_of x)) g.shown after.shown)
+      (sym kept.0) shown;
+  known = knows;
   rows = subst (λ (x : RowsView). LeavesRows (dropped_by c a) g.rows x) (sym kept.3) rows;
 }
 
 -- a path of which nothing was accepted
 pub path_none : (g : GuardedView) (t : TxnId) (ask : Ask) (result : Result Reached Refusal) (told : Told) (v : RegistryView)
-    → LocksWay t ask (registry_in g) result told v → v.manager ≡ g.manager → told ≡ [] → IsQuiet g.manager g.shown g.waited
+    → LocksWay t ask (registry_in g) result told v → v.manager ≡ g.manager → told ≡ [] → Knows g.manager g.shown g.parties
     → ServesPath g t ask result told (record g { manager = v.manager; rows = v.rows })
-path_none g t ask result told v way same none quiet =
+path_none g t ask result told v way same none knows =
     let as_many : v.manager.accepted ≡ g.manager.accepted = ap (λ (x : ManagerView). x.accepted) same in
     record {
       way = way;
       none_accepted = λ _. (same_view g v same way.rows, none);
       boxes = λ later. absurd (omega (arith, later, as_many));
       wakes = λ later. absurd (omega (arith, later, as_many));
-      shown = shows_same (g.waited || ends_waiting result) (board_of (state_of v.manager)) g.shown;
-      quiet = subst (λ (x : ManagerView). IsQuiet x g.shown g.waited) (sym same) quiet;
+      shown = shows_same (is_none (still_on_path g.parties t result told)) (board_of (state_of v.manager)) g.shown;
+      known = subst (λ (x : ManagerView). Knows x g.shown g.parties) (sym same) knows;
     }
 
 -- a path of which some was
@@ -125,9 +127,10 @@ pub path_some : (g after : GuardedView) (t : TxnId) (ask : Ask) (result : Result
     → ((mid : List Slot) × Delivers g.boxes told mid × (boxes ≡ emptied (lock_of t ask) mid))
     → (after.manager ≡ v.manager) × (after.boxes ≡ boxes) × (after.ended ≡ ended) × (after.rows ≡ v.rows)
     → Wakes (lock_of t ask) g.manager told v.manager ended
-    → ShowsOn (g.waited || ends_waiting result) (board_of (state_of v.manager)) g.shown after.shown → IsQuiet after.manager after.shown after.waited
+    → ShowsOn (is_none (still_on_path g.parties t result told)) (board_of (state_of v.manager)) g.shown after.shown
+    → Knows after.manager after.shown after.parties
     → ServesPath g t ask result told after
-path_some g after t ask result told v boxes ended way more delivered kept wakes shown quiet =
+path_some g after t ask result told v boxes ended way more delivered kept wakes shown knows =
     let as_many : after.manager.accepted ≡ v.manager.accepted = ap (λ (x : ManagerView). x.accepted) kept.0 in
     let same : registry_in after ≡ v = λ i. record { manager = kept.0 i; rows = kept.3 i } in
     record {
@@ -136,6 +139,7 @@ path_some g after t ask result told v boxes ended way more delivered kept wakes 
       boxes = λ _. (delivered.0, delivered.1, kept.1 ∙ delivered.2);
       wakes = λ _. subst (λ (n : Slots). Wakes (lock_of t ask) g.manager told after.manager n) (sym kept.2)
           (subst (λ (x : ManagerView). Wakes (lock_of t ask) g.manager told x ended) (sym kept.0) wakes);
-      shown = subst (λ (x : ManagerView). ShowsOn (g.waited || ends_waiting result) (board_of (state_of x)) g.shown after.shown) (sym kept.0) shown;
-      quiet = quiet;
+      shown = subst (λ (x : ManagerView). ShowsOn (is_none (still_on_path g.parties t result told)) (board_of (state_of x)) g.shown after.shown)
+          (sym kept.0) shown;
+      known = knows;
     }

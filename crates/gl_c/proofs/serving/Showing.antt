@@ -1,21 +1,35 @@
 -- What watchers are shown, for whoever shows: epochs, the way of detection, and lists that go on.
+use Rattle.gl_slots.specs.Limit.{most_slots}
 use Rattle.std.specs.Prelude.{◌≡◌, ◌⊎◌, ◌≤◌, ℕ, List, [], ◌∷◌, ◌++◌, Option, Some, None, Result, Ok, Err, IfSome, IfOk, Bool, true, false}
+use Rattle.std.specs.Prelude.{if◌then◌else◌, is_none}
+use Rattle.std.specs.Prelude.{is_some}
 use Rattle.std.proofs.Common.{refl, sym, ap, subst, ◌∙◌, inl, inr, le_trans, ⊎_elim}
+use mathlib.Core.Bool.{true≢false}
 use mathlib.Core.List.{IsPrefix}
+use Rattle.gl_slots.specs.Slots.{has_none}
+use Rattle.gl_slots.specs.declared.slots.Slots.{Slots}
 use Rattle.gl_waits.specs.declared.board.Board.{Board}
 use Rattle.gl_table.specs.Table.{board_of}
+use Rattle.gl_model.specs.Lawful.{IsLawful}
+use Rattle.gl_model.specs.State.{State}
+use Rattle.gl_model.specs.Tellings.{Told}
 use Rattle.gl_catalog.specs.Manager.{IsLawfulManager, ManagerView, state_of}
-use Rattle.gl_window.specs.Boards.{Ends, last_epoch}
-use Rattle.gl_waits.specs.Boards.{ShowsNobody}
+use Rattle.gl_steps.specs.Promises.{NobodyWaits}
+use Rattle.gl_steps.specs.Step.{Step}
+use Rattle.gl_steps.specs.declared.command.Answer.{Answer}
+use Rattle.gl_steps.specs.declared.command.Command.{Command}
+use Rattle.gl_window.proofs.RealBoards.{shows_waits}
+use Rattle.gl_window.specs.Boards.{Ends, HasParties, last_epoch}
 use Rattle.gl_window.specs.Strip.{Strip}
 use Rattle.gl_window.proofs.Fronts.{prefix_self, prefix_trans}
-use Rattle.gl_window.proofs.Idle.{nobody_shown}
+use Rattle.gl_window.proofs.Spared.{waits_left}
+use Rattle.gl_window.proofs.Waits.{Spares, ends_still, nobody_spared, none_waits}
+use Rattle.gl_window.specs.Tellings.{leaves_waits, still_nobody, still_parties}
 use Rattle.gl_window.proofs.Lists.{told_epoch}
 use Rattle.gl_window.specs.Window.{GoesOn}
 use Rattle.gl_window.specs.declared.publisher.WatchFault.{WatchFault}
-use Rattle.gl_c.specs.managers.Serving.{ShowsOn}
+use Rattle.gl_c.specs.managers.Serving.{KnowsWaits, ShowsOn}
 use Rattle.gl_c.specs.watchers.Watching.{Continues}
-use Rattle.gl_c.proofs.serving.Serving.{IsQuiet}
 
 -- a manager that accepted more
 pub later_epoch : (o : Option Strip) (n m : ℕ) → n ≤ m → IfSome o (λ p. last_epoch 0 p.list ≤ n) → IfSome o (λ p. last_epoch 0 p.list ≤ m)
@@ -34,21 +48,53 @@ either_epoch list after board n is low at = ⊎_elim
 abbrev pub ShowsBoard : List Board → ManagerView → List Board → Type 0
 ShowsBoard list m after = (after ≡ list) ⊎ (after ≡ list ++ board_of (state_of m) ∷ [])
 
--- what is known where the board that was shown last shows nobody
-pub quiet_now : (m n : ManagerView) (list : List Board) (p : Strip) (waits : Bool) → n ≡ m → IsLawfulManager n
-    → (p.list ≡ list ++ board_of (state_of n) ∷ []) × (waits ≡ false → ShowsNobody (board_of (state_of n))) → IsQuiet m (Some p) waits
-quiet_now m n list p waits same law shown =
-    subst (λ (x : ManagerView). IsQuiet x (Some p) waits) same
-    (λ e. (nobody_shown n law (shown.1 e), (board_of (state_of n), (list, shown.0), shown.1 e)))
+-- the waits are spared, so what was known of them is known still
+pub knows_on : (s s' : State) (shown : Option Strip) (set : Slots) → Spares set s s' → KnowsWaits s shown (Some set) → KnowsWaits s' shown (Some set)
+knows_on s s' None set spares known = (spares.parties, tt)
+knows_on s s' (Some p) set spares known = (spares.parties, ends_still s s' spares.same p.list known.1)
+
+-- it is where a test passes
+pub knows_if : (s s' : State) (shown : Option Strip) (set : Slots) (leaves : Bool) → (leaves ≡ true → Spares set s s') → KnowsWaits s shown (Some set)
+    → KnowsWaits s' shown (if leaves then Some set else None)
+knows_if s s' shown set true spares known = knows_on s s' shown set (spares refl) known
+knows_if s s' shown set false spares known = tt
+
+-- what is known behind a step
+pub knows_still : (s s' : State) (shown : Option Strip) (parties : Option Slots) (c : Command) (a : Answer) (told : Told) → IsLawful s
+    → s.most ≤ most_slots → Step s c a told s' → KnowsWaits s shown parties → KnowsWaits s' shown (still_parties parties c a told)
+knows_still s s' shown None c a told law few step known = tt
+knows_still s s' shown (Some set) c a told law few step known =
+    knows_if s s' shown set (leaves_waits set c a told) (waits_left set s s' c a told law few known.0 step) known
+
+-- and behind a call that leaves nobody waiting where nobody waited
+pub knows_nobody : (s s' : State) (shown : Option Strip) (parties : Option Slots) → (NobodyWaits s → NobodyWaits s') → KnowsWaits s shown parties
+    → KnowsWaits s' shown (still_nobody parties)
+knows_nobody s s' shown None stays known = tt
+knows_nobody s s' shown (Some set) stays known =
+    knows_if s s' shown set (has_none set)
+    (λ e. let idle = none_waits s set known.0 e in nobody_spared set s s' idle (stays idle)) known
+
+-- what is known where the board of now was shown last
+pub shown_known : (m n : ManagerView) (list : List Board) (p : Strip) (parties : Option Slots) → n ≡ m → IsLawfulManager n
+    → IfSome parties (λ set. (p.list ≡ list ++ board_of (state_of n) ∷ []) × HasParties (state_of n) set) → KnowsWaits (state_of m) (Some p) parties
+shown_known m n list p None same law shown = tt
+shown_known m n list p (Some set) same law shown =
+    subst (λ (x : ManagerView). KnowsWaits (state_of x) (Some p) (Some set)) same
+    (shown.1, (board_of (state_of n), (list, shown.0), shows_waits (state_of n) law.lawful law.few))
+
+-- no party is known
+pub none_known : (parties : Option Slots) → is_some parties ≡ false → is_none parties ≡ true
+none_known None none = refl
+none_known (Some set) none = absurd (true≢false none)
 
 -- the same board by another name
 pub either_board : (list after : List Board) (b c : Board) → (after ≡ list) ⊎ (after ≡ list ++ b ∷ []) → b ≡ c → (after ≡ list) ⊎ (after ≡ list ++ c ∷ [])
 either_board list after b c either is = subst (λ (x : Board). (after ≡ list) ⊎ (after ≡ list ++ x ∷ [])) is either
 
--- what watchers are shown, where somebody waited
-pub shows_on : (waited : Bool) (board : Board) (p q : Strip) → waited ≡ true → (q.list ≡ p.list) ⊎ (q.list ≡ p.list ++ board ∷ []) → q.book ≡ p.book
-    → q.detect ≡ p.detect → ShowsOn waited board (Some p) (Some q)
-shows_on waited board p q on either book detect = (
+-- what watchers are shown, where it is due
+pub shows_on : (due : Bool) (board : Board) (p q : Strip) → due ≡ true → (q.list ≡ p.list) ⊎ (q.list ≡ p.list ++ board ∷ []) → q.book ≡ p.book
+    → q.detect ≡ p.detect → ShowsOn due board (Some p) (Some q)
+shows_on due board p q on either book detect = (
   q,
   refl,
   record {

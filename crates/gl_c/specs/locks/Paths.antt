@@ -1,5 +1,5 @@
 -- What a call does that locks a node with what has to be held above it.
-use Rattle.std.specs.Prelude.{◌≡◌, ◌<◌, ◌||◌, Bool, true, false, [], List, Option, Some, None, Result, Ok, Err, if◌then◌else◌}
+use Rattle.std.specs.Prelude.{◌≡◌, ◌<◌, ◌&&◌, not, Bool, true, false, [], List, Option, Some, None, Result, Ok, Err, if◌then◌else◌, is_none}
 use Rattle.gl_modes.specs.declared.node.NodeId.{NodeId}
 use Rattle.gl_modes.specs.declared.refusal.Refusal.{Refusal}
 use Rattle.gl_modes.specs.Nodes.{same_node}
@@ -12,7 +12,11 @@ use Rattle.gl_steps.specs.declared.command.Answer.TheVariants as answer
 use Rattle.gl_catalog.specs.declared.manager.paths.Reached.{Reached}
 use Rattle.gl_catalog.specs.Manager.{state_of}
 use Rattle.gl_catalog.specs.Paths.{Ask, lock_of}
-use Rattle.gl_steps.specs.Promises.{NobodyWaits}
+use Rattle.gl_catalog.specs.Counters.{grants}
+use Rattle.gl_steps.specs.Step.{answer_of_lock}
+use Rattle.gl_slots.specs.Slots.{has_none, has_slot}
+use Rattle.gl_slots.specs.declared.slots.Slots.{Slots}
+use Rattle.gl_header.specs.Header.{is_empty}
 use Rattle.gl_registry.specs.Serving.{LocksWay}
 use Rattle.gl_wakes.specs.Boxes.{Delivers, Slot, emptied}
 use Rattle.gl_c.specs.declared.answers.notices.Notices.{Notices}
@@ -23,7 +27,7 @@ use Rattle.gl_c.specs.Names.{node_of}
 use Rattle.gl_c.specs.answers.Notices.{Tells}
 use Rattle.gl_c.specs.Numbers.{no_manager, on_the_way, victim, waiting}
 use Rattle.gl_c.specs.answers.Replies.{refused_reply, reply_of, status_reply}
-use Rattle.gl_c.specs.managers.Serving.{ShowsNobodyLast, ShowsOn, Wakes}
+use Rattle.gl_c.specs.managers.Serving.{KnowsWaits, ShowsOn, Wakes}
 
 -- a status, and the node that was asked for last
 abbrev pub reply_at : NodeId → Reply → Reply
@@ -50,15 +54,31 @@ abbrev pub ends_waiting : Result Reached Refusal → Bool
 ends_waiting (Ok x) = is_left_waiting x.locked
 ends_waiting (Err r) = false
 
+-- a path that goes well: its last ask is granted, or refused
+abbrev pub goes_well : Result Reached Refusal → Bool
+goes_well (Ok x) = grants (answer_of_lock x.locked)
+goes_well (Err r) = true
+
+-- whether a path is known to have left all waits as they were, by the parties to waits before it
+abbrev pub leaves_on_path : Slots → TxnId → Result Reached Refusal → Told → Bool
+leaves_on_path parties t result told =
+    if has_none parties then not (ends_waiting result) else is_empty told && (goes_well result && not (has_slot parties t.slot))
+
+-- all parties to waits, where it is known that the board that was shown last shows the waits: behind such a path it is known still
+abbrev pub still_on_path : Option Slots → TxnId → Result Reached Refusal → Told → Option Slots
+still_on_path None t result told = None
+still_on_path (Some parties) t result told = if leaves_on_path parties t result told then Some parties else None
+
 -- a path is locked, as one command after the other; the notices stand in their boxes, but that the transaction's own is empty; whose wait was ended
--- is known; watchers are shown the board behind it, whole, or nothing; where no ask was accepted nothing changed
+-- is known; watchers are shown the board behind it, whole, or nothing, and nothing where it is known to leave all waits; where no ask was accepted
+-- nothing changed
 pub record ServesPath (g : GuardedView) (t : TxnId) (ask : Ask) (result : Result Reached Refusal) (told : Told) (g' : GuardedView) : Type 0 where
   pub way : LocksWay t ask (registry_in g) result told (registry_in g')
   pub none_accepted : g'.manager.accepted ≡ g.manager.accepted → (g' ≡ g) × (told ≡ [])
   pub boxes : g.manager.accepted < g'.manager.accepted → (mid : List Slot) × Delivers g.boxes told mid × (g'.boxes ≡ emptied (lock_of t ask) mid)
   pub wakes : g.manager.accepted < g'.manager.accepted → Wakes (lock_of t ask) g.manager told g'.manager g'.ended
-  pub shown : ShowsOn (g.waited || ends_waiting result) (board_of (state_of g'.manager)) g.shown g'.shown
-  pub quiet : g'.waited ≡ false → NobodyWaits (state_of g'.manager) × ShowsNobodyLast g'.shown
+  pub shown : ShowsOn (is_none (still_on_path g.parties t result told)) (board_of (state_of g'.manager)) g.shown g'.shown
+  pub known : KnowsWaits (state_of g'.manager) g'.shown g'.parties
 
 -- a path is locked, and C is answered how far it came, and told whom it tells
 pub record RepliesPath (g : GuardedView) (t : TxnId) (ask : Ask) (r : Reply) (notices : Notices) (g' : GuardedView) : Type 0 where

@@ -1,12 +1,11 @@
 -- What a call does by which a transaction goes back to a savepoint.
-use Rattle.std.specs.Prelude.{◌≡◌, ℕ, false, [], Option, Some, None, Result, Ok, Err}
+use Rattle.std.specs.Prelude.{◌≡◌, ℕ, [], Option, Some, None, Result, Ok, Err, is_none}
 use Rattle.gl_modes.specs.declared.refusal.Refusal.{Refusal}
 use Rattle.gl_model.specs.declared.txn.TxnId.{TxnId}
 use Rattle.gl_model.specs.Tellings.{Told}
 use Rattle.gl_table.specs.Table.{board_of}
 use Rattle.gl_steps.specs.declared.command.Command.{Command}
 use Rattle.gl_steps.specs.declared.command.Command.TheVariants as command
-use Rattle.gl_steps.specs.Promises.{NobodyWaits}
 use Rattle.gl_catalog.specs.Manager.{state_of}
 use Rattle.gl_registry.specs.Releasing.{GoesBackTo, no_node}
 use Rattle.gl_wakes.specs.Boxes.{Delivers}
@@ -14,7 +13,8 @@ use Rattle.gl_c.specs.declared.answers.notices.Notices.{Notices}
 use Rattle.gl_c.specs.declared.answers.reply.Reply.{Reply}
 use Rattle.gl_c.specs.managers.Carries.{Declines}
 use Rattle.gl_c.specs.managers.Guarded.{GuardedView}
-use Rattle.gl_c.specs.managers.Serving.{ShowsNobodyLast, ShowsOn, Wakes}
+use Rattle.gl_c.specs.managers.Serving.{KnowsWaits, ShowsOn, Wakes}
+use Rattle.gl_window.specs.Tellings.{still_nobody}
 use Rattle.gl_c.specs.Numbers.{no_manager}
 use Rattle.gl_c.specs.answers.Notices.{Tells}
 use Rattle.gl_c.specs.answers.Replies.{count_reply, refused_reply}
@@ -28,8 +28,8 @@ unlocking t = command.Unlock t no_node
 pub record GoesBackThere (g : GuardedView) (t : TxnId) (told : Told) (g' : GuardedView) : Type 0 where
   pub boxes : Delivers g.boxes told g'.boxes
   pub wakes : Wakes (unlocking t) g.manager told g'.manager g'.ended
-  pub shown : ShowsOn g.waited (board_of (state_of g'.manager)) g.shown g'.shown
-  pub quiet : g'.waited ≡ false → NobodyWaits (state_of g'.manager) × ShowsNobodyLast g'.shown
+  pub shown : ShowsOn (is_none (still_nobody g.parties)) (board_of (state_of g'.manager)) g.shown g'.shown
+  pub known : KnowsWaits (state_of g'.manager) g'.shown g'.parties
 
 -- so it is where that is not refused; else nothing changes, and nobody is told
 abbrev pub ServesBack : GuardedView → TxnId → ℕ → Result ℕ Refusal → Told → GuardedView → Type 0

@@ -1,5 +1,5 @@
 -- What a contract sees of all that C's mutex guards.
-use Rattle.std.specs.Prelude.{Bool, List, Option}
+use Rattle.std.specs.Prelude.{List, Option}
 use Rattle.gl_slots.specs.declared.slots.Slots.{Slots}
 use Rattle.gl_catalog.specs.Manager.{ManagerView}
 use Rattle.gl_registry.specs.Rows.{RegistryView, RowsView}
@@ -7,13 +7,13 @@ use Rattle.gl_wakes.specs.Boxes.{Slot}
 use Rattle.gl_window.specs.Strip.{Strip}
 
 -- the manager, one notice box a slot, the slots whose wait the last accepted command may have ended, the boards that watchers were shown, if there
--- ever was a watcher, whether somebody waited when the last was or a lock was left waiting since, and the files of rows with the rows that are locked
+-- ever was a watcher, all parties to waits, where it is known that the last board shows the waits, and the files of rows with the rows that are locked
 pub record GuardedView : Type 0 where
   pub manager : ManagerView
   pub boxes : List Slot
   pub ended : Slots
   pub shown : Option Strip
-  pub waited : Bool
+  pub parties : Option Slots
   pub rows : RowsView
 
 -- the registry: the manager, and its rows

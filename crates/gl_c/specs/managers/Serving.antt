@@ -1,6 +1,6 @@
 -- What a command does to all that C's mutex guards.
 use Rattle.gl_slots.specs.Limit.{most_slots}
-use Rattle.std.specs.Prelude.{◌≡◌, ◌⊎◌, ℕ, ◌<◌, ◌||◌, ◌==◌, Bool, true, false, List, [], ◌∷◌, ◌++◌, Option, Some, None, IfSome}
+use Rattle.std.specs.Prelude.{◌≡◌, ◌⊎◌, ℕ, ◌<◌, ◌||◌, ◌==◌, Bool, true, false, List, [], ◌∷◌, ◌++◌, Option, Some, None, IfSome, is_none}
 use Rattle.std.specs.List.{list_any}
 use Rattle.gl_waits.specs.declared.board.Board.{Board}
 use Rattle.gl_slots.specs.declared.slots.Slots.{Slots}
@@ -10,35 +10,31 @@ use Rattle.gl_model.specs.Tellings.{Told}
 use Rattle.gl_steps.specs.declared.command.Answer.{Answer}
 use Rattle.gl_steps.specs.declared.command.Command.{Command}
 use Rattle.gl_catalog.specs.Manager.{ManagerView, state_of}
-use Rattle.gl_steps.specs.Promises.{NobodyWaits}
 use Rattle.gl_registry.specs.Serving.{Applies, LeavesRows, dropped_by, touches_rows}
-use Rattle.gl_window.specs.Boards.{EndsIdle}
+use Rattle.gl_model.specs.State.{State}
+use Rattle.gl_window.specs.Boards.{EndsWithWaits, HasParties}
+use Rattle.gl_window.specs.Tellings.{still_parties}
 use Rattle.gl_wakes.specs.Boxes.{Delivers, Slot, cleared}
-use Rattle.gl_steps.specs.Served.{accepts, leaves_waiting}
+use Rattle.gl_steps.specs.Served.{accepts}
 use Rattle.gl_wakes.specs.Wakes.{names_slot}
 use Rattle.gl_window.specs.Strip.{Strip}
 use Rattle.gl_wakes.specs.Wakes.{HasEnded}
 use Rattle.gl_c.specs.managers.Guarded.{GuardedView, registry_in}
 
--- nobody waits on the last board that was shown, if one was
-abbrev pub ShowsNobodyLast : Option Strip → Type 0
-ShowsNobodyLast shown = IfSome shown (λ s. EndsIdle s.list)
+-- where the parties to waits are known, these are all, and the last board that was shown, if one was, shows the waits
+abbrev pub KnowsWaits : State → Option Strip → Option Slots → Type 0
+KnowsWaits s shown parties = IfSome parties (λ set. HasParties s set × IfSome shown (λ p. EndsWithWaits s p.list))
 
--- a list of the same book and way of detection: what was shown, or that and then this board, which is shown only where somebody waited
-pub record GoesOnBy (waited : Bool) (board : Board) (before after : Strip) : Type 0 where
+-- a list of the same book and way of detection: what was shown, or that and then this board, which is shown only where it is due
+pub record GoesOnBy (due : Bool) (board : Board) (before after : Strip) : Type 0 where
   pub book : after.book ≡ before.book
   pub detect : after.detect ≡ before.detect
-  pub list : (after.list ≡ before.list) ⊎ ((waited ≡ true) × (after.list ≡ before.list ++ board ∷ []))
+  pub list : (after.list ≡ before.list) ⊎ ((due ≡ true) × (after.list ≡ before.list ++ board ∷ []))
 
 -- the same, if there ever was a watcher
 abbrev pub ShowsOn : Bool → Board → Option Strip → Option Strip → Type 0
-ShowsOn waited board None after = after ≡ None
-ShowsOn waited board (Some before) after = (s : Strip) × (after ≡ Some s) × GoesOnBy waited board before s
-
--- the board was shown behind all that was, if there ever was a watcher
-abbrev pub HasShown : Board → Option Strip → Option Strip → Type 0
-HasShown board None after = Unit {0}
-HasShown board (Some before) after = IfSome after (λ s. s.list ≡ before.list ++ board ∷ [])
+ShowsOn due board None after = after ≡ None
+ShowsOn due board (Some before) after = (s : Strip) × (after ≡ Some s) × GoesOnBy due board before s
 
 -- whose wait the command ended is in the set: exactly whom it told, and whom a cancel or an abort names
 pub record Wakes (c : Command) (m : ManagerView) (told : Told) (m' : ManagerView) (ended : Slots) : Type 0 where
@@ -46,15 +42,15 @@ pub record Wakes (c : Command) (m : ManagerView) (told : Told) (m' : ManagerView
   pub slots : (u : ℕ) → u < most_slots → has_slot ended u ≡ (names_slot c u || list_any (λ x. x.0.slot == u) told)
 
 -- a command is carried out; its notices stand in their boxes, but that an accepted lock empties its own slot's; whose wait it ended is known;
--- watchers are shown the board behind it, whole, or nothing; one that is not accepted changes nothing; no row gets or loses its node, and of the files
--- of rows one that is dropped is none any more
+-- watchers are shown the board behind it, whole, or nothing, and nothing where it is known to leave all waits; one that is not accepted changes
+-- nothing; no row gets or loses its node, and of the files of rows one that is dropped is none any more
 pub record Serves (g : GuardedView) (c : Command) (a : Answer) (told : Told) (g' : GuardedView) : Type 0 where
   pub applies : Applies g.manager c a told g'.manager
   pub boxes : (mid : List Slot) × Delivers g.boxes told mid × (g'.boxes ≡ cleared c a mid)
   pub not_accepted : accepts c a ≡ false → (g' ≡ g) × (told ≡ [])
   pub wakes : accepts c a ≡ true → Wakes c g.manager told g'.manager g'.ended
-  pub shown : ShowsOn (g.waited || leaves_waiting a) (board_of (state_of g'.manager)) g.shown g'.shown
-  pub quiet : g'.waited ≡ false → NobodyWaits (state_of g'.manager) × ShowsNobodyLast g'.shown
+  pub shown : ShowsOn (is_none (still_parties g.parties c a told)) (board_of (state_of g'.manager)) g.shown g'.shown
+  pub known : KnowsWaits (state_of g'.manager) g'.shown g'.parties
   pub rows : LeavesRows (dropped_by c a) g.rows g'.rows
 
 -- one that would make, take away or change a record of a file of rows is not made: nobody is told, and nothing changes; any other is carried out

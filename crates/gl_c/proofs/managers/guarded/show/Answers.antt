@@ -4,7 +4,6 @@ use Rattle.gl_model.specs.declared.answers.Detect.{Detect}
 use Rattle.gl_table.specs.Table.{board_of}
 use Rattle.gl_catalog.specs.Manager.{state_of}
 use Rattle.gl_window.specs.Boards.{Fine}
-use Rattle.gl_waits.specs.Boards.{ShowsNobody}
 use Rattle.gl_c.proofs.serving.Showing.{either_board}
 use Rattle.gl_c.proofs.managers.guarded.show.Goals as goal
 
@@ -14,7 +13,7 @@ publish-requires-clause-fine c = subst (λ (d : Detect). Fine d c.board_now-boar
 pub returns-then-publish-clause-shown : goal.returns-then-publish-clause-shown
 returns-then-publish-clause-shown c = (
   c.publish.ensures.shown c.if-publish.true ∙ ap (λ (b : Board). c.args.publisher.now.list ++ b ∷ []) c.board_now-board.ensures.board,
-  λ e. subst (λ (b : Board). ShowsNobody b) c.board_now-board.ensures.board (c.may_show_waits.ensures.none e),
+  c.parties_of.ensures,
 )
 
 pub returns-then-publish-clause-list : goal.returns-then-publish-clause-list

@@ -1,7 +1,7 @@
 use Rattle.gl_slots.specs.Limit.{most_slots}
-use Rattle.std.proofs.Common.{arith, ◌≡◌, ◌≤◌, ◌<◌, ◌||◌, ◌==◌, ℕ, Bool, true, false, ap, subst, sym, ◌∙◌, List}
+use Rattle.std.proofs.Common.{arith, ◌≡◌, ◌≤◌, ◌<◌, ◌||◌, ◌==◌, ℕ, true, false, ap, subst, sym, ◌∙◌, List}
 use Rattle.std.specs.List.{list_any}
-use Rattle.std.specs.Prelude.{IfSome, Some}
+use Rattle.std.specs.Prelude.{IfSome, Option, Some, is_none}
 use Rattle.gl_slots.specs.Slots.{has_slot}
 use Rattle.gl_model.specs.declared.answers.Detect.{Detect}
 use Rattle.gl_model.specs.declared.answers.Notice.{Notice}
@@ -20,15 +20,16 @@ use Rattle.gl_wakes.specs.Notices.{RisingTo}
 use Rattle.gl_wakes.specs.Wakes.{names_slot}
 use Rattle.gl_window.specs.Strip.{Strip}
 use Rattle.gl_wakes.proofs.Clearing.{cleared_yes}
-use Rattle.gl_window.proofs.Idle.{neither, nobody_on}
 use Rattle.gl_wakes.proofs.Rising.{step_rises}
 use Rattle.gl_steps.proofs.Serving.{step_counts}
 use Rattle.gl_wakes.proofs.Waking.{wakes_told}
 use Rattle.gl_c.specs.managers.Guarded.{GuardedView}
-use Rattle.gl_c.specs.managers.Serving.{ServesNodes, ShowsOn}
+use Rattle.gl_c.specs.managers.Serving.{KnowsWaits, ServesNodes, ShowsOn}
+use Rattle.gl_slots.specs.declared.slots.Slots.{Slots}
+use Rattle.gl_window.specs.Tellings.{still_parties}
 use Rattle.gl_c.specs.managers.Sound.{IsSound, view_of}
 use Rattle.gl_c.proofs.serving.Serving.{Made, made, same_registry, serves_not, serves_some, serves_yes}
-use Rattle.gl_c.proofs.serving.Showing.{later_epoch}
+use Rattle.gl_c.proofs.serving.Showing.{knows_still, later_epoch}
 use Rattle.gl_c.proofs.managers.guarded.Guarded.serve.Goals as goal
 
 -- it is not accepted
@@ -62,7 +63,7 @@ returns-then-not-is_accepted c =
     (serves_some (touches_rows c.self.inside.registry c.args.command) (view_of c.self.inside)
     (record (view_of c.self.inside) { manager = c.serve.new.self.manager; rows = c.serve.new.self.rows }) c.args.command c.in-Some.answer told h.untouched
     (serves_not (view_of c.self.inside) c.args.command c.in-Some.answer told c.serve.new.self h.applies (unaccepted c) still.1 (same c) h.rows
-    c.self.invariant.quiet))
+    c.self.invariant.known))
 
 -- it is
 
@@ -80,6 +81,9 @@ ended_by-self-inside-requires c =
     subst (λ (l : List (TxnId × Notice)). RisingTo 0 l most_slots) (sym c.as_slice-2.ensures.value)
     (step_rises _ _ _ _ _ c.law.ensures.manager.few h.applies.step)
 
+pub keep-requires : goal.keep-requires
+keep-requires c = c.self.invariant.unwatched
+
 pub invariant_of-self-2 : goal.invariant_of-self-2
 invariant_of-self-2 c =
     let h = made c.self.inside.registry c.serve.new.self c.args.command c.in-Some.answer
@@ -92,10 +96,12 @@ invariant_of-self-2 c =
     record {
       epoch = later_epoch c.self.inside.publisher c.self.inside.registry.manager.accepted c.serve.new.self.manager.accepted low c.self.invariant.epoch;
       detect = subst (λ (d : Detect). IfSome c.self.inside.publisher (λ (p : Strip). p.detect ≡ d)) (sym way) c.self.invariant.detect;
-      quiet = λ e. (
-        nobody_on _ _ c.self.inside.waited c.leaves_waiting.result _ _ _ c.leaves_waiting.ensures (λ is. (c.self.invariant.quiet is).0) step e,
-        (c.self.invariant.quiet (neither c.self.inside.waited c.leaves_waiting.result e).0).1,
-      );
+      known = subst (KnowsWaits (state_of c.serve.new.self.manager) c.self.inside.publisher)
+          (sym (c.keep.ensures ∙ ap (still_parties c.self.inside.parties c.args.command c.in-Some.answer) c.as_slice-3.ensures.value))
+          (knows_still _ (state_of c.serve.new.self.manager) c.self.inside.publisher c.self.inside.parties c.args.command c.in-Some.answer
+          c.serve.new.told.items c.law.ensures.manager.lawful c.law.ensures.manager.few step c.self.invariant.known);
+      unwatched = λ e. c.keep.ensures
+          ∙ ap (λ (o : Option Slots). still_parties o c.args.command c.in-Some.answer c.as_slice-3.result.now) (c.self.invariant.unwatched e);
     }
 
 pub returns : goal.returns
@@ -106,19 +112,20 @@ returns c =
     let h = made c.self.inside.registry c.serve.new.self c.args.command answer told c.in-Some.ensures in
     let so : accepts c.args.command answer ≡ true = sym c.is_accepted.ensures ∙ c.if-not-is_accepted.false in
     let ended = c.ended_by-self-inside.result in
-    subst (λ (v : GuardedView). ServesNodes v c.args.command (Some answer) told c.show_if.new.self) c.self.view_is
-    (serves_some (touches_rows c.self.inside.registry c.args.command) (view_of c.self.inside) c.show_if.new.self c.args.command answer told h.untouched
-    (serves_yes (view_of c.self.inside) c.show_if.new.self c.args.command answer told c.serve.new.self c.deliver.new.self ended h.applies so h.rows
+    subst (λ (v : GuardedView). ServesNodes v c.args.command (Some answer) told c.show_if_due.new.self) c.self.view_is
+    (serves_some (touches_rows c.self.inside.registry c.args.command) (view_of c.self.inside) c.show_if_due.new.self c.args.command answer told h.untouched
+    (serves_yes (view_of c.self.inside) c.show_if_due.new.self c.args.command answer told c.serve.new.self c.deliver.new.self ended h.applies so h.rows
     (cleared_yes c.args.command answer told c.self.inside.boxes c.deliver.new.self so
     (subst (λ (l : Told). (mid : List Slot) × Delivers c.self.inside.boxes l mid × (c.deliver.new.self ≡ emptied c.args.command mid))
     c.as_slice.ensures.value c.deliver.ensures.told))
-    c.show_if.ensures.kept
+    c.show_if_due.ensures.kept
     (record {
       all = wakes_told c.args.command _ told ended c.as_slice-2.ensures.value c.ended_by-self-inside.ensures.all _ _ answer h.applies.step;
       slots = subst (λ (l : List (TxnId × Notice)). (u : ℕ) → u < most_slots
           → has_slot ended u ≡ (names_slot c.args.command u || list_any (λ (x : TxnId × Notice). x.0.slot == u) l))
           c.as_slice-2.ensures.value c.ended_by-self-inside.ensures.slots;
     })
-    (subst (λ (b : Bool). ShowsOn (c.self.inside.waited || b) (board_of (state_of m)) c.self.inside.publisher c.show_if.new.self.shown)
-    c.leaves_waiting.ensures c.show_if.ensures.shown)
-    c.show_if.ensures.quiet))
+    (subst (λ (o : Option Slots). ShowsOn (is_none o) (board_of (state_of m)) c.self.inside.publisher c.show_if_due.new.self.shown)
+    (c.keep.ensures ∙ ap (still_parties c.self.inside.parties c.args.command answer) c.as_slice-3.ensures.value)
+    c.show_if_due.ensures.shown)
+    c.show_if_due.ensures.known))

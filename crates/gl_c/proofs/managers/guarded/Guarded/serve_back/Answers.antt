@@ -1,8 +1,8 @@
 use Rattle.gl_slots.specs.Limit.{most_slots}
-use Rattle.std.proofs.Common.{◌≡◌, ◌<◌, ◌||◌, ◌==◌, ℕ, List, subst, sym}
+use Rattle.std.proofs.Common.{◌≡◌, ◌<◌, ◌||◌, ◌==◌, ℕ, List, ap, subst, sym, ◌∙◌}
 use Rattle.std.proofs.lemmas.Result.{err_from_is_err_and}
 use Rattle.std.specs.List.{list_any}
-use Rattle.std.specs.Prelude.{Err, IfSome, Ok}
+use Rattle.std.specs.Prelude.{Err, IfSome, Ok, Option, is_none}
 use Rattle.gl_slots.specs.Slots.{has_slot}
 use Rattle.gl_model.specs.declared.answers.Detect.{Detect}
 use Rattle.gl_model.specs.declared.answers.Notice.{Notice}
@@ -13,11 +13,16 @@ use Rattle.gl_wakes.specs.Boxes.{Delivers, Slot, emptied}
 use Rattle.gl_wakes.specs.Notices.{RisingTo}
 use Rattle.gl_wakes.specs.Wakes.{names_slot}
 use Rattle.gl_window.specs.Strip.{Strip}
+use Rattle.gl_window.specs.Tellings.{still_nobody}
 use Rattle.gl_c.specs.managers.Guarded.{GuardedView}
 use Rattle.gl_c.specs.locks.Savepoints.{ServesBack, unlocking}
+use Rattle.gl_c.specs.managers.Serving.{KnowsWaits, ShowsOn}
 use Rattle.gl_c.specs.managers.Sound.{IsSound, view_of}
+use Rattle.gl_slots.specs.declared.slots.Slots.{Slots}
+use Rattle.gl_catalog.specs.Manager.{state_of}
+use Rattle.gl_table.specs.Table.{board_of}
 use Rattle.gl_c.proofs.serving.Backs.{back_counts, back_detect, back_quiet, back_rises, back_some}
-use Rattle.gl_c.proofs.serving.Showing.{later_epoch}
+use Rattle.gl_c.proofs.serving.Showing.{knows_nobody, later_epoch}
 use Rattle.gl_c.proofs.managers.guarded.Guarded.serve_back.Goals.{After-from_residual}
 use Rattle.gl_c.proofs.managers.guarded.Guarded.serve_back.Goals as goal
 
@@ -63,10 +68,10 @@ invariant_of-self-2 c =
       epoch = later_epoch c.self.inside.publisher g.manager.accepted v.manager.accepted
           (back_counts g v c.args.txn c.args.mark c.in_ok-released.released told back) c.self.invariant.epoch;
       detect = subst (λ (d : Detect). IfSome c.self.inside.publisher (λ (p : Strip). p.detect ≡ d)) (sym way) c.self.invariant.detect;
-      quiet = λ e. (
-        back_quiet g v c.args.txn c.args.mark c.in_ok-released.released told back (c.self.invariant.quiet e).0,
-        (c.self.invariant.quiet e).1,
-      );
+      known = subst (KnowsWaits (state_of v.manager) c.self.inside.publisher) (sym c.keep_nobody.ensures)
+          (knows_nobody (state_of g.manager) (state_of v.manager) c.self.inside.publisher c.self.inside.parties
+          (back_quiet g v c.args.txn c.args.mark c.in_ok-released.released told back) c.self.invariant.known);
+      unwatched = λ e. c.keep_nobody.ensures ∙ ap still_nobody (c.self.invariant.unwatched e);
     }
 
 pub returns : goal.returns
@@ -78,8 +83,10 @@ returns c =
     c.as_slice-2.ensures.value c.ended_by-self-inside.ensures.slots in
     let delivered = subst (λ (l : Told). (mid : List Slot) × Delivers c.self.inside.boxes l mid
     × (c.deliver.new.self ≡ emptied (unlocking c.args.txn) mid)) c.as_slice.ensures.value c.deliver.ensures.told in
-    subst (λ (v : GuardedView). ServesBack v c.args.txn c.args.mark (Ok c.in_ok-released.released) told c.show_if.new.self) c.self.view_is
-    (back_some (view_of c.self.inside) c.show_if.new.self c.args.txn c.args.mark c.in_ok-released.released told c.release_since.new.self
+    subst (λ (v : GuardedView). ServesBack v c.args.txn c.args.mark (Ok c.in_ok-released.released) told c.show_if_due.new.self) c.self.view_is
+    (back_some (view_of c.self.inside) c.show_if_due.new.self c.args.txn c.args.mark c.in_ok-released.released told c.release_since.new.self
     c.deliver.new.self ended c.in_ok-released.ensures
-    (subst (λ (b : List Slot). Delivers c.self.inside.boxes told b) (sym delivered.2) delivered.1) c.show_if.ensures.kept slots c.show_if.ensures.shown
-    c.show_if.ensures.quiet)
+    (subst (λ (b : List Slot). Delivers c.self.inside.boxes told b) (sym delivered.2) delivered.1) c.show_if_due.ensures.kept slots
+    (subst (λ (o : Option Slots). ShowsOn (is_none o) (board_of (state_of c.release_since.new.self.manager)) c.self.inside.publisher
+    c.show_if_due.new.self.shown) c.keep_nobody.ensures c.show_if_due.ensures.shown)
+    c.show_if_due.ensures.known)

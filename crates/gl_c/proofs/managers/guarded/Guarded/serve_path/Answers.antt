@@ -1,7 +1,7 @@
 use Rattle.gl_slots.specs.Limit.{most_slots}
-use Rattle.std.proofs.Common.{arith, ◌≡◌, ◌≤◌, ◌<◌, ◌||◌, ◌==◌, ℕ, Bool, [], List, ap, subst, sym, ◌∙◌}
+use Rattle.std.proofs.Common.{arith, ◌≡◌, ◌≤◌, ◌<◌, ◌||◌, ◌==◌, ℕ, [], List, ap, subst, sym, ◌∙◌}
 use Rattle.std.specs.List.{list_any}
-use Rattle.std.specs.Prelude.{IfSome}
+use Rattle.std.specs.Prelude.{IfSome, Option, is_none}
 use Rattle.gl_slots.specs.Slots.{has_slot}
 use Rattle.gl_model.specs.declared.answers.Detect.{Detect}
 use Rattle.gl_model.specs.declared.answers.Notice.{Notice}
@@ -15,12 +15,12 @@ use Rattle.gl_wakes.specs.Boxes.{Delivers, Slot, emptied}
 use Rattle.gl_wakes.specs.Notices.{RisingTo}
 use Rattle.gl_wakes.specs.Wakes.{names_slot}
 use Rattle.gl_window.specs.Strip.{Strip}
-use Rattle.gl_window.proofs.Idle.{neither}
 use Rattle.gl_c.specs.managers.Guarded.{GuardedView}
-use Rattle.gl_c.specs.locks.Paths.{ServesPath}
-use Rattle.gl_c.specs.managers.Serving.{ShowsOn}
+use Rattle.gl_c.specs.locks.Paths.{ServesPath, still_on_path}
+use Rattle.gl_c.specs.managers.Serving.{KnowsWaits, ShowsOn}
+use Rattle.gl_slots.specs.declared.slots.Slots.{Slots}
 use Rattle.gl_c.specs.managers.Sound.{IsSound, view_of}
-use Rattle.gl_c.proofs.serving.Paths.{ended_told, keeps_detect, later_unless, same_if, stays_quiet, told_rises}
+use Rattle.gl_c.proofs.serving.Paths.{ended_told, keeps_detect, later_unless, path_known, same_if, told_rises}
 use Rattle.gl_c.proofs.serving.Serving.{counted_as, path_none, path_some, same_registry}
 use Rattle.gl_c.proofs.serving.Showing.{later_epoch}
 use Rattle.gl_c.proofs.managers.guarded.Guarded.serve_path.Goals as goal
@@ -45,7 +45,7 @@ returns-then-accepted-before c =
     (λ (v : GuardedView). ServesPath v c.args.txn (c.args.node, c.args.mode) c.lock_path-reached.result c.lock_path-reached.new.told.items
     (record (view_of c.self.inside) { manager = c.lock_path-reached.new.self.manager; rows = c.lock_path-reached.new.self.rows })) c.self.view_is
     (path_none (view_of c.self.inside) c.args.txn (c.args.node, c.args.mode) c.lock_path-reached.result c.lock_path-reached.new.told.items
-    c.lock_path-reached.new.self c.lock_path-reached.ensures (same c).0 (same c).1 c.self.invariant.quiet)
+    c.lock_path-reached.new.self c.lock_path-reached.ensures (same c).0 (same c).1 c.self.invariant.known)
 
 -- some was
 
@@ -76,13 +76,13 @@ invariant_of-self-2 c =
       epoch = later_epoch c.self.inside.publisher c.self.inside.registry.manager.accepted c.lock_path-reached.new.self.manager.accepted low
           c.self.invariant.epoch;
       detect = subst (λ (d : Detect). IfSome c.self.inside.publisher (λ (p : Strip). p.detect ≡ d)) (sym way) c.self.invariant.detect;
-      quiet = λ e. (
-        stays_quiet c.args.txn (c.args.node, c.args.mode) c.self.inside.registry.manager c.lock_path-reached.new.self.manager
-            c.lock_path-reached.new.told.items c.lock_path-reached.result c.lock_path-reached.ensures.untold
-            c.lock_path-reached.ensures.path c.self.inside.waited (λ is. (c.self.invariant.quiet is).0)
-            (ap (λ b. c.self.inside.waited || b) (sym c.ends_waiting.ensures) ∙ e),
-        (c.self.invariant.quiet (neither c.self.inside.waited c.ends_waiting.result e).0).1,
-      );
+      known = subst (KnowsWaits (state_of c.lock_path-reached.new.self.manager) c.self.inside.publisher)
+          (sym (c.keep_on_path.ensures ∙ ap (still_on_path c.self.inside.parties c.args.txn c.lock_path-reached.result) c.as_slice-3.ensures.value))
+          (path_known c.args.txn (c.args.node, c.args.mode) c.self.inside.registry.manager c.lock_path-reached.new.self.manager
+          c.lock_path-reached.new.told.items c.lock_path-reached.result c.lock_path-reached.ensures.untold c.lock_path-reached.ensures.path
+          c.law.ensures.manager.lawful c.law.ensures.manager.few c.self.inside.publisher c.self.inside.parties c.self.invariant.known);
+      unwatched = λ e. c.keep_on_path.ensures
+          ∙ ap (λ (o : Option Slots). still_on_path o c.args.txn c.lock_path-reached.result c.as_slice-3.result.now) (c.self.invariant.unwatched e);
     }
 
 pub returns : goal.returns
@@ -98,18 +98,19 @@ returns c =
     → has_slot ended u ≡ (names_slot asked u || list_any (λ (x : TxnId × Notice). x.0.slot == u) l))
     c.as_slice-2.ensures.value c.ended_by-self-inside.ensures.slots in
     subst
-    (λ (v : GuardedView). ServesPath v c.args.txn (c.args.node, c.args.mode) c.lock_path-reached.result told c.show_if.new.self) c.self.view_is
-    (path_some (view_of c.self.inside) c.show_if.new.self c.args.txn (c.args.node, c.args.mode) c.lock_path-reached.result told
+    (λ (v : GuardedView). ServesPath v c.args.txn (c.args.node, c.args.mode) c.lock_path-reached.result told c.show_if_due.new.self) c.self.view_is
+    (path_some (view_of c.self.inside) c.show_if_due.new.self c.args.txn (c.args.node, c.args.mode) c.lock_path-reached.result told
     c.lock_path-reached.new.self c.deliver.new.self ended c.lock_path-reached.ensures later
     (subst (λ (l : Told). (mid : List Slot) × Delivers c.self.inside.boxes l mid × (c.deliver.new.self ≡ emptied asked mid))
     c.as_slice.ensures.value c.deliver.ensures.told)
-    c.show_if.ensures.kept
+    c.show_if_due.ensures.kept
     (record {
       all = ended_told c.args.txn (c.args.node, c.args.mode) c.self.inside.registry.manager c.lock_path-reached.new.self.manager told
           c.lock_path-reached.result c.lock_path-reached.ensures.untold c.lock_path-reached.ensures.path ended slots;
       slots = slots;
     })
-    (subst (λ (b : Bool).
-    ShowsOn (c.self.inside.waited || b) (board_of (state_of c.lock_path-reached.new.self.manager)) c.self.inside.publisher c.show_if.new.self.shown)
-    c.ends_waiting.ensures c.show_if.ensures.shown)
-    c.show_if.ensures.quiet)
+    (subst (λ (o : Option Slots). ShowsOn (is_none o) (board_of (state_of c.lock_path-reached.new.self.manager)) c.self.inside.publisher
+    c.show_if_due.new.self.shown)
+    (c.keep_on_path.ensures ∙ ap (still_on_path c.self.inside.parties c.args.txn c.lock_path-reached.result) c.as_slice-3.ensures.value)
+    c.show_if_due.ensures.shown)
+    c.show_if_due.ensures.known)

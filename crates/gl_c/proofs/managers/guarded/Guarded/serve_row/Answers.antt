@@ -1,7 +1,7 @@
 use Rattle.gl_slots.specs.Limit.{most_slots}
-use Rattle.std.proofs.Common.{arith, ◌≡◌, ◌≤◌, ◌<◌, ◌||◌, ◌==◌, ℕ, Bool, false, List, subst, sym, ◌∙◌}
+use Rattle.std.proofs.Common.{arith, ◌≡◌, ◌≤◌, ◌<◌, ◌||◌, ◌==◌, ℕ, false, List, ap, ap₂, subst, sym, ◌∙◌}
 use Rattle.std.specs.List.{list_any}
-use Rattle.std.specs.Prelude.{IfSome}
+use Rattle.std.specs.Prelude.{IfSome, Option, is_none}
 use Rattle.gl_slots.specs.Slots.{has_slot}
 use Rattle.gl_model.specs.declared.answers.Detect.{Detect}
 use Rattle.gl_model.specs.declared.answers.Notice.{Notice}
@@ -15,14 +15,26 @@ use Rattle.gl_wakes.specs.Boxes.{Delivers, Slot, emptied}
 use Rattle.gl_wakes.specs.Notices.{RisingTo}
 use Rattle.gl_wakes.specs.Wakes.{names_slot}
 use Rattle.gl_window.specs.Strip.{Strip}
-use Rattle.gl_window.proofs.Idle.{neither}
 use Rattle.gl_c.specs.managers.Guarded.{GuardedView}
-use Rattle.gl_c.specs.locks.Rows.{ServesRow, comes_to_nothing}
-use Rattle.gl_c.specs.managers.Serving.{ShowsOn}
-use Rattle.gl_c.specs.managers.Sound.{view_of}
-use Rattle.gl_c.proofs.serving.RowCalls.{row_counts, row_detect, row_none, row_quiet, row_rises, row_some}
+use Rattle.gl_c.specs.locks.Rows.{ServesRow, comes_to_nothing, still_by}
+use Rattle.gl_c.specs.managers.Serving.{KnowsWaits, ShowsOn}
+use Rattle.gl_slots.specs.declared.slots.Slots.{Slots}
+use Rattle.gl_registry.specs.declared.answer.RowAnswer.{RowAnswer}
+use Rattle.gl_registry.specs.declared.call.RowCall.{RowCall}
+use Rattle.gl_c.specs.managers.Sound.{IsSound, view_of}
+use Rattle.gl_registry.specs.Rows.{RegistryView}
+use Rattle.gl_c.proofs.serving.Serving.{same_registry}
+use Rattle.gl_c.proofs.serving.RowCalls.{nothing_done, row_counts, row_detect, row_known, row_none, row_rises, row_some}
 use Rattle.gl_c.proofs.serving.Showing.{later_epoch}
 use Rattle.gl_c.proofs.managers.guarded.Guarded.serve_row.Goals as goal
+
+pub invariant_of-self : goal.invariant_of-self
+invariant_of-self c =
+    let same = nothing_done c.self.inside.registry.manager c.self.inside.registry.rows c.apply-answer.result c.apply-answer.new.told.items
+    c.apply-answer.new.self.manager c.apply-answer.new.self.rows (sym c.comes_to_nothing.ensures ∙ c.if-comes_to_nothing.true) c.args.call
+    c.apply-answer.ensures.applies in
+    subst (λ (v : RegistryView). IsSound (record c.self.inside { registry = v }))
+    (same_registry c.apply-answer.new.self c.self.inside.registry same.1 same.2) c.self.invariant
 
 pub returns-then-comes_to_nothing : goal.returns-then-comes_to_nothing
 returns-then-comes_to_nothing c =
@@ -30,7 +42,7 @@ returns-then-comes_to_nothing c =
     (λ (v : GuardedView). ServesRow v c.args.call c.apply-answer.result c.apply-answer.new.told.items
     (record (view_of c.self.inside) { manager = c.apply-answer.new.self.manager; rows = c.apply-answer.new.self.rows })) c.self.view_is
     (row_none (view_of c.self.inside) c.args.call c.apply-answer.result c.apply-answer.new.told.items c.apply-answer.new.self
-    c.apply-answer.ensures.applies c.apply-answer.ensures.own (sym c.comes_to_nothing.ensures ∙ c.if-comes_to_nothing.true) c.self.invariant.quiet)
+    c.apply-answer.ensures.applies c.apply-answer.ensures.own (sym c.comes_to_nothing.ensures ∙ c.if-comes_to_nothing.true) c.self.invariant.known)
 
 pub deliver-requires : goal.deliver-requires
 deliver-requires c =
@@ -44,6 +56,13 @@ ended_by-self-inside-requires c =
     (row_rises c.self.inside.registry c.args.call c.apply-answer.result c.apply-answer.new.told.items c.apply-answer.new.self c.apply-answer.ensures.own
     (sym c.comes_to_nothing.ensures ∙ c.if-comes_to_nothing.false) c.law.ensures.manager.few)
 
+-- what is known of the waits is so by the call's own command
+noted : (parties : Option Slots) (call : RowCall) (answer : RowAnswer) (own : Command) (l told : Told) (o : Option Slots)
+    → o ≡ still_by parties own (answer_in answer) l → own ≡ own_command unnamed call → l ≡ told
+    → o ≡ still_by parties (own_command unnamed call) (answer_in answer) told
+noted parties call answer own l told o is named same =
+    is ∙ ap₂ (λ (c : Command) (x : Told). still_by parties c (answer_in answer) x) named same
+
 pub invariant_of-self-2 : goal.invariant_of-self-2
 invariant_of-self-2 c =
     let told = c.apply-answer.new.told.items in
@@ -56,11 +75,14 @@ invariant_of-self-2 c =
     record {
       epoch = later_epoch c.self.inside.publisher c.self.inside.registry.manager.accepted c.apply-answer.new.self.manager.accepted low c.self.invariant.epoch;
       detect = subst (λ (d : Detect). IfSome c.self.inside.publisher (λ (p : Strip). p.detect ≡ d)) (sym way) c.self.invariant.detect;
-      quiet = λ e. (
-        row_quiet c.self.inside.registry c.args.call c.apply-answer.result told c.apply-answer.new.self own came c.self.inside.waited c.is_waited_for.result
-            c.is_waited_for.ensures (λ is. (c.self.invariant.quiet is).0) e,
-        (c.self.invariant.quiet (neither c.self.inside.waited c.is_waited_for.result e).0).1,
-      );
+      known = subst (KnowsWaits (state_of c.apply-answer.new.self.manager) c.self.inside.publisher) (sym (noted c.self.inside.parties c.args.call
+          c.apply-answer.result c.command-own.result c.as_slice-3.result.now told c.keep_by.new.parties c.keep_by.ensures c.command-own.ensures
+          c.as_slice-3.ensures.value))
+          (row_known c.self.inside.registry c.args.call c.apply-answer.result told c.apply-answer.new.self own came c.law.ensures.manager.lawful
+          c.law.ensures.manager.few c.self.inside.publisher c.self.inside.parties c.self.invariant.known);
+      unwatched = λ e. c.keep_by.ensures
+          ∙ ap (λ (o : Option Slots). still_by o c.command-own.result (answer_in c.apply-answer.result) c.as_slice-3.result.now)
+          (c.self.invariant.unwatched e);
     }
 
 pub returns : goal.returns
@@ -77,10 +99,12 @@ returns c =
     × (c.deliver.new.self ≡ emptied (own_command unnamed c.args.call) mid))
     c.as_slice.ensures.value (subst (λ (d : Command). (mid : List Slot) × Delivers c.self.inside.boxes c.as_slice.result.now mid
     × (c.deliver.new.self ≡ emptied d mid)) c.command-own.ensures c.deliver.ensures.told) in
-    subst (λ (v : GuardedView). ServesRow v c.args.call c.apply-answer.result told c.show_if.new.self) c.self.view_is
-    (row_some (view_of c.self.inside) c.show_if.new.self c.args.call c.apply-answer.result told c.apply-answer.new.self
-    c.deliver.new.self ended c.apply-answer.ensures.applies c.apply-answer.ensures.own came delivered c.show_if.ensures.kept slots
-    (subst (λ (b : Bool).
-    ShowsOn (c.self.inside.waited || b) (board_of (state_of c.apply-answer.new.self.manager)) c.self.inside.publisher c.show_if.new.self.shown)
-    c.is_waited_for.ensures c.show_if.ensures.shown)
-    c.show_if.ensures.quiet)
+    subst (λ (v : GuardedView). ServesRow v c.args.call c.apply-answer.result told c.show_if_due.new.self) c.self.view_is
+    (row_some (view_of c.self.inside) c.show_if_due.new.self c.args.call c.apply-answer.result told c.apply-answer.new.self
+    c.deliver.new.self ended c.apply-answer.ensures.applies c.apply-answer.ensures.own came delivered c.show_if_due.ensures.kept slots
+    (subst (λ (o : Option Slots). ShowsOn (is_none o) (board_of (state_of c.apply-answer.new.self.manager)) c.self.inside.publisher
+    c.show_if_due.new.self.shown)
+    (noted c.self.inside.parties c.args.call c.apply-answer.result c.command-own.result c.as_slice-3.result.now told c.keep_by.new.parties c.keep_by.ensures
+    c.command-own.ensures c.as_slice-3.ensures.value)
+    c.show_if_due.ensures.shown)
+    c.show_if_due.ensures.known)

@@ -1,6 +1,5 @@
-use Rattle.std.proofs.Common.{rules, arith, ◌≡◌, ◌∙◌, true, ap, refl, subst, sym}
+use Rattle.std.proofs.Common.{rules, arith, ◌≡◌, ◌∙◌, ap, refl, subst, sym}
 use Rattle.std.specs.Prelude.{Option, Some, None, Ok}
-use mathlib.Core.Bool.{true≢false}
 use Rattle.gl_model.specs.declared.answers.Detect.{Detect}
 use Rattle.gl_table.specs.Table.{board_of}
 use Rattle.gl_catalog.specs.Manager.{ManagerView, state_of}
@@ -25,7 +24,7 @@ returns-in_default-clause-kept c =
       boxes = c.self.inside.boxes;
       ended = c.self.inside.ended;
       shown = c.take.new.self;
-      waited = true;
+      parties = None;
       rows =
           c.self.inside.registry.rows;
     }))
@@ -70,7 +69,8 @@ invariant_of-self-2 c =
       epoch = either_epoch c.in-Ok.publisher.list c.watch-watcher.new.self.list c.board_now-now.result c.self.inside.registry.manager.accepted
           c.watch-watcher.ensures.list (omega (arith, below, at)) at;
       detect = c.watch-watcher.ensures.of.1 ∙ found.way;
-      quiet = λ e. absurd (true≢false e);
+      known = tt;
+      unwatched = λ e. refl;
     }
 
 pub returns-clause-kept : goal.returns-clause-kept
@@ -89,7 +89,7 @@ returns-clause-kept c =
       boxes = c.self.inside.boxes;
       ended = c.self.inside.ended;
       shown = Some c.watch-watcher.new.self;
-      waited = true;
+      parties = None;
       rows
           = c.self.inside.registry.rows;
     }))
