@@ -628,13 +628,14 @@ static inline bs_found bs_ended(const bs_manager *manager) {
 
 /* ------------------------------------------------------------------------------------------------
  * Watchers: who waits for whom, without the mutex of the manager. A manager that has watchers shows them its
- * board behind each accepted command by which a wait may have come, gone or changed. Where it shows none, the last
- * board shows every wait that stands, with the ages of those who wait and of those for whom they wait; its epoch and
- * all other ages are of its own moment. It shows none, where nobody waits, behind a command that leaves nobody waiting.
- * Else it shows none behind a command that tells nobody and makes a node or a transaction, or is one of a transaction
- * that neither waits nor holds a node for which somebody waits: a lock, path or row that is granted at once, an unlock,
- * a commit or an abort. To show a board takes memory, some three kilobytes, with 1,024 slots 136; where that is refused
- * the command is done all the same, and the next one shows the board.
+ * board behind each accepted command by which a wait may have come, gone or changed, and behind the first one since
+ * a watcher was made. None is needed, where nobody waits, behind a command that leaves nobody waiting. Else none is
+ * needed behind a command that tells nobody and makes a node or a transaction, or is one of a transaction that neither
+ * waits nor holds a node for which somebody waits: a lock, path or row that is granted at once, an unlock, a commit or
+ * an abort. Then the last board shows every wait that stands, with the ages of those who wait and of those for whom
+ * they wait; its epoch and all other ages are of its own moment. To show a board takes memory, some three kilobytes,
+ * with 1,024 slots 136; where that is refused the command is done all the same, the last board may lack what it
+ * changed, and the next command shows the board.
  */
 
 /* Makes a watcher of a manager at a place that has none, which knows the board of this moment. Refused with

@@ -9,9 +9,10 @@ use std::fmt;
 /// One who looks at the boards that a manager shows, with no mutex and no wait.
 ///
 /// A manager that has watchers shows them its board behind each accepted command by which a wait may
-/// have come, gone or changed. Where it shows none, the last board shows every wait that stands, with
+/// have come, gone or changed. Where none is needed, the last board shows every wait that stands, with
 /// the ages of those who wait and of those for whom they wait; its epoch and all other ages are of its
-/// own moment. A watcher may outlive its manager: then it sees the last board that was shown.
+/// own moment. Where there is no memory for a board, the next command shows one. A watcher may outlive
+/// its manager: then it sees the last board that was shown.
 ///
 /// ```
 /// use burlapslate::{Board, Detect, Mode, Table, SLOTS};
