@@ -20,7 +20,7 @@ use Rattle.gl_graph.specs.Graph.{node_at, shape_of, shape_in, parents_in, parent
 use Rattle.gl_graph.specs.Lawful.{IsRising, HasShape}
 use Rattle.gl_graph.specs.View.{View, graph_of, node_of, record_count, KeepsBeside}
 use Rattle.gl_graph.specs.Seen.{Limits, shape_in_body, indexes_in_body, records_in_body, intervals_in_body, vertex_of, seen, named_in, named}
-use Rattle.gl_graph.specs.Seen.{AreSound, parent_list}
+use Rattle.gl_graph.specs.Seen.{AreSound, parents_in_body}
 use Rattle.gl_graph.proofs.Slots.{node_named, seen_in}
 
 -- the slot of a node that an id names
@@ -51,7 +51,7 @@ module _ (limits : Limits) (s : Slab Stored) (births : ℕ) (v : View) (sound : 
   pub parents_missed : named s n ≡ None → parents_of (graph_of v) n ≡ []
   parents_missed e = ap parents_in (node_missed e)
 
-  pub parents_found : (x : Stored) → named s n ≡ Some x → parents_of (graph_of v) n ≡ parent_list x.parents
+  pub parents_found : (x : Stored) → named s n ≡ Some x → parents_of (graph_of v) n ≡ parents_in_body x.body
   parents_found x e = ap parents_in (node_found x e)
 
   beside : (x : Stored) → named s n ≡ Some x → KeepsBeside (graph_of v) n (vertex_of x) (shape_in_body x.body)
@@ -102,7 +102,7 @@ module _ (limits : Limits) (s : Slab Stored) (births : ℕ) (v : View) (sound : 
   index_beside x (Index f bs) t e h =
       let kept = subst (KeepsBeside (graph_of v) n (vertex_of x)) t (beside x e) in
       let there : node_at (graph_of (seen limits s births)) n ≡ Some (node_of n.key (vertex_of x)) = ap (λ w. node_at (graph_of w) n) view ∙ node_found x e in
-      let well = subst (λ sh. HasShape (graph_of (seen limits s births)) n sh (parent_list x.parents)) t
+      let well = subst (λ sh. HasShape (graph_of (seen limits s births)) n sh (parents_in_body x.body)) t
       (sound.lawful.well_formed n (node_of n.key (vertex_of x)) there) in
       record { count = kept.0; each = kept.1; rising = well.1.rising.1 }
 
@@ -129,13 +129,15 @@ file_slot limits s births sound n h =
 
 -- what is no index has no intervals
 pub no_intervals : (b : Body) → is_index_shape (Some (shape_in_body b)) ≡ false → intervals_in_body b ≡ []
-no_intervals (body.Inner children) h = refl
-no_intervals (body.File kept) h = refl
-no_intervals (body.Index kept) h = absurd (no (sym h))
-no_intervals (body.Interval place) h = refl
-no_intervals body.Bare h = refl
-no_intervals (body.Keyed one) h = refl
-no_intervals (body.ManyKeyed keys) h = refl
+no_intervals (body.Inner children above) h = refl
+no_intervals (body.File above kept) h = refl
+no_intervals (body.Index above kept) h = absurd (no (sym h))
+no_intervals (body.Interval place index) h = refl
+no_intervals (body.NoKey file) h = refl
+no_intervals (body.OneKey one above) h = refl
+no_intervals (body.TwoKeys keys above) h = refl
+no_intervals (body.ThreeKeys keys above) h = refl
+no_intervals (body.ManyKeys keys above) h = refl
 
 -- a test passes somewhere exactly where it is not counted 0 times
 pub any_counted : {A : Type 0} (p : A → Bool) (xs : List A) → nat_lt 0 (count_by p xs) ≡ list_any p xs

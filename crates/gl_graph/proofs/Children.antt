@@ -16,7 +16,7 @@ use Rattle.gl_graph.specs.Graph.{Graph, Node, node_at, is_live, parents_of, shap
 use Rattle.gl_graph.specs.Lawful.{HasShape, IsLawfulGraph, are_inner, are_distinct}
 use Rattle.gl_graph.specs.Refusals.{has_children}
 use Rattle.gl_graph.specs.View.{graph_of}
-use Rattle.gl_graph.specs.Seen.{Limits, shape_in_body, children_in_body, seen, AreSound, parent_list, is_child_slot, child_count, KeepChildren}
+use Rattle.gl_graph.specs.Seen.{Limits, shape_in_body, children_in_body, seen, AreSound, parents_in_body, is_child_slot, child_count, KeepChildren}
 use Rattle.gl_graph.specs.Grown.{AreStored, AreRecounted, EachKeeps}
 use Rattle.gl_graph.proofs.Beside.{any_counted}
 use Rattle.gl_graph.proofs.Branch.{parent_is, parent_kind, is_interval_shape}
@@ -237,7 +237,7 @@ one_less false k m e = omega arith
 
 -- the parents of a stored node
 pub stored_parents : (limits : Limits) (s : Slab Stored) (births : ℕ) (sound : AreSound limits s births) (n : NodeId) (x : Stored)
-    → get s n.key ≡ Some x → x.birth ≡ n.birth → parents_of (graph_of (seen limits s births)) n ≡ parent_list x.parents
+    → get s n.key ≡ Some x → x.birth ≡ n.birth → parents_of (graph_of (seen limits s births)) n ≡ parents_in_body x.body
 stored_parents limits s births sound n x there born =
     let is_n : record { key = n.key; birth = x.birth } ≡ n = node_is (record { key = n.key; birth = x.birth }) n refl born in
     ap (parents_of (graph_of (seen limits s births))) (sym is_n) ∙ ap parents_in (node_there limits s births sound.apart n.key x there)
@@ -338,7 +338,7 @@ module _ (limits : Limits) (mid : Slab Stored) (births : ℕ) (sound' : AreSound
 -- one slot is written that is of no inner node, and then the body of another: no inner node has more children or less
 module _ (limits : Limits) (old mid new : Slab Stored) (births births' : ℕ) (sound : AreSound limits old births) (sound' : AreSound limits new births')
     (keep : KeepChildren old (child_count old)) (key : ℕ) (o : Option Stored) (u : Updates old mid key o) (key' : ℕ) (f : Stored) (b : Body)
-    (there : get mid key' ≡ Some f) (u' : Updates mid new key' (Some (record f { body = b })))
+    (above : parents_in_body b ≡ parents_in_body f.body) (there : get mid key' ≡ Some f) (u' : Updates mid new key' (Some (record f { body = b })))
     (no_inner : (y : Stored) → o ≡ Some y → shape_in_body y.body ≡ Inner → ⊥) (no_inner' : shape_in_body b ≡ Inner → ⊥)
     (alike : (n : NodeId) → is_inner_shape (shape_of (graph_of (seen limits old births)) n) ≡ true
     → is_inner_shape (shape_of (graph_of (seen limits new births')) n) ≡ true → is_child_slot n o ≡ is_child_slot n (get old key)) where
@@ -364,7 +364,7 @@ module _ (limits : Limits) (old mid new : Slab Stored) (births births' : ℕ) (s
       (sym (node_is (record { key = n.key; birth = x.0.birth }) n refl (x.2 ∙ y.2))) ∙ inner_there limits old births sound n.key x.0 x.1 x.3 in
       split (k == key')
       (λ t. let same = same_number k key' t in ap (λ j. is_child_slot n (get new j)) same ∙ ap (is_child_slot n) u'.changed
-      ∙ sym (ap (λ j. is_child_slot n (get mid j)) same ∙ ap (is_child_slot n) there))
+      ∙ ap (list_any (same_node n)) above ∙ sym (ap (λ j. is_child_slot n (get mid j)) same ∙ ap (is_child_slot n) there))
       (λ t. ap (is_child_slot n) (u'.others k (other_number k key' t)))
       ∙ split (k == key)
       (λ t. let same = same_number k key t in ap (λ j. is_child_slot n (get mid j)) same ∙ ap (is_child_slot n) u.changed ∙ alike n was h

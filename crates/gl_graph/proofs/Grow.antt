@@ -11,7 +11,7 @@ use Rattle.gl_graph.specs.Shapes.{Interval}
 use Rattle.gl_graph.specs.Graph.{Graph, Node}
 use Rattle.gl_graph.specs.Changes.{born_node, born_nodes, interval_nodes, keys_of, are_apart}
 use Rattle.gl_graph.specs.View.{graph_of, node_of}
-use Rattle.gl_graph.specs.Seen.{shape_in_body, vertex_of, seen, AreBornApart, AreBornWithin, parent_list}
+use Rattle.gl_graph.specs.Seen.{shape_in_body, vertex_of, seen, AreBornApart, AreBornWithin, parents_in_body}
 use Rattle.gl_graph.specs.Grown.{IsGrown, ids_of, AreIntervalsBorn}
 use Rattle.gl_graph.proofs.Unrefused.{or_no}
 use Rattle.gl_graph.proofs.Slots.{inserted, inserted_apart, inserted_within}
@@ -130,7 +130,7 @@ count_interval_nodes index from (k ∷ keys) = ap suc (count_interval_nodes inde
 pub intervals_born : (old now next : Slab Stored) (index : NodeId) (place : ℕ) (ids next_ids : List NodeId)
     (born : AreIntervalsBorn old now index place ids) (key : ℕ) (x : Stored) → get now key ≡ None → Updates now next key (Some x)
     → x.birth ≡ index.birth + 1 + place
-    → slab_len next ≡ slab_len now + 1 → shape_in_body x.body ≡ Interval place → parent_list x.parents ≡ index ∷ [] → next_ids ≡ ids
+    → slab_len next ≡ slab_len now + 1 → shape_in_body x.body ≡ Interval place → parents_in_body x.body ≡ index ∷ [] → next_ids ≡ ids
     ++ record { key = key; birth = index.birth + 1 + place } ∷ [] → AreIntervalsBorn old next index (place + 1) next_ids
 intervals_born old now next index place ids next_ids born key x free u birth len shape parents listed =
     let many = born.many in

@@ -4,6 +4,7 @@ use Rattle.std.proofs.Common.{refl, sym, ap, ap₂, ◌∙◌, subst}
 use Rattle.gl_modes.specs.declared.node.NodeId.{NodeId}
 use Rattle.slab.specs.Slab.{Slab}
 use Rattle.std.specs.Global.{Box}
+use Rattle.smallvec.specs.SmallVec.{SmallVec}
 use Rattle.gl_graph.specs.declared.node.Body.{Body}
 use Rattle.gl_graph.specs.declared.node.Body.TheVariants as body
 use Rattle.gl_graph.specs.declared.node.FileBody.{FileBody}
@@ -21,9 +22,9 @@ use Rattle.gl_graph.proofs.KindRules.{index_node}
 
 module _ (limits : Limits) (s : Slab Stored) (births : ℕ) (v : View) (sound : AreSound limits s births) (view : seen limits s births ≡ v) (n : NodeId)
     (x : Stored) (e : named s n ≡ Some x) where
-  pub file_in_use : (kept : Box FileBody) → x.body ≡ body.File kept
+  pub file_in_use : (above : SmallVec NodeId) (kept : Box FileBody) → x.body ≡ body.File above kept
       → is_in_use (graph_of v) n ≡ (nat_lt 0 kept.value.records || nat_lt 0 (length kept.value.indexes.items))
-  file_in_use kept is =
+  file_in_use above kept is =
       let shape : shape_of (graph_of v) n ≡ Some (File kept.value.adopted) =
       shape_found limits s births v sound view n x e ∙ ap (λ b. Some (shape_in_body b)) is in
       let file : is_file_shape (shape_of (graph_of v) n) ≡ true = ap is_file_shape shape in
@@ -33,19 +34,23 @@ module _ (limits : Limits) (s : Slab Stored) (births : ℕ) (v : View) (sound : 
       ∙ ap (nat_lt 0) (sym (records_found limits s births v sound view n x e file) ∙ ap records_in_body is))
       (ap (λ (is : List NodeId). nat_lt 0 (length is)) (sym (indexes_found limits s births v sound view n x e file) ∙ ap indexes_in_body is))
 
-  index_shape : (kept : Box IndexBody) → x.body ≡ body.Index kept → shape_of (graph_of v) n ≡ Some (Index kept.value.file kept.value.bounds.items)
-  index_shape kept is = shape_found limits s births v sound view n x e ∙ ap (λ b. Some (shape_in_body b)) is
+  index_shape : (above : SmallVec NodeId) (kept : Box IndexBody) → x.body ≡ body.Index above kept
+      → shape_of (graph_of v) n ≡ Some (Index kept.value.file kept.value.bounds.items)
+  index_shape above kept is = shape_found limits s births v sound view n x e ∙ ap (λ b. Some (shape_in_body b)) is
 
-  pub index_file : (kept : Box IndexBody) → x.body ≡ body.Index kept → is_file_shape (shape_of (graph_of v) kept.value.file) ≡ true
-  index_file kept is =
+  pub index_file : (above : SmallVec NodeId) (kept : Box IndexBody) → x.body ≡ body.Index above kept
+      → is_file_shape (shape_of (graph_of v) kept.value.file) ≡ true
+  index_file above kept is =
       (index_node (graph_of v) (subst (λ (w : View). IsLawfulGraph (graph_of w)) view sound.lawful) n kept.value.file kept.value.bounds.items
-      (index_shape kept is)).file
+      (index_shape above kept is)).file
 
-  pub index_in_use : (kept : Box IndexBody) → x.body ≡ body.Index kept → is_in_use (graph_of v) n ≡ has_records (graph_of v) kept.value.file
-  index_in_use kept is = ap (is_shape_in_use (graph_of v) n) (index_shape kept is)
+  pub index_in_use : (above : SmallVec NodeId) (kept : Box IndexBody) → x.body ≡ body.Index above kept
+      → is_in_use (graph_of v) n ≡ has_records (graph_of v) kept.value.file
+  index_in_use above kept is = ap (is_shape_in_use (graph_of v) n) (index_shape above kept is)
 
-  pub inner_in_use : KeepChildren s (child_count s) → (children : ℕ) → x.body ≡ body.Inner children → is_in_use (graph_of v) n ≡ nat_lt 0 children
-  inner_in_use keep children is =
+  pub inner_in_use : KeepChildren s (child_count s) → (children : ℕ) (above : SmallVec NodeId) → x.body ≡ body.Inner children above
+      → is_in_use (graph_of v) n ≡ nat_lt 0 children
+  inner_in_use keep children above is =
       let shape : shape_of (graph_of v) n ≡ Some Inner = shape_found limits s births v sound view n x e ∙ ap (λ b. Some (shape_in_body b)) is in
       let slot = named_slot s n x e in
       ap (is_shape_in_use (graph_of v) n) shape
@@ -54,17 +59,20 @@ module _ (limits : Limits) (s : Slab Stored) (births : ℕ) (v : View) (sound : 
       ∙ ap (nat_lt 0) (sym (sym (ap children_in_body is) ∙ keep n.key x slot.0 (ap shape_in_body is)
       ∙ ap (λ b. child_count s (record { key = n.key; birth = b })) slot.1))
 
-  pub other_in_use : ((children : ℕ) → x.body ≡ body.Inner children → ⊥) → ((kept : Box FileBody) → x.body ≡ body.File kept → ⊥)
-      → ((kept : Box IndexBody) → x.body ≡ body.Index kept → ⊥)
+  pub other_in_use : ((children : ℕ) (above : SmallVec NodeId) → x.body ≡ body.Inner children above → ⊥)
+      → ((above : SmallVec NodeId) (kept : Box FileBody) → x.body ≡ body.File above kept → ⊥)
+      → ((above : SmallVec NodeId) (kept : Box IndexBody) → x.body ≡ body.Index above kept → ⊥)
       → is_in_use (graph_of v) n ≡ false
   other_in_use no_inner no_file no_index =
       ap (is_shape_in_use (graph_of v) n) (shape_found limits s births v sound view n x e) ∙ by x.body refl
     where
       by : (b : Body) → x.body ≡ b → is_shape_in_use (graph_of v) n (Some (shape_in_body b)) ≡ false
-      by (body.Inner children) is = absurd (no_inner children is)
-      by (body.File kept) is = absurd (no_file kept is)
-      by (body.Index kept) is = absurd (no_index kept is)
-      by (body.Interval place) is = refl
-      by body.Bare is = refl
-      by (body.Keyed key) is = refl
-      by (body.ManyKeyed keys) is = refl
+      by (body.Inner children above) is = absurd (no_inner children above is)
+      by (body.File above kept) is = absurd (no_file above kept is)
+      by (body.Index above kept) is = absurd (no_index above kept is)
+      by (body.Interval place index) is = refl
+      by (body.NoKey file) is = refl
+      by (body.OneKey key above) is = refl
+      by (body.TwoKeys keys above) is = refl
+      by (body.ThreeKeys keys above) is = refl
+      by (body.ManyKeys keys above) is = refl

@@ -12,7 +12,7 @@ use Rattle.gl_graph.specs.Graph.{Graph, Node, node_at, is_live, shape_in, shape_
 use Rattle.gl_graph.specs.Lawful.{IsLawfulGraph}
 use Rattle.gl_graph.specs.Changes.{born_node, IsBorn}
 use Rattle.gl_graph.specs.View.{Vertex, graph_of, node_of, record_count, KeepsBeside, AgreesAt}
-use Rattle.gl_graph.specs.Seen.{Limits, shape_in_body, vertex_of, seen, AreBornWithin, AreSound, IsPlainBody, parent_list}
+use Rattle.gl_graph.specs.Seen.{Limits, shape_in_body, vertex_of, seen, AreBornWithin, AreSound, IsPlainBody, parents_in_body}
 use Rattle.gl_graph.proofs.KindRules.{Frames, index_node, interval_kept}
 use Rattle.gl_graph.proofs.Born.{born_frames, new_node, old_below}
 use Rattle.gl_graph.proofs.NewNodes.{one_indexes}
@@ -42,22 +42,26 @@ born_within limits s births sound k x e = (sound.lawful.born x.birth (ap is_some
 
 -- an inner node, a file: no index, no record
 plain_no_index : (b : Body) → IsPlainBody b → (f : NodeId) → is_index_of_shape f (Some (shape_in_body b)) ≡ false
-plain_no_index (body.Inner children) p f = refl
-plain_no_index (body.File kept) p f = refl
-plain_no_index (body.Index kept) p f = absurd p
-plain_no_index (body.Interval place) p f = absurd p
-plain_no_index body.Bare p f = absurd p
-plain_no_index (body.Keyed one) p f = absurd p
-plain_no_index (body.ManyKeyed keys) p f = absurd p
+plain_no_index (body.Inner children above) p f = refl
+plain_no_index (body.File above kept) p f = refl
+plain_no_index (body.Index above kept) p f = absurd p
+plain_no_index (body.Interval place index) p f = absurd p
+plain_no_index (body.NoKey file) p f = absurd p
+plain_no_index (body.OneKey one above) p f = absurd p
+plain_no_index (body.TwoKeys keys above) p f = absurd p
+plain_no_index (body.ThreeKeys keys above) p f = absurd p
+plain_no_index (body.ManyKeys keys above) p f = absurd p
 
 plain_no_record : (b : Body) → IsPlainBody b → is_record_shape (Some (shape_in_body b)) ≡ false
-plain_no_record (body.Inner children) p = refl
-plain_no_record (body.File kept) p = refl
-plain_no_record (body.Index kept) p = absurd p
-plain_no_record (body.Interval place) p = absurd p
-plain_no_record body.Bare p = absurd p
-plain_no_record (body.Keyed one) p = absurd p
-plain_no_record (body.ManyKeyed keys) p = absurd p
+plain_no_record (body.Inner children above) p = refl
+plain_no_record (body.File above kept) p = refl
+plain_no_record (body.Index above kept) p = absurd p
+plain_no_record (body.Interval place index) p = absurd p
+plain_no_record (body.NoKey file) p = absurd p
+plain_no_record (body.OneKey one above) p = absurd p
+plain_no_record (body.TwoKeys keys above) p = absurd p
+plain_no_record (body.ThreeKeys keys above) p = absurd p
+plain_no_record (body.ManyKeys keys above) p = absurd p
 
 module _ (limits : Limits) (old new : Slab Stored) (births key : ℕ) (x : Stored) (sound : AreSound limits old births) (free : get old key ≡ None)
     (u : Updates old new key (Some x)) (next : x.birth ≡ births + 1) where
@@ -73,7 +77,7 @@ module _ (limits : Limits) (old new : Slab Stored) (births key : ℕ) (x : Store
   pub after : graph_of (seen limits new (births + 1)) ≡ born_node g node
   after = inserted limits old new births key x sound.apart (born_within limits old births sound) free u next
 
-  pub is_born : IsBorn g (graph_of (seen limits new (births + 1))) id (shape_in_body x.body) (parent_list x.parents)
+  pub is_born : IsBorn g (graph_of (seen limits new (births + 1))) id (shape_in_body x.body) (parents_in_body x.body)
   is_born = record {
     key_free = inserted_free limits old new births key x sound.apart (born_within limits old births sound) free u next;
     birth =
@@ -120,19 +124,21 @@ module _ (limits : Limits) (old new : Slab Stored) (births key : ℕ) (x : Store
         ∙ ap (λ b. b && is_child (born_node g node) f id) (plain_no_record x.body plain)
 
     new_kept : (b : Body) → x.body ≡ b → IsPlainBody b → KeepsBeside (born_node g node) id (vertex_of (record x { body = b })) (shape_in_body b)
-    new_kept (body.Inner children) e p = tt
-    new_kept (body.File kept) e p = (
+    new_kept (body.Inner children above) e p = tt
+    new_kept (body.File above kept) e p = (
       p.0 ∙ sym (one_indexes g sound.lawful node (plain_no_index x.body plain) id ∙ dead_indexes g sound.lawful id not_there),
       p.1
           ∙ sym (records_grown g sound.lawful (node ∷ []) id
           ∙ ap₂ (λ a b. a + b) (dead_records g sound.lawful id not_there)
           (count_cons (is_record_of (born_node g node) id) id [] ∙ ap (λ b. cond b 1 0 + 0) (not_record id))),
     )
-    new_kept (body.Index kept) e p = absurd p
-    new_kept (body.Interval place) e p = absurd p
-    new_kept body.Bare e p = absurd p
-    new_kept (body.Keyed one) e p = absurd p
-    new_kept (body.ManyKeyed keys) e p = absurd p
+    new_kept (body.Index above kept) e p = absurd p
+    new_kept (body.Interval place index) e p = absurd p
+    new_kept (body.NoKey file) e p = absurd p
+    new_kept (body.OneKey one above) e p = absurd p
+    new_kept (body.TwoKeys keys above) e p = absurd p
+    new_kept (body.ThreeKeys keys above) e p = absurd p
+    new_kept (body.ManyKeys keys above) e p = absurd p
 
     agree_born : (k : ℕ) (y : Stored) → get new k ≡ Some y → AgreesAt (born_node g node) k (vertex_of y)
     agree_born k y e =

@@ -18,6 +18,7 @@ pub mod KeyIntervals
 pub mod Counts
 pub mod Kept
 pub mod RecordParents
+pub mod SameParents
 pub mod SoundRecord
 pub mod Left
 pub mod Distinct

@@ -121,22 +121,26 @@ recounted_vertex : (x : Stored) (count : ℕ) → vertex_of (record x { body = b
 recounted_vertex x count = by x.body
   where
     by : (b : Body) → vertex_of (record x { body = body_with_children b count }) ≡ vertex_of (record x { body = b })
-    by (body.Inner children) = refl
-    by (body.File kept) = refl
-    by (body.Index kept) = refl
-    by (body.Interval place) = refl
-    by body.Bare = refl
-    by (body.Keyed one) = refl
-    by (body.ManyKeyed keys) = refl
+    by (body.Inner children above) = refl
+    by (body.File above kept) = refl
+    by (body.Index above kept) = refl
+    by (body.Interval place index) = refl
+    by (body.NoKey file) = refl
+    by (body.OneKey one above) = refl
+    by (body.TwoKeys keys above) = refl
+    by (body.ThreeKeys keys above) = refl
+    by (body.ManyKeys keys above) = refl
 
 children_written : (b : Body) (count : ℕ) → shape_in_body b ≡ Inner → children_in_body (body_with_children b count) ≡ count
-children_written (body.Inner children) count e = refl
-children_written (body.File kept) count e = cc
-children_written (body.Index kept) count e = cc
-children_written (body.Interval place) count e = cc
-children_written body.Bare count e = cc
-children_written (body.Keyed one) count e = cc
-children_written (body.ManyKeyed keys) count e = cc
+children_written (body.Inner children above) count e = refl
+children_written (body.File above kept) count e = cc
+children_written (body.Index above kept) count e = cc
+children_written (body.Interval place index) count e = cc
+children_written (body.NoKey file) count e = cc
+children_written (body.OneKey one above) count e = cc
+children_written (body.TwoKeys keys above) count e = cc
+children_written (body.ThreeKeys keys above) count e = cc
+children_written (body.ManyKeys keys above) count e = cc
 
 -- where a key is listed
 is_listed : (ids : List NodeId) (key : ℕ)

@@ -13,19 +13,18 @@ use Rattle.slab.specs.Slab.{Slab, get, slab_len, ContainsKey, Updates}
 use Rattle.gl_graph.specs.declared.node.Body.{Body}
 use Rattle.gl_graph.specs.declared.node.Body.TheVariants as body
 use Rattle.gl_graph.specs.declared.node.Node.{Node as Stored}
-use Rattle.gl_graph.specs.declared.parents.Parents.{Parents}
-use Rattle.gl_graph.specs.declared.parents.Parents.TheVariants as parents
 use Rattle.gl_graph.specs.Shapes.{Shape, Rec, is_record_shape, is_index_of_shape, keys_in}
 use Rattle.gl_graph.specs.Graph.{Graph, Node, node_at, is_live, shape_in, shape_of, parents_in, first_parent, indexes_of, interval_of, intervals_of}
 use Rattle.gl_graph.specs.Graph.{record_parents}
 use Rattle.gl_graph.specs.Lawful.{IsLawfulGraph}
 use Rattle.gl_graph.specs.Changes.{with_node, keys_with, rekeyed_keys, rekeyed_parents, rekeyed}
 use Rattle.gl_graph.specs.View.{graph_of, node_of, KeepsBeside}
-use Rattle.gl_graph.specs.Seen.{Limits, shape_in_body, vertex_of, seen, with_key_at, body_with_key, AreSound, parent_list, parents_with}
+use Rattle.gl_graph.specs.Seen.{Limits, shape_in_body, vertex_of, seen, body_with_key, body_rekeyed, AreSound, parents_in_body}
 use Rattle.gl_graph.proofs.Changed.{IsAlike, at_here}
 use Rattle.gl_graph.proofs.Distinct.{one_place, indexes_distinct, index_listed}
 use Rattle.gl_graph.proofs.Moved.{rec_alike, rekeyed_is, rekey_lawful}
 use Rattle.gl_graph.proofs.Removed.{rec_live}
+use Rattle.gl_graph.proofs.SameParents.{key_parents, parent_set, parent_set_shape}
 use Rattle.gl_graph.proofs.RecordParents.{its_keys, its_parents, record_of_file, file_among}
 use Rattle.gl_graph.proofs.Slots.{stored_of}
 use Rattle.gl_graph.proofs.SoundChanged.{node_was, changed, changed_graph, changed_sound}
@@ -70,19 +69,15 @@ count_intervals_of g (j ∷ is) (k ∷ ks) e = ap suc (count_intervals_of g is k
 
 body_keys : (b : Body) (place key : ℕ) → is_record_shape (Some (shape_in_body b)) ≡ true
     → shape_in_body (body_with_key b place key) ≡ Rec (slice_set (keys_in (Some (shape_in_body b))) place key)
-body_keys (body.Inner children) place key h = absurd (no h)
-body_keys (body.File kept) place key h = absurd (no h)
-body_keys (body.Index kept) place key h = absurd (no h)
-body_keys (body.Interval at) place key h = absurd (no h)
-body_keys body.Bare place key h = refl
-body_keys (body.Keyed one) place key h = refl
-body_keys (body.ManyKeyed keys) place key h = refl
-
-parents_set : (ps : Parents) (place : ℕ) (n : NodeId) → parent_list (parents_with ps place n) ≡ slice_set (parent_list ps) place n
-parents_set parents.Root place n = refl
-parents_set (parents.One ids) place n = refl
-parents_set (parents.Two ids) place n = refl
-parents_set (parents.More ids) place n = refl
+body_keys (body.Inner children above) place key h = absurd (no h)
+body_keys (body.File above kept) place key h = absurd (no h)
+body_keys (body.Index above kept) place key h = absurd (no h)
+body_keys (body.Interval at index) place key h = absurd (no h)
+body_keys (body.NoKey file) place key h = refl
+body_keys (body.OneKey one above) place key h = refl
+body_keys (body.TwoKeys keys above) place key h = refl
+body_keys (body.ThreeKeys keys above) place key h = refl
+body_keys (body.ManyKeys keys above) place key h = refl
 
 record_body : (sh : Shape) → is_record_shape (Some sh) ≡ true → sh ≡ Rec (keys_in (Some sh))
 record_body (Rec keys) h = refl
@@ -131,10 +126,10 @@ module _ (limits : Limits) (old new : Slab Stored) (births : ℕ) (sound : AreSo
   pub key_there : (x : Stored) → get old r.key ≡ Some x → place < length (keys_in (Some (shape_in_body x.body)))
   key_there x e = let same = ap (λ o. length (keys_in (shape_in o))) (node_is x e) in let l = low in let n = each in omega arith
 
-  pub parent_there : (x : Stored) → get old r.key ≡ Some x → place + 1 < length (parent_list x.parents)
+  pub parent_there : (x : Stored) → get old r.key ≡ Some x → place + 1 < length (parents_in_body x.body)
   parent_there x e =
-      let same : parent_list x.parents ≡ record_parents g (first_parent g r) keys = sym (ap parents_in (node_is x e)) ∙ its_parents g sound.lawful r rec in
-      let count : length (parent_list x.parents) ≡ suc (length is) = ap length same ∙ ap suc (count_intervals_of g is keys each) in
+      let same : parents_in_body x.body ≡ record_parents g (first_parent g r) keys = sym (ap parents_in (node_is x e)) ∙ its_parents g sound.lawful r rec in
+      let count : length (parents_in_body x.body) ≡ suc (length is) = ap length same ∙ ap suc (count_intervals_of g is keys each) in
       let l = low in
       omega arith
 
@@ -147,25 +142,29 @@ module _ (limits : Limits) (old new : Slab Stored) (births : ℕ) (sound : AreSo
       same_self : (q : NodeId) → same_node q q ≡ true
       same_self q = split (same_node q q) (λ e. e) (λ e. absurd (same_node-other q q e refl))
 
-  module _ (write : (x : Stored) → get old r.key ≡ Some x → Updates old new r.key (Some (with_key_at x place key (interval_of g i key))))
+  module _ (write : (x : Stored) → get old r.key ≡ Some x
+      → Updates old new r.key (Some (record x { body = body_rekeyed x.body place key (interval_of g i key) })))
       (len : slab_len new ≡ slab_len old) where
     abbrev was : Stored
     was = slot.0
 
     abbrev x : Stored
-    x = with_key_at was place key (interval_of g i key)
+    x = record was { body = body_rekeyed was.body place key (interval_of g i key) }
 
     rec_body : is_record_shape (Some (shape_in_body was.body)) ≡ true
     rec_body = ap (λ o. is_record_shape (shape_in o)) (sym (node_is was slot.1)) ∙ rec
 
     shape_is : shape_in_body x.body ≡ Rec (rekeyed_keys g r i key)
-    shape_is = body_keys was.body place key rec_body ∙ ap (λ o. Rec (slice_set (keys_in (shape_in o)) place key)) (sym (node_is was slot.1))
-        ∙ ap Rec (sym keys_are)
+    shape_is =
+        parent_set_shape (body_with_key was.body place key) (place + 1) (interval_of g i key) ∙ body_keys was.body place key rec_body
+        ∙ ap (λ o. Rec (slice_set (keys_in (shape_in o)) place key)) (sym (node_is was slot.1)) ∙ ap Rec (sym keys_are)
 
-    parents_are : parent_list x.parents ≡ rekeyed_parents g r i key
+    parents_are : parents_in_body x.body ≡ rekeyed_parents g r i key
     parents_are =
         let one : place + 1 ≡ suc place = omega arith in
-        parents_set was.parents (place + 1) (interval_of g i key)
+        parent_set (body_with_key was.body place key) (place + 1) (interval_of g i key)
+        (ap (λ sh. is_record_shape (Some sh)) (body_keys was.body place key rec_body))
+        ∙ ap (λ ps. slice_set ps (place + 1) (interval_of g i key)) (key_parents was.body place key)
         ∙ ap₂ (λ ps k. slice_set ps k (interval_of g i key)) (sym (ap parents_in (node_is was slot.1)) ∙ its_parents g sound.lawful r rec) one
         ∙ ap (λ xs. first_parent g r ∷ xs) (sym (intervals_set g is keys i key place each low here) ∙ ap (intervals_of g is) (sym keys_are))
 

@@ -10,6 +10,7 @@ use Rattle.gl_modes.proofs.Words.{split, cases_of, no, none_some, some_is, not_t
 use Rattle.gl_modes.specs.declared.node.NodeId.{NodeId}
 use Rattle.gl_modes.specs.Nodes.{same_node}
 use Rattle.slab.specs.Slab.{Slab, get, slab_len, ContainsKey, Updates}
+use Rattle.smallvec.specs.SmallVec.{SmallVec}
 use Rattle.gl_graph.specs.declared.node.Body.{Body}
 use Rattle.gl_graph.specs.declared.node.Body.TheVariants as body
 use Rattle.gl_graph.specs.declared.node.IndexBody.{IndexBody}
@@ -23,7 +24,8 @@ use Rattle.gl_graph.specs.Changes.{without_branch}
 use Rattle.gl_graph.specs.Refusals.{is_in_use}
 use Rattle.gl_graph.specs.View.{graph_of, node_of, KeepsBeside, AgreesAt}
 use Rattle.gl_graph.specs.Seen.{Limits, shape_in_body, indexes_in_body, records_in_body, intervals_in_body, body_without_index, vertex_of, seen}
-use Rattle.gl_graph.specs.Seen.{AreBornApart, AreSound, parent_list}
+use Rattle.gl_graph.specs.Seen.{AreBornApart, AreSound, parents_in_body}
+use Rattle.gl_graph.proofs.SameParents.{unlisted_parents}
 use Rattle.gl_graph.specs.Seen.{KeepChildren, child_count, is_child_slot}
 use Rattle.gl_graph.specs.Grown.{AreStored, AreGone, AreRecounted, EachKeeps}
 use Rattle.gl_graph.specs.Lawful.{are_inner, are_distinct}
@@ -181,13 +183,15 @@ module _ (limits : Limits) (old new : Slab Stored) (births : ℕ) (sound : AreSo
 unlisted : (b : Body) (n : NodeId) (adopted : Bool) → shape_in_body b ≡ File adopted → (shape_in_body (body_without_index b n) ≡ File adopted)
     × (indexes_in_body (body_without_index b n) ≡ filter (λ listed. not (same_node listed n)) (indexes_in_body b))
     × (records_in_body (body_without_index b n) ≡ records_in_body b)
-unlisted (body.Inner children) n adopted e = cc
-unlisted (body.File kept) n adopted e = (e, refl, refl)
-unlisted (body.Index kept) n adopted e = cc
-unlisted (body.Interval place) n adopted e = cc
-unlisted body.Bare n adopted e = cc
-unlisted (body.Keyed one) n adopted e = cc
-unlisted (body.ManyKeyed keys) n adopted e = cc
+unlisted (body.Inner children above) n adopted e = cc
+unlisted (body.File above kept) n adopted e = (e, refl, refl)
+unlisted (body.Index above kept) n adopted e = cc
+unlisted (body.Interval place index) n adopted e = cc
+unlisted (body.NoKey file) n adopted e = cc
+unlisted (body.OneKey one above) n adopted e = cc
+unlisted (body.TwoKeys keys above) n adopted e = cc
+unlisted (body.ThreeKeys keys above) n adopted e = cc
+unlisted (body.ManyKeys keys above) n adopted e = cc
 
 -- an index goes with its intervals, and its file lists it no more
 module _ (limits : Limits) (old mid : Slab Stored) (births : ℕ) (sound : AreSound limits old births) (n : NodeId)
@@ -338,7 +342,10 @@ module _ (limits : Limits) (old mid : Slab Stored) (births : ℕ) (sound : AreSo
       kept = unlisted slot.stored.body n slot.adopted slot.shape
 
       alike : node_of f.key (vertex_of f4) ≡ node_of f.key (vertex_of slot.stored)
-      alike = let same = kept.0 ∙ sym slot.shape in λ i. record { key = f.key; shape = same i; parents = parent_list slot.stored.parents }
+      alike =
+          let same = kept.0 ∙ sym slot.shape in
+          let ps = unlisted_parents slot.stored.body n in
+          λ i. record { key = f.key; shape = same i; parents = ps i }
 
       apart : AreBornApart third
       apart = branch_apart limits old third births sound n movable free slots
@@ -387,7 +394,7 @@ module _ (limits : Limits) (old mid : Slab Stored) (births : ℕ) (sound : AreSo
       -- the parents of the index have a child less each
       module _ (keep : KeepChildren old (child_count old)) where
         abbrev pub parents : List NodeId
-        parents = parent_list x.parents
+        parents = parents_in_body x.body
 
         parents_are : parents_of s n ≡ parents
         parents_are = stored_parents limits old births sound n x there born
@@ -468,7 +475,8 @@ module _ (limits : Limits) (old mid : Slab Stored) (births : ℕ) (sound : AreSo
             let was : is_inner_shape (shape_of s m) ≡ true =
             ap is_inner_shape (sym (left_shape s n m (plain_live (left s n) m (inner_plain _ here)))) ∙ here in
             let c4 = count_updated third fourth f.key (Some f4) (write slot.stored file_there) m in
-            let p4 : ones (is_child_slot m (get third f.key)) ≡ ones (is_child_slot m (Some f4)) = ap (λ o. ones (is_child_slot m o)) file_there in
+            let p4 : ones (is_child_slot m (get third f.key)) ≡ ones (is_child_slot m (Some f4)) =
+            ap (λ o. ones (is_child_slot m o)) file_there ∙ ap (λ qs. ones (list_any (same_node m) qs)) (sym (unlisted_parents slot.stored.body n)) in
             let c3 = count_alike mid third m (third_slot m was) in
             let c2 = count_updated old mid n.key None u m in
             let p2 : ones (is_child_slot m (get old n.key)) ≡ ones (list_any (same_node m) parents) = ap (λ o. ones (is_child_slot m o)) there in
@@ -508,7 +516,7 @@ module _ (limits : Limits) (old : Slab Stored) (births : ℕ) (sound : AreSound 
   pub index_contained : ContainsKey old n.key
   index_contained = ap is_some stored_index.1
 
-  pub is_stored_index : (x : Stored) → get old n.key ≡ Some x → ((boxed : Box IndexBody) → x.body ≡ body.Index boxed → ⊥) → ⊥
+  pub is_stored_index : (x : Stored) → get old n.key ≡ Some x → ((above : SmallVec NodeId) (boxed : Box IndexBody) → x.body ≡ body.Index above boxed → ⊥) → ⊥
   is_stored_index x at none =
       let same : stored_index.0 ≡ x = some_is (sym stored_index.1 ∙ at) in
       let birth : x.birth ≡ n.birth = ap (λ y. y.birth) (sym same) ∙ stored_index.2 in
@@ -516,11 +524,14 @@ module _ (limits : Limits) (old : Slab Stored) (births : ℕ) (sound : AreSound 
       by x.body none (sym (ap (λ o. is_index_shape (shape_in o)) (node_there limits old births sound.apart n.key x at))
       ∙ ap (λ q. is_index_shape (shape_of i q)) is_n ∙ index)
     where
-      by : (b : Body) → ((boxed : Box IndexBody) → b ≡ body.Index boxed → ⊥) → is_index_shape (Some (shape_in_body b)) ≡ true → ⊥
-      by (body.Inner children) none k = no k
-      by (body.File boxed) none k = no k
-      by (body.Index boxed) none k = none boxed refl
-      by (body.Interval place) none k = no k
-      by body.Bare none k = no k
-      by (body.Keyed one) none k = no k
-      by (body.ManyKeyed keys) none k = no k
+      by : (b : Body) → ((above : SmallVec NodeId) (boxed : Box IndexBody) → b ≡ body.Index above boxed → ⊥)
+          → is_index_shape (Some (shape_in_body b)) ≡ true → ⊥
+      by (body.Inner children above) none k = no k
+      by (body.File above boxed) none k = no k
+      by (body.Index above boxed) none k = none above boxed refl
+      by (body.Interval place index) none k = no k
+      by (body.NoKey file) none k = no k
+      by (body.OneKey one above) none k = no k
+      by (body.TwoKeys keys above) none k = no k
+      by (body.ThreeKeys keys above) none k = no k
+      by (body.ManyKeys keys above) none k = no k

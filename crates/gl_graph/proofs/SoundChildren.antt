@@ -11,12 +11,14 @@ use Rattle.gl_graph.specs.Shapes.{Shape, Inner, File, Rec, is_inner_shape, is_fi
 use Rattle.gl_graph.specs.Graph.{Graph, parents_of, node_at, is_live, shape_of, shape_in}
 use Rattle.gl_graph.specs.View.{graph_of}
 use Rattle.gl_graph.specs.Seen.{Limits, seen, AreSound, KeepChildren, child_count, is_child_slot, shape_in_body, body_with_records, body_adopted}
-use Rattle.gl_graph.specs.Seen.{body_with_key, with_key_at, children_in_body, IsPlainBody, parent_list}
+use Rattle.gl_graph.specs.Seen.{body_rekeyed, body_with_parents, children_in_body, IsPlainBody, parents_in_body}
 use Rattle.gl_graph.proofs.Beside.{FileSlot, file_slot}
 use Rattle.gl_graph.proofs.Children.{no_inner_parent, steady_keeps, keeps_updated, count_updated, dead_count, inner_after, all_inner_after}
+use Rattle.gl_graph.proofs.SoundMoved.{movable_there}
+use Rattle.gl_graph.proofs.SameParents.{adopted_parents, counted_parents, moved_shape, moved_parents, moved_children}
 use Rattle.gl_graph.proofs.Children.{WasInner, keeps_as, are_named, are_stored, each_keeps, stored_parents, its_inner_parents}
 use Rattle.gl_graph.proofs.Branch.{movable_live}
-use Rattle.gl_graph.specs.declared.parents.Parents.{Parents}
+use Rattle.smallvec.specs.SmallVec.{SmallVec}
 use Rattle.gl_graph.proofs.Children.{up_stored, up_room, up_keeps, up_sound, up_graph}
 use Rattle.gl_graph.proofs.Recount.{ones, counts_one, recounted_sound, recounted_graph, recounted_keeps, recounted_count}
 use Rattle.gl_graph.proofs.Look.{live_node, there_is, found_at}
@@ -37,13 +39,15 @@ no_inner_record : (b : Body) (keys : List ℕ) → shape_in_body b ≡ Rec keys 
 no_inner_record b keys e is = cc
 
 adopted_file : (b : Body) (adopted : Bool) → shape_in_body b ≡ File adopted → shape_in_body (body_adopted b) ≡ File true
-adopted_file (body.Inner children) adopted e = cc
-adopted_file (body.File kept) adopted e = refl
-adopted_file (body.Index kept) adopted e = cc
-adopted_file (body.Interval place) adopted e = cc
-adopted_file body.Bare adopted e = cc
-adopted_file (body.Keyed one) adopted e = cc
-adopted_file (body.ManyKeyed keys) adopted e = cc
+adopted_file (body.Inner children above) adopted e = cc
+adopted_file (body.File above kept) adopted e = refl
+adopted_file (body.Index above kept) adopted e = cc
+adopted_file (body.Interval place index) adopted e = cc
+adopted_file (body.NoKey file) adopted e = cc
+adopted_file (body.OneKey one above) adopted e = cc
+adopted_file (body.TwoKeys keys above) adopted e = cc
+adopted_file (body.ThreeKeys keys above) adopted e = cc
+adopted_file (body.ManyKeys keys above) adopted e = cc
 
 -- a record's slot says nothing of an inner node
 record_slot : (limits : Limits) (s : Slab Stored) (births : ℕ) (sound : AreSound limits s births) (k : ℕ) (x : Stored) → get s k ≡ Some x
@@ -63,7 +67,7 @@ module _ (limits : Limits) (old new : Slab Stored) (births : ℕ) (sound : AreSo
   pub marked_keeps : KeepChildren new (child_count new)
   marked_keeps =
       steady_keeps limits old old new births births sound sound' keep f.key (get old f.key) (record { changed = refl; others = λ other ne. refl }) f.key
-      slot.stored (body_adopted slot.stored.body) slot.there (write slot.stored slot.there)
+      slot.stored (body_adopted slot.stored.body) (adopted_parents slot.stored.body) slot.there (write slot.stored slot.there)
       (λ y e is. no_inner_file slot.stored.body slot.adopted slot.shape (ap (λ z. shape_in_body z.body) (some_is (sym slot.there ∙ e)) ∙ is))
       (λ is. no_inner_file (body_adopted slot.stored.body) true (adopted_file slot.stored.body slot.adopted slot.shape) is)
       (λ n h h'. refl)
@@ -88,7 +92,7 @@ module _ (limits : Limits) (old mid new : Slab Stored) (births key : ℕ) (x : S
   record_keeps =
       let written = write born_slot.stored file_there in
       steady_keeps limits old mid new births (births + 1) sound sound' keep key (Some x) u f.key born_slot.stored
-      (body_with_records born_slot.stored.body records) file_there written
+      (body_with_records born_slot.stored.body records) (counted_parents born_slot.stored.body records) file_there written
       (λ y e is. no_inner_record x.body keys shape (ap (λ z. shape_in_body z.body) (some_is e) ∙ is))
       (λ is. no_inner_file (body_with_records born_slot.stored.body records) born_slot.adopted
       (recounted_shape born_slot.stored born_slot.adopted born_slot.shape records) is)
@@ -119,7 +123,7 @@ module _ (limits : Limits) (old mid new : Slab Stored) (births key : ℕ) (x : S
   pub left_keeps : KeepChildren new (child_count new)
   left_keeps =
       steady_keeps limits old mid new births births sound sound' keep key None u f.key left_slot.stored
-      (body_with_records left_slot.stored.body records) left_there (write left_slot.stored left_there)
+      (body_with_records left_slot.stored.body records) (counted_parents left_slot.stored.body records) left_there (write left_slot.stored left_there)
       (λ y e is. absurd (none_some e))
       (λ is. no_inner_file (body_with_records left_slot.stored.body records) left_slot.adopted
       (recounted_shape left_slot.stored left_slot.adopted left_slot.shape records) is)
@@ -132,7 +136,7 @@ module _ (limits : Limits) (old new : Slab Stored) (births key : ℕ) (x x' : St
     (shape' : shape_in_body x'.body ≡ Rec keys') where
   pub rekeyed_keeps : KeepChildren new (child_count new)
   rekeyed_keeps =
-      steady_keeps limits old new new births births sound sound' keep key (Some x') u key x' x'.body u.changed
+      steady_keeps limits old new new births births sound sound' keep key (Some x') u key x' x'.body refl u.changed
       (record { changed = u.changed; others = λ other ne. refl })
       (λ y e is. no_inner_record x'.body keys' shape' (ap (λ z. shape_in_body z.body) (some_is e) ∙ is))
       (λ is. no_inner_record x'.body keys' shape' is)
@@ -156,31 +160,35 @@ stored_record limits s births sound r rec =
 
 -- with another key it is one
 pub record_with_key : (x : Stored) (keys : List ℕ) → shape_in_body x.body ≡ Rec keys → (place key : ℕ) (interval : NodeId)
-    → (keys' : List ℕ) × (shape_in_body (with_key_at x place key interval).body ≡ Rec keys')
+    → (keys' : List ℕ) × (shape_in_body (body_rekeyed x.body place key interval) ≡ Rec keys')
 record_with_key x keys e place key interval = by x.body e
   where
-    by : (b : Body) → shape_in_body b ≡ Rec keys → (keys' : List ℕ) × (shape_in_body (body_with_key b place key) ≡ Rec keys')
-    by (body.Inner children) e = cc
-    by (body.File kept) e = cc
-    by (body.Index kept) e = cc
-    by (body.Interval p) e = cc
-    by body.Bare e = ([], refl)
-    by (body.Keyed one) e = (slice_set one place key, refl)
-    by (body.ManyKeyed kept) e = (slice_set kept.value.items place key, refl)
+    by : (b : Body) → shape_in_body b ≡ Rec keys → (keys' : List ℕ) × (shape_in_body (body_rekeyed b place key interval) ≡ Rec keys')
+    by (body.Inner children above) e = cc
+    by (body.File above kept) e = cc
+    by (body.Index above kept) e = cc
+    by (body.Interval p index) e = cc
+    by (body.NoKey file) e = ([], refl)
+    by (body.OneKey one above) e = (slice_set one place key, refl)
+    by (body.TwoKeys kept above) e = (slice_set kept place key, refl)
+    by (body.ThreeKeys kept above) e = (slice_set kept place key, refl)
+    by (body.ManyKeys kept above) e = (slice_set kept.value.items place key, refl)
 
 plain_children : (b : Body) → IsPlainBody b → shape_in_body b ≡ Inner → children_in_body b ≡ 0
-plain_children (body.Inner children) p e = p
-plain_children (body.File kept) p e = cc
-plain_children (body.Index kept) p e = cc
-plain_children (body.Interval place) p e = cc
-plain_children body.Bare p e = cc
-plain_children (body.Keyed one) p e = cc
-plain_children (body.ManyKeyed keys) p e = cc
+plain_children (body.Inner children above) p e = p
+plain_children (body.File above kept) p e = cc
+plain_children (body.Index above kept) p e = cc
+plain_children (body.Interval place index) p e = cc
+plain_children (body.NoKey file) p e = cc
+plain_children (body.OneKey one above) p e = cc
+plain_children (body.TwoKeys keys above) p e = cc
+plain_children (body.ThreeKeys keys above) p e = cc
+plain_children (body.ManyKeys keys above) p e = cc
 
 -- an inner node or a file comes, and its parents have a child more each
 module _ (limits : Limits) (old mid : Slab Stored) (births key : ℕ) (x : Stored) (sound : AreSound limits old births)
     (sound' : AreSound limits mid (births + 1)) (keep : KeepChildren old (child_count old)) (free : get old key ≡ None)
-    (u : Updates old mid key (Some x)) (next : x.birth ≡ births + 1) (plain : IsPlainBody x.body) (ps : List NodeId) (parents : parent_list x.parents ≡ ps)
+    (u : Updates old mid key (Some x)) (next : x.birth ≡ births + 1) (plain : IsPlainBody x.body) (ps : List NodeId) (parents : parents_in_body x.body ≡ ps)
     (inner : are_inner (graph_of (seen limits old births)) ps ≡ true) (distinct : are_distinct ps ≡ true) where
   keep_born : KeepChildren mid (child_count old)
   keep_born =
@@ -230,16 +238,20 @@ module _ (limits : Limits) (old mid : Slab Stored) (births key : ℕ) (x : Store
 -- a node gets other parents: the old ones have a child less each, and then the new ones a child more
 module _ (limits : Limits) (old mid : Slab Stored) (births : ℕ) (sound : AreSound limits old births) (sound' : AreSound limits mid births)
     (keep : KeepChildren old (child_count old)) (n : NodeId) (movable : is_movable_shape (shape_of (graph_of (seen limits old births)) n) ≡ true)
-    (fresh : Parents) (write : (y : Stored) → get old n.key ≡ Some y → Updates old mid n.key (Some (record y { parents = fresh })))
-    (ps : List NodeId) (fresh_is : parent_list fresh ≡ ps) (inner : are_inner (graph_of (seen limits old births)) ps ≡ true)
-    (distinct : are_distinct ps ≡ true) (olds : List NodeId) (olds_are : (y : Stored) → get old n.key ≡ Some y → olds ≡ parent_list y.parents) where
+    (fresh : SmallVec NodeId)
+    (write : (y : Stored) → get old n.key ≡ Some y → Updates old mid n.key (Some (record y { body = body_with_parents y.body fresh })))
+    (ps : List NodeId) (fresh_is : fresh.items ≡ ps) (inner : are_inner (graph_of (seen limits old births)) ps ≡ true)
+    (distinct : are_distinct ps ≡ true) (olds : List NodeId) (olds_are : (y : Stored) → get old n.key ≡ Some y → olds ≡ parents_in_body y.body) where
   abbrev h : Graph
   h = graph_of (seen limits old births)
 
   mover : (x : Stored) × (get old n.key ≡ Some x) × (x.birth ≡ n.birth)
   mover = stored_of limits old births sound.apart n (movable_live (graph_of (seen limits old births)) n movable)
 
-  u : Updates old mid n.key (Some (record mover.0 { parents = fresh }))
+  abbrev moved : Stored
+  moved = record mover.0 { body = body_with_parents mover.0.body fresh }
+
+  u : Updates old mid n.key (Some moved)
   u = write mover.0 mover.1
 
   are_olds : parents_of h n ≡ olds
@@ -255,10 +267,10 @@ module _ (limits : Limits) (old mid : Slab Stored) (births : ℕ) (sound : AreSo
       (λ t.
       let same = same_number p.key n.key t in
       let is_mover : mover.0 ≡ y = some_is (sym mover.1 ∙ ap (get old) (sym same) ∙ e) in (
-        record mover.0 { parents = fresh },
+        moved,
         ap (get mid) same ∙ u.changed,
         ap (λ z. z.birth) is_mover,
-        ap (λ z. shape_in_body z.body) is_mover ∙ is,
+        moved_shape mover.0.body fresh ∙ ap (λ z. shape_in_body z.body) is_mover ∙ is,
       ))
       (λ t. (y, u.others p.key (other_number p.key n.key t) ∙ e, refl, is)))) all
 
@@ -270,12 +282,12 @@ module _ (limits : Limits) (old mid : Slab Stored) (births : ℕ) (sound : AreSo
       split (k == n.key)
       (λ t.
       let same = same_number k n.key t in
-      let is_y : record mover.0 { parents = fresh } ≡ y = some_is (sym u.changed ∙ ap (get mid) (sym same) ∙ e) in (
+      let is_y : moved ≡ y = some_is (sym u.changed ∙ ap (get mid) (sym same) ∙ e) in (
         mover.0,
         ap (get old) same ∙ mover.1,
         ap (λ z. z.birth) is_y,
-        ap (λ z. shape_in_body z.body) is_y ∙ is,
-        ap (λ z. children_in_body z.body) (sym is_y),
+        sym (moved_shape mover.0.body fresh) ∙ ap (λ z. shape_in_body z.body) is_y ∙ is,
+        ap (λ z. children_in_body z.body) (sym is_y) ∙ moved_children mover.0.body fresh,
       ))
       (λ t. (y, sym (u.others k (other_number k n.key t)) ∙ e, refl, is, refl))
 
@@ -284,11 +296,12 @@ module _ (limits : Limits) (old mid : Slab Stored) (births : ℕ) (sound : AreSo
 
   moved_counts : (m : NodeId) → child_count mid m + ones (list_any (same_node m) olds) ≡ child_count old m + ones (list_any (same_node m) ps)
   moved_counts m =
-      let c = count_updated old mid n.key (Some (record mover.0 { parents = fresh })) u m in
+      let c = count_updated old mid n.key (Some moved) u m in
       let was : ones (is_child_slot m (get old n.key)) ≡ ones (list_any (same_node m) olds) =
       ap (λ o. ones (is_child_slot m o)) mover.1 ∙ ap (λ qs. ones (list_any (same_node m) qs)) (sym (olds_are mover.0 mover.1)) in
-      let is : ones (list_any (same_node m) (parent_list fresh)) ≡ ones (list_any (same_node m) ps) =
-      ap (λ qs. ones (list_any (same_node m) qs)) fresh_is in
+      let is : ones (is_child_slot m (Some moved)) ≡ ones (list_any (same_node m) ps) =
+      ap (λ qs. ones (list_any (same_node m) qs)) (moved_parents mover.0.body fresh (movable_there limits old mid births sound n movable mover.0 mover.1)
+      ∙ fresh_is) in
       omega arith
 
   some_old : (m : NodeId) → list_any (same_node m) olds ≡ true → 1 ≤ child_count old m

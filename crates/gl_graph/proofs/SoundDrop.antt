@@ -13,7 +13,7 @@ use Rattle.gl_graph.specs.Lawful.{are_inner, are_distinct}
 use Rattle.gl_graph.specs.Changes.{without_branch}
 use Rattle.gl_graph.specs.Refusals.{is_in_use}
 use Rattle.gl_graph.specs.View.{graph_of}
-use Rattle.gl_graph.specs.Seen.{Limits, shape_in_body, seen, AreSound, parent_list, is_child_slot, child_count, KeepChildren}
+use Rattle.gl_graph.specs.Seen.{Limits, shape_in_body, seen, AreSound, parents_in_body, is_child_slot, child_count, KeepChildren}
 use Rattle.gl_graph.specs.Grown.{AreStored, AreRecounted, EachKeeps}
 use Rattle.gl_graph.proofs.Branch.{inner_left}
 use Rattle.gl_graph.proofs.Children.{WasInner, count_updated, its_inner_parents, not_its_own, stored_parents, down_stored, down_some, down_keeps}
@@ -32,7 +32,7 @@ module _ (limits : Limits) (old mid : Slab Stored) (births : ℕ) (sound : AreSo
   g = graph_of (seen limits old births)
 
   abbrev pub ps : List NodeId
-  ps = parent_list x.parents
+  ps = parents_in_body x.body
 
   parents_are : parents_of g n ≡ ps
   parents_are =

@@ -19,11 +19,12 @@ use Rattle.gl_graph.specs.Changes.{born_node, born_nodes, born_index, interval_n
 use Rattle.gl_graph.specs.Refusals.{reindex_refusal}
 use Rattle.gl_graph.specs.View.{View, graph_of, node_of, record_count, KeepsBeside, AgreesAt}
 use Rattle.gl_graph.specs.Seen.{Limits, shape_in_body, indexes_in_body, records_in_body, intervals_in_body, body_with_intervals, body_with_indexes}
-use Rattle.gl_graph.specs.Seen.{vertex_of, seen, AreSound, parent_list}
+use Rattle.gl_graph.specs.Seen.{vertex_of, seen, AreSound, parents_in_body}
 use Rattle.gl_graph.specs.Seen.{KeepChildren, child_count, is_child_slot}
 use Rattle.gl_graph.specs.Grown.{ids_of, AreIntervalsBorn, AreStored, AreRecounted, EachKeeps}
 use Rattle.gl_graph.proofs.Children.{WasInner, keeps_as, count_updated, count_alike, no_inner_parent, up_stored, up_room, up_keeps, up_sound, up_graph}
 use Rattle.gl_graph.proofs.KindRules.{parents_kept}
+use Rattle.gl_graph.proofs.SameParents.{intervals_parents, indexes_parents}
 use Rattle.gl_graph.proofs.Recount.{ones}
 use Rattle.gl_modes.specs.Nodes.{same_node}
 use Rattle.gl_graph.proofs.Born.{place_in}
@@ -36,42 +37,50 @@ use Rattle.gl_graph.proofs.Kept.{born_within, beside_kept}
 use Rattle.gl_graph.proofs.Unrefused.{IsRoomyIndex, index_births, reindex_unrefused}
 
 same_shape : (b : Body) (fresh : Vec NodeId Global) → shape_in_body (body_with_intervals b fresh) ≡ shape_in_body b
-same_shape (body.Inner children) fresh = refl
-same_shape (body.File kept) fresh = refl
-same_shape (body.Index kept) fresh = refl
-same_shape (body.Interval place) fresh = refl
-same_shape body.Bare fresh = refl
-same_shape (body.Keyed one) fresh = refl
-same_shape (body.ManyKeyed keys) fresh = refl
+same_shape (body.Inner children above) fresh = refl
+same_shape (body.File above kept) fresh = refl
+same_shape (body.Index above kept) fresh = refl
+same_shape (body.Interval place index) fresh = refl
+same_shape (body.NoKey file) fresh = refl
+same_shape (body.OneKey one above) fresh = refl
+same_shape (body.TwoKeys keys above) fresh = refl
+same_shape (body.ThreeKeys keys above) fresh = refl
+same_shape (body.ManyKeys keys above) fresh = refl
 
 has_intervals : (b : Body) (fresh : Vec NodeId Global) (f : NodeId) (bs : List ℕ) → shape_in_body b ≡ Index f bs
     → intervals_in_body (body_with_intervals b fresh) ≡ fresh.items
-has_intervals (body.Inner children) fresh f bs e = cc
-has_intervals (body.File kept) fresh f bs e = cc
-has_intervals (body.Index kept) fresh f bs e = refl
-has_intervals (body.Interval place) fresh f bs e = cc
-has_intervals body.Bare fresh f bs e = cc
-has_intervals (body.Keyed one) fresh f bs e = cc
-has_intervals (body.ManyKeyed keys) fresh f bs e = cc
+has_intervals (body.Inner children above) fresh f bs e = cc
+has_intervals (body.File above kept) fresh f bs e = cc
+has_intervals (body.Index above kept) fresh f bs e = refl
+has_intervals (body.Interval place index) fresh f bs e = cc
+has_intervals (body.NoKey file) fresh f bs e = cc
+has_intervals (body.OneKey one above) fresh f bs e = cc
+has_intervals (body.TwoKeys keys above) fresh f bs e = cc
+has_intervals (body.ThreeKeys keys above) fresh f bs e = cc
+has_intervals (body.ManyKeys keys above) fresh f bs e = cc
 
 file_same_shape : (b : Body) (fresh : SmallVec NodeId) → shape_in_body (body_with_indexes b fresh) ≡ shape_in_body b
-file_same_shape (body.Inner children) fresh = refl
-file_same_shape (body.File kept) fresh = refl
-file_same_shape (body.Index kept) fresh = refl
-file_same_shape (body.Interval place) fresh = refl
-file_same_shape body.Bare fresh = refl
-file_same_shape (body.Keyed one) fresh = refl
-file_same_shape (body.ManyKeyed keys) fresh = refl
+file_same_shape (body.Inner children above) fresh = refl
+file_same_shape (body.File above kept) fresh = refl
+file_same_shape (body.Index above kept) fresh = refl
+file_same_shape (body.Interval place index) fresh = refl
+file_same_shape (body.NoKey file) fresh = refl
+file_same_shape (body.OneKey one above) fresh = refl
+file_same_shape (body.TwoKeys keys above) fresh = refl
+file_same_shape (body.ThreeKeys keys above) fresh = refl
+file_same_shape (body.ManyKeys keys above) fresh = refl
 
 has_indexes : (b : Body) (fresh : SmallVec NodeId) (adopted : Bool) → shape_in_body b ≡ File adopted
     → (indexes_in_body (body_with_indexes b fresh) ≡ fresh.items) × (records_in_body (body_with_indexes b fresh) ≡ records_in_body b)
-has_indexes (body.Inner children) fresh adopted e = cc
-has_indexes (body.File kept) fresh adopted e = (refl, refl)
-has_indexes (body.Index kept) fresh adopted e = cc
-has_indexes (body.Interval place) fresh adopted e = cc
-has_indexes body.Bare fresh adopted e = cc
-has_indexes (body.Keyed one) fresh adopted e = cc
-has_indexes (body.ManyKeyed keys) fresh adopted e = cc
+has_indexes (body.Inner children above) fresh adopted e = cc
+has_indexes (body.File above kept) fresh adopted e = (refl, refl)
+has_indexes (body.Index above kept) fresh adopted e = cc
+has_indexes (body.Interval place index) fresh adopted e = cc
+has_indexes (body.NoKey file) fresh adopted e = cc
+has_indexes (body.OneKey one above) fresh adopted e = cc
+has_indexes (body.TwoKeys keys above) fresh adopted e = cc
+has_indexes (body.ThreeKeys keys above) fresh adopted e = cc
+has_indexes (body.ManyKeys keys above) fresh adopted e = cc
 
 -- the list of intervals names each at its place
 ids_at : (index : NodeId) (from birth : ℕ) (keys : List ℕ) (k b : ℕ) (node : Node) → birth + k ≡ b
@@ -98,7 +107,7 @@ count_ids_of birth (k ∷ keys) = ap suc (count_ids_of (birth + 1) keys)
 
 module _ (limits : Limits) (old mid grown : Slab Stored) (births key : ℕ) (x : Stored) (sound : AreSound limits old births)
     (free : get old key ≡ None) (u : Updates old mid key (Some x)) (next : x.birth ≡ births + 1) (len : slab_len mid ≡ slab_len old + 1)
-    (file : NodeId) (ps : List NodeId) (bounds : List ℕ) (shape : shape_in_body x.body ≡ Index file bounds) (parents : parent_list x.parents ≡ ps)
+    (file : NodeId) (ps : List NodeId) (bounds : List ℕ) (shape : shape_in_body x.body ≡ Index file bounds) (parents : parents_in_body x.body ≡ ps)
     (may : IsRoomyIndex (graph_of (seen limits old births)) ps file bounds)
     (ids : List NodeId) (born : AreIntervalsBorn mid grown (record { key = key; birth = births + 1 }) (length bounds + 1) ids) where
   abbrev pub g : Graph
@@ -220,10 +229,13 @@ module _ (limits : Limits) (old mid grown : Slab Stored) (births key : ℕ) (x :
     u4 = rewrite slot.stored file_third
 
     alike3 : node_of key (vertex_of x3) ≡ node_of key (vertex_of x)
-    alike3 = let s = same_shape x.body fresh in λ i. record { key = key; shape = s i; parents = parent_list x.parents }
+    alike3 = let s = same_shape x.body fresh in let ps = intervals_parents x.body fresh in λ i. record { key = key; shape = s i; parents = ps i }
 
     alike4 : node_of file.key (vertex_of f4) ≡ node_of file.key (vertex_of slot.stored)
-    alike4 = let s = file_same_shape slot.stored.body list in λ i. record { key = file.key; shape = s i; parents = parent_list slot.stored.parents }
+    alike4 =
+        let s = file_same_shape slot.stored.body list in
+        let ps = indexes_parents slot.stored.body list in
+        λ i. record { key = file.key; shape = s i; parents = ps i }
 
     graph3 : graph_of (seen limits third total) ≡ graph_of (seen limits grown total)
     graph3 = unseen limits grown third total key x x3 born.grown.apart index_there u3 refl alike3
@@ -347,9 +359,11 @@ module _ (limits : Limits) (old mid grown : Slab Stored) (births key : ℕ) (x :
           → child_count fourth n ≡ child_count old n + ones (list_any (same_node n) ps)
       fourth_counts n h =
           let c4 = count_updated third fourth file.key (Some f4) u4 n in
-          let p4 : ones (is_child_slot n (get third file.key)) ≡ ones (is_child_slot n (Some f4)) = ap (λ o. ones (is_child_slot n o)) file_third in
+          let p4 : ones (is_child_slot n (get third file.key)) ≡ ones (is_child_slot n (Some f4)) =
+          ap (λ o. ones (is_child_slot n o)) file_third ∙ ap (λ qs. ones (list_any (same_node n) qs)) (sym (indexes_parents slot.stored.body list)) in
           let c3 = count_updated grown third key (Some x3) u3 n in
-          let p3 : ones (is_child_slot n (get grown key)) ≡ ones (is_child_slot n (Some x3)) = ap (λ o. ones (is_child_slot n o)) index_there in
+          let p3 : ones (is_child_slot n (get grown key)) ≡ ones (is_child_slot n (Some x3)) =
+          ap (λ o. ones (is_child_slot n o)) index_there ∙ ap (λ qs. ones (list_any (same_node n) qs)) (sym (intervals_parents x.body fresh)) in
           let c2 = count_alike mid grown n (grown_slot n h) in
           let c1 = count_updated old mid key (Some x) u n in
           let p1 : ones (is_child_slot n (get old key)) ≡ 0 = ap (λ o. ones (is_child_slot n o)) free in

@@ -11,31 +11,36 @@ use Rattle.gl_graph.specs.Graph.{Graph, shape_of, is_record_of}
 use Rattle.gl_graph.specs.Lawful.{IsLawfulGraph}
 use Rattle.gl_graph.specs.Changes.{marked_shape, marked, with_node}
 use Rattle.gl_graph.specs.View.{graph_of, node_of, KeepsBeside}
-use Rattle.gl_graph.specs.Seen.{Limits, shape_in_body, body_adopted, vertex_of, seen, AreSound, parent_list}
+use Rattle.gl_graph.specs.Seen.{Limits, shape_in_body, body_adopted, vertex_of, seen, AreSound}
 use Rattle.gl_graph.proofs.Changed.{IsAlike}
+use Rattle.gl_graph.proofs.SameParents.{adopted_parents}
 use Rattle.gl_graph.proofs.Beside.{FileSlot, file_slot}
 use Rattle.gl_graph.proofs.SoundChanged.{node_was, changed, changed_graph, changed_sound, still_kept}
 use Rattle.gl_graph.proofs.Marked.{marked_is, marked_lawful, marked_record_of}
 
 adopted_shape : (b : Body) → shape_in_body (body_adopted b) ≡ marked_shape (shape_in_body b)
-adopted_shape (body.Inner children) = refl
-adopted_shape (body.File kept) = refl
-adopted_shape (body.Index kept) = refl
-adopted_shape (body.Interval place) = refl
-adopted_shape body.Bare = refl
-adopted_shape (body.Keyed one) = refl
-adopted_shape (body.ManyKeyed keys) = refl
+adopted_shape (body.Inner children above) = refl
+adopted_shape (body.File above kept) = refl
+adopted_shape (body.Index above kept) = refl
+adopted_shape (body.Interval place index) = refl
+adopted_shape (body.NoKey file) = refl
+adopted_shape (body.OneKey one above) = refl
+adopted_shape (body.TwoKeys keys above) = refl
+adopted_shape (body.ThreeKeys keys above) = refl
+adopted_shape (body.ManyKeys keys above) = refl
 
 -- what is kept beside a node does not depend on the mark
 same_beside : (g : Graph) (n : NodeId) (was : Stored) (b : Body) → KeepsBeside g n (vertex_of (record was { body = b })) (shape_in_body b)
     → KeepsBeside g n (vertex_of (record was { body = body_adopted b })) (shape_in_body (body_adopted b))
-same_beside g n was (body.Inner children) k = k
-same_beside g n was (body.File kept) k = k
-same_beside g n was (body.Index kept) k = k
-same_beside g n was (body.Interval place) k = k
-same_beside g n was body.Bare k = k
-same_beside g n was (body.Keyed one) k = k
-same_beside g n was (body.ManyKeyed keys) k = k
+same_beside g n was (body.Inner children above) k = k
+same_beside g n was (body.File above kept) k = k
+same_beside g n was (body.Index above kept) k = k
+same_beside g n was (body.Interval place index) k = k
+same_beside g n was (body.NoKey file) k = k
+same_beside g n was (body.OneKey one above) k = k
+same_beside g n was (body.TwoKeys keys above) k = k
+same_beside g n was (body.ThreeKeys keys above) k = k
+same_beside g n was (body.ManyKeys keys above) k = k
 
 file_alike : (sh : Shape) (adopted : Bool) → sh ≡ File adopted → IsAlike sh (marked_shape sh)
 file_alike sh adopted e = subst (λ s. IsAlike s (marked_shape s)) (sym e) (record {
@@ -66,7 +71,8 @@ module _ (limits : Limits) (old new : Slab Stored) (births : ℕ) (sound : AreSo
 
     graph_is : changed limits old new births sound n was x slot.there slot.born refl ≡ marked g n
     graph_is =
-        ap (λ sh. with_node g n.birth (record { key = n.key; shape = sh; parents = parent_list was.parents })) (adopted_shape was.body)
+        (let shape = adopted_shape was.body in let ps = adopted_parents was.body in
+        λ i. with_node g n.birth (record { key = n.key; shape = shape i; parents = ps i }))
         ∙ marked_is g n (node_of n.key (vertex_of was)) (node_was limits old new births sound n was x slot.there slot.born refl)
 
     pub marked_graph : graph_of (seen limits new births) ≡ marked g n

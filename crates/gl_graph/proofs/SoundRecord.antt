@@ -15,10 +15,11 @@ use Rattle.gl_graph.specs.Graph.{Graph, shape_in, shape_of, parents_in, indexes_
 use Rattle.gl_graph.specs.Lawful.{IsLawfulGraph}
 use Rattle.gl_graph.specs.Changes.{born_node, IsBorn}
 use Rattle.gl_graph.specs.View.{graph_of, node_of, record_count, KeepsBeside, AgreesAt}
-use Rattle.gl_graph.specs.Seen.{Limits, shape_in_body, indexes_in_body, body_with_records, vertex_of, seen, AreBornApart, AreSound, parent_list}
+use Rattle.gl_graph.specs.Seen.{Limits, shape_in_body, indexes_in_body, body_with_records, vertex_of, seen, AreBornApart, AreSound, parents_in_body}
 use Rattle.gl_graph.proofs.NewNodes.{one_indexes, record_lawful}
 use Rattle.gl_graph.proofs.Counts.{count_cons, records_grown}
 use Rattle.gl_graph.proofs.RecordParents.{file_among}
+use Rattle.gl_graph.proofs.SameParents.{counted_parents}
 use Rattle.gl_graph.proofs.Slots.{node_there, inserted_apart, inserted_free, written_apart, unseen}
 use Rattle.gl_graph.proofs.Beside.{FileSlot, file_slot}
 use Rattle.gl_graph.proofs.Kept.{born_within, after, there, counted, old_kept}
@@ -30,28 +31,33 @@ module _ (x : Stored) (adopted : Bool) (file : shape_in_body x.body ≡ File ado
 
   by_body : (b : Body) → shape_in_body b ≡ File adopted → (shape_in_body (body_with_records b records) ≡ File adopted)
       × (indexes_in_body (body_with_records b records) ≡ indexes_in_body b)
-  by_body (body.Inner children) e = cc
-  by_body (body.File kept) e = (e, refl)
-  by_body (body.Index kept) e = cc
-  by_body (body.Interval place) e = cc
-  by_body body.Bare e = cc
-  by_body (body.Keyed one) e = cc
-  by_body (body.ManyKeyed keys) e = cc
+  by_body (body.Inner children above) e = cc
+  by_body (body.File above kept) e = (e, refl)
+  by_body (body.Index above kept) e = cc
+  by_body (body.Interval place index) e = cc
+  by_body (body.NoKey file) e = cc
+  by_body (body.OneKey one above) e = cc
+  by_body (body.TwoKeys keys above) e = cc
+  by_body (body.ThreeKeys keys above) e = cc
+  by_body (body.ManyKeys keys above) e = cc
 
   count_written : (b : Body) → shape_in_body b ≡ File adopted → (vertex_of (record x { body = body_with_records b records })).records ≡ records
-  count_written (body.Inner children) e = cc
-  count_written (body.File kept) e = refl
-  count_written (body.Index kept) e = cc
-  count_written (body.Interval place) e = cc
-  count_written body.Bare e = cc
-  count_written (body.Keyed one) e = cc
-  count_written (body.ManyKeyed keys) e = cc
+  count_written (body.Inner children above) e = cc
+  count_written (body.File above kept) e = refl
+  count_written (body.Index above kept) e = cc
+  count_written (body.Interval place index) e = cc
+  count_written (body.NoKey file) e = cc
+  count_written (body.OneKey one above) e = cc
+  count_written (body.TwoKeys keys above) e = cc
+  count_written (body.ThreeKeys keys above) e = cc
+  count_written (body.ManyKeys keys above) e = cc
 
   pub recounted_shape : shape_in_body recounted.body ≡ File adopted
   recounted_shape = (by_body x.body file).0
 
   pub recounted_alike : (key : ℕ) → node_of key (vertex_of recounted) ≡ node_of key (vertex_of x)
-  recounted_alike key = let same = recounted_shape ∙ sym file in λ i. record { key = key; shape = same i; parents = parent_list x.parents }
+  recounted_alike key =
+      let same = recounted_shape ∙ sym file in let ps = counted_parents x.body records in λ i. record { key = key; shape = same i; parents = ps i }
 
   pub recounted_agrees : (h : Graph) (n : NodeId) → indexes_in_body x.body ≡ indexes_of h n → records ≡ record_count h n
       → KeepsBeside h n (vertex_of recounted) (shape_in_body recounted.body)
@@ -95,7 +101,7 @@ module _ (limits : Limits) (old new : Slab Stored) (births key : ℕ) (x : Store
     (u : Updates old new key (Some x)) (next : x.birth ≡ births + 1)
     (file : NodeId) (keys : List ℕ) (f : Stored) (at_file : get old file.key ≡ Some f) (born : f.birth ≡ file.birth) (adopted : Bool)
     (is_file : shape_in_body f.body ≡ File adopted)
-    (shape : shape_in_body x.body ≡ Rec keys) (parents : parent_list x.parents ≡ record_parents (graph_of (seen limits old births)) file keys)
+    (shape : shape_in_body x.body ≡ Rec keys) (parents : parents_in_body x.body ≡ record_parents (graph_of (seen limits old births)) file keys)
     (lawful : IsLawfulGraph (born_node (graph_of (seen limits old births)) (node_of key (vertex_of x)))) (len : slab_len new ≡ slab_len old + 1) where
   abbrev g0 : Graph
   g0 = graph_of (seen limits old births)
@@ -164,7 +170,7 @@ module _ (limits : Limits) (old new : Slab Stored) (births key : ℕ) (x : Store
 module _ (limits : Limits) (old mid new : Slab Stored) (births key : ℕ) (x : Stored) (sound : AreSound limits old births) (free : get old key ≡ None)
     (u : Updates old mid key (Some x)) (next : x.birth ≡ births + 1) (len : slab_len mid ≡ slab_len old + 1)
     (file : NodeId) (keys : List ℕ) (is_file : is_file_shape (shape_of (graph_of (seen limits old births)) file) ≡ true)
-    (shape : shape_in_body x.body ≡ Rec keys) (parents : parent_list x.parents ≡ record_parents (graph_of (seen limits old births)) file keys) where
+    (shape : shape_in_body x.body ≡ Rec keys) (parents : parents_in_body x.body ≡ record_parents (graph_of (seen limits old births)) file keys) where
   abbrev pub slot : FileSlot old file
   slot = file_slot limits old births sound file is_file
 

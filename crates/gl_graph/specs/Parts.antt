@@ -3,11 +3,10 @@ use Rattle.std.specs.Prelude.{◌≡◌, ℕ, ◌+◌, ◌≤◌, List, [], leng
 use Rattle.smallvec.specs.SmallVec.{HasRoomFor}
 use Rattle.gl_modes.specs.declared.node.NodeId.{NodeId}
 use Rattle.gl_graph.specs.declared.graph.make.IndexParts.{IndexParts}
-use Rattle.gl_graph.specs.Seen.{parent_list}
 
 -- copies of these, room for the intervals, and room for one index more
 pub record AreParts (parts : IndexParts) (ps : List NodeId) (file : NodeId) (bs : List ℕ) (is : List NodeId) : Type 0 where
-  pub parents : parent_list parts.parents ≡ ps
+  pub parents : parts.parents.items ≡ ps
   pub file_is : parts.body.value.file ≡ file
   pub bounds : parts.body.value.bounds.items ≡ bs
   pub none : parts.intervals.items ≡ []

@@ -10,8 +10,6 @@ use Rattle.slab.specs.Slab.{Slab, get, slab_len}
 use Rattle.gl_graph.specs.declared.node.Body.{Body}
 use Rattle.gl_graph.specs.declared.node.Body.TheVariants as body
 use Rattle.gl_graph.specs.declared.node.Node.{Node}
-use Rattle.gl_graph.specs.declared.parents.Parents.{Parents}
-use Rattle.gl_graph.specs.declared.parents.Parents.TheVariants as parents
 use Rattle.gl_graph.specs.Shapes.{Shape, Inner, File, Index, Interval, Rec}
 use Rattle.gl_graph.specs.Graph.{node_count}
 use Rattle.gl_graph.specs.Lawful.{IsLawfulGraph}
@@ -19,39 +17,46 @@ use Rattle.gl_graph.specs.View.{Vertex, View, graph_of, AgreesAt}
 
 -- what a body says of the shape
 abbrev pub shape_in_body : Body → Shape
-shape_in_body (body.Inner children) = Inner
-shape_in_body (body.File kept) = File kept.value.adopted
-shape_in_body (body.Index kept) = Index kept.value.file kept.value.bounds.items
-shape_in_body (body.Interval place) = Interval place
-shape_in_body body.Bare = Rec []
-shape_in_body (body.Keyed key) = Rec key
-shape_in_body (body.ManyKeyed keys) = Rec keys.value.items
+shape_in_body (body.Inner children above) = Inner
+shape_in_body (body.File above kept) = File kept.value.adopted
+shape_in_body (body.Index above kept) = Index kept.value.file kept.value.bounds.items
+shape_in_body (body.Interval place index) = Interval place
+shape_in_body (body.NoKey file) = Rec []
+shape_in_body (body.OneKey key above) = Rec key
+shape_in_body (body.TwoKeys keys above) = Rec keys
+shape_in_body (body.ThreeKeys keys above) = Rec keys
+shape_in_body (body.ManyKeys keys above) = Rec keys.value.items
 
 -- a node's parents, as they are kept
-abbrev pub parent_list : Parents → List NodeId
-parent_list parents.Root = []
-parent_list (parents.One ids) = ids
-parent_list (parents.Two ids) = ids
-parent_list (parents.More ids) = ids.items
+abbrev pub parents_in_body : Body → List NodeId
+parents_in_body (body.Inner children above) = above.items
+parents_in_body (body.File above kept) = above.items
+parents_in_body (body.Index above kept) = above.items
+parents_in_body (body.Interval place index) = index
+parents_in_body (body.NoKey file) = file
+parents_in_body (body.OneKey key above) = above
+parents_in_body (body.TwoKeys keys above) = above.value
+parents_in_body (body.ThreeKeys keys above) = above.value
+parents_in_body (body.ManyKeys keys above) = above.items
 
 -- a file's indexes, as they are kept
 abbrev pub indexes_in_body : Body → List NodeId
-indexes_in_body (body.File kept) = kept.value.indexes.items
+indexes_in_body (body.File above kept) = kept.value.indexes.items
 indexes_in_body b = []
 
 -- the number of a file's records, as it is kept
 abbrev pub records_in_body : Body → ℕ
-records_in_body (body.File kept) = kept.value.records
+records_in_body (body.File above kept) = kept.value.records
 records_in_body b = 0
 
 -- the number of an inner node's children, as it is kept
 abbrev pub children_in_body : Body → ℕ
-children_in_body (body.Inner children) = children
+children_in_body (body.Inner children above) = children
 children_in_body b = 0
 
 -- an index's intervals, as they are kept
 abbrev pub intervals_in_body : Body → List NodeId
-intervals_in_body (body.Index kept) = kept.value.intervals.items
+intervals_in_body (body.Index above kept) = kept.value.intervals.items
 intervals_in_body b = []
 
 -- what a contract sees of a stored node
@@ -59,7 +64,7 @@ abbrev pub vertex_of : Node → Vertex
 vertex_of x = record {
   birth = x.birth;
   shape = shape_in_body x.body;
-  parents = parent_list x.parents;
+  parents = parents_in_body x.body;
   indexes = indexes_in_body x.body;
   records = records_in_body x.body;
   intervals = intervals_in_body x.body;
@@ -113,7 +118,7 @@ pub record AreSound (limits : Limits) (nodes : Slab Node) (births : ℕ) : Type 
 -- what a slot has is a child of n
 abbrev pub is_child_slot : NodeId → Option Node → Bool
 is_child_slot n None = false
-is_child_slot n (Some x) = list_any (same_node n) (parent_list x.parents)
+is_child_slot n (Some x) = list_any (same_node n) (parents_in_body x.body)
 
 -- how many of the stored nodes are children of n
 abbrev pub child_count : Slab Node → NodeId → ℕ
@@ -126,57 +131,69 @@ KeepChildren nodes count = (key : ℕ) (x : Node) → get nodes key ≡ Some x �
 
 -- of an inner node without children, or of a file with nothing kept beside it
 abbrev pub IsPlainBody : Body → Type 0
-IsPlainBody (body.Inner children) = children ≡ 0
-IsPlainBody (body.File kept) = (kept.value.indexes.items ≡ []) × (kept.value.records ≡ 0)
+IsPlainBody (body.Inner children above) = children ≡ 0
+IsPlainBody (body.File above kept) = (kept.value.indexes.items ≡ []) × (kept.value.records ≡ 0)
 IsPlainBody b = ⊥
 
 -- an inner node with this number of children
 abbrev pub body_with_children : Body → ℕ → Body
-body_with_children (body.Inner children) fresh = body.Inner fresh
+body_with_children (body.Inner children above) fresh = body.Inner fresh above
 body_with_children b fresh = b
 
 -- a file with this number of records
 abbrev pub body_with_records : Body → ℕ → Body
-body_with_records (body.File kept) fresh = body.File (record kept { value = record kept.value { records = fresh } })
+body_with_records (body.File above kept) fresh = body.File above (record kept { value = record kept.value { records = fresh } })
 body_with_records b fresh = b
 
--- a record with one key changed
+-- an inner node, a file or an index with these parents
+abbrev pub body_with_parents : Body → SmallVec NodeId → Body
+body_with_parents (body.Inner children above) fresh = body.Inner children fresh
+body_with_parents (body.File above kept) fresh = body.File fresh kept
+body_with_parents (body.Index above kept) fresh = body.Index fresh kept
+body_with_parents b fresh = b
+
+-- a record with another key at this place
 abbrev pub body_with_key : Body → ℕ → ℕ → Body
-body_with_key (body.Keyed key) place fresh = body.Keyed (slice_set key place fresh)
-body_with_key (body.ManyKeyed keys) place fresh = body.ManyKeyed (record keys { value = record keys.value { items = slice_set keys.value.items place fresh } })
-body_with_key b place key = b
+body_with_key (body.OneKey key above) place fresh = body.OneKey (slice_set key place fresh) above
+body_with_key (body.TwoKeys keys above) place fresh = body.TwoKeys (slice_set keys place fresh) above
+body_with_key (body.ThreeKeys keys above) place fresh = body.ThreeKeys (slice_set keys place fresh) above
+body_with_key (body.ManyKeys keys above) place fresh =
+    body.ManyKeys (record keys { value = record keys.value { items = slice_set keys.value.items place fresh } }) above
+body_with_key b place fresh = b
 
--- the parents with another one at this place
-abbrev pub parents_with : Parents → ℕ → NodeId → Parents
-parents_with parents.Root place fresh = parents.Root
-parents_with (parents.One ids) place fresh = parents.One (slice_set ids place fresh)
-parents_with (parents.Two ids) place fresh = parents.Two (slice_set ids place fresh)
-parents_with (parents.More ids) place fresh = parents.More (record ids { items = slice_set ids.items place fresh })
+-- a record with another parent at this place
+abbrev pub body_with_parent : Body → ℕ → NodeId → Body
+body_with_parent (body.NoKey file) place fresh = body.NoKey (slice_set file place fresh)
+body_with_parent (body.OneKey key above) place fresh = body.OneKey key (slice_set above place fresh)
+body_with_parent (body.TwoKeys keys above) place fresh = body.TwoKeys keys (record above { value = slice_set above.value place fresh })
+body_with_parent (body.ThreeKeys keys above) place fresh = body.ThreeKeys keys (record above { value = slice_set above.value place fresh })
+body_with_parent (body.ManyKeys keys above) place fresh = body.ManyKeys keys (record above { items = slice_set above.items place fresh })
+body_with_parent b place fresh = b
 
--- a record with another key at this place, and another interval at the place behind it
-abbrev pub with_key_at : Node → ℕ → ℕ → NodeId → Node
-with_key_at x place key interval = record x { parents = parents_with x.parents (place + 1) interval; body = body_with_key x.body place key }
+-- a record with another key at this place, and its interval at the place behind it, since the first parent is the file
+abbrev pub body_rekeyed : Body → ℕ → ℕ → NodeId → Body
+body_rekeyed b place key interval = body_with_parent (body_with_key b place key) (place + 1) interval
 
 -- an index with these intervals
 abbrev pub body_with_intervals : Body → Vec NodeId Global → Body
-body_with_intervals (body.Index kept) fresh = body.Index (record kept { value = record kept.value { intervals = fresh } })
+body_with_intervals (body.Index above kept) fresh = body.Index above (record kept { value = record kept.value { intervals = fresh } })
 body_with_intervals b fresh = b
 
 -- a file with these indexes
 abbrev pub body_with_indexes : Body → SmallVec NodeId → Body
-body_with_indexes (body.File kept) fresh = body.File (record kept { value = record kept.value { indexes = fresh } })
+body_with_indexes (body.File above kept) fresh = body.File above (record kept { value = record kept.value { indexes = fresh } })
 body_with_indexes b fresh = b
 
 -- a file that does not list an index
 abbrev pub body_without_index : Body → NodeId → Body
-body_without_index (body.File kept) index = body.File (record kept {
+body_without_index (body.File above kept) index = body.File above (record kept {
   value = record kept.value { indexes = record kept.value.indexes { items = filter (λ listed. not (same_node listed index)) kept.value.indexes.items } };
 })
 body_without_index b index = b
 
 -- a file of which rows were adopted
 abbrev pub body_adopted : Body → Body
-body_adopted (body.File kept) = body.File (record kept { value = record kept.value { adopted = true } })
+body_adopted (body.File above kept) = body.File above (record kept { value = record kept.value { adopted = true } })
 body_adopted b = b
 
 -- ids, and then those of more that are not there yet

@@ -155,7 +155,7 @@ impl Graph {
         ensures { result.now ≡ parents_of (graph_of self.now) n }
     {
         match find(&self.nodes, n) {
-            Some(node) => node.parents.as_slice(),
+            Some(node) => node.body.parents(),
             None => &[],
         }
     }

@@ -8,7 +8,6 @@ mod graph;
 mod kind;
 pub mod laws;
 mod node;
-mod parents;
 mod store;
 
 pub use found::add_missing;

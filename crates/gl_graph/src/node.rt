@@ -1,27 +1,56 @@
 //! What is kept of a node.
 
 use crate::kind::Kind;
-use crate::parents::Parents;
 use gl_modes::NodeId;
 use smallvec::SmallVec;
 use std::alloc::{AllocError, Global};
+use std::mem;
 
-/// What a node has beside its parents, by its kind. Most nodes are records, and most records have one
-/// key or none: what takes more room than a key is in boxes.
+/// What a node has, by its kind: its parents, and what it has beside them. Most nodes are records, and most
+/// records have one key or none: what takes more room is in boxes of just its size.
 #[derive(Drop)]
 pub(crate) enum Body {
     /// An inner node. How many nodes have it as a parent could be found by a search; it is kept so that
     /// nothing is searched.
-    Inner { children: usize },
-    File(Box<FileBody>),
-    Index(Box<IndexBody>),
-    Interval { place: usize },
-    /// A record of a file without indexes.
-    Bare,
-    /// A record with one key.
-    Keyed { key: [u64; 1] },
-    /// A record with several keys, of which three fill the box.
-    ManyKeyed { keys: Box<SmallVec<u64, 3>> },
+    Inner {
+        children: usize,
+        parents: SmallVec<NodeId, 1>,
+    },
+    File {
+        parents: SmallVec<NodeId, 1>,
+        kept: Box<FileBody>,
+    },
+    Index {
+        parents: SmallVec<NodeId, 1>,
+        kept: Box<IndexBody>,
+    },
+    /// An interval, whose one parent is its index.
+    Interval {
+        place: usize,
+        index: [NodeId; 1],
+    },
+    /// A record of a file without indexes, under its file alone.
+    NoKey {
+        file: [NodeId; 1],
+    },
+    /// A record with a key for each index of its file, under its file and the interval of each key.
+    OneKey {
+        key: [u64; 1],
+        parents: [NodeId; 2],
+    },
+    TwoKeys {
+        keys: [u64; 2],
+        parents: Box<[NodeId; 3]>,
+    },
+    ThreeKeys {
+        keys: [u64; 3],
+        parents: Box<[NodeId; 4]>,
+    },
+    /// Seven keys fill their box, and no file has more indexes.
+    ManyKeys {
+        keys: Box<SmallVec<u64, 7>>,
+        parents: SmallVec<NodeId, 1>,
+    },
 }
 
 /// What a file has. Its indexes and the number of its records could be found by a search; they are
@@ -44,39 +73,105 @@ pub(crate) struct IndexBody {
 #[derive(Drop)]
 pub(crate) struct Node {
     pub(crate) birth: u64,
-    pub(crate) parents: Parents,
     pub(crate) body: Body,
 }
 
 impl Body {
-    ghost use Rattle.std.specs.Prelude.{◌≡◌, ◌<◌, IfOk, Some, length};
-    ghost use Rattle.gl_graph.specs.Shapes.{Rec, bounds_in, file_in, is_adopted, keys_in, kind_in, place_in};
+    ghost use Rattle.std.specs.Prelude.{◌≡◌, ◌<◌, IfOk, Some, false, length, true};
+    ghost use Rattle.gl_graph.specs.Shapes.{
+      File,
+      Inner,
+      Rec,
+      bounds_in,
+      file_in,
+      is_adopted,
+      is_movable_shape,
+      keys_in,
+      kind_in,
+      place_in,
+    };
     ghost use Rattle.gl_graph.specs.Seen.{
+      IsPlainBody,
       body_adopted,
       body_with_children,
       body_with_indexes,
       body_with_intervals,
       body_with_key,
+      body_with_parent,
+      body_with_parents,
       body_with_records,
       body_without_index,
       children_in_body,
       indexes_in_body,
       intervals_in_body,
+      parents_in_body,
       records_in_body,
       shape_in_body,
     };
 
-    /// The body of a record with these keys.
-    pub(crate) fn of_record(alloc: Global, keys: &[u64]) -> Result<Self, AllocError>
-        ensures { IfOk result (λ body. shape_in_body body ≡ Rec keys.now) }
+    /// The body of an inner node without children.
+    pub(crate) fn of_inner(alloc: Global, parents: &[NodeId]) -> Result<Self, AllocError>
+        ensures shape { IfOk result (λ body. shape_in_body body ≡ Inner) }
+        ensures plain { IfOk result IsPlainBody }
+        ensures parents { IfOk result (λ body. parents_in_body body ≡ parents.now) }
     {
-        match keys {
-            [] => Ok(Body::Bare),
-            [key] => Ok(Body::Keyed { key: [*key] }),
+        let parents = SmallVec::from_slice(alloc, parents)?;
+        Ok(Body::Inner {
+            children: 0,
+            parents,
+        })
+    }
+
+    /// The body of a file without indexes and records, of which no rows were adopted.
+    pub(crate) fn of_file(alloc: Global, parents: &[NodeId]) -> Result<Self, AllocError>
+        ensures shape { IfOk result (λ body. shape_in_body body ≡ File false) }
+        ensures plain { IfOk result IsPlainBody }
+        ensures parents { IfOk result (λ body. parents_in_body body ≡ parents.now) }
+    {
+        let parents = SmallVec::from_slice(alloc, parents)?;
+        let kept = FileBody {
+            indexes: SmallVec::new(alloc),
+            records: 0,
+            adopted: false,
+        };
+        let kept = Box::new(alloc, kept)?;
+        Ok(Body::File { parents, kept })
+    }
+
+    /// The body of a record with these keys, under these parents.
+    pub(crate) fn of_record(
+        alloc: Global,
+        keys: &[u64],
+        parents: &[NodeId],
+    ) -> Result<Self, AllocError>
+        ensures shape { IfOk result (λ body. shape_in_body body ≡ Rec keys.now) }
+        ensures parents { IfOk result (λ body. parents_in_body body ≡ parents.now) }
+    {
+        match (keys, parents) {
+            ([], [file]) => Ok(Body::NoKey { file: [*file] }),
+            ([key], [file, interval]) => Ok(Body::OneKey {
+                key: [*key],
+                parents: [*file, *interval],
+            }),
+            ([a, b], [file, of_a, of_b]) => {
+                let parents = Box::new(alloc, [*file, *of_a, *of_b])?;
+                Ok(Body::TwoKeys {
+                    keys: [*a, *b],
+                    parents,
+                })
+            }
+            ([a, b, c], [file, of_a, of_b, of_c]) => {
+                let parents = Box::new(alloc, [*file, *of_a, *of_b, *of_c])?;
+                Ok(Body::ThreeKeys {
+                    keys: [*a, *b, *c],
+                    parents,
+                })
+            }
             _ => {
+                let parents = SmallVec::from_slice(alloc, parents)?;
                 let keys = SmallVec::from_slice(alloc, keys)?;
                 let keys = Box::new(alloc, keys)?;
-                Ok(Body::ManyKeyed { keys })
+                Ok(Body::ManyKeys { keys, parents })
             }
         }
     }
@@ -86,10 +181,31 @@ impl Body {
     {
         match self {
             Body::Inner { .. } => Kind::Inner,
-            Body::File(_) => Kind::File,
-            Body::Index(_) => Kind::Index,
+            Body::File { .. } => Kind::File,
+            Body::Index { .. } => Kind::Index,
             Body::Interval { .. } => Kind::Interval,
-            Body::Bare | Body::Keyed { .. } | Body::ManyKeyed { .. } => Kind::Rec,
+            Body::NoKey { .. }
+            | Body::OneKey { .. }
+            | Body::TwoKeys { .. }
+            | Body::ThreeKeys { .. }
+            | Body::ManyKeys { .. } => Kind::Rec,
+        }
+    }
+
+    #[inline]
+    pub(crate) fn parents(&self) -> &[NodeId]
+        ensures { result.now ≡ parents_in_body self.now }
+    {
+        match self {
+            Body::Inner { parents, .. } => parents.as_slice(),
+            Body::File { parents, .. } => parents.as_slice(),
+            Body::Index { parents, .. } => parents.as_slice(),
+            Body::Interval { index, .. } => index.as_slice(),
+            Body::NoKey { file } => file.as_slice(),
+            Body::OneKey { parents, .. } => parents.as_slice(),
+            Body::TwoKeys { parents, .. } => parents.as_slice(),
+            Body::ThreeKeys { parents, .. } => parents.as_slice(),
+            Body::ManyKeys { parents, .. } => parents.as_slice(),
         }
     }
 
@@ -97,7 +213,7 @@ impl Body {
         ensures { result.now ≡ indexes_in_body self.now }
     {
         match self {
-            Body::File(kept) => kept.indexes.as_slice(),
+            Body::File { kept, .. } => kept.indexes.as_slice(),
             _ => &[],
         }
     }
@@ -106,7 +222,7 @@ impl Body {
         ensures { result ≡ records_in_body self.now }
     {
         match self {
-            Body::File(kept) => kept.records,
+            Body::File { kept, .. } => kept.records,
             _ => 0,
         }
     }
@@ -115,7 +231,7 @@ impl Body {
         ensures { result ≡ children_in_body self.now }
     {
         match self {
-            Body::Inner { children } => *children,
+            Body::Inner { children, .. } => *children,
             _ => 0,
         }
     }
@@ -124,7 +240,7 @@ impl Body {
         ensures { result ≡ is_adopted (Some (shape_in_body self.now)) }
     {
         match self {
-            Body::File(kept) => kept.adopted,
+            Body::File { kept, .. } => kept.adopted,
             _ => false,
         }
     }
@@ -133,7 +249,7 @@ impl Body {
         ensures { result ≡ file_in (Some (shape_in_body self.now)) }
     {
         match self {
-            Body::Index(kept) => Some(kept.file),
+            Body::Index { kept, .. } => Some(kept.file),
             _ => None,
         }
     }
@@ -142,7 +258,7 @@ impl Body {
         ensures { result.now ≡ bounds_in (Some (shape_in_body self.now)) }
     {
         match self {
-            Body::Index(kept) => kept.bounds.as_slice(),
+            Body::Index { kept, .. } => kept.bounds.as_slice(),
             _ => &[],
         }
     }
@@ -151,7 +267,7 @@ impl Body {
         ensures { result.now ≡ intervals_in_body self.now }
     {
         match self {
-            Body::Index(kept) => kept.intervals.as_slice(),
+            Body::Index { kept, .. } => kept.intervals.as_slice(),
             _ => &[],
         }
     }
@@ -160,7 +276,7 @@ impl Body {
         ensures { result ≡ place_in (Some (shape_in_body self.now)) }
     {
         match self {
-            Body::Interval { place } => Some(*place),
+            Body::Interval { place, .. } => Some(*place),
             _ => None,
         }
     }
@@ -169,8 +285,10 @@ impl Body {
         ensures { result.now ≡ keys_in (Some (shape_in_body self.now)) }
     {
         match self {
-            Body::Keyed { key } => key.as_slice(),
-            Body::ManyKeyed { keys } => keys.as_slice(),
+            Body::OneKey { key, .. } => key.as_slice(),
+            Body::TwoKeys { keys, .. } => keys.as_slice(),
+            Body::ThreeKeys { keys, .. } => keys.as_slice(),
+            Body::ManyKeys { keys, .. } => keys.as_slice(),
             _ => &[],
         }
     }
@@ -179,7 +297,7 @@ impl Body {
     pub(crate) fn set_children(&mut self, fresh: usize)
         ensures { self.new ≡ body_with_children self.old fresh }
     {
-        if let Body::Inner { children } = self {
+        if let Body::Inner { children, .. } = self {
             *children = fresh;
         }
     }
@@ -188,7 +306,7 @@ impl Body {
     pub(crate) fn set_records(&mut self, fresh: usize)
         ensures { self.new ≡ body_with_records self.old fresh }
     {
-        if let Body::File(kept) = self {
+        if let Body::File { kept, .. } = self {
             kept.records = fresh;
         }
     }
@@ -197,8 +315,22 @@ impl Body {
     pub(crate) fn adopt(&mut self)
         ensures { self.new ≡ body_adopted self.old }
     {
-        if let Body::File(kept) = self {
+        if let Body::File { kept, .. } = self {
             kept.adopted = true;
+        }
+    }
+
+    /// Writes the parents of an inner node, a file or an index, and gives those that it had.
+    pub(crate) fn set_parents(&mut self, fresh: SmallVec<NodeId, 1>) -> SmallVec<NodeId, 1>
+        requires { is_movable_shape (Some (shape_in_body self.old)) ≡ true }
+        ensures written { self.new ≡ body_with_parents self.old fresh }
+        ensures old { result.items ≡ parents_in_body self.old }
+    {
+        match self {
+            Body::Inner { parents, .. } => mem::replace(parents, fresh),
+            Body::File { parents, .. } => mem::replace(parents, fresh),
+            Body::Index { parents, .. } => mem::replace(parents, fresh),
+            _ => unreachable!(),
         }
     }
 
@@ -208,8 +340,25 @@ impl Body {
         ensures { self.new ≡ body_with_key self.old place fresh }
     {
         match self {
-            Body::Keyed { key } => key.as_mut_slice()[place] = fresh,
-            Body::ManyKeyed { keys } => keys.as_mut_slice()[place] = fresh,
+            Body::OneKey { key, .. } => key.as_mut_slice()[place] = fresh,
+            Body::TwoKeys { keys, .. } => keys.as_mut_slice()[place] = fresh,
+            Body::ThreeKeys { keys, .. } => keys.as_mut_slice()[place] = fresh,
+            Body::ManyKeys { keys, .. } => keys.as_mut_slice()[place] = fresh,
+            _ => {}
+        }
+    }
+
+    /// Writes the parent of a record at this place; another body stays as it is.
+    pub(crate) fn set_parent(&mut self, place: usize, fresh: NodeId)
+        requires { place < length (parents_in_body self.old) }
+        ensures { self.new ≡ body_with_parent self.old place fresh }
+    {
+        match self {
+            Body::NoKey { file } => file.as_mut_slice()[place] = fresh,
+            Body::OneKey { parents, .. } => parents.as_mut_slice()[place] = fresh,
+            Body::TwoKeys { parents, .. } => parents.as_mut_slice()[place] = fresh,
+            Body::ThreeKeys { parents, .. } => parents.as_mut_slice()[place] = fresh,
+            Body::ManyKeys { parents, .. } => parents.as_mut_slice()[place] = fresh,
             _ => {}
         }
     }
@@ -218,7 +367,7 @@ impl Body {
     pub(crate) fn set_intervals(&mut self, fresh: Vec<NodeId>)
         ensures { self.new ≡ body_with_intervals self.old fresh }
     {
-        if let Body::Index(kept) = self {
+        if let Body::Index { kept, .. } = self {
             kept.intervals = fresh;
         }
     }
@@ -227,7 +376,7 @@ impl Body {
     pub(crate) fn set_indexes(&mut self, fresh: SmallVec<NodeId, 1>)
         ensures { self.new ≡ body_with_indexes self.old fresh }
     {
-        if let Body::File(kept) = self {
+        if let Body::File { kept, .. } = self {
             kept.indexes = fresh;
         }
     }
@@ -236,7 +385,7 @@ impl Body {
     pub(crate) fn unlist(&mut self, index: NodeId)
         ensures { self.new ≡ body_without_index self.old index }
     {
-        if let Body::File(kept) = self {
+        if let Body::File { kept, .. } = self {
             kept.indexes.retain(|listed| *listed != index);
         }
     }

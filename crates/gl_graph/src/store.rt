@@ -11,33 +11,33 @@ ghost use Rattle.std.specs.Prelude.{
   [],
   length,
   option_copied,
+  true,
   vec_capacity,
 };
 ghost use Rattle.slab.specs.Slab.{ContainsKey, HasRoomFor, Updates, get, slab_len};
 ghost use Rattle.gl_graph.specs.declared.node.Node.{Node};
-ghost use Rattle.gl_graph.specs.Shapes.{keys_in};
+ghost use Rattle.gl_graph.specs.Shapes.{is_movable_shape, keys_in};
 ghost use Rattle.gl_graph.specs.Seen.{
   AreBornApart,
   AreBornWithin,
   body_adopted,
+  body_rekeyed,
   body_with_children,
   body_with_indexes,
   body_with_intervals,
+  body_with_parents,
   body_with_records,
   body_without_index,
   named,
-  parent_list,
+  parents_in_body,
   shape_in_body,
-  with_key_at,
 };
 ghost use Rattle.gl_graph.specs.Grown.{AreGone, AreIntervalsBorn, AreRecounted, AreStored, EachKeeps};
 
 use crate::node::{Body, Node};
-use crate::parents::Parents;
 use gl_modes::NodeId;
 use slab::Slab;
 use smallvec::SmallVec;
-use std::mem;
 
 /// The node that the id names.
 pub(crate) fn find(nodes: &Slab<Node>, n: NodeId) -> Option<&Node>
@@ -78,14 +78,19 @@ pub(crate) fn write_adopted(nodes: &mut Slab<Node>, key: usize)
     nodes[key].body.adopt();
 }
 
-/// Writes the parents of a node, and gives those that it had.
-pub(crate) fn write_parents(nodes: &mut Slab<Node>, key: usize, fresh: Parents) -> Parents
-    requires { ContainsKey nodes.old key }
-    ensures written { (x : Node) → get nodes.old key ≡ Some x → Updates nodes.old nodes.new key (Some (record x { parents = fresh })) }
-    ensures old { (x : Node) → get nodes.old key ≡ Some x → result ≡ x.parents }
+/// Writes the parents of an inner node, a file or an index, and gives those that it had.
+pub(crate) fn write_parents(
+    nodes: &mut Slab<Node>,
+    key: usize,
+    fresh: SmallVec<NodeId, 1>,
+) -> SmallVec<NodeId, 1>
+    requires there { ContainsKey nodes.old key }
+    requires movable { (x : Node) → get nodes.old key ≡ Some x → is_movable_shape (Some (shape_in_body x.body)) ≡ true }
+    ensures written { (x : Node) → get nodes.old key ≡ Some x → Updates nodes.old nodes.new key (Some (record x { body = body_with_parents x.body fresh })) }
+    ensures old { (x : Node) → get nodes.old key ≡ Some x → result.items ≡ parents_in_body x.body }
     ensures len { slab_len nodes.new ≡ slab_len nodes.old }
 {
-    mem::replace(&mut nodes[key].parents, fresh)
+    nodes[key].body.set_parents(fresh)
 }
 
 /// Each of these, which are stored apart, has a child more.
@@ -122,14 +127,15 @@ pub(crate) fn write_key(
 )
     requires there { ContainsKey nodes.old rec }
     requires keys { (x : Node) → get nodes.old rec ≡ Some x → place < length (keys_in (Some (shape_in_body x.body))) }
-    requires parents { (x : Node) → get nodes.old rec ≡ Some x → place + 1 < length (parent_list x.parents) }
+    requires parents { (x : Node) → get nodes.old rec ≡ Some x → place + 1 < length (parents_in_body x.body) }
     requires place { place + 1 < 2 ^ 64 }
-    ensures written { (x : Node) → get nodes.old rec ≡ Some x → Updates nodes.old nodes.new rec (Some (with_key_at x place key interval)) }
+    ensures written { (x : Node) → get nodes.old rec ≡ Some x
+        → Updates nodes.old nodes.new rec (Some (record x { body = body_rekeyed x.body place key interval })) }
     ensures len { slab_len nodes.new ≡ slab_len nodes.old }
 {
-    let node = &mut nodes[rec];
-    node.parents.set(place + 1, interval);
-    node.body.set_key(place, key);
+    let body = &mut nodes[rec].body;
+    body.set_key(place, key);
+    body.set_parent(place + 1, interval);
 }
 
 /// Writes the intervals of an index.
@@ -187,12 +193,11 @@ pub(crate) fn insert_intervals(
 {
     for place in 0..count {
         let birth = index.birth + 1 + place as u64;
-        let body = Body::Interval { place };
-        let key = nodes.insert_reserved(Node {
-            birth,
-            parents: Parents::One([index]),
-            body,
-        });
+        let body = Body::Interval {
+            place,
+            index: [index],
+        };
+        let key = nodes.insert_reserved(Node { birth, body });
         ids.push_reserved(NodeId { key, birth });
     }
 }

@@ -12,7 +12,7 @@ pub(crate) fn play(bill: &mut Bill<'_>) {
 }
 
 /// How many steps the growth has.
-const STEPS: usize = 9;
+const STEPS: usize = 20;
 
 /// The nodes by the step that made them.
 type Names = [NodeId; STEPS];
@@ -61,9 +61,9 @@ fn move_under(graph: &mut Graph, node: NodeId, parent: NodeId) -> Result<NodeId,
 }
 
 /// One growth after the other: inner nodes below one another, a file under all of them, two indexes,
-/// records, and an inner node that moves.
+/// records, and an inner node that moves; and files with three indexes and with four, each with a record.
 fn grow(graph: &mut Graph, step: usize, names: &Names) -> Result<NodeId, Refusal> {
-    let [db, x, y, file, ..] = *names;
+    let [db, x, y, file, _, _, _, _, _, three, _, _, _, _, four, ..] = *names;
     match step {
         0 => graph.add_inner(&[]),
         1 => graph.add_inner(&[db]),
@@ -73,7 +73,12 @@ fn grow(graph: &mut Graph, step: usize, names: &Names) -> Result<NodeId, Refusal
         5 => graph.add_index(&[db], file, &[]),
         6 => graph.add_record(file, &[15, 7]),
         7 => move_under(graph, y, db),
-        _ => graph.add_record(file, &[25, 8]),
+        8 => graph.add_record(file, &[25, 8]),
+        9 | 14 => graph.add_file(&[db]),
+        10 | 11 | 12 => graph.add_index(&[db], three, &[]),
+        13 => graph.add_record(three, &[1, 2, 3]),
+        15 | 16 | 17 | 18 => graph.add_index(&[db], four, &[]),
+        _ => graph.add_record(four, &[1, 2, 3, 4]),
     }
 }
 
@@ -98,7 +103,9 @@ fn grows(alloc: Global) -> Option<u32> {
         names[step] = take(&mut graph, step, &names, &mut watch);
     }
     watch.step();
-    let births = [1, 2, 3, 4, 5, 10, 12, 3, 13];
+    let births = [
+        1, 2, 3, 4, 5, 10, 12, 3, 13, 14, 15, 17, 19, 21, 22, 23, 25, 27, 29, 31,
+    ];
     for (name, birth) in names.iter().zip(births) {
         watch.same(name.birth, birth);
     }

@@ -463,3 +463,44 @@ fn graphs_grow_within_their_limits(rt: HostRuntime) {
     play_all(&rt, rt.alloc(), STORIES);
     root_path_laws();
 }
+
+/// A key for each of seven indexes, on either side of a bound at 100 in turn.
+const KEYS: &[u64] = &[50, 150, 50, 150, 50, 150, 50];
+
+/// The parents of a record with these keys: its file, and the interval of each key.
+const UNDER: &[NodeId] = &[
+    FILE,
+    N4,
+    N8,
+    N10,
+    NodeId { key: 13, birth: 14 },
+    NodeId { key: 15, birth: 16 },
+    NodeId { key: 19, birth: 20 },
+    NodeId { key: 21, birth: 22 },
+];
+
+/// A graph with a record of a file with so many indexes of one bound, and the record.
+fn graph_with_keys(alloc: Global, keys: &[u64]) -> Result<(Graph, NodeId), Refusal> {
+    let mut graph = Graph::new(alloc);
+    let db = graph.add_inner(&[])?;
+    let file = graph.add_file(&[db])?;
+    for _key in keys {
+        graph.add_index(&[db], file, &[100])?;
+    }
+    let rec = graph.add_record(file, keys)?;
+    Ok((graph, rec))
+}
+
+#[test]
+fn records_lie_under_an_interval_for_each_key(rt: HostRuntime) {
+    for count in 0..8 {
+        let keys = &KEYS[..count];
+        match graph_with_keys(rt.alloc(), keys) {
+            Ok((graph, rec)) => {
+                same(&rt, graph.keys(rec), keys);
+                same(&rt, graph.parents(rec), &UNDER[..count + 1]);
+            }
+            Err(refusal) => same(&rt, Some(refusal), None),
+        }
+    }
+}

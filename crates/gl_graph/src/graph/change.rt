@@ -40,9 +40,9 @@ impl Graph {
             return false;
         };
         match &node.body {
-            Body::Inner { children } => *children > 0,
-            Body::File(kept) => kept.records > 0 || !kept.indexes.is_empty(),
-            Body::Index(kept) => self.has_records(kept.file),
+            Body::Inner { children, .. } => *children > 0,
+            Body::File { kept, .. } => kept.records > 0 || !kept.indexes.is_empty(),
+            Body::Index { kept, .. } => self.has_records(kept.file),
             _ => false,
         }
     }
@@ -79,8 +79,8 @@ impl Graph {
         requires free { is_in_use (graph_of self.old) n ≡ false }
         ensures removed { graph_of self.new ≡ without_branch (graph_of self.old) n }
     {
-        let Node { parents, .. } = self.nodes.remove(n.key);
-        count_down(&mut self.nodes, parents.as_slice());
+        let Node { body, .. } = self.nodes.remove(n.key);
+        count_down(&mut self.nodes, body.parents());
     }
 
     /// Takes out an index with its intervals.
@@ -89,8 +89,8 @@ impl Graph {
         requires free { is_in_use (graph_of self.old) index ≡ false }
         ensures removed { graph_of self.new ≡ without_branch (graph_of self.old) index }
     {
-        let Node { parents, body, .. } = self.nodes.remove(index.key);
-        let Body::Index(kept) = body else {
+        let Node { body, .. } = self.nodes.remove(index.key);
+        let Body::Index { parents, kept } = body else {
             unreachable!()
         };
         remove_all(&mut self.nodes, kept.intervals.as_slice());

@@ -8,11 +8,10 @@ ghost use Rattle.gl_graph.specs.Lawful.{AreInnerParents, IsLawfulGraph};
 ghost use Rattle.gl_graph.specs.Changes.{born_node, IsAdopted, IsBorn, IsIndexBorn};
 ghost use Rattle.gl_graph.specs.Refusals.{file_refusal, index_refusal, inner_refusal, record_refusal, reindex_refusal, Refuses};
 ghost use Rattle.gl_graph.specs.View.{graph_of};
-ghost use Rattle.gl_graph.specs.Seen.{shape_in_body, IsPlainBody};
+ghost use Rattle.gl_graph.specs.Seen.{parents_in_body, shape_in_body, IsPlainBody};
 
 use super::Graph;
-use crate::node::{Body, FileBody, IndexBody, Node};
-use crate::parents::Parents;
+use crate::node::{Body, IndexBody, Node};
 use crate::store::{count_up, insert_intervals, write_indexes, write_intervals, write_records};
 use arrayvec::ArrayVec;
 use gl_modes::{NodeId, Refusal};
@@ -22,7 +21,7 @@ use std::alloc::{AllocError, Global};
 /// What a new index takes memory for, made before anything changes.
 #[derive(Drop)]
 struct IndexParts {
-    parents: Parents,
+    parents: SmallVec<NodeId, 1>,
     // Without intervals.
     body: Box<IndexBody>,
     // Empty, with room for all.
@@ -44,7 +43,7 @@ impl IndexParts {
         requires { length bounds.now < 2 ^ 63 }
         ensures made { IfOk result (λ parts. AreParts parts parents.now file bounds.now indexes.now) }
     {
-        let parents = Parents::from_slice(alloc, parents)?;
+        let parents = SmallVec::from_slice(alloc, parents)?;
         let intervals = Vec::with_capacity(alloc, bounds.len() + 1)?;
         let body = IndexBody {
             file,
@@ -74,7 +73,10 @@ impl Graph {
         ensures err { OnErr result (self.new ≡ self.old) }
     {
         self.check_parents(0, parents)?;
-        self.insert(parents, Body::Inner { children: 0 })
+        let Ok(body) = Body::of_inner(self.alloc, parents) else {
+            return Err(Refusal::NoMemory);
+        };
+        self.insert(parents, body)
     }
 
     /// Makes a file under 1 to 8 different inner nodes. It has no indexes and no records, and no rows
@@ -88,15 +90,10 @@ impl Graph {
         ensures err { OnErr result (self.new ≡ self.old) }
     {
         self.check_parents(1, parents)?;
-        let body = FileBody {
-            indexes: SmallVec::new(self.alloc),
-            records: 0,
-            adopted: false,
-        };
-        let Ok(body) = Box::new(self.alloc, body) else {
+        let Ok(body) = Body::of_file(self.alloc, parents) else {
             return Err(Refusal::NoMemory);
         };
-        self.insert(parents, Body::File(body))
+        self.insert(parents, body)
     }
 
     /// Makes an index of a file that has no records and of which no rows were ever adopted, under 1
@@ -144,17 +141,17 @@ impl Graph {
             return Err(Refusal::NoMemory);
         };
         let IndexParts {
-            parents: kept,
+            parents: above,
             body,
             mut intervals,
             mut indexes,
         } = parts;
         let birth = self.births + 1;
-        let key = self.nodes.insert_reserved(Node {
-            birth,
-            parents: kept,
-            body: Body::Index(body),
-        });
+        let body = Body::Index {
+            parents: above,
+            kept: body,
+        };
+        let key = self.nodes.insert_reserved(Node { birth, body });
         let index = NodeId { key, birth };
         insert_intervals(&mut self.nodes, index, count, &mut intervals);
         indexes.push_reserved(index);
@@ -195,20 +192,12 @@ impl Graph {
         ensures memory { IfErr result (λ r. r ≡ Refusal.NoMemory) }
         ensures err { OnErr result (self.new ≡ self.old) }
     {
-        let Ok(parents) = Parents::from_slice(self.alloc, parents) else {
-            return Err(Refusal::NoMemory);
-        };
-        let Ok(body) = Body::of_record(self.alloc, keys) else {
+        let Ok(body) = Body::of_record(self.alloc, keys, parents) else {
             return Err(Refusal::NoMemory);
         };
         let records = self.records(file) + 1;
         let birth = self.births + 1;
-        let node = Node {
-            birth,
-            parents,
-            body,
-        };
-        let Ok(key) = self.nodes.insert(node) else {
+        let Ok(key) = self.nodes.insert(Node { birth, body }) else {
             return Err(Refusal::NoMemory);
         };
         write_records(&mut self.nodes, file.key, records);
@@ -250,6 +239,7 @@ impl Graph {
     fn insert(&mut self, parents: &[NodeId], body: Body) -> Result<NodeId, Refusal>
         requires births { self.old.births + 1 < 2 ^ 64 }
         requires plain { IsPlainBody body }
+        requires under { parents_in_body body ≡ parents.now }
         requires parents { AreInnerParents (graph_of self.old) 0 parents.now }
         requires lawful { (key : ℕ) → IsLawfulGraph (graph_of self.old) → IsFreeKey (graph_of self.old) key
             → IsLawfulGraph (born_node (graph_of self.old) (record { key = key; shape = shape_in_body body; parents = parents.now })) }
@@ -257,16 +247,8 @@ impl Graph {
         ensures memory { IfErr result (λ r. r ≡ Refusal.NoMemory) }
         ensures err { OnErr result (self.new ≡ self.old) }
     {
-        let Ok(kept) = Parents::from_slice(self.alloc, parents) else {
-            return Err(Refusal::NoMemory);
-        };
         let birth = self.births + 1;
-        let node = Node {
-            birth,
-            parents: kept,
-            body,
-        };
-        let Ok(key) = self.nodes.insert(node) else {
+        let Ok(key) = self.nodes.insert(Node { birth, body }) else {
             return Err(Refusal::NoMemory);
         };
         count_up(&mut self.nodes, parents);

@@ -19,7 +19,7 @@ impl Graph {
         ensures parents { IfSome result (λ p. p.1.now ≡ parents_of (graph_of self.now) n) }
     {
         match find(&self.nodes, n) {
-            Some(node) => Some((node.body.kind(), node.parents.as_slice())),
+            Some(node) => Some((node.body.kind(), node.body.parents())),
             None => None,
         }
     }

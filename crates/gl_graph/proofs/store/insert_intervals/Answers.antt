@@ -1,7 +1,6 @@
 use Rattle.std.proofs.Common.{◌+◌, ap, ◌∙◌, arith, ◌∷◌, [], length, refl}
 use Rattle.std.proofs.lemmas.List.{length-append}
 use Rattle.gl_graph.specs.declared.node.Body.TheVariants as body
-use Rattle.gl_graph.specs.declared.parents.Parents.TheVariants as parents
 use Rattle.gl_graph.proofs.Grow.{intervals_born}
 use Rattle.gl_graph.proofs.store.insert_intervals.Goals as goal
 
@@ -21,6 +20,6 @@ loop-place-preserved c =
           ∙ ap (λ n. n + 1) c.loop-place.invariant.listed;
       born = intervals_born c.args.nodes.now c.loop-place.nodes c.insert_reserved-key.new.self c.args.index c.loop-place.place c.loop-place.ids.items
           c.push_reserved.new.self.items c.loop-place.invariant.born c.insert_reserved-key.result
-          (record { birth = c.args.index.birth + 1 + c.loop-place.place; parents = parents.One (c.args.index ∷ []); body = body.Interval c.loop-place.place })
+          (record { birth = c.args.index.birth + 1 + c.loop-place.place; body = body.Interval c.loop-place.place (c.args.index ∷ []) })
           c.insert_reserved-key.ensures.was_vacant c.insert_reserved-key.ensures.updates refl len refl refl c.push_reserved.ensures.items;
     }

@@ -1,5 +1,4 @@
-use Rattle.std.proofs.Common.{◌≡◌, false, sym, ap, subst, arith}
-use Rattle.gl_graph.specs.Shapes.{File}
+use Rattle.std.proofs.Common.{sym, subst, arith}
 use Rattle.gl_graph.specs.Lawful.{IsLawfulGraph}
 use Rattle.gl_graph.specs.Changes.{born_node}
 use Rattle.gl_graph.specs.View.{graph_of}
@@ -10,10 +9,8 @@ use Rattle.gl_graph.proofs.graph.Graph.add_file.Goals as goal
 pub insert-requires-clause-lawful : goal.insert-requires-clause-lawful
 insert-requires-clause-lawful c = λ key law free.
     let may = parents_unrefused (graph_of c.args.self.now) 1 c.args.parents.now (verdict_ok _ _ c.in_ok-check_parents.ensures) in
-    let unadopted : c.in-Ok.body.value.adopted ≡ false = ap (λ kept. kept.adopted) c.in-Ok.ensures.ok in
-    subst (λ adopted. IsLawfulGraph (born_node (graph_of c.args.self.now)
-    (record { key = key; shape = File adopted; parents = c.args.parents.now }))) (sym unadopted)
-    (file_lawful (graph_of c.args.self.now) law key c.args.parents.now may.inner free may.room)
+    subst (λ shape. IsLawfulGraph (born_node (graph_of c.args.self.now) (record { key = key; shape = shape; parents = c.args.parents.now })))
+    (sym c.in-Ok.ensures.shape) (file_lawful (graph_of c.args.self.now) law key c.args.parents.now may.inner free may.room)
 
 pub insert-requires-clause-parents : goal.insert-requires-clause-parents
 insert-requires-clause-parents c =

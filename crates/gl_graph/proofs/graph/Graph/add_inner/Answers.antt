@@ -1,4 +1,6 @@
-use Rattle.std.proofs.Common.{arith}
+use Rattle.std.proofs.Common.{sym, subst, arith}
+use Rattle.gl_graph.specs.Lawful.{IsLawfulGraph}
+use Rattle.gl_graph.specs.Changes.{born_node}
 use Rattle.gl_graph.specs.View.{graph_of}
 use Rattle.gl_graph.proofs.Unrefused.{verdict_ok, parents_unrefused}
 use Rattle.gl_graph.proofs.NewNodes.{inner_lawful}
@@ -7,7 +9,8 @@ use Rattle.gl_graph.proofs.graph.Graph.add_inner.Goals as goal
 pub insert-requires-clause-lawful : goal.insert-requires-clause-lawful
 insert-requires-clause-lawful c = λ key law free.
     let may = parents_unrefused (graph_of c.args.self.now) 0 c.args.parents.now (verdict_ok _ _ c.in_ok-check_parents.ensures) in
-    inner_lawful (graph_of c.args.self.now) law key c.args.parents.now may.inner free may.room
+    subst (λ shape. IsLawfulGraph (born_node (graph_of c.args.self.now) (record { key = key; shape = shape; parents = c.args.parents.now })))
+    (sym c.in-Ok.ensures.shape) (inner_lawful (graph_of c.args.self.now) law key c.args.parents.now may.inner free may.room)
 
 pub insert-requires-clause-parents : goal.insert-requires-clause-parents
 insert-requires-clause-parents c =

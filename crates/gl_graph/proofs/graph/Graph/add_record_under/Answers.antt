@@ -13,23 +13,23 @@ use Rattle.gl_graph.proofs.graph.Graph.add_record_under.Goals as goal
 
 pub write_records-requires : goal.write_records-requires
 write_records-requires c =
-    let x : Stored = record { birth = c.self.inside.births + 1; parents = c.in-Ok.parents; body = c.in-Ok-of_record.body } in
+    let x : Stored = record { birth = c.self.inside.births + 1; body = c.in-Ok.body } in
     let may = subst (λ (v : View). IsRoomyRecord (graph_of v) c.args.file c.args.keys.now) (sym c.self.view_is)
     (record_unrefused (graph_of c.args.self.now) c.args.file c.args.keys.now c.requires.free) in
     file_contained (limits_of c.self.inside) c.self.inside.nodes c.insert.new.self c.insert.new.self c.self.inside.births c.in-Ok-insert.key x
     c.self.invariant.sound c.in-Ok-insert.ensures.was_vacant c.in-Ok-insert.ensures.updates refl c.in-Ok-insert.ensures.len
-    c.args.file c.args.keys.now may.file c.in-Ok-of_record.ensures
-    (c.in-Ok.ensures ∙ c.requires.parents ∙ ap (λ (v : View). record_parents (graph_of v) c.args.file c.args.keys.now) (sym c.self.view_is))
+    c.args.file c.args.keys.now may.file c.in-Ok.ensures.shape
+    (c.in-Ok.ensures.parents ∙ c.requires.parents ∙ ap (λ (v : View). record_parents (graph_of v) c.args.file c.args.keys.now) (sym c.self.view_is))
 
 pub invariant_of-self-2 : goal.invariant_of-self-2
 invariant_of-self-2 c =
-    let x : Stored = record { birth = c.self.inside.births + 1; parents = c.in-Ok.parents; body = c.in-Ok-of_record.body } in
+    let x : Stored = record { birth = c.self.inside.births + 1; body = c.in-Ok.body } in
     let may = subst (λ (v : View). IsRoomyRecord (graph_of v) c.args.file c.args.keys.now) (sym c.self.view_is)
     (record_unrefused (graph_of c.args.self.now) c.args.file c.args.keys.now c.requires.free) in
     let sound = record_sound (limits_of c.self.inside) c.self.inside.nodes c.insert.new.self c.write_records.new.nodes c.self.inside.births c.in-Ok-insert.key x
     c.self.invariant.sound c.in-Ok-insert.ensures.was_vacant c.in-Ok-insert.ensures.updates refl c.in-Ok-insert.ensures.len
-    c.args.file c.args.keys.now may.file c.in-Ok-of_record.ensures
-    (c.in-Ok.ensures ∙ c.requires.parents ∙ ap (λ (v : View). record_parents (graph_of v) c.args.file c.args.keys.now) (sym c.self.view_is))
+    c.args.file c.args.keys.now may.file c.in-Ok.ensures.shape
+    (c.in-Ok.ensures.parents ∙ c.requires.parents ∙ ap (λ (v : View). record_parents (graph_of v) c.args.file c.args.keys.now) (sym c.self.view_is))
     may.each may.room (c.records-records.result + 1)
     (ap (λ n. n + 1) (c.records-records.ensures
     ∙ ap (λ (v : View). record_count (graph_of v) c.args.file) (sym c.self.view_is))) c.write_records.ensures.written c.write_records.ensures.len in
@@ -37,12 +37,12 @@ invariant_of-self-2 c =
       sound = sound;
       children = record_keeps (limits_of c.self.inside) c.self.inside.nodes c.insert.new.self c.write_records.new.nodes c.self.inside.births
           c.in-Ok-insert.key x c.self.invariant.sound sound c.self.invariant.children c.in-Ok-insert.ensures.was_vacant c.in-Ok-insert.ensures.updates
-          c.args.file c.args.keys.now may.file c.in-Ok-of_record.ensures (c.records-records.result + 1) c.write_records.ensures.written;
+          c.args.file c.args.keys.now may.file c.in-Ok.ensures.shape (c.records-records.result + 1) c.write_records.ensures.written;
     }
 
 pub returns-clause-made : goal.returns-clause-made
 returns-clause-made c =
-    let x : Stored = record { birth = c.self.inside.births + 1; parents = c.in-Ok.parents; body = c.in-Ok-of_record.body } in
+    let x : Stored = record { birth = c.self.inside.births + 1; body = c.in-Ok.body } in
     let may = subst (λ (v : View). IsRoomyRecord (graph_of v) c.args.file c.args.keys.now) (sym c.self.view_is)
     (record_unrefused (graph_of c.args.self.now) c.args.file c.args.keys.now c.requires.free) in
     subst (λ (v : View). IsBorn (graph_of v) (graph_of (seen (limits_of c.self.inside) c.write_records.new.nodes (c.self.inside.births + 1)))
@@ -50,8 +50,8 @@ returns-clause-made c =
     (record_parents (graph_of v) c.args.file c.args.keys.now)) c.self.view_is
     (record_born (limits_of c.self.inside) c.self.inside.nodes c.insert.new.self c.write_records.new.nodes c.self.inside.births c.in-Ok-insert.key x
     c.self.invariant.sound c.in-Ok-insert.ensures.was_vacant c.in-Ok-insert.ensures.updates refl c.in-Ok-insert.ensures.len
-    c.args.file c.args.keys.now may.file c.in-Ok-of_record.ensures
-    (c.in-Ok.ensures ∙ c.requires.parents ∙ ap (λ (v : View). record_parents (graph_of v) c.args.file c.args.keys.now) (sym c.self.view_is))
+    c.args.file c.args.keys.now may.file c.in-Ok.ensures.shape
+    (c.in-Ok.ensures.parents ∙ c.requires.parents ∙ ap (λ (v : View). record_parents (graph_of v) c.args.file c.args.keys.now) (sym c.self.view_is))
     may.each may.room (c.records-records.result + 1)
     (ap (λ n. n + 1) (c.records-records.ensures
     ∙ ap (λ (v : View). record_count (graph_of v) c.args.file) (sym c.self.view_is))) c.write_records.ensures.written c.write_records.ensures.len)

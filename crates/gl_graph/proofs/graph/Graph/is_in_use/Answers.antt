@@ -21,13 +21,13 @@ returns-in_default c =
 pub returns-in-Inner : goal.returns-in-Inner
 returns-in-Inner c =
     sym (inner_in_use (limits_of c.self.inside) c.self.inside.nodes c.self.inside.births c.args.self.now c.self.invariant.sound c.self.view_is c.args.n
-    c.in-Some.node.now (sym c.in-Some.ensures) c.self.invariant.children c.in-Inner.children c.in-Inner.is)
+    c.in-Some.node.now (sym c.in-Some.ensures) c.self.invariant.children c.in-Inner.children _ c.in-Inner.is)
 
 pub has_records-requires : goal.has_records-requires
 has_records-requires c =
     ap (λ (b : IndexBody). is_file_shape (shape_of (graph_of c.args.self.now) b.file)) c.deref-in-Index.ensures
     ∙ index_file (limits_of c.self.inside) c.self.inside.nodes c.self.inside.births c.args.self.now c.self.invariant.sound c.self.view_is c.args.n
-    c.in-Some.node.now (sym c.in-Some.ensures) c.in-Index.kept c.in-Index.is
+    c.in-Some.node.now (sym c.in-Some.ensures) _ c.in-Index.kept c.in-Index.is
 
 pub returns-then-deref-gt0 : goal.returns-then-deref-gt0
 returns-then-deref-gt0 c =
@@ -36,7 +36,7 @@ returns-then-deref-gt0 c =
     let test : nat_lt 0 c.deref.result.now.records ≡ true = grind (arith, nat_tests) in
     test
     ∙ sym (file_in_use (limits_of c.self.inside) c.self.inside.nodes c.self.inside.births c.args.self.now c.self.invariant.sound c.self.view_is c.args.n
-    c.in-Some.node.now (sym c.in-Some.ensures) c.in-File.kept c.in-File.is
+    c.in-Some.node.now (sym c.in-Some.ensures) _ c.in-File.kept c.in-File.is
     ∙ ap (λ b. b || nat_lt 0 (length c.in-File.kept.value.indexes.items)) (sym is ∙ test))
 
 some_listed : (k : ℕ) → not (k == 0) ≡ nat_lt 0 k
@@ -51,7 +51,7 @@ returns-else-deref-gt0 c =
     ap not (c.is_empty.ensures ∙ ap (λ (b : FileBody). length b.indexes.items == 0) c.deref-else-deref-gt0.ensures)
     ∙ some_listed (length c.in-File.kept.value.indexes.items)
     ∙ sym (file_in_use (limits_of c.self.inside) c.self.inside.nodes c.self.inside.births c.args.self.now c.self.invariant.sound c.self.view_is c.args.n
-    c.in-Some.node.now (sym c.in-Some.ensures) c.in-File.kept c.in-File.is
+    c.in-Some.node.now (sym c.in-Some.ensures) _ c.in-File.kept c.in-File.is
     ∙ ap (λ b. b || nat_lt 0 (length c.in-File.kept.value.indexes.items)) (sym is ∙ test))
 
 pub returns-in-Index : goal.returns-in-Index
@@ -59,7 +59,7 @@ returns-in-Index c =
     c.has_records.ensures
     ∙ ap (λ (b : IndexBody). has_records (graph_of c.args.self.now) b.file) c.deref-in-Index.ensures
     ∙ sym (index_in_use (limits_of c.self.inside) c.self.inside.nodes c.self.inside.births c.args.self.now c.self.invariant.sound c.self.view_is c.args.n
-    c.in-Some.node.now (sym c.in-Some.ensures) c.in-Index.kept c.in-Index.is)
+    c.in-Some.node.now (sym c.in-Some.ensures) _ c.in-Index.kept c.in-Index.is)
 
 pub returns-in_default-body : goal.returns-in_default-body
 returns-in_default-body c =

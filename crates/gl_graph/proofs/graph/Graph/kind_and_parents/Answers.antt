@@ -13,7 +13,7 @@ returns-in-Some-clause-kind c =
 
 pub returns-in-Some-clause-parents : goal.returns-in-Some-clause-parents
 returns-in-Some-clause-parents c =
-    c.as_slice.ensures
+    c.parents.ensures
     ∙ sym (parents_found (limits_of c.self.inside) c.self.inside.nodes c.self.inside.births c.args.self.now c.self.invariant.sound c.self.view_is c.args.n
     c.in-Some.node.now (sym c.in-Some.ensures))
 

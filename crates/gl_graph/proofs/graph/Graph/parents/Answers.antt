@@ -4,7 +4,7 @@ use Rattle.gl_graph.specs.Sound.{limits_of}
 use Rattle.gl_graph.proofs.graph.Graph.parents.Goals as goal
 
 pub returns-in-Some : goal.returns-in-Some
-returns-in-Some c = c.as_slice.ensures ∙ sym
+returns-in-Some c = c.parents.ensures ∙ sym
     (parents_found (limits_of c.self.inside) c.self.inside.nodes c.self.inside.births c.args.self.now c.self.invariant.sound c.self.view_is c.args.n
     c.in-Some.node.now (sym c.in-Some.ensures))
 

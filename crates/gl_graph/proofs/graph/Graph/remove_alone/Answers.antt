@@ -12,8 +12,8 @@ use Rattle.gl_graph.proofs.SoundBranch.{contained}
 use Rattle.gl_graph.proofs.SoundDrop.{drop_stored, drop_some, drop_keeps, drop_sound, drop_graph}
 use Rattle.gl_graph.proofs.graph.Graph.remove_alone.Goals as goal
 
-pub remove-parents-requires : goal.remove-parents-requires
-remove-parents-requires c =
+pub remove-body-requires : goal.remove-body-requires
+remove-body-requires c =
     let movable = subst (λ (v : View). is_movable_shape (shape_of (graph_of v) c.args.n) ≡ true) (sym c.self.view_is) c.requires.movable in
     let free = subst (λ (v : View). is_in_use (graph_of v) c.args.n ≡ false) (sym c.self.view_is) c.requires.free in
     contained (limits_of c.self.inside) c.self.inside.nodes c.self.inside.nodes c.self.inside.births c.self.invariant.sound c.args.n movable free
@@ -23,33 +23,33 @@ count_down-requires-clause-stored c =
     let movable = subst (λ (v : View). is_movable_shape (shape_of (graph_of v) c.args.n) ≡ true) (sym c.self.view_is) c.requires.movable in
     let alone = subst (λ (v : View). is_index_shape (shape_of (graph_of v) c.args.n) ≡ false) (sym c.self.view_is) c.requires.alone in
     let free = subst (λ (v : View). is_in_use (graph_of v) c.args.n ≡ false) (sym c.self.view_is) c.requires.free in
-    subst (AreStored c.remove-parents.new.self) (sym c.as_slice.ensures)
-    (drop_stored (limits_of c.self.inside) c.self.inside.nodes c.remove-parents.new.self c.self.inside.births c.self.invariant.sound c.self.invariant.children
-    c.args.n movable alone free c.remove-parents.result c.remove-parents.ensures.value c.remove-parents.ensures.updates c.remove-parents.ensures.len)
+    subst (AreStored c.remove-body.new.self) (sym c.parents.ensures)
+    (drop_stored (limits_of c.self.inside) c.self.inside.nodes c.remove-body.new.self c.self.inside.births c.self.invariant.sound c.self.invariant.children
+    c.args.n movable alone free c.remove-body.result c.remove-body.ensures.value c.remove-body.ensures.updates c.remove-body.ensures.len)
 
 pub count_down-requires-clause-some : goal.count_down-requires-clause-some
 count_down-requires-clause-some c =
     let movable = subst (λ (v : View). is_movable_shape (shape_of (graph_of v) c.args.n) ≡ true) (sym c.self.view_is) c.requires.movable in
     let alone = subst (λ (v : View). is_index_shape (shape_of (graph_of v) c.args.n) ≡ false) (sym c.self.view_is) c.requires.alone in
     let free = subst (λ (v : View). is_in_use (graph_of v) c.args.n ≡ false) (sym c.self.view_is) c.requires.free in
-    subst (EachKeeps (λ children. 1 ≤ children) c.remove-parents.new.self) (sym c.as_slice.ensures)
-    (drop_some (limits_of c.self.inside) c.self.inside.nodes c.remove-parents.new.self c.self.inside.births c.self.invariant.sound c.self.invariant.children
-    c.args.n movable alone free c.remove-parents.result c.remove-parents.ensures.value c.remove-parents.ensures.updates c.remove-parents.ensures.len)
+    subst (EachKeeps (λ children. 1 ≤ children) c.remove-body.new.self) (sym c.parents.ensures)
+    (drop_some (limits_of c.self.inside) c.self.inside.nodes c.remove-body.new.self c.self.inside.births c.self.invariant.sound c.self.invariant.children
+    c.args.n movable alone free c.remove-body.result c.remove-body.ensures.value c.remove-body.ensures.updates c.remove-body.ensures.len)
 
 pub invariant_of-self : goal.invariant_of-self
 invariant_of-self c =
     let movable = subst (λ (v : View). is_movable_shape (shape_of (graph_of v) c.args.n) ≡ true) (sym c.self.view_is) c.requires.movable in
     let alone = subst (λ (v : View). is_index_shape (shape_of (graph_of v) c.args.n) ≡ false) (sym c.self.view_is) c.requires.alone in
     let free = subst (λ (v : View). is_in_use (graph_of v) c.args.n ≡ false) (sym c.self.view_is) c.requires.free in
-    let re = subst (λ (ids : List NodeId). AreRecounted (λ children. children - 1) c.remove-parents.new.self c.count_down.new.nodes ids (length ids))
-    c.as_slice.ensures c.count_down.ensures.counted in
+    let re = subst (λ (ids : List NodeId). AreRecounted (λ children. children - 1) c.remove-body.new.self c.count_down.new.nodes ids (length ids))
+    c.parents.ensures c.count_down.ensures.counted in
     record {
-      sound = drop_sound (limits_of c.self.inside) c.self.inside.nodes c.remove-parents.new.self c.self.inside.births c.self.invariant.sound
-          c.self.invariant.children c.args.n movable alone free c.remove-parents.result c.remove-parents.ensures.value c.remove-parents.ensures.updates
-          c.remove-parents.ensures.len c.count_down.new.nodes re;
-      children = drop_keeps (limits_of c.self.inside) c.self.inside.nodes c.remove-parents.new.self c.self.inside.births c.self.invariant.sound
-          c.self.invariant.children c.args.n movable alone free c.remove-parents.result c.remove-parents.ensures.value c.remove-parents.ensures.updates
-          c.remove-parents.ensures.len c.count_down.new.nodes re;
+      sound = drop_sound (limits_of c.self.inside) c.self.inside.nodes c.remove-body.new.self c.self.inside.births c.self.invariant.sound
+          c.self.invariant.children c.args.n movable alone free c.remove-body.result c.remove-body.ensures.value c.remove-body.ensures.updates
+          c.remove-body.ensures.len c.count_down.new.nodes re;
+      children = drop_keeps (limits_of c.self.inside) c.self.inside.nodes c.remove-body.new.self c.self.inside.births c.self.invariant.sound
+          c.self.invariant.children c.args.n movable alone free c.remove-body.result c.remove-body.ensures.value c.remove-body.ensures.updates
+          c.remove-body.ensures.len c.count_down.new.nodes re;
     }
 
 pub returns : goal.returns
@@ -57,9 +57,9 @@ returns c =
     let movable = subst (λ (v : View). is_movable_shape (shape_of (graph_of v) c.args.n) ≡ true) (sym c.self.view_is) c.requires.movable in
     let alone = subst (λ (v : View). is_index_shape (shape_of (graph_of v) c.args.n) ≡ false) (sym c.self.view_is) c.requires.alone in
     let free = subst (λ (v : View). is_in_use (graph_of v) c.args.n ≡ false) (sym c.self.view_is) c.requires.free in
-    let re = subst (λ (ids : List NodeId). AreRecounted (λ children. children - 1) c.remove-parents.new.self c.count_down.new.nodes ids (length ids))
-    c.as_slice.ensures c.count_down.ensures.counted in
-    let is = drop_graph (limits_of c.self.inside) c.self.inside.nodes c.remove-parents.new.self c.self.inside.births c.self.invariant.sound
-    c.self.invariant.children c.args.n movable alone free c.remove-parents.result c.remove-parents.ensures.value c.remove-parents.ensures.updates
-    c.remove-parents.ensures.len c.count_down.new.nodes re in
+    let re = subst (λ (ids : List NodeId). AreRecounted (λ children. children - 1) c.remove-body.new.self c.count_down.new.nodes ids (length ids))
+    c.parents.ensures c.count_down.ensures.counted in
+    let is = drop_graph (limits_of c.self.inside) c.self.inside.nodes c.remove-body.new.self c.self.inside.births c.self.invariant.sound
+    c.self.invariant.children c.args.n movable alone free c.remove-body.result c.remove-body.ensures.value c.remove-body.ensures.updates
+    c.remove-body.ensures.len c.count_down.new.nodes re in
     record { removed = is ∙ ap (λ (v : View). without_branch (graph_of v) c.args.n) c.self.view_is }

@@ -10,14 +10,14 @@ use Rattle.gl_graph.specs.Changes.{without_branch}
 use Rattle.gl_graph.specs.Grown.{AreStored, AreGone, AreRecounted, EachKeeps}
 use Rattle.gl_graph.specs.Refusals.{is_in_use}
 use Rattle.gl_graph.specs.View.{View, graph_of}
-use Rattle.gl_graph.specs.Seen.{shape_in_body, intervals_in_body, body_without_index}
+use Rattle.gl_graph.specs.Seen.{shape_in_body, parents_in_body, intervals_in_body, body_without_index}
 use Rattle.gl_graph.specs.Sound.{limits_of}
 use Rattle.gl_graph.proofs.SoundBranch.{index_contained, is_stored_index, are_stored, file_contained, index_down_stored, index_down_some}
 use Rattle.gl_graph.proofs.SoundBranch.{index_down_keeps, index_down_sound, index_down_graph}
 use Rattle.gl_graph.proofs.graph.Graph.remove_index.Goals as goal
 
-pub remove-parents-requires : goal.remove-parents-requires
-remove-parents-requires c =
+pub remove-body-requires : goal.remove-body-requires
+remove-body-requires c =
     let index = subst (λ (v : View). is_index_shape (shape_of (graph_of v) c.args.index) ≡ true) (sym c.self.view_is) c.requires.index in
     let free = subst (λ (v : View). is_in_use (graph_of v) c.args.index ≡ false) (sym c.self.view_is) c.requires.free in
     index_contained (limits_of c.self.inside) c.self.inside.nodes c.self.inside.births c.self.invariant.sound c.args.index index free
@@ -27,43 +27,44 @@ unreachable-requires c =
     let index = subst (λ (v : View). is_index_shape (shape_of (graph_of v) c.args.index) ≡ true) (sym c.self.view_is) c.requires.index in
     let free = subst (λ (v : View). is_in_use (graph_of v) c.args.index ≡ false) (sym c.self.view_is) c.requires.free in
     is_stored_index (limits_of c.self.inside) c.self.inside.nodes c.self.inside.births c.self.invariant.sound c.args.index index free
-    c.remove-parents.result c.remove-parents.ensures.value c.in_default.not-Index
+    c.remove-body.result c.remove-body.ensures.value c.in_default.not-Index
 
 pub remove_all-requires : goal.remove_all-requires
 remove_all-requires c =
     let index = subst (λ (v : View). is_index_shape (shape_of (graph_of v) c.args.index) ≡ true) (sym c.self.view_is) c.requires.index in
     let free = subst (λ (v : View). is_in_use (graph_of v) c.args.index ≡ false) (sym c.self.view_is) c.requires.free in
     let listed = c.as_slice.ensures.value ∙ ap (λ (b : IndexBody). b.intervals.items) c.deref.ensures ∙ sym (ap intervals_in_body c.in-Index.is) in
-    subst (AreStored c.remove-parents.new.self) (sym listed)
-    (are_stored (limits_of c.self.inside) c.self.inside.nodes c.remove-parents.new.self c.self.inside.births c.self.invariant.sound c.args.index index free
-    c.remove-parents.result c.remove-parents.ensures.value c.in-Index.kept.value.file c.in-Index.kept.value.bounds.items (ap shape_in_body c.in-Index.is)
-    c.remove-parents.ensures.updates c.remove-parents.ensures.len)
+    subst (AreStored c.remove-body.new.self) (sym listed)
+    (are_stored (limits_of c.self.inside) c.self.inside.nodes c.remove-body.new.self c.self.inside.births c.self.invariant.sound c.args.index index free
+    c.remove-body.result c.remove-body.ensures.value c.in-Index.kept.value.file c.in-Index.kept.value.bounds.items (ap shape_in_body c.in-Index.is)
+    c.remove-body.ensures.updates c.remove-body.ensures.len)
 
 pub unlist_index-requires : goal.unlist_index-requires
 unlist_index-requires c =
     let index = subst (λ (v : View). is_index_shape (shape_of (graph_of v) c.args.index) ≡ true) (sym c.self.view_is) c.requires.index in
     let free = subst (λ (v : View). is_in_use (graph_of v) c.args.index ≡ false) (sym c.self.view_is) c.requires.free in
     let listed = c.as_slice.ensures.value ∙ ap (λ (b : IndexBody). b.intervals.items) c.deref.ensures ∙ sym (ap intervals_in_body c.in-Index.is) in
-    let taken = subst (λ (ids : List NodeId). AreGone c.remove-parents.new.self c.remove_all.new.nodes ids (length ids)) listed c.remove_all.ensures.gone in
+    let taken = subst (λ (ids : List NodeId). AreGone c.remove-body.new.self c.remove_all.new.nodes ids (length ids)) listed c.remove_all.ensures.gone in
     ap (λ (b : IndexBody). is_some (get c.remove_all.new.nodes b.file.key)) c.deref-2.ensures
-    ∙ file_contained (limits_of c.self.inside) c.self.inside.nodes c.remove-parents.new.self c.self.inside.births c.self.invariant.sound c.args.index index free
-    c.remove-parents.result c.remove-parents.ensures.value c.in-Index.kept.value.file c.in-Index.kept.value.bounds.items (ap shape_in_body c.in-Index.is)
-    c.remove-parents.ensures.updates c.remove-parents.ensures.len c.remove_all.new.nodes taken
+    ∙ file_contained (limits_of c.self.inside) c.self.inside.nodes c.remove-body.new.self c.self.inside.births c.self.invariant.sound c.args.index index free
+    c.remove-body.result c.remove-body.ensures.value c.in-Index.kept.value.file c.in-Index.kept.value.bounds.items (ap shape_in_body c.in-Index.is)
+    c.remove-body.ensures.updates c.remove-body.ensures.len c.remove_all.new.nodes taken
 
 pub count_down-requires-clause-stored : goal.count_down-requires-clause-stored
 count_down-requires-clause-stored c =
     let index = subst (λ (v : View). is_index_shape (shape_of (graph_of v) c.args.index) ≡ true) (sym c.self.view_is) c.requires.index in
     let free = subst (λ (v : View). is_in_use (graph_of v) c.args.index ≡ false) (sym c.self.view_is) c.requires.free in
     let listed = c.as_slice.ensures.value ∙ ap (λ (b : IndexBody). b.intervals.items) c.deref.ensures ∙ sym (ap intervals_in_body c.in-Index.is) in
-    let taken = subst (λ (ids : List NodeId). AreGone c.remove-parents.new.self c.remove_all.new.nodes ids (length ids)) listed c.remove_all.ensures.gone in
+    let taken = subst (λ (ids : List NodeId). AreGone c.remove-body.new.self c.remove_all.new.nodes ids (length ids)) listed c.remove_all.ensures.gone in
     let written = subst (λ (b : IndexBody). (y : Stored) → get c.remove_all.new.nodes b.file.key ≡ Some y
     → Updates c.remove_all.new.nodes c.unlist_index.new.nodes b.file.key (Some (record y { body = body_without_index y.body c.args.index })))
     c.deref-2.ensures c.unlist_index.ensures.written in
-    subst (AreStored c.unlist_index.new.nodes) (sym c.as_slice-2.ensures)
-    (index_down_stored (limits_of c.self.inside) c.self.inside.nodes c.remove-parents.new.self c.self.inside.births c.self.invariant.sound c.args.index
+    subst (AreStored c.unlist_index.new.nodes) (sym
+    (c.as_slice-2.ensures ∙ sym (ap parents_in_body c.in-Index.is)))
+    (index_down_stored (limits_of c.self.inside) c.self.inside.nodes c.remove-body.new.self c.self.inside.births c.self.invariant.sound c.args.index
     index free
-    c.remove-parents.result c.remove-parents.ensures.value c.in-Index.kept.value.file c.in-Index.kept.value.bounds.items (ap shape_in_body c.in-Index.is)
-    c.remove-parents.ensures.updates c.remove-parents.ensures.len c.remove_all.new.nodes taken c.unlist_index.new.nodes written c.unlist_index.ensures.len
+    c.remove-body.result c.remove-body.ensures.value c.in-Index.kept.value.file c.in-Index.kept.value.bounds.items (ap shape_in_body c.in-Index.is)
+    c.remove-body.ensures.updates c.remove-body.ensures.len c.remove_all.new.nodes taken c.unlist_index.new.nodes written c.unlist_index.ensures.len
     c.self.invariant.children)
 
 pub count_down-requires-clause-some : goal.count_down-requires-clause-some
@@ -71,14 +72,15 @@ count_down-requires-clause-some c =
     let index = subst (λ (v : View). is_index_shape (shape_of (graph_of v) c.args.index) ≡ true) (sym c.self.view_is) c.requires.index in
     let free = subst (λ (v : View). is_in_use (graph_of v) c.args.index ≡ false) (sym c.self.view_is) c.requires.free in
     let listed = c.as_slice.ensures.value ∙ ap (λ (b : IndexBody). b.intervals.items) c.deref.ensures ∙ sym (ap intervals_in_body c.in-Index.is) in
-    let taken = subst (λ (ids : List NodeId). AreGone c.remove-parents.new.self c.remove_all.new.nodes ids (length ids)) listed c.remove_all.ensures.gone in
+    let taken = subst (λ (ids : List NodeId). AreGone c.remove-body.new.self c.remove_all.new.nodes ids (length ids)) listed c.remove_all.ensures.gone in
     let written = subst (λ (b : IndexBody). (y : Stored) → get c.remove_all.new.nodes b.file.key ≡ Some y
     → Updates c.remove_all.new.nodes c.unlist_index.new.nodes b.file.key (Some (record y { body = body_without_index y.body c.args.index })))
     c.deref-2.ensures c.unlist_index.ensures.written in
-    subst (EachKeeps (λ children. 1 ≤ children) c.unlist_index.new.nodes) (sym c.as_slice-2.ensures)
-    (index_down_some (limits_of c.self.inside) c.self.inside.nodes c.remove-parents.new.self c.self.inside.births c.self.invariant.sound c.args.index index free
-    c.remove-parents.result c.remove-parents.ensures.value c.in-Index.kept.value.file c.in-Index.kept.value.bounds.items (ap shape_in_body c.in-Index.is)
-    c.remove-parents.ensures.updates c.remove-parents.ensures.len c.remove_all.new.nodes taken c.unlist_index.new.nodes written c.unlist_index.ensures.len
+    subst (EachKeeps (λ children. 1 ≤ children) c.unlist_index.new.nodes) (sym
+    (c.as_slice-2.ensures ∙ sym (ap parents_in_body c.in-Index.is)))
+    (index_down_some (limits_of c.self.inside) c.self.inside.nodes c.remove-body.new.self c.self.inside.births c.self.invariant.sound c.args.index index free
+    c.remove-body.result c.remove-body.ensures.value c.in-Index.kept.value.file c.in-Index.kept.value.bounds.items (ap shape_in_body c.in-Index.is)
+    c.remove-body.ensures.updates c.remove-body.ensures.len c.remove_all.new.nodes taken c.unlist_index.new.nodes written c.unlist_index.ensures.len
     c.self.invariant.children)
 
 pub invariant_of-self : goal.invariant_of-self
@@ -86,22 +88,23 @@ invariant_of-self c =
     let index = subst (λ (v : View). is_index_shape (shape_of (graph_of v) c.args.index) ≡ true) (sym c.self.view_is) c.requires.index in
     let free = subst (λ (v : View). is_in_use (graph_of v) c.args.index ≡ false) (sym c.self.view_is) c.requires.free in
     let listed = c.as_slice.ensures.value ∙ ap (λ (b : IndexBody). b.intervals.items) c.deref.ensures ∙ sym (ap intervals_in_body c.in-Index.is) in
-    let taken = subst (λ (ids : List NodeId). AreGone c.remove-parents.new.self c.remove_all.new.nodes ids (length ids)) listed c.remove_all.ensures.gone in
+    let taken = subst (λ (ids : List NodeId). AreGone c.remove-body.new.self c.remove_all.new.nodes ids (length ids)) listed c.remove_all.ensures.gone in
     let written = subst (λ (b : IndexBody). (y : Stored) → get c.remove_all.new.nodes b.file.key ≡ Some y
     → Updates c.remove_all.new.nodes c.unlist_index.new.nodes b.file.key (Some (record y { body = body_without_index y.body c.args.index })))
     c.deref-2.ensures c.unlist_index.ensures.written in
     let re = subst (λ (ids : List NodeId). AreRecounted (λ children. children - 1) c.unlist_index.new.nodes c.count_down.new.nodes ids (length ids))
-    c.as_slice-2.ensures c.count_down.ensures.counted in
+    (c.as_slice-2.ensures ∙ sym (ap parents_in_body c.in-Index.is))
+    c.count_down.ensures.counted in
     record {
-      sound = index_down_sound (limits_of c.self.inside) c.self.inside.nodes c.remove-parents.new.self c.self.inside.births c.self.invariant.sound
+      sound = index_down_sound (limits_of c.self.inside) c.self.inside.nodes c.remove-body.new.self c.self.inside.births c.self.invariant.sound
           c.args.index index free
-          c.remove-parents.result c.remove-parents.ensures.value c.in-Index.kept.value.file c.in-Index.kept.value.bounds.items (ap shape_in_body c.in-Index.is)
-          c.remove-parents.ensures.updates c.remove-parents.ensures.len c.remove_all.new.nodes taken c.unlist_index.new.nodes written c.unlist_index.ensures.len
+          c.remove-body.result c.remove-body.ensures.value c.in-Index.kept.value.file c.in-Index.kept.value.bounds.items (ap shape_in_body c.in-Index.is)
+          c.remove-body.ensures.updates c.remove-body.ensures.len c.remove_all.new.nodes taken c.unlist_index.new.nodes written c.unlist_index.ensures.len
           c.self.invariant.children c.count_down.new.nodes re;
-      children = index_down_keeps (limits_of c.self.inside) c.self.inside.nodes c.remove-parents.new.self c.self.inside.births c.self.invariant.sound
+      children = index_down_keeps (limits_of c.self.inside) c.self.inside.nodes c.remove-body.new.self c.self.inside.births c.self.invariant.sound
           c.args.index index free
-          c.remove-parents.result c.remove-parents.ensures.value c.in-Index.kept.value.file c.in-Index.kept.value.bounds.items (ap shape_in_body c.in-Index.is)
-          c.remove-parents.ensures.updates c.remove-parents.ensures.len c.remove_all.new.nodes taken c.unlist_index.new.nodes written c.unlist_index.ensures.len
+          c.remove-body.result c.remove-body.ensures.value c.in-Index.kept.value.file c.in-Index.kept.value.bounds.items (ap shape_in_body c.in-Index.is)
+          c.remove-body.ensures.updates c.remove-body.ensures.len c.remove_all.new.nodes taken c.unlist_index.new.nodes written c.unlist_index.ensures.len
           c.self.invariant.children c.count_down.new.nodes re;
     }
 
@@ -110,15 +113,16 @@ returns c =
     let index = subst (λ (v : View). is_index_shape (shape_of (graph_of v) c.args.index) ≡ true) (sym c.self.view_is) c.requires.index in
     let free = subst (λ (v : View). is_in_use (graph_of v) c.args.index ≡ false) (sym c.self.view_is) c.requires.free in
     let listed = c.as_slice.ensures.value ∙ ap (λ (b : IndexBody). b.intervals.items) c.deref.ensures ∙ sym (ap intervals_in_body c.in-Index.is) in
-    let taken = subst (λ (ids : List NodeId). AreGone c.remove-parents.new.self c.remove_all.new.nodes ids (length ids)) listed c.remove_all.ensures.gone in
+    let taken = subst (λ (ids : List NodeId). AreGone c.remove-body.new.self c.remove_all.new.nodes ids (length ids)) listed c.remove_all.ensures.gone in
     let written = subst (λ (b : IndexBody). (y : Stored) → get c.remove_all.new.nodes b.file.key ≡ Some y
     → Updates c.remove_all.new.nodes c.unlist_index.new.nodes b.file.key (Some (record y { body = body_without_index y.body c.args.index })))
     c.deref-2.ensures c.unlist_index.ensures.written in
     let re = subst (λ (ids : List NodeId). AreRecounted (λ children. children - 1) c.unlist_index.new.nodes c.count_down.new.nodes ids (length ids))
-    c.as_slice-2.ensures c.count_down.ensures.counted in
-    let is = index_down_graph (limits_of c.self.inside) c.self.inside.nodes c.remove-parents.new.self c.self.inside.births c.self.invariant.sound
+    (c.as_slice-2.ensures ∙ sym (ap parents_in_body c.in-Index.is))
+    c.count_down.ensures.counted in
+    let is = index_down_graph (limits_of c.self.inside) c.self.inside.nodes c.remove-body.new.self c.self.inside.births c.self.invariant.sound
     c.args.index index free
-    c.remove-parents.result c.remove-parents.ensures.value c.in-Index.kept.value.file c.in-Index.kept.value.bounds.items (ap shape_in_body c.in-Index.is)
-    c.remove-parents.ensures.updates c.remove-parents.ensures.len c.remove_all.new.nodes taken c.unlist_index.new.nodes written c.unlist_index.ensures.len
+    c.remove-body.result c.remove-body.ensures.value c.in-Index.kept.value.file c.in-Index.kept.value.bounds.items (ap shape_in_body c.in-Index.is)
+    c.remove-body.ensures.updates c.remove-body.ensures.len c.remove_all.new.nodes taken c.unlist_index.new.nodes written c.unlist_index.ensures.len
     c.self.invariant.children c.count_down.new.nodes re in
     record { removed = is ∙ ap (λ (v : View). without_branch (graph_of v) c.args.index) c.self.view_is }

@@ -8,7 +8,7 @@ use Rattle.gl_graph.specs.Shapes.{is_file_shape, is_record_shape, is_index_of_sh
 use Rattle.gl_graph.specs.Graph.{shape_of, first_parent, indexes_of, interval_of}
 use Rattle.gl_graph.specs.Changes.{rekeyed}
 use Rattle.gl_graph.specs.View.{View, graph_of}
-use Rattle.gl_graph.specs.Seen.{seen, with_key_at}
+use Rattle.gl_graph.specs.Seen.{seen, body_rekeyed}
 use Rattle.gl_graph.proofs.RecordParents.{its_file}
 use Rattle.gl_graph.proofs.SoundChildren.{rekeyed_keeps, record_with_key, stored_record}
 use Rattle.gl_graph.proofs.Rekey.{index_among, contained, key_there, parent_there, place_fits, rekeyed_graph, rekeyed_sound}
@@ -98,7 +98,7 @@ invariant_of-self c =
     ∙ ap (λ f. position (λ listed. same_node listed c.args.index) (indexes_of (graph_of c.args.self.now) f)) (sym c.file_of.ensures)
     ∙ c.index_place-place.ensures in
     let written = subst (λ (n : NodeId). (x : Stored) → get c.self.inside.nodes c.args.rec.key ≡ Some x
-    → Updates c.self.inside.nodes c.write_key.new.nodes c.args.rec.key (Some (with_key_at x c.index_place-place.result c.args.key n)))
+    → Updates c.self.inside.nodes c.write_key.new.nodes c.args.rec.key (Some (record x { body = body_rekeyed x.body c.index_place-place.result c.args.key n })))
     (c.interval_of-interval.ensures ∙ ap (λ (v : View). interval_of (graph_of v) c.args.index c.args.key) (sym c.self.view_is)) c.write_key.ensures.written in
     let sound = rekeyed_sound (limits_of c.self.inside) c.self.inside.nodes c.write_key.new.nodes c.self.inside.births c.self.invariant.sound c.args.rec
     c.args.index
@@ -109,8 +109,10 @@ invariant_of-self c =
     record {
       sound = sound;
       children = rekeyed_keeps (limits_of c.self.inside) c.self.inside.nodes c.write_key.new.nodes c.self.inside.births c.args.rec.key x.0
-          (with_key_at x.0 c.index_place-place.result c.args.key
-          (interval_of (graph_of (seen (limits_of c.self.inside) c.self.inside.nodes c.self.inside.births)) c.args.index c.args.key))
+          (record x.0 {
+            body = body_rekeyed x.0.body c.index_place-place.result c.args.key
+                (interval_of (graph_of (seen (limits_of c.self.inside) c.self.inside.nodes c.self.inside.births)) c.args.index c.args.key);
+          })
           c.self.invariant.sound sound c.self.invariant.children x.1 (written x.0 x.1) x.2 shape.0 x.3 shape.1;
     }
 
@@ -125,7 +127,7 @@ returns c =
     ∙ ap (λ f. position (λ listed. same_node listed c.args.index) (indexes_of (graph_of c.args.self.now) f)) (sym c.file_of.ensures)
     ∙ c.index_place-place.ensures in
     let written = subst (λ (n : NodeId). (x : Stored) → get c.self.inside.nodes c.args.rec.key ≡ Some x
-    → Updates c.self.inside.nodes c.write_key.new.nodes c.args.rec.key (Some (with_key_at x c.index_place-place.result c.args.key n)))
+    → Updates c.self.inside.nodes c.write_key.new.nodes c.args.rec.key (Some (record x { body = body_rekeyed x.body c.index_place-place.result c.args.key n })))
     (c.interval_of-interval.ensures ∙ ap (λ (v : View). interval_of (graph_of v) c.args.index c.args.key) (sym c.self.view_is)) c.write_key.ensures.written in
     let made = rekeyed_graph (limits_of c.self.inside) c.self.inside.nodes c.write_key.new.nodes c.self.inside.births c.self.invariant.sound c.args.rec
     c.args.index c.args.key c.index_place-place.result rec at written c.write_key.ensures.len in
