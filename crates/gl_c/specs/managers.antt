@@ -6,4 +6,5 @@ pub mod Held
 pub mod Managing
 pub mod Serving
 pub mod Session
+pub mod Showing
 pub mod Sound

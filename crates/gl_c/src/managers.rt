@@ -4,3 +4,4 @@ mod guarded;
 pub(crate) mod handle;
 mod managing;
 mod session;
+mod showing;

@@ -2,6 +2,7 @@
 //! of their own.
 
 ghost use Rattle.std.specs.Prelude.{◌≡◌, []};
+ghost use Rattle.gl_steps.specs.Step.{answer_of_lock};
 ghost use Rattle.gl_catalog.specs.Replies.{asking, began, doing, made, read_effect, read_mode, rising, said, took};
 
 use gl_modes::{Mode, NodeId, Refusal};
@@ -28,14 +29,23 @@ pub(crate) fn begun_answer(outcome: Result<TxnId, Refusal>) -> Answer
     }
 }
 
+/// A lock was asked for, and not refused.
+pub fn answer_of_lock(locked: Locked) -> Answer
+    ensures { result ≡ answer_of_lock locked }
+{
+    match locked {
+        Locked::Granted(mode) => Answer::Granted(mode),
+        Locked::Waiting => Answer::Waiting,
+        Locked::Victim => Answer::Victim,
+    }
+}
+
 /// A lock was asked for.
-pub fn lock_answer(outcome: Result<Locked, Refusal>) -> Answer
+pub(crate) fn lock_answer(outcome: Result<Locked, Refusal>) -> Answer
     ensures { result ≡ (said (asking []) outcome).0 }
 {
     match outcome {
-        Ok(Locked::Granted(mode)) => Answer::Granted(mode),
-        Ok(Locked::Waiting) => Answer::Waiting,
-        Ok(Locked::Victim) => Answer::Victim,
+        Ok(locked) => answer_of_lock(locked),
         Err(refusal) => Answer::Refused(refusal),
     }
 }

@@ -27,7 +27,7 @@ use Rattle.gl_window.specs.Boards.{Fine, ShowsWaits}
 
 module _ (s : State) (law : IsLawful s) (few : s.most ≤ most_slots) where
   -- who waits lives, and so does who is waited for
-  pub waiter_lives : (x y : ℕ) → waits_for s x y ≡ true → is_some (s.txns x) ≡ true
+  waiter_lives : (x y : ℕ) → waits_for s x y ≡ true → is_some (s.txns x) ≡ true
   waiter_lives x y h = txn_there (s.txns x) _ (step_is s x y h).2.waits
 
   pub awaited_lives : (x y : ℕ) → waits_for s x y ≡ true → is_some (s.txns y) ≡ true

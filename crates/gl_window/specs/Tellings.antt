@@ -41,12 +41,8 @@ spares_waits parties c a = false
 abbrev pub leaves_waits : Slots → Command → Answer → Told → Bool
 leaves_waits parties c a told = if has_none parties then not (leaves_waiting a) else is_empty told && spares_waits parties c a
 
--- all parties to waits, where it is known that the board that was shown last shows the waits: behind such a command it is known still
-abbrev pub still_parties : Option Slots → Command → Answer → Told → Option Slots
-still_parties None c a told = None
-still_parties (Some parties) c a told = if leaves_waits parties c a told then Some parties else None
-
--- the same behind a call of which it is known alone that it leaves nobody waiting where nobody waited
-abbrev pub still_nobody : Option Slots → Option Slots
-still_nobody None = None
-still_nobody (Some parties) = if has_none parties then Some parties else None
+-- all parties to waits, where it is known that the board that was shown last shows the waits: it is known still behind what, by these parties, is known to
+-- have left all waits as they were
+abbrev pub still_known : Option Slots → (Slots → Bool) → Option Slots
+still_known None leaves = None
+still_known (Some parties) leaves = if leaves parties then Some parties else None

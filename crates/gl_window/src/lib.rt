@@ -15,5 +15,5 @@ pub use history::{Head, Line};
 pub use now::board_now;
 pub use parties::parties_of;
 pub use publisher::{Publisher, WatchFault};
-pub use telling::{Telling, is_due, keep_nobody, keep_parties, leaves_waits, may_show_waits};
+pub use telling::{Telling, is_due, leaves_waits, may_show_waits};
 pub use watcher::Watcher;

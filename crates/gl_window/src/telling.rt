@@ -1,8 +1,8 @@
-//! When watchers are told, and of which waits they know.
+//! When watchers are told, and what is known to leave all waits as they were.
 
 ghost use Rattle.std.specs.Prelude.{◌≡◌, false};
 ghost use Rattle.gl_waits.specs.Boards.{ShowsNobody};
-ghost use Rattle.gl_window.specs.Tellings.{is_due, leaves_waits, spares_waits, still_nobody, still_parties};
+ghost use Rattle.gl_window.specs.Tellings.{is_due, leaves_waits, spares_waits};
 ghost use Rattle.gl_window.specs.declared.telling.Telling.TheVariants.{WhileWaiting};
 
 use gl_model::{Notice, TxnId};
@@ -37,36 +37,6 @@ pub fn may_show_waits(telling: Telling, board: &Board) -> bool
     ensures some { telling ≡ WhileWaiting → ShowsNobody board.now → result ≡ false }
 {
     telling == Telling::Always || !board.shows_nobody()
-}
-
-/// Notes all parties to waits, where it is known that the board that was shown last shows the waits: behind
-/// a command that was accepted it is known still, where the command is known to have left all waits as they
-/// were. Where nobody watches, nothing is known, and each command comes by here.
-#[inline(always)]
-pub fn keep_parties(
-    parties: &mut Option<Slots>,
-    command: &Command<'_>,
-    answer: &Answer,
-    told: &[(TxnId, Notice)],
-)
-    ensures { parties.new ≡ still_parties parties.old command.now answer.now told.now }
-{
-    if let Some(known) = *parties {
-        if !leaves_waits(known, command, answer, told) {
-            *parties = None;
-        }
-    }
-}
-
-/// The same behind a call of which it is known alone that it leaves nobody waiting where nobody waited.
-pub fn keep_nobody(parties: &mut Option<Slots>)
-    ensures { parties.new ≡ still_nobody parties.old }
-{
-    if let Some(known) = *parties {
-        if !known.is_empty() {
-            *parties = None;
-        }
-    }
 }
 
 /// Whether a command that was accepted is known to have left all waits as they were, by the parties to

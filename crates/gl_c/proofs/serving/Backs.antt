@@ -8,7 +8,7 @@ use Rattle.gl_modes.proofs.Words.{and_both, split}
 use Rattle.gl_modes.specs.declared.mode.Mode.TheVariants.{NL}
 use Rattle.gl_modes.specs.declared.node.NodeId.{NodeId}
 use Rattle.gl_modes.specs.Nodes.{same_node}
-use Rattle.gl_slots.specs.Slots.{has_slot}
+use Rattle.gl_slots.specs.Slots.{has_none, has_slot}
 use Rattle.gl_model.specs.declared.txn.Status.{Status}
 use Rattle.gl_model.specs.declared.txn.Status.TheVariants.{Active, Condemned, Waiting}
 use Rattle.gl_model.specs.declared.txn.TxnId.{TxnId}
@@ -43,7 +43,7 @@ use Rattle.gl_c.specs.locks.Savepoints.{ServesBack}
 use Rattle.gl_c.specs.managers.Serving.{ShowsOn}
 use Rattle.gl_c.proofs.serving.RowCalls.{leaves_idle, low}
 use Rattle.gl_c.proofs.serving.Serving.{Knows}
-use Rattle.gl_window.specs.Tellings.{still_nobody}
+use Rattle.gl_window.specs.Tellings.{still_known}
 
 -- One node after the other is unlocked: all live on, nobody begins to wait, and the limit and the way of detection stay.
 
@@ -135,7 +135,7 @@ pub back_some : (g after : GuardedView) (t : TxnId) (mark k : ℕ) (list : Told)
     → GoesBackTo t mark g.manager g.rows (Ok k) list v.manager v.rows → Delivers g.boxes list boxes
     → (after.manager ≡ v.manager) × (after.boxes ≡ boxes) × (after.ended ≡ ended) × (after.rows ≡ v.rows)
     → ((u : ℕ) → u < most_slots → has_slot ended u ≡ (false || list_any (λ x. x.0.slot == u) list))
-    → ShowsOn (is_none (still_nobody g.parties)) (board_of (state_of v.manager)) g.shown after.shown → Knows after.manager after.shown after.parties
+    → ShowsOn (is_none (still_known g.parties has_none)) (board_of (state_of v.manager)) g.shown after.shown → Knows after.manager after.shown after.parties
     → ServesBack g t mark (Ok k) list after
 back_some g after t mark k list v boxes ended h delivered kept slots shown knows =
     let same : registry_in after ≡ v = λ i. record { manager = kept.0 i; rows = kept.3 i } in (
@@ -148,7 +148,7 @@ back_some g after t mark k list v boxes ended h delivered kept slots shown knows
               (back_ended (registry_in g) v t mark k list h ended slots));
           slots = λ u below. ap (λ n. has_slot n u) kept.2 ∙ slots u below;
         };
-        shown = subst (λ (x : ManagerView). ShowsOn (is_none (still_nobody g.parties)) (board_of (state_of x)) g.shown after.shown) (sym kept.0) shown;
+        shown = subst (λ (x : ManagerView). ShowsOn (is_none (still_known g.parties has_none)) (board_of (state_of x)) g.shown after.shown) (sym kept.0) shown;
         known = knows;
       },
     )

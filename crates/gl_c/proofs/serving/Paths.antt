@@ -1,14 +1,14 @@
 -- What a path is to those who are told, who wait and who watch. For Guarded.serve_path.
 use Rattle.gl_slots.specs.declared.slots.Slots.{Slots}
 use Rattle.gl_slots.specs.Limit.{most_slots}
-use Rattle.std.specs.Prelude.{◌≡◌, ◌⊎◌, ℕ, zero, suc, ◌+◌, ◌<◌, ◌≤◌, ◌==◌, ◌||◌, not, Bool, true, false, [], ◌∷◌, length, OnErr, Option, Some, None, Result}
+use Rattle.std.specs.Prelude.{◌≡◌, ◌⊎◌, ℕ, zero, suc, ◌+◌, ◌<◌, ◌≤◌, ◌==◌, ◌||◌, not, Bool, true, false, [], length, OnErr, Option, Result}
 use Rattle.std.specs.Prelude.{Ok, Err, ◌&&◌, if◌then◌else◌}
 use Rattle.std.specs.List.{list_any}
-use Rattle.std.proofs.lemmas.Bool.Decides.{nat_tests}
 use Rattle.std.proofs.Common.{refl, sym, ap, subst, ◌∙◌, inl, inr, ⊎_elim, arith}
 use mathlib.Core.Bool.{true≢false}
 use Rattle.std.proofs.lemmas.Bool.{not-true}
-use Rattle.gl_modes.proofs.Words.{and_both, both as both_true, split}
+use Rattle.std.proofs.lemmas.List.{nil_from_length}
+use Rattle.gl_modes.proofs.Words.{and_both, both as both_true, same_number, split}
 use Rattle.gl_modes.specs.declared.mode.Mode.{Mode}
 use Rattle.gl_modes.specs.declared.node.NodeId.{NodeId}
 use Rattle.gl_slots.specs.Slots.{has_slot}
@@ -45,13 +45,14 @@ use Rattle.gl_wakes.proofs.Waking.{wakes_ended}
 use Rattle.gl_header.specs.Header.{is_empty}
 use Rattle.gl_model.specs.Lawful.{IsLawful}
 use Rattle.gl_slots.specs.Slots.{has_none}
-use Rattle.gl_window.proofs.Spared.{none_in as none_in_told, step_spares}
+use Rattle.gl_window.proofs.Spared.{none_in, step_spares}
 use Rattle.gl_window.proofs.Waits.{Spares, nobody_spared, none_waits, spared_itself, spares_then}
 use Rattle.gl_window.specs.Boards.{HasParties}
+use Rattle.gl_window.specs.Tellings.{still_known}
 use Rattle.gl_window.specs.Strip.{Strip}
 use Rattle.gl_c.proofs.serving.Showing.{knows_if}
 use Rattle.gl_c.specs.managers.Serving.{KnowsWaits}
-use Rattle.gl_c.specs.locks.Paths.{ends_waiting, goes_well, is_left_waiting, leaves_on_path, still_on_path}
+use Rattle.gl_c.specs.locks.Paths.{ends_waiting, goes_well, is_left_waiting, leaves_on_path}
 
 -- a lock leaves the limit of transactions
 settled_most : (c : Victims) (k : ℕ) (s s' : State) (t : ℕ) → SettledWithin c k s t s' → s'.most ≡ s.most
@@ -94,10 +95,6 @@ grant_is (answer.Escalated x) e = absurd (cc e)
 grant_is (answer.Mode m) e = absurd (cc e)
 grant_is (answer.Effect x) e = absurd (cc e)
 
-none_in : (told : Told) → (length told == 0) ≡ true → told ≡ []
-none_in [] e = refl
-none_in (x ∷ told) e = absurd (grind (arith, nat_tests, e))
-
 -- behind an ask that the path goes on from, nobody is told
 module _ (node asked : NodeId) (r : Says) (on : goes_on node asked r ≡ true) where
   both : (grants r.0 ≡ true) × ((length r.1 == 0) ≡ true)
@@ -107,7 +104,7 @@ module _ (node asked : NodeId) (r : Says) (on : goes_on node asked r ≡ true) w
   granted = grant_is r.0 both.0
 
   none_told : r.1 ≡ []
-  none_told = none_in r.1 both.1
+  none_told = nil_from_length r.1 (same_number (length r.1) 0 both.1)
 
 module _ (t : TxnId) (ask : Ask) (m : ManagerView) (first : Ask) (r : Says) (m' : ManagerView) (asks : AsksFirst t ask m first r m') where
   counts : Counts (state_of m) (lock_of t first) r.0 r.1 (state_of m')
@@ -243,25 +240,24 @@ module _ (t : TxnId) (ask : Ask) (m m' : ManagerView) (told : Told) where
 
     -- what is known of the waits behind it
     pub path_known : IsLawful (state_of m) → (state_of m).most ≤ most_slots → (shown : Option Strip) (parties : Option Slots)
-        → KnowsWaits (state_of m) shown parties → KnowsWaits (state_of m') shown (still_on_path parties t result told)
-    path_known law few shown None known = tt
-    path_known law few shown (Some set) known =
-        knows_if (state_of m) (state_of m') shown set (leaves_on_path set t result told) (λ e. by (has_none set) refl e) known
+        → KnowsWaits (state_of m) shown parties → KnowsWaits (state_of m') shown (still_known parties (λ known. leaves_on_path known t result told))
+    path_known law few shown parties =
+        knows_if (state_of m) (state_of m') shown parties (λ known. leaves_on_path known t result told) (λ set has. by set has (has_none set) refl)
       where
         well : (x : Result Reached Refusal) → goes_well x ≡ true → told ≡ []
             → (refuses (said (reaching told) x).0 ≡ true) ⊎ ((grants (said (reaching told) x).0 ≡ true) × ((said (reaching told) x).1 ≡ []))
         well (Ok x) e untold = inr (e, untold)
         well (Err x) e untold = inl refl
 
-        by : (b : Bool) → has_none set ≡ b
+        by : (set : Slots) → HasParties (state_of m) set → (b : Bool) → has_none set ≡ b
             → (if b then not (ends_waiting result) else is_empty told && (goes_well result && not (has_slot set t.slot))) ≡ true
             → Spares set (state_of m) (state_of m')
-        by true is e =
-            let idle = none_waits (state_of m) set known.0 is in
+        by set has true is e =
+            let idle = none_waits (state_of m) set has is in
             nobody_spared set (state_of m) (state_of m') idle (stays_quiet idle (not-true _ e))
-        by false is e =
+        by set has false is e =
             let b = and_both (is_empty told) _ e in let c = and_both (goes_well result) _ b.1 in
-            path_spares t ask path.1 says m' set path.0 m law few known.0 (not-true _ c.1) (well result c.0 (none_in_told told b.0)) path.2
+            path_spares t ask path.1 says m' set path.0 m law few has (not-true _ c.1) (well result c.0 (none_in told b.0)) path.2
 
     pub ended_told : (slots : Slots) → ((u : ℕ) → u < most_slots → has_slot slots u ≡ (false || list_any (λ x. x.0.slot == u) told))
         → HasEnded (state_of m) (state_of m') slots

@@ -1,9 +1,12 @@
 -- What a call about rows is to those who are told, who wait and who watch. For Guarded.serve_row.
 use Rattle.gl_slots.specs.declared.slots.Slots.{Slots}
 use Rattle.gl_slots.specs.Limit.{most_slots}
-use Rattle.std.specs.Prelude.{◌≡◌, ◌⊎◌, ℕ, ◌<◌, ◌≤◌, ◌==◌, ◌||◌, ◌&&◌, not, true, false, List, [], Option, Some, None, Result, Ok, Err, is_none, if◌then◌else◌}
+use Rattle.std.specs.Prelude.{◌≡◌, ◌⊎◌, ℕ, ◌<◌, ◌≤◌, ◌==◌, ◌||◌, ◌&&◌, not, true, false, List, []}
+use Rattle.std.specs.Prelude.{Option, Some, None, Result, Ok, Err, IfSome, is_none, if◌then◌else◌}
 use Rattle.std.specs.List.{list_any}
 use Rattle.std.proofs.Common.{refl, sym, ap, subst, ◌∙◌, inl, inr, arith}
+use Rattle.std.proofs.Math.Path.{fun_ext}
+use Rattle.std.proofs.lemmas.Option.{none-some, same_Some}
 use mathlib.Core.Bool.{true≢false}
 use denote.Bor.{Bor}
 use Rattle.gl_modes.specs.declared.node.NodeId.{NodeId}
@@ -47,12 +50,12 @@ use Rattle.gl_wakes.specs.Wakes.{HasEnded}
 use Rattle.gl_window.proofs.Waits.{Spares}
 use Rattle.gl_window.specs.Boards.{HasParties}
 use Rattle.gl_window.specs.Strip.{Strip}
-use Rattle.gl_window.specs.Tellings.{spares_waits, still_parties}
+use Rattle.gl_window.specs.Tellings.{leaves_waits, spares_waits, still_known}
 use Rattle.gl_wakes.proofs.Rising.{step_rises}
 use Rattle.gl_steps.proofs.Serving.{step_counts}
 use Rattle.gl_wakes.proofs.Waking.{wakes_ended}
 use Rattle.gl_c.specs.managers.Guarded.{GuardedView, registry_in}
-use Rattle.gl_c.specs.locks.Rows.{ServesRow, comes_to_nothing, still_by}
+use Rattle.gl_c.specs.locks.Rows.{ServesRow, comes_to_nothing}
 use Rattle.gl_c.specs.managers.Serving.{KnowsWaits, ShowsOn}
 use Rattle.gl_c.proofs.serving.Showing.{knows_on, knows_still}
 use Rattle.gl_header.specs.Header.{is_empty}
@@ -91,17 +94,10 @@ spares_as v u (call.Abort t) set a = refl
 spares_as v u (call.Cancel t) set a = refl
 spares_as v u (call.Escalate t n) set a = refl
 
-still_as : (v u : RowsView) (c : RowCall) (parties : Option Slots) (o : Option Answer) (told : Told)
-    → still_by parties (own_command v c) o told ≡ still_by parties (own_command u c) o told
-still_as v u c None o told = refl
-still_as v u c (Some set) None told = refl
-still_as v u c (Some set) (Some a) told =
-    ap (λ b. if (if has_none set then not (leaves_waiting a) else is_empty told && b) then Some set else None) (spares_as v u c set a)
-
--- a call that is answered is judged as its command is
-answered_by : (parties : Option Slots) (c : Command) (a : Answer) (told : Told) → still_parties parties c a told ≡ still_by parties c (Some a) told
-answered_by None c a told = refl
-answered_by (Some set) c a told = refl
+still_as : (v u : RowsView) (c : RowCall) (parties : Option Slots) (a : Answer) (told : Told)
+    → still_known parties (λ known. leaves_waits known (own_command v c) a told) ≡ still_known parties (λ known. leaves_waits known (own_command u c) a told)
+still_as v u c parties a told = ap (still_known parties)
+    (fun_ext (λ set. ap (λ b. if has_none set then not (leaves_waiting a) else is_empty told && b) (spares_as v u c set a)))
 
 -- no call only asks
 no_query : (v : RowsView) (c : RowCall) → is_query (own_command v c) ≡ false
@@ -217,22 +213,13 @@ low s s' (inl same) = let as_many = ap (λ (x : State). x.accepted) same in omeg
 low s s' (inr later) = omega (arith, later)
 
 module _ (m : ManagerView) (c : Command) (told : Told) (m' : ManagerView) where
-  -- the step, and its answer
-  record Done (o : Option Answer) : Type 0 where
-    pub answer : Answer
-    pub is : o ≡ Some answer
-    pub not_refused : is_refused answer ≡ false
-    pub amid : StepsAmid m c answer told m'
+  -- where it was not refused it is a step
+  steps : (o : Option Answer) (x : Answer) → o ≡ Some x → is_refused x ≡ false → CarriesOut m c o told m' → StepsAmid m c x told m'
+  steps None x is came h = absurd (none-some x is)
+  steps (Some a) x is came (inl amid) = subst (λ y. StepsAmid m c y told m') (same_Some a x is) amid
+  steps (Some a) x is came (inr err) = absurd (true≢false (sym err.0 ∙ refuses_is a ∙ ap is_refused (same_Some a x is) ∙ came))
 
-  done_by : (o : Option Answer) → CarriesOut m c o told m' → comes_to_nothing o ≡ false → Done o
-  done_by None h came = absurd (true≢false came)
-  done_by (Some a) (inl amid) came = record { answer = a; is = refl; not_refused = came; amid = amid }
-  done_by (Some a) (inr err) came = absurd (true≢false (sym err.0 ∙ refuses_is a ∙ came))
-
-  module _ (o : Option Answer) (done : Done o) where
-    abbrev h : StepsAmid m c done.answer told m'
-    h = done.amid
-
+  module _ (x : Answer) (came : is_refused x ≡ false) (h : StepsAmid m c x told m') where
     left_before : LeavesAll (state_of m) h.ahead
     left_before = upkeep_leaves (state_of m) h.ahead h.before
 
@@ -241,63 +228,63 @@ module _ (m : ManagerView) (c : Command) (told : Told) (m' : ManagerView) where
 
     counts_more : is_query c ≡ false → m.accepted < m'.accepted
     counts_more asks =
-        let one = (step_counts h.ahead c done.answer told h.behind h.step).accepted (λ i. not (asks i) && not (done.not_refused i)) in
+        let one = (step_counts h.ahead c x told h.behind h.step).accepted (λ i. not (asks i) && not (came i)) in
         let first = low (state_of m) h.ahead left_before.same_or_later in
         let last = low h.behind (state_of m') left_after.same_or_later in
         omega (arith, one, first, last)
 
     keeps_detect : (state_of m').detect ≡ (state_of m).detect
     keeps_detect =
-        ap (λ (x : State). x.detect) left_after.is ∙ steps_keep_detect h.ahead h.behind c done.answer told h.step ∙ ap (λ (x : State). x.detect) left_before.is
+        ap (λ (x : State). x.detect) left_after.is ∙ steps_keep_detect h.ahead h.behind c x told h.step ∙ ap (λ (x : State). x.detect) left_before.is
 
     told_rises : (state_of m).most ≤ most_slots → RisingTo 0 told most_slots
     told_rises few =
-        step_rises h.ahead c done.answer told h.behind (subst (λ n. n ≤ most_slots) (sym (ap (λ (x : State). x.most) left_before.is)) few) h.step
+        step_rises h.ahead c x told h.behind (subst (λ n. n ≤ most_slots) (sym (ap (λ (x : State). x.most) left_before.is)) few) h.step
 
     -- what is known of the waits behind it
     known_still : IsLawful (state_of m) → (state_of m).most ≤ most_slots → (shown : Option Strip) (parties : Option Slots)
-        → KnowsWaits (state_of m) shown parties → KnowsWaits (state_of m') shown (still_by parties c o told)
+        → KnowsWaits (state_of m) shown parties → KnowsWaits (state_of m') shown (still_known parties (λ known. leaves_waits known c x told))
     known_still law few shown parties known =
-        subst (λ x. KnowsWaits (state_of m') shown (still_by parties c x told)) (sym done.is)
-        (subst (KnowsWaits (state_of m') shown) (answered_by parties c done.answer told)
-        (knows_left h.behind (state_of m') left_after shown (still_parties parties c done.answer told)
-        (knows_still h.ahead h.behind shown parties c done.answer told (upkeep_law (state_of m) h.ahead law h.before)
+        knows_left h.behind (state_of m') left_after shown (still_known parties (λ set. leaves_waits set c x told))
+        (knows_still h.ahead h.behind shown parties c x told (upkeep_law (state_of m) h.ahead law h.before)
         (subst (λ n. n ≤ most_slots) (sym (ap (λ (x : State). x.most) left_before.is)) few) h.step
-        (knows_left (state_of m) h.ahead left_before shown parties known))))
+        (knows_left (state_of m) h.ahead left_before shown parties known))
 
     ends : (slots : Slots) → ((u : ℕ) → u < most_slots → has_slot slots u ≡ (names_slot c u || list_any (λ x. x.0.slot == u) told))
         → HasEnded (state_of m) (state_of m') slots
     ends slots is law u n below was gone =
-        wakes_ended c told slots is h.ahead h.behind done.answer h.step (upkeep_law (state_of m) h.ahead law h.before) u n below
+        wakes_ended c told slots is h.ahead h.behind x h.step (upkeep_law (state_of m) h.ahead law h.before) u n below
         (ap (λ (x : State). waits_on x u n) left_before.is ∙ was) (sym (ap (λ (x : State). waits_on x u n) left_after.is) ∙ gone)
 
 -- The same of a call.
 module _ (g : RegistryView) (c : RowCall) (a : RowAnswer) (told : Told) (v : RegistryView)
-    (own : CarriesOut g.manager (own_command (naming c g.rows v.rows) c) (answer_in a) told v.manager) (came : comes_to_nothing (answer_in a) ≡ false) where
+    (own : CarriesOut g.manager (own_command (naming c g.rows v.rows) c) (answer_in a) told v.manager) (x : Answer) (is : answer_in a ≡ Some x)
+    (came : is_refused x ≡ false) where
   abbrev command : Command
   command = own_command (naming c g.rows v.rows) c
 
-  abbrev done : Done g.manager command told v.manager (answer_in a)
-  done = done_by g.manager command told v.manager (answer_in a) own came
+  abbrev amid : StepsAmid g.manager command x told v.manager
+  amid = steps g.manager command told v.manager (answer_in a) x is came own
 
   pub row_counts : g.manager.accepted < v.manager.accepted
-  row_counts = counts_more g.manager command told v.manager (answer_in a) done (no_query (naming c g.rows v.rows) c)
+  row_counts = counts_more g.manager command told v.manager x came amid (no_query (naming c g.rows v.rows) c)
 
   pub row_detect : (state_of v.manager).detect ≡ (state_of g.manager).detect
-  row_detect = keeps_detect g.manager command told v.manager (answer_in a) done
+  row_detect = keeps_detect g.manager command told v.manager x came amid
 
   pub row_rises : (state_of g.manager).most ≤ most_slots → RisingTo 0 told most_slots
-  row_rises = told_rises g.manager command told v.manager (answer_in a) done
+  row_rises = told_rises g.manager command told v.manager x came amid
 
   pub row_known : IsLawful (state_of g.manager) → (state_of g.manager).most ≤ most_slots → (shown : Option Strip) (parties : Option Slots)
-      → KnowsWaits (state_of g.manager) shown parties → KnowsWaits (state_of v.manager) shown (still_by parties (own_command unnamed c) (answer_in a) told)
+      → KnowsWaits (state_of g.manager) shown parties
+      → KnowsWaits (state_of v.manager) shown (still_known parties (λ known. leaves_waits known (own_command unnamed c) x told))
   row_known law few shown parties known =
-      subst (KnowsWaits (state_of v.manager) shown) (sym (still_as unnamed (naming c g.rows v.rows) c parties (answer_in a) told))
-      (known_still g.manager command told v.manager (answer_in a) done law few shown parties known)
+      subst (KnowsWaits (state_of v.manager) shown) (sym (still_as unnamed (naming c g.rows v.rows) c parties x told))
+      (known_still g.manager command told v.manager x came amid law few shown parties known)
 
   row_ends : (slots : Slots) → ((u : ℕ) → u < most_slots → has_slot slots u ≡ (names_slot command u || list_any (λ x. x.0.slot == u) told))
       → HasEnded (state_of g.manager) (state_of v.manager) slots
-  row_ends = ends g.manager command told v.manager (answer_in a) done
+  row_ends = ends g.manager command told v.manager x came amid
 
 -- A call that came to nothing.
 pub row_none : (g : GuardedView) (c : RowCall) (a : RowAnswer) (told : Told) (v : RegistryView)
@@ -313,40 +300,51 @@ row_none g c a told v applies own so knows =
       counted = λ came. absurd (true≢false (sym so ∙ came));
       boxes = λ came. absurd (true≢false (sym so ∙ came));
       wakes = λ came. absurd (true≢false (sym so ∙ came));
-      shown = shows_same (is_none (still_by g.parties (own_command (naming c g.rows v.rows) c) (answer_in a) told)) (board_of (state_of v.manager)) g.shown;
+      shown = by (answer_in a);
       known = subst (λ (x : ManagerView). Knows x g.shown g.parties) (sym same.1) knows;
     }
+  where
+    by : (o : Option Answer)
+        → IfSome o (λ x. ShowsOn (is_none (still_known g.parties (λ known. leaves_waits known (own_command (naming c g.rows v.rows) c) x told)))
+        (board_of (state_of v.manager)) g.shown g.shown)
+    by None = tt
+    by (Some x) = shows_same (is_none (still_known g.parties (λ known. leaves_waits known (own_command (naming c g.rows v.rows) c) x told)))
+        (board_of (state_of v.manager)) g.shown
 
 -- One that came to something. Its notices went by the command that names no node.
 pub row_some : (g after : GuardedView) (c : RowCall) (a : RowAnswer) (told : Told) (v : RegistryView) (boxes : List Slot) (ended : Slots)
     → AppliesCall (registry_in g) c a told v → CarriesOut g.manager (own_command (naming c g.rows v.rows) c) (answer_in a) told v.manager
-    → comes_to_nothing (answer_in a) ≡ false
+    → (x : Answer) → answer_in a ≡ Some x → is_refused x ≡ false
     → ((mid : List Slot) × Delivers g.boxes told mid × (boxes ≡ emptied (own_command unnamed c) mid))
     → (after.manager ≡ v.manager) × (after.boxes ≡ boxes) × (after.ended ≡ ended) × (after.rows ≡ v.rows)
     → ((u : ℕ) → u < most_slots → has_slot ended u ≡ (names_slot (own_command unnamed c) u || list_any (λ x. x.0.slot == u) told))
-    → ShowsOn (is_none (still_by g.parties (own_command unnamed c) (answer_in a) told)) (board_of (state_of v.manager)) g.shown after.shown
+    → ShowsOn (is_none (still_known g.parties (λ known. leaves_waits known (own_command unnamed c) x told))) (board_of (state_of v.manager)) g.shown after.shown
     → Knows after.manager after.shown after.parties
     → ServesRow g c a told after
-row_some g after c a told v boxes ended applies own came delivered kept slots shown knows =
+row_some g after c a told v boxes ended applies own x is came delivered kept slots shown knows =
     let same : registry_in after ≡ v = λ i. record { manager = kept.0 i; rows = kept.3 i } in
     let named : (u : ℕ) → u < most_slots → has_slot ended u ≡ (names_slot (own_command (naming c g.rows v.rows) c) u || list_any (λ x. x.0.slot == u) told) =
     λ u below. slots u below ∙ ap (λ b. b || list_any (λ x. x.0.slot == u) told) (names_as unnamed (naming c g.rows v.rows) c u) in
     record {
       applies = subst (λ (x : RegistryView). AppliesCall (registry_in g) c a told x) (sym same) applies;
       own = subst (λ (x : RegistryView). CarriesOut g.manager (own_command (naming c g.rows x.rows) c) (answer_in a) told x.manager) (sym same) own;
-      nothing = λ so. absurd (true≢false (sym so ∙ came));
-      counted = λ _. subst (λ (x : RegistryView). g.manager.accepted < x.manager.accepted) (sym same) (row_counts (registry_in g) c a told v own came);
+      nothing = λ so. absurd (true≢false (sym so ∙ ap comes_to_nothing is ∙ came));
+      counted = λ _. subst (λ (x : RegistryView). g.manager.accepted < x.manager.accepted) (sym same) (row_counts (registry_in g) c a told v own x is came);
       boxes = λ _. (delivered.0, delivered.1, kept.1 ∙ delivered.2 ∙ emptied_as unnamed (naming c g.rows after.rows) c delivered.0);
       wakes = λ _. record {
         all = subst (λ (k : Slots). HasEnded (state_of g.manager) (state_of after.manager) k) (sym kept.2)
             (subst (λ (x : ManagerView). HasEnded (state_of g.manager) (state_of x) ended) (sym kept.0)
-            (row_ends (registry_in g) c a told v own came ended named));
+            (row_ends (registry_in g) c a told v own x is came ended named));
         slots = λ u below. ap (λ k. has_slot k u) kept.2 ∙ slots u below
             ∙ ap (λ b. b || list_any (λ x. x.0.slot == u) told) (names_as unnamed (naming c g.rows after.rows) c u);
       };
-      shown = subst (λ (x : ManagerView). ShowsOn (is_none (still_by g.parties (own_command (naming c g.rows after.rows) c) (answer_in a) told))
-          (board_of (state_of x)) g.shown after.shown) (sym kept.0)
+      shown = subst (λ (o : Option Answer). IfSome o (λ y. ShowsOn
+          (is_none (still_known g.parties (λ known. leaves_waits known (own_command (naming c g.rows after.rows) c) y told)))
+          (board_of (state_of after.manager)) g.shown after.shown)) (sym is)
+          (subst (λ (m : ManagerView). ShowsOn
+          (is_none (still_known g.parties (λ known. leaves_waits known (own_command (naming c g.rows after.rows) c) x told)))
+          (board_of (state_of m)) g.shown after.shown) (sym kept.0)
           (subst (λ (o : Option Slots). ShowsOn (is_none o) (board_of (state_of v.manager)) g.shown after.shown)
-          (still_as unnamed (naming c g.rows after.rows) c g.parties (answer_in a) told) shown);
+          (still_as unnamed (naming c g.rows after.rows) c g.parties x told) shown));
       known = knows;
     }

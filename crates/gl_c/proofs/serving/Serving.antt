@@ -19,11 +19,11 @@ use Rattle.gl_registry.proofs.Dropped.{unaccepted_leaves}
 use Rattle.gl_wakes.specs.Boxes.{Delivers, Slot, cleared, emptied}
 use Rattle.gl_steps.specs.Served.{accepts}
 use Rattle.gl_window.specs.Strip.{Strip}
-use Rattle.gl_window.specs.Tellings.{still_parties}
+use Rattle.gl_window.specs.Tellings.{leaves_waits, still_known}
 use Rattle.gl_wakes.proofs.Clearing.{cleared_not}
 use Rattle.gl_wakes.proofs.Notices.{delivers_none}
 use Rattle.gl_c.specs.managers.Guarded.{GuardedView, registry_in}
-use Rattle.gl_c.specs.locks.Paths.{ServesPath, still_on_path}
+use Rattle.gl_c.specs.locks.Paths.{ServesPath, leaves_on_path}
 use Rattle.gl_c.specs.managers.Serving.{KnowsWaits, Serves, ServesUnless, ShowsOn, Wakes}
 
 -- where nothing is shown
@@ -80,7 +80,7 @@ serves_not g c a told v applies not_so none same rows knows = record {
   boxes = (g.boxes, delivers_none told g.boxes none, sym (cleared_not c a g.boxes not_so));
   not_accepted = λ _. (same_view g v same (unaccepted_leaves c a g.rows v.rows not_so rows), none);
   wakes = λ so. absurd (true≢false (sym so ∙ not_so));
-  shown = shows_same (is_none (still_parties g.parties c a told)) (board_of (state_of v.manager)) g.shown;
+  shown = shows_same (is_none (still_known g.parties (λ known. leaves_waits known c a told))) (board_of (state_of v.manager)) g.shown;
   known = subst (λ (x : ManagerView). Knows x g.shown g.parties) (sym same) knows;
   rows = rows;
 }
@@ -91,7 +91,7 @@ pub serves_yes : (g after : GuardedView) (c : Command) (a : Answer) (told : Told
     → ((mid : List Slot) × Delivers g.boxes told mid × (boxes ≡ cleared c a mid))
     → (after.manager ≡ v.manager) × (after.boxes ≡ boxes) × (after.ended ≡ ended) × (after.rows ≡ v.rows)
     → Wakes c g.manager told v.manager ended
-    → ShowsOn (is_none (still_parties g.parties c a told)) (board_of (state_of v.manager)) g.shown after.shown
+    → ShowsOn (is_none (still_known g.parties (λ known. leaves_waits known c a told))) (board_of (state_of v.manager)) g.shown after.shown
     → Knows after.manager after.shown after.parties
     → Serves g c a told after
 serves_yes g after c a told v boxes ended applies so rows delivered kept wakes shown knows = record {
@@ -100,8 +100,8 @@ serves_yes g after c a told v boxes ended applies so rows delivered kept wakes s
   not_accepted = λ not_so. absurd (true≢false (sym so ∙ not_so));
   wakes = λ _. subst (λ (n : Slots). Wakes c g.manager told after.manager n) (sym kept.2)
       (subst (λ (x : ManagerView). Wakes c g.manager told x ended) (sym kept.0) wakes);
-  shown = subst (λ (x : ManagerView). ShowsOn (is_none (still_parties g.parties c a told)) (board_of (state_of x)) g.shown after.shown)
-      (sym kept.0) shown;
+  shown = subst (λ (x : ManagerView). ShowsOn (is_none (still_known g.parties (λ known. leaves_waits known c a told))) (board_of (state_of x)) g.shown
+      after.shown) (sym kept.0) shown;
   known = knows;
   rows = subst (λ (x : RowsView). LeavesRows (dropped_by c a) g.rows x) (sym kept.3) rows;
 }
@@ -117,7 +117,7 @@ path_none g t ask result told v way same none knows =
       none_accepted = λ _. (same_view g v same way.rows, none);
       boxes = λ later. absurd (omega (arith, later, as_many));
       wakes = λ later. absurd (omega (arith, later, as_many));
-      shown = shows_same (is_none (still_on_path g.parties t result told)) (board_of (state_of v.manager)) g.shown;
+      shown = shows_same (is_none (still_known g.parties (λ known. leaves_on_path known t result told))) (board_of (state_of v.manager)) g.shown;
       known = subst (λ (x : ManagerView). Knows x g.shown g.parties) (sym same) knows;
     }
 
@@ -127,7 +127,7 @@ pub path_some : (g after : GuardedView) (t : TxnId) (ask : Ask) (result : Result
     → ((mid : List Slot) × Delivers g.boxes told mid × (boxes ≡ emptied (lock_of t ask) mid))
     → (after.manager ≡ v.manager) × (after.boxes ≡ boxes) × (after.ended ≡ ended) × (after.rows ≡ v.rows)
     → Wakes (lock_of t ask) g.manager told v.manager ended
-    → ShowsOn (is_none (still_on_path g.parties t result told)) (board_of (state_of v.manager)) g.shown after.shown
+    → ShowsOn (is_none (still_known g.parties (λ known. leaves_on_path known t result told))) (board_of (state_of v.manager)) g.shown after.shown
     → Knows after.manager after.shown after.parties
     → ServesPath g t ask result told after
 path_some g after t ask result told v boxes ended way more delivered kept wakes shown knows =
@@ -139,7 +139,7 @@ path_some g after t ask result told v boxes ended way more delivered kept wakes 
       boxes = λ _. (delivered.0, delivered.1, kept.1 ∙ delivered.2);
       wakes = λ _. subst (λ (n : Slots). Wakes (lock_of t ask) g.manager told after.manager n) (sym kept.2)
           (subst (λ (x : ManagerView). Wakes (lock_of t ask) g.manager told x ended) (sym kept.0) wakes);
-      shown = subst (λ (x : ManagerView). ShowsOn (is_none (still_on_path g.parties t result told)) (board_of (state_of x)) g.shown after.shown)
-          (sym kept.0) shown;
+      shown = subst (λ (x : ManagerView). ShowsOn (is_none (still_known g.parties (λ known. leaves_on_path known t result told))) (board_of (state_of x))
+          g.shown after.shown) (sym kept.0) shown;
       known = knows;
     }

@@ -1,8 +1,7 @@
 -- What watchers are shown, for whoever shows: epochs, the way of detection, and lists that go on.
 use Rattle.gl_slots.specs.Limit.{most_slots}
 use Rattle.std.specs.Prelude.{◌≡◌, ◌⊎◌, ◌≤◌, ℕ, List, [], ◌∷◌, ◌++◌, Option, Some, None, Result, Ok, Err, IfSome, IfOk, Bool, true, false}
-use Rattle.std.specs.Prelude.{if◌then◌else◌, is_none}
-use Rattle.std.specs.Prelude.{is_some}
+use Rattle.std.specs.Prelude.{if◌then◌else◌, is_none, is_some}
 use Rattle.std.proofs.Common.{refl, sym, ap, subst, ◌∙◌, inl, inr, le_trans, ⊎_elim}
 use mathlib.Core.Bool.{true≢false}
 use mathlib.Core.List.{IsPrefix}
@@ -24,11 +23,18 @@ use Rattle.gl_window.specs.Strip.{Strip}
 use Rattle.gl_window.proofs.Fronts.{prefix_self, prefix_trans}
 use Rattle.gl_window.proofs.Spared.{waits_left}
 use Rattle.gl_window.proofs.Waits.{Spares, ends_still, nobody_spared, none_waits}
-use Rattle.gl_window.specs.Tellings.{leaves_waits, still_nobody, still_parties}
+use Rattle.gl_window.specs.Tellings.{leaves_waits, still_known}
 use Rattle.gl_window.proofs.Lists.{told_epoch}
 use Rattle.gl_window.specs.Window.{GoesOn}
 use Rattle.gl_window.specs.declared.publisher.WatchFault.{WatchFault}
 use Rattle.gl_c.specs.managers.Serving.{KnowsWaits, ShowsOn}
+use Rattle.gl_registry.specs.Rows.{RegistryView}
+use Rattle.gl_wakes.specs.Boxes.{Slot}
+use Rattle.gl_model.specs.declared.answers.Detect.{Detect}
+use Rattle.gl_c.specs.declared.managers.guarded.Guarded.TheInside.{Inside}
+use Rattle.gl_c.specs.declared.managers.showing.Showing.{Showing}
+use Rattle.gl_c.specs.managers.Showing.{parties_in, shown_in}
+use Rattle.gl_c.specs.managers.Sound.{IsSound}
 use Rattle.gl_c.specs.watchers.Watching.{Continues}
 
 -- a manager that accepted more
@@ -53,26 +59,29 @@ pub knows_on : (s s' : State) (shown : Option Strip) (set : Slots) → Spares se
 knows_on s s' None set spares known = (spares.parties, tt)
 knows_on s s' (Some p) set spares known = (spares.parties, ends_still s s' spares.same p.list known.1)
 
--- it is where a test passes
-pub knows_if : (s s' : State) (shown : Option Strip) (set : Slots) (leaves : Bool) → (leaves ≡ true → Spares set s s') → KnowsWaits s shown (Some set)
-    → KnowsWaits s' shown (if leaves then Some set else None)
-knows_if s s' shown set true spares known = knows_on s s' shown set (spares refl) known
-knows_if s s' shown set false spares known = tt
+-- what is known still
+pub knows_if : (s s' : State) (shown : Option Strip) (parties : Option Slots) (leaves : Slots → Bool)
+    → ((set : Slots) → HasParties s set → leaves set ≡ true → Spares set s s') → KnowsWaits s shown parties
+    → KnowsWaits s' shown (still_known parties leaves)
+knows_if s s' shown None leaves spares known = tt
+knows_if s s' shown (Some set) leaves spares known = by (leaves set) (spares set known.0)
+  where
+    by : (b : Bool) → (b ≡ true → Spares set s s') → KnowsWaits s' shown (if b then Some set else None)
+    by true spared = knows_on s s' shown set (spared refl) known
+    by false spared = tt
 
--- what is known behind a step
+-- behind a step
 pub knows_still : (s s' : State) (shown : Option Strip) (parties : Option Slots) (c : Command) (a : Answer) (told : Told) → IsLawful s
-    → s.most ≤ most_slots → Step s c a told s' → KnowsWaits s shown parties → KnowsWaits s' shown (still_parties parties c a told)
-knows_still s s' shown None c a told law few step known = tt
-knows_still s s' shown (Some set) c a told law few step known =
-    knows_if s s' shown set (leaves_waits set c a told) (waits_left set s s' c a told law few known.0 step) known
+    → s.most ≤ most_slots → Step s c a told s' → KnowsWaits s shown parties
+    → KnowsWaits s' shown (still_known parties (λ known. leaves_waits known c a told))
+knows_still s s' shown parties c a told law few step =
+    knows_if s s' shown parties (λ known. leaves_waits known c a told) (λ set has. waits_left set s s' c a told law few has step)
 
 -- and behind a call that leaves nobody waiting where nobody waited
 pub knows_nobody : (s s' : State) (shown : Option Strip) (parties : Option Slots) → (NobodyWaits s → NobodyWaits s') → KnowsWaits s shown parties
-    → KnowsWaits s' shown (still_nobody parties)
-knows_nobody s s' shown None stays known = tt
-knows_nobody s s' shown (Some set) stays known =
-    knows_if s s' shown set (has_none set)
-    (λ e. let idle = none_waits s set known.0 e in nobody_spared set s s' idle (stays idle)) known
+    → KnowsWaits s' shown (still_known parties has_none)
+knows_nobody s s' shown parties stays =
+    knows_if s s' shown parties has_none (λ set has e. let idle = none_waits s set has e in nobody_spared set s s' idle (stays idle))
 
 -- what is known where the board of now was shown last
 pub shown_known : (m n : ManagerView) (list : List Board) (p : Strip) (parties : Option Slots) → n ≡ m → IsLawfulManager n
@@ -144,3 +153,23 @@ knows_last (Ok w) p q board now h is = (
         (h.1 ∙ ap (λ (b : Board). p.list ++ b ∷ []) is),
   ),
 )
+
+-- what is known still, by the words of what is guarded
+module _ (g : Inside) (v : RegistryView) (boxes : List Slot) (ended : Slots) (showing : Option Showing) (leaves : Slots → Bool)
+    (shown : shown_in showing ≡ shown_in g.showing) (parties : parties_in showing ≡ still_known (parties_in g.showing) leaves) where
+  pub sound_behind : IsSound g → g.registry.manager.accepted ≤ v.manager.accepted → v.manager.table.detect ≡ g.registry.manager.table.detect
+      → KnowsWaits (state_of v.manager) (shown_in g.showing) (still_known (parties_in g.showing) leaves)
+      → IsSound (record g { registry = v; boxes = boxes; ended = ended; showing = showing })
+  sound_behind sound low way known = record {
+    epoch = subst (λ (o : Option Strip). IfSome o (λ p. last_epoch 0 p.list ≤ v.manager.accepted)) (sym shown)
+        (later_epoch (shown_in g.showing) g.registry.manager.accepted v.manager.accepted low sound.epoch);
+    detect = subst (λ (o : Option Strip). IfSome o (λ p. p.detect ≡ v.manager.table.detect)) (sym shown)
+        (subst (λ (d : Detect). IfSome (shown_in g.showing) (λ p. p.detect ≡ d)) (sym way) sound.detect);
+    known = subst (λ (o : Option Slots). KnowsWaits (state_of v.manager) (shown_in showing) o) (sym parties)
+        (subst (λ (o : Option Strip). KnowsWaits (state_of v.manager) o (still_known (parties_in g.showing) leaves)) (sym shown) known);
+  }
+
+  pub shows_behind : (board : Board) (after : Option Strip) → ShowsOn (is_none (parties_in showing)) board (shown_in showing) after
+      → ShowsOn (is_none (still_known (parties_in g.showing) leaves)) board (shown_in g.showing) after
+  shows_behind board after h = subst (λ (o : Option Strip). ShowsOn (is_none (still_known (parties_in g.showing) leaves)) board o after) shown
+      (subst (λ (o : Option Slots). ShowsOn (is_none o) board (shown_in showing) after) parties h)

@@ -18,6 +18,7 @@ use Rattle.gl_slots.specs.Slots.{has_none, has_slot}
 use Rattle.gl_slots.specs.declared.slots.Slots.{Slots}
 use Rattle.gl_header.specs.Header.{is_empty}
 use Rattle.gl_registry.specs.Serving.{LocksWay}
+use Rattle.gl_window.specs.Tellings.{still_known}
 use Rattle.gl_wakes.specs.Boxes.{Delivers, Slot, emptied}
 use Rattle.gl_c.specs.declared.answers.notices.Notices.{Notices}
 use Rattle.gl_c.specs.declared.answers.reply.Reply.{Reply}
@@ -64,11 +65,6 @@ abbrev pub leaves_on_path : Slots → TxnId → Result Reached Refusal → Told 
 leaves_on_path parties t result told =
     if has_none parties then not (ends_waiting result) else is_empty told && (goes_well result && not (has_slot parties t.slot))
 
--- all parties to waits, where it is known that the board that was shown last shows the waits: behind such a path it is known still
-abbrev pub still_on_path : Option Slots → TxnId → Result Reached Refusal → Told → Option Slots
-still_on_path None t result told = None
-still_on_path (Some parties) t result told = if leaves_on_path parties t result told then Some parties else None
-
 -- a path is locked, as one command after the other; the notices stand in their boxes, but that the transaction's own is empty; whose wait was ended
 -- is known; watchers are shown the board behind it, whole, or nothing, and nothing where it is known to leave all waits; where no ask was accepted
 -- nothing changed
@@ -77,7 +73,7 @@ pub record ServesPath (g : GuardedView) (t : TxnId) (ask : Ask) (result : Result
   pub none_accepted : g'.manager.accepted ≡ g.manager.accepted → (g' ≡ g) × (told ≡ [])
   pub boxes : g.manager.accepted < g'.manager.accepted → (mid : List Slot) × Delivers g.boxes told mid × (g'.boxes ≡ emptied (lock_of t ask) mid)
   pub wakes : g.manager.accepted < g'.manager.accepted → Wakes (lock_of t ask) g.manager told g'.manager g'.ended
-  pub shown : ShowsOn (is_none (still_on_path g.parties t result told)) (board_of (state_of g'.manager)) g.shown g'.shown
+  pub shown : ShowsOn (is_none (still_known g.parties (λ known. leaves_on_path known t result told))) (board_of (state_of g'.manager)) g.shown g'.shown
   pub known : KnowsWaits (state_of g'.manager) g'.shown g'.parties
 
 -- a path is locked, and C is answered how far it came, and told whom it tells

@@ -1,5 +1,5 @@
 -- What a call about rows does to all that C's mutex guards.
-use Rattle.std.specs.Prelude.{◌≡◌, ◌<◌, Bool, true, false, [], List, Option, Some, None, is_none, if◌then◌else◌}
+use Rattle.std.specs.Prelude.{◌≡◌, ◌<◌, Bool, true, false, [], List, Option, Some, None, IfSome, is_none}
 use Rattle.gl_modes.specs.declared.node.NodeId.{NodeId}
 use Rattle.gl_modes.specs.declared.refusal.Refusal.TheVariants as no
 use Rattle.gl_model.specs.declared.answers.Locked.{Locked}
@@ -27,8 +27,7 @@ use Rattle.gl_c.specs.Numbers.{no_manager, not_rows, other_keys, victim, waiting
 use Rattle.gl_c.specs.locks.Paths.{reply_at}
 use Rattle.gl_c.specs.answers.Replies.{refused_reply, reply_of, status_reply}
 use Rattle.gl_c.specs.managers.Serving.{KnowsWaits, ShowsOn, Wakes}
-use Rattle.gl_window.specs.Tellings.{leaves_waits}
-use Rattle.gl_slots.specs.declared.slots.Slots.{Slots}
+use Rattle.gl_window.specs.Tellings.{leaves_waits, still_known}
 
 -- why a call comes to nothing: its command is refused, or its file is none of rows
 abbrev pub comes_to_nothing : Option Answer → Bool
@@ -38,16 +37,6 @@ comes_to_nothing (Some a) = is_refused a
 -- the command that a call carries out, by the names behind it
 abbrev pub own_of : GuardedView → RowCall → GuardedView → Command
 own_of g c g' = own_command (naming c g.rows g'.rows) c
-
--- whether a call that carries out this command is known to have left all waits as they were, by the parties to waits before it
-abbrev pub leaves_by : Slots → Command → Option Answer → Told → Bool
-leaves_by parties c None told = true
-leaves_by parties c (Some a) told = leaves_waits parties c a told
-
--- all parties to waits, where it is known that the board that was shown last shows the waits: behind such a call it is known still
-abbrev pub still_by : Option Slots → Command → Option Answer → Told → Option Slots
-still_by None c o told = None
-still_by (Some parties) c o told = if leaves_by parties c o told then Some parties else None
 
 -- a call about rows is carried out, by one step of its own command; its notices stand in their boxes, but that a lock empties its own slot's; whose wait
 -- was ended is known; watchers are shown the board behind it, whole, or nothing, and nothing where it is known to leave all waits; one that comes
@@ -59,7 +48,8 @@ pub record ServesRow (g : GuardedView) (c : RowCall) (a : RowAnswer) (told : Tol
   pub counted : comes_to_nothing (answer_in a) ≡ false → g.manager.accepted < g'.manager.accepted
   pub boxes : comes_to_nothing (answer_in a) ≡ false → (mid : List Slot) × Delivers g.boxes told mid × (g'.boxes ≡ emptied (own_of g c g') mid)
   pub wakes : comes_to_nothing (answer_in a) ≡ false → Wakes (own_of g c g') g.manager told g'.manager g'.ended
-  pub shown : ShowsOn (is_none (still_by g.parties (own_of g c g') (answer_in a) told)) (board_of (state_of g'.manager)) g.shown g'.shown
+  pub shown : IfSome (answer_in a) (λ own. ShowsOn (is_none (still_known g.parties (λ known. leaves_waits known (own_of g c g') own told)))
+      (board_of (state_of g'.manager)) g.shown g'.shown)
   pub known : KnowsWaits (state_of g'.manager) g'.shown g'.parties
 
 -- what C is answered for the lock of a row's node: one that is granted is held, also where the node's keys are others than those that were said

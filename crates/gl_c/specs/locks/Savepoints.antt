@@ -14,7 +14,8 @@ use Rattle.gl_c.specs.declared.answers.reply.Reply.{Reply}
 use Rattle.gl_c.specs.managers.Carries.{Declines}
 use Rattle.gl_c.specs.managers.Guarded.{GuardedView}
 use Rattle.gl_c.specs.managers.Serving.{KnowsWaits, ShowsOn, Wakes}
-use Rattle.gl_window.specs.Tellings.{still_nobody}
+use Rattle.gl_slots.specs.Slots.{has_none}
+use Rattle.gl_window.specs.Tellings.{still_known}
 use Rattle.gl_c.specs.Numbers.{no_manager}
 use Rattle.gl_c.specs.answers.Notices.{Tells}
 use Rattle.gl_c.specs.answers.Replies.{count_reply, refused_reply}
@@ -24,11 +25,11 @@ abbrev pub unlocking : TxnId → Command
 unlocking t = command.Unlock t no_node
 
 -- a transaction goes back to a mark; the notices stand in their boxes; whose wait was ended is known; watchers are shown the board behind it, whole, or
--- nothing
+-- nothing, and nothing where it is known that nobody waited
 pub record GoesBackThere (g : GuardedView) (t : TxnId) (told : Told) (g' : GuardedView) : Type 0 where
   pub boxes : Delivers g.boxes told g'.boxes
   pub wakes : Wakes (unlocking t) g.manager told g'.manager g'.ended
-  pub shown : ShowsOn (is_none (still_nobody g.parties)) (board_of (state_of g'.manager)) g.shown g'.shown
+  pub shown : ShowsOn (is_none (still_known g.parties has_none)) (board_of (state_of g'.manager)) g.shown g'.shown
   pub known : KnowsWaits (state_of g'.manager) g'.shown g'.parties
 
 -- so it is where that is not refused; else nothing changes, and nobody is told

@@ -13,7 +13,7 @@ use Rattle.gl_catalog.specs.Manager.{ManagerView, state_of}
 use Rattle.gl_registry.specs.Serving.{Applies, LeavesRows, dropped_by, touches_rows}
 use Rattle.gl_model.specs.State.{State}
 use Rattle.gl_window.specs.Boards.{EndsWithWaits, HasParties}
-use Rattle.gl_window.specs.Tellings.{still_parties}
+use Rattle.gl_window.specs.Tellings.{leaves_waits, still_known}
 use Rattle.gl_wakes.specs.Boxes.{Delivers, Slot, cleared}
 use Rattle.gl_steps.specs.Served.{accepts}
 use Rattle.gl_wakes.specs.Wakes.{names_slot}
@@ -49,7 +49,7 @@ pub record Serves (g : GuardedView) (c : Command) (a : Answer) (told : Told) (g'
   pub boxes : (mid : List Slot) × Delivers g.boxes told mid × (g'.boxes ≡ cleared c a mid)
   pub not_accepted : accepts c a ≡ false → (g' ≡ g) × (told ≡ [])
   pub wakes : accepts c a ≡ true → Wakes c g.manager told g'.manager g'.ended
-  pub shown : ShowsOn (is_none (still_parties g.parties c a told)) (board_of (state_of g'.manager)) g.shown g'.shown
+  pub shown : ShowsOn (is_none (still_known g.parties (λ known. leaves_waits known c a told))) (board_of (state_of g'.manager)) g.shown g'.shown
   pub known : KnowsWaits (state_of g'.manager) g'.shown g'.parties
   pub rows : LeavesRows (dropped_by c a) g.rows g'.rows
 

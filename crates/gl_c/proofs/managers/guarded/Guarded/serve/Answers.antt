@@ -1,9 +1,8 @@
 use Rattle.gl_slots.specs.Limit.{most_slots}
 use Rattle.std.proofs.Common.{arith, ◌≡◌, ◌≤◌, ◌<◌, ◌||◌, ◌==◌, ℕ, true, false, ap, subst, sym, ◌∙◌, List}
 use Rattle.std.specs.List.{list_any}
-use Rattle.std.specs.Prelude.{IfSome, Option, Some, is_none}
+use Rattle.std.specs.Prelude.{Some}
 use Rattle.gl_slots.specs.Slots.{has_slot}
-use Rattle.gl_model.specs.declared.answers.Detect.{Detect}
 use Rattle.gl_model.specs.declared.answers.Notice.{Notice}
 use Rattle.gl_model.specs.declared.txn.TxnId.{TxnId}
 use Rattle.gl_table.specs.Table.{board_of}
@@ -18,18 +17,17 @@ use Rattle.gl_wakes.specs.Boxes.{Delivers, Slot, emptied}
 use Rattle.gl_steps.specs.Served.{accepts}
 use Rattle.gl_wakes.specs.Notices.{RisingTo}
 use Rattle.gl_wakes.specs.Wakes.{names_slot}
-use Rattle.gl_window.specs.Strip.{Strip}
 use Rattle.gl_wakes.proofs.Clearing.{cleared_yes}
 use Rattle.gl_wakes.proofs.Rising.{step_rises}
 use Rattle.gl_steps.proofs.Serving.{step_counts}
 use Rattle.gl_wakes.proofs.Waking.{wakes_told}
 use Rattle.gl_c.specs.managers.Guarded.{GuardedView}
-use Rattle.gl_c.specs.managers.Serving.{KnowsWaits, ServesNodes, ShowsOn}
-use Rattle.gl_slots.specs.declared.slots.Slots.{Slots}
-use Rattle.gl_window.specs.Tellings.{still_parties}
+use Rattle.gl_c.specs.managers.Serving.{ServesNodes}
+use Rattle.gl_window.specs.Tellings.{leaves_waits, still_known}
+use Rattle.gl_c.specs.managers.Showing.{parties_in, shown_in}
 use Rattle.gl_c.specs.managers.Sound.{IsSound, view_of}
 use Rattle.gl_c.proofs.serving.Serving.{Made, made, same_registry, serves_not, serves_some, serves_yes}
-use Rattle.gl_c.proofs.serving.Showing.{knows_still, later_epoch}
+use Rattle.gl_c.proofs.serving.Showing.{knows_still, shows_behind, sound_behind}
 use Rattle.gl_c.proofs.managers.guarded.Guarded.serve.Goals as goal
 
 -- it is not accepted
@@ -81,9 +79,6 @@ ended_by-self-inside-requires c =
     subst (λ (l : List (TxnId × Notice)). RisingTo 0 l most_slots) (sym c.as_slice-2.ensures.value)
     (step_rises _ _ _ _ _ c.law.ensures.manager.few h.applies.step)
 
-pub keep-requires : goal.keep-requires
-keep-requires c = c.self.invariant.unwatched
-
 pub invariant_of-self-2 : goal.invariant_of-self-2
 invariant_of-self-2 c =
     let h = made c.self.inside.registry c.serve.new.self c.args.command c.in-Some.answer
@@ -93,16 +88,14 @@ invariant_of-self-2 c =
     let more = (step_counts _ _ _ _ _ step).accepted so in
     let low : c.self.inside.registry.manager.accepted ≤ c.serve.new.self.manager.accepted = omega (arith, more) in
     let way : c.serve.new.self.manager.table.detect ≡ c.self.inside.registry.manager.table.detect = steps_keep_detect _ _ _ _ _ step in
-    record {
-      epoch = later_epoch c.self.inside.publisher c.self.inside.registry.manager.accepted c.serve.new.self.manager.accepted low c.self.invariant.epoch;
-      detect = subst (λ (d : Detect). IfSome c.self.inside.publisher (λ (p : Strip). p.detect ≡ d)) (sym way) c.self.invariant.detect;
-      known = subst (KnowsWaits (state_of c.serve.new.self.manager) c.self.inside.publisher)
-          (sym (c.keep.ensures ∙ ap (still_parties c.self.inside.parties c.args.command c.in-Some.answer) c.as_slice-3.ensures.value))
-          (knows_still _ (state_of c.serve.new.self.manager) c.self.inside.publisher c.self.inside.parties c.args.command c.in-Some.answer
-          c.serve.new.told.items c.law.ensures.manager.lawful c.law.ensures.manager.few step c.self.invariant.known);
-      unwatched = λ e. c.keep.ensures
-          ∙ ap (λ (o : Option Slots). still_parties o c.args.command c.in-Some.answer c.as_slice-3.result.now) (c.self.invariant.unwatched e);
-    }
+    sound_behind c.self.inside c.serve.new.self c.deliver.new.self c.ended_by-self-inside.result c.keep.new.showing
+    (λ known. leaves_waits known c.args.command c.in-Some.answer c.serve.new.told.items) c.keep.ensures.shown
+    (c.keep.ensures.parties
+    ∙ ap (λ (l : Told). still_known (parties_in c.self.inside.showing) (λ known. leaves_waits known c.args.command c.in-Some.answer l))
+    c.as_slice-3.ensures.value)
+    c.self.invariant low way
+    (knows_still _ (state_of c.serve.new.self.manager) (shown_in c.self.inside.showing) (parties_in c.self.inside.showing) c.args.command c.in-Some.answer
+    c.serve.new.told.items c.law.ensures.manager.lawful c.law.ensures.manager.few step c.self.invariant.known)
 
 pub returns : goal.returns
 returns c =
@@ -125,7 +118,9 @@ returns c =
           → has_slot ended u ≡ (names_slot c.args.command u || list_any (λ (x : TxnId × Notice). x.0.slot == u) l))
           c.as_slice-2.ensures.value c.ended_by-self-inside.ensures.slots;
     })
-    (subst (λ (o : Option Slots). ShowsOn (is_none o) (board_of (state_of m)) c.self.inside.publisher c.show_if_due.new.self.shown)
-    (c.keep.ensures ∙ ap (still_parties c.self.inside.parties c.args.command answer) c.as_slice-3.ensures.value)
-    c.show_if_due.ensures.shown)
+    (shows_behind c.self.inside c.serve.new.self c.deliver.new.self ended c.keep.new.showing
+    (λ known. leaves_waits known c.args.command answer told) c.keep.ensures.shown
+    (c.keep.ensures.parties
+    ∙ ap (λ (l : Told). still_known (parties_in c.self.inside.showing) (λ known. leaves_waits known c.args.command answer l)) c.as_slice-3.ensures.value)
+    (board_of (state_of m)) c.show_if_due.new.self.shown c.show_if_due.ensures.shown)
     c.show_if_due.ensures.known))

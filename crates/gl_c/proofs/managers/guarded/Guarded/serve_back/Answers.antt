@@ -1,10 +1,9 @@
 use Rattle.gl_slots.specs.Limit.{most_slots}
-use Rattle.std.proofs.Common.{◌≡◌, ◌<◌, ◌||◌, ◌==◌, ℕ, List, ap, subst, sym, ◌∙◌}
+use Rattle.std.proofs.Common.{◌≡◌, ◌<◌, ◌||◌, ◌==◌, ℕ, List, subst, sym}
 use Rattle.std.proofs.lemmas.Result.{err_from_is_err_and}
 use Rattle.std.specs.List.{list_any}
-use Rattle.std.specs.Prelude.{Err, IfSome, Ok, Option, is_none}
-use Rattle.gl_slots.specs.Slots.{has_slot}
-use Rattle.gl_model.specs.declared.answers.Detect.{Detect}
+use Rattle.std.specs.Prelude.{Err, Ok}
+use Rattle.gl_slots.specs.Slots.{has_none, has_slot}
 use Rattle.gl_model.specs.declared.answers.Notice.{Notice}
 use Rattle.gl_model.specs.declared.txn.TxnId.{TxnId}
 use Rattle.gl_model.specs.Tellings.{Told}
@@ -12,17 +11,14 @@ use Rattle.gl_registry.specs.Rows.{RegistryView}
 use Rattle.gl_wakes.specs.Boxes.{Delivers, Slot, emptied}
 use Rattle.gl_wakes.specs.Notices.{RisingTo}
 use Rattle.gl_wakes.specs.Wakes.{names_slot}
-use Rattle.gl_window.specs.Strip.{Strip}
-use Rattle.gl_window.specs.Tellings.{still_nobody}
 use Rattle.gl_c.specs.managers.Guarded.{GuardedView}
 use Rattle.gl_c.specs.locks.Savepoints.{ServesBack, unlocking}
-use Rattle.gl_c.specs.managers.Serving.{KnowsWaits, ShowsOn}
+use Rattle.gl_c.specs.managers.Showing.{parties_in, shown_in}
 use Rattle.gl_c.specs.managers.Sound.{IsSound, view_of}
-use Rattle.gl_slots.specs.declared.slots.Slots.{Slots}
 use Rattle.gl_catalog.specs.Manager.{state_of}
 use Rattle.gl_table.specs.Table.{board_of}
 use Rattle.gl_c.proofs.serving.Backs.{back_counts, back_detect, back_quiet, back_rises, back_some}
-use Rattle.gl_c.proofs.serving.Showing.{knows_nobody, later_epoch}
+use Rattle.gl_c.proofs.serving.Showing.{knows_nobody, shows_behind, sound_behind}
 use Rattle.gl_c.proofs.managers.guarded.Guarded.serve_back.Goals.{After-from_residual}
 use Rattle.gl_c.proofs.managers.guarded.Guarded.serve_back.Goals as goal
 
@@ -64,15 +60,10 @@ invariant_of-self-2 c =
     let told = c.release_since.new.told.items in
     let back = c.in_ok-released.ensures in
     let way : v.manager.table.detect ≡ g.manager.table.detect = back_detect g v c.args.txn c.args.mark c.in_ok-released.released told back in
-    record {
-      epoch = later_epoch c.self.inside.publisher g.manager.accepted v.manager.accepted
-          (back_counts g v c.args.txn c.args.mark c.in_ok-released.released told back) c.self.invariant.epoch;
-      detect = subst (λ (d : Detect). IfSome c.self.inside.publisher (λ (p : Strip). p.detect ≡ d)) (sym way) c.self.invariant.detect;
-      known = subst (KnowsWaits (state_of v.manager) c.self.inside.publisher) (sym c.keep_nobody.ensures)
-          (knows_nobody (state_of g.manager) (state_of v.manager) c.self.inside.publisher c.self.inside.parties
-          (back_quiet g v c.args.txn c.args.mark c.in_ok-released.released told back) c.self.invariant.known);
-      unwatched = λ e. c.keep_nobody.ensures ∙ ap still_nobody (c.self.invariant.unwatched e);
-    }
+    sound_behind c.self.inside v c.deliver.new.self c.ended_by-self-inside.result c.keep_nobody.new.showing has_none c.keep_nobody.ensures.shown
+    c.keep_nobody.ensures.parties c.self.invariant (back_counts g v c.args.txn c.args.mark c.in_ok-released.released told back) way
+    (knows_nobody (state_of g.manager) (state_of v.manager) (shown_in c.self.inside.showing) (parties_in c.self.inside.showing)
+    (back_quiet g v c.args.txn c.args.mark c.in_ok-released.released told back) c.self.invariant.known)
 
 pub returns : goal.returns
 returns c =
@@ -87,6 +78,6 @@ returns c =
     (back_some (view_of c.self.inside) c.show_if_due.new.self c.args.txn c.args.mark c.in_ok-released.released told c.release_since.new.self
     c.deliver.new.self ended c.in_ok-released.ensures
     (subst (λ (b : List Slot). Delivers c.self.inside.boxes told b) (sym delivered.2) delivered.1) c.show_if_due.ensures.kept slots
-    (subst (λ (o : Option Slots). ShowsOn (is_none o) (board_of (state_of c.release_since.new.self.manager)) c.self.inside.publisher
-    c.show_if_due.new.self.shown) c.keep_nobody.ensures c.show_if_due.ensures.shown)
+    (shows_behind c.self.inside c.release_since.new.self c.deliver.new.self ended c.keep_nobody.new.showing has_none c.keep_nobody.ensures.shown
+    c.keep_nobody.ensures.parties (board_of (state_of c.release_since.new.self.manager)) c.show_if_due.new.self.shown c.show_if_due.ensures.shown)
     c.show_if_due.ensures.known)

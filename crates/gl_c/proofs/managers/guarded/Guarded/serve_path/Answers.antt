@@ -1,9 +1,7 @@
 use Rattle.gl_slots.specs.Limit.{most_slots}
 use Rattle.std.proofs.Common.{arith, ◌≡◌, ◌≤◌, ◌<◌, ◌||◌, ◌==◌, ℕ, [], List, ap, subst, sym, ◌∙◌}
 use Rattle.std.specs.List.{list_any}
-use Rattle.std.specs.Prelude.{IfSome, Option, is_none}
 use Rattle.gl_slots.specs.Slots.{has_slot}
-use Rattle.gl_model.specs.declared.answers.Detect.{Detect}
 use Rattle.gl_model.specs.declared.answers.Notice.{Notice}
 use Rattle.gl_model.specs.declared.txn.TxnId.{TxnId}
 use Rattle.gl_table.specs.Table.{board_of}
@@ -14,15 +12,14 @@ use Rattle.gl_registry.specs.Rows.{RegistryView}
 use Rattle.gl_wakes.specs.Boxes.{Delivers, Slot, emptied}
 use Rattle.gl_wakes.specs.Notices.{RisingTo}
 use Rattle.gl_wakes.specs.Wakes.{names_slot}
-use Rattle.gl_window.specs.Strip.{Strip}
+use Rattle.gl_window.specs.Tellings.{still_known}
 use Rattle.gl_c.specs.managers.Guarded.{GuardedView}
-use Rattle.gl_c.specs.locks.Paths.{ServesPath, still_on_path}
-use Rattle.gl_c.specs.managers.Serving.{KnowsWaits, ShowsOn}
-use Rattle.gl_slots.specs.declared.slots.Slots.{Slots}
+use Rattle.gl_c.specs.locks.Paths.{ServesPath, leaves_on_path}
+use Rattle.gl_c.specs.managers.Showing.{parties_in, shown_in}
 use Rattle.gl_c.specs.managers.Sound.{IsSound, view_of}
 use Rattle.gl_c.proofs.serving.Paths.{ended_told, keeps_detect, later_unless, path_known, same_if, told_rises}
 use Rattle.gl_c.proofs.serving.Serving.{counted_as, path_none, path_some, same_registry}
-use Rattle.gl_c.proofs.serving.Showing.{later_epoch}
+use Rattle.gl_c.proofs.serving.Showing.{shows_behind, sound_behind}
 use Rattle.gl_c.proofs.managers.guarded.Guarded.serve_path.Goals as goal
 
 -- nothing was accepted
@@ -72,18 +69,15 @@ invariant_of-self-2 c =
     keeps_detect c.args.txn (c.args.node, c.args.mode) c.self.inside.registry.manager c.lock_path-reached.new.self.manager
     c.lock_path-reached.new.told.items c.lock_path-reached.result c.lock_path-reached.ensures.untold
     c.lock_path-reached.ensures.path in
-    record {
-      epoch = later_epoch c.self.inside.publisher c.self.inside.registry.manager.accepted c.lock_path-reached.new.self.manager.accepted low
-          c.self.invariant.epoch;
-      detect = subst (λ (d : Detect). IfSome c.self.inside.publisher (λ (p : Strip). p.detect ≡ d)) (sym way) c.self.invariant.detect;
-      known = subst (KnowsWaits (state_of c.lock_path-reached.new.self.manager) c.self.inside.publisher)
-          (sym (c.keep_on_path.ensures ∙ ap (still_on_path c.self.inside.parties c.args.txn c.lock_path-reached.result) c.as_slice-3.ensures.value))
-          (path_known c.args.txn (c.args.node, c.args.mode) c.self.inside.registry.manager c.lock_path-reached.new.self.manager
-          c.lock_path-reached.new.told.items c.lock_path-reached.result c.lock_path-reached.ensures.untold c.lock_path-reached.ensures.path
-          c.law.ensures.manager.lawful c.law.ensures.manager.few c.self.inside.publisher c.self.inside.parties c.self.invariant.known);
-      unwatched = λ e. c.keep_on_path.ensures
-          ∙ ap (λ (o : Option Slots). still_on_path o c.args.txn c.lock_path-reached.result c.as_slice-3.result.now) (c.self.invariant.unwatched e);
-    }
+    sound_behind c.self.inside c.lock_path-reached.new.self c.deliver.new.self c.ended_by-self-inside.result c.keep_on_path.new.showing
+    (λ known. leaves_on_path known c.args.txn c.lock_path-reached.result c.lock_path-reached.new.told.items) c.keep_on_path.ensures.shown
+    (c.keep_on_path.ensures.parties
+    ∙ ap (λ (l : Told). still_known (parties_in c.self.inside.showing) (λ known. leaves_on_path known c.args.txn c.lock_path-reached.result l))
+    c.as_slice-3.ensures.value)
+    c.self.invariant low way
+    (path_known c.args.txn (c.args.node, c.args.mode) c.self.inside.registry.manager c.lock_path-reached.new.self.manager
+    c.lock_path-reached.new.told.items c.lock_path-reached.result c.lock_path-reached.ensures.untold c.lock_path-reached.ensures.path
+    c.law.ensures.manager.lawful c.law.ensures.manager.few (shown_in c.self.inside.showing) (parties_in c.self.inside.showing) c.self.invariant.known)
 
 pub returns : goal.returns
 returns c =
@@ -109,8 +103,10 @@ returns c =
           c.lock_path-reached.result c.lock_path-reached.ensures.untold c.lock_path-reached.ensures.path ended slots;
       slots = slots;
     })
-    (subst (λ (o : Option Slots). ShowsOn (is_none o) (board_of (state_of c.lock_path-reached.new.self.manager)) c.self.inside.publisher
-    c.show_if_due.new.self.shown)
-    (c.keep_on_path.ensures ∙ ap (still_on_path c.self.inside.parties c.args.txn c.lock_path-reached.result) c.as_slice-3.ensures.value)
-    c.show_if_due.ensures.shown)
+    (shows_behind c.self.inside c.lock_path-reached.new.self c.deliver.new.self ended c.keep_on_path.new.showing
+    (λ known. leaves_on_path known c.args.txn c.lock_path-reached.result told) c.keep_on_path.ensures.shown
+    (c.keep_on_path.ensures.parties
+    ∙ ap (λ (l : Told). still_known (parties_in c.self.inside.showing) (λ known. leaves_on_path known c.args.txn c.lock_path-reached.result l))
+    c.as_slice-3.ensures.value)
+    (board_of (state_of c.lock_path-reached.new.self.manager)) c.show_if_due.new.self.shown c.show_if_due.ensures.shown)
     c.show_if_due.ensures.known)

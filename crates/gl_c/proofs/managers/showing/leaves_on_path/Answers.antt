@@ -4,7 +4,7 @@ use Rattle.gl_header.specs.Header.{is_empty}
 use Rattle.gl_slots.proofs.SlotLemmas.{none-test}
 use Rattle.gl_slots.specs.Slots.{has_slot}
 use Rattle.gl_c.specs.locks.Paths.{ends_waiting, goes_well}
-use Rattle.gl_c.proofs.managers.guarded.leaves_on_path.Goals as goal
+use Rattle.gl_c.proofs.managers.showing.leaves_on_path.Goals as goal
 
 pub returns-then-is_empty : goal.returns-then-is_empty
 returns-then-is_empty c =

@@ -5,7 +5,7 @@ use Rattle.gl_table.specs.Table.{board_of}
 use Rattle.gl_catalog.specs.Manager.{state_of}
 use Rattle.gl_window.specs.Boards.{Fine}
 use Rattle.gl_c.proofs.serving.Showing.{either_board}
-use Rattle.gl_c.proofs.managers.guarded.show.Goals as goal
+use Rattle.gl_c.proofs.managers.showing.show.Goals as goal
 
 pub publish-requires-clause-fine : goal.publish-requires-clause-fine
 publish-requires-clause-fine c = subst (λ (d : Detect). Fine d c.board_now-board.result) (sym c.requires.detect) c.board_now-board.ensures.fine

@@ -1,0 +1,284 @@
+//! What watchers are shown, and what is known of the waits that the last board shows.
+
+ghost use Rattle.std.specs.Prelude.{◌≡◌, ◌≤◌, ◌⊎◌, ◌∷◌, ◌++◌, ◌↔◌, [], true, IfNone, IfOk, IfSome, IsSomeAnd, IsTrue, None, Ok, Some, is_none};
+ghost use Rattle.gl_slots.specs.Slots.{HasNoSlot, has_none};
+ghost use Rattle.gl_table.specs.Table.{board_of};
+ghost use Rattle.gl_catalog.specs.Manager.{IsLawfulManager, state_of};
+ghost use Rattle.gl_registry.specs.Applying.{answer_in};
+ghost use Rattle.gl_window.specs.Boards.{Ends, Fine, HasParties, last_epoch};
+ghost use Rattle.gl_window.specs.Tellings.{leaves_waits, still_known};
+ghost use Rattle.gl_c.specs.locks.Paths.{ends_waiting, goes_well, leaves_on_path};
+ghost use Rattle.gl_c.specs.managers.Serving.{KnowsWaits, ShowsOn};
+ghost use Rattle.gl_c.specs.managers.Showing.{parties_in, shown_in};
+ghost use Rattle.gl_c.specs.watchers.Watching.{Continues};
+
+use gl_catalog::replies::answer_of_lock;
+use gl_catalog::{Answer, Command, Manager, Reached};
+use gl_modes::Refusal;
+use gl_registry::RowAnswer;
+use gl_slots::Slots;
+use gl_steps::leaves_waiting;
+use gl_table::{Detect, Locked, Notice, TxnId};
+use gl_waits::Board;
+use gl_window::{Publisher, WatchFault, Watcher, board_now, leaves_waits, parties_of};
+use std::alloc::{AllocError, Global};
+
+/// The side that shows boards, once there was a watcher.
+#[derive(Drop)]
+pub(crate) struct Showing {
+    publisher: Publisher,
+    /// All parties to waits, where it is known that the board that watchers were shown last shows the
+    /// waits: then another would tell them nothing.
+    parties: Option<Slots>,
+}
+
+impl Showing {
+    /// Notes what is known of the waits, behind an accepted command. Where nobody waited and nobody waits
+    /// there is nothing to note.
+    #[inline(always)]
+    fn keep(&mut self, command: &Command<'_>, answer: &Answer, told: &[(TxnId, Notice)])
+        ensures shown { self.new.publisher ≡ self.old.publisher }
+        ensures parties { self.new.parties ≡ still_known self.old.parties (λ known. leaves_waits known command.now answer.now told.now) }
+    {
+        if self.is_idle() && !leaves_waiting(answer) {
+            return;
+        }
+        self.keep_waits(*command, *answer, told);
+    }
+
+    /// Whether it is known that nobody waits.
+    #[inline(always)]
+    fn is_idle(&self) -> bool
+        ensures { IsTrue result ↔ IsSomeAnd self.now.parties HasNoSlot }
+    {
+        match self.parties {
+            Some(known) => known.is_empty(),
+            None => false,
+        }
+    }
+
+    /// Notes what is known of the waits, behind an accepted command. It takes copies, so that a caller with
+    /// one kind of command needs none in memory.
+    #[inline(never)]
+    fn keep_waits(&mut self, command: Command<'_>, answer: Answer, told: &[(TxnId, Notice)])
+        ensures shown { self.new.publisher ≡ self.old.publisher }
+        ensures parties { self.new.parties ≡ still_known self.old.parties (λ known. leaves_waits known command.entry answer told.now) }
+    {
+        if let Some(known) = self.parties {
+            if !leaves_waits(known, &command, &answer, told) {
+                self.parties = None;
+            }
+        }
+    }
+
+    /// Shows the board of a manager where somebody watches and the last may lack a wait.
+    #[inline(always)]
+    pub(crate) fn show_if_due(&mut self, manager: &Manager)
+        requires rises { last_epoch 0 self.old.publisher.list ≤ manager.now.accepted }
+        requires detect { self.old.publisher.detect ≡ manager.now.table.detect }
+        requires known { KnowsWaits (state_of manager.now) (Some self.old.publisher) self.old.parties }
+        ensures shown { ShowsOn (is_none self.old.parties) (board_of (state_of manager.now)) (Some self.old.publisher) (Some self.new.publisher) }
+        ensures known { KnowsWaits (state_of manager.now) (Some self.new.publisher) self.new.parties }
+        ensures epoch { last_epoch 0 self.new.publisher.list ≤ manager.now.accepted }
+        ensures detect { self.new.publisher.detect ≡ manager.now.table.detect }
+    {
+        if self.parties.is_none() {
+            self.show_if_watched(manager);
+        }
+    }
+
+    /// Shows the board of a manager where somebody watches. No command whose waits are known comes by here,
+    /// and none is to pay for the room that this takes: so it is not inlined.
+    #[inline(never)]
+    fn show_if_watched(&mut self, manager: &Manager)
+        requires rises { last_epoch 0 self.old.publisher.list ≤ manager.now.accepted }
+        requires detect { self.old.publisher.detect ≡ manager.now.table.detect }
+        requires known { KnowsWaits (state_of manager.now) (Some self.old.publisher) self.old.parties }
+        ensures shown { ShowsOn true (board_of (state_of manager.now)) (Some self.old.publisher) (Some self.new.publisher) }
+        ensures known { KnowsWaits (state_of manager.now) (Some self.new.publisher) self.new.parties }
+        ensures epoch { last_epoch 0 self.new.publisher.list ≤ manager.now.accepted }
+        ensures detect { self.new.publisher.detect ≡ manager.now.table.detect }
+    {
+        if self.publisher.is_watched() {
+            self.parties = show(manager, &mut self.publisher);
+        }
+    }
+}
+
+/// Notes what is known of the waits, behind an accepted command. Where nobody ever watched nothing is.
+#[inline(always)]
+pub(crate) fn keep(
+    showing: &mut Option<Showing>,
+    command: &Command<'_>,
+    answer: &Answer,
+    told: &[(TxnId, Notice)],
+)
+    ensures shown { shown_in showing.new ≡ shown_in showing.old }
+    ensures parties { parties_in showing.new ≡ still_known (parties_in showing.old) (λ known. leaves_waits known command.now answer.now told.now) }
+{
+    if let Some(showing) = showing {
+        showing.keep(command, answer, told);
+    }
+}
+
+/// The same behind a call about rows that carried out this command, which may name no node.
+#[inline(always)]
+pub(crate) fn keep_row(
+    showing: &mut Option<Showing>,
+    own: &Command<'_>,
+    answer: RowAnswer,
+    told: &[(TxnId, Notice)],
+)
+    ensures shown { shown_in showing.new ≡ shown_in showing.old }
+    ensures parties { IfSome (answer_in answer)
+        (λ a. parties_in showing.new ≡ still_known (parties_in showing.old) (λ known. leaves_waits known own.now a told.now)) }
+{
+    if let Some(showing) = showing {
+        if let Some(answer) = answer_of(answer) {
+            showing.keep(own, &answer, told);
+        }
+    }
+}
+
+/// The same behind a path.
+#[inline(always)]
+pub(crate) fn keep_on_path(
+    showing: &mut Option<Showing>,
+    txn: TxnId,
+    reached: Result<Reached, Refusal>,
+    told: &[(TxnId, Notice)],
+)
+    ensures shown { shown_in showing.new ≡ shown_in showing.old }
+    ensures parties { parties_in showing.new ≡ still_known (parties_in showing.old) (λ known. leaves_on_path known txn reached told.now) }
+{
+    if let Some(showing) = showing {
+        showing.parties = showing
+            .parties
+            .filter(|known| leaves_on_path(*known, txn, reached, told));
+    }
+}
+
+/// The same behind a call of which it is known alone that it leaves nobody waiting where nobody waited.
+#[inline(always)]
+pub(crate) fn keep_nobody(showing: &mut Option<Showing>)
+    ensures shown { shown_in showing.new ≡ shown_in showing.old }
+    ensures parties { parties_in showing.new ≡ still_known (parties_in showing.old) has_none }
+{
+    if let Some(showing) = showing {
+        showing.parties = showing.parties.filter(|known| known.is_empty());
+    }
+}
+
+/// What the command of a call about rows is answered; `None` where its file is none of rows.
+#[inline(always)]
+pub(crate) fn answer_of(answer: RowAnswer) -> Option<Answer>
+    ensures { result ≡ answer_in answer }
+{
+    match answer {
+        RowAnswer::Locked(row) => Some(answer_of_lock(row.locked)),
+        RowAnswer::Answered(answer) => Some(answer),
+        RowAnswer::NotRows => None,
+    }
+}
+
+/// Whether a path is known to have left all waits as they were, by the parties to waits before it.
+fn leaves_on_path(
+    parties: Slots,
+    txn: TxnId,
+    reached: Result<Reached, Refusal>,
+    told: &[(TxnId, Notice)],
+) -> bool
+    ensures { result ≡ leaves_on_path parties txn reached told.now }
+{
+    if parties.is_empty() {
+        !ends_waiting(reached)
+    } else {
+        told.is_empty() && (goes_well(reached) && !parties.contains(txn.slot))
+    }
+}
+
+/// Whether the last ask of a path is granted, or refused.
+fn goes_well(reached: Result<Reached, Refusal>) -> bool
+    ensures { result ≡ goes_well reached }
+{
+    match reached {
+        Ok(reached) => matches!(reached.locked, Locked::Granted(_)),
+        Err(_) => true,
+    }
+}
+
+/// Whether a path leaves its transaction waiting.
+fn ends_waiting(reached: Result<Reached, Refusal>) -> bool
+    ensures { result ≡ ends_waiting reached }
+{
+    matches!(
+        reached,
+        Ok(Reached {
+            locked: Locked::Waiting,
+            ..
+        })
+    )
+}
+
+/// Shows the board of a manager, and says who are the parties to its waits; `None` for want of memory.
+/// A command that shows nothing is not to pay for the room that a board takes, so it is not inlined.
+#[inline(never)]
+fn show(manager: &Manager, publisher: &mut Publisher) -> Option<Slots>
+    requires rises { last_epoch 0 publisher.old.list ≤ manager.now.accepted }
+    requires detect { publisher.old.detect ≡ manager.now.table.detect }
+    ensures law { IsLawfulManager manager.now }
+    ensures shown { IfSome result (λ set. (publisher.new.list ≡ publisher.old.list ++ board_of (state_of manager.now) ∷ [])
+        × HasParties (state_of manager.now) set) }
+    ensures list { (publisher.new.list ≡ publisher.old.list) ⊎ (publisher.new.list ≡ publisher.old.list ++ board_of (state_of manager.now) ∷ []) }
+    ensures of { (publisher.new.book ≡ publisher.old.book) × (publisher.new.detect ≡ publisher.old.detect) }
+{
+    let board = board_now(manager);
+    if publisher.publish(board) {
+        Some(parties_of(manager))
+    } else {
+        None
+    }
+}
+
+/// A watcher that knows the board of now.
+pub(crate) fn watch(
+    showing: &mut Option<Showing>,
+    manager: &Manager,
+    alloc: Global,
+) -> Result<Watcher, WatchFault>
+    requires rises { IfSome (shown_in showing.old) (λ p. last_epoch 0 p.list ≤ manager.now.accepted) }
+    requires detect { IfSome (shown_in showing.old) (λ p. p.detect ≡ manager.now.table.detect) }
+    ensures goes_on { Continues (shown_in showing.old) (shown_in showing.new) }
+    ensures watcher { IfOk result (λ watcher. (shown_in showing.new ≡ Some watcher) × Ends watcher.list (board_of (state_of manager.now))) }
+    ensures unknown { parties_in showing.new ≡ None }
+    ensures epoch { IfSome (shown_in showing.new) (λ p. last_epoch 0 p.list ≤ manager.now.accepted) }
+    ensures detect { IfSome (shown_in showing.new) (λ p. p.detect ≡ manager.now.table.detect) }
+{
+    let now = board_now(manager);
+    let Ok(mut publisher) = publisher_of(showing.take(), alloc, now, manager.detect()) else {
+        return Err(WatchFault::NoMemory);
+    };
+    let watcher = publisher.watch(now);
+    *showing = Some(Showing {
+        publisher,
+        parties: None,
+    });
+    watcher
+}
+
+/// The publisher, or where there is none yet, one that shows this board.
+fn publisher_of(
+    showing: Option<Showing>,
+    alloc: Global,
+    board: Board,
+    detect: Detect,
+) -> Result<Publisher, AllocError>
+    requires fine { Fine detect board }
+    ensures same { IfSome (shown_in showing) (λ p. result ≡ Ok p) }
+    ensures first { IfNone (shown_in showing) (IfOk result (λ p. (p.list ≡ board ∷ []) × (p.detect ≡ detect))) }
+{
+    match showing {
+        Some(showing) => Ok(showing.publisher),
+        None => Publisher::new(alloc, board, detect),
+    }
+}
