@@ -144,9 +144,11 @@ fn applies(rt: &impl Abort, registry: &mut Registry, place: Place, call: Call, w
 fn make_files(rt: &impl Abort, registry: &mut Registry, place: Place, count: usize) {
     for _file in 0..count {
         let call = RowCall::File { parents: &[DB] };
-        if let RowAnswer::Answered(Answer::Node(file)) = registry.apply(call, &mut Told::new()) {
-            same(rt, (place, registry.has_rows(file)), (place, true));
-        }
+        let has_rows = match registry.apply(call, &mut Told::new()) {
+            RowAnswer::Answered(Answer::Node(file)) => registry.has_rows(file),
+            _ => false,
+        };
+        same(rt, (place, has_rows), (place, true));
     }
 }
 
