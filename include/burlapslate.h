@@ -67,7 +67,7 @@ extern "C" {
  * while the first is 0. The second rises where something is added, the third where neither. */
 #define BS_VERSION_MAJOR 0
 #define BS_VERSION_MINOR 18
-#define BS_VERSION_PATCH 0
+#define BS_VERSION_PATCH 1
 
 /* How many transactions can live at once, and so how many notices a call can have. A library can be built for another
  * number, and is then installed with headers that have it here. */
