@@ -130,8 +130,8 @@ file_slot limits s births sound n h =
 -- what is no index has no intervals
 pub no_intervals : (b : Body) → is_index_shape (Some (shape_in_body b)) ≡ false → intervals_in_body b ≡ []
 no_intervals (body.Inner children above) h = refl
-no_intervals (body.File above kept) h = refl
-no_intervals (body.Index above kept) h = absurd (no (sym h))
+no_intervals (body.File kept above) h = refl
+no_intervals (body.Index kept above) h = absurd (no (sym h))
 no_intervals (body.Interval place index) h = refl
 no_intervals (body.NoKey file) h = refl
 no_intervals (body.OneKey one above) h = refl

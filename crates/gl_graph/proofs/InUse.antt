@@ -4,7 +4,8 @@ use Rattle.std.proofs.Common.{refl, sym, ap, ap₂, ◌∙◌, subst}
 use Rattle.gl_modes.specs.declared.node.NodeId.{NodeId}
 use Rattle.slab.specs.Slab.{Slab}
 use Rattle.std.specs.Global.{Box}
-use Rattle.smallvec.specs.SmallVec.{SmallVec}
+use Rattle.std.specs.Prelude.{Vec}
+use Rattle.std.specs.declared.alloc.Global.{Global}
 use Rattle.gl_graph.specs.declared.node.Body.{Body}
 use Rattle.gl_graph.specs.declared.node.Body.TheVariants as body
 use Rattle.gl_graph.specs.declared.node.FileBody.{FileBody}
@@ -22,7 +23,7 @@ use Rattle.gl_graph.proofs.KindRules.{index_node}
 
 module _ (limits : Limits) (s : Slab Stored) (births : ℕ) (v : View) (sound : AreSound limits s births) (view : seen limits s births ≡ v) (n : NodeId)
     (x : Stored) (e : named s n ≡ Some x) where
-  pub file_in_use : (above : SmallVec NodeId) (kept : Box FileBody) → x.body ≡ body.File above kept
+  pub file_in_use : (above : Vec NodeId Global) (kept : Box FileBody) → x.body ≡ body.File kept above
       → is_in_use (graph_of v) n ≡ (nat_lt 0 kept.value.records || nat_lt 0 (length kept.value.indexes.items))
   file_in_use above kept is =
       let shape : shape_of (graph_of v) n ≡ Some (File kept.value.adopted) =
@@ -34,21 +35,21 @@ module _ (limits : Limits) (s : Slab Stored) (births : ℕ) (v : View) (sound : 
       ∙ ap (nat_lt 0) (sym (records_found limits s births v sound view n x e file) ∙ ap records_in_body is))
       (ap (λ (is : List NodeId). nat_lt 0 (length is)) (sym (indexes_found limits s births v sound view n x e file) ∙ ap indexes_in_body is))
 
-  index_shape : (above : SmallVec NodeId) (kept : Box IndexBody) → x.body ≡ body.Index above kept
+  index_shape : (above : Vec NodeId Global) (kept : Box IndexBody) → x.body ≡ body.Index kept above
       → shape_of (graph_of v) n ≡ Some (Index kept.value.file kept.value.bounds.items)
   index_shape above kept is = shape_found limits s births v sound view n x e ∙ ap (λ b. Some (shape_in_body b)) is
 
-  pub index_file : (above : SmallVec NodeId) (kept : Box IndexBody) → x.body ≡ body.Index above kept
+  pub index_file : (above : Vec NodeId Global) (kept : Box IndexBody) → x.body ≡ body.Index kept above
       → is_file_shape (shape_of (graph_of v) kept.value.file) ≡ true
   index_file above kept is =
       (index_node (graph_of v) (subst (λ (w : View). IsLawfulGraph (graph_of w)) view sound.lawful) n kept.value.file kept.value.bounds.items
       (index_shape above kept is)).file
 
-  pub index_in_use : (above : SmallVec NodeId) (kept : Box IndexBody) → x.body ≡ body.Index above kept
+  pub index_in_use : (above : Vec NodeId Global) (kept : Box IndexBody) → x.body ≡ body.Index kept above
       → is_in_use (graph_of v) n ≡ has_records (graph_of v) kept.value.file
   index_in_use above kept is = ap (is_shape_in_use (graph_of v) n) (index_shape above kept is)
 
-  pub inner_in_use : KeepChildren s (child_count s) → (children : ℕ) (above : SmallVec NodeId) → x.body ≡ body.Inner children above
+  pub inner_in_use : KeepChildren s (child_count s) → (children : ℕ) (above : Vec NodeId Global) → x.body ≡ body.Inner children above
       → is_in_use (graph_of v) n ≡ nat_lt 0 children
   inner_in_use keep children above is =
       let shape : shape_of (graph_of v) n ≡ Some Inner = shape_found limits s births v sound view n x e ∙ ap (λ b. Some (shape_in_body b)) is in
@@ -59,17 +60,17 @@ module _ (limits : Limits) (s : Slab Stored) (births : ℕ) (v : View) (sound : 
       ∙ ap (nat_lt 0) (sym (sym (ap children_in_body is) ∙ keep n.key x slot.0 (ap shape_in_body is)
       ∙ ap (λ b. child_count s (record { key = n.key; birth = b })) slot.1))
 
-  pub other_in_use : ((children : ℕ) (above : SmallVec NodeId) → x.body ≡ body.Inner children above → ⊥)
-      → ((above : SmallVec NodeId) (kept : Box FileBody) → x.body ≡ body.File above kept → ⊥)
-      → ((above : SmallVec NodeId) (kept : Box IndexBody) → x.body ≡ body.Index above kept → ⊥)
+  pub other_in_use : ((children : ℕ) (above : Vec NodeId Global) → x.body ≡ body.Inner children above → ⊥)
+      → ((kept : Box FileBody) (above : Vec NodeId Global) → x.body ≡ body.File kept above → ⊥)
+      → ((kept : Box IndexBody) (above : Vec NodeId Global) → x.body ≡ body.Index kept above → ⊥)
       → is_in_use (graph_of v) n ≡ false
   other_in_use no_inner no_file no_index =
       ap (is_shape_in_use (graph_of v) n) (shape_found limits s births v sound view n x e) ∙ by x.body refl
     where
       by : (b : Body) → x.body ≡ b → is_shape_in_use (graph_of v) n (Some (shape_in_body b)) ≡ false
       by (body.Inner children above) is = absurd (no_inner children above is)
-      by (body.File above kept) is = absurd (no_file above kept is)
-      by (body.Index above kept) is = absurd (no_index above kept is)
+      by (body.File kept above) is = absurd (no_file kept above is)
+      by (body.Index kept above) is = absurd (no_index kept above is)
       by (body.Interval place index) is = refl
       by (body.NoKey file) is = refl
       by (body.OneKey key above) is = refl

@@ -43,8 +43,8 @@ born_within limits s births sound k x e = (sound.lawful.born x.birth (ap is_some
 -- an inner node, a file: no index, no record
 plain_no_index : (b : Body) → IsPlainBody b → (f : NodeId) → is_index_of_shape f (Some (shape_in_body b)) ≡ false
 plain_no_index (body.Inner children above) p f = refl
-plain_no_index (body.File above kept) p f = refl
-plain_no_index (body.Index above kept) p f = absurd p
+plain_no_index (body.File kept above) p f = refl
+plain_no_index (body.Index kept above) p f = absurd p
 plain_no_index (body.Interval place index) p f = absurd p
 plain_no_index (body.NoKey file) p f = absurd p
 plain_no_index (body.OneKey one above) p f = absurd p
@@ -54,8 +54,8 @@ plain_no_index (body.ManyKeys keys above) p f = absurd p
 
 plain_no_record : (b : Body) → IsPlainBody b → is_record_shape (Some (shape_in_body b)) ≡ false
 plain_no_record (body.Inner children above) p = refl
-plain_no_record (body.File above kept) p = refl
-plain_no_record (body.Index above kept) p = absurd p
+plain_no_record (body.File kept above) p = refl
+plain_no_record (body.Index kept above) p = absurd p
 plain_no_record (body.Interval place index) p = absurd p
 plain_no_record (body.NoKey file) p = absurd p
 plain_no_record (body.OneKey one above) p = absurd p
@@ -125,14 +125,14 @@ module _ (limits : Limits) (old new : Slab Stored) (births key : ℕ) (x : Store
 
     new_kept : (b : Body) → x.body ≡ b → IsPlainBody b → KeepsBeside (born_node g node) id (vertex_of (record x { body = b })) (shape_in_body b)
     new_kept (body.Inner children above) e p = tt
-    new_kept (body.File above kept) e p = (
+    new_kept (body.File kept above) e p = (
       p.0 ∙ sym (one_indexes g sound.lawful node (plain_no_index x.body plain) id ∙ dead_indexes g sound.lawful id not_there),
       p.1
           ∙ sym (records_grown g sound.lawful (node ∷ []) id
           ∙ ap₂ (λ a b. a + b) (dead_records g sound.lawful id not_there)
           (count_cons (is_record_of (born_node g node) id) id [] ∙ ap (λ b. cond b 1 0 + 0) (not_record id))),
     )
-    new_kept (body.Index above kept) e p = absurd p
+    new_kept (body.Index kept above) e p = absurd p
     new_kept (body.Interval place index) e p = absurd p
     new_kept (body.NoKey file) e p = absurd p
     new_kept (body.OneKey one above) e p = absurd p

@@ -122,8 +122,8 @@ recounted_vertex x count = by x.body
   where
     by : (b : Body) → vertex_of (record x { body = body_with_children b count }) ≡ vertex_of (record x { body = b })
     by (body.Inner children above) = refl
-    by (body.File above kept) = refl
-    by (body.Index above kept) = refl
+    by (body.File kept above) = refl
+    by (body.Index kept above) = refl
     by (body.Interval place index) = refl
     by (body.NoKey file) = refl
     by (body.OneKey one above) = refl
@@ -133,8 +133,8 @@ recounted_vertex x count = by x.body
 
 children_written : (b : Body) (count : ℕ) → shape_in_body b ≡ Inner → children_in_body (body_with_children b count) ≡ count
 children_written (body.Inner children above) count e = refl
-children_written (body.File above kept) count e = cc
-children_written (body.Index above kept) count e = cc
+children_written (body.File kept above) count e = cc
+children_written (body.Index kept above) count e = cc
 children_written (body.Interval place index) count e = cc
 children_written (body.NoKey file) count e = cc
 children_written (body.OneKey one above) count e = cc

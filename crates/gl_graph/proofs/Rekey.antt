@@ -70,8 +70,8 @@ count_intervals_of g (j ∷ is) (k ∷ ks) e = ap suc (count_intervals_of g is k
 body_keys : (b : Body) (place key : ℕ) → is_record_shape (Some (shape_in_body b)) ≡ true
     → shape_in_body (body_with_key b place key) ≡ Rec (slice_set (keys_in (Some (shape_in_body b))) place key)
 body_keys (body.Inner children above) place key h = absurd (no h)
-body_keys (body.File above kept) place key h = absurd (no h)
-body_keys (body.Index above kept) place key h = absurd (no h)
+body_keys (body.File kept above) place key h = absurd (no h)
+body_keys (body.Index kept above) place key h = absurd (no h)
 body_keys (body.Interval at index) place key h = absurd (no h)
 body_keys (body.NoKey file) place key h = refl
 body_keys (body.OneKey one above) place key h = refl

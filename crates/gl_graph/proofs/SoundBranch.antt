@@ -10,7 +10,8 @@ use Rattle.gl_modes.proofs.Words.{split, cases_of, no, none_some, some_is, not_t
 use Rattle.gl_modes.specs.declared.node.NodeId.{NodeId}
 use Rattle.gl_modes.specs.Nodes.{same_node}
 use Rattle.slab.specs.Slab.{Slab, get, slab_len, ContainsKey, Updates}
-use Rattle.smallvec.specs.SmallVec.{SmallVec}
+use Rattle.std.specs.Prelude.{Vec}
+use Rattle.std.specs.declared.alloc.Global.{Global}
 use Rattle.gl_graph.specs.declared.node.Body.{Body}
 use Rattle.gl_graph.specs.declared.node.Body.TheVariants as body
 use Rattle.gl_graph.specs.declared.node.IndexBody.{IndexBody}
@@ -184,8 +185,8 @@ unlisted : (b : Body) (n : NodeId) (adopted : Bool) → shape_in_body b ≡ File
     × (indexes_in_body (body_without_index b n) ≡ filter (λ listed. not (same_node listed n)) (indexes_in_body b))
     × (records_in_body (body_without_index b n) ≡ records_in_body b)
 unlisted (body.Inner children above) n adopted e = cc
-unlisted (body.File above kept) n adopted e = (e, refl, refl)
-unlisted (body.Index above kept) n adopted e = cc
+unlisted (body.File kept above) n adopted e = (e, refl, refl)
+unlisted (body.Index kept above) n adopted e = cc
 unlisted (body.Interval place index) n adopted e = cc
 unlisted (body.NoKey file) n adopted e = cc
 unlisted (body.OneKey one above) n adopted e = cc
@@ -516,7 +517,8 @@ module _ (limits : Limits) (old : Slab Stored) (births : ℕ) (sound : AreSound 
   pub index_contained : ContainsKey old n.key
   index_contained = ap is_some stored_index.1
 
-  pub is_stored_index : (x : Stored) → get old n.key ≡ Some x → ((above : SmallVec NodeId) (boxed : Box IndexBody) → x.body ≡ body.Index above boxed → ⊥) → ⊥
+  pub is_stored_index : (x : Stored) → get old n.key ≡ Some x
+      → ((boxed : Box IndexBody) (above : Vec NodeId Global) → x.body ≡ body.Index boxed above → ⊥) → ⊥
   is_stored_index x at none =
       let same : stored_index.0 ≡ x = some_is (sym stored_index.1 ∙ at) in
       let birth : x.birth ≡ n.birth = ap (λ y. y.birth) (sym same) ∙ stored_index.2 in
@@ -524,11 +526,11 @@ module _ (limits : Limits) (old : Slab Stored) (births : ℕ) (sound : AreSound 
       by x.body none (sym (ap (λ o. is_index_shape (shape_in o)) (node_there limits old births sound.apart n.key x at))
       ∙ ap (λ q. is_index_shape (shape_of i q)) is_n ∙ index)
     where
-      by : (b : Body) → ((above : SmallVec NodeId) (boxed : Box IndexBody) → b ≡ body.Index above boxed → ⊥)
+      by : (b : Body) → ((boxed : Box IndexBody) (above : Vec NodeId Global) → b ≡ body.Index boxed above → ⊥)
           → is_index_shape (Some (shape_in_body b)) ≡ true → ⊥
       by (body.Inner children above) none k = no k
-      by (body.File above boxed) none k = no k
-      by (body.Index above boxed) none k = none above boxed refl
+      by (body.File boxed above) none k = no k
+      by (body.Index boxed above) none k = none boxed above refl
       by (body.Interval place index) none k = no k
       by (body.NoKey file) none k = no k
       by (body.OneKey one above) none k = no k

@@ -18,7 +18,8 @@ use Rattle.gl_graph.proofs.SoundMoved.{movable_there}
 use Rattle.gl_graph.proofs.SameParents.{adopted_parents, counted_parents, moved_shape, moved_parents, moved_children}
 use Rattle.gl_graph.proofs.Children.{WasInner, keeps_as, are_named, are_stored, each_keeps, stored_parents, its_inner_parents}
 use Rattle.gl_graph.proofs.Branch.{movable_live}
-use Rattle.smallvec.specs.SmallVec.{SmallVec}
+use Rattle.std.specs.Prelude.{Vec}
+use Rattle.std.specs.declared.alloc.Global.{Global}
 use Rattle.gl_graph.proofs.Children.{up_stored, up_room, up_keeps, up_sound, up_graph}
 use Rattle.gl_graph.proofs.Recount.{ones, counts_one, recounted_sound, recounted_graph, recounted_keeps, recounted_count}
 use Rattle.gl_graph.proofs.Look.{live_node, there_is, found_at}
@@ -40,8 +41,8 @@ no_inner_record b keys e is = cc
 
 adopted_file : (b : Body) (adopted : Bool) → shape_in_body b ≡ File adopted → shape_in_body (body_adopted b) ≡ File true
 adopted_file (body.Inner children above) adopted e = cc
-adopted_file (body.File above kept) adopted e = refl
-adopted_file (body.Index above kept) adopted e = cc
+adopted_file (body.File kept above) adopted e = refl
+adopted_file (body.Index kept above) adopted e = cc
 adopted_file (body.Interval place index) adopted e = cc
 adopted_file (body.NoKey file) adopted e = cc
 adopted_file (body.OneKey one above) adopted e = cc
@@ -165,8 +166,8 @@ record_with_key x keys e place key interval = by x.body e
   where
     by : (b : Body) → shape_in_body b ≡ Rec keys → (keys' : List ℕ) × (shape_in_body (body_rekeyed b place key interval) ≡ Rec keys')
     by (body.Inner children above) e = cc
-    by (body.File above kept) e = cc
-    by (body.Index above kept) e = cc
+    by (body.File kept above) e = cc
+    by (body.Index kept above) e = cc
     by (body.Interval p index) e = cc
     by (body.NoKey file) e = ([], refl)
     by (body.OneKey one above) e = (slice_set one place key, refl)
@@ -176,8 +177,8 @@ record_with_key x keys e place key interval = by x.body e
 
 plain_children : (b : Body) → IsPlainBody b → shape_in_body b ≡ Inner → children_in_body b ≡ 0
 plain_children (body.Inner children above) p e = p
-plain_children (body.File above kept) p e = cc
-plain_children (body.Index above kept) p e = cc
+plain_children (body.File kept above) p e = cc
+plain_children (body.Index kept above) p e = cc
 plain_children (body.Interval place index) p e = cc
 plain_children (body.NoKey file) p e = cc
 plain_children (body.OneKey one above) p e = cc
@@ -238,7 +239,7 @@ module _ (limits : Limits) (old mid : Slab Stored) (births key : ℕ) (x : Store
 -- a node gets other parents: the old ones have a child less each, and then the new ones a child more
 module _ (limits : Limits) (old mid : Slab Stored) (births : ℕ) (sound : AreSound limits old births) (sound' : AreSound limits mid births)
     (keep : KeepChildren old (child_count old)) (n : NodeId) (movable : is_movable_shape (shape_of (graph_of (seen limits old births)) n) ≡ true)
-    (fresh : SmallVec NodeId)
+    (fresh : Vec NodeId Global)
     (write : (y : Stored) → get old n.key ≡ Some y → Updates old mid n.key (Some (record y { body = body_with_parents y.body fresh })))
     (ps : List NodeId) (fresh_is : fresh.items ≡ ps) (inner : are_inner (graph_of (seen limits old births)) ps ≡ true)
     (distinct : are_distinct ps ≡ true) (olds : List NodeId) (olds_are : (y : Stored) → get old n.key ≡ Some y → olds ≡ parents_in_body y.body) where

@@ -38,8 +38,8 @@ use Rattle.gl_graph.proofs.Unrefused.{IsRoomyIndex, index_births, reindex_unrefu
 
 same_shape : (b : Body) (fresh : Vec NodeId Global) → shape_in_body (body_with_intervals b fresh) ≡ shape_in_body b
 same_shape (body.Inner children above) fresh = refl
-same_shape (body.File above kept) fresh = refl
-same_shape (body.Index above kept) fresh = refl
+same_shape (body.File kept above) fresh = refl
+same_shape (body.Index kept above) fresh = refl
 same_shape (body.Interval place index) fresh = refl
 same_shape (body.NoKey file) fresh = refl
 same_shape (body.OneKey one above) fresh = refl
@@ -50,8 +50,8 @@ same_shape (body.ManyKeys keys above) fresh = refl
 has_intervals : (b : Body) (fresh : Vec NodeId Global) (f : NodeId) (bs : List ℕ) → shape_in_body b ≡ Index f bs
     → intervals_in_body (body_with_intervals b fresh) ≡ fresh.items
 has_intervals (body.Inner children above) fresh f bs e = cc
-has_intervals (body.File above kept) fresh f bs e = cc
-has_intervals (body.Index above kept) fresh f bs e = refl
+has_intervals (body.File kept above) fresh f bs e = cc
+has_intervals (body.Index kept above) fresh f bs e = refl
 has_intervals (body.Interval place index) fresh f bs e = cc
 has_intervals (body.NoKey file) fresh f bs e = cc
 has_intervals (body.OneKey one above) fresh f bs e = cc
@@ -61,8 +61,8 @@ has_intervals (body.ManyKeys keys above) fresh f bs e = cc
 
 file_same_shape : (b : Body) (fresh : SmallVec NodeId) → shape_in_body (body_with_indexes b fresh) ≡ shape_in_body b
 file_same_shape (body.Inner children above) fresh = refl
-file_same_shape (body.File above kept) fresh = refl
-file_same_shape (body.Index above kept) fresh = refl
+file_same_shape (body.File kept above) fresh = refl
+file_same_shape (body.Index kept above) fresh = refl
 file_same_shape (body.Interval place index) fresh = refl
 file_same_shape (body.NoKey file) fresh = refl
 file_same_shape (body.OneKey one above) fresh = refl
@@ -73,8 +73,8 @@ file_same_shape (body.ManyKeys keys above) fresh = refl
 has_indexes : (b : Body) (fresh : SmallVec NodeId) (adopted : Bool) → shape_in_body b ≡ File adopted
     → (indexes_in_body (body_with_indexes b fresh) ≡ fresh.items) × (records_in_body (body_with_indexes b fresh) ≡ records_in_body b)
 has_indexes (body.Inner children above) fresh adopted e = cc
-has_indexes (body.File above kept) fresh adopted e = (refl, refl)
-has_indexes (body.Index above kept) fresh adopted e = cc
+has_indexes (body.File kept above) fresh adopted e = (refl, refl)
+has_indexes (body.Index kept above) fresh adopted e = cc
 has_indexes (body.Interval place index) fresh adopted e = cc
 has_indexes (body.NoKey file) fresh adopted e = cc
 has_indexes (body.OneKey one above) fresh adopted e = cc

@@ -20,8 +20,8 @@ use Rattle.gl_graph.proofs.Marked.{marked_is, marked_lawful, marked_record_of}
 
 adopted_shape : (b : Body) → shape_in_body (body_adopted b) ≡ marked_shape (shape_in_body b)
 adopted_shape (body.Inner children above) = refl
-adopted_shape (body.File above kept) = refl
-adopted_shape (body.Index above kept) = refl
+adopted_shape (body.File kept above) = refl
+adopted_shape (body.Index kept above) = refl
 adopted_shape (body.Interval place index) = refl
 adopted_shape (body.NoKey file) = refl
 adopted_shape (body.OneKey one above) = refl
@@ -33,8 +33,8 @@ adopted_shape (body.ManyKeys keys above) = refl
 same_beside : (g : Graph) (n : NodeId) (was : Stored) (b : Body) → KeepsBeside g n (vertex_of (record was { body = b })) (shape_in_body b)
     → KeepsBeside g n (vertex_of (record was { body = body_adopted b })) (shape_in_body (body_adopted b))
 same_beside g n was (body.Inner children above) k = k
-same_beside g n was (body.File above kept) k = k
-same_beside g n was (body.Index above kept) k = k
+same_beside g n was (body.File kept above) k = k
+same_beside g n was (body.Index kept above) k = k
 same_beside g n was (body.Interval place index) k = k
 same_beside g n was (body.NoKey file) k = k
 same_beside g n was (body.OneKey one above) k = k

@@ -5,7 +5,8 @@ use Rattle.std.proofs.Common.{refl, sym, ap, ◌∙◌, subst}
 use Rattle.gl_modes.proofs.Words.{both, and_both, some_is}
 use Rattle.gl_modes.specs.declared.node.NodeId.{NodeId}
 use Rattle.slab.specs.Slab.{Slab, get, slab_len, ContainsKey, Updates}
-use Rattle.smallvec.specs.SmallVec.{SmallVec}
+use Rattle.std.specs.Prelude.{Vec}
+use Rattle.std.specs.declared.alloc.Global.{Global}
 use Rattle.gl_graph.specs.declared.node.Body.{Body}
 use Rattle.gl_graph.specs.declared.node.Body.TheVariants as body
 use Rattle.gl_graph.specs.declared.node.Node.{Node as Stored}
@@ -30,12 +31,12 @@ inner_live g [] h = refl
 inner_live g (p ∷ ps) h = let t = and_both _ (are_inner g ps) h in both _ _ (plain_live g p (inner_plain _ t.0)) (inner_live g ps t.1)
 
 -- what is kept beside a node does not depend on its parents
-same_beside : (g : Graph) (n : NodeId) (was : Stored) (fresh : SmallVec NodeId) (b : Body)
+same_beside : (g : Graph) (n : NodeId) (was : Stored) (fresh : Vec NodeId Global) (b : Body)
     → KeepsBeside g n (vertex_of (record was { body = b })) (shape_in_body b)
     → KeepsBeside g n (vertex_of (record was { body = body_with_parents b fresh })) (shape_in_body (body_with_parents b fresh))
 same_beside g n was fresh (body.Inner children above) k = k
-same_beside g n was fresh (body.File above kept) k = k
-same_beside g n was fresh (body.Index above kept) k = k
+same_beside g n was fresh (body.File kept above) k = k
+same_beside g n was fresh (body.Index kept above) k = k
 same_beside g n was fresh (body.Interval place index) k = k
 same_beside g n was fresh (body.NoKey file) k = k
 same_beside g n was fresh (body.OneKey one above) k = k
@@ -71,7 +72,7 @@ module _ (limits : Limits) (old new : Slab Stored) (births : ℕ) (sound : AreSo
   movable_there x e = ap (λ (z : Stored). is_movable_shape (Some (shape_in_body z.body))) (some_is (sym e ∙ slot.1)) ∙ can_move
 
   module _ (ps : List NodeId) (inner : AreInnerParents g (least_parents (shape_of g n)) ps) (clear : first_cycle g n ps ≡ None)
-      (fresh : SmallVec NodeId) (fresh_is : fresh.items ≡ ps)
+      (fresh : Vec NodeId Global) (fresh_is : fresh.items ≡ ps)
       (write : (x : Stored) → get old n.key ≡ Some x → Updates old new n.key (Some (record x { body = body_with_parents x.body fresh })))
       (len : slab_len new ≡ slab_len old) where
     abbrev x : Stored

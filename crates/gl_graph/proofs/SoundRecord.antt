@@ -32,8 +32,8 @@ module _ (x : Stored) (adopted : Bool) (file : shape_in_body x.body ≡ File ado
   by_body : (b : Body) → shape_in_body b ≡ File adopted → (shape_in_body (body_with_records b records) ≡ File adopted)
       × (indexes_in_body (body_with_records b records) ≡ indexes_in_body b)
   by_body (body.Inner children above) e = cc
-  by_body (body.File above kept) e = (e, refl)
-  by_body (body.Index above kept) e = cc
+  by_body (body.File kept above) e = (e, refl)
+  by_body (body.Index kept above) e = cc
   by_body (body.Interval place index) e = cc
   by_body (body.NoKey file) e = cc
   by_body (body.OneKey one above) e = cc
@@ -43,8 +43,8 @@ module _ (x : Stored) (adopted : Bool) (file : shape_in_body x.body ≡ File ado
 
   count_written : (b : Body) → shape_in_body b ≡ File adopted → (vertex_of (record x { body = body_with_records b records })).records ≡ records
   count_written (body.Inner children above) e = cc
-  count_written (body.File above kept) e = refl
-  count_written (body.Index above kept) e = cc
+  count_written (body.File kept above) e = refl
+  count_written (body.Index kept above) e = cc
   count_written (body.Interval place index) e = cc
   count_written (body.NoKey file) e = cc
   count_written (body.OneKey one above) e = cc

@@ -18,8 +18,8 @@ use Rattle.gl_graph.specs.View.{Vertex, View, graph_of, AgreesAt}
 -- what a body says of the shape
 abbrev pub shape_in_body : Body → Shape
 shape_in_body (body.Inner children above) = Inner
-shape_in_body (body.File above kept) = File kept.value.adopted
-shape_in_body (body.Index above kept) = Index kept.value.file kept.value.bounds.items
+shape_in_body (body.File kept above) = File kept.value.adopted
+shape_in_body (body.Index kept above) = Index kept.value.file kept.value.bounds.items
 shape_in_body (body.Interval place index) = Interval place
 shape_in_body (body.NoKey file) = Rec []
 shape_in_body (body.OneKey key above) = Rec key
@@ -30,8 +30,8 @@ shape_in_body (body.ManyKeys keys above) = Rec keys.value.items
 -- a node's parents, as they are kept
 abbrev pub parents_in_body : Body → List NodeId
 parents_in_body (body.Inner children above) = above.items
-parents_in_body (body.File above kept) = above.items
-parents_in_body (body.Index above kept) = above.items
+parents_in_body (body.File kept above) = above.items
+parents_in_body (body.Index kept above) = above.items
 parents_in_body (body.Interval place index) = index
 parents_in_body (body.NoKey file) = file
 parents_in_body (body.OneKey key above) = above
@@ -41,12 +41,12 @@ parents_in_body (body.ManyKeys keys above) = above.items
 
 -- a file's indexes, as they are kept
 abbrev pub indexes_in_body : Body → List NodeId
-indexes_in_body (body.File above kept) = kept.value.indexes.items
+indexes_in_body (body.File kept above) = kept.value.indexes.items
 indexes_in_body b = []
 
 -- the number of a file's records, as it is kept
 abbrev pub records_in_body : Body → ℕ
-records_in_body (body.File above kept) = kept.value.records
+records_in_body (body.File kept above) = kept.value.records
 records_in_body b = 0
 
 -- the number of an inner node's children, as it is kept
@@ -56,7 +56,7 @@ children_in_body b = 0
 
 -- an index's intervals, as they are kept
 abbrev pub intervals_in_body : Body → List NodeId
-intervals_in_body (body.Index above kept) = kept.value.intervals.items
+intervals_in_body (body.Index kept above) = kept.value.intervals.items
 intervals_in_body b = []
 
 -- what a contract sees of a stored node
@@ -132,7 +132,7 @@ KeepChildren nodes count = (key : ℕ) (x : Node) → get nodes key ≡ Some x �
 -- of an inner node without children, or of a file with nothing kept beside it
 abbrev pub IsPlainBody : Body → Type 0
 IsPlainBody (body.Inner children above) = children ≡ 0
-IsPlainBody (body.File above kept) = (kept.value.indexes.items ≡ []) × (kept.value.records ≡ 0)
+IsPlainBody (body.File kept above) = (kept.value.indexes.items ≡ []) × (kept.value.records ≡ 0)
 IsPlainBody b = ⊥
 
 -- an inner node with this number of children
@@ -142,14 +142,14 @@ body_with_children b fresh = b
 
 -- a file with this number of records
 abbrev pub body_with_records : Body → ℕ → Body
-body_with_records (body.File above kept) fresh = body.File above (record kept { value = record kept.value { records = fresh } })
+body_with_records (body.File kept above) fresh = body.File (record kept { value = record kept.value { records = fresh } }) above
 body_with_records b fresh = b
 
 -- an inner node, a file or an index with these parents
-abbrev pub body_with_parents : Body → SmallVec NodeId → Body
+abbrev pub body_with_parents : Body → Vec NodeId Global → Body
 body_with_parents (body.Inner children above) fresh = body.Inner children fresh
-body_with_parents (body.File above kept) fresh = body.File fresh kept
-body_with_parents (body.Index above kept) fresh = body.Index fresh kept
+body_with_parents (body.File kept above) fresh = body.File kept fresh
+body_with_parents (body.Index kept above) fresh = body.Index kept fresh
 body_with_parents b fresh = b
 
 -- a record with another key at this place
@@ -176,24 +176,24 @@ body_rekeyed b place key interval = body_with_parent (body_with_key b place key)
 
 -- an index with these intervals
 abbrev pub body_with_intervals : Body → Vec NodeId Global → Body
-body_with_intervals (body.Index above kept) fresh = body.Index above (record kept { value = record kept.value { intervals = fresh } })
+body_with_intervals (body.Index kept above) fresh = body.Index (record kept { value = record kept.value { intervals = fresh } }) above
 body_with_intervals b fresh = b
 
 -- a file with these indexes
 abbrev pub body_with_indexes : Body → SmallVec NodeId → Body
-body_with_indexes (body.File above kept) fresh = body.File above (record kept { value = record kept.value { indexes = fresh } })
+body_with_indexes (body.File kept above) fresh = body.File (record kept { value = record kept.value { indexes = fresh } }) above
 body_with_indexes b fresh = b
 
 -- a file that does not list an index
 abbrev pub body_without_index : Body → NodeId → Body
-body_without_index (body.File above kept) index = body.File above (record kept {
+body_without_index (body.File kept above) index = body.File (record kept {
   value = record kept.value { indexes = record kept.value.indexes { items = filter (λ listed. not (same_node listed index)) kept.value.indexes.items } };
-})
+}) above
 body_without_index b index = b
 
 -- a file of which rows were adopted
 abbrev pub body_adopted : Body → Body
-body_adopted (body.File above kept) = body.File above (record kept { value = record kept.value { adopted = true } })
+body_adopted (body.File kept above) = body.File (record kept { value = record kept.value { adopted = true } }) above
 body_adopted b = b
 
 -- ids, and then those of more that are not there yet

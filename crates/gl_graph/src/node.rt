@@ -8,21 +8,22 @@ use std::mem;
 
 /// What a node has, by its kind: its parents, and what it has beside them. Most nodes are records, and most
 /// records have one key or none: what takes more room is in boxes of just its size.
+/// Parents are named last, so that they begin at one place whatever the kind: each lock reads them.
 #[derive(Drop)]
 pub(crate) enum Body {
     /// An inner node. How many nodes have it as a parent could be found by a search; it is kept so that
     /// nothing is searched.
     Inner {
         children: usize,
-        parents: SmallVec<NodeId, 1>,
+        parents: Vec<NodeId>,
     },
     File {
-        parents: SmallVec<NodeId, 1>,
         kept: Box<FileBody>,
+        parents: Vec<NodeId>,
     },
     Index {
-        parents: SmallVec<NodeId, 1>,
         kept: Box<IndexBody>,
+        parents: Vec<NodeId>,
     },
     /// An interval, whose one parent is its index.
     Interval {
@@ -115,7 +116,7 @@ impl Body {
         ensures plain { IfOk result IsPlainBody }
         ensures parents { IfOk result (λ body. parents_in_body body ≡ parents.now) }
     {
-        let parents = SmallVec::from_slice(alloc, parents)?;
+        let parents = Vec::from_slice(alloc, parents)?;
         Ok(Body::Inner {
             children: 0,
             parents,
@@ -128,14 +129,14 @@ impl Body {
         ensures plain { IfOk result IsPlainBody }
         ensures parents { IfOk result (λ body. parents_in_body body ≡ parents.now) }
     {
-        let parents = SmallVec::from_slice(alloc, parents)?;
+        let parents = Vec::from_slice(alloc, parents)?;
         let kept = FileBody {
             indexes: SmallVec::new(alloc),
             records: 0,
             adopted: false,
         };
         let kept = Box::new(alloc, kept)?;
-        Ok(Body::File { parents, kept })
+        Ok(Body::File { kept, parents })
     }
 
     /// The body of a record with these keys, under these parents.
@@ -321,7 +322,7 @@ impl Body {
     }
 
     /// Writes the parents of an inner node, a file or an index, and gives those that it had.
-    pub(crate) fn set_parents(&mut self, fresh: SmallVec<NodeId, 1>) -> SmallVec<NodeId, 1>
+    pub(crate) fn set_parents(&mut self, fresh: Vec<NodeId>) -> Vec<NodeId>
         requires { is_movable_shape (Some (shape_in_body self.old)) ≡ true }
         ensures written { self.new ≡ body_with_parents self.old fresh }
         ensures old { result.items ≡ parents_in_body self.old }

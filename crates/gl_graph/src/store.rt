@@ -79,11 +79,7 @@ pub(crate) fn write_adopted(nodes: &mut Slab<Node>, key: usize)
 }
 
 /// Writes the parents of an inner node, a file or an index, and gives those that it had.
-pub(crate) fn write_parents(
-    nodes: &mut Slab<Node>,
-    key: usize,
-    fresh: SmallVec<NodeId, 1>,
-) -> SmallVec<NodeId, 1>
+pub(crate) fn write_parents(nodes: &mut Slab<Node>, key: usize, fresh: Vec<NodeId>) -> Vec<NodeId>
     requires there { ContainsKey nodes.old key }
     requires movable { (x : Node) → get nodes.old key ≡ Some x → is_movable_shape (Some (shape_in_body x.body)) ≡ true }
     ensures written { (x : Node) → get nodes.old key ≡ Some x → Updates nodes.old nodes.new key (Some (record x { body = body_with_parents x.body fresh })) }

@@ -90,7 +90,7 @@ impl Graph {
         ensures removed { graph_of self.new ≡ without_branch (graph_of self.old) index }
     {
         let Node { body, .. } = self.nodes.remove(index.key);
-        let Body::Index { parents, kept } = body else {
+        let Body::Index { kept, parents } = body else {
             unreachable!()
         };
         remove_all(&mut self.nodes, kept.intervals.as_slice());

@@ -21,7 +21,7 @@ use std::alloc::{AllocError, Global};
 /// What a new index takes memory for, made before anything changes.
 #[derive(Drop)]
 struct IndexParts {
-    parents: SmallVec<NodeId, 1>,
+    parents: Vec<NodeId>,
     // Without intervals.
     body: Box<IndexBody>,
     // Empty, with room for all.
@@ -43,7 +43,7 @@ impl IndexParts {
         requires { length bounds.now < 2 ^ 63 }
         ensures made { IfOk result (λ parts. AreParts parts parents.now file bounds.now indexes.now) }
     {
-        let parents = SmallVec::from_slice(alloc, parents)?;
+        let parents = Vec::from_slice(alloc, parents)?;
         let intervals = Vec::with_capacity(alloc, bounds.len() + 1)?;
         let body = IndexBody {
             file,
@@ -148,8 +148,8 @@ impl Graph {
         } = parts;
         let birth = self.births + 1;
         let body = Body::Index {
-            parents: above,
             kept: body,
+            parents: above,
         };
         let key = self.nodes.insert_reserved(Node { birth, body });
         let index = NodeId { key, birth };

@@ -16,7 +16,6 @@ use crate::found::add_missing;
 use crate::store::{count_down, count_up, write_parents};
 use gl_modes::{NodeId, Refusal};
 use indexmap::IndexSet;
-use smallvec::SmallVec;
 use std::alloc::AllocError;
 
 impl Graph {
@@ -34,7 +33,7 @@ impl Graph {
         ensures err { OnErr result (self.new ≡ self.old) }
     {
         self.check_cycles(n, parents)?;
-        let Ok(fresh) = SmallVec::from_slice(self.alloc, parents) else {
+        let Ok(fresh) = Vec::from_slice(self.alloc, parents) else {
             return Err(Refusal::NoMemory);
         };
         let old = write_parents(&mut self.nodes, n.key, fresh);

@@ -62,7 +62,7 @@ insert_intervals-requires-clause-apart c =
     let sound : AreSound (limits_of c.self.inside) c.reserve.new.self c.self.inside.births =
     subst (λ (n : Slab Stored). AreSound (limits_of c.self.inside) n c.self.inside.births) (sym c.reserve.ensures.rest_kept)
     (sound_capacity (limits_of c.self.inside) c.self.inside.nodes c.self.inside.births c.reserve.new.self.capacity c.self.invariant.sound) in
-    let x : Stored = record { birth = c.self.inside.births + 1; body = body.Index c.in-Ok-new.parts.parents c.in-Ok-new.parts.body } in
+    let x : Stored = record { birth = c.self.inside.births + 1; body = body.Index c.in-Ok-new.parts.body c.in-Ok-new.parts.parents } in
     let made = c.in-Ok-new.ensures.made in
     inserted_apart (limits_of c.self.inside) s c.insert_reserved-key.new.self births c.insert_reserved-key.result x sound.apart
     (born_within (limits_of c.self.inside) s births sound) c.insert_reserved-key.ensures.was_vacant c.insert_reserved-key.ensures.updates refl
@@ -74,7 +74,7 @@ insert_intervals-requires-clause-within c =
     let sound : AreSound (limits_of c.self.inside) c.reserve.new.self c.self.inside.births =
     subst (λ (n : Slab Stored). AreSound (limits_of c.self.inside) n c.self.inside.births) (sym c.reserve.ensures.rest_kept)
     (sound_capacity (limits_of c.self.inside) c.self.inside.nodes c.self.inside.births c.reserve.new.self.capacity c.self.invariant.sound) in
-    let x : Stored = record { birth = c.self.inside.births + 1; body = body.Index c.in-Ok-new.parts.parents c.in-Ok-new.parts.body } in
+    let x : Stored = record { birth = c.self.inside.births + 1; body = body.Index c.in-Ok-new.parts.body c.in-Ok-new.parts.parents } in
     let made = c.in-Ok-new.ensures.made in
     inserted_within (limits_of c.self.inside) s c.insert_reserved-key.new.self births c.insert_reserved-key.result x sound.apart
     (born_within (limits_of c.self.inside) s births sound) c.insert_reserved-key.ensures.was_vacant c.insert_reserved-key.ensures.updates refl
@@ -86,7 +86,7 @@ write_indexes-requires c =
     let sound : AreSound (limits_of c.self.inside) c.reserve.new.self c.self.inside.births =
     subst (λ (n : Slab Stored). AreSound (limits_of c.self.inside) n c.self.inside.births) (sym c.reserve.ensures.rest_kept)
     (sound_capacity (limits_of c.self.inside) c.self.inside.nodes c.self.inside.births c.reserve.new.self.capacity c.self.invariant.sound) in
-    let x : Stored = record { birth = c.self.inside.births + 1; body = body.Index c.in-Ok-new.parts.parents c.in-Ok-new.parts.body } in
+    let x : Stored = record { birth = c.self.inside.births + 1; body = body.Index c.in-Ok-new.parts.body c.in-Ok-new.parts.parents } in
     let made = c.in-Ok-new.ensures.made in
     let view : seen (limits_of c.self.inside) c.reserve.new.self c.self.inside.births ≡ c.args.self.now =
     ap (λ (n : Slab Stored). seen (limits_of c.self.inside) n c.self.inside.births) c.reserve.ensures.rest_kept ∙ c.self.view_is in
@@ -113,7 +113,7 @@ count_up-requires-clause-stored c =
     let sound : AreSound (limits_of c.self.inside) c.reserve.new.self c.self.inside.births =
     subst (λ (n : Slab Stored). AreSound (limits_of c.self.inside) n c.self.inside.births) (sym c.reserve.ensures.rest_kept)
     (sound_capacity (limits_of c.self.inside) c.self.inside.nodes c.self.inside.births c.reserve.new.self.capacity c.self.invariant.sound) in
-    let x : Stored = record { birth = c.self.inside.births + 1; body = body.Index c.in-Ok-new.parts.parents c.in-Ok-new.parts.body } in
+    let x : Stored = record { birth = c.self.inside.births + 1; body = body.Index c.in-Ok-new.parts.body c.in-Ok-new.parts.parents } in
     let made = c.in-Ok-new.ensures.made in
     let view : seen (limits_of c.self.inside) c.reserve.new.self c.self.inside.births ≡ c.args.self.now =
     ap (λ (n : Slab Stored). seen (limits_of c.self.inside) n c.self.inside.births) c.reserve.ensures.rest_kept ∙ c.self.view_is in
@@ -137,7 +137,7 @@ count_up-requires-clause-room c =
     let sound : AreSound (limits_of c.self.inside) c.reserve.new.self c.self.inside.births =
     subst (λ (n : Slab Stored). AreSound (limits_of c.self.inside) n c.self.inside.births) (sym c.reserve.ensures.rest_kept)
     (sound_capacity (limits_of c.self.inside) c.self.inside.nodes c.self.inside.births c.reserve.new.self.capacity c.self.invariant.sound) in
-    let x : Stored = record { birth = c.self.inside.births + 1; body = body.Index c.in-Ok-new.parts.parents c.in-Ok-new.parts.body } in
+    let x : Stored = record { birth = c.self.inside.births + 1; body = body.Index c.in-Ok-new.parts.body c.in-Ok-new.parts.parents } in
     let made = c.in-Ok-new.ensures.made in
     let view : seen (limits_of c.self.inside) c.reserve.new.self c.self.inside.births ≡ c.args.self.now =
     ap (λ (n : Slab Stored). seen (limits_of c.self.inside) n c.self.inside.births) c.reserve.ensures.rest_kept ∙ c.self.view_is in
@@ -161,7 +161,7 @@ invariant_of-self-3 c =
     let sound : AreSound (limits_of c.self.inside) c.reserve.new.self c.self.inside.births =
     subst (λ (n : Slab Stored). AreSound (limits_of c.self.inside) n c.self.inside.births) (sym c.reserve.ensures.rest_kept)
     (sound_capacity (limits_of c.self.inside) c.self.inside.nodes c.self.inside.births c.reserve.new.self.capacity c.self.invariant.sound) in
-    let x : Stored = record { birth = c.self.inside.births + 1; body = body.Index c.in-Ok-new.parts.parents c.in-Ok-new.parts.body } in
+    let x : Stored = record { birth = c.self.inside.births + 1; body = body.Index c.in-Ok-new.parts.body c.in-Ok-new.parts.parents } in
     let made = c.in-Ok-new.ensures.made in
     let view : seen (limits_of c.self.inside) c.reserve.new.self c.self.inside.births ≡ c.args.self.now =
     ap (λ (n : Slab Stored). seen (limits_of c.self.inside) n c.self.inside.births) c.reserve.ensures.rest_kept ∙ c.self.view_is in
@@ -197,7 +197,7 @@ returns-clause-made c =
     let sound : AreSound (limits_of c.self.inside) c.reserve.new.self c.self.inside.births =
     subst (λ (n : Slab Stored). AreSound (limits_of c.self.inside) n c.self.inside.births) (sym c.reserve.ensures.rest_kept)
     (sound_capacity (limits_of c.self.inside) c.self.inside.nodes c.self.inside.births c.reserve.new.self.capacity c.self.invariant.sound) in
-    let x : Stored = record { birth = c.self.inside.births + 1; body = body.Index c.in-Ok-new.parts.parents c.in-Ok-new.parts.body } in
+    let x : Stored = record { birth = c.self.inside.births + 1; body = body.Index c.in-Ok-new.parts.body c.in-Ok-new.parts.parents } in
     let made = c.in-Ok-new.ensures.made in
     let view : seen (limits_of c.self.inside) c.reserve.new.self c.self.inside.births ≡ c.args.self.now =
     ap (λ (n : Slab Stored). seen (limits_of c.self.inside) n c.self.inside.births) c.reserve.ensures.rest_kept ∙ c.self.view_is in

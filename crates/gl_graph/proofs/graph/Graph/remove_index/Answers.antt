@@ -60,7 +60,7 @@ count_down-requires-clause-stored c =
     → Updates c.remove_all.new.nodes c.unlist_index.new.nodes b.file.key (Some (record y { body = body_without_index y.body c.args.index })))
     c.deref-2.ensures c.unlist_index.ensures.written in
     subst (AreStored c.unlist_index.new.nodes) (sym
-    (c.as_slice-2.ensures ∙ sym (ap parents_in_body c.in-Index.is)))
+    (c.as_slice-2.ensures.value ∙ sym (ap parents_in_body c.in-Index.is)))
     (index_down_stored (limits_of c.self.inside) c.self.inside.nodes c.remove-body.new.self c.self.inside.births c.self.invariant.sound c.args.index
     index free
     c.remove-body.result c.remove-body.ensures.value c.in-Index.kept.value.file c.in-Index.kept.value.bounds.items (ap shape_in_body c.in-Index.is)
@@ -77,7 +77,7 @@ count_down-requires-clause-some c =
     → Updates c.remove_all.new.nodes c.unlist_index.new.nodes b.file.key (Some (record y { body = body_without_index y.body c.args.index })))
     c.deref-2.ensures c.unlist_index.ensures.written in
     subst (EachKeeps (λ children. 1 ≤ children) c.unlist_index.new.nodes) (sym
-    (c.as_slice-2.ensures ∙ sym (ap parents_in_body c.in-Index.is)))
+    (c.as_slice-2.ensures.value ∙ sym (ap parents_in_body c.in-Index.is)))
     (index_down_some (limits_of c.self.inside) c.self.inside.nodes c.remove-body.new.self c.self.inside.births c.self.invariant.sound c.args.index index free
     c.remove-body.result c.remove-body.ensures.value c.in-Index.kept.value.file c.in-Index.kept.value.bounds.items (ap shape_in_body c.in-Index.is)
     c.remove-body.ensures.updates c.remove-body.ensures.len c.remove_all.new.nodes taken c.unlist_index.new.nodes written c.unlist_index.ensures.len
@@ -93,7 +93,7 @@ invariant_of-self c =
     → Updates c.remove_all.new.nodes c.unlist_index.new.nodes b.file.key (Some (record y { body = body_without_index y.body c.args.index })))
     c.deref-2.ensures c.unlist_index.ensures.written in
     let re = subst (λ (ids : List NodeId). AreRecounted (λ children. children - 1) c.unlist_index.new.nodes c.count_down.new.nodes ids (length ids))
-    (c.as_slice-2.ensures ∙ sym (ap parents_in_body c.in-Index.is))
+    (c.as_slice-2.ensures.value ∙ sym (ap parents_in_body c.in-Index.is))
     c.count_down.ensures.counted in
     record {
       sound = index_down_sound (limits_of c.self.inside) c.self.inside.nodes c.remove-body.new.self c.self.inside.births c.self.invariant.sound
@@ -118,7 +118,7 @@ returns c =
     → Updates c.remove_all.new.nodes c.unlist_index.new.nodes b.file.key (Some (record y { body = body_without_index y.body c.args.index })))
     c.deref-2.ensures c.unlist_index.ensures.written in
     let re = subst (λ (ids : List NodeId). AreRecounted (λ children. children - 1) c.unlist_index.new.nodes c.count_down.new.nodes ids (length ids))
-    (c.as_slice-2.ensures ∙ sym (ap parents_in_body c.in-Index.is))
+    (c.as_slice-2.ensures.value ∙ sym (ap parents_in_body c.in-Index.is))
     c.count_down.ensures.counted in
     let is = index_down_graph (limits_of c.self.inside) c.self.inside.nodes c.remove-body.new.self c.self.inside.births c.self.invariant.sound
     c.args.index index free

@@ -30,10 +30,10 @@ count_down-requires-clause-stored c =
     (sym c.self.view_is) c.requires.parents in
     let clear = subst (λ (v : View). first_cycle (graph_of v) c.args.n c.args.parents.now ≡ None) (sym c.self.view_is) c.in_ok-check_cycles.ensures.clear in
     let sound = moved_sound (limits_of c.self.inside) c.self.inside.nodes c.write_parents-old.new.nodes c.self.inside.births c.self.invariant.sound c.args.n
-    node c.args.parents.now parents clear c.in-Ok.fresh c.in-Ok.ensures.ok c.write_parents-old.ensures.written c.write_parents-old.ensures.len in
+    node c.args.parents.now parents clear c.in-Ok.fresh c.in-Ok.ensures.items c.write_parents-old.ensures.written c.write_parents-old.ensures.len in
     olds_stored (limits_of c.self.inside) c.self.inside.nodes c.write_parents-old.new.nodes c.self.inside.births c.self.invariant.sound sound
-    c.self.invariant.children c.args.n node c.in-Ok.fresh c.write_parents-old.ensures.written c.args.parents.now c.in-Ok.ensures.ok parents.inner
-    parents.distinct c.as_slice.result.now (λ y e. c.as_slice.ensures ∙ c.write_parents-old.ensures.old y e)
+    c.self.invariant.children c.args.n node c.in-Ok.fresh c.write_parents-old.ensures.written c.args.parents.now c.in-Ok.ensures.items parents.inner
+    parents.distinct c.as_slice.result.now (λ y e. c.as_slice.ensures.value ∙ c.write_parents-old.ensures.old y e)
 
 pub count_down-requires-clause-some : goal.count_down-requires-clause-some
 count_down-requires-clause-some c =
@@ -42,10 +42,10 @@ count_down-requires-clause-some c =
     (sym c.self.view_is) c.requires.parents in
     let clear = subst (λ (v : View). first_cycle (graph_of v) c.args.n c.args.parents.now ≡ None) (sym c.self.view_is) c.in_ok-check_cycles.ensures.clear in
     let sound = moved_sound (limits_of c.self.inside) c.self.inside.nodes c.write_parents-old.new.nodes c.self.inside.births c.self.invariant.sound c.args.n
-    node c.args.parents.now parents clear c.in-Ok.fresh c.in-Ok.ensures.ok c.write_parents-old.ensures.written c.write_parents-old.ensures.len in
+    node c.args.parents.now parents clear c.in-Ok.fresh c.in-Ok.ensures.items c.write_parents-old.ensures.written c.write_parents-old.ensures.len in
     olds_some (limits_of c.self.inside) c.self.inside.nodes c.write_parents-old.new.nodes c.self.inside.births c.self.invariant.sound sound
-    c.self.invariant.children c.args.n node c.in-Ok.fresh c.write_parents-old.ensures.written c.args.parents.now c.in-Ok.ensures.ok parents.inner
-    parents.distinct c.as_slice.result.now (λ y e. c.as_slice.ensures ∙ c.write_parents-old.ensures.old y e)
+    c.self.invariant.children c.args.n node c.in-Ok.fresh c.write_parents-old.ensures.written c.args.parents.now c.in-Ok.ensures.items parents.inner
+    parents.distinct c.as_slice.result.now (λ y e. c.as_slice.ensures.value ∙ c.write_parents-old.ensures.old y e)
 
 pub count_up-requires-clause-stored : goal.count_up-requires-clause-stored
 count_up-requires-clause-stored c =
@@ -54,10 +54,10 @@ count_up-requires-clause-stored c =
     (sym c.self.view_is) c.requires.parents in
     let clear = subst (λ (v : View). first_cycle (graph_of v) c.args.n c.args.parents.now ≡ None) (sym c.self.view_is) c.in_ok-check_cycles.ensures.clear in
     let sound = moved_sound (limits_of c.self.inside) c.self.inside.nodes c.write_parents-old.new.nodes c.self.inside.births c.self.invariant.sound c.args.n
-    node c.args.parents.now parents clear c.in-Ok.fresh c.in-Ok.ensures.ok c.write_parents-old.ensures.written c.write_parents-old.ensures.len in
+    node c.args.parents.now parents clear c.in-Ok.fresh c.in-Ok.ensures.items c.write_parents-old.ensures.written c.write_parents-old.ensures.len in
     news_stored (limits_of c.self.inside) c.self.inside.nodes c.write_parents-old.new.nodes c.self.inside.births c.self.invariant.sound sound
-    c.self.invariant.children c.args.n node c.in-Ok.fresh c.write_parents-old.ensures.written c.args.parents.now c.in-Ok.ensures.ok parents.inner
-    parents.distinct c.as_slice.result.now (λ y e. c.as_slice.ensures ∙ c.write_parents-old.ensures.old y e)
+    c.self.invariant.children c.args.n node c.in-Ok.fresh c.write_parents-old.ensures.written c.args.parents.now c.in-Ok.ensures.items parents.inner
+    parents.distinct c.as_slice.result.now (λ y e. c.as_slice.ensures.value ∙ c.write_parents-old.ensures.old y e)
     c.count_down.new.nodes c.count_down.ensures.counted
 
 pub count_up-requires-clause-room : goal.count_up-requires-clause-room
@@ -67,10 +67,10 @@ count_up-requires-clause-room c =
     (sym c.self.view_is) c.requires.parents in
     let clear = subst (λ (v : View). first_cycle (graph_of v) c.args.n c.args.parents.now ≡ None) (sym c.self.view_is) c.in_ok-check_cycles.ensures.clear in
     let sound = moved_sound (limits_of c.self.inside) c.self.inside.nodes c.write_parents-old.new.nodes c.self.inside.births c.self.invariant.sound c.args.n
-    node c.args.parents.now parents clear c.in-Ok.fresh c.in-Ok.ensures.ok c.write_parents-old.ensures.written c.write_parents-old.ensures.len in
+    node c.args.parents.now parents clear c.in-Ok.fresh c.in-Ok.ensures.items c.write_parents-old.ensures.written c.write_parents-old.ensures.len in
     news_room (limits_of c.self.inside) c.self.inside.nodes c.write_parents-old.new.nodes c.self.inside.births c.self.invariant.sound sound
-    c.self.invariant.children c.args.n node c.in-Ok.fresh c.write_parents-old.ensures.written c.args.parents.now c.in-Ok.ensures.ok parents.inner
-    parents.distinct c.as_slice.result.now (λ y e. c.as_slice.ensures ∙ c.write_parents-old.ensures.old y e)
+    c.self.invariant.children c.args.n node c.in-Ok.fresh c.write_parents-old.ensures.written c.args.parents.now c.in-Ok.ensures.items parents.inner
+    parents.distinct c.as_slice.result.now (λ y e. c.as_slice.ensures.value ∙ c.write_parents-old.ensures.old y e)
     c.count_down.new.nodes c.count_down.ensures.counted
 
 pub invariant_of-self : goal.invariant_of-self
@@ -80,17 +80,17 @@ invariant_of-self c =
     (sym c.self.view_is) c.requires.parents in
     let clear = subst (λ (v : View). first_cycle (graph_of v) c.args.n c.args.parents.now ≡ None) (sym c.self.view_is) c.in_ok-check_cycles.ensures.clear in
     let sound = moved_sound (limits_of c.self.inside) c.self.inside.nodes c.write_parents-old.new.nodes c.self.inside.births c.self.invariant.sound c.args.n
-    node c.args.parents.now parents clear c.in-Ok.fresh c.in-Ok.ensures.ok c.write_parents-old.ensures.written c.write_parents-old.ensures.len in
+    node c.args.parents.now parents clear c.in-Ok.fresh c.in-Ok.ensures.items c.write_parents-old.ensures.written c.write_parents-old.ensures.len in
     record {
       sound = moved_still_sound (limits_of c.self.inside) c.self.inside.nodes c.write_parents-old.new.nodes c.self.inside.births c.self.invariant.sound sound
-          c.self.invariant.children c.args.n node c.in-Ok.fresh c.write_parents-old.ensures.written c.args.parents.now c.in-Ok.ensures.ok parents.inner
+          c.self.invariant.children c.args.n node c.in-Ok.fresh c.write_parents-old.ensures.written c.args.parents.now c.in-Ok.ensures.items parents.inner
           parents.distinct
-          c.as_slice.result.now (λ y e. c.as_slice.ensures ∙ c.write_parents-old.ensures.old y e)
+          c.as_slice.result.now (λ y e. c.as_slice.ensures.value ∙ c.write_parents-old.ensures.old y e)
           c.count_down.new.nodes c.count_down.ensures.counted c.count_up.new.nodes c.count_up.ensures.counted;
       children = moved_keeps (limits_of c.self.inside) c.self.inside.nodes c.write_parents-old.new.nodes c.self.inside.births c.self.invariant.sound sound
-          c.self.invariant.children c.args.n node c.in-Ok.fresh c.write_parents-old.ensures.written c.args.parents.now c.in-Ok.ensures.ok parents.inner
+          c.self.invariant.children c.args.n node c.in-Ok.fresh c.write_parents-old.ensures.written c.args.parents.now c.in-Ok.ensures.items parents.inner
           parents.distinct
-          c.as_slice.result.now (λ y e. c.as_slice.ensures ∙ c.write_parents-old.ensures.old y e)
+          c.as_slice.result.now (λ y e. c.as_slice.ensures.value ∙ c.write_parents-old.ensures.old y e)
           c.count_down.new.nodes c.count_down.ensures.counted c.count_up.new.nodes c.count_up.ensures.counted;
     }
 
@@ -101,11 +101,11 @@ returns-clause-moved c =
     (sym c.self.view_is) c.requires.parents in
     let clear = subst (λ (v : View). first_cycle (graph_of v) c.args.n c.args.parents.now ≡ None) (sym c.self.view_is) c.in_ok-check_cycles.ensures.clear in
     let sound = moved_sound (limits_of c.self.inside) c.self.inside.nodes c.write_parents-old.new.nodes c.self.inside.births c.self.invariant.sound c.args.n
-    node c.args.parents.now parents clear c.in-Ok.fresh c.in-Ok.ensures.ok c.write_parents-old.ensures.written c.write_parents-old.ensures.len in
+    node c.args.parents.now parents clear c.in-Ok.fresh c.in-Ok.ensures.items c.write_parents-old.ensures.written c.write_parents-old.ensures.len in
     moved_same_graph (limits_of c.self.inside) c.self.inside.nodes c.write_parents-old.new.nodes c.self.inside.births c.self.invariant.sound sound
-    c.self.invariant.children c.args.n node c.in-Ok.fresh c.write_parents-old.ensures.written c.args.parents.now c.in-Ok.ensures.ok parents.inner
-    parents.distinct c.as_slice.result.now (λ y e. c.as_slice.ensures ∙ c.write_parents-old.ensures.old y e)
+    c.self.invariant.children c.args.n node c.in-Ok.fresh c.write_parents-old.ensures.written c.args.parents.now c.in-Ok.ensures.items parents.inner
+    parents.distinct c.as_slice.result.now (λ y e. c.as_slice.ensures.value ∙ c.write_parents-old.ensures.old y e)
     c.count_down.new.nodes c.count_down.ensures.counted c.count_up.new.nodes c.count_up.ensures.counted
     ∙ moved_graph (limits_of c.self.inside) c.self.inside.nodes c.write_parents-old.new.nodes c.self.inside.births c.self.invariant.sound c.args.n
-    node c.args.parents.now parents clear c.in-Ok.fresh c.in-Ok.ensures.ok c.write_parents-old.ensures.written c.write_parents-old.ensures.len
+    node c.args.parents.now parents clear c.in-Ok.fresh c.in-Ok.ensures.items c.write_parents-old.ensures.written c.write_parents-old.ensures.len
     ∙ ap (λ (v : View). with_parents (graph_of v) c.args.n c.args.parents.now) c.self.view_is

@@ -20,10 +20,10 @@ returns-in-File c =
       items = filter (λ listed. not (same_node listed c.args.index)) c.deref_mut.result.now.indexes.items;
       capacity = c.deref_mut.result.now.indexes.capacity;
     } = λ i. record { items = items i; capacity = c.retain.ensures.capacity i } in
-    ap (λ (v : SmallVec NodeId). body.File c.in-File.parents (with_value c.in-File.kept (record {
+    ap (λ (v : SmallVec NodeId). body.File (with_value c.in-File.kept (record {
       indexes = v;
       records = c.deref_mut.result.now.records;
       adopted = c.deref_mut.result.now.adopted;
-    }))) same
-    ∙ ap (λ (b : FileBody). body_without_index (body.File c.in-File.parents (with_value c.in-File.kept b)) c.args.index) c.deref_mut.ensures.value
+    })) c.in-File.parents) same
+    ∙ ap (λ (b : FileBody). body_without_index (body.File (with_value c.in-File.kept b) c.in-File.parents) c.args.index) c.deref_mut.ensures.value
     ∙ sym (ap (λ (b : Body). body_without_index b c.args.index) c.in-File.is)
