@@ -58,6 +58,16 @@ impl Reply {
         }
     }
 
+    /// A status, and the node that it is about.
+    fn about(status: u32, node: NodeId) -> Reply
+        ensures { result ≡ reply_at node (status_reply status) }
+    {
+        Reply {
+            node: Node::of(node),
+            ..Reply::with_status(status)
+        }
+    }
+
     /// What C is answered for an answer.
     pub(crate) fn of(answer: Answer) -> Reply
         ensures { result ≡ reply_of answer }
@@ -112,7 +122,8 @@ impl Reply {
         }
     }
 
-    /// What C is answered for a path to a node.
+    /// What C is answered for a path to a node. Inlined, so that the reply is copied once.
+    #[inline(always)]
     pub(crate) fn of_path(node: NodeId, reached: Result<Reached, Refusal>) -> Reply
         ensures { result ≡ path_reply node reached }
     {
@@ -128,9 +139,9 @@ impl Reply {
     {
         match locked {
             Locked::Granted(mode) if at == node => Reply::with_mode(mode),
-            Locked::Granted(_) => Reply::with_status(ON_THE_WAY).at(at),
-            Locked::Waiting => Reply::with_status(WAITING).at(at),
-            Locked::Victim => Reply::with_status(VICTIM).at(at),
+            Locked::Granted(_) => Reply::about(ON_THE_WAY, at),
+            Locked::Waiting => Reply::about(WAITING, at),
+            Locked::Victim => Reply::about(VICTIM, at),
         }
     }
 
@@ -145,6 +156,8 @@ impl Reply {
     }
 
     /// What C is answered for a call about rows: of a lock that is not refused also its row's node.
+    /// Inlined for the same reason.
+    #[inline(always)]
     pub(crate) fn of_row_call(answer: RowAnswer) -> Reply
         ensures { result ≡ call_reply answer }
     {

@@ -86,7 +86,9 @@ impl Session {
         Reply::of_served(answer)
     }
 
-    /// Locks a node with what has to be held above it, and writes down whom it tells.
+    /// Locks a node with what has to be held above it, and writes down whom it tells. Inlined as `carry_out`
+    /// is.
+    #[inline(always)]
     pub(crate) fn lock_path(
         &mut self,
         txn: TxnId,

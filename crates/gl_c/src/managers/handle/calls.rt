@@ -110,7 +110,9 @@ impl Handle {
         reply
     }
 
-    /// Locks a node with what has to be held above it, and writes down whom it tells.
+    /// Locks a node with what has to be held above it, and writes down whom it tells. Inlined, so that the
+    /// reply is copied once.
+    #[inline(always)]
     pub(crate) fn lock_path(
         &mut self,
         txn: TxnId,
