@@ -19,12 +19,12 @@
 # Watchers that are told every command, the notes that sessions give them, and replies with a list of notices each no
 # program in C can reach: they are not measured.
 #
-# What was counted in November 2026, in instructions: a round 3102 by the manager, 4035 by calls and 3687 by a list,
-# whoever waits elsewhere, and by calls 366 more with a watcher while nobody waits, and 472 while others do (in 0.17 a
-# board behind each command, which by its parts is some 92000); a board 1890 alone, 12243 beside 100 elsewhere and 18101 beside a
-# queue of 126; to show one, behind a command by which a wait may have changed, 16491 and 26659 beside these; a question
-# 221, a look 1015. In time, the best of nine on a core of an Intel Xeon at 2.5 GHz that other work shares: a round 0.41,
-# 0.48 and 0.57 microseconds, a board 0.24, 1.4 and 2.0, a look 0.17.
+# What was counted in November 2026, in instructions: a round 3114 by the manager, 4047 by calls and 3699 by a list,
+# whoever waits elsewhere, and by calls 57 more with a watcher while nobody waits, and 454 while others do (in 0.17 a
+# board behind each command, which by its parts is some 92000); a board 1884 alone, 12236 beside 100 elsewhere and 18094
+# beside a queue of 126; to show one, behind a command by which a wait may have changed, in 0.18.0 16491 and 26659 beside
+# these; a question 221, a look 1015. In time, the best of nine on a core of an Intel Xeon at 2.5 GHz that other work
+# shares: a round 0.41, 0.48 and 0.57 microseconds, a board 0.24, 1.4 and 2.0, a look 0.17.
 
 # shellcheck source-path=SCRIPTDIR source=frame/frame.sh
 . "$(dirname "$0")/frame/frame.sh" || exit 2
