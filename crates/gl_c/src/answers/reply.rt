@@ -207,10 +207,7 @@ impl Reply {
     pub(crate) fn with_node(node: NodeId) -> Reply
         ensures { result ≡ reply_of (answer.Node node) }
     {
-        Reply {
-            node: Node::of(node),
-            ..Reply::with_status(DONE)
-        }
+        Reply::about(DONE, node)
     }
 
     /// A mode that was asked after.
