@@ -3,6 +3,7 @@
  */
 #include "burlapslate_dump.h"
 
+#include <pthread.h>
 #include <stdlib.h>
 
 enum { DUMP_PART = 256 };
@@ -258,13 +259,17 @@ static bool dump_parts(dump_copy *copy, FILE *out) {
   return true;
 }
 
+/* The thread's cancellation is held off: to write may be a point of it, which would keep the copy and a lent latch. */
 static bs_reply dump_of(const bs_manager *held, bs_table *table, FILE *out) {
   dump_copy *copy = (dump_copy *)malloc(sizeof *copy);
   bool is_whole;
+  int state;
   if (copy == NULL) return bs_call_only(BS_NO_MEMORY);
   copy->manager = held;
   copy->table = table;
+  pthread_setcancelstate(PTHREAD_CANCEL_DISABLE, &state);
   is_whole = dump_parts(copy, out);
+  pthread_setcancelstate(state, &state);
   free(copy);
   return bs_call_only(is_whole ? BS_DONE : BS_NO_MANAGER);
 }

@@ -38,6 +38,12 @@ typedef struct table_way {
   bool is_cancelled;
 } table_way;
 
+/* For what a call was left waiting. */
+typedef struct table_wait {
+  bs_node node;
+  bs_mode mode;
+} table_wait;
+
 /* A lock that is waited for, to be given back as it is granted; and what it was granted as, once it was. */
 typedef struct table_instant {
   bs_txn txn;
@@ -169,15 +175,19 @@ static inline void table_take(bs_table *table) {
 /* What this thread holds by bs_table_hold, the last table first. */
 static __thread __attribute__((tls_model("initial-exec"))) bs_table *table_held;
 
-static TABLE_APART bool table_is_held(const bs_table *table) {
-  const bs_table *each = table_held;
-  while (each != NULL && each != table) each = each->held_before;
-  return each != NULL;
+/* Whether a table is one of these, which were held one after the other. */
+static TABLE_APART bool table_is_among(const bs_table *table, const bs_table *held) {
+  while (held != NULL && held != table) held = held->held_before;
+  return held != NULL;
 }
+
+/* What this thread held when the engine's function was called, which the function does not give back; null, where it is
+ * in no call of one. */
+static __thread __attribute__((tls_model("initial-exec"))) bs_table *table_held_outside;
 
 /* Whether this thread holds the table. */
 static inline bool table_holds(const bs_table *table) {
-  return table_held != NULL && table_is_held(table);
+  return table_held != NULL && table_is_among(table, table_held);
 }
 
 /* The ends that this thread tells: null, where it is in no call of an engine's function. */
@@ -311,6 +321,17 @@ static inline void table_wake(bs_table *table, bs_status status, bs_notices *tol
   if (status == BS_WAITING) table_wait_began(table);
 }
 
+/* Registers the wait of a transaction that was just left waiting, for an instant or not, before anybody is woken: what
+ * is set off then may end this wait too. What came for an instant before is nothing to it. */
+static void table_register(bs_table *table, bs_txn txn, bs_node node, bool is_instant) {
+  table_instant *own = &table->instants[txn.slot];
+  own->came.status = BS_WAITING;
+  if (!is_instant) return;
+  own->txn = txn;
+  own->node = node;
+  table->instantly.words[txn.slot / 64] |= (uint64_t)1 << txn.slot % 64;
+}
+
 /* Sleeps on a condition, with the latch held before and behind it, to a time at most where that is not null: whether
  * that is over, by ETIMEDOUT. Nobody is to be woken or told any more by the one who sleeps. The thread's cancellation
  * is held off: it would keep the latch. */
@@ -363,7 +384,8 @@ static bs_reply table_became(bs_table *table, bs_txn txn, bs_node node, bs_mode 
   const table_instant *own;
   if (reply.status != BS_NOT_WAITING) return reply;
   own = &table->instants[txn.slot];
-  return own->came.status == BS_DONE && own->txn.age == txn.age && table_is_same_node(own->node, node) ? own->came : reply;
+  if (own->came.status != BS_DONE || own->txn.age != txn.age) return reply;
+  return table_is_same_node(own->node, node) ? own->came : reply;
 }
 
 /* The same for one who sleeps: a table that ends answers so. */
@@ -372,9 +394,9 @@ static bs_reply table_verdict(bs_table *table, bs_txn txn, bs_node node, bs_mode
 }
 
 /* Of a lock that was answered BS_WAITING: sleeps, with the latch held before and behind it, until it has its verdict,
- * or the time is over, or the table ends. What became of the wait is asked before the clock. The time is copied: a
- * deadline that another thread sets meanwhile is of later waits. Whose wait it has ended is woken or told before it
- * sleeps. */
+ * or the time is over, or the table ends. What became of the wait is asked before the clock, and before a sleep where
+ * the call has ended waits: its own may be one of them. The time is copied: a deadline that another thread sets
+ * meanwhile is of later waits. Whose wait it has ended is woken or told before it sleeps. */
 static TABLE_APART bs_reply table_sleep(bs_table *table, bs_txn txn, bs_node node, bs_mode mode,
                                         const struct timespec *until) {
   struct timespec time;
@@ -386,7 +408,8 @@ static TABLE_APART bs_reply table_sleep(bs_table *table, bs_txn txn, bs_node nod
     until = &time;
   }
   table->sleepers++;
-  if (table_tell_between(table)) reply = table_verdict(table, txn, node, mode);
+  if (table->is_due) reply = table_verdict(table, txn, node, mode);
+  if (reply.status == BS_WAITING && table_tell_between(table)) reply = table_verdict(table, txn, node, mode);
   while (reply.status == BS_WAITING && late != ETIMEDOUT) {
     late = table_doze(table, &table->ended[txn.slot], until);
     reply = table_verdict(table, txn, node, mode);
@@ -536,14 +559,19 @@ static TABLE_APART bs_reply table_no_entry(bs_table *table) {
   return bs_call_only(shut == BS_DONE ? BS_BAD_NUMBER : shut);
 }
 
-/* As table_enter_until, of a call that may sleep, which nobody makes who is told an end: the thread is another's. And
- * why it was not entered. */
+/* Whether this thread may sleep: it is in no call of an engine's function, where it is another's, and holds no table by
+ * bs_table_hold, whose latch it would keep. */
+static inline bool table_may_sleep(void) {
+  return table_telling == NULL && table_held == NULL;
+}
+
+/* As table_enter_until, of a call that may sleep; and why it was not entered. */
 static inline bool table_enter_to_sleep(bs_table *table, const struct timespec *until) {
-  return table_telling == NULL && table_enter_until(table, until);
+  return table_may_sleep() && table_enter_until(table, until);
 }
 
 static TABLE_APART bs_reply table_no_sleep(bs_table *table) {
-  return table != NULL && table_telling != NULL ? bs_call_only(BS_IN_USE) : table_no_entry(table);
+  return table != NULL && !table_may_sleep() ? bs_call_only(BS_IN_USE) : table_no_entry(table);
 }
 
 /* ------------------------------------------------------------------------------------------------
@@ -633,7 +661,7 @@ static void table_end_asks(bs_table *table) {
 bs_reply bs_table_end(bs_table *table) {
   bs_reply reply;
   int state;
-  if (table != NULL && table_telling != NULL) return bs_call_only(BS_IN_USE);
+  if (table != NULL && !table_may_sleep()) return bs_call_only(BS_IN_USE);
   if (!table_enter(table)) return table_no_table(table);
   pthread_setcancelstate(PTHREAD_CANCEL_DISABLE, &state);
   table->stage = TABLE_ENDING;
@@ -726,61 +754,47 @@ static void table_give_back_at_once(bs_table *table, bs_txn txn, bs_node node) {
   table_wake(table, reply.status, &table->told, false);
 }
 
-/* A transaction waits anew: what came for an instant before is nothing to that. */
-static void table_waits(bs_table *table, bs_txn txn) {
-  table->instants[txn.slot].came.status = BS_WAITING;
-}
-
-/* Makes the call bs_lock, or bs_lock_path, for an instant: a node that was not held is given back as soon as it is
- * granted. */
-static TABLE_APART bs_reply table_instantly(bs_table *table, bs_txn txn, bs_node node, bs_mode mode, bool is_path,
-                                            bs_notices *told) {
-  bs_manager *m = &table->manager;
-  bool is_new = bs_held(m, txn, node).mode == BS_NL;
-  bs_reply reply = is_path ? bs_lock_path(m, txn, node, mode, told) : bs_lock(m, txn, node, mode, told);
-  table_wake(table, reply.status, told, false);
-  if (is_new && reply.status == BS_DONE) table_give_back_at_once(table, txn, node);
-  if (reply.status == BS_WAITING) table_waits(table, txn);
-  if (is_new && reply.status == BS_WAITING && (!is_path || table_is_same_node(reply.node, node))) {
-    table_instant *own = &table->instants[txn.slot];
-    own->txn = txn;
-    own->node = node;
-    table->instantly.words[txn.slot / 64] |= (uint64_t)1 << txn.slot % 64;
-  }
-  return reply;
-}
-
 /* The mode of an ask, without what else it says. */
 static inline bs_mode table_mode_of(bs_mode asked) {
   return asked & ~(bs_mode)BS_INSTANT;
 }
 
+/* Whether a node is asked for an instant, and not held: so it is given back as soon as it is granted. */
+static inline bool table_is_instant(const bs_table *table, bs_txn txn, bs_node node, bs_mode asked) {
+  return (asked & BS_INSTANT) != 0 && bs_held(&table->manager, txn, node).mode == BS_NL;
+}
+
 /* Makes the call bs_lock with the latch held. */
 static inline bs_reply table_lock_now(bs_table *table, bs_txn txn, bs_node node, bs_mode asked, bs_notices *told) {
-  bs_reply reply;
-  if ((asked & BS_INSTANT) != 0) return table_instantly(table, txn, node, table_mode_of(asked), false, told);
-  reply = bs_lock(&table->manager, txn, node, asked, told);
+  bool is_instant = table_is_instant(table, txn, node, asked);
+  bs_reply reply = bs_lock(&table->manager, txn, node, table_mode_of(asked), told);
+  if (reply.status == BS_WAITING) table_register(table, txn, node, is_instant);
   table_wake(table, reply.status, told, false);
-  if (reply.status == BS_WAITING) table_waits(table, txn);
+  if (is_instant && reply.status == BS_DONE) table_give_back_at_once(table, txn, node);
   return reply;
 }
 
-/* Makes the call bs_lock_path with the latch held. */
-static inline bs_reply table_path_now(bs_table *table, bs_txn txn, bs_node node, bs_mode asked, bs_notices *told) {
-  bs_reply reply;
-  if ((asked & BS_INSTANT) != 0) return table_instantly(table, txn, node, table_mode_of(asked), true, told);
-  reply = bs_lock_path(&table->manager, txn, node, asked, told);
+/* Makes the call bs_lock_path with the latch held. Where that waits, for what is written: the manager forgets the mode
+ * with the wait, which may be over when others are woken. */
+static inline bs_reply table_path_now(bs_table *table, bs_txn txn, bs_node node, bs_mode asked, bs_notices *told,
+                                      table_wait *wait) {
+  bool is_instant = table_is_instant(table, txn, node, asked);
+  bs_reply reply = bs_lock_path(&table->manager, txn, node, table_mode_of(asked), told);
+  if (reply.status == BS_WAITING) {
+    wait->node = reply.node;
+    wait->mode = bs_call_doing(&table->manager, txn).mode;
+    table_register(table, txn, node, is_instant && table_is_same_node(reply.node, node));
+  }
   table_wake(table, reply.status, told, false);
-  if (reply.status == BS_WAITING) table_waits(table, txn);
+  if (is_instant && reply.status == BS_DONE) table_give_back_at_once(table, txn, node);
   return reply;
 }
 
 /* Makes the call bs_try with the latch held. */
 static inline bs_reply table_try_now(bs_table *table, bs_txn txn, bs_node node, bs_mode asked) {
-  bs_manager *m = &table->manager;
-  bool is_new = (asked & BS_INSTANT) != 0 && bs_held(m, txn, node).mode == BS_NL;
-  bs_reply reply = bs_try(m, txn, node, table_mode_of(asked));
-  if (is_new && reply.status == BS_DONE) table_give_back_at_once(table, txn, node);
+  bool is_instant = table_is_instant(table, txn, node, asked);
+  bs_reply reply = bs_try(&table->manager, txn, node, table_mode_of(asked));
+  if (is_instant && reply.status == BS_DONE) table_give_back_at_once(table, txn, node);
   return reply;
 }
 
@@ -854,12 +868,13 @@ bs_reply bs_table_escalate(bs_table *table, bs_txn txn, bs_node node, bs_notices
 /* Makes the call bs_lock_path with the latch held, and sleeps where that waits. */
 static bs_reply table_path_inside(bs_table *table, bs_txn txn, bs_node node, bs_mode mode,
                                   const struct timespec *until) {
-  bs_reply reply = table_path_now(table, txn, node, mode, &table->told);
+  table_wait wait;
+  bs_reply reply = table_path_now(table, txn, node, mode, &table->told, &wait);
   table_way path;
   if (reply.status != BS_WAITING) return reply;
   path.txn = txn;
-  path.at = reply.node;
-  path.mode = bs_call_doing(&table->manager, txn).mode;
+  path.at = wait.node;
+  path.mode = wait.mode;
   path.is_last = table_is_same_node(path.at, node);
   path.is_cancelled = false;
   table->ways[txn.slot] = &path;
@@ -1023,8 +1038,8 @@ bs_reply bs_table_index_by(bs_table *table, bs_txn txn, const bs_node *parents, 
 static bs_reply table_ask_row(bs_table *table, bs_txn txn, const table_row *row, bs_mode mode) {
   bs_reply reply =
     bs_lock_row(&table->manager, txn, row->file, row->number, row->keys, row->count, mode, &table->told);
+  if (reply.status == BS_WAITING) table_register(table, txn, reply.node, false);
   table_wake(table, reply.status, &table->told, false);
-  if (reply.status == BS_WAITING) table_waits(table, txn);
   return reply;
 }
 
@@ -1122,13 +1137,14 @@ bs_reply bs_table_rekey_row(bs_table *table, bs_txn txn, bs_node file, uint64_t 
 
 /* Asks for the locks of a path up to its end, or up to one that waits. Where others fell for one above it goes on. */
 static bs_reply table_ask_path(bs_table *table, table_asked *ask) {
+  table_wait wait;
   bs_reply reply;
   do {
-    reply = table_path_now(table, ask->txn, ask->node, ask->mode, &table->told);
+    reply = table_path_now(table, ask->txn, ask->node, ask->mode, &table->told, &wait);
   } while (reply.status == BS_ON_THE_WAY);
   if (reply.status == BS_WAITING) {
-    ask->at = reply.node;
-    ask->wanted = bs_call_doing(&table->manager, ask->txn).mode;
+    ask->at = wait.node;
+    ask->wanted = wait.mode;
   }
   return reply;
 }
@@ -1180,9 +1196,10 @@ static void table_was_told(bs_table *table) {
  * bs_table_hold it has no more behind it. */
 static void table_tell_one(table_asked *ask) {
   bs_table *table = ask->table;
-  bs_table *held = table_held;
+  table_held_outside = table_held;
   table->asks->on_end(table->asks->context, ask->txn, ask->end, ask->word);
-  while (table_held != held && table_held != NULL) bs_table_let_go(table_held);
+  while (table_held != table_held_outside) bs_table_let_go(table_held);
+  table_held_outside = NULL;
   table_take(table);
   table_spare(table, ask);
   table_was_told(table);
@@ -1300,17 +1317,21 @@ static TABLE_APART bs_reply table_ask_and_tell(bs_table *table, table_asked *own
   return reply;
 }
 
-/* Leaves behind an ask that was answered so. */
+/* Leaves behind an ask that was answered so. One that waits, and that has ended waits, is looked at with those: its own
+ * may be one of them. */
 static bs_reply table_leave_asked(bs_table *table, table_asked *own, bs_reply reply) {
   uint32_t slot = own->txn.slot;
+  uint64_t bit = (uint64_t)1 << slot % 64;
   if (reply.status != BS_WAITING) {
     table_spare(table, own);
     return table_leave(table, reply);
   }
   table_ask_waits(table, own);
   table->asks->at[slot] = own;
-  table->asks->asked.words[slot / 64] |= (uint64_t)1 << slot % 64;
-  return table->is_due ? table_ask_and_tell(table, own, reply) : table_leave(table, reply);
+  table->asks->asked.words[slot / 64] |= bit;
+  if (!table->is_due) return table_leave(table, reply);
+  table->asks->due.words[slot / 64] |= bit;
+  return table_ask_and_tell(table, own, reply);
 }
 
 bs_reply bs_table_ask(bs_table *table, bs_txn txn, bs_node node, bs_mode mode, const struct timespec *until,
@@ -1423,21 +1444,30 @@ bs_reply bs_table_expire(bs_table *table, struct timespec *next) {
  * Several commands in one hold of the latch, with nobody's between them.
  */
 
-/* A path in a list. Where others fell for a lock above it goes on, as a path that may sleep does: they are woken, and
- * no command of theirs comes between. The caller's list, where there is one, has whom all its locks told. */
-static bs_reply table_path_made(bs_table *table, const bs_command *c, bs_txn txn, bs_notices *told) {
-  bs_reply reply = table_path_now(table, txn, c->node, c->mode, told);
+/* The rest of a path in a list, whose caller has the notices of all its locks. */
+static bs_reply table_path_made_on(bs_table *table, const bs_command *c, bs_txn txn, bs_notices *told, bs_reply reply) {
+  table_wait wait;
   while (reply.status == BS_ON_THE_WAY) {
-    reply = table_path_now(table, txn, c->node, c->mode, &table->told);
+    reply = table_path_now(table, txn, c->node, c->mode, &table->told, &wait);
+    if (reply.status == BS_WAITING) reply.mode = wait.mode;
     if (told != &table->told) table_tell_too(told, &table->told);
   }
   return reply;
 }
 
-/* A lock in a list. It is noted behind it whom that wakes. */
+/* A path in a list. Where others fell for a lock above it goes on, as a path that may sleep does: they are woken, and
+ * no command of theirs comes between. */
+static bs_reply table_path_made(bs_table *table, const bs_command *c, bs_txn txn, bs_notices *told) {
+  table_wait wait;
+  bs_reply reply = table_path_now(table, txn, c->node, c->mode, told, &wait);
+  if (reply.status == BS_WAITING) reply.mode = wait.mode;
+  return table_path_made_on(table, c, txn, told, reply);
+}
+
+/* A lock in a list. Whose wait it has ended is noted behind it, but for a lock for an instant. */
 static inline bs_reply table_lock_made(bs_table *table, const bs_command *c, bs_txn txn, bs_notices *told) {
   if ((c->mode & BS_INSTANT) == 0) return bs_lock(&table->manager, txn, c->node, c->mode, told);
-  return table_instantly(table, txn, c->node, table_mode_of(c->mode), false, told);
+  return table_lock_now(table, txn, c->node, c->mode, told);
 }
 
 /* A row in a list that is tried. */
@@ -1501,12 +1531,49 @@ static void table_not_made(bs_command *commands, size_t count) {
   for (i = 0; i < count; i++) commands[i].reply = bs_call_only(BS_NOT_MADE);
 }
 
-/* Of a command that waits: the reply has the node and the mode that are to be awaited. The library says the node of a
- * path and of a row, and of a path in which mode it is waited for is asked. */
+/* Of a command that waits, before anybody is woken: the reply has the node and the mode that are to be awaited. The
+ * library says the node of a path and of a row. What is asked for by a path, or for an instant, is registered by then.
+ * */
 static inline void table_say_for_what(bs_table *table, bs_command *c, bs_txn txn) {
-  if (c->kind != BS_DO_LOCK_PATH && (c->mode & BS_INSTANT) == 0) table_waits(table, txn);
-  c->reply.mode = c->kind == BS_DO_LOCK_PATH ? bs_call_doing(&table->manager, txn).mode : table_mode_of(c->mode);
+  if (c->kind == BS_DO_LOCK_PATH) return;
+  if ((c->mode & BS_INSTANT) == 0) table_register(table, txn, c->node, false);
+  c->reply.mode = table_mode_of(c->mode);
   if (c->kind == BS_DO_LOCK) c->reply.node = c->node;
+}
+
+/* Takes the notice of a transaction off a list: it is answered what that says. */
+static void table_tell_all_but(bs_notices *told, bs_txn txn) {
+  size_t i, kept = 0;
+  for (i = 0; i < told->count; i++) {
+    if (told->at[i].txn.slot != txn.slot) told->at[kept++] = told->at[i];
+  }
+  told->count = kept;
+}
+
+/* What a command of a list comes to whose own wait has ended so. A path goes on, and a row is asked for again. */
+static bs_reply table_made_on(bs_table *table, const bs_command *c, bs_txn txn, bs_notices *told, bs_reply became) {
+  if (c->kind == BS_DO_LOCK_ROW && became.status == BS_DONE) {
+    table_row row = table_row_of(c->file, c->number, c->keys, c->key_count);
+    return table_row_again(table, txn, &row, c->mode, c->reply.node, became);
+  }
+  if (c->kind != BS_DO_LOCK_PATH) return became;
+  if (became.status == BS_MOVED || (became.status == BS_DONE && !table_is_same_node(c->reply.node, c->node))) {
+    became.status = BS_ON_THE_WAY;
+  }
+  return table_path_made_on(table, c, txn, told, became);
+}
+
+/* Of a command of a list that was left waiting, and that has ended waits: what these set off settles, and where its own
+ * wait ends by that it comes to what it can come to now. */
+static TABLE_APART void table_settle_made(bs_table *table, bs_command *c, bs_txn txn, bs_notices *told) {
+  bs_reply became;
+  do {
+    if (table->asks != NULL) table_go_on(table);
+    became = table_became(table, txn, c->reply.node, c->reply.mode);
+    if (became.status == BS_WAITING) return;
+    c->reply = table_made_on(table, c, txn, told, became);
+    table_tell_all_but(told, txn);
+  } while (c->reply.status == BS_WAITING);
 }
 
 /* Makes the next command of a list, and writes its reply. It stands in line in both loops: a call for each command of a
@@ -1519,8 +1586,9 @@ static inline __attribute__((always_inline)) bs_status table_run_next(bs_table *
   told->count = 0;
   by_name = next->kind == BS_DO_CANCEL || next->kind == BS_DO_ABORT;
   next->reply = table_made(table, next, txn, told);
-  table_wake(table, next->reply.status, told, by_name);
   if (next->reply.status == BS_WAITING) table_say_for_what(table, next, txn);
+  table_wake(table, next->reply.status, told, by_name);
+  if (next->reply.status == BS_WAITING && table->is_due) table_settle_made(table, next, txn, told);
   return next->reply.status;
 }
 
@@ -1557,11 +1625,16 @@ static TABLE_APART bs_status table_try_one(bs_table *table, bs_command *next) {
   return BS_BAD_NUMBER;
 }
 
+/* Whether a try that was answered so is passed over: it would block, its record or row has moved, or it is gone. */
+static bool table_is_passed(bs_status status) {
+  return status == BS_WOULD_BLOCK || status == BS_NEED_PARENTS || status == BS_NO_SUCH_NODE;
+}
+
 size_t bs_table_try_first(bs_table *table, bs_command *commands, size_t count) {
   size_t place = 0;
   if (commands == NULL || count == 0) return count;
   if (!table_enter(table)) return table_none_made(table, commands, count);
-  while (place < count && table_try_one(table, &commands[place]) == BS_WOULD_BLOCK) place++;
+  while (place < count && table_is_passed(table_try_one(table, &commands[place]))) place++;
   table_release(table);
   if (place < count) table_not_made(commands + place + 1, count - place - 1);
   return place;
@@ -1582,6 +1655,7 @@ bs_reply bs_table_let_go(bs_table *table) {
   bs_table **at = &table_held;
   if (table == NULL) return bs_call_null();
   if (!table_holds(table)) return bs_call_only(BS_NOT_HELD);
+  if (table_is_among(table, table_held_outside)) return bs_call_only(BS_IN_USE);
   while (*at != table) at = &(*at)->held_before;
   *at = table->held_before;
   table_hand_on(table);
@@ -1606,20 +1680,28 @@ static void table_rest(bs_table *table, uint64_t nanoseconds) {
   }
 }
 
-/* Settles every suspect of a board, the youngest first, with the latch held. Who is settled, and who is told, is taken
- * off the board: so nobody is settled whose cycles are open by then. */
-static void table_settle_all(bs_table *table, bs_board *board) {
+/* Settles a suspect of a board. It, and each transaction that this tells, is taken off the board: so none is settled
+ * whose cycles are open by then. */
+static void table_settle_one(bs_table *table, bs_board *board, uint32_t slot) {
   static const bs_slots none = { { 0 } };
+  bs_txn suspect;
+  size_t i;
+  suspect.slot = slot;
+  suspect.age = board->ages[slot];
+  table_wake(table, bs_settle(&table->manager, suspect, &table->told).status, &table->told, false);
+  board->rows[slot] = none;
+  for (i = 0; i < table->told.count; i++) board->rows[table->told.at[i].txn.slot] = none;
+}
+
+/* Settles every suspect of a board, the youngest first, while the table is open. The latch is held before and behind
+ * it, and is free between two of them: each searches the whole graph of waits. */
+static void table_settle_all(bs_table *table, bs_board *board) {
   bs_reply youngest = bs_youngest(board, bs_suspects(board).slots);
-  while (youngest.status == BS_DONE) {
-    bs_txn suspect;
-    size_t i;
-    suspect.slot = (uint32_t)youngest.count;
-    suspect.age = board->ages[youngest.count];
-    table_wake(table, bs_settle(&table->manager, suspect, &table->told).status, &table->told, false);
-    board->rows[suspect.slot] = none;
-    for (i = 0; i < table->told.count; i++) board->rows[table->told.at[i].txn.slot] = none;
+  while (youngest.status == BS_DONE && table->stage == TABLE_OPEN) {
+    table_settle_one(table, board, (uint32_t)youngest.count);
+    table_release(table);
     youngest = bs_youngest(board, bs_suspects(board).slots);
+    table_take(table);
   }
 }
 
@@ -1645,7 +1727,6 @@ static void *table_watch_over(void *place) {
     if (board.epoch < seen) bs_read_board(&table->manager, &board);
     seen = board.epoch;
     table_settle_all(table, &board);
-    table_tell_between(table);
     table_rest(table, table->pace);
   }
   pthread_mutex_unlock(&table->latch);

@@ -19,7 +19,8 @@ extern "C" {
  * part of 256 locks of a transaction. Between these the latch is given up, and nothing is written with it. So a lock
  * may be missed, or stand twice, where its transaction changes its locks meanwhile. Refused with BS_NULL_POINTER, as
  * any call with a table, also where the table is ended meanwhile, and with BS_NO_MEMORY; what the file says of faults,
- * ferror tells. Takes memory, some fifty kilobytes however much there is, with 1,024 slots half a megabyte. */
+ * ferror tells. A pthread_cancel takes effect after the call. Takes memory, some fifty kilobytes however much there is,
+ * with 1,024 slots half a megabyte. */
 bs_reply bs_table_dump(bs_table *table, FILE *file);
 
 /* The same of a manager that the caller holds, as of bs_table_hold, and so all of one moment. */

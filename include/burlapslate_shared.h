@@ -21,12 +21,14 @@
  *     between these two;
  *   - names of transactions and nodes are good with the table that gave them.
  *
- * WHAT A CALL ANSWERS. What the call of burlapslate.h answers that has its name without `table_`, with one more
- * status, BS_TIMED_OUT; and BS_NOT_MADE of a command in a list that was not made. What stands there of refusals,
- * memory and costs holds here too. A call is one hold of the latch, with nobody's steps between its own. Where it
- * sleeps, others use the table meanwhile. A null table is refused with BS_NULL_POINTER, and one that was ended with
+ * WHAT A CALL ANSWERS. What the call of burlapslate.h answers that has its name without `table_`, with one more status,
+ * BS_TIMED_OUT; and BS_NOT_MADE of a command in a list that was not made. What stands there of refusals, memory and
+ * costs holds here too. A call is one hold of the latch, with nobody's steps between its own. Where it sleeps, others
+ * use the table meanwhile. A call answers after all that it set off in that hold: if its own wait has ended by then, it
+ * answers that end and does not sleep. A null table is refused with BS_NULL_POINTER, and one that was ended with
  * BS_NO_MANAGER. Of a thread that holds the table by bs_table_hold each call but bs_table_let_go is refused with
- * BS_IN_USE. A call with `told` fills it where it is not null; those who sleep are woken, whether it is null or not.
+ * BS_IN_USE, and so is each call of any table that could sleep: the thread would keep the latch. A call with `told`
+ * fills it where it is not null; those who sleep are woken, whether it is null or not.
  *
  * HOW LONG A SLEEP IS. A call that may sleep takes `until`, a time by CLOCK_MONOTONIC up to which it sleeps at most;
  * bs_after gives one. Where it is null it sleeps until the end. Where it is no time the call is refused with
@@ -59,9 +61,10 @@
  *   - Nobody sleeps for the time of an ask: whoever has a clock calls bs_table_expire.
  * THE FUNCTION may make any call of a table, also of this one, but for those that could sleep, and bs_table_end: these
  * are refused with BS_IN_USE, of any table. What its calls end is told behind it, by the same thread, so that no thread
- * calls it within itself. What it has taken by bs_table_hold is given back behind it. It returns, and leaves in no
- * other way; a pthread_cancel comes behind it. It takes no mutex that any thread holds round a call of the table. The
- * thread whose call it is waits for it: so it is short, as a write to an eventfd that wakes the loop.
+ * calls it within itself. What it has taken by bs_table_hold is given back after it returns; what the thread held when
+ * it was called stays held, and bs_table_let_go of that is refused with BS_IN_USE. It returns, and leaves in no other
+ * way; a pthread_cancel comes behind it. It takes no mutex that any thread holds round a call of the table. The thread
+ * whose call it is waits for it: so it is short, as a write to an eventfd that wakes the loop.
  */
 #ifndef BURLAPSLATE_SHARED_H
 #define BURLAPSLATE_SHARED_H
@@ -98,7 +101,7 @@ static inline bs_reply bs_table_make(bs_table **table, const bs_options *options
 /* Ends a table, whatever its transactions do. Each call that begins from now on is answered BS_NO_MANAGER, and so is
  * each that sleeps; behind this call none sleeps any more, and the thread that watched has ended. Its memory stays
  * until bs_table_free. Watchers go on, and are ended by bs_watch_end. Refused with BS_NO_MANAGER also where another
- * thread is ending it. */
+ * thread is ending it, and with BS_IN_USE in the engine's function and while the thread holds a table. */
 bs_reply bs_table_end(bs_table *table);
 
 /* Gives the memory of a table up that was ended, and writes null for the pointer. No other thread is in a call with it,
@@ -152,8 +155,8 @@ bs_reply bs_table_deadline(bs_table *table, bs_txn txn, const struct timespec *u
  * lowers a mode. One of which it holds a child by another parent stays too, since bs_unlock refuses that. What a path
  * locks above its node stays. A grant and a release are two commands. Taken by bs_table_lock, bs_table_lock_path,
  * bs_table_try, bs_table_ask, bs_table_ask_path, and in a list by BS_DO_LOCK, BS_DO_LOCK_PATH and BS_DO_TRY. It is no
- * mode: all other calls refuse it with BS_BAD_NUMBER. What is awaited by bs_table_await is the mode without it. That such a lock came
- * is known to the table alone: bs_verdict of the manager that it lends answers BS_NOT_WAITING. */
+ * mode: all other calls refuse it with BS_BAD_NUMBER. What is awaited by bs_table_await is the mode without it. That
+ * such a lock came is known to the table alone: bs_verdict of the manager that it lends answers BS_NOT_WAITING. */
 #define BS_INSTANT 256u
 
 /* As bs_lock, but it never answers BS_WAITING: a lock that has to wait sleeps until its end. */
@@ -190,8 +193,8 @@ enum bs_keeps { BS_KEEP_NOTHING = 0, BS_KEEP_WAY = 1 };
  *   - a node above one that was held before, by another parent: bs_unlock refuses it with BS_HELD_CHILD, and so it does
  *     those above it;
  *   - behind BS_WORN_OUT all of them.
- * Each lock and each release is a command of its own, which bs_counters counts. Costs these, and a try for each node on
- * the way that is wanting. */
+ * Each lock and each release is a command of its own, which bs_counters counts. Costs these, and a refused try for each
+ * node on the way that is wanting; to read, these again after each lock. */
 bs_reply bs_table_try_path(bs_table *table, bs_txn txn, bs_node node, bs_mode mode, uint32_t keep);
 
 bs_reply bs_table_unlock(bs_table *table, bs_txn txn, bs_node node, bs_notices *told);
@@ -294,8 +297,8 @@ bs_reply bs_table_expire(bs_table *table, struct timespec *next);
  */
 
 /* What a command of a list is. Each makes the call of its name, with the fields of a bs_command that have the names of
- * what that call is given; `node` is also its `record`, `number` its `since` or its `savepoint`, and `key_count`, `parent_count` and
- * `bound_count` are the counts of its lists. */
+ * what that call is given; `node` is also its `record`, `number` its `since` or its `savepoint`, and `key_count`,
+ * `parent_count` and `bound_count` are the counts of its lists. */
 enum bs_command_kinds {
   BS_DO_BEGIN = 1, BS_DO_LOCK, BS_DO_LOCK_PATH, BS_DO_TRY, BS_DO_UNLOCK, BS_DO_ESCALATE, BS_DO_CANCEL, BS_DO_COMMIT,
   BS_DO_ABORT, BS_DO_SETTLE, BS_DO_INSERT, BS_DO_DELETE, BS_DO_ADOPT, BS_DO_FORGET, BS_DO_REKEY, BS_DO_MOVE, BS_DO_DROP,
@@ -350,9 +353,10 @@ static inline bs_txn bs_begun(void) {
   return txn;
 }
 
-/* Makes commands one behind the other in one hold of the latch, up to the first that is not done, and writes into
- * each its reply: how many were done. It never sleeps. Where that is fewer than `count`, the reply of the next says
- * why:
+/* Makes commands one behind the other in one hold of the latch, up to the first that is not done, and writes into each
+ * its reply: how many were done. It never sleeps. A lock whose wait ends by what the list itself has set off is
+ * answered with that end: after a grant the list continues. Where that is fewer than `count`, the reply of the next
+ * says why:
  *   - it was refused, or the asker is BS_VICTIM;
  *   - BS_WAITING: a lock, a path or a row waits, for `node` in `mode`. bs_table_await awaits these. Behind the grant
  *     the list is run again from this command on: what is held by then is granted at once, a path goes on to the next
@@ -368,14 +372,17 @@ static inline bs_txn bs_begun(void) {
 size_t bs_table_run(bs_table *table, bs_command *commands, size_t count);
 
 /* Makes tries one behind the other in one hold of the latch, each BS_DO_TRY, BS_DO_TRY_PATH or BS_DO_TRY_ROW, up to the
- * first that is answered otherwise than BS_WOULD_BLOCK: the place of that one, from 0 on, or `count` where there is
- * none. Those ahead of it were passed over. Of a path that is passed over nothing is kept, but where its `keep` says so
- * or bs_table_try_path does. It never sleeps, joins no queue and fells nobody. The reply of the one at that place says
- * what it came to:
+ * first that is not passed over: the place of that one, from 0 on, or `count` if there is none. It never sleeps, joins
+ * no queue and fells nobody. A try is passed over, with its own reply, if it is answered
+ *   - BS_WOULD_BLOCK: another transaction holds the node, or one above it;
+ *   - BS_NEED_PARENTS: the record or row has moved to where the transaction holds nothing above it;
+ *   - BS_NO_SUCH_NODE: the node is gone.
+ * Of a path that is passed over nothing is kept, but where its `keep` says so or bs_table_try_path does. The reply of
+ * the try at the answered place is
  *   - BS_DONE: it is the one that was taken;
  *   - BS_OTHER_KEYS: it was taken too, and is a row whose keys are looked at again;
  *   - else it was refused so, and none was taken.
- * Those behind it were not made, and their replies are BS_NOT_MADE. A kind that is no try is refused with
+ * Those after it were not made, and their replies are BS_NOT_MADE. A kind that is no try is refused with
  * BS_BAD_NUMBER. Where the table is refused, so is the first command, at place 0; a list that is null has none that
  * is taken. */
 size_t bs_table_try_first(bs_table *table, bs_command *commands, size_t count);
@@ -389,8 +396,9 @@ size_t bs_table_try_first(bs_table *table, bs_command *commands, size_t count);
  * uses the table. */
 const bs_manager *bs_table_hold(bs_table *table);
 
-/* Gives the latch back, and the manager that was lent with it. Refused with BS_NULL_POINTER, and with BS_NOT_HELD where
- * this thread does not hold the table. */
+/* Gives the latch back, and the manager that was lent with it. Refused with BS_NULL_POINTER, with BS_NOT_HELD where
+ * this thread does not hold the table, and with BS_IN_USE within the engine's function for a table that the thread held
+ * before. */
 bs_reply bs_table_let_go(bs_table *table);
 
 /* ------------------------------------------------------------------------------------------------
@@ -406,10 +414,10 @@ static inline bs_reply bs_table_watch(bs_table *table, bs_watcher *watcher) {
 }
 
 /* Starts a thread that ends deadlocks, for a table that was made with BS_BY_WATCHER: it looks as a watcher does,
- * settles every suspect, the youngest first, and rests for `pace` nanoseconds behind each look. While no lock has been
- * left waiting since it looked it sleeps. It ends with the table, counts as a watcher, and takes no signals. Refused
- * with BS_IN_USE where the table has such a thread, BS_TOO_MANY_WATCHERS, and with BS_NO_MEMORY also where no thread
- * can be started. */
+ * settles every suspect, the youngest first, each in a hold of its own, and rests for `pace` nanoseconds after that.
+ * While no lock has been left waiting since it looked it sleeps. It ends with the table, counts as a watcher, and takes
+ * no signals. Refused with BS_IN_USE where the table has such a thread, BS_TOO_MANY_WATCHERS, and with BS_NO_MEMORY
+ * also where no thread can be started. */
 bs_reply bs_table_watch_thread(bs_table *table, uint64_t pace);
 
 #ifdef __cplusplus

@@ -47,8 +47,10 @@ try-row-is-not-noted	s/ ? table_row_noted(table, txn, row, reply, was_held) : re
 try-row-keeps-it-without-memory	s/  if (!was_held) {/  if (false) {/
 try-row-gives-back-what-was-held	s/  if (!was_held) {/  if (true) {/
 try-row-reads-null	s/  if (row->keys == NULL \&\& row->count != 0) return bs_call_null();//
-skip-takes-a-later-one	s/table_try_one(table, \&commands\[place\]) == BS_WOULD_BLOCK) place++;/table_try_one(table, \&commands[place]) == BS_WOULD_BLOCK) place += 2;/
-skip-passes-refusals	s/table_try_one(table, \&commands\[place\]) == BS_WOULD_BLOCK) place++;/table_try_one(table, \&commands[place]) != BS_DONE) place++;/
+skip-takes-a-later-one	s/table_is_passed(table_try_one(table, &commands\[place\]))) place++;/table_is_passed(table_try_one(table, \&commands[place]))) place += 2;/
+skip-passes-refusals	s/table_is_passed(table_try_one(table, &commands\[place\]))) place++;/table_try_one(table, \&commands[place]) != BS_DONE) place++;/
+skip-ends-at-what-moved	s/ || status == BS_NEED_PARENTS || / || /
+skip-ends-at-what-is-gone	s/ || status == BS_NO_SUCH_NODE;/;/
 skip-makes-any-command	s/  if (is_try) return table_run_next/  if (true) return table_run_next/
 skip-keeps-replies	s/  if (place < count) table_not_made(.*//
 other-keys-wake-nobody	s/^ *status == BS_OTHER_KEYS;/false;/
@@ -56,14 +58,26 @@ run-forgets-to-wake	s/  table_wake(table, next->reply.status, told, by_name);//
 run-forgets-names	s/  by_name = next->kind .*/  by_name = false;/
 savepoint-is-of-nobody	s/    case BS_DO_RELEASE_SINCE: return bs_release_since(m, txn, c->number, told);/    case BS_DO_RELEASE_SINCE: return bs_release_since(m, txn, c->key, told);/
 instant-stays-held	s/^  table_give_instants_back(table, &granted, told);//
-instant-stays-held-at-once	s/  if (is_new \&\& reply.status == BS_DONE) table_give_back_at_once(.*//
-instant-gives-back-what-was-held	s/  bool is_new = bs_held(m, txn, node).mode == BS_NL;/  bool is_new = true;/
+instant-stays-held-at-once	s/  if (is_instant \&\& reply.status == BS_DONE) table_give_back_at_once(.*//
+instant-gives-back-what-was-held	/ table_is_instant(const/,/^}/s/ \&\& bs_held(&table->manager, txn, node).mode == BS_NL;/;/
 instant-of-an-ended-wait	s/    table->instantly.words\[i\] &= ~instantly;//
 instant-came-and-is-not-known	/table_became(/,/^}/s/^  if (reply.status != BS_NOT_WAITING) return reply;/  return reply;/
-instant-that-came-is-the-next-wait	/table_waits(/,/^}/s/^  table->instants.*//
+instant-that-came-is-the-next-wait	/table_register(/,/^}/s/^  own->came.status.*//
+lock-wakes-before-it-registers	/ table_lock_now(/,/^}/{/table_register(/d;s/^  table_wake(table, .*/&\n  if (reply.status == BS_WAITING) table_register(table, txn, node, is_instant);/}
+path-wakes-before-it-registers	/ table_path_now(/,/^}/{/table_register(/d;s/^  table_wake(table, .*/&\n  if (reply.status == BS_WAITING) table_register(table, txn, node, is_instant \&\& table_is_same_node(reply.node, node));/}
+path-asks-for-its-mode-too-late	/ table_path_now(/,/^}/{/wait->mode/d;s/^  table_wake(table, .*/&\n  wait->mode = bs_call_doing(\&table->manager, txn).mode;/}
+row-wakes-before-it-registers	/ table_ask_row(/,/^}/{/table_register(/d;s/^  table_wake(table, .*/&\n  if (reply.status == BS_WAITING) table_register(table, txn, reply.node, false);/}
+list-wakes-before-it-registers	/ table_run_next(/,/^}/{/table_say_for_what(/d;s/^  table_wake(table, .*/&\n  if (next->reply.status == BS_WAITING) table_say_for_what(table, next, txn);/}
+own-ask-is-not-looked-at	s/^  table->asks->due.words.slot . 64. |= bit;//
+sleeper-looks-not-at-its-own-wait	s/^  if (table->is_due) reply = table_verdict(.*//
+list-does-not-settle	s/^  if (next->reply.status == BS_WAITING \&\& table->is_due) .*//
+list-tells-its-own	s/^    table_tell_all_but(told, txn);//
+list-goes-not-on-with-its-path	/ table_made_on(/,/^}/s/^  if (c->kind != BS_DO_LOCK_PATH) return became;/  return became;/
+list-asks-not-again-for-its-row	/ table_made_on(/,/^}/s/^  if (c->kind == BS_DO_LOCK_ROW /  if (false /
+list-leaves-asks-that-are-due	/ table_settle_made(/,/^}/s/^    if (table->asks != NULL) table_go_on(table);//
 instant-wakes-nobody	/table_give_instants_back(/,/^}/s/^      table_note_ended(table, granted);//
 instant-tells-nobody	s/^      table_tell_too(told, &more);//
-instant-is-awaited-by-its-word	s/ : table_mode_of(c->mode);/ : c->mode;/
+instant-is-awaited-by-its-word	s/  c->reply.mode = table_mode_of(c->mode);/  c->reply.mode = c->mode;/
 instant-sleeps-by-its-word	s/table_sleep(table, txn, node, table_mode_of(mode), until)/table_sleep(table, txn, node, mode, until)/
 instant-asks-by-its-word	s/  own->wanted = table_mode_of(mode);/  own->wanted = mode;/
 run-says-not-for-what	s/  if (next->reply.status == BS_WAITING) .*//
@@ -95,7 +109,7 @@ list-keeps-replies	s/  if (done < count) table_not_made(.*//
 dump-keeps-the-latch	s/  if (copy->manager == NULL) bs_table_let_go(copy->table);//
 watch-takes-signals	s/  pthread_sigmask(SIG_SETMASK, &blocked, &before);/  pthread_sigmask(SIG_SETMASK, NULL, \&before);/
 watch-forgets-what-it-saw	s/    seen = board.epoch;/    seen = 0;/
-watch-sees-one-deadlock	s/  while (youngest.status == BS_DONE) {/  if (youngest.status == BS_DONE) {/
+watch-sees-one-deadlock	s/  while (youngest.status == BS_DONE \&\& /  if (youngest.status == BS_DONE \&\& /
 watch-does-not-rest	s/    table_rest(table, table->pace);//
 end-leaves-sleepers	s/  for (slot = 0; slot < BS_SLOTS; slot++) pthread_cond_broadcast(.*//
 end-leaves-the-watch	s/  pthread_cond_broadcast(&table->began);//
@@ -135,11 +149,12 @@ an-end-is-told-twice	s/^  table->asks->on_end(.*/&\n&/
 an-end-is-told-within-the-ask	s/^  if (ask->is_inside) return;//
 an-ask-is-answered-waiting	/table_ask_and_tell(/,/^}/s/^    reply = own->end;//
 the-function-is-called-within-itself	s/^  if (table_telling != NULL) {$/  if (false) {/
-what-is-held-in-a-call-stays-held	s/^  while (table_held != held && table_held != NULL) .*//
+what-is-held-in-a-call-stays-held	s/^  while (table_held != table_held_outside) .*//
+what-is-held-outside-is-given-back	s/^  if (table_is_among(table, table_held_outside)) .*//
 asked-path-does-not-go-on	s/  if (ask->kind != TABLE_PATH || !is_on_the_way) return reply;/  return reply;/
 asked-path-does-not-begin-anew	s/  bool is_on_the_way = reply.status == BS_MOVED || /  bool is_on_the_way = /
 asked-path-stops-on-the-way	/^static bs_reply table_ask_path(/,/^}/s/  } while (reply.status == BS_ON_THE_WAY);/  } while (false);/
-asked-path-forgets-its-node	s/    ask->at = reply.node;//
+asked-path-forgets-its-node	s/    ask->at = wait.node;//
 asked-path-forgets-its-time	s/  if (reply.status == BS_WAITING) table_ask_waits(table, ask);//
 asked-row-is-not-asked-again	s/  if (ask->kind == TABLE_ROW \&\& reply.status == BS_DONE) {/  if (false) {/
 asked-row-keeps-no-keys	s/  if (reply.status == BS_WAITING) table_keep_keys(own);//
@@ -156,12 +171,14 @@ the-latest-time-is-next	s/table_is_later(first, &ask->time)/table_is_later(\&ask
 end-forgets-asks	s/  if (table->asks != NULL) table_end_asks(table);//
 end-does-not-wait-for-calls	s/  while (table->sleepers + table->to_tell > 0) /  while (table->sleepers > 0) /
 last-call-says-nothing	s/  if (table->stage == TABLE_ENDING \&\& table->to_tell == 0) .*//
-a-call-ends-a-table	s/  if (table != NULL \&\& table_telling != NULL) return bs_call_only(BS_IN_USE);//
-a-call-sleeps	s/  return table_telling == NULL \&\& table_enter_until/  return table_enter_until/
+a-call-ends-a-table	s/  if (table != NULL \&\& !table_may_sleep()) return bs_call_only(BS_IN_USE);//
+a-call-sleeps	s/  return table_telling == NULL \&\& table_held == NULL;/  return table_held == NULL;/
+a-holder-sleeps	s/  return table_telling == NULL \&\& table_held == NULL;/  return table_telling == NULL;/
 a-call-is-cancelled	/^static void table_tell(/,/^}/s/  pthread_setcancelstate(PTHREAD_CANCEL_DISABLE, &state);/  state = PTHREAD_CANCEL_ENABLE;/
-a-sleeper-tells-behind-its-sleep	s/^  if (table_tell_between(table)) reply/  if (false) reply/
-a-sleeper-does-not-look-again	s/^  if (table_tell_between(table)) reply = table_verdict(.*/  table_tell_between(table);/
-watch-tells-nobody-before-it-rests	/^static void \*table_watch_over(/,/^}/s/^    table_tell_between(table);$//
+a-sleeper-tells-behind-its-sleep	s/^  if (reply.status == BS_WAITING \&\& table_tell_between(table)) reply/  if (false) reply/
+a-sleeper-does-not-look-again	s/^  if (reply.status == BS_WAITING \&\& table_tell_between(table)) reply = table_verdict(.*/  table_tell_between(table);/
+watch-tells-nobody-before-it-rests	/^static void table_settle_all(/,/^}/s/^    table_release(table);$/    pthread_mutex_unlock(\&table->latch);/
+dump-is-cancelled	/^static bs_reply dump_of(/,/^}/s/  pthread_setcancelstate(PTHREAD_CANCEL_DISABLE, &state);/  state = PTHREAD_CANCEL_ENABLE;/
 a-list-tells-nobody	/^size_t bs_table_run(/,/^}/s/  table_release(table);/  pthread_mutex_unlock(\&table->latch);/
 a-call-tells-nobody	s/  table_release(table);                                         \\/  pthread_mutex_unlock(\&(table)->latch); \\/
 on-end-is-given-twice	s/  if (table->asks != NULL) return table_leave(table, bs_call_only(BS_IN_USE));//
