@@ -4,7 +4,7 @@ use crate::manager::{Escalated, Mark};
 use crate::mode::Mode;
 use crate::names::{Node, Row, Txn};
 use crate::refusal::Refusal;
-use crate::table::Table;
+use crate::table::{Sought, Stay, Table};
 use std::error::Error;
 use std::fmt;
 use std::ops::Deref;
@@ -63,6 +63,15 @@ pub enum RowLocked {
     /// memory. The engine looks at the row's keys again. Where they are others, it unlocks the row and
     /// begins anew.
     OtherKeys(Mode),
+}
+
+impl RowLocked {
+    /// The mode in which it is held.
+    pub(crate) fn mode(self) -> Mode {
+        match self {
+            RowLocked::Own(mode) | RowLocked::OtherKeys(mode) => mode,
+        }
+    }
 }
 
 /// What a try came to that was not refused.
@@ -214,10 +223,35 @@ impl<'t> Session<'t> {
         time.into_iter().chain(self.deadline).min()
     }
 
+    /// Locks a node or a path, within the earlier of this time and its own.
+    fn sought(&mut self, sought: Sought<'_>, time: Option<Instant>) -> Result<Mode, Stop> {
+        let locked = self.table.lock(self.txn, sought, self.until(time));
+        locked.map(RowLocked::mode)
+    }
+
+    /// The same of a row.
+    fn sought_row(
+        &mut self,
+        row: Row,
+        keys: &[u64],
+        mode: Mode,
+        time: Option<Instant>,
+    ) -> Result<RowLocked, Stop> {
+        let sought = Sought::Row { row, keys, mode };
+        self.table.lock(self.txn, sought, self.until(time))
+    }
+
+    /// Locks a node or a path, for a task.
+    async fn sought_async(&mut self, sought: Sought<'_>) -> Result<Mode, Stop> {
+        let until = self.until(None);
+        let locked = self.table.lock_async(self.txn, sought, until).await;
+        locked.map(RowLocked::mode)
+    }
+
     /// As [`Manager::lock`](crate::Manager::lock), but it sleeps until the lock is granted, or never
     /// will be. It answers the mode that is held then.
     pub fn lock(&mut self, node: Node, mode: Mode) -> Result<Mode, Stop> {
-        self.table.lock(self.txn, node, mode, self.until(None))
+        self.sought(Sought::node(node, mode, Stay::Kept), None)
     }
 
     /// As [`lock`](Session::lock), for an instant: it is asked for and waited for as any lock, and given
@@ -239,15 +273,13 @@ impl<'t> Session<'t> {
     /// # Ok::<(), Stop>(())
     /// ```
     pub fn lock_instant(&mut self, node: Node, mode: Mode) -> Result<Mode, Stop> {
-        self.table
-            .lock_instant(self.txn, node, mode, self.until(None))
+        self.sought(Sought::node(node, mode, Stay::Instant), None)
     }
 
     /// As [`lock_path`](Session::lock_path), with the node itself for an instant, as
     /// [`lock_instant`](Session::lock_instant). What is locked above it stays locked.
     pub fn lock_path_instant(&mut self, node: Node, mode: Mode) -> Result<Mode, Stop> {
-        self.table
-            .lock_path_instant(self.txn, node, mode, self.until(None))
+        self.sought(Sought::path(node, mode, Stay::Instant), None)
     }
 
     /// As [`lock`](Session::lock), but the wait is taken back after this time, and answered with
@@ -266,14 +298,12 @@ impl<'t> Session<'t> {
     /// # Ok::<(), burlapslate::Refusal>(())
     /// ```
     pub fn lock_timeout(&mut self, node: Node, mode: Mode, time: Duration) -> Result<Mode, Stop> {
-        self.table
-            .lock(self.txn, node, mode, self.until(deadline(time)))
+        self.sought(Sought::node(node, mode, Stay::Kept), deadline(time))
     }
 
     /// As [`lock_timeout`](Session::lock_timeout), with the time at which the wait is taken back.
     pub fn lock_until(&mut self, node: Node, mode: Mode, until: Instant) -> Result<Mode, Stop> {
-        self.table
-            .lock(self.txn, node, mode, self.until(Some(until)))
+        self.sought(Sought::node(node, mode, Stay::Kept), Some(until))
     }
 
     /// Locks a node with what has to be held above it: intentions, root first, on all parents to
@@ -294,7 +324,7 @@ impl<'t> Session<'t> {
     /// # Ok::<(), burlapslate::Refusal>(())
     /// ```
     pub fn lock_path(&mut self, node: Node, mode: Mode) -> Result<Mode, Stop> {
-        self.table.lock_path(self.txn, node, mode, self.until(None))
+        self.sought(Sought::path(node, mode, Stay::Kept), None)
     }
 
     /// As [`lock_path`](Session::lock_path), within this time.
@@ -304,8 +334,7 @@ impl<'t> Session<'t> {
         mode: Mode,
         time: Duration,
     ) -> Result<Mode, Stop> {
-        self.table
-            .lock_path(self.txn, node, mode, self.until(deadline(time)))
+        self.sought(Sought::path(node, mode, Stay::Kept), deadline(time))
     }
 
     /// As [`lock_path_timeout`](Session::lock_path_timeout), with the time at which a wait is taken back.
@@ -315,8 +344,7 @@ impl<'t> Session<'t> {
         mode: Mode,
         until: Instant,
     ) -> Result<Mode, Stop> {
-        self.table
-            .lock_path(self.txn, node, mode, self.until(Some(until)))
+        self.sought(Sought::path(node, mode, Stay::Kept), Some(until))
     }
 
     /// As [`Manager::lock_row`](crate::Manager::lock_row), but it sleeps until the row is granted, or never
@@ -340,8 +368,7 @@ impl<'t> Session<'t> {
     /// # Ok::<(), burlapslate::Refusal>(())
     /// ```
     pub fn lock_row(&mut self, row: Row, keys: &[u64], mode: Mode) -> Result<RowLocked, Stop> {
-        self.table
-            .lock_row(self.txn, row, keys, mode, self.until(None))
+        self.sought_row(row, keys, mode, None)
     }
 
     /// As [`lock_row`](Session::lock_row), but the wait is taken back after this time, and answered with
@@ -353,8 +380,7 @@ impl<'t> Session<'t> {
         mode: Mode,
         time: Duration,
     ) -> Result<RowLocked, Stop> {
-        self.table
-            .lock_row(self.txn, row, keys, mode, self.until(deadline(time)))
+        self.sought_row(row, keys, mode, deadline(time))
     }
 
     /// As [`lock_row_timeout`](Session::lock_row_timeout), with the time at which the wait is taken back.
@@ -365,8 +391,7 @@ impl<'t> Session<'t> {
         mode: Mode,
         until: Instant,
     ) -> Result<RowLocked, Stop> {
-        self.table
-            .lock_row(self.txn, row, keys, mode, self.until(Some(until)))
+        self.sought_row(row, keys, mode, Some(until))
     }
 
     /// As [`lock`](Session::lock), for a task: where the lock waits no thread sleeps, and the task is woken
@@ -376,7 +401,7 @@ impl<'t> Session<'t> {
     /// is the transaction's, and goes with its end, as all its locks do: no command lowers a mode. So
     /// whoever lets a lock go by a timeout may ask for it again, and it is granted at once; and where it
     /// was condemned by then, all that it can do is abort. One that is leaked waits on, until the session
-    /// is dropped.
+    /// is dropped; a path that is leaked counts as one that continues, until the session's next wait.
     ///
     /// A deadline of the session counts ([`set_deadline`](Session::set_deadline)), where somebody polls the
     /// future then ([`Table::expire`]).
@@ -404,24 +429,22 @@ impl<'t> Session<'t> {
     /// # Ok::<(), burlapslate::Refusal>(())
     /// ```
     pub async fn lock_async(&mut self, node: Node, mode: Mode) -> Result<Mode, Stop> {
-        let until = self.until(None);
-        self.table.lock_async(self.txn, node, mode, until).await
+        self.sought_async(Sought::node(node, mode, Stay::Kept))
+            .await
     }
 
     /// As [`lock_instant`](Session::lock_instant), for a task, as [`lock_async`](Session::lock_async).
     pub async fn lock_instant_async(&mut self, node: Node, mode: Mode) -> Result<Mode, Stop> {
-        let until = self.until(None);
-        let lock = self.table.lock_instant_async(self.txn, node, mode, until);
-        lock.await
+        self.sought_async(Sought::node(node, mode, Stay::Instant))
+            .await
     }
 
     /// As [`lock_path`](Session::lock_path), for a task, as [`lock_async`](Session::lock_async). Behind each
     /// grant on the way the task is woken, to ask for the next lock. Where the future is dropped, what was
     /// locked before stays locked.
     pub async fn lock_path_async(&mut self, node: Node, mode: Mode) -> Result<Mode, Stop> {
-        let until = self.until(None);
-        let path = self.table.lock_path_async(self.txn, node, mode, until);
-        path.await
+        self.sought_async(Sought::path(node, mode, Stay::Kept))
+            .await
     }
 
     /// As [`lock_row`](Session::lock_row), for a task, as [`lock_async`](Session::lock_async). Where the future
@@ -433,8 +456,8 @@ impl<'t> Session<'t> {
         mode: Mode,
     ) -> Result<RowLocked, Stop> {
         let until = self.until(None);
-        let row = self.table.lock_row_async(self.txn, row, keys, mode, until);
-        row.await
+        let sought = Sought::Row { row, keys, mode };
+        self.table.lock_async(self.txn, sought, until).await
     }
 
     /// Locks a node with what has to be held above it, as [`lock_path`](Session::lock_path) takes it, but
@@ -490,10 +513,11 @@ impl<'t> Session<'t> {
         self.table.try_lock_row(self.txn, row, keys, mode)
     }
 
-    /// Makes tries one behind the other in one hold of the latch, up to the first that would not block:
-    /// `None`, where all would. Those that would block are passed over; of a path that is passed over
-    /// nothing is kept but what its `keep` says. The first that is refused otherwise ends it, and is
-    /// answered.
+    /// Makes tries one after the other in one hold of the latch, up to the first that is done: `None` if there is none.
+    /// A try is passed over if it would block, if its record or row has moved to where the transaction holds nothing
+    /// above it ([`NeedParents`](Refusal::NeedParents)), and if it is gone ([`NoSuchNode`](Refusal::NoSuchNode)). Of a
+    /// path that is passed over nothing is kept but what its `keep` says. The first try that is refused otherwise ends
+    /// the list, and is answered.
     ///
     /// ```
     /// # use burlapslate::{Detect, Mode, Row, Table, Try, SLOTS};

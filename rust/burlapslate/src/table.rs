@@ -1,11 +1,11 @@
 //! A table that threads share.
 
-use crate::board::Board;
-use crate::manager::{Asked, Manager, Options, Reached, RowAsked, Wait};
+use crate::board::{Board, Slots};
+use crate::manager::{Manager, Options, Wait};
 use crate::mode::{Detect, Mode, Victims};
 use crate::names::{Node, Row, Txn};
 use crate::refusal::Refusal;
-use crate::session::{deadline, RowLocked, Session, Stop};
+use crate::session::{deadline, Session, Stop};
 use crate::turns::Turns;
 use crate::watcher::Watcher;
 use crate::SLOTS;
@@ -15,6 +15,8 @@ use std::fmt;
 use std::sync::{Arc, Condvar, Mutex, MutexGuard, PoisonError};
 use std::thread;
 use std::time::{Duration, Instant};
+
+pub(crate) use locks::{Sought, Stay};
 
 /// A table of granular locks that threads share: a [`Manager`] behind one mutex, its latch, with a
 /// condition for each slot.
@@ -67,9 +69,6 @@ struct Guarded {
     /// By slot, who waits for a lock for an instant.
     instants: Box<[Option<InstantLock>]>,
 }
-
-/// An ask for a path: one that stays, or one whose node is locked for an instant.
-type PathAsk = fn(&Table, &mut Guarded, Txn, Node, Mode) -> Result<Reached, Refusal>;
 
 /// One who sleeps on a path.
 #[derive(Clone, Copy)]
@@ -399,8 +398,7 @@ impl Table {
                 guarded.manager.read_board(&mut board); // It could not be shown, for want of memory.
             }
             seen = board.epoch();
-            self.settle_all(&mut guarded, &mut board);
-            guarded.ring();
+            guarded = self.settle_all(guarded, &mut board);
             guarded = self.rest(guarded, rest);
         }
         Ok(())
@@ -472,191 +470,33 @@ impl Table {
         Ok(())
     }
 
-    pub(crate) fn lock(
-        &self,
-        txn: Txn,
-        node: Node,
-        mode: Mode,
-        until: Option<Instant>,
-    ) -> Result<Mode, Stop> {
-        let mut guarded = self.guarded();
-        let asked = self.asked(&mut guarded, txn, node, mode)?;
-        self.end_of(guarded, asked, txn, node, mode, until)
-    }
-
-    /// What a lock that was asked for comes to, behind a sleep where it waits.
-    fn end_of<'t>(
-        &'t self,
-        guarded: Hold<'t>,
-        asked: Asked,
-        txn: Txn,
-        node: Node,
-        mode: Mode,
-        until: Option<Instant>,
-    ) -> Result<Mode, Stop> {
-        match asked {
-            Asked::Granted(mode) => Ok(mode),
-            Asked::Victim => Err(Stop::Victim),
-            Asked::Waiting => self.sleep(guarded, txn, node, mode, until).1,
-        }
-    }
-
-    /// Asks for a lock, and wakes whom that tells.
-    fn asked(
-        &self,
-        guarded: &mut Guarded,
-        txn: Txn,
-        node: Node,
-        mode: Mode,
-    ) -> Result<Asked, Refusal> {
-        let (asked, told) = guarded.manager.lock(txn, node, mode)?;
-        let tells = !told.is_empty();
-        self.wake_behind(guarded, txn, tells, asked == Asked::Waiting);
-        Ok(asked)
-    }
-
-    /// A row's lock; what has to be held above it is the session's to lock. Behind a sleep that was
-    /// granted the row is asked for again, in the same hold of the latch. Where that is refused, for want
-    /// of memory or of numbers, its keys may be others: the row is held, and they are looked at again.
-    pub(crate) fn lock_row(
-        &self,
-        txn: Txn,
-        row: Row,
-        keys: &[u64],
-        mode: Mode,
-        until: Option<Instant>,
-    ) -> Result<RowLocked, Stop> {
-        let mut guarded = self.guarded();
-        let (asked, node) = self.ask_row(&mut guarded, txn, row, keys, mode)?;
-        match asked {
-            RowAsked::Granted(mode) => Ok(RowLocked::Own(mode)),
-            RowAsked::OtherKeys(mode) => Ok(RowLocked::OtherKeys(mode)),
-            RowAsked::Victim => Err(Stop::Victim),
-            RowAsked::Waiting => {
-                let (mut guarded, end) = self.sleep(guarded, txn, node, mode, until);
-                let held = end?;
-                match self.ask_row(&mut guarded, txn, row, keys, mode) {
-                    Ok((RowAsked::Granted(_), _)) => Ok(RowLocked::Own(held)),
-                    _ => Ok(RowLocked::OtherKeys(held)),
-                }
-            }
-        }
-    }
-
-    /// Asks for a row, and wakes whom that tells.
-    fn ask_row(
-        &self,
-        guarded: &mut Guarded,
-        txn: Txn,
-        row: Row,
-        keys: &[u64],
-        mode: Mode,
-    ) -> Result<(RowAsked, Node), Refusal> {
-        let (asked, node, told) = guarded.manager.lock_row(txn, row, keys, mode)?;
-        let tells = !told.is_empty();
-        self.wake_behind(guarded, txn, tells, asked == RowAsked::Waiting);
-        Ok((asked, node))
-    }
-
-    /// A path in one hold of the latch, but for the sleeps.
-    pub(crate) fn lock_path(
-        &self,
-        txn: Txn,
-        node: Node,
-        mode: Mode,
-        until: Option<Instant>,
-    ) -> Result<Mode, Stop> {
-        self.lock_path_by(Table::reached, txn, node, mode, until)
-    }
-
-    /// Asks for a path, and wakes whom that tells.
-    fn reached(
-        &self,
-        guarded: &mut Guarded,
-        txn: Txn,
-        node: Node,
-        mode: Mode,
-    ) -> Result<Reached, Refusal> {
-        let (reached, told) = guarded.manager.lock_path(txn, node, mode)?;
-        let tells = !told.is_empty();
-        self.wake_behind(guarded, txn, tells, matches!(reached, Reached::Waiting(_)));
-        Ok(reached)
-    }
-
-    /// The same by an ask of such a kind.
-    fn lock_path_by(
-        &self,
-        ask: PathAsk,
-        txn: Txn,
-        node: Node,
-        mode: Mode,
-        until: Option<Instant>,
-    ) -> Result<Mode, Stop> {
-        let mut guarded = self.guarded();
-        loop {
-            match ask(self, &mut guarded, txn, node, mode)? {
-                Reached::Granted(mode) => return Ok(mode),
-                Reached::Victim => return Err(Stop::Victim),
-                Reached::Above(_) => {}
-                Reached::Waiting(at) => {
-                    let wanted = guarded.manager.waiting(txn).map_or(mode, |wait| wait.mode);
-                    guarded.paths[txn.slot()] = Some(Path::new(txn, at, wanted, at == node));
-                    let (held, end) = self.sleep(guarded, txn, at, wanted, until);
-                    guarded = held;
-                    let is_cancelled = guarded.leaves_path(txn);
-                    match end {
-                        Ok(mode) if at == node => return Ok(mode),
-                        Ok(_) | Err(Stop::Moved) if is_cancelled => return Err(Stop::Cancelled),
-                        Ok(_) | Err(Stop::Moved) => {} // The rest of the path is asked for.
-                        Err(stop) => return Err(stop),
-                    }
-                }
-            }
-        }
-    }
-
-    /// Behind a lock of a transaction: wakes those whose wait it ended, where it told somebody, and who
-    /// watches, where it was left waiting. What came for an instant before is nothing to that wait.
-    fn wake_behind(&self, guarded: &mut Guarded, txn: Txn, tells: bool, waits: bool) {
-        if tells {
-            self.wake(guarded);
-        }
-        if waits {
-            guarded.waited = guarded.manager.accepted();
-            guarded.instants[txn.slot()] = None;
-            self.began.notify_all();
-        }
-    }
-
-    /// Sleeps until the wait has its end, or the time is over. What became of the wait is asked
-    /// before the clock. Tasks whose wait it has ended are woken before it sleeps.
+    /// Sleeps until the wait has its end, or the time is over. What became of the wait is asked before the clock, and
+    /// before a sleep: the call that began the wait may have ended it. Tasks whose wait the call has ended are woken
+    /// before it sleeps.
     fn sleep<'t>(
         &'t self,
         mut guarded: Hold<'t>,
         txn: Txn,
-        node: Node,
-        mode: Mode,
+        wait_for: Wait,
         until: Option<Instant>,
     ) -> (Hold<'t>, Result<Mode, Stop>) {
         let ended = &self.ended[txn.slot()];
-        if guarded.ring() {
-            if let Some(end) = guarded.verdict(txn, node, mode) {
-                return (guarded, end);
-            }
-        }
+        let mut is_late = false;
         loop {
-            let is_late;
-            (guarded, is_late) = match until {
-                None => (wait(ended, guarded), false),
-                Some(until) => wait_until(ended, guarded, until),
-            };
-            if let Some(end) = guarded.verdict(txn, node, mode) {
+            if let Some(end) = guarded.verdict(txn, wait_for) {
                 return (guarded, end);
             }
             if is_late {
                 let end = self.time_out(&mut guarded, txn);
                 return (guarded, Err(end));
             }
+            if guarded.ring() {
+                continue; // Others have used the table meanwhile.
+            }
+            (guarded, is_late) = match until {
+                None => (wait(ended, guarded), false),
+                Some(until) => wait_until(ended, guarded, until),
+            };
         }
     }
 
@@ -670,30 +510,56 @@ impl Table {
         end
     }
 
-    /// Wakes those whose wait the last command may have ended: tasks where the latch is given back. A lock
-    /// that was granted for an instant is given back before anybody else has the latch.
+    /// Wakes those whose wait the last command may have ended: tasks where the latch is given back. A lock that was
+    /// granted for an instant is given back before anybody else has the latch, that of the lowest slot first.
     fn wake(&self, guarded: &mut Guarded) {
-        for slot in guarded.manager.ended() {
-            self.ended[slot].notify_all();
-            guarded.tasks.ring(slot);
-            self.end_instant(guarded, slot);
+        let mut granted = self.note_ended(guarded);
+        while let Some(slot) = granted.iter().next() {
+            granted = granted.iter().skip(1).collect();
+            if guarded.gives_back(slot) {
+                let more = self.note_ended(guarded);
+                granted = granted.iter().chain(more).collect();
+            }
         }
     }
 
-    /// Settles every suspect of a board, the youngest first, with the latch held. Who is settled, and
-    /// who is told, is taken off the board: so nobody is settled whose cycles are open by then.
-    fn settle_all(&self, guarded: &mut Guarded, board: &mut Board) {
+    /// Wakes those whose wait the last command may have ended: who of them waited for an instant.
+    fn note_ended(&self, guarded: &mut Guarded) -> Slots {
+        let ended = guarded.manager.ended();
+        for slot in ended {
+            self.ended[slot].notify_all();
+            guarded.tasks.ring(slot);
+        }
+        let is_instant = |slot: &usize| guarded.is_instant(*slot);
+        ended.iter().filter(is_instant).collect()
+    }
+
+    /// Settles every suspect of a board, the youngest first, while somebody is to watch. The latch is free between two
+    /// of them: each searches the whole graph of waits.
+    fn settle_all<'t>(&'t self, mut guarded: Hold<'t>, board: &mut Board) -> Hold<'t> {
         while let Some(slot) = board.youngest(board.suspects()) {
-            let settled = board
-                .txn(slot)
-                .map(|suspect| guarded.manager.settle(suspect).map(drop));
-            board.clear_row(slot);
-            if let Some(Ok(())) = settled {
-                for told in guarded.manager.ended() {
-                    board.clear_row(told);
-                }
-                self.wake(guarded);
+            if guarded.is_unwatched {
+                break;
             }
+            self.settle_one(&mut guarded, board, slot);
+            drop(guarded);
+            guarded = self.guarded();
+        }
+        guarded
+    }
+
+    /// Settles a suspect of a board. It, and each transaction that this tells, is taken off the board: so none is
+    /// settled whose cycles are open by then.
+    fn settle_one(&self, guarded: &mut Guarded, board: &mut Board, slot: usize) {
+        let settled = board
+            .txn(slot)
+            .map(|suspect| guarded.manager.settle(suspect).map(drop));
+        board.clear_row(slot);
+        if let Some(Ok(())) = settled {
+            for told in guarded.manager.ended() {
+                board.clear_row(told);
+            }
+            self.wake(guarded);
         }
     }
 
@@ -722,10 +588,10 @@ impl Table {
 }
 
 impl Path {
-    fn new(txn: Txn, node: Node, mode: Mode, is_last: bool) -> Path {
+    fn new(txn: Txn, wait: Wait, is_last: bool) -> Path {
         Path {
             txn,
-            wait: Wait { node, mode },
+            wait,
             is_last,
             is_cancelled: false,
         }
@@ -822,6 +688,7 @@ impl fmt::Debug for Table {
 
 mod asks;
 mod instants;
+mod locks;
 mod tries;
 
 #[cfg(test)]

@@ -1,9 +1,10 @@
 //! Waits of tasks, which are polled and sleep in no thread.
 
-use super::{Guarded, Path, Table};
-use crate::manager::{Asked, Reached, RowAsked, Wait};
+use super::locks::{Sought, Step};
+use super::{Guarded, Table};
+use crate::manager::Wait;
 use crate::mode::Mode;
-use crate::names::{Node, Row, Txn};
+use crate::names::Txn;
 use crate::refusal::Refusal;
 use crate::session::{RowLocked, Stop};
 use crate::SLOTS;
@@ -140,43 +141,52 @@ impl DerefMut for Hold<'_> {
     }
 }
 
-/// A wait that a task polls. Where it is dropped before its end it is taken back; what was granted by then
-/// stays held.
-struct Waiting<'a> {
+/// Locks that a task polls. Where it is dropped before their end the wait is taken back; what was granted by then stays
+/// held.
+pub(crate) struct Locking<'a> {
     table: &'a Table,
     txn: Txn,
-    wait: Wait,
+    sought: Sought<'a>,
     until: Option<Instant>,
+    /// For what it waits; `None` before it is first polled.
+    wait: Option<Wait>,
     is_over: bool,
 }
 
-impl<'a> Waiting<'a> {
-    fn of(table: &'a Table, txn: Txn, wait: Wait, until: Option<Instant>) -> Waiting<'a> {
-        Waiting {
-            table,
-            txn,
-            wait,
-            until,
-            is_over: false,
+impl Locking<'_> {
+    /// Goes as far as it can by now, in this hold of the latch; `None` while it waits.
+    fn advance(&mut self, hold: &mut Hold<'_>) -> Option<Result<RowLocked, Stop>> {
+        loop {
+            let step = match self.wait {
+                None => self.table.ask_for(hold, self.txn, &self.sought),
+                Some(wait) => {
+                    let end = self.end(hold, wait)?;
+                    self.table.go_on(hold, self.txn, &self.sought, wait, end)
+                }
+            };
+            match step {
+                Ok(Step::Waits(wait)) => self.wait = Some(wait),
+                Ok(Step::Held(locked)) => return Some(Ok(locked)),
+                Err(stop) => return Some(Err(stop)),
+            }
         }
     }
 
     /// What became of the wait; `None` while it goes on. That is asked before the clock.
-    fn end(&self, hold: &mut Hold<'_>) -> Option<Result<Mode, Stop>> {
-        let verdict = self.verdict(hold);
+    fn end(&self, hold: &mut Hold<'_>, wait: Wait) -> Option<Result<Mode, Stop>> {
+        let verdict = hold.verdict(self.txn, wait);
         if verdict.is_some() || self.until.is_none_or(|until| Instant::now() < until) {
             return verdict;
         }
         Some(Err(self.table.time_out(hold, self.txn)))
     }
 
-    fn verdict(&self, hold: &Hold<'_>) -> Option<Result<Mode, Stop>> {
-        let Wait { node, mode } = self.wait;
-        hold.verdict(self.txn, node, mode)
-    }
-
     /// Notes the task of a wait that goes on. Without memory the wait is taken back, and that is its end.
-    fn wait_on(&self, hold: &mut Hold<'_>, task: &mut Option<Task>) -> Option<Result<Mode, Stop>> {
+    fn wait_on(
+        &self,
+        hold: &mut Hold<'_>,
+        task: &mut Option<Task>,
+    ) -> Option<Result<RowLocked, Stop>> {
         match hold.tasks.make_room() {
             Ok(()) => {
                 task.take()
@@ -193,15 +203,18 @@ impl<'a> Waiting<'a> {
 
     /// Takes the wait back, where it goes on.
     fn take_back(&self, hold: &mut Hold<'_>) {
-        if self.verdict(hold).is_none() && hold.manager.cancel(self.txn).map(drop).is_ok() {
+        let waits = self
+            .wait
+            .is_some_and(|wait| hold.verdict(self.txn, wait).is_none());
+        if waits && hold.manager.cancel(self.txn).map(drop).is_ok() {
             self.table.wake(hold);
         }
+        hold.leaves_path(self.txn);
     }
 }
 
-/// The end of the wait, and whether a path was cancelled behind it.
-impl Future for Waiting<'_> {
-    type Output = (Result<Mode, Stop>, bool);
+impl Future for Locking<'_> {
+    type Output = Result<RowLocked, Stop>;
 
     fn poll(self: Pin<&mut Self>, context: &mut Context<'_>) -> Poll<Self::Output> {
         let own = self.get_mut();
@@ -213,25 +226,23 @@ impl Future for Waiting<'_> {
         let mut hold = own.table.guarded();
         let before = hold.tasks.forget(own.txn);
         let end = own
-            .end(&mut hold)
+            .advance(&mut hold)
             .or_else(|| own.wait_on(&mut hold, &mut task));
         own.is_over = end.is_some();
-        let is_cancelled = own.is_over && hold.leaves_path(own.txn);
         drop(hold);
         drop((before, task)); // A waker that goes may call the table.
-        end.map_or(Poll::Pending, |end| Poll::Ready((end, is_cancelled)))
+        end.map_or(Poll::Pending, Poll::Ready)
     }
 }
 
-impl Drop for Waiting<'_> {
+impl Drop for Locking<'_> {
     fn drop(&mut self) {
-        if self.is_over {
+        if self.is_over || self.wait.is_none() {
             return;
         }
         let mut hold = self.table.guarded();
         let task = hold.tasks.forget(self.txn);
         self.take_back(&mut hold);
-        hold.leaves_path(self.txn);
         drop(hold);
         drop(task);
     }
@@ -255,114 +266,20 @@ impl Table {
         self.guarded().tasks.ring_late(Instant::now())
     }
 
-    pub(crate) async fn lock_async(
-        &self,
+    /// As `lock`, for a task.
+    pub(crate) fn lock_async<'a>(
+        &'a self,
         txn: Txn,
-        node: Node,
-        mode: Mode,
+        sought: Sought<'a>,
         until: Option<Instant>,
-    ) -> Result<Mode, Stop> {
-        let asked = self.asked(&mut self.guarded(), txn, node, mode)?;
-        self.wait_of(asked, txn, Wait { node, mode }, until).await
-    }
-
-    /// As `lock_async`, for an instant.
-    pub(crate) async fn lock_instant_async(
-        &self,
-        txn: Txn,
-        node: Node,
-        mode: Mode,
-        until: Option<Instant>,
-    ) -> Result<Mode, Stop> {
-        let asked = self.asked_instantly(&mut self.guarded(), txn, node, mode)?;
-        self.wait_of(asked, txn, Wait { node, mode }, until).await
-    }
-
-    /// What a lock that was asked for comes to, behind its wait.
-    async fn wait_of(
-        &self,
-        asked: Asked,
-        txn: Txn,
-        wait: Wait,
-        until: Option<Instant>,
-    ) -> Result<Mode, Stop> {
-        match asked {
-            Asked::Granted(mode) => Ok(mode),
-            Asked::Victim => Err(Stop::Victim),
-            Asked::Waiting => Waiting::of(self, txn, wait, until).await.0,
-        }
-    }
-
-    /// A path; where a lock on its way was granted, the task goes on with the next one.
-    pub(crate) async fn lock_path_async(
-        &self,
-        txn: Txn,
-        node: Node,
-        mode: Mode,
-        until: Option<Instant>,
-    ) -> Result<Mode, Stop> {
-        loop {
-            let wait = match self.path_asked(&mut self.guarded(), txn, node, mode)? {
-                Ok(end) => return end,
-                Err(wait) => wait,
-            };
-            let (end, is_cancelled) = Waiting::of(self, txn, wait, until).await;
-            match end {
-                Ok(mode) if wait.node == node => return Ok(mode),
-                Ok(_) | Err(Stop::Moved) if is_cancelled => return Err(Stop::Cancelled),
-                Ok(_) | Err(Stop::Moved) => {} // The rest of the path is asked for.
-                Err(stop) => return Err(stop),
-            }
-        }
-    }
-
-    /// A path up to its end, or else to a wait, which is noted with the path.
-    fn path_asked(
-        &self,
-        guarded: &mut Guarded,
-        txn: Txn,
-        node: Node,
-        mode: Mode,
-    ) -> Result<Result<Result<Mode, Stop>, Wait>, Refusal> {
-        loop {
-            let (reached, told) = guarded.manager.lock_path(txn, node, mode)?;
-            let tells = !told.is_empty();
-            self.wake_behind(guarded, txn, tells, matches!(reached, Reached::Waiting(_)));
-            match reached {
-                Reached::Granted(mode) => return Ok(Ok(Ok(mode))),
-                Reached::Victim => return Ok(Ok(Err(Stop::Victim))),
-                Reached::Above(_) => {}
-                Reached::Waiting(at) => {
-                    let mode = guarded.manager.waiting(txn).map_or(mode, |wait| wait.mode);
-                    guarded.paths[txn.slot()] = Some(Path::new(txn, at, mode, at == node));
-                    return Ok(Err(Wait { node: at, mode }));
-                }
-            }
-        }
-    }
-
-    /// A row. Behind a wait that was granted it is asked for again, as by a thread that sleeps.
-    pub(crate) async fn lock_row_async(
-        &self,
-        txn: Txn,
-        row: Row,
-        keys: &[u64],
-        mode: Mode,
-        until: Option<Instant>,
-    ) -> Result<RowLocked, Stop> {
-        let (asked, node) = self.ask_row(&mut self.guarded(), txn, row, keys, mode)?;
-        match asked {
-            RowAsked::Granted(mode) => return Ok(RowLocked::Own(mode)),
-            RowAsked::OtherKeys(mode) => return Ok(RowLocked::OtherKeys(mode)),
-            RowAsked::Victim => return Err(Stop::Victim),
-            RowAsked::Waiting => {}
-        }
-        let wait = Wait { node, mode };
-        let held = Waiting::of(self, txn, wait, until).await.0?;
-        match self.ask_row(&mut self.guarded(), txn, row, keys, mode) {
-            Ok((RowAsked::Granted(_), _)) => Ok(RowLocked::Own(held)),
-            Err(Refusal::NoSuchTxn) => Err(Stop::Refused(Refusal::NoSuchTxn)),
-            _ => Ok(RowLocked::OtherKeys(held)),
+    ) -> Locking<'a> {
+        Locking {
+            table: self,
+            txn,
+            sought,
+            until,
+            wait: None,
+            is_over: false,
         }
     }
 }

@@ -1,13 +1,13 @@
 //! Locks for an instant, which are given back as they are granted.
 
+use super::locks::Stay;
 use super::{Guarded, Table};
-use crate::manager::{Asked, Reached};
+use crate::manager::Wait;
 use crate::mode::Mode;
 use crate::names::{Node, Txn};
 use crate::refusal::Refusal;
 use crate::session::Stop;
 use crate::SLOTS;
-use std::time::Instant;
 
 /// A lock that is waited for, to be given back as it is granted.
 #[derive(Clone, Copy)]
@@ -28,110 +28,60 @@ pub(super) fn no_instants() -> Result<Box<[Option<InstantLock>]>, Refusal> {
 }
 
 impl Table {
-    /// As `lock`, for an instant.
-    pub(crate) fn lock_instant(
-        &self,
-        txn: Txn,
-        node: Node,
-        mode: Mode,
-        until: Option<Instant>,
-    ) -> Result<Mode, Stop> {
-        let mut guarded = self.guarded();
-        let asked = self.asked_instantly(&mut guarded, txn, node, mode)?;
-        self.end_of(guarded, asked, txn, node, mode, until)
-    }
-
-    /// As `lock_path`, with the node itself for an instant.
-    pub(crate) fn lock_path_instant(
-        &self,
-        txn: Txn,
-        node: Node,
-        mode: Mode,
-        until: Option<Instant>,
-    ) -> Result<Mode, Stop> {
-        self.lock_path_by(Table::reached_instantly, txn, node, mode, until)
-    }
-
-    /// Asks for a lock for an instant. A node that was not held is given back as soon as it is granted.
-    pub(super) fn asked_instantly(
-        &self,
-        guarded: &mut Guarded,
-        txn: Txn,
-        node: Node,
-        mode: Mode,
-    ) -> Result<Asked, Refusal> {
-        let is_new = guarded.is_new(txn, node);
-        let asked = self.asked(guarded, txn, node, mode)?;
-        match asked {
-            Asked::Granted(_) if is_new => self.release_instant(guarded, txn, node),
-            Asked::Waiting if is_new => guarded.note_instant(txn, node),
-            Asked::Granted(_) | Asked::Waiting | Asked::Victim => {}
-        }
-        Ok(asked)
-    }
-
-    /// The same of a path.
-    fn reached_instantly(
-        &self,
-        guarded: &mut Guarded,
-        txn: Txn,
-        node: Node,
-        mode: Mode,
-    ) -> Result<Reached, Refusal> {
-        let is_new = guarded.is_new(txn, node);
-        let reached = self.reached(guarded, txn, node, mode)?;
-        match reached {
-            Reached::Granted(_) if is_new => self.release_instant(guarded, txn, node),
-            Reached::Waiting(at) if is_new && at == node => guarded.note_instant(txn, node),
-            _ => {}
-        }
-        Ok(reached)
-    }
-
-    /// Releases a node, where it is held and no child of it is.
-    fn release_instant(&self, guarded: &mut Guarded, txn: Txn, node: Node) {
+    /// Releases a node that was granted at once for an instant, where no child of it is held.
+    pub(super) fn release_instant(&self, guarded: &mut Guarded, txn: Txn, node: Node) {
         if guarded.manager.unlock(txn, node).map(drop).is_ok() {
             self.wake(guarded);
-        }
-    }
-
-    /// The wait of this slot is over: one for an instant that was granted is given back. Whose wait ended in
-    /// another way holds nothing there.
-    pub(super) fn end_instant(&self, guarded: &mut Guarded, slot: usize) {
-        let Guarded {
-            manager, instants, ..
-        } = guarded;
-        let Some(lock) = instants[slot].as_mut().filter(|lock| lock.came.is_none()) else {
-            return;
-        };
-        match manager.held(lock.txn, lock.node) {
-            Ok(mode) if mode != Mode::NL => {
-                lock.came = Some(mode);
-                let InstantLock { txn, node, .. } = *lock;
-                self.release_instant(guarded, txn, node);
-            }
-            _ => instants[slot] = None,
         }
     }
 }
 
 impl Guarded {
-    /// Whether a transaction does not hold a node.
-    fn is_new(&self, txn: Txn, node: Node) -> bool {
-        self.manager.held(txn, node) == Ok(Mode::NL)
+    /// The node of a lock for an instant, where it is not held: so it is given back as soon as it is granted.
+    pub(super) fn instant_of(&self, txn: Txn, node: Node, stay: Stay) -> Option<Node> {
+        let is_new = || self.manager.held(txn, node) == Ok(Mode::NL);
+        (stay == Stay::Instant && is_new()).then_some(node)
     }
 
-    fn note_instant(&mut self, txn: Txn, node: Node) {
-        self.instants[txn.slot()] = Some(InstantLock {
+    /// Notes for which node a wait that has begun is for an instant, if it is.
+    pub(super) fn note_instant(&mut self, txn: Txn, instant: Option<Node>) {
+        self.instants[txn.slot()] = instant.map(|node| InstantLock {
             txn,
             node,
             came: None,
         });
     }
 
+    /// Whether this slot waits for an instant.
+    pub(super) fn is_instant(&self, slot: usize) -> bool {
+        self.instants[slot].is_some_and(|lock| lock.came.is_none())
+    }
+
+    /// The wait of this slot for an instant is over: where it was granted it is given back, and `true` says so. A
+    /// transaction whose wait ended in another way holds nothing there.
+    pub(super) fn gives_back(&mut self, slot: usize) -> bool {
+        let Guarded {
+            manager, instants, ..
+        } = self;
+        let Some(lock) = &mut instants[slot] else {
+            return false;
+        };
+        match manager.held(lock.txn, lock.node) {
+            Ok(mode) if mode != Mode::NL => {
+                lock.came = Some(mode);
+                manager.unlock(lock.txn, lock.node).map(drop).is_ok()
+            }
+            _ => {
+                instants[slot] = None;
+                false
+            }
+        }
+    }
+
     /// What became of a lock that was left waiting. The manager knows nothing of one that was given back as
     /// it came.
-    pub(super) fn verdict(&self, txn: Txn, node: Node, mode: Mode) -> Option<Result<Mode, Stop>> {
+    pub(super) fn verdict(&self, txn: Txn, wait: Wait) -> Option<Result<Mode, Stop>> {
+        let Wait { node, mode } = wait;
         let verdict = self.manager.verdict(txn, node, mode);
         if verdict != Some(Err(Stop::Cancelled)) {
             return verdict;

@@ -313,7 +313,7 @@ fn deadlock(table: &Table, root: Node) -> [Txn; 2] {
         let (asked, told) = guarded.manager.lock(txn, root, Mode::X).unwrap();
         assert!(asked == Asked::Waiting && told.is_empty());
     }
-    table.wake_behind(&mut guarded, both[1], false, true);
+    table.register(&mut guarded, both[1], None, None);
     both
 }
 

@@ -44,12 +44,16 @@ impl Table {
         self.row_tried(&mut self.guarded(), txn, row, keys, mode)
     }
 
-    /// The first of these that is free, in one hold of the latch.
+    /// The first of these that can be had, in one hold of the latch. One that would block, whose record or row has
+    /// moved, or that is gone, is passed over.
     pub(crate) fn try_first(&self, txn: Txn, tries: &[Try<'_>]) -> Result<Option<Taken>, Refusal> {
         let mut guarded = self.guarded();
         for (place, each) in tries.iter().enumerate() {
-            if let Tried::Locked(locked) = self.tried(&mut guarded, txn, each)? {
-                return Ok(Some(Taken { place, locked }));
+            match self.tried(&mut guarded, txn, each) {
+                Ok(Tried::Locked(locked)) => return Ok(Some(Taken { place, locked })),
+                Ok(Tried::WouldBlock(_)) => {}
+                Err(Refusal::NeedParents(_) | Refusal::NoSuchNode) => {}
+                Err(refusal) => return Err(refusal),
             }
         }
         Ok(None)
@@ -104,8 +108,9 @@ impl Table {
     fn give_back(&self, guarded: &mut Guarded, path: &Path) {
         for node in path.taken.iter().rev() {
             let released = guarded.manager.unlock(path.txn, *node);
-            let tells = released.is_ok_and(|told| !told.is_empty());
-            self.wake_behind(guarded, path.txn, tells, false);
+            if released.is_ok_and(|told| !told.is_empty()) {
+                self.wake(guarded);
+            }
         }
     }
 
