@@ -1,6 +1,6 @@
 use Rattle.gl_table.specs.Table.{board_of}
 use Rattle.gl_catalog.specs.Manager.{state_of}
-use Rattle.test_sessions.proofs.gathers.keep_back.Given as goal
+use Rattle.test_threads.proofs.gathers.keep_back.Given as goal
 
 abbrev pub ghosts-keeps_one_back-N-Naming : goal.ghosts-keeps_one_back-N-Naming
 ghosts-keeps_one_back-N-Naming g a = record {

@@ -1,7 +1,7 @@
 //! The worked rows as commands through a session: the replies are those of a manager.
 
+use crate::alike::{Alike, answers_alike};
 use crate::steps::Step;
-use crate::table::{Alike, answers_alike};
 use gl_modes::Mode::{IS, IX, S, SIX, X};
 use gl_table::Detect;
 

@@ -2,14 +2,13 @@
 
 use crate::stage::{new_manager, play_on};
 use crate::steps::{Alone, Made, Step, Through, take};
-use crate::story::Story;
+use crate::story::{Entrant, Left, Story};
 use crate::wanted::same;
 use gl_catalog::{Answer, Manager};
-use gl_shared::{Naming, Session, Share, Shared, Telling};
+use gl_shared::{Naming, Session, Shared, Telling};
 use gl_table::Detect;
 use std::alloc::Global;
 use std::process::Abort;
-use std::rt::Clock;
 use std::sync::Wait;
 use std::thread::Threads;
 
@@ -77,50 +76,38 @@ pub fn prepare(manager: &mut Manager, made: &mut Made, steps: &[Step]) {
 }
 
 impl Alike {
-    /// Plays with the share of a table, and gives it back.
-    pub fn play<N: Naming, R: Wait + Abort>(
+    /// Plays with the share of a table.
+    pub fn plays<N: Naming, R: Wait + Abort>(
         &self,
         rt: &R,
         alloc: Global,
         table: &Shared<N>,
-        mut shares: Vec<Share<N>>,
-    ) -> Vec<Share<N>> {
+        entrant: Entrant<N>,
+    ) -> Left<N> {
         let mut beside = new_manager(rt, alloc, self.detect);
-        if let Some(share) = shares.pop() {
-            let session = Session::new(table, share);
-            let mut through = Through { rt, session };
-            let mut made = Made::new();
-            for steps in [self.first, self.row] {
-                take_alike(rt, table, &mut through, &mut beside, &mut made, steps);
-            }
-            let Through { rt: _, session } = through;
-            let _ = shares.push(session.end());
+        let session = Session::new(table, entrant.share);
+        let mut through = Through { rt, session };
+        let mut made = Made::new();
+        for steps in [self.first, self.row] {
+            take_alike(rt, table, &mut through, &mut beside, &mut made, steps);
         }
-        shares
+        let Through { rt: _, session } = through;
+        Left {
+            share: session.end(),
+            diary: Vec::new(alloc),
+        }
     }
 }
 
 /// A new table and a new manager answer these steps alike. In the end the share is the book, and the count of
 /// accepted commands is that of the manager.
-pub fn answers_alike<R: Threads + Wait + Abort + Clock + Sync>(
-    rt: &R,
-    alloc: Global,
-    story: Alike,
-) {
+pub fn answers_alike<R: Threads + Wait + Abort + Sync>(rt: &R, alloc: Global, story: Alike) {
     let mut beside = new_manager(rt, alloc, story.detect);
     let mut made = Made::new();
     prepare(&mut beside, &mut made, story.first);
     prepare(&mut beside, &mut made, story.row);
     let manager = new_manager(rt, alloc, story.detect);
-    let closed = play_on(
-        rt,
-        alloc,
-        manager,
-        Telling::Always,
-        1,
-        1,
-        &Story::Alike(story),
-    );
+    let closed = play_on(rt, alloc, manager, Telling::Always, 1, &Story::Alike(story));
     same(rt, closed.book, beside.accepted());
     assert!(rt; closed.manager.board() == beside.board());
 }

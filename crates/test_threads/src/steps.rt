@@ -63,9 +63,9 @@ impl<N: Naming, R: Wait> Answers for Through<'_, '_, N, R> {
 }
 
 /// How many nodes and transactions are kept.
-const NODES: usize = 16;
+const NODES: usize = 128;
 
-const TXNS: usize = 8;
+const TXNS: usize = 128;
 
 /// What was made, in order. Behind an index stand its first two intervals.
 #[derive(Clone, Copy)]
@@ -108,11 +108,16 @@ impl Made {
     pub fn keep(&mut self, answer: Answer) {
         match answer {
             Answer::Node(node) => self.keep_node(node),
-            Answer::Begun(txn) if self.begun < TXNS => {
-                self.txns[self.begun] = txn;
-                self.begun += 1;
-            }
+            Answer::Begun(txn) => self.keep_txn(txn),
             _ => {}
+        }
+    }
+
+    /// Keeps a transaction.
+    pub fn keep_txn(&mut self, txn: TxnId) {
+        if self.begun < TXNS {
+            self.txns[self.begun] = txn;
+            self.begun += 1;
         }
     }
 
@@ -161,7 +166,6 @@ fn answer_move(to: &mut impl Answers, txn: TxnId, node: NodeId, parent: NodeId) 
 /// The step's reply.
 pub fn take(to: &mut impl Answers, made: &Made, step: Step) -> Reply {
     match step {
-        Step::Root => to.answer(Command::Inner { parents: &[] }),
         Step::Inner(parent) => answer_inner(to, made.node(parent)),
         Step::File(parent) => answer_file(to, made.node(parent)),
         Step::Index {
@@ -177,9 +181,10 @@ pub fn take(to: &mut impl Answers, made: &Made, step: Step) -> Reply {
     }
 }
 
-/// The command of a step that has no list; a group's for any other.
-fn command_of(made: &Made, step: Step) -> Command<'static> {
+/// The command of a step that names no list but an empty one; a group's for any other.
+pub fn command_of(made: &Made, step: Step) -> Command<'static> {
     match step {
+        Step::Root => Command::Inner { parents: &[] },
         Step::Begin => Command::Begin,
         Step::Lock(txn, mode, node) => Command::Lock {
             txn: made.txn(txn),
