@@ -1,5 +1,7 @@
 //! Lists of commands, none of which wants memory: all that can be refused its room is the list.
 
+ghost use Rattle.std.specs.Prelude.{◌≤◌};
+
 use crate::bill::Bill;
 use crate::watch::Watch;
 use gl_catalog::{Answer, Command, Manager, Reply, run_commands};
