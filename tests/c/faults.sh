@@ -15,7 +15,7 @@ trap 'rm -rf "$work"' EXIT
 # for each condition. The library may need more words (FAULT_LINKS).
 faults() {
   local call
-  for call in table_lock_now table_path_now table_ask_row; do
+  for call in table_lock_by table_path_by table_ask_row; do
     printf '%s-forgets-to-wake\t/%s(/,/^}/s/  table_wake(table, reply.status, [^,]*told, false);//\n' "$call" "$call"
     printf '%s-is-not-watched\t/%s(/,/^}/s/wake(table, reply.status,/wake(table, reply.status == BS_WAITING ? BS_DONE : reply.status,/\n' \
       "$call" "$call"
@@ -63,9 +63,9 @@ instant-gives-back-what-was-held	/ table_is_instant(const/,/^}/s/ \&\& bs_held(&
 instant-of-an-ended-wait	s/    table->instantly.words\[i\] &= ~instantly;//
 instant-came-and-is-not-known	/table_became(/,/^}/s/^  if (reply.status != BS_NOT_WAITING) return reply;/  return reply;/
 instant-that-came-is-the-next-wait	/table_register(/,/^}/s/^  own->came.status.*//
-lock-wakes-before-it-registers	/ table_lock_now(/,/^}/{/table_register(/d;s/^  table_wake(table, .*/&\n  if (reply.status == BS_WAITING) table_register(table, txn, node, is_instant);/}
-path-wakes-before-it-registers	/ table_path_now(/,/^}/{/table_register(/d;s/^  table_wake(table, .*/&\n  if (reply.status == BS_WAITING) table_register(table, txn, node, is_instant \&\& table_is_same_node(reply.node, node));/}
-path-asks-for-its-mode-too-late	/ table_path_now(/,/^}/{/wait->mode/d;s/^  table_wake(table, .*/&\n  wait->mode = bs_call_doing(\&table->manager, txn).mode;/}
+lock-wakes-before-it-registers	/ table_lock_by(/,/^}/{/table_register(/d;s/^  table_wake(table, .*/&\n  if (reply.status == BS_WAITING) table_register(table, txn, node, is_instant);/}
+path-wakes-before-it-registers	/ table_path_by(/,/^}/{/table_register(/d;s/^  table_wake(table, .*/&\n  if (reply.status == BS_WAITING) table_register(table, txn, node, is_instant \&\& table_is_same_node(reply.node, node));/}
+path-asks-for-its-mode-too-late	/ table_path_by(/,/^}/{/wait->mode/d;s/^  table_wake(table, .*/&\n  wait->mode = bs_call_doing(\&table->manager, txn).mode;/}
 row-wakes-before-it-registers	/ table_ask_row(/,/^}/{/table_register(/d;s/^  table_wake(table, .*/&\n  if (reply.status == BS_WAITING) table_register(table, txn, reply.node, false);/}
 list-wakes-before-it-registers	/ table_run_next(/,/^}/{/table_say_for_what(/d;s/^  table_wake(table, .*/&\n  if (next->reply.status == BS_WAITING) table_say_for_what(table, next, txn);/}
 own-ask-is-not-looked-at	s/^  table->asks->due.words.slot . 64. |= bit;//
@@ -82,7 +82,7 @@ instant-sleeps-by-its-word	s/table_sleep(table, txn, node, table_mode_of(mode), 
 instant-asks-by-its-word	s/  own->wanted = table_mode_of(mode);/  own->wanted = mode;/
 run-says-not-for-what	s/  if (next->reply.status == BS_WAITING) .*//
 run-takes-a-slot-for-begun	s/  bs_txn txn = next->txn.slot == none.slot .*/  bs_txn txn = next->txn.age == none.age ? begun : next->txn;/
-list-path-stops-on-the-way	s/  while (reply.status == BS_ON_THE_WAY) {/  while (false) {/
+list-path-stops-on-the-way	s/^  if (reply.status == BS_ON_THE_WAY) return table_path_made_on(.*//
 list-path-tells-the-last	s/ table_tell_too(told, &table->told);/ *told = table->told;/
 list-path-tells-the-first	s/    if (told != &table->told) table_tell_too(.*//
 list-path-tells-unordered	s/    for (; place > 0 && told->at\[place - 1\].*//
