@@ -184,6 +184,9 @@ a-call-tells-nobody	s/  table_release(table);                                   
 on-end-is-given-twice	s/  if (table->asks != NULL) return table_leave(table, bs_call_only(BS_IN_USE));//
 spare-asks-are-kept	s/  while (table->asks != NULL \&\& table->asks->spare != NULL) {/  while (false) {/
 end-leaves-the-line	s/  for (each = table->first; each != NULL; .*//
+sleeper-follows-a-later-deadline	s/^    until = &time;//
+path-forgets-its-time-on-its-way	/^bs_reply bs_table_lock_path(/,/^}/s/node, mode, until);/node, mode, until), until = NULL;/
+path-forgets-its-deadline-on-its-way	/^bs_reply bs_table_lock_path(/,/^}/s/    reply = table_path_inside(.*/&\n    table->deadlines[txn.slot].age = 0;/
 FAULTS
 }
 
@@ -192,7 +195,7 @@ found() {
   local there=$work/$1 compiler=${CC:-cc} program
   mkdir -p "$there" && cp "$top"/c/*.c "$there/" && sed -i "$2" "$there"/*.c || return 1
   ! diff -q "$top/c" "$there" -x out >/dev/null || { echo "faults.sh: $1 changes nothing"; return 1; }
-  for program in shared asks crowd; do
+  for program in shared asks waits crowd; do
     local with=()
     [ "$program" = crowd ] || with=(-Wl,--wrap=malloc,--wrap=realloc,--wrap=free)
     # shellcheck disable=SC2086 # CC and FAULT_LINKS may have several words.
@@ -200,7 +203,7 @@ found() {
       "$top/tests/c/$program.c" "${libraries[@]}" ${FAULT_LINKS:-} "${with[@]}" || return 1
   done
   timeout 60 "$there/shared" 5 >"$there/said" 2>&1 && timeout 60 "$there/asks" 5 100 >>"$there/said" 2>&1 &&
-    timeout 60 "$there/crowd" 4 4 >>"$there/said" 2>&1
+    timeout 60 "$there/waits" 5 >>"$there/said" 2>&1 && timeout 60 "$there/crowd" 4 4 >>"$there/said" 2>&1
   [ $? -eq 1 ] || { echo "faults.sh: $1 was not found"; return 1; }
   echo "$1: found: $(grep -E ': (hangs|not so|[a-z_]*: not so)' "$there/said" | tail -n 1 | sed 's/^[^ ]*\.c:[0-9]*: //')"
 }

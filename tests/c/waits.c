@@ -1,0 +1,261 @@
+/*
+ * Stories of waits: of their times, their slots and places, the begin queue, ends that set off others, locks for an
+ * instant, the thread that watches, and a table that ends. Each is a function that ends the program with status 1 at
+ * the first answer that is not as wanted, and else prints its name.
+ *
+ *   waits [SECONDS]   the time that a story may take before it is said to hang, 20 if none is given
+ *
+ * It is linked with the calls for memory of memory.h.
+ */
+#include "burlapslate.h"
+#include "memory.h"
+
+#include <stdio.h>
+#include <time.h>
+
+/* What the table calls is noted here, and some of it is done as a story wants. */
+static int noted_wait(pthread_cond_t *on, pthread_mutex_t *latch);
+static int noted_timedwait(pthread_cond_t *on, pthread_mutex_t *latch, const struct timespec *until);
+static int noted_gettime(clockid_t clock, struct timespec *time);
+static int noted_create(pthread_t *thread, const pthread_attr_t *attributes, void *(*run)(void *), void *arg);
+
+#include "burlapslate_shared.h"
+
+#define pthread_cond_wait noted_wait
+#define pthread_cond_timedwait noted_timedwait
+#define clock_gettime noted_gettime
+#define pthread_create noted_create
+
+#include "burlapslate_shared.c"
+
+#undef pthread_cond_wait
+#undef pthread_cond_timedwait
+#undef clock_gettime
+#undef pthread_create
+
+#include "waiters.h"
+
+/* A thread that is held up has been woken, and gets the latch again only when the story lets it. */
+static void hold_up(pthread_mutex_t *latch) {
+  while (me != NULL && me->is_held_up) {
+    pthread_mutex_unlock(latch);
+    nap();
+    pthread_mutex_lock(latch);
+  }
+}
+
+/* How many threads sleep until a wait begins, as the thread that watches does if it has seen all waits; and the last
+ * wait that it has seen. */
+static size_t idle;
+static uint64_t seen_by_idle;
+
+static int noted_wait(pthread_cond_t *on, pthread_mutex_t *latch) {
+  bool is_idle = table != NULL && on == &table->began;
+  int status;
+  if (me != NULL) me->sleeps++;
+  if (is_idle) idle++, seen_by_idle = table->waited;
+  status = pthread_cond_wait(on, latch);
+  if (is_idle) idle--;
+  hold_up(latch);
+  return status;
+}
+
+static int noted_timedwait(pthread_cond_t *on, pthread_mutex_t *latch, const struct timespec *until) {
+  int status;
+  if (me != NULL) me->sleeps++, me->slept_to = *until;
+  status = pthread_cond_timedwait(on, latch, until);
+  hold_up(latch);
+  return status;
+}
+
+/* The time of the clock, if a story says it. */
+static const struct timespec *said_time;
+
+static int noted_gettime(clockid_t clock, struct timespec *time) {
+  if (said_time == NULL) return clock_gettime(clock, time);
+  *time = *said_time;
+  return 0;
+}
+
+/* So many threads are not started. */
+static int refused_threads;
+
+static int noted_create(pthread_t *thread, const pthread_attr_t *attributes, void *(*run)(void *), void *arg) {
+  if (refused_threads == 0) return pthread_create(thread, attributes, run, arg);
+  refused_threads--;
+  return EAGAIN;
+}
+
+static void set_held_up(struct sleeper *s, bool is_held_up) {
+  pthread_mutex_lock(&table->latch);
+  s->is_held_up = is_held_up;
+  pthread_mutex_unlock(&table->latch);
+}
+
+/* ------------------------------------------------------------------------------------------------
+ * The time of a call, and the deadline of its transaction.
+ */
+
+/* A transaction that holds the record and the row in X. */
+static bs_txn begin_holder(void) {
+  bs_txn holder = begin_writer();
+  DONE(bs_table_lock(table, holder, low, BS_X, NULL));
+  DONE(lock_row(holder, LOW_KEY, BS_X, NULL));
+  return holder;
+}
+
+/* The thread sleeps in a call of its own; a list leaves a lock waiting first if that is to be awaited. */
+static bs_reply sleep_here(struct sleeper *own) {
+  bs_reply reply;
+  if (own->by == BY_AWAIT) {
+    bs_command command = bs_do_at(BS_DO_LOCK, own->txn, own->node, own->mode);
+    leave_waiting(&command);
+  }
+  me = own;
+  reply = sleep_by(own);
+  me = NULL;
+  return reply;
+}
+
+/* The sleep ends at the earlier of two times, which is over, whichever of them is the call's. */
+static void sleeps_to_the_earlier(enum sleep_call by, struct timespec earlier, struct timespec later) {
+  struct sleeper own;
+  bs_txn waiter;
+  int round;
+  set_up(BS_AT_BLOCK);
+  begin_holder();
+  waiter = begin_writer();
+  for (round = 0; round < 2; round++) {
+    own = sleeper_of(by, waiter, low, BS_X);
+    own.until = round == 0 ? &earlier : &later;
+    DONE(bs_table_deadline(table, waiter, round == 0 ? &later : &earlier));
+    ANSWERS(BS_TIMED_OUT, sleep_here(&own));
+    WANT(own.sleeps == 1 && same_time(own.slept_to, earlier));
+    WANT(wait_in(table, waiter).status == BS_NOT_WAITING);
+  }
+  close_table();
+}
+
+/* The calls that wait for a lock. */
+static const enum sleep_call lock_calls[] = { BY_LOCK, BY_PATH, BY_ROW, BY_AWAIT };
+
+enum { LOCK_CALLS = sizeof lock_calls / sizeof *lock_calls };
+
+static void a_sleep_ends_at_the_earlier_time(void) {
+  size_t i;
+  for (i = 0; i < LOCK_CALLS; i++) sleeps_to_the_earlier(lock_calls[i], moment_in(0), moment_in(60000000));
+}
+
+/* An ask of each kind by the holder's record or row. */
+static bs_reply ask_by(struct heard *h, enum sleep_call by, bs_txn txn, const struct timespec *until) {
+  bs_command command;
+  switch (by) {
+    case BY_LOCK: return ask_until(h, txn, low, BS_X, until);
+    case BY_PATH: return ask_path_until(h, txn, low, BS_X, until);
+    case BY_ROW: return ask_row_until(h, txn, LOW_KEY, BS_X, until);
+    default:
+      command = bs_do_at(BS_DO_LOCK, txn, low, BS_X);
+      leave_waiting(&command);
+      return ask_await_until(h, txn, low, BS_X, until);
+  }
+}
+
+/* An ask waits to the earlier of two times, whichever of them is the call's. */
+static void waits_to_the_earlier(enum sleep_call by, struct timespec earlier, struct timespec later) {
+  struct timespec next;
+  struct heard h;
+  bs_txn waiter;
+  int round;
+  set_up(BS_AT_BLOCK);
+  begin_holder();
+  waiter = begin_writer();
+  for (round = 0; round < 2; round++) {
+    DONE(bs_table_deadline(table, waiter, round == 0 ? &later : &earlier));
+    WAITS(ask_by(&h, by, waiter, round == 0 ? &earlier : &later));
+    WANT(DONE(bs_table_expire(table, &next)).count == 1 && same_time(next, earlier));
+    DONE(bs_table_cancel(table, waiter, NULL));
+    HEARD_BY_NOW(&h, BS_NOT_WAITING);
+  }
+  close_table();
+}
+
+static void an_ask_waits_to_the_earlier_time(void) {
+  struct timespec far = moment_in(60000000);
+  size_t i;
+  for (i = 0; i < LOCK_CALLS; i++) waits_to_the_earlier(lock_calls[i], far, moment_in(90000000));
+}
+
+/* A deadline that is set while the transaction sleeps, or while its ask waits, is of its later waits. */
+static void a_deadline_set_meanwhile_is_of_later_waits(void) {
+  struct timespec past = moment_in(0), far = moment_in(60000000), next;
+  struct sleeper one;
+  struct heard h;
+  bs_txn holder, sleeper, asker;
+  set_up(BS_AT_BLOCK);
+  holder = begin_holder(), sleeper = begin_writer(), asker = begin_writer();
+  DONE(bs_table_deadline(table, sleeper, &far));
+  DONE(bs_table_deadline(table, asker, &far));
+  send(&one, BY_LOCK, sleeper, low, BS_X);
+  WAITS(ask_row(&h, asker, LOW_KEY, BS_X));
+  DONE(bs_table_deadline(table, sleeper, &past));
+  DONE(bs_table_deadline(table, asker, &past));
+  WANT(DONE(bs_table_expire(table, &next)).count == 1 && same_time(next, far));
+  pthread_mutex_lock(&table->latch);
+  while (one.sleeps < 3) { /* It is woken, and nothing has ended its wait. */
+    pthread_cond_broadcast(&table->ended[sleeper.slot]);
+    pthread_mutex_unlock(&table->latch);
+    nap();
+    pthread_mutex_lock(&table->latch);
+  }
+  WANT(same_time(one.slept_to, far));
+  pthread_mutex_unlock(&table->latch);
+  DONE(bs_table_commit(table, holder, NULL));
+  BACK(&one, BS_DONE);
+  HEARD_BY_NOW(&h, BS_DONE);
+  DONE(bs_table_lock(table, asker, high, BS_X, NULL));
+  ANSWERS(BS_TIMED_OUT, bs_table_lock(table, sleeper, high, BS_X, NULL));
+  close_table();
+}
+
+/* A path that waits twice keeps its time, be it the call's or the transaction's: its first wait is granted, though the
+ * time is over by then, and its second ends at that time. */
+static void a_path_keeps_its_time_on_its_way(void) {
+  struct timespec past = moment_in(0);
+  struct sleeper one;
+  bs_txn reader, waiter;
+  int round;
+  set_up(BS_AT_BLOCK);
+  DONE(bs_table_lock_path(table, begin(), low, BS_S, NULL));
+  for (round = 0; round < 2; round++) {
+    reader = begin(), waiter = begin();
+    DONE(bs_table_lock_path(table, reader, below, BS_S, NULL));
+    if (round == 1) DONE(bs_table_deadline(table, waiter, &past));
+    one = sleeper_of(BY_PATH, waiter, low, BS_X);
+    one.until = round == 0 ? &past : NULL;
+    one.is_held_up = true;
+    start(&one.thread, fall_asleep, &one);
+    await_wait(waiter);
+    WANT(waits_for(waiter, below));
+    DONE(bs_table_commit(table, reader, NULL));
+    set_held_up(&one, false);
+    BACK(&one, BS_TIMED_OUT);
+    WANT(one.sleeps == 2 && same_time(one.slept_to, past));
+    holds(waiter, below, BS_IX), holds(waiter, low, BS_NL);
+    DONE(bs_table_commit(table, waiter, NULL));
+  }
+  close_table();
+}
+
+/* ------------------------------------------------------------------------------------------------
+ * The whole.
+ */
+
+int main(int count, char **words) {
+  setvbuf(stdout, NULL, _IONBF, 0);
+  if (count > 1) patience = (unsigned)atoi(words[1]);
+  TELL(a_sleep_ends_at_the_earlier_time);
+  TELL(an_ask_waits_to_the_earlier_time);
+  TELL(a_deadline_set_meanwhile_is_of_later_waits);
+  TELL(a_path_keeps_its_time_on_its_way);
+  return 0;
+}
