@@ -187,6 +187,11 @@ end-leaves-the-line	s/  for (each = table->first; each != NULL; .*//
 sleeper-follows-a-later-deadline	s/^    until = &time;//
 path-forgets-its-time-on-its-way	/^bs_reply bs_table_lock_path(/,/^}/s/node, mode, until);/node, mode, until), until = NULL;/
 path-forgets-its-deadline-on-its-way	/^bs_reply bs_table_lock_path(/,/^}/s/    reply = table_path_inside(.*/&\n    table->deadlines[txn.slot].age = 0;/
+earlier-by-nanoseconds-is-the-deadline	s/  return own->time.tv_sec == until->tv_sec .*/  return until;/
+later-by-nanoseconds-is-taken	s/ own->time.tv_nsec < until->tv_nsec ? &own->time : until;/ own->time.tv_nsec > until->tv_nsec ? \&own->time : until;/
+times-within-a-second-are-one	/^static bool table_is_later(/,/^}/s/ || (one->tv_sec == .*/;/
+a-time-of-now-is-later	/^static bool table_is_later(/,/^}/s/one->tv_nsec > other->tv_nsec/one->tv_nsec >= other->tv_nsec/
+later-by-nanoseconds-alone	/^static bool table_is_later(/,/^}/s/(one->tv_sec == other->tv_sec && one->tv_nsec > other->tv_nsec)/one->tv_nsec > other->tv_nsec/
 FAULTS
 }
 

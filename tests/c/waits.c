@@ -247,6 +247,55 @@ static void a_path_keeps_its_time_on_its_way(void) {
 }
 
 /* ------------------------------------------------------------------------------------------------
+ * Times within one second.
+ */
+
+/* A time in a full second and so many nanoseconds of it, which lies so many seconds ahead. */
+static struct timespec time_within(time_t seconds, long nanoseconds) {
+  struct timespec time = moment_in(0);
+  time.tv_sec += seconds;
+  time.tv_nsec = nanoseconds;
+  return time;
+}
+
+static void two_times_lie_within_a_second(void) {
+  size_t i;
+  for (i = 0; i < LOCK_CALLS; i++) {
+    struct timespec past = time_within(-1, 1), far = time_within(60, 600), later;
+    later = past, later.tv_nsec = 2;
+    sleeps_to_the_earlier(lock_calls[i], past, later);
+    later.tv_nsec = 999999999;
+    sleeps_to_the_earlier(lock_calls[i], past, later);
+    later = far, later.tv_nsec = 700;
+    waits_to_the_earlier(lock_calls[i], far, later);
+  }
+}
+
+/* The clock shows the middle of a second. The asks whose times it has reached end, and the next time is the earliest of
+ * the others. */
+static void asks_expire_within_a_second(void) {
+  static const struct timespec now = { 1000, 500000000 };
+  static const struct timespec times[] = { { 1000, 500000002 }, { 999, 999999999 }, { 1000, 500000000 },
+                                           { 1000, 500000001 }, { 1001, 0 }, { 1000, 499999999 } };
+  enum { ASKS = 6 };
+  struct heard all[ASKS];
+  struct timespec next;
+  size_t i;
+  set_up(BS_AT_BLOCK);
+  DONE(bs_table_lock(table, begin(), root, BS_X, NULL));
+  for (i = 0; i < ASKS; i++) WAITS(ask_until(&all[i], begin(), root, BS_S, &times[i]));
+  said_time = &now;
+  WANT(DONE(bs_table_expire(table, &next)).count == 3 && same_time(next, times[3]));
+  said_time = NULL;
+  for (i = 0; i < ASKS; i++) {
+    bool is_over = i == 1 || i == 2 || i == 5;
+    WANT(calls_of(&all[i]) == (is_over ? 1 : 0));
+    if (is_over) HEARD_BY_NOW(&all[i], BS_TIMED_OUT);
+  }
+  close_table();
+}
+
+/* ------------------------------------------------------------------------------------------------
  * The whole.
  */
 
@@ -257,5 +306,7 @@ int main(int count, char **words) {
   TELL(an_ask_waits_to_the_earlier_time);
   TELL(a_deadline_set_meanwhile_is_of_later_waits);
   TELL(a_path_keeps_its_time_on_its_way);
+  TELL(two_times_lie_within_a_second);
+  TELL(asks_expire_within_a_second);
   return 0;
 }
