@@ -192,6 +192,9 @@ later-by-nanoseconds-is-taken	s/ own->time.tv_nsec < until->tv_nsec ? &own->time
 times-within-a-second-are-one	/^static bool table_is_later(/,/^}/s/ || (one->tv_sec == .*/;/
 a-time-of-now-is-later	/^static bool table_is_later(/,/^}/s/one->tv_nsec > other->tv_nsec/one->tv_nsec >= other->tv_nsec/
 later-by-nanoseconds-alone	/^static bool table_is_later(/,/^}/s/(one->tv_sec == other->tv_sec && one->tv_nsec > other->tv_nsec)/one->tv_nsec > other->tv_nsec/
+way-of-another-is-cleared	s/  if (table->ways\[txn.slot\] == &path) table->ways/  table->ways/
+way-of-before-stays	s/  table->ways\[txn.slot\] = &path;/  if (table->ways[txn.slot] == NULL) &/
+cancel-takes-any-path	s/path == NULL || path->txn.age != txn.age) return/path == NULL) return/
 FAULTS
 }
 

@@ -296,6 +296,93 @@ static void asks_expire_within_a_second(void) {
 }
 
 /* ------------------------------------------------------------------------------------------------
+ * The path of a slot.
+ */
+
+/* A sleeper on a path whose transaction was aborted is held up, and the next transaction of its slot begins. */
+static bs_txn begin_in_its_slot(struct sleeper *late) {
+  bs_txn next, before = begin();
+  send(late, BY_PATH, before, low, BS_X);
+  set_held_up(late, true);
+  DONE(bs_table_abort(table, before, NULL));
+  next = begin();
+  WANT(next.slot == before.slot && next.age != before.age);
+  return next;
+}
+
+/* A transaction that reads the root, so that all others wait there to write below. */
+static bs_txn begin_reader(void) {
+  bs_txn reader = begin();
+  DONE(bs_table_lock(table, reader, root, BS_S, NULL));
+  return reader;
+}
+
+/* The next transaction of the slot sleeps on a path. Whenever the late sleeper returns, a cancel ends that path. */
+static void the_next_path_is_cancelled(bool is_late) {
+  struct sleeper late, one;
+  bs_command list[2];
+  bs_txn reader, next;
+  set_up(BS_AT_BLOCK);
+  reader = begin_reader();
+  next = begin_in_its_slot(&late);
+  send(&one, BY_PATH, next, low, BS_X);
+  if (!is_late) set_held_up(&late, false), BACK(&late, BS_NO_SUCH_TXN);
+  list[0] = bs_do(BS_DO_COMMIT, reader), list[1] = bs_do(BS_DO_CANCEL, next);
+  WANT(bs_table_run(table, list, 2) == 2);
+  BACK(&one, BS_NOT_WAITING);
+  holds(next, root, BS_IX), holds(next, file, BS_NL);
+  if (is_late) set_held_up(&late, false), BACK(&late, BS_NO_SUCH_TXN);
+  ANSWERS(BS_NOT_WAITING, bs_table_cancel(table, next, NULL));
+  DONE(bs_table_lock_path(table, next, low, BS_X, NULL));
+  close_table();
+}
+
+static void a_late_sleeper_and_the_next_path(void) {
+  the_next_path_is_cancelled(false);
+  the_next_path_is_cancelled(true);
+}
+
+/* The next transaction of the slot was granted a lock, on no path: there is nothing to cancel. */
+static void a_path_of_before_takes_no_cancel(void) {
+  struct sleeper late;
+  bs_command command;
+  bs_txn reader, next;
+  set_up(BS_AT_BLOCK);
+  reader = begin_reader();
+  next = begin_in_its_slot(&late);
+  command = bs_do_at(BS_DO_LOCK, next, root, BS_IX);
+  leave_waiting(&command);
+  DONE(bs_table_commit(table, reader, NULL));
+  ANSWERS(BS_NOT_WAITING, bs_table_cancel(table, next, NULL));
+  set_held_up(&late, false);
+  BACK(&late, BS_NO_SUCH_TXN);
+  DONE(bs_table_await(table, next, root, BS_IX, NULL));
+  close_table();
+}
+
+/* A path that has ended leaves nothing to cancel, whether it was granted, refused or too late. */
+static void a_path_that_ended_takes_no_cancel(void) {
+  struct timespec past = moment_in(0);
+  struct sleeper one;
+  bs_command command;
+  bs_txn reader, waiter;
+  set_up(BS_AT_BLOCK);
+  reader = begin_reader(), waiter = begin();
+  ANSWERS(BS_TIMED_OUT, bs_table_lock_path(table, waiter, low, BS_X, &past));
+  command = bs_do_at(BS_DO_LOCK, waiter, root, BS_IX);
+  leave_waiting(&command);
+  DONE(bs_table_commit(table, reader, NULL));
+  ANSWERS(BS_NOT_WAITING, bs_table_cancel(table, waiter, NULL));
+  DONE(bs_table_commit(table, waiter, NULL));
+  reader = begin_reader(), waiter = begin();
+  send(&one, BY_PATH, waiter, low, BS_X);
+  DONE(bs_table_commit(table, reader, NULL));
+  BACK(&one, BS_DONE);
+  ANSWERS(BS_NOT_WAITING, bs_table_cancel(table, waiter, NULL));
+  close_table();
+}
+
+/* ------------------------------------------------------------------------------------------------
  * The whole.
  */
 
@@ -308,5 +395,8 @@ int main(int count, char **words) {
   TELL(a_path_keeps_its_time_on_its_way);
   TELL(two_times_lie_within_a_second);
   TELL(asks_expire_within_a_second);
+  TELL(a_late_sleeper_and_the_next_path);
+  TELL(a_path_of_before_takes_no_cancel);
+  TELL(a_path_that_ended_takes_no_cancel);
   return 0;
 }
