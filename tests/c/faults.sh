@@ -195,6 +195,9 @@ later-by-nanoseconds-alone	/^static bool table_is_later(/,/^}/s/(one->tv_sec == 
 way-of-another-is-cleared	s/  if (table->ways\[txn.slot\] == &path) table->ways/  table->ways/
 way-of-before-stays	s/  table->ways\[txn.slot\] = &path;/  if (table->ways[txn.slot] == NULL) &/
 cancel-takes-any-path	s/path == NULL || path->txn.age != txn.age) return/path == NULL) return/
+last-in-line-is-the-first	/^static void table_leave_line(/,/^}/s/table->last = own->ahead;/table->last = table->first;/
+last-in-line-stays	/^static void table_leave_line(/,/^}/s/  if (own->behind == NULL) table->last = own->ahead;/  if (own->behind == NULL \&\& own->ahead == NULL) table->last = NULL; else if (own->behind == NULL) own->ahead->behind = NULL;/
+who-is-behind-forgets-who-is-ahead	/^static void table_leave_line(/,/^}/s/own->behind->ahead = own->ahead;/own->behind->ahead = NULL;/
 FAULTS
 }
 

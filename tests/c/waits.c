@@ -383,6 +383,91 @@ static void a_path_that_ended_takes_no_cancel(void) {
 }
 
 /* ------------------------------------------------------------------------------------------------
+ * The begin queue.
+ */
+
+enum { IN_LINE = 4 };
+
+/* A thread comes to sleep for a slot, as one of so many. Its time may be over: then it is held up before it leaves. */
+static void line_up(struct sleeper *s, size_t count, const struct timespec *until) {
+  *s = sleeper_of(BY_BEGIN, bs_begun(), root, BS_NL);
+  s->until = until;
+  s->is_held_up = until != NULL;
+  start(&s->thread, fall_asleep, s);
+  await_sleepers(count);
+}
+
+static void leave_line(struct sleeper *s) {
+  set_held_up(s, false);
+  BACK(s, BS_TIMED_OUT);
+}
+
+/* The sleeper has the slot that this transaction gives up. */
+static bs_txn begins_behind(struct sleeper *s, bs_txn holder) {
+  bs_txn next;
+  DONE(bs_table_commit(table, holder, NULL));
+  next = BACK(s, BS_DONE).txn;
+  WANT(next.age == holder.age + 1);
+  return next;
+}
+
+/* Of four that sleep for a slot two leave, one after the other, and a fifth comes at some moment of that. The others
+ * begin in their order, and the fifth begins last. */
+static void two_leave(size_t first, size_t second, int moment) {
+  struct timespec past = moment_in(0);
+  struct sleeper all[IN_LINE + 1];
+  bs_txn holder;
+  size_t i;
+  DONE(make_table(&table, BS_AT_BLOCK, BS_YOUNGEST, 1));
+  holder = begin();
+  for (i = 0; i < IN_LINE; i++) line_up(&all[i], i + 1, i == first || i == second ? &past : NULL);
+  if (moment == 0) line_up(&all[IN_LINE], IN_LINE + 1, NULL);
+  leave_line(&all[first]);
+  if (moment == 1) line_up(&all[IN_LINE], IN_LINE, NULL);
+  leave_line(&all[second]);
+  if (moment == 2) line_up(&all[IN_LINE], IN_LINE - 1, NULL);
+  ANSWERS(BS_TOO_MANY_TXNS, bs_table_begin(table));
+  for (i = 0; i <= IN_LINE; i++) {
+    if (i != first && i != second) holder = begins_behind(&all[i], holder);
+  }
+  DONE(bs_table_commit(table, holder, NULL));
+  DONE(bs_table_begin(table));
+  close_table();
+}
+
+static void some_leave_the_line_while_one_comes(void) {
+  size_t first, second;
+  int moment;
+  for (first = 0; first < IN_LINE; first++) {
+    for (second = 0; second < IN_LINE; second++) {
+      for (moment = 0; moment < 3 && second != first; moment++) two_leave(first, second, moment);
+    }
+  }
+}
+
+/* The last one leaves while another comes, until nobody is in the line; and it begins anew. */
+static void a_line_ends_and_begins_anew(void) {
+  struct timespec past = moment_in(0);
+  struct sleeper one, two;
+  bs_txn holder;
+  DONE(make_table(&table, BS_AT_BLOCK, BS_YOUNGEST, 1));
+  holder = begin();
+  line_up(&one, 1, &past);
+  line_up(&two, 2, &past);
+  leave_line(&two);
+  line_up(&two, 2, &past);
+  leave_line(&one);
+  line_up(&one, 2, &past);
+  leave_line(&one);
+  leave_line(&two);
+  line_up(&one, 1, NULL);
+  line_up(&two, 2, NULL);
+  holder = begins_behind(&one, holder);
+  begins_behind(&two, holder);
+  close_table();
+}
+
+/* ------------------------------------------------------------------------------------------------
  * The whole.
  */
 
@@ -398,5 +483,7 @@ int main(int count, char **words) {
   TELL(a_late_sleeper_and_the_next_path);
   TELL(a_path_of_before_takes_no_cancel);
   TELL(a_path_that_ended_takes_no_cancel);
+  TELL(some_leave_the_line_while_one_comes);
+  TELL(a_line_ends_and_begins_anew);
   return 0;
 }
