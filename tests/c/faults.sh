@@ -198,6 +198,11 @@ cancel-takes-any-path	s/path == NULL || path->txn.age != txn.age) return/path ==
 last-in-line-is-the-first	/^static void table_leave_line(/,/^}/s/table->last = own->ahead;/table->last = table->first;/
 last-in-line-stays	/^static void table_leave_line(/,/^}/s/  if (own->behind == NULL) table->last = own->ahead;/  if (own->behind == NULL \&\& own->ahead == NULL) table->last = NULL; else if (own->behind == NULL) own->ahead->behind = NULL;/
 who-is-behind-forgets-who-is-ahead	/^static void table_leave_line(/,/^}/s/own->behind->ahead = own->ahead;/own->behind->ahead = NULL;/
+end-wakes-the-first-word	/^static void table_wake_all(/,/^}/s/slot < BS_SLOTS/slot < 64/
+late-asks-are-of-the-first-word	/^static size_t table_end_late(/,/^}/s/slot < BS_SLOTS/slot < 64/
+next-time-is-of-the-first-word	/^static uint64_t table_next_time(/,/^}/s/slot < BS_SLOTS/slot < 64/
+an-end-is-noted-in-the-first-word	/^static void table_end_ask(/,/^}/s/words\[slot \/ 64\] &= /words[0] \&= /
+instants-are-of-the-first-word	/table_register(/,/^}/s/words\[txn.slot \/ 64\] |= /words[0] |= /
 FAULTS
 }
 

@@ -468,6 +468,115 @@ static void a_line_ends_and_begins_anew(void) {
 }
 
 /* ------------------------------------------------------------------------------------------------
+ * All slots.
+ */
+
+/* Some slots of each word. */
+static const uint32_t some_slots[] = { 0, 1, 62, 63, 64, 65, 126, BS_SLOTS - 1 };
+
+enum { SOME = 8 };
+
+static bool is_some(uint32_t slot) {
+  size_t i;
+  for (i = 0; i < SOME; i++) {
+    if (some_slots[i] == slot) return true;
+  }
+  return false;
+}
+
+/* A transaction in each slot, in the order of the slots. */
+static void begin_all(bs_txn *all) {
+  uint32_t slot;
+  for (slot = 0; slot < BS_SLOTS; slot++) {
+    all[slot] = begin();
+    WANT(all[slot].slot == slot);
+  }
+}
+
+/* A table that ends wakes the sleepers of each slot, in whatever call they sleep. */
+static void an_end_wakes_the_sleepers_of_all_slots(void) {
+  static struct sleeper some[SOME];
+  bs_txn all[BS_SLOTS];
+  size_t i;
+  set_up(BS_AT_BLOCK);
+  begin_all(all);
+  DONE(bs_table_lock(table, all[2], root, BS_X, NULL));
+  for (i = 0; i < SOME; i++) send(&some[i], i % 2 == 0 ? BY_LOCK : BY_PATH, all[some_slots[i]], root, BS_X);
+  DONE(bs_table_end(table));
+  for (i = 0; i < SOME; i++) BACK(&some[i], BS_NO_MANAGER);
+  DONE(bs_table_free(&table));
+}
+
+/* The asks of all slots wait to a time, and those of some slots to one that is over. */
+static void asks_of_all_slots_expire(void) {
+  static struct heard h[BS_SLOTS];
+  struct timespec past = moment_in(0), far = moment_in(60000000), soonest = far, next;
+  bs_txn all[BS_SLOTS];
+  uint32_t slot;
+  set_up(BS_AT_BLOCK);
+  begin_all(all);
+  soonest.tv_sec--;
+  DONE(bs_table_lock(table, all[2], root, BS_X, NULL));
+  for (slot = 0; slot < BS_SLOTS; slot++) {
+    const struct timespec *until = is_some(slot) ? &past : slot == BS_SLOTS - 3 ? &soonest : &far;
+    if (slot != 2) WAITS(ask_until(&h[slot], all[slot], root, BS_S, until));
+  }
+  WANT(DONE(bs_table_expire(table, &next)).count == BS_SLOTS - 1 - SOME && same_time(next, soonest));
+  WANT(calls == SOME);
+  for (slot = 0; slot < SOME; slot++) HEARD_BY_NOW(&h[some_slots[slot]], BS_TIMED_OUT);
+  DONE(bs_table_end(table));
+  for (slot = 0; slot < BS_SLOTS; slot++) {
+    if (slot != 2 && !is_some(slot)) HEARD_BY_NOW(&h[slot], BS_NO_MANAGER);
+  }
+  WANT(calls == BS_SLOTS - 1);
+  DONE(bs_table_free(&table));
+}
+
+/* Asks of some slots from 64 on end, and those whose slots have the same place in the first word wait on, until they
+ * are granted. */
+static void an_ask_ends_beside_other_words(void) {
+  static struct heard h[BS_SLOTS];
+  bs_txn all[BS_SLOTS];
+  uint32_t slot;
+  set_up(BS_AT_BLOCK);
+  begin_all(all);
+  DONE(bs_table_lock(table, all[2], root, BS_X, NULL));
+  for (slot = 0; slot < BS_SLOTS; slot++) {
+    if (slot != 2) WAITS(ask(&h[slot], all[slot], root, BS_S));
+  }
+  for (slot = 64; slot < BS_SLOTS; slot++) {
+    if (is_some(slot)) DONE(bs_table_cancel(table, all[slot], NULL));
+  }
+  DONE(bs_table_commit(table, all[2], NULL));
+  WANT(calls == BS_SLOTS - 1);
+  for (slot = 0; slot < BS_SLOTS; slot++) {
+    if (slot != 2) HEARD_BY_NOW(&h[slot], slot >= 64 && is_some(slot) ? BS_NOT_WAITING : BS_DONE);
+  }
+  close_table();
+}
+
+/* A lock for an instant is given back in each slot, and one that stays is kept in each. */
+static void instants_in_all_slots(void) {
+  static struct heard h[BS_SLOTS];
+  bs_txn all[BS_SLOTS];
+  uint32_t slot;
+  set_up(BS_AT_BLOCK);
+  begin_all(all);
+  DONE(bs_table_lock(table, all[2], root, BS_X, NULL));
+  for (slot = 0; slot < BS_SLOTS; slot++) {
+    if (slot != 2) WAITS(ask(&h[slot], all[slot], root, is_some(slot) ? BS_S | BS_INSTANT : BS_S));
+  }
+  DONE(bs_table_commit(table, all[2], &told));
+  WANT(calls == BS_SLOTS - 1 && told.count == BS_SLOTS - 1);
+  for (slot = 0; slot < BS_SLOTS; slot++) {
+    if (slot == 2) continue;
+    WANT(HEARD_BY_NOW(&h[slot], BS_DONE).mode == BS_S);
+    holds(all[slot], root, is_some(slot) ? BS_NL : BS_S);
+  }
+  close_table();
+}
+
+/* ------------------------------------------------------------------------------------------------
  * The whole.
  */
 
@@ -485,5 +594,9 @@ int main(int count, char **words) {
   TELL(a_path_that_ended_takes_no_cancel);
   TELL(some_leave_the_line_while_one_comes);
   TELL(a_line_ends_and_begins_anew);
+  TELL(an_end_wakes_the_sleepers_of_all_slots);
+  TELL(asks_of_all_slots_expire);
+  TELL(an_ask_ends_beside_other_words);
+  TELL(instants_in_all_slots);
   return 0;
 }
