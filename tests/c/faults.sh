@@ -203,6 +203,13 @@ late-asks-are-of-the-first-word	/^static size_t table_end_late(/,/^}/s/slot < BS
 next-time-is-of-the-first-word	/^static uint64_t table_next_time(/,/^}/s/slot < BS_SLOTS/slot < 64/
 an-end-is-noted-in-the-first-word	/^static void table_end_ask(/,/^}/s/words\[slot \/ 64\] &= /words[0] \&= /
 instants-are-of-the-first-word	/table_register(/,/^}/s/words\[txn.slot \/ 64\] |= /words[0] |= /
+watch-takes-an-old-board	s/^    if (board.epoch < seen) bs_read_board(.*//
+watch-reads-no-board-of-now	s/^    if (board.epoch < seen) bs_read_board(.*/    if (board.epoch < seen) board.epoch = seen;/
+caller-keeps-signals-blocked	s/^  pthread_sigmask(SIG_SETMASK, &before, NULL);//
+watch-waits-with-its-faults	s/^  for (i = 0; i < sizeof faults .*sigdelset.*//
+watch-blocks-one-signal	s/^  sigfillset(&blocked);/  sigemptyset(\&blocked), sigaddset(\&blocked, SIGUSR1);/
+watch-that-failed-keeps-its-seat	/^bs_reply bs_table_watch_thread(/,/^}/s/^    bs_watch_end(&table->eye);//
+watch-that-failed-is-done	/^bs_reply bs_table_watch_thread(/,/^}/s/^    reply.status = BS_NO_MEMORY;//
 FAULTS
 }
 

@@ -577,6 +577,148 @@ static void instants_in_all_slots(void) {
 }
 
 /* ------------------------------------------------------------------------------------------------
+ * The thread that watches.
+ */
+
+/* The thread has seen all waits, and sleeps. */
+static void await_idle(void) {
+  bool is_idle = false;
+  while (!is_idle) {
+    nap();
+    pthread_mutex_lock(&table->latch);
+    is_idle = idle == 1 && seen_by_idle == table->waited;
+    pthread_mutex_unlock(&table->latch);
+  }
+}
+
+static void await_condemned(bs_txn txn) {
+  while (doing_of(txn) != BS_CONDEMNED) nap();
+}
+
+static bool same_signals(const sigset_t *one, const sigset_t *other) {
+  int number;
+  for (number = 1; number < 32; number++) {
+    if (sigismember(one, number) != sigismember(other, number)) return false;
+  }
+  return true;
+}
+
+/* Starts a thread that watches; the signals that its caller blocks are the same after that. */
+static bs_reply start_watch(uint64_t pace) {
+  sigset_t before, after;
+  bs_reply reply;
+  WANT(pthread_sigmask(SIG_SETMASK, NULL, &before) == 0);
+  reply = bs_table_watch_thread(table, pace);
+  WANT(pthread_sigmask(SIG_SETMASK, NULL, &after) == 0 && same_signals(&before, &after));
+  return reply;
+}
+
+/* A table with a thread that watches and is asleep, and two transactions that both read the root. */
+static void set_up_watched(bs_txn *older, bs_txn *younger) {
+  set_up(BS_BY_WATCHER);
+  DONE(start_watch(0));
+  *older = begin_reader(), *younger = begin_reader();
+  await_idle();
+}
+
+/* Has a transaction wait for X on the root by a list, with each growth that is refused in turn, until one is refused
+ * that is the board's alone. */
+static void wait_unshown(bs_txn txn) {
+  bs_command command = bs_do_at(BS_DO_LOCK, txn, root, BS_X);
+  long n = 0;
+  do {
+    refused_growth = ++n;
+    bs_table_run(table, &command, 1);
+    WANT(command.reply.status == BS_NO_MEMORY || refused_growth == 0);
+    refused_growth = 0;
+  } while (command.reply.status == BS_NO_MEMORY);
+  ANSWERS(BS_WAITING, command.reply);
+}
+
+/* The board of the last wait could not be shown, for want of memory: the thread reads it, and ends the deadlock. */
+static void a_thread_takes_no_old_board(void) {
+  struct sleeper one;
+  bs_txn older, younger;
+  set_up_watched(&older, &younger);
+  send(&one, BY_LOCK, older, root, BS_X);
+  await_idle();
+  wait_unshown(younger);
+  await_condemned(younger);
+  DONE(bs_table_abort(table, younger, NULL));
+  BACK(&one, BS_DONE);
+  close_table();
+}
+
+/* It sleeps while no wait has begun since its last look, also if commands were accepted meanwhile. */
+static void a_thread_sleeps_between_waits(void) {
+  struct sleeper one;
+  bs_txn holder, waiter;
+  int round;
+  set_up_watched(&holder, &waiter);
+  for (round = 0; round < 3; round++) {
+    send(&one, BY_LOCK, waiter, root, BS_X);
+    await_idle();
+    DONE(bs_table_commit(table, begin(), NULL));
+    await_idle();
+    DONE(bs_table_commit(table, holder, NULL));
+    BACK(&one, BS_DONE);
+    holder = waiter, waiter = begin();
+    await_idle();
+  }
+  close_table();
+}
+
+/* A thread that could not be started keeps no seat of a watcher, and its caller blocks no signals after the call. */
+static void a_thread_that_cannot_be_started(void) {
+  bs_watcher watchers[BS_MOST_WATCHERS];
+  bs_watcher none = BS_NO_WATCHER_HERE;
+  sigset_t mine;
+  int i;
+  set_up(BS_BY_WATCHER);
+  sigemptyset(&mine);
+  sigaddset(&mine, SIGUSR2);
+  WANT(pthread_sigmask(SIG_BLOCK, &mine, NULL) == 0);
+  for (i = 0; i < BS_MOST_WATCHERS; i++) watchers[i] = none;
+  refused_threads = 2;
+  ANSWERS(BS_NO_MEMORY, start_watch(0));
+  ANSWERS(BS_NO_MEMORY, start_watch(0));
+  for (i = 1; i < BS_MOST_WATCHERS; i++) DONE(bs_table_watch(table, &watchers[i]));
+  DONE(start_watch(0));
+  ANSWERS(BS_IN_USE, start_watch(0));
+  ANSWERS(BS_TOO_MANY_WATCHERS, bs_table_watch(table, &watchers[0]));
+  WANT(pthread_sigmask(SIG_UNBLOCK, &mine, NULL) == 0);
+  close_table();
+  for (i = 1; i < BS_MOST_WATCHERS; i++) DONE(bs_watch_end(&watchers[i]));
+}
+
+static sigset_t heard_blocked;
+
+static void notes_signals(struct heard *h) {
+  if (h->end.status == BS_VICTIM) WANT(pthread_sigmask(SIG_SETMASK, NULL, &heard_blocked) == 0);
+  if (h->end.status == BS_VICTIM) DONE(bs_table_abort(table, h->txn, NULL));
+}
+
+/* In a call of the function the thread that watches blocks all signals, but those that a fault of its own raises. */
+static void a_thread_blocks_signals_but_its_faults(void) {
+  static const int faults[] = { SIGSEGV, SIGBUS, SIGFPE, SIGILL, SIGTRAP };
+  static const int others[] = { SIGHUP, SIGINT, SIGQUIT, SIGTERM, SIGUSR1, SIGUSR2, SIGALRM, SIGCHLD, SIGPIPE };
+  struct heard one, two;
+  bs_txn older, younger;
+  size_t i;
+  set_up_watched(&older, &younger);
+  begin_asking(&two, younger, notes_signals);
+  asking = NULL;
+  WAITS(ask(&one, older, root, BS_X));
+  WAITS(bs_table_ask(table, younger, root, BS_X, NULL, &two));
+  HEARD(&two, BS_VICTIM);
+  HEARD(&one, BS_DONE);
+  WANT(pthread_equal(two.by, table->watch));
+  for (i = 0; i < sizeof faults / sizeof *faults; i++) WANT(sigismember(&heard_blocked, faults[i]) == 0);
+  for (i = 0; i < sizeof others / sizeof *others; i++) WANT(sigismember(&heard_blocked, others[i]) == 1);
+  close_table();
+}
+
+/* ------------------------------------------------------------------------------------------------
  * The whole.
  */
 
@@ -598,5 +740,9 @@ int main(int count, char **words) {
   TELL(asks_of_all_slots_expire);
   TELL(an_ask_ends_beside_other_words);
   TELL(instants_in_all_slots);
+  TELL(a_thread_takes_no_old_board);
+  TELL(a_thread_sleeps_between_waits);
+  TELL(a_thread_that_cannot_be_started);
+  TELL(a_thread_blocks_signals_but_its_faults);
   return 0;
 }
