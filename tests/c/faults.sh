@@ -210,6 +210,9 @@ watch-waits-with-its-faults	s/^  for (i = 0; i < sizeof faults .*sigdelset.*//
 watch-blocks-one-signal	s/^  sigfillset(&blocked);/  sigemptyset(\&blocked), sigaddset(\&blocked, SIGUSR1);/
 watch-that-failed-keeps-its-seat	/^bs_reply bs_table_watch_thread(/,/^}/s/^    bs_watch_end(&table->eye);//
 watch-that-failed-is-done	/^bs_reply bs_table_watch_thread(/,/^}/s/^    reply.status = BS_NO_MEMORY;//
+run-is-not-watched	/ table_run_next(/,/^}/s/wake(table, next->reply.status,/wake(table, next->reply.status == BS_WAITING ? BS_DONE : next->reply.status,/
+instant-is-not-watched	/ table_lock_by(/,/^}/s/wake(table, reply.status,/wake(table, is_instant \&\& reply.status == BS_WAITING ? BS_DONE : reply.status,/
+path-for-an-instant-is-not-watched	/ table_path_by(/,/^}/s/wake(table, reply.status,/wake(table, is_instant \&\& reply.status == BS_WAITING ? BS_DONE : reply.status,/
 FAULTS
 }
 

@@ -718,6 +718,69 @@ static void a_thread_blocks_signals_but_its_faults(void) {
   close_table();
 }
 
+/* The ways in which a wait for a node, or for the row, begins by a list, for an instant, or by an ask. */
+enum { WAYS_TO_WAIT = 10 };
+
+static bs_command row_command(bs_txn txn, bs_mode mode) {
+  static const uint64_t key = LOW_KEY;
+  bs_command command = bs_do(BS_DO_LOCK_ROW, txn);
+  command.file = rows;
+  command.number = ROW;
+  command.keys = &key;
+  command.key_count = 1;
+  command.mode = mode;
+  return command;
+}
+
+static void begin_to_wait(int way, bs_txn txn, bs_node node, struct heard *h, struct sleeper *s) {
+  bs_command command = bs_do_at(BS_DO_LOCK, txn, node, BS_X);
+  switch (way) {
+    case 0: command.kind = BS_DO_LOCK_PATH; break;
+    case 1: command.mode |= BS_INSTANT; break;
+    case 2: command.kind = BS_DO_LOCK_PATH, command.mode |= BS_INSTANT; break;
+    case 3: command = row_command(txn, BS_X); break;
+    case 4: WAITS(ask(h, txn, node, BS_X | BS_INSTANT)); return;
+    case 5: WAITS(ask_path(h, txn, node, BS_X | BS_INSTANT)); return;
+    case 6: WAITS(ask_row(h, txn, LOW_KEY, BS_X)); return;
+    case 7: set_out(s, BY_LOCK, txn, node, BS_X | BS_INSTANT); return;
+    case 8: set_out(s, BY_PATH, txn, node, BS_X | BS_INSTANT); return;
+    default: break;
+  }
+  leave_waiting(&command);
+}
+
+/* Each of two holds a record in X, and the row in S. Each wants the record of the other, or the row in X, in this way.
+ * The thread alone ends that: it is asleep when the cycle is closed. */
+static void is_watched(int way) {
+  bool is_slept = way == 7 || way == 8;
+  struct sleeper s[2];
+  struct heard h[2];
+  bs_txn t[2];
+  size_t i;
+  set_up(BS_BY_WATCHER);
+  DONE(start_watch(0));
+  for (i = 0; i < 2; i++) {
+    t[i] = begin_writer();
+    DONE(bs_table_lock(table, t[i], i == 0 ? low : high, BS_X, NULL));
+    DONE(lock_row(t[i], LOW_KEY, BS_S, NULL));
+  }
+  begin_to_wait(way, t[0], high, &h[0], &s[0]);
+  await_wait(t[0]);
+  await_idle();
+  begin_to_wait(way, t[1], low, &h[1], &s[1]);
+  await_condemned(t[1]);
+  if (is_slept) BACK(&s[1], BS_VICTIM);
+  DONE(bs_table_abort(table, t[1], NULL));
+  if (is_slept) BACK(&s[0], BS_DONE);
+  WANT(doing_of(t[0]) == BS_ACTIVE);
+  close_table();
+}
+
+static void waits_that_are_left_are_watched(void) {
+  int way;
+  for (way = 0; way < WAYS_TO_WAIT; way++) is_watched(way);
+}
+
 /* ------------------------------------------------------------------------------------------------
  * The whole.
  */
@@ -744,5 +807,6 @@ int main(int count, char **words) {
   TELL(a_thread_sleeps_between_waits);
   TELL(a_thread_that_cannot_be_started);
   TELL(a_thread_blocks_signals_but_its_faults);
+  TELL(waits_that_are_left_are_watched);
   return 0;
 }
