@@ -213,6 +213,10 @@ watch-that-failed-is-done	/^bs_reply bs_table_watch_thread(/,/^}/s/^    reply.st
 run-is-not-watched	/ table_run_next(/,/^}/s/wake(table, next->reply.status,/wake(table, next->reply.status == BS_WAITING ? BS_DONE : next->reply.status,/
 instant-is-not-watched	/ table_lock_by(/,/^}/s/wake(table, reply.status,/wake(table, is_instant \&\& reply.status == BS_WAITING ? BS_DONE : reply.status,/
 path-for-an-instant-is-not-watched	/ table_path_by(/,/^}/s/wake(table, reply.status,/wake(table, is_instant \&\& reply.status == BS_WAITING ? BS_DONE : reply.status,/
+next-end-forgets-the-last	/^static void table_tell(/,/^}/s/^    table_telling->last = over->last;//
+last-of-two-ends-is-the-first	/^static void table_tell(/,/^}/s/^    table_telling->last = over->last;/    table_telling->last = over->first;/
+next-end-hides-those-before	/^static void table_tell(/,/^}/s/    else table_telling->last->next = over->first;/    else table_telling->first = over->first;/
+ends-within-are-told-first	/^static void table_tell(/,/^}/s/^    if (table_telling->first == NULL) table_telling->first = over->first;/    if (table_telling->first != NULL) { over->last->next = table_telling->first; table_telling->first = over->first; return; }\n&/
 FAULTS
 }
 

@@ -782,6 +782,61 @@ static void waits_that_are_left_are_watched(void) {
 }
 
 /* ------------------------------------------------------------------------------------------------
+ * Ends that set off others.
+ */
+
+enum { ENDS = 12 };
+
+/* The nodes of a tree of ends, by their places: each with the transaction that holds it and the ask that waits. */
+static bs_node held_at[ENDS];
+static bs_txn holders[ENDS];
+static struct heard waiters[ENDS];
+
+static void ends_one(int at) {
+  DONE(bs_table_commit(table, holders[at], NULL));
+}
+
+/* The same of two, by one call. */
+static void ends_two(int at) {
+  bs_command list[2];
+  list[0] = bs_do(BS_DO_COMMIT, holders[at]), list[1] = bs_do(BS_DO_COMMIT, holders[at + 1]);
+  WANT(bs_table_run(table, list, 2) == 2);
+}
+
+/* The first end sets off two others by two calls, and two more by one. Each of the first two sets off two. */
+static void sets_off_others(struct heard *h) {
+  switch (h - waiters) {
+    case 0: ends_one(1), ends_one(2), ends_two(3), ends_one(5); break;
+    case 1: ends_two(6), ends_one(8); break;
+    case 2: ends_one(9), ends_one(10); break;
+    case 9: ends_one(11); break;
+    default: break;
+  }
+}
+
+/* Ends that are set off by the function come after it, in their order, by the same thread, and before the first call
+ * returns; three deep and more. */
+static void ends_set_off_ends(void) {
+  static const int order[ENDS] = { 0, 1, 2, 3, 4, 5, 6, 7, 8, 9, 10, 11 };
+  int i;
+  set_up(BS_AT_BLOCK);
+  for (i = 0; i < ENDS; i++) {
+    held_at[i] = add_root();
+    holders[i] = begin();
+    DONE(bs_table_lock(table, holders[i], held_at[i], BS_X, NULL));
+    WAITS(ask(&waiters[i], begin(), held_at[i], BS_S));
+    waiters[i].does = sets_off_others;
+  }
+  ends_one(0);
+  WANT(calls == ENDS);
+  for (i = 0; i < ENDS; i++) {
+    WANT(HEARD_BY_NOW(&waiters[i], BS_DONE).mode == BS_S && waiters[i].place == order[i]);
+    holds(waiters[i].txn, held_at[i], BS_S);
+  }
+  close_table();
+}
+
+/* ------------------------------------------------------------------------------------------------
  * The whole.
  */
 
@@ -808,5 +863,6 @@ int main(int count, char **words) {
   TELL(a_thread_that_cannot_be_started);
   TELL(a_thread_blocks_signals_but_its_faults);
   TELL(waits_that_are_left_are_watched);
+  TELL(ends_set_off_ends);
   return 0;
 }
