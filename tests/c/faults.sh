@@ -217,6 +217,13 @@ next-end-forgets-the-last	/^static void table_tell(/,/^}/s/^    table_telling->l
 last-of-two-ends-is-the-first	/^static void table_tell(/,/^}/s/^    table_telling->last = over->last;/    table_telling->last = over->first;/
 next-end-hides-those-before	/^static void table_tell(/,/^}/s/    else table_telling->last->next = over->first;/    else table_telling->first = over->first;/
 ends-within-are-told-first	/^static void table_tell(/,/^}/s/^    if (table_telling->first == NULL) table_telling->first = over->first;/    if (table_telling->first != NULL) { over->last->next = table_telling->first; table_telling->first = over->first; return; }\n&/
+instant-that-came-is-the-next-path	/ table_path_by(/,/^}/s/^    table_register(table, txn, node, is_instant \&\& \(.*\));/    if (is_instant \&\& \1) table_register(table, txn, node, true);/
+instant-that-came-is-the-next-row	/^static bs_reply table_ask_row(/,/^}/s/^  if (reply.status == BS_WAITING) table_register(.*//
+instant-that-came-is-the-next-in-a-list	s/^  if ((c->mode \& BS_INSTANT) == 0) table_register(table, txn, c->node, false);//
+instant-that-came-is-the-next-lock	/ table_lock_by(/,/^}/s/^  if (reply.status == BS_WAITING) table_register(/  if (is_instant \&\& reply.status == BS_WAITING) table_register(/
+instant-that-came-is-the-next-instant	/table_register(/,/^}/s/^  own->came.status = BS_WAITING;/  if (!is_instant) own->came.status = BS_WAITING;/
+instant-is-of-its-slot	s/  if (own->came.status != BS_DONE || own->txn.age != txn.age) return reply;/  if (own->came.status != BS_DONE) return reply;/
+instant-is-of-any-node	/table_became(/,/^}/s/  return table_is_same_node(own->node, node) ? own->came : reply;/  return own->came;/
 FAULTS
 }
 

@@ -837,6 +837,113 @@ static void ends_set_off_ends(void) {
 }
 
 /* ------------------------------------------------------------------------------------------------
+ * Locks for an instant, and the waits of later.
+ */
+
+/* A lock for an instant on this node came to a transaction, after a wait; another holds the node again. */
+static void instant_came(bs_txn waiter, bs_txn holder, bs_node node) {
+  bs_command command = bs_do_at(BS_DO_LOCK, waiter, node, BS_X | BS_INSTANT);
+  DONE(bs_table_lock(table, holder, node, BS_X, NULL));
+  leave_waiting(&command);
+  DONE(bs_table_unlock(table, holder, node, NULL));
+  WANT(DONE(bs_table_await(table, waiter, node, BS_X, NULL)).mode == BS_X);
+  holds(waiter, node, BS_NL);
+  DONE(bs_table_lock(table, holder, node, BS_X, NULL));
+}
+
+/* The ways in which a transaction waits for the record, on the way to it, or for the row, after an instant that came
+ * there. */
+enum { LATER_WAITS = 9 };
+
+static void wait_again(int way, bs_txn txn, bs_node node, struct sleeper *s, struct heard *h) {
+  bs_command command = bs_do_at(BS_DO_LOCK, txn, node, BS_X);
+  switch (way) {
+    case 0: send(s, BY_PATH, txn, node, BS_X); return;
+    case 1: send(s, BY_ROW, txn, node, BS_X); return;
+    case 2: send(s, BY_LOCK, txn, node, BS_X | BS_INSTANT); return;
+    case 3: WAITS(ask_path(h, txn, node, BS_X)); return;
+    case 4: WAITS(ask_row(h, txn, LOW_KEY, BS_X)); return;
+    case 5: WAITS(ask(h, txn, node, BS_X)); return;
+    case 6: command.kind = BS_DO_LOCK_PATH; break;
+    case 7: command = row_command(txn, BS_X); break;
+    default: break;
+  }
+  leave_waiting(&command);
+}
+
+/* The wait is cancelled: it has not come, whatever came before. */
+static void is_nothing_to(int way) {
+  bool is_row = way == 1 || way == 4 || way == 7;
+  struct sleeper s;
+  struct heard h;
+  bs_txn holder, waiter;
+  bs_node node;
+  set_up(BS_AT_BLOCK);
+  holder = begin_writer(), waiter = begin_writer();
+  node = is_row ? DONE(lock_row(holder, LOW_KEY, BS_X, NULL)).node : low;
+  if (is_row) DONE(bs_table_unlock(table, holder, node, NULL)); /* The row keeps its node. */
+  instant_came(waiter, holder, node);
+  wait_again(way, waiter, node, &s, &h);
+  DONE(bs_table_cancel(table, waiter, NULL));
+  if (way < 3) BACK(&s, BS_NOT_WAITING);
+  else if (way < 6) HEARD_BY_NOW(&h, BS_NOT_WAITING);
+  else ANSWERS(BS_NOT_WAITING, bs_table_await(table, waiter, node, BS_X, NULL));
+  holds(waiter, node, BS_NL);
+  close_table();
+}
+
+static void an_instant_of_before_is_nothing_to_a_wait(void) {
+  int way;
+  for (way = 0; way < LATER_WAITS; way++) is_nothing_to(way);
+}
+
+/* A path that waits on its way where an instant came before is cancelled there, and does not go on. */
+static void an_instant_of_before_is_nothing_to_a_way(void) {
+  struct sleeper s;
+  struct heard h;
+  bs_command command;
+  bs_txn holder, waiter;
+  int round;
+  set_up(BS_AT_BLOCK);
+  for (round = 0; round < 3; round++) {
+    holder = begin(), waiter = begin();
+    DONE(bs_table_lock_path(table, holder, below, BS_IX, NULL));
+    DONE(bs_table_lock_path(table, waiter, below, BS_IX, NULL));
+    DONE(bs_table_unlock(table, waiter, below, NULL));
+    DONE(bs_table_unlock(table, holder, below, NULL));
+    instant_came(waiter, holder, below);
+    command = bs_do_at(BS_DO_LOCK_PATH, waiter, low, BS_X);
+    if (round == 0) send(&s, BY_PATH, waiter, low, BS_X);
+    else if (round == 1) WAITS(ask_path(&h, waiter, low, BS_X));
+    else leave_waiting(&command);
+    WANT(waits_for(waiter, below));
+    DONE(bs_table_cancel(table, waiter, NULL));
+    if (round == 0) BACK(&s, BS_NOT_WAITING);
+    else if (round == 1) HEARD_BY_NOW(&h, BS_NOT_WAITING);
+    else ANSWERS(BS_NOT_WAITING, bs_table_await(table, waiter, below, BS_IX, NULL));
+    DONE(bs_table_commit(table, waiter, NULL));
+    DONE(bs_table_commit(table, holder, NULL));
+  }
+  close_table();
+}
+
+/* What came for an instant is no answer to the next transaction of the slot, nor about another node. */
+static void an_instant_is_of_its_transaction_and_node(void) {
+  bs_txn holder, waiter, next;
+  set_up(BS_AT_BLOCK);
+  holder = begin_writer(), waiter = begin_writer();
+  instant_came(waiter, holder, low);
+  WANT(DONE(bs_table_await(table, waiter, low, BS_X, NULL)).mode == BS_X);
+  ANSWERS(BS_NOT_WAITING, bs_table_await(table, waiter, high, BS_X, NULL));
+  DONE(bs_table_commit(table, waiter, NULL));
+  ANSWERS(BS_NO_SUCH_TXN, bs_table_await(table, waiter, low, BS_X, NULL));
+  next = begin();
+  WANT(next.slot == waiter.slot);
+  ANSWERS(BS_NOT_WAITING, bs_table_await(table, next, low, BS_X, NULL));
+  close_table();
+}
+
+/* ------------------------------------------------------------------------------------------------
  * The whole.
  */
 
@@ -864,5 +971,8 @@ int main(int count, char **words) {
   TELL(a_thread_blocks_signals_but_its_faults);
   TELL(waits_that_are_left_are_watched);
   TELL(ends_set_off_ends);
+  TELL(an_instant_of_before_is_nothing_to_a_wait);
+  TELL(an_instant_of_before_is_nothing_to_a_way);
+  TELL(an_instant_is_of_its_transaction_and_node);
   return 0;
 }
