@@ -224,6 +224,9 @@ instant-that-came-is-the-next-lock	/ table_lock_by(/,/^}/s/^  if (reply.status =
 instant-that-came-is-the-next-instant	/table_register(/,/^}/s/^  own->came.status = BS_WAITING;/  if (!is_instant) own->came.status = BS_WAITING;/
 instant-is-of-its-slot	s/  if (own->came.status != BS_DONE || own->txn.age != txn.age) return reply;/  if (own->came.status != BS_DONE) return reply;/
 instant-is-of-any-node	/table_became(/,/^}/s/  return table_is_same_node(own->node, node) ? own->came : reply;/  return own->came;/
+asked-row-keeps-its-first-key	/^static void table_keep_keys(/,/^}/s/own->row.count \* sizeof own->keys\[0\]/sizeof own->keys[0]/
+asked-row-is-for-an-instant	/^bs_reply bs_table_ask_row(/,/^}/s/table_ask_row(table, txn, &own->row, mode)/table_ask_row(table, txn, \&own->row, table_mode_of(mode))/
+listed-row-is-for-an-instant	s/bs_lock_row(m, txn, c->file, c->number, c->keys, c->key_count, c->mode, told)/bs_lock_row(m, txn, c->file, c->number, c->keys, c->key_count, table_mode_of(c->mode), told)/
 FAULTS
 }
 

@@ -944,6 +944,130 @@ static void an_instant_is_of_its_transaction_and_node(void) {
 }
 
 /* ------------------------------------------------------------------------------------------------
+ * Rows that are asked for again.
+ */
+
+enum { KEYS = 3 };
+
+/* A file of rows with three indexes, each parted at 100. */
+static bs_node many_rows, indexes[KEYS];
+
+static void set_up_many_keys(void) {
+  static const uint64_t bound = 100;
+  size_t i;
+  set_up(BS_AT_BLOCK);
+  many_rows = DONE(bs_table_add_row_file(table, &root, 1)).node;
+  for (i = 0; i < KEYS; i++) indexes[i] = DONE(bs_table_add_index(table, &root, 1, many_rows, &bound, 1)).node;
+}
+
+static bs_txn begin_writer_of_many(void) {
+  bs_txn txn = begin();
+  size_t i;
+  for (i = 0; i < KEYS; i++) {
+    bs_node lower = ASK(table, bs_interval, indexes[i], 0).node, upper = ASK(table, bs_interval, indexes[i], 1).node;
+    intend(txn, many_rows, lower, upper);
+  }
+  return txn;
+}
+
+static bs_txn begin_reader_of_many(void) {
+  bs_txn txn = begin();
+  DONE(bs_table_lock_path(table, txn, many_rows, BS_IS, NULL));
+  return txn;
+}
+
+/* The ask waits for a row by these keys, and its caller uses their place for something else. */
+static bs_reply row_by_keys(const uint64_t *keys, size_t count) {
+  uint64_t place[KEYS + 1];
+  struct heard h;
+  bs_txn holder, waiter;
+  bs_reply end;
+  static const uint64_t own[KEYS] = { 11, 122, 33 };
+  set_up_many_keys();
+  holder = begin_writer_of_many(), waiter = begin_reader_of_many();
+  memcpy(place, keys, count * sizeof *keys);
+  DONE(bs_table_lock_row(table, holder, many_rows, ROW, own, KEYS, BS_X, NULL));
+  begin_asking(&h, waiter, NULL);
+  asking = NULL;
+  WAITS(bs_table_ask_row(table, waiter, many_rows, ROW, place, count, BS_S, NULL, &h));
+  memset(place, 0, sizeof place);
+  DONE(bs_table_commit(table, holder, NULL));
+  WANT(calls_of(&h) == 1);
+  end = h.end;
+  WANT(end.mode == BS_S);
+  holds(waiter, end.node, BS_S);
+  close_table();
+  return end;
+}
+
+/* All keys of a row are copied, and each of them tells whether they are its own. */
+static void a_row_of_many_keys_is_asked_for_again(void) {
+  static const uint64_t own[KEYS + 1] = { 11, 122, 33, 0 };
+  uint64_t others[KEYS + 1];
+  size_t i;
+  DONE(row_by_keys(own, KEYS));
+  ANSWERS(BS_OTHER_KEYS, row_by_keys(own, KEYS - 1));
+  ANSWERS(BS_OTHER_KEYS, row_by_keys(own, KEYS + 1));
+  for (i = 0; i < KEYS; i++) {
+    memcpy(others, own, sizeof own);
+    others[i]++;
+    ANSWERS(BS_OTHER_KEYS, row_by_keys(others, KEYS));
+  }
+}
+
+/* A row is not locked for an instant: each call of a row refuses that word, and nothing waits. */
+static void a_row_is_not_locked_for_an_instant(void) {
+  static const uint64_t key = LOW_KEY;
+  bs_command list[2];
+  struct heard h;
+  bs_txn holder, txn;
+  size_t i;
+  set_up(BS_AT_BLOCK);
+  holder = begin_writer(), txn = begin_writer();
+  for (i = 0; i < 2; i++) {
+    list[0] = row_command(txn, BS_X | BS_INSTANT);
+    list[1] = list[0];
+    list[1].kind = BS_DO_TRY_ROW;
+    ANSWERS(BS_BAD_NUMBER, lock_row(txn, LOW_KEY, BS_X | BS_INSTANT, NULL));
+    ANSWERS(BS_BAD_NUMBER, ask_row(&h, txn, LOW_KEY, BS_X | BS_INSTANT));
+    ANSWERS(BS_BAD_NUMBER, bs_table_try_row(table, txn, rows, ROW, &key, 1, BS_X | BS_INSTANT));
+    WANT(bs_table_run(table, &list[0], 1) == 0 && list[0].reply.status == BS_BAD_NUMBER);
+    WANT(bs_table_run(table, &list[1], 1) == 0 && list[1].reply.status == BS_BAD_NUMBER);
+    ANSWERS(BS_BAD_NUMBER, ask_await_until(&h, txn, low, BS_X | BS_INSTANT, NULL));
+    WANT(wait_in(table, txn).status == BS_NOT_WAITING && calls == 0);
+    if (i == 0) DONE(lock_row(holder, LOW_KEY, BS_X, NULL)); /* The second time the row would have to be waited for. */
+  }
+  close_table();
+}
+
+/* A row that waits in a list is awaited by the node and the mode of its reply, and the list is run again from it. */
+static void a_row_is_awaited_by_its_reply(void) {
+  static const uint64_t other_key = HIGH_KEY;
+  bs_command list[2];
+  struct heard h;
+  bs_txn holder, waiter;
+  int round;
+  set_up(BS_AT_BLOCK);
+  for (round = 0; round < 4; round++) {
+    holder = begin_writer(), waiter = begin_writer();
+    DONE(lock_row(holder, LOW_KEY, BS_X, NULL));
+    list[0] = row_command(waiter, round % 2 == 0 ? BS_X : BS_S);
+    if (round >= 2) list[0].keys = &other_key;
+    list[1] = bs_do(BS_DO_COMMIT, waiter);
+    leave_waiting(&list[0]);
+    WANT(list[0].reply.mode == list[0].mode);
+    WANT(same_node(list[0].reply.node, ASK(table, bs_row_node, rows, ROW).node));
+    WAITS(ask_await_until(&h, waiter, list[0].reply.node, list[0].reply.mode, NULL));
+    DONE(bs_table_commit(table, holder, NULL));
+    WANT(HEARD_BY_NOW(&h, BS_DONE).mode == list[0].mode);
+    WANT(bs_table_run(table, list, 2) == (round < 2 ? 2 : 0));
+    WANT(list[0].reply.status == (round < 2 ? BS_DONE : BS_OTHER_KEYS) && list[0].reply.mode == list[0].mode);
+    if (round >= 2) DONE(bs_table_commit(table, waiter, NULL));
+  }
+  close_table();
+}
+
+/* ------------------------------------------------------------------------------------------------
  * The whole.
  */
 
@@ -974,5 +1098,8 @@ int main(int count, char **words) {
   TELL(an_instant_of_before_is_nothing_to_a_wait);
   TELL(an_instant_of_before_is_nothing_to_a_way);
   TELL(an_instant_is_of_its_transaction_and_node);
+  TELL(a_row_of_many_keys_is_asked_for_again);
+  TELL(a_row_is_not_locked_for_an_instant);
+  TELL(a_row_is_awaited_by_its_reply);
   return 0;
 }
