@@ -227,6 +227,8 @@ instant-is-of-any-node	/table_became(/,/^}/s/  return table_is_same_node(own->no
 asked-row-keeps-its-first-key	/^static void table_keep_keys(/,/^}/s/own->row.count \* sizeof own->keys\[0\]/sizeof own->keys[0]/
 asked-row-is-for-an-instant	/^bs_reply bs_table_ask_row(/,/^}/s/table_ask_row(table, txn, &own->row, mode)/table_ask_row(table, txn, \&own->row, table_mode_of(mode))/
 listed-row-is-for-an-instant	s/bs_lock_row(m, txn, c->file, c->number, c->keys, c->key_count, c->mode, told)/bs_lock_row(m, txn, c->file, c->number, c->keys, c->key_count, table_mode_of(c->mode), told)/
+end-of-a-table-is-cancelled	/^bs_reply bs_table_end(/,/^}/s/  pthread_setcancelstate(PTHREAD_CANCEL_DISABLE, &state);/  pthread_setcancelstate(PTHREAD_CANCEL_ENABLE, \&state);/
+end-of-a-table-keeps-cancels-off	/^bs_reply bs_table_end(/,/^}/s/^  pthread_setcancelstate(state, &state);//
 FAULTS
 }
 

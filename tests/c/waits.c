@@ -1068,6 +1068,54 @@ static void a_row_is_awaited_by_its_reply(void) {
 }
 
 /* ------------------------------------------------------------------------------------------------
+ * A thread that is cancelled as it ends a table.
+ */
+
+static void comes_to_a_cancel(struct heard *h) {
+  (void)h;
+  pthread_testcancel();
+}
+
+struct ender {
+  bs_reply reply;
+  pthread_t thread;
+};
+
+static void *ends_the_table(void *arg) {
+  struct ender *e = (struct ender *)arg;
+  pthread_cancel(pthread_self());
+  e->reply = bs_table_end(table);
+  pthread_testcancel();
+  return NULL;
+}
+
+/* It ends after the call, which is done; and it can be cancelled again then. The table has a thread that watches, a
+ * sleeper and an ask. */
+static void an_end_of_a_table_is_cancelled(void) {
+  struct ender e = { { 0 }, 0 };
+  struct sleeper one;
+  struct heard h;
+  bs_txn reader;
+  void *came = NULL;
+  set_up(BS_BY_WATCHER);
+  DONE(start_watch(UINT64_C(3600000000000)));
+  reader = begin_reader();
+  send(&one, BY_LOCK, begin(), root, BS_X);
+  WAITS(ask(&h, begin(), root, BS_X));
+  h.does = comes_to_a_cancel;
+  e.reply.status = BS_NOT_MADE;
+  start(&e.thread, ends_the_table, &e);
+  WANT(pthread_join(e.thread, &came) == 0);
+  DONE(e.reply);
+  WANT(came == PTHREAD_CANCELED);
+  BACK(&one, BS_NO_MANAGER);
+  HEARD(&h, BS_NO_MANAGER);
+  WANT(pthread_equal(h.by, e.thread));
+  ANSWERS(BS_NO_MANAGER, bs_table_commit(table, reader, NULL));
+  DONE(bs_table_free(&table));
+}
+
+/* ------------------------------------------------------------------------------------------------
  * The whole.
  */
 
@@ -1101,5 +1149,6 @@ int main(int count, char **words) {
   TELL(a_row_of_many_keys_is_asked_for_again);
   TELL(a_row_is_not_locked_for_an_instant);
   TELL(a_row_is_awaited_by_its_reply);
+  TELL(an_end_of_a_table_is_cancelled);
   return 0;
 }
