@@ -2748,6 +2748,43 @@ static void a_skip_is_refused(void) {
   close_table();
 }
 
+/* A skip passes over a record and a row that have moved to where the transaction holds nothing above them, and over a
+ * record that is gone, by its node and by its path. It takes the next that is free. */
+static void a_skip_passes_over_what_moved_or_is_gone(void) {
+  static const uint64_t key = OLD_KEY;
+  bs_command list[6];
+  bs_txn a, t;
+  uint64_t held;
+  set_up_rows(BS_AT_BLOCK);
+  a = begin_writer(OLD_KEY), t = begin_writer(OLD_KEY);
+  DONE(bs_table_lock_path(table, t, below, BS_IX, NULL));
+  DONE(bs_table_lock_path(table, t, file, BS_IX, NULL));
+  DONE(lock_above(a, NEW_KEY));
+  DONE(bs_table_lock_path(table, a, low, BS_X, NULL));
+  DONE(bs_table_lock_path(table, a, high, BS_X, NULL));
+  DONE(bs_table_rekey(table, a, low, by_key, 150, NULL));
+  DONE(bs_table_delete(table, a, high, NULL));
+  DONE(ask_row(a, 7, NEW_KEY, NULL));
+  DONE(ask_row(a, 8, OLD_KEY, NULL));
+  list[0] = bs_do_at(BS_DO_TRY, t, low, BS_X);
+  list[1] = row_try(t, 7, &key);
+  list[2] = bs_do_at(BS_DO_TRY, t, high, BS_X);
+  list[3] = bs_do_at(BS_DO_TRY_PATH, t, high, BS_X);
+  list[4] = row_try(t, 8, &key);
+  list[5] = row_try(t, 9, &key);
+  held = locks_of(t);
+  WANT(bs_table_try_first(table, list, 5) == 5 && locks_of(t) == held);
+  WANT(bs_table_try_first(table, list, 6) == 5 && list[5].reply.status == BS_DONE && locks_of(t) == held + 1);
+  WANT(list[0].reply.status == BS_NEED_PARENTS && same_node(list[0].reply.node, above));
+  WANT(list[1].reply.status == BS_NEED_PARENTS && same_node(list[1].reply.node, rows_above));
+  WANT(list[2].reply.status == BS_NO_SUCH_NODE && list[3].reply.status == BS_NO_SUCH_NODE);
+  would_block(list[4].reply, row_node(8));
+  DONE(bs_table_commit(table, a, NULL));
+  WANT(bs_table_try_first(table, list, 6) == 1 && list[1].reply.status == BS_DONE); /* Its node went with the commit. */
+  WANT(list[0].reply.status == BS_NEED_PARENTS);
+  close_table();
+}
+
 /* Jobs in a table, of which sixteen threads take one after the other by a skip over those that are locked. */
 enum { JOBS = 200, WORKERS = 16, AT_ONCE = 20 };
 
@@ -3832,6 +3869,7 @@ int main(int count, char **words) {
   TELL(a_list_of_tries);
   TELL(a_skip_takes_the_first_that_is_free);
   TELL(a_skip_is_refused);
+  TELL(a_skip_passes_over_what_moved_or_is_gone);
   TELL(each_job_is_done_once);
   TELL(a_savepoint_wakes);
   TELL(a_savepoint_in_a_list);
