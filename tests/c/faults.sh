@@ -229,6 +229,7 @@ asked-row-is-for-an-instant	/^bs_reply bs_table_ask_row(/,/^}/s/table_ask_row(ta
 listed-row-is-for-an-instant	s/bs_lock_row(m, txn, c->file, c->number, c->keys, c->key_count, c->mode, told)/bs_lock_row(m, txn, c->file, c->number, c->keys, c->key_count, table_mode_of(c->mode), told)/
 end-of-a-table-is-cancelled	/^bs_reply bs_table_end(/,/^}/s/  pthread_setcancelstate(PTHREAD_CANCEL_DISABLE, &state);/  pthread_setcancelstate(PTHREAD_CANCEL_ENABLE, \&state);/
 end-of-a-table-keeps-cancels-off	/^bs_reply bs_table_end(/,/^}/s/^  pthread_setcancelstate(state, &state);//
+dump-keeps-cancels-off	/^static bs_reply dump_of(/,/^}/s/^  pthread_setcancelstate(state, &state);//
 FAULTS
 }
 

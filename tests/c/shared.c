@@ -119,6 +119,9 @@ static bs_table *table;
 static size_t texts;
 static bool is_held; /* but where the story holds it */
 
+/* A write may be a point at which a thread is cancelled. */
+static __thread bool is_cancelled_in_writes;
+
 static int noted_fprintf(FILE *out, const char *format, ...) {
   va_list words;
   int written;
@@ -126,6 +129,7 @@ static int noted_fprintf(FILE *out, const char *format, ...) {
     WANT(pthread_mutex_trylock(&table->latch) == 0);
     pthread_mutex_unlock(&table->latch);
   }
+  if (is_cancelled_in_writes) pthread_testcancel();
   texts++;
   va_start(words, format);
   written = vfprintf(out, format, words);
@@ -3494,6 +3498,48 @@ static void a_long_dump(void) {
   fclose(whole);
 }
 
+/* A thread that dumps a table, or what it holds of one, and that is cancelled before it writes. */
+struct dumper {
+  bool holds;
+  FILE *text;
+  bs_reply reply;
+  pthread_t thread;
+};
+
+static void *dump_to_the_end(void *arg) {
+  struct dumper *d = (struct dumper *)arg;
+  is_cancelled_in_writes = true;
+  pthread_cancel(pthread_self());
+  d->reply = d->holds ? bs_dump(bs_table_hold(table), d->text) : bs_table_dump(table, d->text);
+  if (d->holds) DONE(bs_table_let_go(table));
+  pthread_testcancel();
+  return NULL;
+}
+
+/* The dump is written to its end, and the thread ends after it: its memory is given back, and so is the latch. */
+static void a_dump_is_cancelled(void) {
+  int holds;
+  set_up(BS_AT_BLOCK);
+  DONE(bs_table_lock_path(table, begin(), low, BS_X, NULL));
+  for (holds = 0; holds < 2; holds++) {
+    struct dumper d;
+    void *came = NULL;
+    memset(&d, 0, sizeof d);
+    d.reply.status = BS_NOT_MADE;
+    d.holds = is_held = holds;
+    d.text = tmpfile();
+    WANT(d.text != NULL);
+    start(&d.thread, dump_to_the_end, &d);
+    WANT(pthread_join(d.thread, &came) == 0);
+    is_held = false;
+    DONE(d.reply);
+    WANT(came == PTHREAD_CANCELED && lines_with(d.text, "Last deadlock:") == 1 && lines_with(d.text, "none") == 1);
+    fclose(d.text);
+    DONE(bs_table_begin(table));
+  }
+  close_table();
+}
+
 /* ------------------------------------------------------------------------------------------------
  * Tables that end.
  */
@@ -3895,6 +3941,7 @@ int main(int count, char **words) {
   TELL(listings);
   TELL(a_dump);
   TELL(a_long_dump);
+  TELL(a_dump_is_cancelled);
   TELL(an_end_with_sleepers);
   TELL(an_end_in_the_middle);
   TELL(a_table_by_options);
