@@ -3698,6 +3698,44 @@ static void two_tables_are_lent(void) {
   close_table();
 }
 
+/* While a thread holds a table it makes calls of another one, but none that could sleep: it would keep the latch. They
+ * are refused whether they would have slept or not. */
+static void a_holder_of_a_table_does_not_sleep(void) {
+  bs_table *other = NULL;
+  bs_command list[1];
+  bs_node node, none = { 0, 0 };
+  bs_txn a, b;
+  set_up(BS_AT_BLOCK);
+  DONE(make_table(&other, BS_AT_BLOCK, BS_YOUNGEST, 3));
+  node = DONE(bs_table_add_inner(other, NULL, 0)).node;
+  a = DONE(bs_table_begin(other)).txn, b = DONE(bs_table_begin(other)).txn;
+  DONE(bs_table_lock(other, a, node, BS_S, NULL));
+  WANT(bs_table_hold(table) != NULL);
+  ANSWERS(BS_IN_USE, bs_table_lock(other, b, node, BS_X, NULL));
+  ANSWERS(BS_IN_USE, bs_table_lock(other, b, node, BS_S, NULL));
+  ANSWERS(BS_IN_USE, bs_table_lock_path(other, b, node, BS_S, NULL));
+  ANSWERS(BS_IN_USE, bs_table_lock_row(other, b, node, 1, NULL, 0, BS_S, NULL));
+  ANSWERS(BS_IN_USE, bs_table_await(other, b, node, BS_S, NULL));
+  ANSWERS(BS_IN_USE, bs_table_begin_in_turn(other, NULL));
+  ANSWERS(BS_IN_USE, bs_table_begin_again_in_turn(other, 1, NULL));
+  ANSWERS(BS_IN_USE, bs_table_end(other));
+  ANSWERS(BS_NULL_POINTER, bs_table_lock(NULL, b, node, BS_S, NULL));
+  ANSWERS(BS_NULL_POINTER, bs_table_begin_in_turn(NULL, NULL));
+  ANSWERS(BS_NULL_POINTER, bs_table_end(NULL));
+  WANT(wait_in(other, b).status == BS_NOT_WAITING && ASK(other, bs_held, b, node).mode == BS_NL);
+  WANT(DONE(bs_table_try(other, b, node, BS_S)).mode == BS_S);
+  list[0] = bs_do_at(BS_DO_LOCK, b, node, BS_X);
+  WANT(bs_table_run(other, list, 1) == 0 && list[0].reply.status == BS_WAITING);
+  DONE(bs_table_commit(other, a, NULL));
+  DONE(bs_table_begin(other));
+  DONE(bs_table_let_go(table));
+  DONE(bs_table_await(other, b, node, BS_X, NULL));
+  ANSWERS(BS_NO_SUCH_NODE, bs_table_lock(other, b, none, BS_X, NULL));
+  DONE(bs_table_end(other));
+  DONE(bs_table_free(&other));
+  close_table();
+}
+
 /* Another thread does not hold what this one holds: it waits for the latch, and cannot give it back. */
 static void *let_go_of_it(void *arg) {
   (void)arg;
@@ -3948,6 +3986,7 @@ int main(int count, char **words) {
   TELL(places_without_a_table);
   TELL(a_table_is_lent);
   TELL(two_tables_are_lent);
+  TELL(a_holder_of_a_table_does_not_sleep);
   TELL(refused_tables);
   TELL(refused_growths);
   TELL(refused_turns);
