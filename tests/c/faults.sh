@@ -232,6 +232,7 @@ end-of-a-table-keeps-cancels-off	/^bs_reply bs_table_end(/,/^}/s/^  pthread_setc
 dump-keeps-cancels-off	/^static bs_reply dump_of(/,/^}/s/^  pthread_setcancelstate(state, &state);//
 a-holder-ends-a-table	s/  if (table != NULL \&\& !table_may_sleep()) return bs_call_only(BS_IN_USE);/  if (table != NULL \&\& table_telling != NULL) return bs_call_only(BS_IN_USE);/
 what-is-held-outside-is-forgotten	s/^  table_held_outside = NULL;//
+watch-settles-all-in-one-hold	/^static void table_settle_all(/,/^}/{s/^    table_release(table);$//;s/^    table_take(table);$//;s/^}/  table_tell_between(table);\n}/}
 FAULTS
 }
 

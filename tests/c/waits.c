@@ -718,6 +718,39 @@ static void a_thread_blocks_signals_but_its_faults(void) {
   close_table();
 }
 
+static bs_txn other_victim;
+
+/* The other deadlock that the thread has seen is not ended yet, and the table is free. */
+static void finds_another_deadlock(struct heard *h) {
+  if (h->end.status != BS_VICTIM || same_txn(h->txn, other_victim)) return;
+  WANT(doing_of(other_victim) == BS_WAITS);
+  DONE(bs_table_commit(table, begin(), NULL));
+}
+
+/* The thread sees two deadlocks at once, and ends the younger victim's wait before it chooses the other. */
+static void a_thread_frees_the_latch_between_victims(void) {
+  bs_node nodes[2];
+  struct heard h[4];
+  bs_txn t[4];
+  size_t i;
+  set_up(BS_BY_WATCHER);
+  nodes[0] = add_root(), nodes[1] = add_root();
+  for (i = 0; i < 4; i++) {
+    t[i] = begin();
+    DONE(bs_table_lock(table, t[i], nodes[i % 2], BS_S, NULL));
+  }
+  for (i = 0; i < 4; i++) {
+    WAITS(ask(&h[i], t[i], nodes[i % 2], BS_X));
+    h[i].does = finds_another_deadlock;
+  }
+  other_victim = t[2];
+  DONE(start_watch(UINT64_C(3600000000000)));
+  HEARD(&h[3], BS_VICTIM);
+  HEARD(&h[2], BS_VICTIM);
+  WANT(h[3].place == 0 && h[2].place == 1);
+  close_table();
+}
+
 /* The ways in which a wait for a node, or for the row, begins by a list, for an instant, or by an ask. */
 enum { WAYS_TO_WAIT = 10 };
 
@@ -1141,6 +1174,7 @@ int main(int count, char **words) {
   TELL(a_thread_sleeps_between_waits);
   TELL(a_thread_that_cannot_be_started);
   TELL(a_thread_blocks_signals_but_its_faults);
+  TELL(a_thread_frees_the_latch_between_victims);
   TELL(waits_that_are_left_are_watched);
   TELL(ends_set_off_ends);
   TELL(an_instant_of_before_is_nothing_to_a_wait);
