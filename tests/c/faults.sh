@@ -241,7 +241,7 @@ found() {
   local there=$work/$1 compiler=${CC:-cc} program
   mkdir -p "$there" && cp "$top"/c/*.c "$there/" && sed -i "$2" "$there"/*.c || return 1
   ! diff -q "$top/c" "$there" -x out >/dev/null || { echo "faults.sh: $1 changes nothing"; return 1; }
-  for program in shared asks waits crowd; do
+  for program in shared asks waits own_ends crowd; do
     local with=()
     [ "$program" = crowd ] || with=(-Wl,--wrap=malloc,--wrap=realloc,--wrap=free)
     # shellcheck disable=SC2086 # CC and FAULT_LINKS may have several words.
@@ -249,7 +249,8 @@ found() {
       "$top/tests/c/$program.c" "${libraries[@]}" ${FAULT_LINKS:-} "${with[@]}" || return 1
   done
   timeout 60 "$there/shared" 5 >"$there/said" 2>&1 && timeout 60 "$there/asks" 5 100 >>"$there/said" 2>&1 &&
-    timeout 60 "$there/waits" 5 >>"$there/said" 2>&1 && timeout 60 "$there/crowd" 4 4 >>"$there/said" 2>&1
+    timeout 60 "$there/waits" 5 >>"$there/said" 2>&1 && timeout 60 "$there/own_ends" 5 >>"$there/said" 2>&1 &&
+    timeout 60 "$there/crowd" 4 4 >>"$there/said" 2>&1
   [ $? -eq 1 ] || { echo "faults.sh: $1 was not found"; return 1; }
   echo "$1: found: $(grep -E ': (hangs|not so|[a-z_]*: not so)' "$there/said" | tail -n 1 | sed 's/^[^ ]*\.c:[0-9]*: //')"
 }
