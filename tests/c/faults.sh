@@ -233,6 +233,8 @@ dump-keeps-cancels-off	/^static bs_reply dump_of(/,/^}/s/^  pthread_setcancelsta
 a-holder-ends-a-table	s/  if (table != NULL \&\& !table_may_sleep()) return bs_call_only(BS_IN_USE);/  if (table != NULL \&\& table_telling != NULL) return bs_call_only(BS_IN_USE);/
 what-is-held-outside-is-forgotten	s/^  table_held_outside = NULL;//
 watch-settles-all-in-one-hold	/^static void table_settle_all(/,/^}/{s/^    table_release(table);$//;s/^    table_take(table);$//;s/^}/  table_tell_between(table);\n}/}
+list-settles-once	/ table_settle_made(/,/^}/s/  } while (c->reply.status == BS_WAITING);/  } while (false);/
+list-path-says-not-how-it-waits	/ table_path_made_on(/,/^}/s/^    if (reply.status == BS_WAITING) reply.mode = wait.mode;//
 FAULTS
 }
 

@@ -319,6 +319,331 @@ static void an_await_answers_what_a_function_ended(void) {
 }
 
 /* ------------------------------------------------------------------------------------------------
+ * A lock for an instant that another gives back.
+ */
+
+static bs_node n, n2, child; /* the child lies under both */
+static bs_txn passer;
+static struct heard passers;
+static struct sleeper sleeping[3];
+
+static void add_places(void) {
+  bs_node parents[2];
+  callers_node = add_root(), n = add_root(), n2 = add_root();
+  parents[0] = n, parents[1] = n2;
+  child = DONE(bs_table_add_inner(table, parents, 2)).node;
+}
+
+/* They wait by asks, or in threads. */
+static void has_wait(struct sleeper *s, struct heard *h, bs_txn txn, bs_node node, bs_mode mode, bool sleeps) {
+  if (sleeps) send(s, BY_LOCK, txn, node, mode);
+  else WAITS(ask(h, txn, node, mode));
+}
+
+/* The holder has n in IS and waits for the caller. In the queue of n the loser wants X, and the passer after it a mode
+ * for an instant, which goes with IS. A call of the caller that joins the queue closes a cycle; the loser is its
+ * youngest, so the passer is granted, and gives back what kept the caller waiting. */
+static void set_up_passer(bs_mode passing, bool sleeps) {
+  set_up(BS_AT_BLOCK);
+  memset(&own, 0, sizeof own);
+  own_key = LOW_KEY;
+  add_places();
+  caller = begin(), passer = begin(), holder = begin(), loser = begin();
+  DONE(bs_table_lock(table, caller, callers_node, BS_X, NULL));
+  DONE(bs_table_lock(table, holder, n, BS_IS, NULL));
+  has_wait(&sleeping[0], &holders, holder, callers_node, BS_X, sleeps);
+  has_wait(&sleeping[1], &losers, loser, n, BS_X, sleeps);
+  has_wait(&sleeping[2], &passers, passer, n, passing | BS_INSTANT, sleeps);
+}
+
+/* The loser and the passer have had their ends, and the holder waits on. */
+static void others_have_ended(bool sleeps) {
+  if (sleeps) {
+    BACK(&sleeping[1], BS_VICTIM);
+    BACK(&sleeping[2], BS_DONE);
+  } else {
+    WANT(calls == 2);
+    HEARD_BY_NOW(&losers, BS_VICTIM);
+    HEARD_BY_NOW(&passers, BS_DONE);
+  }
+  WANT(waits_for(holder, callers_node));
+  holds(passer, n, BS_NL);
+}
+
+static void close_passer(bool sleeps) {
+  close_table();
+  if (sleeps) BACK(&sleeping[0], BS_NO_MANAGER);
+}
+
+/* What the caller asks for while the passer is in the queue: n itself, or the child with an intention on n. */
+struct passing {
+  bs_mode passing;
+  enum sleep_call by;
+  bool is_child;
+  bs_mode mode;
+};
+
+static const struct passing passings[] = {
+  { BS_IX, BY_LOCK, false, BS_S }, { BS_IX, BY_LOCK, false, BS_S | BS_INSTANT }, { BS_S, BY_LOCK, false, BS_IX },
+  { BS_IX, BY_PATH, false, BS_S }, { BS_IX, BY_PATH, false, BS_S | BS_INSTANT },
+  { BS_SIX, BY_PATH, true, BS_X }, { BS_S, BY_PATH, true, BS_X | BS_INSTANT }, { BS_S, BY_PATH, true, BS_SIX },
+};
+
+enum { PASSINGS = sizeof passings / sizeof *passings };
+
+/* What the caller holds, behind its call for that. */
+static void has_passed(const struct passing *p) {
+  bs_mode mode = p->mode & ~(bs_mode)BS_INSTANT;
+  holds(caller, p->is_child ? child : n, (p->mode & BS_INSTANT) != 0 ? BS_NL : mode);
+  if (p->is_child) holds(caller, n, BS_IX);
+}
+
+static bs_mode mode_of(const struct way *way) {
+  return way->mode & ~(bs_mode)BS_INSTANT;
+}
+
+/* The call is answered with the grant, whatever its time. */
+static void passes(const struct passing *p, bool asks, bool sleeps, const struct timespec *until) {
+  struct way way;
+  way.by = p->by, way.mode = p->mode, way.asks = asks;
+  set_up_passer(p->passing, sleeps);
+  WANT(DONE(make(&way, p->is_child ? child : n, until)).mode == mode_of(&way));
+  has_no_wait_and_no_call();
+  has_passed(p);
+  others_have_ended(sleeps);
+  close_passer(sleeps);
+}
+
+static void an_instant_given_back_grants_the_caller(void) {
+  struct timespec past = moment_in(0);
+  size_t i;
+  int kind;
+  for (i = 0; i < PASSINGS; i++) {
+    for (kind = 0; kind < 8; kind++) passes(&passings[i], kind & 1, kind & 2, (kind & 4) != 0 ? &past : NULL);
+  }
+}
+
+/* Two calls are answered alike, in all fields. */
+static bool same_reply(bs_reply a, bs_reply b) {
+  return a.status == b.status && a.mode == b.mode && same_node(a.node, b.node) && same_txn(a.txn, b.txn) &&
+         a.released == b.released && a.kept == b.kept && a.count == b.count && a.wanted == b.wanted;
+}
+
+/* What the call is answered if nobody is in its way. */
+static bs_reply answer_of(const struct passing *p, bool asks, bool is_listed) {
+  struct way way;
+  bs_reply reply;
+  bs_command command;
+  way.by = p->by, way.mode = p->mode, way.asks = asks;
+  set_up_passer(p->passing, false);
+  DONE(bs_table_abort(table, passer, NULL));
+  DONE(bs_table_abort(table, loser, NULL));
+  command = command_of(&way, p->is_child ? child : n);
+  if (is_listed) WANT(bs_table_run(table, &command, 1) == 1), reply = command.reply;
+  else reply = make(&way, p->is_child ? child : n, NULL);
+  close_table();
+  return DONE(reply);
+}
+
+/* The call is answered as one that is granted at once, in all fields of the reply. */
+static void a_grant_within_the_call_is_answered_as_any(void) {
+  size_t i;
+  int kind;
+  for (i = 0; i < PASSINGS; i++) {
+    const struct passing *p = &passings[i];
+    for (kind = 0; kind < 3; kind++) {
+      bs_reply at_once = answer_of(p, kind == 1, kind == 2), reply;
+      struct way way;
+      bs_command command;
+      way.by = p->by, way.mode = p->mode, way.asks = kind == 1;
+      set_up_passer(p->passing, false);
+      command = command_of(&way, p->is_child ? child : n);
+      if (kind == 2) WANT(bs_table_run(table, &command, 1) == 1), reply = command.reply;
+      else reply = make(&way, p->is_child ? child : n, NULL);
+      WANT(same_reply(reply, at_once));
+      close_table();
+    }
+  }
+}
+
+/* The function for the loser comes after the caller's wait has ended: what it does then is nothing to the answer. */
+static void ends_the_caller(struct heard *h) {
+  if (h->end.status == BS_VICTIM) DONE(bs_table_abort(table, caller, NULL));
+}
+
+static void a_function_comes_after_the_callers_end(void) {
+  size_t i;
+  int asks;
+  for (i = 0; i < PASSINGS; i++) {
+    for (asks = 0; asks < 2; asks++) {
+      struct way way;
+      way.by = passings[i].by, way.mode = passings[i].mode, way.asks = asks;
+      set_up_passer(passings[i].passing, false);
+      losers.does = ends_the_caller;
+      WANT(DONE(make(&way, passings[i].is_child ? child : n, NULL)).mode == mode_of(&way));
+      HEARD_BY_NOW(&losers, BS_VICTIM);
+      WANT(own.calls == 0);
+      ANSWERS(BS_NO_SUCH_TXN, ASK(table, bs_doing, caller));
+      close_table();
+    }
+  }
+}
+
+/* The end of the caller's lock is not told later, and its next wait is one like any other. */
+static void what_was_granted_so_has_no_later_end(bool is_instant) {
+  struct heard again;
+  bs_node other;
+  bs_txn keeper;
+  set_up_passer(BS_IX, false);
+  DONE(ask(&own, caller, n, is_instant ? BS_S | BS_INSTANT : BS_S));
+  other = add_root(), keeper = begin();
+  DONE(bs_table_lock(table, keeper, other, BS_X, NULL));
+  WAITS(ask(&again, caller, other, BS_S));
+  DONE(bs_table_abort(table, loser, NULL));
+  DONE(bs_table_commit(table, passer, NULL));
+  WANT(calls == 2 && waits_for(caller, other));
+  DONE(bs_table_commit(table, keeper, NULL));
+  HEARD_BY_NOW(&again, BS_DONE);
+  holds(caller, n, is_instant ? BS_NL : BS_S);
+  holds(caller, other, BS_S);
+  WANT(own.calls == 0 && calls == 3);
+  close_table();
+}
+
+static void a_lock_that_an_instant_granted_is_like_any(void) {
+  what_was_granted_so_has_no_later_end(false);
+  what_was_granted_so_has_no_later_end(true);
+}
+
+/* A list whose lock is granted so goes on with its next command, if there is one. */
+static void list_passes(const struct passing *p, bool sleeps, size_t count) {
+  struct way way;
+  bs_command list[3];
+  way.by = p->by, way.mode = p->mode, way.asks = false;
+  set_up_passer(p->passing, sleeps);
+  list[0] = bs_do_at(BS_DO_LOCK, caller, add_root(), BS_X);
+  list[1] = command_of(&way, p->is_child ? child : n);
+  list[2] = bs_do_at(BS_DO_LOCK, caller, add_root(), BS_X);
+  WANT(bs_table_run(table, list, count) == count);
+  WANT(DONE(list[1].reply).mode == mode_of(&way));
+  if (count == 3) WANT(DONE(list[2].reply).mode == BS_X);
+  has_no_wait_and_no_call();
+  has_passed(p);
+  others_have_ended(sleeps);
+  close_passer(sleeps);
+}
+
+static void a_list_goes_on_behind_an_instant(void) {
+  size_t i, count;
+  for (i = 0; i < PASSINGS; i++) {
+    for (count = 2; count <= 3; count++) {
+      list_passes(&passings[i], false, count);
+      list_passes(&passings[i], true, count);
+    }
+  }
+}
+
+/* The caller has its answer, so its list of notices has the loser and the passer alone. */
+static void a_caller_is_not_told_of_itself(void) {
+  size_t i;
+  for (i = 0; i < PASSINGS; i++) {
+    struct way way;
+    bs_command command;
+    way.by = passings[i].by, way.mode = passings[i].mode, way.asks = false;
+    set_up_passer(passings[i].passing, false);
+    command = command_of(&way, passings[i].is_child ? child : n);
+    command.told = &told;
+    WANT(bs_table_run(table, &command, 1) == 1);
+    WANT(told.count == 2 && same_txn(told.at[0].txn, passer) && same_txn(told.at[1].txn, loser));
+    WANT(told.at[0].kind == BS_TOLD_GRANTED && told.at[1].kind == BS_TOLD_VICTIM);
+    close_table();
+  }
+}
+
+/* A reader holds the child: the path that the passer has let by waits there, and ends there. */
+static bs_txn set_up_keeper(void) {
+  bs_txn keeper;
+  set_up_passer(BS_S, false);
+  keeper = begin();
+  DONE(bs_table_lock(table, keeper, n2, BS_IS, NULL));
+  DONE(bs_table_lock(table, keeper, child, BS_S, NULL));
+  return keeper;
+}
+
+/* It is waited for still, with all that is above it. */
+static void waits_for_the_child(void) {
+  WANT(waits_for(caller, child));
+  holds(caller, n, BS_IX), holds(caller, n2, BS_IX);
+}
+
+static void a_path_waits_behind_what_it_passed(bool is_cancelled) {
+  bs_status status = is_cancelled ? BS_NOT_WAITING : BS_DONE;
+  struct sleeper s;
+  bs_command list[2];
+  bs_txn keeper = set_up_keeper();
+  send(&s, BY_PATH, caller, child, BS_X);
+  while (!waits_for(caller, child)) nap();
+  waits_for_the_child();
+  DONE(is_cancelled ? bs_table_cancel(table, caller, NULL) : bs_table_commit(table, keeper, NULL));
+  BACK(&s, status);
+  HEARD(&losers, BS_VICTIM), HEARD(&passers, BS_DONE);
+  WANT(pthread_equal(losers.by, s.thread) && pthread_equal(passers.by, s.thread));
+  close_table();
+  keeper = set_up_keeper();
+  WAITS(ask_path(&own, caller, child, BS_X));
+  waits_for_the_child();
+  DONE(is_cancelled ? bs_table_cancel(table, caller, NULL) : bs_table_commit(table, keeper, NULL));
+  HEARD_BY_NOW(&own, status);
+  close_table();
+  keeper = set_up_keeper();
+  list[0] = bs_do_at(BS_DO_LOCK_PATH, caller, child, BS_X), list[1] = bs_do_at(BS_DO_LOCK, caller, add_root(), BS_X);
+  WANT(bs_table_run(table, list, 2) == 0 && list[0].reply.status == BS_WAITING);
+  WANT(list[0].reply.mode == BS_X && same_node(list[0].reply.node, child));
+  waits_for_the_child();
+  DONE(is_cancelled ? bs_table_cancel(table, caller, NULL) : bs_table_commit(table, keeper, NULL));
+  ANSWERS(status, bs_table_await(table, caller, child, BS_X, NULL));
+  if (!is_cancelled) WANT(bs_table_run(table, list, 2) == 2);
+  close_table();
+}
+
+static void a_path_goes_on_to_another_wait(void) {
+  a_path_waits_behind_what_it_passed(false);
+  a_path_waits_behind_what_it_passed(true);
+}
+
+/* A passer in the queue of each parent of the child: a path to the child is let by twice in its call. */
+static void set_up_two_passers(struct heard *more) {
+  bs_txn t[3];
+  set_up_passer(BS_S, false);
+  t[0] = begin(), t[2] = begin(), t[1] = begin();
+  DONE(bs_table_lock(table, t[0], n2, BS_IS, NULL));
+  WAITS(ask(&more[0], t[0], callers_node, BS_X));
+  WAITS(ask(&more[1], t[1], n2, BS_X));
+  WAITS(ask(&more[2], t[2], n2, BS_S | BS_INSTANT));
+}
+
+static void a_path_is_let_by_twice(void) {
+  struct heard more[3];
+  int kind;
+  for (kind = 0; kind < 6; kind++) {
+    struct way way;
+    bs_command list[2];
+    way.by = BY_PATH, way.mode = kind % 2 == 0 ? BS_X : BS_X | BS_INSTANT, way.asks = kind / 2 == 1;
+    set_up_two_passers(more);
+    list[0] = command_of(&way, child), list[1] = bs_do_at(BS_DO_LOCK, caller, add_root(), BS_X);
+    list[0].told = &told;
+    if (kind / 2 == 2) WANT(bs_table_run(table, list, 2) == 2 && told.count == 4);
+    else DONE(make(&way, child, NULL));
+    has_no_wait_and_no_call();
+    holds(caller, n, BS_IX), holds(caller, n2, BS_IX), holds(caller, child, kind % 2 == 0 ? BS_X : BS_NL);
+    WANT(calls == 4);
+    HEARD_BY_NOW(&losers, BS_VICTIM), HEARD_BY_NOW(&more[1], BS_VICTIM);
+    HEARD_BY_NOW(&passers, BS_DONE), HEARD_BY_NOW(&more[2], BS_DONE);
+    close_table();
+  }
+}
+
+/* ------------------------------------------------------------------------------------------------
  * The whole.
  */
 
@@ -331,5 +656,13 @@ int main(int count, char **words) {
   TELL(a_function_expires_the_callers_ask);
   TELL(a_function_leaves_the_caller_waiting);
   TELL(an_await_answers_what_a_function_ended);
+  TELL(an_instant_given_back_grants_the_caller);
+  TELL(a_grant_within_the_call_is_answered_as_any);
+  TELL(a_function_comes_after_the_callers_end);
+  TELL(a_lock_that_an_instant_granted_is_like_any);
+  TELL(a_list_goes_on_behind_an_instant);
+  TELL(a_caller_is_not_told_of_itself);
+  TELL(a_path_goes_on_to_another_wait);
+  TELL(a_path_is_let_by_twice);
   return 0;
 }
