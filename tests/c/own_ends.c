@@ -644,6 +644,308 @@ static void a_path_is_let_by_twice(void) {
 }
 
 /* ------------------------------------------------------------------------------------------------
+ * A path that goes on.
+ */
+
+static bs_txn goer, blocker, reader, second, keeper;
+static struct heard goers, blockers, readers, seconds, keepers;
+static bs_node start_node, side_node, goal, goers_node; /* the goal lies under the first two */
+
+/* A path to the goal waits at its start for the loser, and that for the blocker, who waits for the caller. When the
+ * loser falls the path goes on, to wait for whoever reads the goal. */
+static void set_up_path(bs_txn at_goal) {
+  WANT(same_txn(at_goal, caller) || same_txn(at_goal, second));
+  DONE(bs_table_lock(table, caller, callers_node, BS_X, NULL));
+  DONE(bs_table_lock(table, blocker, start_node, BS_IS, NULL));
+  DONE(bs_table_lock(table, at_goal, side_node, BS_IS, NULL));
+  DONE(bs_table_lock(table, at_goal, goal, BS_S, NULL));
+  DONE(bs_table_lock(table, goer, goers_node, BS_X, NULL));
+  WAITS(ask(&blockers, blocker, callers_node, BS_X));
+  WAITS(ask(&losers, loser, start_node, BS_X));
+  WAITS(ask_path(&goers, goer, goal, BS_X));
+  WANT(waits_for(goer, start_node));
+}
+
+static void add_more_places(void) {
+  bs_node parents[2];
+  add_places();
+  start_node = add_root(), side_node = add_root(), goers_node = add_root();
+  parents[0] = start_node, parents[1] = side_node;
+  goal = DONE(bs_table_add_inner(table, parents, 2)).node;
+}
+
+/* What the caller asks for, while the second waits ahead of it in X, or the keeper holds it so. */
+struct target {
+  enum sleep_call by;
+  bool is_child;
+  bs_mode mode;
+};
+
+static const struct target targets[] = {
+  { BY_LOCK, false, BS_S }, { BY_LOCK, false, BS_S | BS_INSTANT }, { BY_LOCK, false, BS_IX | BS_INSTANT },
+  { BY_PATH, false, BS_S }, { BY_PATH, false, BS_S | BS_INSTANT }, { BY_PATH, true, BS_X },
+  { BY_PATH, true, BS_X | BS_INSTANT }, { BY_PATH, true, BS_S }, { BY_ROW, false, BS_S },
+};
+
+enum { TARGETS = sizeof targets / sizeof *targets };
+
+static struct way way_to(const struct target *t, bool asks) {
+  struct way way;
+  way.by = t->by, way.mode = t->mode, way.asks = asks;
+  return way;
+}
+
+/* The second waits for n, or for the row, behind its reader, who waits for the path's transaction: so the path closes a
+ * cycle as it goes on, of which the second is the youngest. By its fall the caller is granted. */
+static void set_up_second(const struct target *t) {
+  set_up(BS_AT_BLOCK);
+  memset(&own, 0, sizeof own);
+  own_key = LOW_KEY;
+  add_more_places();
+  goer = begin(), blocker = begin(), reader = begin_writer(), caller = begin_writer(), second = begin_writer();
+  loser = begin();
+  set_up_path(second);
+  DONE(bs_table_lock(table, reader, n, BS_IS, NULL));
+  DONE(lock_row(reader, LOW_KEY, BS_S, NULL));
+  WAITS(ask(&readers, reader, goers_node, BS_X));
+  WAITS(t->by == BY_ROW ? ask_row(&seconds, second, LOW_KEY, BS_X) : ask(&seconds, second, n, BS_X));
+}
+
+/* The keeper has n and the row in X, and waits for the path's transaction: so the path closes a cycle as it goes on, of
+ * which the caller is the youngest. */
+static void set_up_keeper_of_all(void) {
+  set_up(BS_AT_BLOCK);
+  memset(&own, 0, sizeof own);
+  own_key = LOW_KEY;
+  add_more_places();
+  goer = begin(), blocker = begin(), keeper = begin_writer(), caller = begin_writer(), loser = begin();
+  set_up_path(caller);
+  DONE(bs_table_lock(table, keeper, n, BS_X, NULL));
+  DONE(lock_row(keeper, LOW_KEY, BS_X, NULL));
+  WAITS(ask(&keepers, keeper, goers_node, BS_X));
+}
+
+/* The path waits for its goal now, and the loser has heard its end; so has the second, if it fell too. */
+static void the_path_has_gone_on(bool second_fell) {
+  WANT(waits_for(goer, goal));
+  holds(goer, start_node, BS_IX);
+  HEARD_BY_NOW(&losers, BS_VICTIM);
+  if (second_fell) HEARD_BY_NOW(&seconds, BS_VICTIM);
+  WANT(calls == (second_fell ? 2 : 1));
+}
+
+static void has_target(const struct target *t) {
+  bs_node of = t->by == BY_ROW ? ASK(table, bs_row_node, rows, ROW).node : t->is_child ? child : n;
+  holds(caller, of, (t->mode & BS_INSTANT) != 0 ? BS_NL : t->mode);
+}
+
+static void a_path_that_goes_on_grants_the_caller(void) {
+  size_t i;
+  int asks;
+  for (i = 0; i < TARGETS; i++) {
+    for (asks = 0; asks < 2; asks++) {
+      struct way way = way_to(&targets[i], asks);
+      set_up_second(&targets[i]);
+      WANT(DONE(make(&way, targets[i].is_child ? child : n, NULL)).mode == mode_of(&way));
+      has_no_wait_and_no_call();
+      has_target(&targets[i]);
+      the_path_has_gone_on(true);
+      close_table();
+    }
+  }
+}
+
+static void a_path_that_goes_on_fells_the_caller(void) {
+  size_t i;
+  int asks;
+  for (i = 0; i < TARGETS; i++) {
+    for (asks = 0; asks < 2; asks++) {
+      struct way way = way_to(&targets[i], asks);
+      set_up_keeper_of_all();
+      ANSWERS(BS_VICTIM, make(&way, targets[i].is_child ? child : n, NULL));
+      has_no_wait_and_no_call();
+      WANT(doing_of(caller) == BS_CONDEMNED);
+      the_path_has_gone_on(false);
+      close_table();
+    }
+  }
+}
+
+/* A list of three: the one between waits, and its wait ends before the list does. */
+static size_t run_three(const struct target *t, bs_command *list) {
+  struct way way = way_to(t, false);
+  list[0] = bs_do_at(BS_DO_LOCK, caller, add_root(), BS_X);
+  list[1] = command_of(&way, t->is_child ? child : n);
+  list[2] = bs_do_at(BS_DO_LOCK, caller, add_root(), BS_X);
+  return bs_table_run(table, list, 3);
+}
+
+static void a_list_goes_on_behind_a_path(void) {
+  bs_command list[3];
+  size_t i;
+  for (i = 0; i < TARGETS; i++) {
+    set_up_second(&targets[i]);
+    WANT(run_three(&targets[i], list) == 3);
+    WANT(list[1].reply.mode == (targets[i].mode & ~(bs_mode)BS_INSTANT));
+    has_no_wait_and_no_call();
+    has_target(&targets[i]);
+    the_path_has_gone_on(true);
+    close_table();
+  }
+}
+
+/* A row that is granted so is asked for again there, and its keys may be others than was said. */
+static void a_row_is_asked_for_again_in_its_call(void) {
+  static const struct target t = { BY_ROW, false, BS_S };
+  bs_command list[3];
+  int kind;
+  for (kind = 0; kind < 3; kind++) {
+    struct way way = way_to(&t, kind == 1);
+    bs_reply reply;
+    set_up_second(&t);
+    own_key = HIGH_KEY;
+    if (kind < 2) reply = make(&way, n, NULL);
+    else WANT(run_three(&t, list) == 1), ANSWERS(BS_NOT_MADE, list[2].reply), reply = list[1].reply;
+    ANSWERS(BS_OTHER_KEYS, reply);
+    WANT(reply.mode == BS_S && same_node(reply.node, ASK(table, bs_row_node, rows, ROW).node));
+    has_no_wait_and_no_call();
+    has_target(&t);
+    the_path_has_gone_on(true);
+    close_table();
+  }
+}
+
+static void a_list_ends_where_its_caller_falls(void) {
+  bs_command list[3];
+  size_t i;
+  for (i = 0; i < TARGETS; i++) {
+    set_up_keeper_of_all();
+    WANT(run_three(&targets[i], list) == 1);
+    ANSWERS(BS_VICTIM, list[1].reply), ANSWERS(BS_NOT_MADE, list[2].reply);
+    has_no_wait_and_no_call();
+    WANT(doing_of(caller) == BS_CONDEMNED);
+    the_path_has_gone_on(false);
+    close_table();
+  }
+}
+
+/* ------------------------------------------------------------------------------------------------
+ * A path that goes on in another's call, and whose next wait ends there.
+ */
+
+static bs_txn one, other;
+static struct heard ones, others, holders_wait;
+
+/* The other reads the record and waits for the one, whose path to the record waits for the lower interval: for a holder
+ * that reads it, or behind a holder that waits for it in X to a time that is over. */
+static void set_up_way(bool is_held, bool is_younger) {
+  struct timespec past = moment_in(0);
+  bs_node node;
+  bs_txn first, last;
+  set_up(BS_AT_BLOCK);
+  node = add_root();
+  holder = begin(), first = begin(), last = begin(), second = begin();
+  one = is_younger ? last : first, other = is_younger ? first : last;
+  DONE(bs_table_lock_path(table, second, below, BS_IS, NULL));
+  DONE(bs_table_lock_path(table, holder, by_key, BS_IX, NULL));
+  mark = DONE(bs_table_mark(table, holder)).count;
+  if (is_held) DONE(bs_table_lock(table, holder, below, BS_S, NULL));
+  else WAITS(ask_until(&holders_wait, holder, below, BS_X, &past));
+  DONE(bs_table_lock(table, one, node, BS_X, NULL));
+  DONE(bs_table_lock_path(table, other, low, BS_S, NULL));
+  WAITS(ask_path(&ones, one, low, BS_X));
+  WANT(waits_for(one, below));
+  WAITS(ask(&others, other, node, BS_X));
+}
+
+static void aborts_what_fell(struct heard *h) {
+  if (h->end.status == BS_VICTIM) DONE(bs_table_abort(table, h->txn, NULL));
+}
+
+/* The call of the holder, or for it, lets the path go on. The younger of the two falls by that: the one by its own
+ * lock, or the other, whose locks the function gives up; and the one is granted then. */
+static void goes_on_in(bool is_held, void (*does)(void), int more_calls) {
+  int is_younger;
+  for (is_younger = 0; is_younger < 2; is_younger++) {
+    set_up_way(is_held, is_younger);
+    others.does = aborts_what_fell;
+    does();
+    WANT(calls == (is_younger ? 1 : 2) + more_calls);
+    HEARD_BY_NOW(&ones, is_younger ? BS_VICTIM : BS_DONE);
+    if (!is_younger) HEARD_BY_NOW(&others, BS_VICTIM);
+    holds(one, below, BS_IX), holds(one, low, is_younger ? BS_NL : BS_X);
+    close_table();
+  }
+}
+
+static void unlocks_the_interval(void) {
+  DONE(bs_table_unlock(table, holder, below, NULL));
+}
+
+static void runs_an_unlock(void) {
+  bs_command command = bs_do_at(BS_DO_UNLOCK, holder, below, BS_NL);
+  WANT(bs_table_run(table, &command, 1) == 1);
+}
+
+static void cancels_the_holder(void) {
+  DONE(bs_table_cancel(table, holder, NULL));
+}
+
+static void a_path_ends_in_the_call_that_lets_it_go_on(void) {
+  goes_on_in(true, commits, 0);
+  goes_on_in(true, aborts, 0);
+  goes_on_in(true, releases, 0);
+  goes_on_in(true, unlocks_the_interval, 0);
+  goes_on_in(true, runs_an_unlock, 0);
+  goes_on_in(true, runs_a_commit, 0);
+  goes_on_in(false, cancels_the_holder, 1);
+  goes_on_in(false, aborts, 1);
+  goes_on_in(false, expires, 1);
+}
+
+/* A path for an instant goes on, and waits for its node behind the second. Another path goes on in the same call, and
+ * by it the second falls: the first is granted, given back, and told once. */
+static void two_paths_go_on(bool is_first) {
+  struct heard aheads;
+  bs_command list[2];
+  bs_node upper;
+  bs_txn first, ahead;
+  set_up(BS_AT_BLOCK);
+  memset(&own, 0, sizeof own);
+  add_more_places();
+  upper = add_root();
+  n = DONE(bs_table_add_inner(table, &upper, 1)).node;
+  holder = begin(), ahead = begin(), first = begin(), goer = begin(), reader = begin(), second = begin();
+  caller = is_first ? first : begin();
+  DONE(bs_table_lock_path(table, reader, n, BS_IS, NULL));
+  DONE(bs_table_lock_path(table, second, goal, BS_IS, NULL));
+  DONE(bs_table_lock(table, second, goal, BS_S, NULL));
+  DONE(bs_table_lock(table, second, upper, BS_IX, NULL));
+  DONE(bs_table_lock(table, holder, side_node, BS_S, NULL));
+  DONE(bs_table_lock(table, goer, goers_node, BS_X, NULL));
+  WAITS(ask_path(&goers, goer, goal, BS_X));
+  WANT(waits_for(goer, side_node));
+  WAITS(ask(&readers, reader, goers_node, BS_X));
+  WAITS(ask(&seconds, second, n, BS_X));
+  WAITS(ask(&aheads, ahead, upper, BS_X));
+  WAITS(ask_path(&own, caller, n, BS_S | BS_INSTANT));
+  WANT(waits_for(caller, upper));
+  list[0] = bs_do(BS_DO_CANCEL, ahead), list[1] = bs_do(BS_DO_COMMIT, holder);
+  WANT(bs_table_run(table, list, 2) == 2);
+  HEARD_BY_NOW(&aheads, BS_NOT_WAITING);
+  HEARD_BY_NOW(&seconds, BS_VICTIM);
+  WANT(HEARD_BY_NOW(&own, BS_DONE).mode == BS_S && calls == 3);
+  holds(caller, upper, BS_IS), holds(caller, n, BS_NL);
+  WANT(waits_for(goer, goal));
+  close_table();
+}
+
+static void a_path_for_an_instant_ends_as_another_goes_on(void) {
+  two_paths_go_on(true);
+  two_paths_go_on(false);
+}
+
+/* ------------------------------------------------------------------------------------------------
  * The whole.
  */
 
@@ -664,5 +966,12 @@ int main(int count, char **words) {
   TELL(a_caller_is_not_told_of_itself);
   TELL(a_path_goes_on_to_another_wait);
   TELL(a_path_is_let_by_twice);
+  TELL(a_path_that_goes_on_grants_the_caller);
+  TELL(a_path_that_goes_on_fells_the_caller);
+  TELL(a_list_goes_on_behind_a_path);
+  TELL(a_row_is_asked_for_again_in_its_call);
+  TELL(a_list_ends_where_its_caller_falls);
+  TELL(a_path_ends_in_the_call_that_lets_it_go_on);
+  TELL(a_path_for_an_instant_ends_as_another_goes_on);
   return 0;
 }
