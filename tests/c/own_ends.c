@@ -946,6 +946,161 @@ static void a_path_for_an_instant_ends_as_another_goes_on(void) {
 }
 
 /* ------------------------------------------------------------------------------------------------
+ * Calls within the function, and tables that end.
+ */
+
+static struct heard outer;
+static bool is_passed;
+
+/* An ask that the function makes, for n: the passer lets it by, and the function hears that at once. */
+static void asks_within(struct heard *h) {
+  (void)h;
+  WANT(DONE(ask(&own, caller, n, BS_S | (is_passed ? BS_INSTANT : 0))).mode == BS_S);
+  has_no_wait_and_no_call();
+  WANT(calls == 1);
+  holds(caller, n, is_passed ? BS_NL : BS_S);
+}
+
+/* The ends of others that the ask has set off are told behind the function. */
+static void an_ask_within_the_function_is_granted(void) {
+  int kind;
+  for (kind = 0; kind < 2; kind++) {
+    bs_node node;
+    bs_txn first;
+    is_passed = kind == 1;
+    set_up_passer(BS_IX, false);
+    node = add_root(), first = begin();
+    DONE(bs_table_lock(table, first, node, BS_X, NULL));
+    WAITS(ask(&outer, begin(), node, BS_S));
+    outer.does = asks_within;
+    DONE(bs_table_commit(table, first, NULL));
+    WANT(calls == 3 && own.calls == 0 && outer.place == 0);
+    HEARD_BY_NOW(&losers, BS_VICTIM), HEARD_BY_NOW(&passers, BS_DONE), HEARD_BY_NOW(&outer, BS_DONE);
+    close_table();
+  }
+}
+
+/* An ask that the function makes is left waiting: what others' functions do for it comes behind that, and is told. */
+static void asks_and_waits_within(struct heard *h) {
+  (void)h;
+  WAITS(ask(&own, caller, low, BS_X));
+  WANT(calls == 1 && own.calls == 0);
+}
+
+static void an_ask_within_the_function_waits(void) {
+  bs_node node;
+  bs_txn first;
+  set_up_cycle(commits, false);
+  node = add_root(), first = begin();
+  DONE(bs_table_lock(table, first, node, BS_X, NULL));
+  WAITS(ask(&outer, begin(), node, BS_S));
+  outer.does = asks_and_waits_within;
+  DONE(bs_table_commit(table, first, NULL));
+  WANT(calls == 4);
+  HEARD_BY_NOW(&outer, BS_DONE), HEARD_BY_NOW(&losers, BS_VICTIM), HEARD_BY_NOW(&holders, BS_DONE);
+  WANT(HEARD_BY_NOW(&own, BS_DONE).mode == BS_X);
+  holds(caller, low, BS_X);
+  close_table();
+}
+
+static bool is_within;
+
+static bool is_within_now(void) {
+  bool is;
+  pthread_mutex_lock(&ear);
+  is = is_within;
+  pthread_mutex_unlock(&ear);
+  return is;
+}
+
+/* The function stays until another thread ends the table. */
+static void stays_until_the_end(void) {
+  pthread_mutex_lock(&ear);
+  is_within = is_ending = true;
+  pthread_mutex_unlock(&ear);
+  while (bs_call_table_shut(table) == BS_DONE) nap();
+}
+
+static void *ends_the_table(void *arg) {
+  while (!is_within_now()) nap();
+  DONE(bs_table_end(table));
+  return arg;
+}
+
+static void the_table_ends_within(const struct way *way, bool is_listed) {
+  bs_command command;
+  pthread_t ender;
+  set_up_cycle(stays_until_the_end, false);
+  is_within = false;
+  start(&ender, ends_the_table, NULL);
+  if (is_listed) {
+    command = command_of(way, low);
+    leave_waiting(&command);
+    ANSWERS(BS_NO_MANAGER, bs_table_await(table, caller, low, BS_X, NULL));
+    ANSWERS(BS_NO_MANAGER, ask_await_until(&own, caller, low, BS_X, NULL));
+  } else {
+    ANSWERS(BS_NO_MANAGER, make(way, low, NULL));
+  }
+  join(ender);
+  WANT(own.calls == 0 && calls == 2);
+  is_ending = false;
+  DONE(bs_table_free(&table));
+}
+
+static void a_table_ends_within_a_call(void) {
+  size_t w;
+  for (w = 0; w < WAYS; w++) the_table_ends_within(&ways[w], false), the_table_ends_within(&ways[w], true);
+}
+
+/* The caller waits for X on the root in one of these ways, to a time that is over. */
+enum { LATE_WAYS = 3 };
+
+static bs_reply ask_late(int way, const struct timespec *until) {
+  bs_command command = bs_do_at(BS_DO_LOCK, caller, root, BS_X);
+  if (way == 0) return ask_until(&own, caller, root, BS_X, until);
+  if (way == 1) return ask_path_until(&own, caller, root, BS_X, until);
+  leave_waiting(&command);
+  return ask_await_until(&own, caller, root, BS_X, until);
+}
+
+/* The time of an ask is over. Those behind it go by in the call that looks at it: one for an instant, and one that the
+ * first lets by. */
+static void a_time_that_comes_lets_others_pass(void) {
+  struct timespec past = moment_in(0);
+  int way;
+  for (way = 0; way < LATE_WAYS; way++) {
+    set_up(BS_AT_BLOCK);
+    caller = begin(), holder = begin(), passer = begin(), second = begin();
+    DONE(bs_table_lock(table, holder, root, BS_IS, NULL));
+    WAITS(ask_late(way, &past));
+    WAITS(ask(&passers, passer, root, BS_SIX | BS_INSTANT));
+    WAITS(ask(&seconds, second, root, BS_IX));
+    WANT(DONE(bs_table_expire(table, NULL)).count == 0 && calls == 3);
+    HEARD_BY_NOW(&own, BS_TIMED_OUT), HEARD_BY_NOW(&passers, BS_DONE), HEARD_BY_NOW(&seconds, BS_DONE);
+    holds(passer, root, BS_NL), holds(second, root, BS_IX);
+    close_table();
+  }
+}
+
+/* The same of an await that sleeps to a time that is over: those behind it go by within it. */
+static void an_await_that_is_late_lets_others_pass(void) {
+  struct timespec past = moment_in(0);
+  bs_command command;
+  set_up(BS_AT_BLOCK);
+  caller = begin(), holder = begin(), passer = begin(), second = begin();
+  DONE(bs_table_lock(table, holder, root, BS_IS, NULL));
+  command = bs_do_at(BS_DO_LOCK, caller, root, BS_X);
+  leave_waiting(&command);
+  WAITS(ask(&passers, passer, root, BS_SIX | BS_INSTANT));
+  WAITS(ask(&seconds, second, root, BS_IX));
+  ANSWERS(BS_TIMED_OUT, bs_table_await(table, caller, root, BS_X, &past));
+  WANT(calls == 2);
+  HEARD_BY_NOW(&passers, BS_DONE), HEARD_BY_NOW(&seconds, BS_DONE);
+  holds(passer, root, BS_NL), holds(second, root, BS_IX);
+  close_table();
+}
+
+/* ------------------------------------------------------------------------------------------------
  * The whole.
  */
 
@@ -973,5 +1128,10 @@ int main(int count, char **words) {
   TELL(a_list_ends_where_its_caller_falls);
   TELL(a_path_ends_in_the_call_that_lets_it_go_on);
   TELL(a_path_for_an_instant_ends_as_another_goes_on);
+  TELL(an_ask_within_the_function_is_granted);
+  TELL(an_ask_within_the_function_waits);
+  TELL(a_table_ends_within_a_call);
+  TELL(a_time_that_comes_lets_others_pass);
+  TELL(an_await_that_is_late_lets_others_pass);
   return 0;
 }
