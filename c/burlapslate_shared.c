@@ -9,7 +9,7 @@
  * may have ended a transaction; table_sleep, where a lock waits; table_sleep_in_line, where a begin does; bs_table_end;
  * and table_watch_over, the thread that watches. So is what several calls with the manager come to together, of which
  * each is proved: table_try_up and table_give_back, of a path that is tried, table_row_tried, of a row, and
- * table_instantly, of a lock for an instant, which table_give_instants_back gives back as it is granted. And so are
+ * table_register, of a wait, which may be for an instant and is given back then as it is granted. And so are
  * asks, whose end comes by a call of the engine's: table_go_on, at the end of each hold that may have ended one, and
  * table_tell, behind it. All else here makes calls of burlapslate.h between these.
  */
@@ -323,7 +323,7 @@ static inline void table_wake(bs_table *table, bs_status status, bs_notices *tol
 
 /* Registers the wait of a transaction that was just left waiting, for an instant or not, before anybody is woken: what
  * is set off then may end this wait too. What came for an instant before is nothing to it. */
-static void table_register(bs_table *table, bs_txn txn, bs_node node, bool is_instant) {
+static TABLE_APART void table_register(bs_table *table, bs_txn txn, bs_node node, bool is_instant) {
   table_instant *own = &table->instants[txn.slot];
   own->came.status = BS_WAITING;
   if (!is_instant) return;
@@ -764,22 +764,36 @@ static inline bool table_is_instant(const bs_table *table, bs_txn txn, bs_node n
   return (asked & BS_INSTANT) != 0 && bs_held(&table->manager, txn, node).mode == BS_NL;
 }
 
+/* In line, with a constant, so that a lock that stays pays nothing for those for an instant. */
+#define TABLE_IN_LINE inline __attribute__((always_inline))
+
 /* Makes the call bs_lock with the latch held. */
-static inline bs_reply table_lock_now(bs_table *table, bs_txn txn, bs_node node, bs_mode asked, bs_notices *told) {
-  bool is_instant = table_is_instant(table, txn, node, asked);
-  bs_reply reply = bs_lock(&table->manager, txn, node, table_mode_of(asked), told);
+static TABLE_IN_LINE bs_reply table_lock_by(bs_table *table, bs_txn txn, bs_node node, bs_mode mode, bool is_instant,
+                                            bs_notices *told) {
+  bs_reply reply = bs_lock(&table->manager, txn, node, mode, told);
   if (reply.status == BS_WAITING) table_register(table, txn, node, is_instant);
   table_wake(table, reply.status, told, false);
   if (is_instant && reply.status == BS_DONE) table_give_back_at_once(table, txn, node);
   return reply;
 }
 
+static TABLE_APART bs_reply table_lock_instantly(bs_table *table, bs_txn txn, bs_node node, bs_mode asked,
+                                                 bs_notices *told) {
+  bool is_instant = table_is_instant(table, txn, node, asked);
+  return table_lock_by(table, txn, node, table_mode_of(asked), is_instant, told);
+}
+
+/* The same of a mode as it was asked for. */
+static inline bs_reply table_lock_now(bs_table *table, bs_txn txn, bs_node node, bs_mode asked, bs_notices *told) {
+  if ((asked & BS_INSTANT) != 0) return table_lock_instantly(table, txn, node, asked, told);
+  return table_lock_by(table, txn, node, asked, false, told);
+}
+
 /* Makes the call bs_lock_path with the latch held. Where that waits, for what is written: the manager forgets the mode
  * with the wait, which may be over when others are woken. */
-static inline bs_reply table_path_now(bs_table *table, bs_txn txn, bs_node node, bs_mode asked, bs_notices *told,
-                                      table_wait *wait) {
-  bool is_instant = table_is_instant(table, txn, node, asked);
-  bs_reply reply = bs_lock_path(&table->manager, txn, node, table_mode_of(asked), told);
+static TABLE_IN_LINE bs_reply table_path_by(bs_table *table, bs_txn txn, bs_node node, bs_mode mode, bool is_instant,
+                                            bs_notices *told, table_wait *wait) {
+  bs_reply reply = bs_lock_path(&table->manager, txn, node, mode, told);
   if (reply.status == BS_WAITING) {
     wait->node = reply.node;
     wait->mode = bs_call_doing(&table->manager, txn).mode;
@@ -788,6 +802,19 @@ static inline bs_reply table_path_now(bs_table *table, bs_txn txn, bs_node node,
   table_wake(table, reply.status, told, false);
   if (is_instant && reply.status == BS_DONE) table_give_back_at_once(table, txn, node);
   return reply;
+}
+
+static TABLE_APART bs_reply table_path_instantly(bs_table *table, bs_txn txn, bs_node node, bs_mode asked,
+                                                 bs_notices *told, table_wait *wait) {
+  bool is_instant = table_is_instant(table, txn, node, asked);
+  return table_path_by(table, txn, node, table_mode_of(asked), is_instant, told, wait);
+}
+
+/* The same of a mode as it was asked for. */
+static inline bs_reply table_path_now(bs_table *table, bs_txn txn, bs_node node, bs_mode asked, bs_notices *told,
+                                      table_wait *wait) {
+  if ((asked & BS_INSTANT) != 0) return table_path_instantly(table, txn, node, asked, told, wait);
+  return table_path_by(table, txn, node, asked, false, told, wait);
 }
 
 /* Makes the call bs_try with the latch held. */
@@ -1445,13 +1472,14 @@ bs_reply bs_table_expire(bs_table *table, struct timespec *next) {
  */
 
 /* The rest of a path in a list, whose caller has the notices of all its locks. */
-static bs_reply table_path_made_on(bs_table *table, const bs_command *c, bs_txn txn, bs_notices *told, bs_reply reply) {
+static TABLE_APART bs_reply table_path_made_on(bs_table *table, const bs_command *c, bs_txn txn, bs_notices *told) {
   table_wait wait;
-  while (reply.status == BS_ON_THE_WAY) {
+  bs_reply reply;
+  do {
     reply = table_path_now(table, txn, c->node, c->mode, &table->told, &wait);
     if (reply.status == BS_WAITING) reply.mode = wait.mode;
     if (told != &table->told) table_tell_too(told, &table->told);
-  }
+  } while (reply.status == BS_ON_THE_WAY);
   return reply;
 }
 
@@ -1460,8 +1488,9 @@ static bs_reply table_path_made_on(bs_table *table, const bs_command *c, bs_txn 
 static bs_reply table_path_made(bs_table *table, const bs_command *c, bs_txn txn, bs_notices *told) {
   table_wait wait;
   bs_reply reply = table_path_now(table, txn, c->node, c->mode, told, &wait);
+  if (reply.status == BS_ON_THE_WAY) return table_path_made_on(table, c, txn, told);
   if (reply.status == BS_WAITING) reply.mode = wait.mode;
-  return table_path_made_on(table, c, txn, told, reply);
+  return reply;
 }
 
 /* A lock in a list. Whose wait it has ended is noted behind it, but for a lock for an instant. */
@@ -1552,15 +1581,15 @@ static void table_tell_all_but(bs_notices *told, bs_txn txn) {
 
 /* What a command of a list comes to whose own wait has ended so. A path goes on, and a row is asked for again. */
 static bs_reply table_made_on(bs_table *table, const bs_command *c, bs_txn txn, bs_notices *told, bs_reply became) {
+  bool is_on_the_way;
   if (c->kind == BS_DO_LOCK_ROW && became.status == BS_DONE) {
     table_row row = table_row_of(c->file, c->number, c->keys, c->key_count);
     return table_row_again(table, txn, &row, c->mode, c->reply.node, became);
   }
   if (c->kind != BS_DO_LOCK_PATH) return became;
-  if (became.status == BS_MOVED || (became.status == BS_DONE && !table_is_same_node(c->reply.node, c->node))) {
-    became.status = BS_ON_THE_WAY;
-  }
-  return table_path_made_on(table, c, txn, told, became);
+  is_on_the_way = became.status == BS_MOVED ||
+                  (became.status == BS_DONE && !table_is_same_node(c->reply.node, c->node));
+  return is_on_the_way ? table_path_made_on(table, c, txn, told) : became;
 }
 
 /* Of a command of a list that was left waiting, and that has ended waits: what these set off settles, and where its own

@@ -66,8 +66,8 @@ extern "C" {
 /* The version of what is declared here. The first number rises where a program has to be changed for it, or the second
  * while the first is 0. The second rises where something is added, the third where neither. */
 #define BS_VERSION_MAJOR 0
-#define BS_VERSION_MINOR 18
-#define BS_VERSION_PATCH 1
+#define BS_VERSION_MINOR 19
+#define BS_VERSION_PATCH 0
 
 /* How many transactions can live at once, and so how many notices a call can have. A library can be built for another
  * number, and is then installed with headers that have it here. */

@@ -1,6 +1,6 @@
 #!/usr/bin/env python3
-"""wrong_bodies.py [--jobs N] [--named] [--by-turns] [--minutes M] [--share K/N] [--beside LOG] [CRATE | CRATE/NAME]..:
-tries wrong bodies, those in must-fail/ and those in wrong/.
+"""wrong_bodies.py [--jobs N] [--named] [--by-turns] [--minutes M] [--share K/N] [--beside LOG] [--behind S]
+[CRATE | CRATE/NAME]..: tries wrong bodies, those in must-fail/ and those in wrong/.
 
 Each is an edit of code that the crate's contracts must refuse. Edits of different functions are applied to one copy of
 their crate, and the functions that they change are checked over the proved libraries that `rt ci` has left. Where these
@@ -16,8 +16,10 @@ Without a choice all are tried. Choices add up, and leave out what stands in mus
 --minutes M of the processor, behind which no more is begun of what has just changed (none is said: all of it);
 --share K/N the K-th of N shares: N runs try all.
 Proofs run side by side, one a processor where 3 GB are free for each.
---beside LOG goes beside an `rt ci` that writes this log: each is tried once what its crate stands on is proved, and two
-at a time at most until the log ends, where there is memory for them too. Where `rt ci` fails it stops."""
+--beside LOG runs beside an `rt ci` that writes this log: each is tried once what its crate stands on is proved, and two
+at a time at most until the log ends, where there is memory for them too. If `rt ci` fails it stops.
+--behind S   seconds by the clock after that log ends, after which only those that are named are begun. If the log is
+            gone by then, none is."""
 import hashlib, itertools, os, queue, re, resource, shutil, subprocess, sys, tempfile, threading, time
 
 TOP = os.path.dirname(os.path.dirname(os.path.abspath(__file__)))
@@ -168,6 +170,14 @@ class Libraries:
         """Whether more are being proved."""
         return False
 
+    def seconds_over(self):
+        """For how long none has been proved any more; None while that is not known."""
+        return None
+
+    def are_gone(self):
+        """Whether whoever proves them has given up."""
+        return False
+
 
 class GrowingLibraries(Libraries):
     """Those that an `rt ci` makes, as its log says. Links keep them, since that run puts back at its end what stood in
@@ -175,6 +185,7 @@ class GrowingLibraries(Libraries):
 
     def __init__(self, log, kept):
         self.log, self.kept, self.proved, self.is_over, self.lock = log, kept, set(), False, threading.Lock()
+        self.over_at = None
 
     def look(self):
         try:
@@ -189,6 +200,8 @@ class GrowingLibraries(Libraries):
         self.is_over = bool(ended)
         if ended and ended.group(1) != "0":
             raise RuntimeError("rt ci failed")
+        if ended:
+            self.over_at = time.monotonic()
 
     def folder(self, name):
         kept = f"{self.kept}/{name}"
@@ -203,6 +216,13 @@ class GrowingLibraries(Libraries):
             if not self.is_over:
                 self.look()
             return not self.is_over
+
+
+    def seconds_over(self):
+        return None if self.over_at is None else time.monotonic() - self.over_at
+
+    def are_gone(self):
+        return self.over_at is not None and not os.path.exists(self.log)
 
 
 LIBRARIES = Libraries()
@@ -345,8 +365,9 @@ def is_in_share(edit, turn, turns):
 
 
 def chosen(every, words):
-    """The edits that the words ask for, and of these those that are asked for since their crates have just changed."""
-    wants, anew, is_gates = [], set(), False
+    """The edits that the words ask for in any case, those that are asked for by turns, and those that are asked for since
+    their crates have just changed."""
+    wants, turns_wanted, anew, is_gates = [], None, set(), False
     while words:
         word = words.pop(0)
         if word == "--named":
@@ -358,7 +379,7 @@ def chosen(every, words):
         elif word == "--by-turns":
             turn, anew, is_gates = tree() % TURNS, changed(), True
             print(f"wrong_bodies.py: turn {turn} of {TURNS}; changed: {', '.join(sorted(anew)) or 'none'}", flush=True)
-            wants.append(lambda it, turn=turn: is_in_share(it, turn, TURNS))
+            turns_wanted = lambda it, turn=turn: is_in_share(it, turn, TURNS)
         elif word == "--share":
             turn, turns = (int(it) for it in words.pop(0).split("/"))
             wants.append(lambda it, turn=turn, turns=turns: is_in_share(it, turn, turns))
@@ -367,8 +388,10 @@ def chosen(every, words):
         else:
             wants.append(lambda it, word=word: word in (it.crate, it.name))
     others = [it for it in every if not (is_gates and "/must-fail/" in it.path)]
-    asked = [it for it in others if not wants or any(want(it) for want in wants)]
-    return asked, [it for it in others if it.crate in anew and it not in asked]
+    is_all = not wants and not turns_wanted
+    asked = [it for it in others if is_all or any(want(it) for want in wants)]
+    by_turns = [it for it in others if turns_wanted and turns_wanted(it) and it not in asked]
+    return asked, by_turns, [it for it in others if it.crate in anew and it not in asked and it not in by_turns]
 
 
 def jobs():
@@ -442,16 +465,23 @@ def worked(tasks, workers, few):
         yield result
 
 
-def try_all(asked, anew, bad, workers, minutes):
+def try_all(asked, by_turns, anew, bad, workers, minutes, behind):
     """Tries the edits, prints what becomes of each, and answers how many were refused, were not, and were left."""
     counts = {"refused": 0, "lacking": 0, "left": 0}
 
-    def unless_late(group):
-        is_late = minutes is not None and minutes_spent() >= minutes
-        return [(it, "left", "") for it in group] if is_late else attempt_all(group)
+    def unless(is_late, group):
+        return [(it, "left", "") for it in group] if is_late or LIBRARIES.are_gone() else attempt_all(group)
 
-    tasks = [(it[0].crate, lambda it=it: attempt_all(it)) for it in grouped(asked)]
-    tasks += [(it[0].crate, lambda it=it: unless_late(it)) for it in grouped(anew)]
+    def is_behind():
+        seconds = LIBRARIES.seconds_over()
+        return behind is not None and seconds is not None and seconds >= behind
+
+    def is_late():
+        return is_behind() or minutes is not None and minutes_spent() >= minutes
+
+    tasks = [(it[0].crate, lambda it=it: unless(False, it)) for it in grouped(asked)]
+    tasks += [(it[0].crate, lambda it=it: unless(is_behind(), it)) for it in grouped(by_turns)]
+    tasks += [(it[0].crate, lambda it=it: unless(is_late(), it)) for it in grouped(anew)]
     for edit, what, why in itertools.chain(bad, itertools.chain.from_iterable(worked(tasks, workers, min(BESIDE, spare())))):
         counts[what if what in ("refused", "left") else "lacking"] += 1
         if what != "left":
@@ -462,14 +492,15 @@ def try_all(asked, anew, bad, workers, minutes):
 def main(words):
     global LIBRARIES
     at_once, minutes, log = number_behind("--jobs", words), number_behind("--minutes", words), word_behind("--beside", words)
+    behind = number_behind("--behind", words)
     every = list(every_edit())
-    asked, anew = ([it for it in some if not it.why] for some in chosen(every, words))
+    asked, by_turns, anew = ([it for it in some if not it.why] for some in chosen(every, words))
     bad = [(it, "bad", it.why) for it in every if it.why]
     # (where links can be made to the libraries, and no check looks)
     with tempfile.TemporaryDirectory(dir=f"{TOP}/.git") as kept:
         LIBRARIES = GrowingLibraries(log, kept) if log else LIBRARIES
         try:
-            counts = try_all(asked, anew, bad, at_once or jobs(), minutes)
+            counts = try_all(asked, by_turns, anew, bad, at_once or jobs(), minutes, behind)
         except RuntimeError as error:
             sys.exit(f"wrong_bodies.py: {error}")
     left = f"; {counts['left']} left" if counts["left"] else ""

@@ -859,6 +859,48 @@ static void a_holder_of_another_tells(void) {
   close_table();
 }
 
+static bs_table *third;
+
+/* The function cannot give back what the thread held when it was called, nor use it. What it takes itself it may give
+ * back, or leave to the call. */
+static void takes_the_outer_table(struct heard *h) {
+  (void)h;
+  ANSWERS(BS_IN_USE, bs_table_let_go(others));
+  WANT(bs_table_hold(others) == NULL);
+  ANSWERS(BS_IN_USE, bs_table_begin(others));
+  WANT(bs_table_hold(third) != NULL);
+  DONE(bs_table_let_go(third));
+  ANSWERS(BS_NOT_HELD, bs_table_let_go(third));
+  ANSWERS(BS_IN_USE, bs_table_let_go(others));
+  WANT(bs_table_hold(third) != NULL);
+}
+
+/* Two ends are told by a thread that holds another table: it holds that still after them, and nothing else. */
+static void what_is_held_outside_stays_held(void) {
+  struct heard one, two;
+  bs_txn a;
+  set_up(BS_AT_BLOCK);
+  DONE(make_table(&others, BS_AT_BLOCK, BS_YOUNGEST, 1));
+  DONE(make_table(&third, BS_AT_BLOCK, BS_YOUNGEST, 1));
+  a = begin();
+  DONE(bs_table_lock(table, a, root, BS_X, NULL));
+  WAITS(ask(&one, begin(), root, BS_S));
+  WAITS(ask(&two, begin(), root, BS_S));
+  one.does = two.does = takes_the_outer_table;
+  WANT(bs_table_hold(others) != NULL);
+  DONE(bs_table_commit(table, a, NULL));
+  HEARD_BY_NOW(&one, BS_DONE), HEARD_BY_NOW(&two, BS_DONE);
+  ANSWERS(BS_NOT_HELD, bs_table_let_go(third));
+  ANSWERS(BS_IN_USE, bs_table_begin(others));
+  DONE(bs_table_let_go(others));
+  ANSWERS(BS_NOT_HELD, bs_table_let_go(others));
+  DONE(bs_table_begin(others));
+  DONE(bs_table_begin(third));
+  DONE(bs_table_end(others)), DONE(bs_table_free(&others));
+  DONE(bs_table_end(third)), DONE(bs_table_free(&third));
+  close_table();
+}
+
 /* A thread is cancelled within a call of the function: it ends behind the call of the table. */
 static void comes_to_a_cancel(struct heard *h) {
   (void)h;
@@ -1614,6 +1656,7 @@ int main(int count, char **words) {
   TELL(a_chain_of_ends);
   TELL(the_function_calls_the_table);
   TELL(a_holder_of_another_tells);
+  TELL(what_is_held_outside_stays_held);
   TELL(a_thread_is_cancelled_in_a_call);
   TELL(asks_that_are_refused);
   TELL(a_table_without_a_function);

@@ -15,7 +15,7 @@ trap 'rm -rf "$work"' EXIT
 # for each condition. The library may need more words (FAULT_LINKS).
 faults() {
   local call
-  for call in table_lock_now table_path_now table_ask_row; do
+  for call in table_lock_by table_path_by table_ask_row; do
     printf '%s-forgets-to-wake\t/%s(/,/^}/s/  table_wake(table, reply.status, [^,]*told, false);//\n' "$call" "$call"
     printf '%s-is-not-watched\t/%s(/,/^}/s/wake(table, reply.status,/wake(table, reply.status == BS_WAITING ? BS_DONE : reply.status,/\n' \
       "$call" "$call"
@@ -63,9 +63,9 @@ instant-gives-back-what-was-held	/ table_is_instant(const/,/^}/s/ \&\& bs_held(&
 instant-of-an-ended-wait	s/    table->instantly.words\[i\] &= ~instantly;//
 instant-came-and-is-not-known	/table_became(/,/^}/s/^  if (reply.status != BS_NOT_WAITING) return reply;/  return reply;/
 instant-that-came-is-the-next-wait	/table_register(/,/^}/s/^  own->came.status.*//
-lock-wakes-before-it-registers	/ table_lock_now(/,/^}/{/table_register(/d;s/^  table_wake(table, .*/&\n  if (reply.status == BS_WAITING) table_register(table, txn, node, is_instant);/}
-path-wakes-before-it-registers	/ table_path_now(/,/^}/{/table_register(/d;s/^  table_wake(table, .*/&\n  if (reply.status == BS_WAITING) table_register(table, txn, node, is_instant \&\& table_is_same_node(reply.node, node));/}
-path-asks-for-its-mode-too-late	/ table_path_now(/,/^}/{/wait->mode/d;s/^  table_wake(table, .*/&\n  wait->mode = bs_call_doing(\&table->manager, txn).mode;/}
+lock-wakes-before-it-registers	/ table_lock_by(/,/^}/{/table_register(/d;s/^  table_wake(table, .*/&\n  if (reply.status == BS_WAITING) table_register(table, txn, node, is_instant);/}
+path-wakes-before-it-registers	/ table_path_by(/,/^}/{/table_register(/d;s/^  table_wake(table, .*/&\n  if (reply.status == BS_WAITING) table_register(table, txn, node, is_instant \&\& table_is_same_node(reply.node, node));/}
+path-asks-for-its-mode-too-late	/ table_path_by(/,/^}/{/wait->mode/d;s/^  table_wake(table, .*/&\n  wait->mode = bs_call_doing(\&table->manager, txn).mode;/}
 row-wakes-before-it-registers	/ table_ask_row(/,/^}/{/table_register(/d;s/^  table_wake(table, .*/&\n  if (reply.status == BS_WAITING) table_register(table, txn, reply.node, false);/}
 list-wakes-before-it-registers	/ table_run_next(/,/^}/{/table_say_for_what(/d;s/^  table_wake(table, .*/&\n  if (next->reply.status == BS_WAITING) table_say_for_what(table, next, txn);/}
 own-ask-is-not-looked-at	s/^  table->asks->due.words.slot . 64. |= bit;//
@@ -82,7 +82,7 @@ instant-sleeps-by-its-word	s/table_sleep(table, txn, node, table_mode_of(mode), 
 instant-asks-by-its-word	s/  own->wanted = table_mode_of(mode);/  own->wanted = mode;/
 run-says-not-for-what	s/  if (next->reply.status == BS_WAITING) .*//
 run-takes-a-slot-for-begun	s/  bs_txn txn = next->txn.slot == none.slot .*/  bs_txn txn = next->txn.age == none.age ? begun : next->txn;/
-list-path-stops-on-the-way	s/  while (reply.status == BS_ON_THE_WAY) {/  while (false) {/
+list-path-stops-on-the-way	s/^  if (reply.status == BS_ON_THE_WAY) return table_path_made_on(.*//
 list-path-tells-the-last	s/ table_tell_too(told, &table->told);/ *told = table->told;/
 list-path-tells-the-first	s/    if (told != &table->told) table_tell_too(.*//
 list-path-tells-unordered	s/    for (; place > 0 && told->at\[place - 1\].*//
@@ -184,6 +184,57 @@ a-call-tells-nobody	s/  table_release(table);                                   
 on-end-is-given-twice	s/  if (table->asks != NULL) return table_leave(table, bs_call_only(BS_IN_USE));//
 spare-asks-are-kept	s/  while (table->asks != NULL \&\& table->asks->spare != NULL) {/  while (false) {/
 end-leaves-the-line	s/  for (each = table->first; each != NULL; .*//
+sleeper-follows-a-later-deadline	s/^    until = &time;//
+path-forgets-its-time-on-its-way	/^bs_reply bs_table_lock_path(/,/^}/s/node, mode, until);/node, mode, until), until = NULL;/
+path-forgets-its-deadline-on-its-way	/^bs_reply bs_table_lock_path(/,/^}/s/    reply = table_path_inside(.*/&\n    table->deadlines[txn.slot].age = 0;/
+earlier-by-nanoseconds-is-the-deadline	s/  return own->time.tv_sec == until->tv_sec .*/  return until;/
+later-by-nanoseconds-is-taken	s/ own->time.tv_nsec < until->tv_nsec ? &own->time : until;/ own->time.tv_nsec > until->tv_nsec ? \&own->time : until;/
+times-within-a-second-are-one	/^static bool table_is_later(/,/^}/s/ || (one->tv_sec == .*/;/
+a-time-of-now-is-later	/^static bool table_is_later(/,/^}/s/one->tv_nsec > other->tv_nsec/one->tv_nsec >= other->tv_nsec/
+later-by-nanoseconds-alone	/^static bool table_is_later(/,/^}/s/(one->tv_sec == other->tv_sec && one->tv_nsec > other->tv_nsec)/one->tv_nsec > other->tv_nsec/
+way-of-another-is-cleared	s/  if (table->ways\[txn.slot\] == &path) table->ways/  table->ways/
+way-of-before-stays	s/  table->ways\[txn.slot\] = &path;/  if (table->ways[txn.slot] == NULL) &/
+cancel-takes-any-path	s/path == NULL || path->txn.age != txn.age) return/path == NULL) return/
+last-in-line-is-the-first	/^static void table_leave_line(/,/^}/s/table->last = own->ahead;/table->last = table->first;/
+last-in-line-stays	/^static void table_leave_line(/,/^}/s/  if (own->behind == NULL) table->last = own->ahead;/  if (own->behind == NULL \&\& own->ahead == NULL) table->last = NULL; else if (own->behind == NULL) own->ahead->behind = NULL;/
+who-is-behind-forgets-who-is-ahead	/^static void table_leave_line(/,/^}/s/own->behind->ahead = own->ahead;/own->behind->ahead = NULL;/
+end-wakes-the-first-word	/^static void table_wake_all(/,/^}/s/slot < BS_SLOTS/slot < 64/
+late-asks-are-of-the-first-word	/^static size_t table_end_late(/,/^}/s/slot < BS_SLOTS/slot < 64/
+next-time-is-of-the-first-word	/^static uint64_t table_next_time(/,/^}/s/slot < BS_SLOTS/slot < 64/
+an-end-is-noted-in-the-first-word	/^static void table_end_ask(/,/^}/s/words\[slot \/ 64\] &= /words[0] \&= /
+instants-are-of-the-first-word	/table_register(/,/^}/s/words\[txn.slot \/ 64\] |= /words[0] |= /
+watch-takes-an-old-board	s/^    if (board.epoch < seen) bs_read_board(.*//
+watch-reads-no-board-of-now	s/^    if (board.epoch < seen) bs_read_board(.*/    if (board.epoch < seen) board.epoch = seen;/
+caller-keeps-signals-blocked	s/^  pthread_sigmask(SIG_SETMASK, &before, NULL);//
+watch-waits-with-its-faults	s/^  for (i = 0; i < sizeof faults .*sigdelset.*//
+watch-blocks-one-signal	s/^  sigfillset(&blocked);/  sigemptyset(\&blocked), sigaddset(\&blocked, SIGUSR1);/
+watch-that-failed-keeps-its-seat	/^bs_reply bs_table_watch_thread(/,/^}/s/^    bs_watch_end(&table->eye);//
+watch-that-failed-is-done	/^bs_reply bs_table_watch_thread(/,/^}/s/^    reply.status = BS_NO_MEMORY;//
+run-is-not-watched	/ table_run_next(/,/^}/s/wake(table, next->reply.status,/wake(table, next->reply.status == BS_WAITING ? BS_DONE : next->reply.status,/
+instant-is-not-watched	/ table_lock_by(/,/^}/s/wake(table, reply.status,/wake(table, is_instant \&\& reply.status == BS_WAITING ? BS_DONE : reply.status,/
+path-for-an-instant-is-not-watched	/ table_path_by(/,/^}/s/wake(table, reply.status,/wake(table, is_instant \&\& reply.status == BS_WAITING ? BS_DONE : reply.status,/
+next-end-forgets-the-last	/^static void table_tell(/,/^}/s/^    table_telling->last = over->last;//
+last-of-two-ends-is-the-first	/^static void table_tell(/,/^}/s/^    table_telling->last = over->last;/    table_telling->last = over->first;/
+next-end-hides-those-before	/^static void table_tell(/,/^}/s/    else table_telling->last->next = over->first;/    else table_telling->first = over->first;/
+ends-within-are-told-first	/^static void table_tell(/,/^}/s/^    if (table_telling->first == NULL) table_telling->first = over->first;/    if (table_telling->first != NULL) { over->last->next = table_telling->first; table_telling->first = over->first; return; }\n&/
+instant-that-came-is-the-next-path	/ table_path_by(/,/^}/s/^    table_register(table, txn, node, is_instant \&\& \(.*\));/    if (is_instant \&\& \1) table_register(table, txn, node, true);/
+instant-that-came-is-the-next-row	/^static bs_reply table_ask_row(/,/^}/s/^  if (reply.status == BS_WAITING) table_register(.*//
+instant-that-came-is-the-next-in-a-list	s/^  if ((c->mode \& BS_INSTANT) == 0) table_register(table, txn, c->node, false);//
+instant-that-came-is-the-next-lock	/ table_lock_by(/,/^}/s/^  if (reply.status == BS_WAITING) table_register(/  if (is_instant \&\& reply.status == BS_WAITING) table_register(/
+instant-that-came-is-the-next-instant	/table_register(/,/^}/s/^  own->came.status = BS_WAITING;/  if (!is_instant) own->came.status = BS_WAITING;/
+instant-is-of-its-slot	s/  if (own->came.status != BS_DONE || own->txn.age != txn.age) return reply;/  if (own->came.status != BS_DONE) return reply;/
+instant-is-of-any-node	/table_became(/,/^}/s/  return table_is_same_node(own->node, node) ? own->came : reply;/  return own->came;/
+asked-row-keeps-its-first-key	/^static void table_keep_keys(/,/^}/s/own->row.count \* sizeof own->keys\[0\]/sizeof own->keys[0]/
+asked-row-is-for-an-instant	/^bs_reply bs_table_ask_row(/,/^}/s/table_ask_row(table, txn, &own->row, mode)/table_ask_row(table, txn, \&own->row, table_mode_of(mode))/
+listed-row-is-for-an-instant	s/bs_lock_row(m, txn, c->file, c->number, c->keys, c->key_count, c->mode, told)/bs_lock_row(m, txn, c->file, c->number, c->keys, c->key_count, table_mode_of(c->mode), told)/
+end-of-a-table-is-cancelled	/^bs_reply bs_table_end(/,/^}/s/  pthread_setcancelstate(PTHREAD_CANCEL_DISABLE, &state);/  pthread_setcancelstate(PTHREAD_CANCEL_ENABLE, \&state);/
+end-of-a-table-keeps-cancels-off	/^bs_reply bs_table_end(/,/^}/s/^  pthread_setcancelstate(state, &state);//
+dump-keeps-cancels-off	/^static bs_reply dump_of(/,/^}/s/^  pthread_setcancelstate(state, &state);//
+a-holder-ends-a-table	s/  if (table != NULL \&\& !table_may_sleep()) return bs_call_only(BS_IN_USE);/  if (table != NULL \&\& table_telling != NULL) return bs_call_only(BS_IN_USE);/
+what-is-held-outside-is-forgotten	s/^  table_held_outside = NULL;//
+watch-settles-all-in-one-hold	/^static void table_settle_all(/,/^}/{s/^    table_release(table);$//;s/^    table_take(table);$//;s/^}/  table_tell_between(table);\n}/}
+list-settles-once	/ table_settle_made(/,/^}/s/  } while (c->reply.status == BS_WAITING);/  } while (false);/
+list-path-says-not-how-it-waits	/ table_path_made_on(/,/^}/s/^    if (reply.status == BS_WAITING) reply.mode = wait.mode;//
 FAULTS
 }
 
@@ -192,7 +243,7 @@ found() {
   local there=$work/$1 compiler=${CC:-cc} program
   mkdir -p "$there" && cp "$top"/c/*.c "$there/" && sed -i "$2" "$there"/*.c || return 1
   ! diff -q "$top/c" "$there" -x out >/dev/null || { echo "faults.sh: $1 changes nothing"; return 1; }
-  for program in shared asks crowd; do
+  for program in shared asks waits own_ends crowd; do
     local with=()
     [ "$program" = crowd ] || with=(-Wl,--wrap=malloc,--wrap=realloc,--wrap=free)
     # shellcheck disable=SC2086 # CC and FAULT_LINKS may have several words.
@@ -200,6 +251,7 @@ found() {
       "$top/tests/c/$program.c" "${libraries[@]}" ${FAULT_LINKS:-} "${with[@]}" || return 1
   done
   timeout 60 "$there/shared" 5 >"$there/said" 2>&1 && timeout 60 "$there/asks" 5 100 >>"$there/said" 2>&1 &&
+    timeout 60 "$there/waits" 5 >>"$there/said" 2>&1 && timeout 60 "$there/own_ends" 5 >>"$there/said" 2>&1 &&
     timeout 60 "$there/crowd" 4 4 >>"$there/said" 2>&1
   [ $? -eq 1 ] || { echo "faults.sh: $1 was not found"; return 1; }
   echo "$1: found: $(grep -E ': (hangs|not so|[a-z_]*: not so)' "$there/said" | tail -n 1 | sed 's/^[^ ]*\.c:[0-9]*: //')"

@@ -1,7 +1,7 @@
 #!/usr/bin/env bash
-# races.sh [TOOL..]: runs the stories of a shared table, its asks and a small crowd under tools that look for races: `tsan`
-# (ThreadSanitizer, which sees what is compiled here: the table and the programs), `helgrind` and `drd` (valgrind's,
-# which see the library too); all three where none is named. `short` stands for the stories and the asks, under the first of
+# races.sh [TOOL..]: runs the stories of a shared table, its asks, its waits and a small crowd under tools that look for
+# races: `tsan` (ThreadSanitizer, which sees what is compiled here: the table and the programs), `helgrind` and `drd`
+# (valgrind's, which see the library too); all three where none is named. `short` stands for the stories and the asks, under the first of
 # them that is found, which takes seconds: where none is, it ends with status 77, not tried. races.supp says what is no
 # race. Prints a line for each run. Ends with status 1 where one reports anything or a program fails; a tool that is not
 # found is passed over. RACES_LIBS names other archives than those of tools/c_library.sh, with a space between. CC names another compiler.
@@ -49,11 +49,16 @@ for tool in "$@"; do
         quiet "tsan, the stories" "$work/shared-tsan" 60 256 || status=1
         compile asks-tsan asks -fsanitize=thread || exit 1
         quiet "tsan, the asks" "$work/asks-tsan" 60 60 || status=1
+        compile waits-tsan waits -fsanitize=thread && compile own_ends-tsan own_ends -fsanitize=thread || exit 1
+        quiet "tsan, the waits" "$work/waits-tsan" 60 || status=1
+        quiet "tsan, own ends" "$work/own_ends-tsan" 60 || status=1
       elif command -v valgrind >/dev/null; then
-        compile shared shared && compile asks asks || exit 1
+        compile shared shared && compile asks asks && compile waits waits && compile own_ends own_ends || exit 1
         watched[1]=--tool=helgrind
         quiet "helgrind, the stories" "${watched[@]}" "$work/shared" 300 256 || status=1
         quiet "helgrind, the asks" "${watched[@]}" "$work/asks" 300 20 || status=1
+        quiet "helgrind, the waits" "${watched[@]}" "$work/waits" 300 || status=1
+        quiet "helgrind, own ends" "${watched[@]}" "$work/own_ends" 300 || status=1
       else
         echo "races.sh: not tried: neither ThreadSanitizer nor valgrind is found"
         exit 77
@@ -61,12 +66,15 @@ for tool in "$@"; do
       ;;
     tsan)
       if ! compile shared-tsan shared -fsanitize=thread || ! compile asks-tsan asks -fsanitize=thread ||
+        ! compile waits-tsan waits -fsanitize=thread || ! compile own_ends-tsan own_ends -fsanitize=thread ||
         ! compile crowd-tsan crowd -fsanitize=thread; then
         echo "tsan: this compiler has none, so nothing was tried"
         continue
       fi
       quiet "tsan, the stories" "$work/shared-tsan" 300 || status=1
       quiet "tsan, the asks" "$work/asks-tsan" 300 || status=1
+      quiet "tsan, the waits" "$work/waits-tsan" 300 || status=1
+      quiet "tsan, own ends" "$work/own_ends-tsan" 300 || status=1
       quiet "tsan, the crowd" "$work/crowd-tsan" 4 300 || status=1
       ;;
     helgrind | drd)
@@ -74,9 +82,12 @@ for tool in "$@"; do
         echo "$tool: valgrind is not found, so nothing was tried"
         continue
       fi
-      compile shared shared && compile asks asks && compile crowd crowd || exit 1
+      compile shared shared && compile asks asks && compile waits waits && compile own_ends own_ends &&
+        compile crowd crowd || exit 1
       quiet "$tool, the stories" "${watched[@]}" "$work/shared" 900 256 || status=1
       quiet "$tool, the asks" "${watched[@]}" "$work/asks" 900 20 || status=1
+      quiet "$tool, the waits" "${watched[@]}" "$work/waits" 900 || status=1
+      quiet "$tool, own ends" "${watched[@]}" "$work/own_ends" 900 || status=1
       quiet "$tool, the crowd" "${watched[@]}" "$work/crowd" 1 900 || status=1
       ;;
     *)

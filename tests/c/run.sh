@@ -30,7 +30,7 @@ mapfile -t libraries < <("$top/tools/c_library.sh" --slots "$slots" 2>"$work/log
 compile() {
   local with=("${libraries[@]}")
   case $1 in
-    shared | crowd | asks) with=(-I"$top/c" "${libraries[@]:1}") ;;
+    shared | crowd | asks | waits | own_ends) with=(-I"$top/c" "${libraries[@]:1}") ;;
   esac
   # shellcheck disable=SC2086 # CC may have words behind the name.
   $compiler -std=c99 -D_POSIX_C_SOURCE=200809L -pthread -Wall -Wextra -Werror -O1 -I"$headers" -o "$work/$1" \
@@ -81,6 +81,10 @@ compile shared -Wl,--wrap=malloc,--wrap=realloc,--wrap=free || exit 1
 timeout 60 "$work/shared" || exit 1
 compile asks -Wl,--wrap=malloc,--wrap=realloc,--wrap=free || exit 1
 timeout 120 "$work/asks" || exit 1
+compile waits -Wl,--wrap=malloc,--wrap=realloc,--wrap=free || exit 1
+timeout 60 "$work/waits" || exit 1
+compile own_ends -Wl,--wrap=malloc,--wrap=realloc,--wrap=free || exit 1
+timeout 60 "$work/own_ends" || exit 1
 compile crowd || exit 1
 # A thousand threads begin one transaction each, and may take a minute.
 few=()

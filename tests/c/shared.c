@@ -119,6 +119,9 @@ static bs_table *table;
 static size_t texts;
 static bool is_held; /* but where the story holds it */
 
+/* A write may be a point at which a thread is cancelled. */
+static __thread bool is_cancelled_in_writes;
+
 static int noted_fprintf(FILE *out, const char *format, ...) {
   va_list words;
   int written;
@@ -126,6 +129,7 @@ static int noted_fprintf(FILE *out, const char *format, ...) {
     WANT(pthread_mutex_trylock(&table->latch) == 0);
     pthread_mutex_unlock(&table->latch);
   }
+  if (is_cancelled_in_writes) pthread_testcancel();
   texts++;
   va_start(words, format);
   written = vfprintf(out, format, words);
@@ -2748,6 +2752,43 @@ static void a_skip_is_refused(void) {
   close_table();
 }
 
+/* A skip passes over a record and a row that have moved to where the transaction holds nothing above them, and over a
+ * record that is gone, by its node and by its path. It takes the next that is free. */
+static void a_skip_passes_over_what_moved_or_is_gone(void) {
+  static const uint64_t key = OLD_KEY;
+  bs_command list[6];
+  bs_txn a, t;
+  uint64_t held;
+  set_up_rows(BS_AT_BLOCK);
+  a = begin_writer(OLD_KEY), t = begin_writer(OLD_KEY);
+  DONE(bs_table_lock_path(table, t, below, BS_IX, NULL));
+  DONE(bs_table_lock_path(table, t, file, BS_IX, NULL));
+  DONE(lock_above(a, NEW_KEY));
+  DONE(bs_table_lock_path(table, a, low, BS_X, NULL));
+  DONE(bs_table_lock_path(table, a, high, BS_X, NULL));
+  DONE(bs_table_rekey(table, a, low, by_key, 150, NULL));
+  DONE(bs_table_delete(table, a, high, NULL));
+  DONE(ask_row(a, 7, NEW_KEY, NULL));
+  DONE(ask_row(a, 8, OLD_KEY, NULL));
+  list[0] = bs_do_at(BS_DO_TRY, t, low, BS_X);
+  list[1] = row_try(t, 7, &key);
+  list[2] = bs_do_at(BS_DO_TRY, t, high, BS_X);
+  list[3] = bs_do_at(BS_DO_TRY_PATH, t, high, BS_X);
+  list[4] = row_try(t, 8, &key);
+  list[5] = row_try(t, 9, &key);
+  held = locks_of(t);
+  WANT(bs_table_try_first(table, list, 5) == 5 && locks_of(t) == held);
+  WANT(bs_table_try_first(table, list, 6) == 5 && list[5].reply.status == BS_DONE && locks_of(t) == held + 1);
+  WANT(list[0].reply.status == BS_NEED_PARENTS && same_node(list[0].reply.node, above));
+  WANT(list[1].reply.status == BS_NEED_PARENTS && same_node(list[1].reply.node, rows_above));
+  WANT(list[2].reply.status == BS_NO_SUCH_NODE && list[3].reply.status == BS_NO_SUCH_NODE);
+  would_block(list[4].reply, row_node(8));
+  DONE(bs_table_commit(table, a, NULL));
+  WANT(bs_table_try_first(table, list, 6) == 1 && list[1].reply.status == BS_DONE); /* Its node went with the commit. */
+  WANT(list[0].reply.status == BS_NEED_PARENTS);
+  close_table();
+}
+
 /* Jobs in a table, of which sixteen threads take one after the other by a skip over those that are locked. */
 enum { JOBS = 200, WORKERS = 16, AT_ONCE = 20 };
 
@@ -3457,6 +3498,48 @@ static void a_long_dump(void) {
   fclose(whole);
 }
 
+/* A thread that dumps a table, or what it holds of one, and that is cancelled before it writes. */
+struct dumper {
+  bool holds;
+  FILE *text;
+  bs_reply reply;
+  pthread_t thread;
+};
+
+static void *dump_to_the_end(void *arg) {
+  struct dumper *d = (struct dumper *)arg;
+  is_cancelled_in_writes = true;
+  pthread_cancel(pthread_self());
+  d->reply = d->holds ? bs_dump(bs_table_hold(table), d->text) : bs_table_dump(table, d->text);
+  if (d->holds) DONE(bs_table_let_go(table));
+  pthread_testcancel();
+  return NULL;
+}
+
+/* The dump is written to its end, and the thread ends after it: its memory is given back, and so is the latch. */
+static void a_dump_is_cancelled(void) {
+  int holds;
+  set_up(BS_AT_BLOCK);
+  DONE(bs_table_lock_path(table, begin(), low, BS_X, NULL));
+  for (holds = 0; holds < 2; holds++) {
+    struct dumper d;
+    void *came = NULL;
+    memset(&d, 0, sizeof d);
+    d.reply.status = BS_NOT_MADE;
+    d.holds = is_held = holds;
+    d.text = tmpfile();
+    WANT(d.text != NULL);
+    start(&d.thread, dump_to_the_end, &d);
+    WANT(pthread_join(d.thread, &came) == 0);
+    is_held = false;
+    DONE(d.reply);
+    WANT(came == PTHREAD_CANCELED && lines_with(d.text, "Last deadlock:") == 1 && lines_with(d.text, "none") == 1);
+    fclose(d.text);
+    DONE(bs_table_begin(table));
+  }
+  close_table();
+}
+
 /* ------------------------------------------------------------------------------------------------
  * Tables that end.
  */
@@ -3610,6 +3693,44 @@ static void two_tables_are_lent(void) {
   DONE(bs_table_let_go(other));
   DONE(bs_table_begin(table));
   DONE(bs_table_begin(other));
+  DONE(bs_table_end(other));
+  DONE(bs_table_free(&other));
+  close_table();
+}
+
+/* While a thread holds a table it makes calls of another one, but none that could sleep: it would keep the latch. They
+ * are refused whether they would have slept or not. */
+static void a_holder_of_a_table_does_not_sleep(void) {
+  bs_table *other = NULL;
+  bs_command list[1];
+  bs_node node, none = { 0, 0 };
+  bs_txn a, b;
+  set_up(BS_AT_BLOCK);
+  DONE(make_table(&other, BS_AT_BLOCK, BS_YOUNGEST, 3));
+  node = DONE(bs_table_add_inner(other, NULL, 0)).node;
+  a = DONE(bs_table_begin(other)).txn, b = DONE(bs_table_begin(other)).txn;
+  DONE(bs_table_lock(other, a, node, BS_S, NULL));
+  WANT(bs_table_hold(table) != NULL);
+  ANSWERS(BS_IN_USE, bs_table_lock(other, b, node, BS_X, NULL));
+  ANSWERS(BS_IN_USE, bs_table_lock(other, b, node, BS_S, NULL));
+  ANSWERS(BS_IN_USE, bs_table_lock_path(other, b, node, BS_S, NULL));
+  ANSWERS(BS_IN_USE, bs_table_lock_row(other, b, node, 1, NULL, 0, BS_S, NULL));
+  ANSWERS(BS_IN_USE, bs_table_await(other, b, node, BS_S, NULL));
+  ANSWERS(BS_IN_USE, bs_table_begin_in_turn(other, NULL));
+  ANSWERS(BS_IN_USE, bs_table_begin_again_in_turn(other, 1, NULL));
+  ANSWERS(BS_IN_USE, bs_table_end(other));
+  ANSWERS(BS_NULL_POINTER, bs_table_lock(NULL, b, node, BS_S, NULL));
+  ANSWERS(BS_NULL_POINTER, bs_table_begin_in_turn(NULL, NULL));
+  ANSWERS(BS_NULL_POINTER, bs_table_end(NULL));
+  WANT(wait_in(other, b).status == BS_NOT_WAITING && ASK(other, bs_held, b, node).mode == BS_NL);
+  WANT(DONE(bs_table_try(other, b, node, BS_S)).mode == BS_S);
+  list[0] = bs_do_at(BS_DO_LOCK, b, node, BS_X);
+  WANT(bs_table_run(other, list, 1) == 0 && list[0].reply.status == BS_WAITING);
+  DONE(bs_table_commit(other, a, NULL));
+  DONE(bs_table_begin(other));
+  DONE(bs_table_let_go(table));
+  DONE(bs_table_await(other, b, node, BS_X, NULL));
+  ANSWERS(BS_NO_SUCH_NODE, bs_table_lock(other, b, none, BS_X, NULL));
   DONE(bs_table_end(other));
   DONE(bs_table_free(&other));
   close_table();
@@ -3832,6 +3953,7 @@ int main(int count, char **words) {
   TELL(a_list_of_tries);
   TELL(a_skip_takes_the_first_that_is_free);
   TELL(a_skip_is_refused);
+  TELL(a_skip_passes_over_what_moved_or_is_gone);
   TELL(each_job_is_done_once);
   TELL(a_savepoint_wakes);
   TELL(a_savepoint_in_a_list);
@@ -3857,12 +3979,14 @@ int main(int count, char **words) {
   TELL(listings);
   TELL(a_dump);
   TELL(a_long_dump);
+  TELL(a_dump_is_cancelled);
   TELL(an_end_with_sleepers);
   TELL(an_end_in_the_middle);
   TELL(a_table_by_options);
   TELL(places_without_a_table);
   TELL(a_table_is_lent);
   TELL(two_tables_are_lent);
+  TELL(a_holder_of_a_table_does_not_sleep);
   TELL(refused_tables);
   TELL(refused_growths);
   TELL(refused_turns);

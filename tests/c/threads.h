@@ -97,7 +97,7 @@ static void join(pthread_t thread) {
 }
 
 /* Small random numbers, by Marsaglia's xorshift: from 0 to below `sides`. */
-static uint64_t roll(uint64_t *dice, uint64_t sides) {
+static inline uint64_t roll(uint64_t *dice, uint64_t sides) {
   *dice ^= *dice << 13;
   *dice ^= *dice >> 7;
   *dice ^= *dice << 17;

@@ -321,8 +321,18 @@ fn a_skip_takes_the_first_that_is_free() {
         node: store.low,
         mode: Mode::X,
     };
-    let refused = store.begin().try_first(&paths);
-    assert!(matches!(refused, Err(Refusal::NeedParents(_))));
+    // One whose parents are not held, as where it has moved there, is passed over; any other refusal ends the list.
+    assert_eq!(store.begin().try_first(&paths), Ok(None));
+    let row = Row {
+        file: store.low,
+        number: 7,
+    };
+    paths[1] = Try::Row {
+        row,
+        keys: &KEY,
+        mode: Mode::X,
+    };
+    assert_eq!(store.begin().try_first(&paths), Err(Refusal::NotRows));
     store.counts(0);
 }
 
