@@ -15,9 +15,14 @@
  *                               `of_indexes`, and that somebody was told that a dropped node is gone;
  *   - wanted.rt                 its comparisons: beside.h.
  * More than that crate it plays both ways of detection and both choices of victims, and `goes_further`: rows, paths,
- * savepoints, escalations, rekeys, cancels, settles and verdicts.
+ * savepoints, escalations, rekeys, cancels, settles and verdicts. In the last two plays an allocation of each command is
+ * refused, if it has so many: nothing has changed then, and the command is made again. They play what the program
+ * test_growths played in Rattle of a manager and a registry.
+ *
+ * It is linked with the calls for memory of memory.h.
  */
 #include "beside.h"
+#include "memory.h"
 #include "pcg.h"
 
 #include <stdlib.h>
@@ -28,15 +33,19 @@ enum { TXNS = 3, MOST_NODES = 36, MOST_BOUNDS = 3, KEYS = 30, ROWS = 4, KINDS = 
 typedef struct setting {
   uint32_t detect, victims;
   uint64_t seed;
-  bool is_wide;
+  bool is_wide, is_refused; /* whether allocations are refused */
 } setting;
 
 static const setting settings[] = {
-  { BS_AT_BLOCK, BS_YOUNGEST, 1, false }, { BS_AT_BLOCK, BS_YOUNGEST, 2, false },
-  { BS_AT_BLOCK, BS_FEWEST, 3, false },   { BS_BY_WATCHER, BS_YOUNGEST, 4, true },
-  { BS_AT_BLOCK, BS_YOUNGEST, 5, true },  { BS_AT_BLOCK, BS_FEWEST, 6, true },
-  { BS_BY_WATCHER, BS_FEWEST, 7, true },  { BS_AT_BLOCK, BS_YOUNGEST, 8, true }
+  { BS_AT_BLOCK, BS_YOUNGEST, 1, false, false }, { BS_AT_BLOCK, BS_YOUNGEST, 2, false, false },
+  { BS_AT_BLOCK, BS_FEWEST, 3, false, false },   { BS_BY_WATCHER, BS_YOUNGEST, 4, true, false },
+  { BS_AT_BLOCK, BS_YOUNGEST, 5, true, false },  { BS_AT_BLOCK, BS_FEWEST, 6, true, false },
+  { BS_BY_WATCHER, BS_FEWEST, 7, true, false },  { BS_AT_BLOCK, BS_YOUNGEST, 8, true, false },
+  { BS_AT_BLOCK, BS_YOUNGEST, 9, true, true },   { BS_BY_WATCHER, BS_FEWEST, 10, true, true }
 };
+
+/* How many draws a manager lives where memory is refused: one that is older takes memory seldom. */
+enum { FEW_DRAWS = 60 };
 
 static const setting *played;
 static bs_manager m = BS_NO_MANAGER_HERE;
@@ -49,6 +58,9 @@ static unsigned long asked;
 /* How often each kind of command was answered so, and how many were told that a dropped node is gone. */
 static unsigned long tally[KINDS][STATUSES];
 static unsigned long told_gone;
+
+/* How often each kind of command was refused memory. */
+static unsigned long refusals[KINDS];
 
 /* Ends the program where something differs. */
 static void wanted(const char *differs, const bs_command *c) {
@@ -163,11 +175,52 @@ static void count(const bs_command *c, bs_reply reply) {
   }
 }
 
+/* Whether a command never takes memory: it begins, releases, or moves what there is. */
+static bool takes_no_memory(const bs_command *c) {
+  switch (c->kind) {
+    case BS_DO_BEGIN:
+    case BS_DO_BEGIN_AGAIN:
+    case BS_DO_UNLOCK:
+    case BS_DO_RELEASE_SINCE:
+    case BS_DO_ESCALATE:
+    case BS_DO_CANCEL:
+    case BS_DO_COMMIT:
+    case BS_DO_ABORT:
+    case BS_DO_SETTLE:
+    case BS_DO_DELETE:
+    case BS_DO_FORGET:
+    case BS_DO_DROP:
+    case BS_DO_REKEY:
+    case BS_DO_UNLOCK_ROW:
+    case BS_DO_REKEY_ROW: return true;
+    default: return false;
+  }
+}
+
+/* Makes a command with the manager. In a play that refuses memory the first, second or third allocation of the call is
+ * refused: then nothing has changed, and the command is made again. */
+static bs_reply made_in_spite(const bs_command *c) {
+  uint64_t accepted = accepted_by(&m);
+  bs_reply came;
+  refused_growth = played->is_refused ? (long)(asked % 3 + 1) : 0;
+  came = made(c);
+  refused_growth = 0;
+  if (came.status != BS_NO_MEMORY) return came;
+  refusals[c->kind]++;
+  wanted(takes_no_memory(c) ? "a command that takes no memory is refused it" : NULL, c);
+  wanted(same_number("how many are told in spite of a refusal", told.count, 0), c);
+  if (c->kind == BS_DO_LOCK_PATH) return made(c); /* What was locked on the way stays. */
+  wanted(same_number("how many commands are accepted", accepted_by(&m), accepted), c);
+  wanted(same_state(&m, &n), c);
+  wanted(same_graph(&m, &n), c);
+  return made(c);
+}
+
 /* Asks both, and they must answer and tell the same. Rows come and go by other commands too. */
 static bs_reply asks(bs_command c) {
   uint64_t births = n.births;
   size_t nodes = n.node_count;
-  bs_reply wants = naive_make(&n, &c), came = made(&c);
+  bs_reply came = made_in_spite(&c), wants = naive_make(&n, &c);
   asked++;
   wanted(same_reply(came, wants), &c);
   wanted(same_told(&told, &n.told), &c);
@@ -609,7 +662,8 @@ static void goes_further(void) {
  * The plays.
  */
 
-static void opens(void) {
+/* Opens both, and draws from now on by this stream. */
+static void opens(uint64_t stream) {
   static const bs_txn nobody = { 0, 0 };
   bs_options options = { 0, 0, TXNS, MOST_NODES, MOST_BOUNDS };
   size_t i;
@@ -618,19 +672,27 @@ static void opens(void) {
   options.victims = played->victims;
   wanted(same_number("make", bs_make(&m, &options).status, BS_DONE), NULL);
   naive_open(&n, &options);
-  rng = pcg_new(played->seed, 54);
+  rng = pcg_new(played->seed, stream);
   for (i = 0; i < TXNS; i++) txns[i] = begins();
   asks(bs_do(BS_DO_ADD_INNER, ended));
 }
 
-static void plays(unsigned long draws) {
+static void plays(unsigned long draws, uint64_t stream) {
   unsigned long i;
-  opens();
+  opens(stream);
   for (i = 0; i < draws; i++) {
     goes_on();
     if (played->is_wide && seldom(2)) goes_further();
   }
   wanted(same_number("end", bs_end(&m).status, BS_DONE), NULL);
+  wanted(same_number("how many blocks of memory are left", (uint64_t)blocks_out(), 0), NULL);
+}
+
+/* Plays with one manager, or where memory is refused with many. */
+static void plays_all(unsigned long draws) {
+  unsigned long rest = draws;
+  for (; played->is_refused && rest > FEW_DRAWS; rest -= FEW_DRAWS) plays(FEW_DRAWS, 54 + rest);
+  plays(rest, 54);
 }
 
 /* What must be answered to a drop, and to an index by a transaction, at least once. */
@@ -661,11 +723,23 @@ static void all_kinds_came(void) {
   }
 }
 
+/* Each kind of command that makes something or locks was refused memory. */
+static void all_refusals_came(void) {
+  static const uint32_t growing[] = { BS_DO_LOCK, BS_DO_LOCK_PATH, BS_DO_TRY, BS_DO_LOCK_ROW, BS_DO_INSERT, BS_DO_ADOPT,
+                                      BS_DO_ADD_INNER, BS_DO_ADD_FILE, BS_DO_ADD_ROW_FILE, BS_DO_ADD_INDEX,
+                                      BS_DO_INDEX_BY, BS_DO_MOVE };
+  size_t i;
+  for (i = 0; i < sizeof growing / sizeof growing[0]; i++) {
+    if (refusals[growing[i]] == 0) wanted(say("command %u was never refused memory", growing[i]), NULL);
+  }
+}
+
 static void tally_is_full(void) {
   all_came(BS_DO_DROP, of_drops, sizeof of_drops / sizeof of_drops[0]);
   all_came(BS_DO_INDEX_BY, of_indexes, sizeof of_indexes / sizeof of_indexes[0]);
   if (told_gone == 0) wanted("nobody was told that a dropped node is gone", NULL);
   all_kinds_came();
+  all_refusals_came();
 }
 
 int main(int argc, char **argv) {
@@ -676,7 +750,7 @@ int main(int argc, char **argv) {
   wanted(same_number("first word of the reference", pcg_word(&reference), 0xa15c02b7), NULL);
   for (i = 0; i < sizeof settings / sizeof settings[0]; i++) {
     played = &settings[i];
-    plays(draws);
+    plays_all(draws);
   }
   tally_is_full();
   printf("random_schemas_come_and_go: %lu commands\n", asked);
