@@ -1,4 +1,4 @@
-//! A table with a store, and those that wait in it: threads that sleep, and tasks whose wakers count, act or poll at once.
+//! A table with a store, and those that wait in it: threads that sleep, and tasks whose wakers count, act or poll.
 
 #![allow(dead_code)] // Each test program uses some of it.
 
@@ -8,7 +8,7 @@ use std::pin::{pin, Pin};
 use std::sync::atomic::{AtomicBool, AtomicUsize, Ordering};
 use std::sync::{Arc, Mutex};
 use std::task::{Context, Poll, Wake, Waker};
-use std::thread;
+use std::thread::{self, Thread};
 use std::time::{Duration, Instant};
 
 pub const LOW_KEY: [u64; 1] = [50];
@@ -92,6 +92,26 @@ impl Wake for Does {
 
 pub fn poll_by<F: Future>(future: &mut Pin<&mut F>, waker: Waker) -> Poll<F::Output> {
     future.as_mut().poll(&mut Context::from_waker(&waker))
+}
+
+/// Wakes a thread that runs one future.
+struct Unpark(Thread);
+
+impl Wake for Unpark {
+    fn wake(self: Arc<Unpark>) {
+        self.0.unpark();
+    }
+}
+
+pub fn block_on<T>(future: impl Future<Output = T>) -> T {
+    let waker = Waker::from(Arc::new(Unpark(thread::current())));
+    let mut future = pin!(future);
+    loop {
+        match poll_by(&mut future, waker.clone()) {
+            Poll::Ready(end) => return end,
+            Poll::Pending => thread::park_timeout(PATIENCE),
+        }
+    }
 }
 
 /// The end of a future whose wait ends within its first poll: that poll is ready, or its waker was woken by the time
