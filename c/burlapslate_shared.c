@@ -1328,7 +1328,7 @@ static table_asked *table_enter_to_ask(bs_table *table, bs_txn txn, const struct
 }
 
 /* Leaves behind an ask that waits, where others' ends are to be told before it returns. Its own end, where it comes
- * meanwhile, is its answer. */
+ * meanwhile, is its answer, and else the node for which it waits by then. */
 static TABLE_APART bs_reply table_ask_and_tell(bs_table *table, table_asked *own, bs_reply reply) {
   own->is_inside = true;
   table->to_tell++;
@@ -1338,6 +1338,8 @@ static TABLE_APART bs_reply table_ask_and_tell(bs_table *table, table_asked *own
   if (own->has_ended) {
     reply = own->end;
     table_spare(table, own);
+  } else if (own->kind == TABLE_PATH) {
+    reply.node = own->at; /* It may have gone on to another node. */
   }
   table_was_told(table);
   pthread_mutex_unlock(&table->latch);
