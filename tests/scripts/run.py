@@ -1,6 +1,6 @@
 #!/usr/bin/env python3
-"""run.py [PAGE..]: plays scripts through the proved programs gltool and glpicture, and compares all that they print byte
-for byte. The scripts are those of the pages *.transcript beside this file, the examples of docs/SCRIPT.md and
+"""run.py [PAGE..]: plays scripts through the proved programs gltool and glpicture, and compares all that they print
+byte for byte. The scripts are those of the pages *.transcript beside this file, the examples of docs/SCRIPT.md and
 docs/LOCKS.md, and some that are made here. Each is read whole and in pieces of five sizes, and then with each read and
 with each write failing in turn, by streams.c. The last line is 'tests/scripts: N scripts, as wanted'; or the run ends
 with status 1 at the first script that is not as wanted. With words it plays those pages alone.
@@ -87,9 +87,19 @@ class Script:
     def reads_nothing(self, words):
         return self.status == 2 or any(word.startswith("--crew") for word in words)
 
+    def first_line(self, printed):
+        """The first line whose answer is not as wanted."""
+        for line, answer in self.rows:
+            if not printed.startswith(answer):
+                return line.decode(errors="backslashreplace").rstrip("\n")
+            printed = printed[len(answer) :]
+        return "the end"
+
     def differs(self, words, how, what, wanted, came):
-        shown = difflib.unified_diff(lines_of(wanted), lines_of(came), "wanted", "came", lineterm="")
         head = f"{self.place}: {self.title}: {self.program} {shlex.join(words)}: {how}: {what}"
+        if what == "printed" and self.report is None:
+            head += f" at '{self.first_line(came)}'"
+        shown = difflib.unified_diff(lines_of(wanted), lines_of(came), "wanted", "came", lineterm="")
         raise NotAsWanted("\n".join([head, *list(shown)[:40]]))
 
 
@@ -175,14 +185,15 @@ def scripts_of(path):
         script.program = marks.get("@program", ["gltool"])[0]
         script.status = int(marks.get("@status", ["0"])[0])
         script.errors = "".join(line + "\n" for line in marks.get("@errors", [])).encode()
+        script.has_faults = path.stem != "words"
         scripts.append(script)
     return scripts
 
 
 # ----------------------------------------------------------------------------------------------------------------------
-# Examples of the documents. One that begins neither with `inner` nor with `granular` goes on from the first of its page;
-# one that begins with no transaction either goes on from the one before it that is whole. Words are those of which the
-# section has said 'With the word `WORD`', or that the line above the example says.
+# Examples of the documents. One that begins with `inner` or `granular` is whole. One that begins with `begin` continues
+# the first example of its page, and any other the last whole one. Its words are those of which its section has said
+# 'With the word `WORD`', or that the line above it names.
 
 
 def blocks_of(path):
@@ -229,6 +240,8 @@ def examples_of(path):
         else:
             rows = (first if start == b"begin" else whole) + rows
         scripts.append(Script("an example", f"{path.name}:{lines[0][0]}", rows, [words_in(above)]))
+    if not scripts:
+        raise NotAsWanted(f"{path.name} has no example")
     return scripts
 
 
@@ -254,7 +267,7 @@ def long_lines():
 
 
 def bad_bytes():
-    bad = (b"begin a\r", b"begin a\0", b"begin a\x80", b" begin a", b"begin a ", b"begin aaaaaaaaaaaaaaaaa", b"begin 1a")
+    bad = (b"begin a\r", b"begin a\0", b"begin a\x80", b" begin a", b"begin a ", b"begin " + b"a" * 17, b"begin 1a")
     rows = [(line, BAD) for line in bad] + [(b"begin a", OK), (b"held a i1.00", BAD), (b"held a i1.", BAD)]
     return made("bytes, names and numbers that make a line bad", [*rows, (b"#\xff\0", b""), (b"", b"")])
 
@@ -435,8 +448,9 @@ def as_much_as_may_be(piece):
     script = Script(f"a script of {LONGEST} bytes", "run.py")
     done, count = run(script, [], b"begin a\n" * (LONGEST // 8), read=piece)
     wanted = b"ok\n" + b"no 16 NameTaken a\n" * (LONGEST // 8 - 1)
-    if (done.returncode, done.stderr, count, done.stdout == wanted) != (0, b"", LONGEST, True):
-        script.differs([], f"in pieces of {piece}", "end", LONGEST, (done.returncode, done.stderr, count, len(done.stdout)))
+    came = (done.returncode, done.stderr, count, done.stdout == wanted)
+    if came != (0, b"", LONGEST, True):
+        script.differs([], f"in pieces of {piece}", "end", (0, b"", LONGEST, True), came)
     return 1
 
 
@@ -445,8 +459,9 @@ def too_much(line, report):
     script = Script(f"a script of more than {LONGEST} bytes", "run.py")
     done, count = run(script, [], line * ((LONGEST + 65_536) // len(line)))
     wanted = (1, b"gltool: input too long\n", LONGEST + 1, True)
-    if (done.returncode, done.stderr, count, done.stdout == report) != wanted:
-        script.differs([], repr(line), "end", wanted, (done.returncode, done.stderr, count, len(done.stdout)))
+    came = (done.returncode, done.stderr, count, done.stdout == report)
+    if came != wanted:
+        script.differs([], f"lines {line}", "end", wanted, came)
     return 1
 
 
@@ -484,7 +499,7 @@ def find_program(name):
     if named:
         return named
     if subprocess.run([TOP / "tools" / "build.sh", "--look", name]).returncode != 0:
-        sys.exit(f"tests/scripts: there is no {name} that is newer than its sources: ./check builds it, or ./{name} --proved")
+        sys.exit(f"tests/scripts: there is no {name} newer than its sources: ./check builds it, or ./{name} --proved")
     return str(TOP / "crates" / name / "out" / name)
 
 
@@ -509,8 +524,11 @@ def main(names):
         tasks += [lambda script=script: play(script) for script in made_scripts()] + list(other_runs())
     with tempfile.TemporaryDirectory() as folder:
         programs["streams"] = compile_streams(folder)
-        with ThreadPoolExecutor(os.cpu_count()) as pool:
+        pool = ThreadPoolExecutor(os.cpu_count())
+        try:
             counts = list(pool.map(lambda task: task(), tasks))
+        finally:
+            pool.shutdown(cancel_futures=True)
     print(f"tests/scripts: {sum(counts)} scripts, as wanted")
 
 

@@ -1,6 +1,6 @@
 /*
- * streams.c: loaded before the C library by LD_PRELOAD, it gives a program its standard input in pieces, and can let each
- * read or each write fail in turn.
+ * streams.c: loaded before the C library by LD_PRELOAD, it gives a program its standard input in pieces, and can let
+ * each read or each write fail in turn.
  *
  *   STREAM_READ    the most bytes that a read of standard input gives; unset: as many as there are
  *   STREAM_WRITE   the most bytes that a write to standard output takes; unset: all
@@ -10,8 +10,8 @@
  *   STREAM_ERROR   the number of the error; 0: a write takes nothing
  *   STREAM_LOG     the descriptor to which the parent writes a record of each child: struct record and its texts
  *
- * A child writes nothing: its standard output and its standard error are kept for the record. The program has one thread
- * when it reads or writes.
+ * A child writes nothing: its standard output and its standard error are kept for the record. The program has one
+ * thread when it reads or writes.
  */
 #define _GNU_SOURCE
 #include <errno.h>
