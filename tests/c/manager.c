@@ -154,7 +154,7 @@ static void begin_after_a_deadlock(uint64_t since) {
 }
 
 /* The requester closes the cycle, and is the victim. */
-static void requester_falls(bs_txn first, bs_txn requester) {
+static void requester_is_victim(bs_txn first, bs_txn requester) {
   WAITS(first, db, BS_X);
   QUIET(BS_VICTIM, bs_lock(m, requester, db, BS_X, &told));
   DONE(bs_abort(m, requester, &told));
@@ -164,7 +164,7 @@ static void requester_falls(bs_txn first, bs_txn requester) {
 }
 
 /* The requester closes the cycle, and the transaction that waits already is the victim. */
-static void waiter_falls(bs_txn first, bs_txn requester) {
+static void waiter_is_victim(bs_txn first, bs_txn requester) {
   WAITS(first, db, BS_X);
   ANSWERS(BS_WAITING, bs_lock(m, requester, db, BS_X, &told));
   WANT(is_told(first, BS_TOLD_VICTIM));
@@ -176,27 +176,27 @@ static void waiter_falls(bs_txn first, bs_txn requester) {
 
 static void work_that_begins_again_is_older(void) {
   begin_after_a_deadlock(2);
-  waiter_falls(a, b);
+  waiter_is_victim(a, b);
 }
 
-static void newer_work_falls_if_it_asks_last(void) {
+static void newer_work_is_the_victim_if_it_asks_last(void) {
   begin_after_a_deadlock(2);
-  requester_falls(b, a);
+  requester_is_victim(b, a);
 }
 
 static void work_since_no_begin_is_the_oldest(void) {
   begin_after_a_deadlock(0);
-  requester_falls(b, a);
+  requester_is_victim(b, a);
 }
 
-static void of_work_of_one_begin_the_younger_falls(void) {
+static void of_work_of_one_begin_the_younger_is_the_victim(void) {
   begin_after_a_deadlock(3);
-  waiter_falls(b, a);
+  waiter_is_victim(b, a);
 }
 
 static void a_later_number_counts_as_its_own(void) {
   begin_after_a_deadlock(UINT64_MAX);
-  waiter_falls(b, a);
+  waiter_is_victim(b, a);
 }
 
 /* ------------------------------------------------------------------------------------------------
@@ -438,7 +438,7 @@ static void a_reader_by_another_parent_locks_nothing_above(void) {
   end_manager();
 }
 
-static void a_path_goes_on_after_a_wait(void) {
+static void a_path_continues_after_a_wait(void) {
   open_indexes();
   begin_two();
   LOCKS_PATH(a, db, BS_X);
@@ -461,7 +461,7 @@ static void a_bad_mode_leaves_nothing_locked(void) {
 
 /* A transaction holds another root in X, and a reader of the first root waits for that. A third waits to write the
  * first root, and is ahead there. */
-static void a_victim_is_told_before_a_path_goes_on(void) {
+static void a_victim_is_told_before_a_path_continues(void) {
   bs_node other;
   bs_reply reply;
   open_indexes();
@@ -476,6 +476,21 @@ static void a_victim_is_told_before_a_path_goes_on(void) {
   WANT(same_node(reply.node, db) && is_told(c, BS_TOLD_VICTIM));
   HOLDS(a, db, BS_IX);
   LOCKS_PATH(a, file, BS_X);
+  end_manager();
+}
+
+/* Of two readers of the root the first wants to write it, and the second to write below. */
+static void a_path_ends_where_its_transaction_is_the_victim(void) {
+  bs_reply reply;
+  open_indexes();
+  begin_two();
+  LOCKS(a, db, BS_S);
+  LOCKS(b, db, BS_S);
+  WAITS(a, db, BS_X);
+  reply = QUIET(BS_VICTIM, bs_lock_path(m, b, file, BS_X, &told));
+  WANT(same_node(reply.node, db));
+  HOLDS(b, db, BS_S);
+  HOLDS(b, file, BS_NL);
   end_manager();
 }
 
@@ -956,13 +971,21 @@ static void a_board_shows_who_lives(void) {
  * Watchers.
  */
 
-/* Two transactions, the first of which holds the root in X; and whether the second waits for it. */
+/* Whether the eighth transaction waits for the root. */
 static bool is_waiting;
 
+/* A transaction in each slot. The first holds the root in X, and the last waits for it. */
 static void open_watched(void) {
-  open_manager(BS_AT_BLOCK);
-  begin_two();
+  uint32_t slot;
+  DONE(make_manager(m, BS_AT_BLOCK, BS_SLOTS));
+  db = DONE(bs_add_inner(m, NULL, 0)).node;
+  for (slot = 0; slot < BS_SLOTS; slot++) {
+    c = begin();
+    if (slot == 0) a = c;
+    if (slot == 7) b = c;
+  }
   LOCKS(a, db, BS_X);
+  WAITS(c, db, BS_S);
   is_waiting = false;
 }
 
@@ -975,7 +998,10 @@ static void change(void) {
 
 /* A look gives the board of this moment. */
 static void sees(bs_watcher *watcher) {
+  static bs_board now;
   DONE(bs_look(watcher, &board));
+  DONE(bs_read_board(m, &now));
+  WANT(memcmp(&board, &now, sizeof board) == 0);
   WANT(board.epoch == accepted_by(m) && bs_has(board.rows[b.slot], a.slot) == is_waiting);
 }
 
@@ -1016,7 +1042,7 @@ static void a_look_sees_what_was_shown_last(void) {
 }
 
 /* One of two watchers ends, and the other sees what is shown after that. */
-static void goes_on(int ends) {
+static void other_watcher_continues(int ends) {
   bs_watcher both[2];
   open_watched();
   watch(&both[0]);
@@ -1031,11 +1057,11 @@ static void goes_on(int ends) {
 }
 
 static void one_of_two_watchers_goes_on(void) {
-  goes_on(0);
-  goes_on(1);
+  other_watcher_continues(0);
+  other_watcher_continues(1);
 }
 
-static void watchers_come_and_go_beside_one_that_stays(void) {
+static void nine_come_and_go_beside_one_that_stays(void) {
   bs_watcher stays, watcher;
   int i;
   open_watched();
@@ -1063,7 +1089,7 @@ static void end_each(bs_watcher *watchers, int count) {
   for (i = 0; i < count; i++) DONE(bs_watch_end(&watchers[i]));
 }
 
-static void as_many_watch_as_may(void) {
+static void eight_watch_and_no_ninth(void) {
   bs_watcher all[BS_MOST_WATCHERS], more = BS_NO_WATCHER_HERE;
   int i;
   open_watched();
@@ -1094,9 +1120,9 @@ static void tell(const char *name, void (*play)(void)) {
 
 static void tell_of_waits(void) {
   TELL(work_that_begins_again_is_older);
-  TELL(newer_work_falls_if_it_asks_last);
+  TELL(newer_work_is_the_victim_if_it_asks_last);
   TELL(work_since_no_begin_is_the_oldest);
-  TELL(of_work_of_one_begin_the_younger_falls);
+  TELL(of_work_of_one_begin_the_younger_is_the_victim);
   TELL(a_later_number_counts_as_its_own);
   TELL(a_new_manager_has_counted_nothing);
   TELL(requests_and_waits_are_counted);
@@ -1114,9 +1140,10 @@ static void tell_of_nodes(void) {
   TELL(a_record_is_read_by_its_first_parent);
   TELL(a_record_is_written_by_all_its_parents);
   TELL(a_reader_by_another_parent_locks_nothing_above);
-  TELL(a_path_goes_on_after_a_wait);
+  TELL(a_path_continues_after_a_wait);
   TELL(a_bad_mode_leaves_nothing_locked);
-  TELL(a_victim_is_told_before_a_path_goes_on);
+  TELL(a_victim_is_told_before_a_path_continues);
+  TELL(a_path_ends_where_its_transaction_is_the_victim);
   TELL(a_row_stays_while_it_is_locked);
   TELL(no_index_is_made_over_rows);
   TELL(a_row_is_adopted_only_in_place_of_a_record);
@@ -1146,8 +1173,8 @@ static void tell_of_limits_and_watchers(void) {
   TELL(a_board_shows_who_lives);
   TELL(a_look_sees_what_was_shown_last);
   TELL(one_of_two_watchers_goes_on);
-  TELL(watchers_come_and_go_beside_one_that_stays);
-  TELL(as_many_watch_as_may);
+  TELL(nine_come_and_go_beside_one_that_stays);
+  TELL(eight_watch_and_no_ninth);
 }
 
 int main(void) {

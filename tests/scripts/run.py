@@ -135,7 +135,7 @@ def rows_of(lines, page):
         elif column and line[column - 1 : column] == " " and line[column:].strip():
             rows.append((bytes_of(line[:column].rstrip()) + b"\n", line[column:].encode() + b"\n"))
         else:
-            raise NotAsWanted(f"{page}:{number}: no answer stands at column {column}: {line}")
+            raise NotAsWanted(f"{page}:{number}: there is no answer at column {column}: {line}")
     return rows
 
 
@@ -148,7 +148,7 @@ def sections_of(path):
         elif sections and line:
             sections[-1].append((number, line))
         elif line and not line.startswith("#"):
-            raise NotAsWanted(f"{path.name}:{number}: stands before the first script: {line}")
+            raise NotAsWanted(f"{path.name}:{number}: a line before the first script: {line}")
     return sections
 
 

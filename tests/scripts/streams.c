@@ -5,8 +5,8 @@
  *   STREAM_READ    the most bytes that a read of standard input gives; unset: as many as there are
  *   STREAM_WRITE   the most bytes that a write to standard output takes; unset: all
  *   STREAM_FAULTS  'reads' or 'writes': before each read of standard input, or each write to standard output, the
- *                  process is forked, and the call fails in the child. The parent waits for the end of the child, and
- *                  goes on; unset: none fails
+ *                  process is forked, and the call fails in the child. The parent waits for the child to end, and
+ *                  continues; unset: none fails
  *   STREAM_ERROR   the number of the error; 0: a write takes nothing
  *   STREAM_LOG     the descriptor to which the parent writes a record of each child: struct record and its texts
  *
