@@ -438,6 +438,20 @@ static void a_reader_by_another_parent_locks_nothing_above(void) {
   end_manager();
 }
 
+/* The root is the second parent of a node, and the parent of its first one: once the root is locked, it is enough. */
+static void a_reader_locks_no_parent_more_than_it_needs(void) {
+  bs_node both[2], node;
+  open_manager(BS_AT_BLOCK);
+  a = begin();
+  both[0] = DONE(bs_add_inner(m, &db, 1)).node;
+  both[1] = db;
+  node = DONE(bs_add_inner(m, both, 2)).node;
+  LOCKS_PATH(a, node, BS_S);
+  HOLDS(a, db, BS_IS);
+  HOLDS(a, both[0], BS_NL);
+  end_manager();
+}
+
 static void a_path_continues_after_a_wait(void) {
   open_indexes();
   begin_two();
@@ -1140,6 +1154,7 @@ static void tell_of_nodes(void) {
   TELL(a_record_is_read_by_its_first_parent);
   TELL(a_record_is_written_by_all_its_parents);
   TELL(a_reader_by_another_parent_locks_nothing_above);
+  TELL(a_reader_locks_no_parent_more_than_it_needs);
   TELL(a_path_continues_after_a_wait);
   TELL(a_bad_mode_leaves_nothing_locked);
   TELL(a_victim_is_told_before_a_path_continues);
