@@ -316,7 +316,7 @@ def run(script, words, text, **streams):
         setting["LD_PRELOAD"] = programs["streams"]
     try:
         done = subprocess.run(
-            [programs[script.program], *words], stdin=source, capture_output=True, env=setting, timeout=100,
+            [programs[script.program], *words], stdin=source, capture_output=True, env=setting, timeout=60,
             pass_fds=[streams["log"]] if "log" in streams else [],
         )  # fmt: skip
         return done, os.lseek(source, 0, os.SEEK_CUR)
@@ -538,3 +538,5 @@ if __name__ == "__main__":
         main(sys.argv[1:])
     except NotAsWanted as fault:
         sys.exit(f"tests/scripts: {fault}")
+    except subprocess.TimeoutExpired as fault:
+        sys.exit(f"tests/scripts: hangs: {shlex.join(fault.cmd)}")
