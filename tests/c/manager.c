@@ -1,8 +1,8 @@
 /*
- * Stories of a few transactions over a manager, with every answer that is wanted: work that begins again, what is
- * counted, paths, rows that are adopted, a schema that changes, rows by number, limits and watchers. Each is a function
- * that ends the program with status 1 at the first answer that is not as wanted, and else prints its name. What scripts
- * can ask is in tests/scripts.
+ * Stories of a few transactions over a manager, with every answer that is wanted: work that begins again, the last
+ * deadlock, what is counted, paths, adopted rows, a schema that changes, rows by number, limits and watchers. Each is a
+ * function that ends the program with status 1 at the first answer that is not as wanted, and else prints its name.
+ * What scripts can ask is in tests/scripts.
  */
 #include "burlapslate.h"
 #include "memory.h"
@@ -197,6 +197,85 @@ static void of_work_of_one_begin_the_younger_is_the_victim(void) {
 static void a_later_number_counts_as_its_own(void) {
   begin_after_a_deadlock(UINT64_MAX);
   waiter_is_victim(b, a);
+}
+
+/* ------------------------------------------------------------------------------------------------
+ * The last deadlock.
+ */
+
+static bs_deadlock last;
+
+/* On the deadlock a transaction waits for a node in a mode, and for one other transaction alone. */
+static bool is_stuck(size_t place, bs_txn txn, bs_node node, bs_mode mode, bs_txn blocker) {
+  bs_stuck stuck = last.at[place];
+  bs_slots one = { { 0 } };
+  one.words[blocker.slot / 64] = (uint64_t)1 << blocker.slot % 64;
+  return place < last.count && same_txn(stuck.txn, txn) && same_node(stuck.node, node) && stuck.mode == mode &&
+         same_slots(stuck.waits_for, one);
+}
+
+/* Two readers of the root wait to write it; the second is the victim, and both end. */
+static void pair_deadlocks(void) {
+  begin_two();
+  LOCKS(a, db, BS_S);
+  LOCKS(b, db, BS_S);
+  WAITS(a, db, BS_X);
+  QUIET(BS_VICTIM, bs_lock(m, b, db, BS_X, &told));
+  DONE(bs_abort(m, b, &told));
+  WANT(is_granted(a, db, BS_X));
+  QUIET(BS_DONE, bs_commit(m, a, &told));
+}
+
+/* The last deadlock is that of these two, of which the second was the victim. */
+static bool is_of_pair(void) {
+  DONE(bs_last_deadlock(m, &last));
+  return same_txn(last.victim, b) && last.count == 2 && is_stuck(0, a, db, BS_X, b) && is_stuck(1, b, db, BS_X, a);
+}
+
+static void a_deadlock_is_kept_until_the_next(void) {
+  open_manager(BS_AT_BLOCK);
+  ANSWERS(BS_NO_PLACE, bs_last_deadlock(m, &last));
+  pair_deadlocks();
+  WANT(is_transaction(a, 0, 1) && is_transaction(b, 1, 2) && is_of_pair());
+  pair_deadlocks();
+  WANT(is_transaction(a, 0, 3) && is_transaction(b, 1, 4) && is_of_pair());
+  end_manager();
+}
+
+static void a_settled_deadlock_is_kept(void) {
+  open_manager(BS_BY_WATCHER);
+  begin_two();
+  LOCKS(a, db, BS_S);
+  LOCKS(b, db, BS_S);
+  WAITS(a, db, BS_X);
+  WAITS(b, db, BS_X);
+  ANSWERS(BS_NO_PLACE, bs_last_deadlock(m, &last));
+  DONE(bs_settle(m, a, &told));
+  WANT(is_told(b, BS_TOLD_VICTIM) && is_of_pair());
+  end_manager();
+}
+
+/* The first transaction of a ring waits for a fourth too, which waits for none and so is on no cycle. */
+static void a_ring_of_three_is_kept(void) {
+  bs_node g, h;
+  bs_txn d;
+  open_manager(BS_AT_BLOCK);
+  g = DONE(bs_add_inner(m, NULL, 0)).node;
+  h = DONE(bs_add_inner(m, NULL, 0)).node;
+  begin_two();
+  c = begin();
+  d = begin();
+  LOCKS(a, db, BS_X);
+  LOCKS(b, g, BS_S);
+  LOCKS(c, h, BS_X);
+  LOCKS(d, g, BS_S);
+  WAITS(a, g, BS_X);
+  WAITS(b, h, BS_S);
+  QUIET(BS_VICTIM, bs_lock(m, c, db, BS_IX, &told));
+  DONE(bs_last_deadlock(m, &last));
+  WANT(same_txn(last.victim, c) && last.count == 3);
+  WANT(is_stuck(0, a, g, BS_X, b) && is_stuck(1, b, h, BS_S, c) && is_stuck(2, c, db, BS_IX, a));
+  end_manager();
 }
 
 /* ------------------------------------------------------------------------------------------------
@@ -1138,6 +1217,9 @@ static void tell_of_waits(void) {
   TELL(work_since_no_begin_is_the_oldest);
   TELL(of_work_of_one_begin_the_younger_is_the_victim);
   TELL(a_later_number_counts_as_its_own);
+  TELL(a_deadlock_is_kept_until_the_next);
+  TELL(a_settled_deadlock_is_kept);
+  TELL(a_ring_of_three_is_kept);
   TELL(a_new_manager_has_counted_nothing);
   TELL(requests_and_waits_are_counted);
   TELL(refusals_and_questions_are_not_counted);
