@@ -75,6 +75,7 @@ echo "what_is_lent_is_asked_alone"
 
 compile stories -Wl,--wrap=malloc,--wrap=realloc,--wrap=free || exit 1
 timeout 60 "$work/stories" || exit 1
+compile manager -Wl,--wrap=malloc,--wrap=realloc,--wrap=free && timeout 60 "$work/manager" || exit 1
 compile many -Wl,--wrap=malloc,--wrap=realloc,--wrap=free || exit 1
 timeout 100 "$work/many" || exit 1
 compile shared -Wl,--wrap=malloc,--wrap=realloc,--wrap=free || exit 1
