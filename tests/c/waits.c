@@ -785,7 +785,7 @@ static void begin_to_wait(int way, bs_txn txn, bs_node node, struct heard *h, st
 /* Each of two holds a record in X, and the row in S. Each wants the record of the other, or the row in X, in this way.
  * The thread alone ends that: it is asleep when the cycle is closed. */
 static void is_watched(int way) {
-  bool is_slept = way == 7 || way == 8;
+  bool is_slept = way == 7 || way == 8, is_asked = way >= 4 && way <= 6;
   struct sleeper s[2];
   struct heard h[2];
   bs_txn t[2];
@@ -803,8 +803,10 @@ static void is_watched(int way) {
   begin_to_wait(way, t[1], low, &h[1], &s[1]);
   await_condemned(t[1]);
   if (is_slept) BACK(&s[1], BS_VICTIM);
+  if (is_asked) HEARD(&h[1], BS_VICTIM);
   DONE(bs_table_abort(table, t[1], NULL));
   if (is_slept) BACK(&s[0], BS_DONE);
+  if (is_asked) HEARD(&h[0], BS_DONE);
   WANT(doing_of(t[0]) == BS_ACTIVE);
   close_table();
 }
