@@ -1,12 +1,14 @@
 //! Tests alone: sessions of a shared table, in threads. Stories of players that ask, sleep, end each other's waits, look on
 //! and learn notes; steps put to one session and to a manager beside it; closing; watchers that look on while sessions work;
-//! and a crowd of 128, beside a manager: what no clause can say of a call that takes the latch.
+//! a crowd of 128, beside a manager; and crews: what no clause can say of a call that takes the latch.
 #![tactic(auto)]
 
 #[cfg(test)]
 mod actor;
 #[cfg(test)]
 mod alike;
+#[cfg(test)]
+mod crews;
 #[cfg(test)]
 mod crowd;
 #[cfg(test)]
@@ -19,6 +21,8 @@ mod looks;
 mod player;
 #[cfg(test)]
 mod races;
+#[cfg(test)]
+mod rounds;
 #[cfg(test)]
 mod rows;
 #[cfg(test)]

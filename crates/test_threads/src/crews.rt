@@ -1,14 +1,13 @@
-//! Crews: how much they count, what they do at a gate, and how they end where sessions are stopped.
+//! Crews: what they do at a gate, and how they end where sessions are stopped.
 
 ghost use Rattle.std.specs.Prelude.{◌≡◌, ◌+◌, ◌<◌, ◌≤◌, IfOk};
 
 use crate::wanted::same;
 use gl_catalog::{Answer, Command, Manager};
-use gl_crew::{Ended, Field, RecordRounds, Work, crew_over};
+use gl_crew::{CrewFault, Ended, Field, Gate, Point, RecordRounds, Work, crew_over, crew_with};
 use gl_modes::{Mode, NodeId, Refusal};
 use gl_shared::{Naming, Session, Stop};
 use gl_table::{Detect, TxnId};
-use gl_tool::{CrewFault, Gate, Point, crew, crew_with};
 use std::alloc::Global;
 use std::process::Abort;
 use std::sync::{Mutex, MutexGuard, Wait};
@@ -90,17 +89,8 @@ impl Gate for Shut {
     }
 }
 
-/// What a crew counts. It promises nothing, so that what `crew` promises is no part of a test's proof.
-fn counted<R: Threads + Wait + Sync>(
-    rt: &R,
-    alloc: Global,
-    rounds: u32,
-    detect: Detect,
-) -> Result<u64, CrewFault> {
-    crew(rt, alloc, 4, rounds, detect)
-}
-
-/// The same of two sessions behind a gate.
+/// What a crew of two sessions behind a gate counts. It promises nothing, so that what `crew_with` promises is no part
+/// of a test's proof.
 fn counted_behind<G: Gate + Sync, R: Threads + Wait + Sync>(
     rt: &R,
     alloc: Global,
@@ -108,23 +98,6 @@ fn counted_behind<G: Gate + Sync, R: Threads + Wait + Sync>(
     detect: Detect,
 ) -> Result<u64, CrewFault> {
     crew_with(rt, alloc, gate, 2, 1, detect)
-}
-
-/// Four sessions that do a hundred rounds.
-#[test]
-fn all_rounds_are_counted(rt: HostRuntime) {
-    same(
-        &rt,
-        counted(&rt, rt.alloc(), 100, Detect::AtBlock),
-        Ok(2800),
-    );
-    same(
-        &rt,
-        counted(&rt, rt.alloc(), 100, Detect::ByWatcher),
-        Ok(2800),
-    );
-    same(&rt, counted(&rt, rt.alloc(), 1, Detect::AtBlock), Ok(28));
-    same(&rt, counted(&rt, rt.alloc(), 2, Detect::ByWatcher), Ok(56));
 }
 
 /// Two sessions hold their locks at the same time; a crew that runs one after the other does not come
