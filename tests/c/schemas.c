@@ -8,16 +8,9 @@
  *
  *   schemas [DRAWS]   how many times each play draws its work, 6000 where none is given
  *
- * It plays what the crate test_schemas played in Rattle:
- *   - lists.rt, naive.rt        the graph and the manager of plain lists: naive.h, naive.c;
- *   - random_schemas.rt         the draws and the comparisons, with its seeds 1 and 2: here, as `goes_on`;
- *   - tally.rt                  what must be answered to a drop and to an index at least once: here, as `of_drops` and
- *                               `of_indexes`, and that somebody was told that a dropped node is gone;
- *   - wanted.rt                 its comparisons: beside.h.
- * More than that crate it plays both ways of detection and both choices of victims, and `goes_further`: rows, paths,
- * savepoints, escalations, rekeys, cancels, settles and verdicts. In the last two plays an allocation of each command is
- * refused, if it has so many: nothing has changed then, and the command is made again. They play what the program
- * test_growths played in Rattle of a manager and a registry.
+ * The plays have both ways of detection and both choices of victims. Half of them also draw rows, paths, savepoints,
+ * escalations, rekeys, cancels, settles and verdicts (`goes_further`). In the last two an allocation of each command is
+ * refused, if it has so many: nothing has changed then, and the command is made again.
  *
  * It is linked with the calls for memory of memory.h.
  */

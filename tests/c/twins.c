@@ -7,9 +7,7 @@
  *
  *   twins [STEPS]   how many steps each play has, 6000 where none is given
  *
- * It plays what test_manager played in Rattle by work.rt, twins.rt, named.rt, standing.rt, site.rt, act.rt and seen.rt:
- * engines_answer_alike_at_block with the seeds 1 and 2, engines_answer_alike_by_watcher with 3 and 4; and both again
- * with the other choice of victims. By play all that seen.rt lists has come up.
+ * The plays have both ways of detection and both choices of victims. By their end each kind of work has come up.
  */
 #include "burlapslate.h"
 #include "pcg.h"
