@@ -182,8 +182,8 @@ fn a_late_task_and_the_next_path() {
     }
 }
 
-/// The next transaction of the slot was granted a lock, on no path: there is nothing to cancel, whether the late path is
-/// polled again or dropped.
+/// The next transaction of the slot was granted a lock, on no path: there is nothing to cancel, whether the late path
+/// is polled again or dropped.
 #[test]
 fn a_path_of_before_takes_no_cancel() {
     for is_dropped in [false, true] {
