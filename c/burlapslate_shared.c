@@ -747,11 +747,13 @@ bs_reply bs_table_deadline(bs_table *table, bs_txn txn, const struct timespec *u
   return table_leave(table, bs_call_only(BS_DONE));
 }
 
-/* Gives a lock back that was granted at once, for an instant. Nobody waits behind it, since a newcomer passes no queue;
- * but it is not left to that. */
-static void table_give_back_at_once(bs_table *table, bs_txn txn, bs_node node) {
-  bs_reply reply = bs_unlock(&table->manager, txn, node, &table->told);
-  table_wake(table, reply.status, &table->told, false);
+/* Gives a lock back that was granted at once, for an instant. Whom that grants is told with the lock: where a victim was
+ * chosen for it, others may wait behind it. */
+static TABLE_APART void table_give_back_at_once(bs_table *table, bs_txn txn, bs_node node, bs_notices *told) {
+  bs_notices more;
+  bs_reply reply = bs_unlock(&table->manager, txn, node, &more);
+  table_wake(table, reply.status, &more, false);
+  table_tell_too(told, &more);
 }
 
 /* The mode of an ask, without what else it says. */
@@ -773,7 +775,7 @@ static TABLE_IN_LINE bs_reply table_lock_by(bs_table *table, bs_txn txn, bs_node
   bs_reply reply = bs_lock(&table->manager, txn, node, mode, told);
   if (reply.status == BS_WAITING) table_register(table, txn, node, is_instant);
   table_wake(table, reply.status, told, false);
-  if (is_instant && reply.status == BS_DONE) table_give_back_at_once(table, txn, node);
+  if (is_instant && reply.status == BS_DONE) table_give_back_at_once(table, txn, node, told);
   return reply;
 }
 
@@ -800,7 +802,7 @@ static TABLE_IN_LINE bs_reply table_path_by(bs_table *table, bs_txn txn, bs_node
     table_register(table, txn, node, is_instant && table_is_same_node(reply.node, node));
   }
   table_wake(table, reply.status, told, false);
-  if (is_instant && reply.status == BS_DONE) table_give_back_at_once(table, txn, node);
+  if (is_instant && reply.status == BS_DONE) table_give_back_at_once(table, txn, node, told);
   return reply;
 }
 
@@ -821,7 +823,7 @@ static inline bs_reply table_path_now(bs_table *table, bs_txn txn, bs_node node,
 static inline bs_reply table_try_now(bs_table *table, bs_txn txn, bs_node node, bs_mode asked) {
   bool is_instant = table_is_instant(table, txn, node, asked);
   bs_reply reply = bs_try(&table->manager, txn, node, table_mode_of(asked));
-  if (is_instant && reply.status == BS_DONE) table_give_back_at_once(table, txn, node);
+  if (is_instant && reply.status == BS_DONE) table_give_back_at_once(table, txn, node, &table->told);
   return reply;
 }
 
@@ -1328,7 +1330,7 @@ static table_asked *table_enter_to_ask(bs_table *table, bs_txn txn, const struct
 }
 
 /* Leaves behind an ask that waits, where others' ends are to be told before it returns. Its own end, where it comes
- * meanwhile, is its answer. */
+ * meanwhile, is its answer, and else the node for which it waits by then. */
 static TABLE_APART bs_reply table_ask_and_tell(bs_table *table, table_asked *own, bs_reply reply) {
   own->is_inside = true;
   table->to_tell++;
@@ -1338,6 +1340,8 @@ static TABLE_APART bs_reply table_ask_and_tell(bs_table *table, table_asked *own
   if (own->has_ended) {
     reply = own->end;
     table_spare(table, own);
+  } else if (own->kind == TABLE_PATH) {
+    reply.node = own->at; /* It may have gone on to another node. */
   }
   table_was_told(table);
   pthread_mutex_unlock(&table->latch);

@@ -58,6 +58,8 @@ run-forgets-to-wake	s/  table_wake(table, next->reply.status, told, by_name);//
 run-forgets-names	s/  by_name = next->kind .*/  by_name = false;/
 savepoint-is-of-nobody	s/    case BS_DO_RELEASE_SINCE: return bs_release_since(m, txn, c->number, told);/    case BS_DO_RELEASE_SINCE: return bs_release_since(m, txn, c->key, told);/
 instant-stays-held	s/^  table_give_instants_back(table, &granted, told);//
+instant-at-once-forgets-the-victims	/ table_give_back_at_once(bs_table/,/^}/{s/bs_unlock(&table->manager, txn, node, &more)/bs_unlock(\&table->manager, txn, node, told)/;/table_tell_too/d}
+asked-path-answers-where-it-was	s/^    reply.node = own->at;.*//
 instant-stays-held-at-once	s/  if (is_instant \&\& reply.status == BS_DONE) table_give_back_at_once(.*//
 instant-gives-back-what-was-held	/ table_is_instant(const/,/^}/s/ \&\& bs_held(&table->manager, txn, node).mode == BS_NL;/;/
 instant-of-an-ended-wait	s/    table->instantly.words\[i\] &= ~instantly;//

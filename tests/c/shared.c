@@ -3051,6 +3051,35 @@ static void an_instant_in_a_list(void) {
   close_table();
 }
 
+/* Leaves a lock waiting, by a list. */
+static void leave_waiting(bs_txn txn, bs_node node, bs_mode mode) {
+  bs_command lock = bs_do_at(BS_DO_LOCK, txn, node, mode);
+  WANT(bs_table_run(table, &lock, 1) == 0 && lock.reply.status == BS_WAITING);
+}
+
+/* A path in a list, with its node for an instant, for which a victim is chosen above and one at the node: the caller is
+ * told of both, also after the release. */
+static void an_instant_in_a_list_tells_all(void) {
+  bs_command path;
+  bs_node apart, node;
+  bs_txn a, b, c, d;
+  set_up(BS_AT_BLOCK);
+  apart = DONE(bs_table_add_inner(table, NULL, 0)).node;
+  node = DONE(bs_table_add_inner(table, &root, 1)).node;
+  a = begin(), b = begin(), d = begin(), c = begin();
+  DONE(bs_table_lock_path(table, a, node, BS_IX, NULL));
+  DONE(bs_table_lock(table, b, apart, BS_X, NULL));
+  DONE(bs_table_lock(table, d, root, BS_IX, NULL));
+  leave_waiting(a, apart, BS_S);
+  leave_waiting(c, root, BS_SIX);
+  leave_waiting(d, node, BS_X);
+  path = bs_do_at(BS_DO_LOCK_PATH, b, node, BS_IX | BS_INSTANT);
+  path.told = &told;
+  WANT(bs_table_run(table, &path, 1) == 1 && path.reply.mode == BS_IX && locks_of(b) == 2);
+  WANT(told.count == 2 && is_told(0, d, BS_TOLD_VICTIM) && is_told(1, c, BS_TOLD_VICTIM));
+  close_table();
+}
+
 /* ------------------------------------------------------------------------------------------------
  * Watchers.
  */
@@ -3964,6 +3993,7 @@ int main(int count, char **words) {
   TELL(an_instant_falls);
   TELL(an_instant_of_what_is_held);
   TELL(an_instant_in_a_list);
+  TELL(an_instant_in_a_list_tells_all);
   TELL(a_watcher_looks);
   TELL(a_watcher_is_shown_changes);
   TELL(a_ninth_watcher);
