@@ -590,7 +590,7 @@ static void a_path_waits_behind_what_it_passed(bool is_cancelled) {
   WANT(pthread_equal(losers.by, s.thread) && pthread_equal(passers.by, s.thread));
   close_table();
   keeper = set_up_keeper();
-  WAITS(ask_path(&own, caller, child, BS_X));
+  WANT(same_node(WAITS(ask_path(&own, caller, child, BS_X)).node, child));
   waits_for_the_child();
   DONE(is_cancelled ? bs_table_cancel(table, caller, NULL) : bs_table_commit(table, keeper, NULL));
   HEARD_BY_NOW(&own, status);
