@@ -31,6 +31,7 @@ compile() {
   local with=("${libraries[@]}")
   case $1 in
     shared | crowd | asks | waits | own_ends) with=(-I"$top/c" "${libraries[@]:1}") ;;
+    schemas | twins | play) with=("$top/tests/c/naive.c" "${libraries[@]}") ;;
   esac
   # shellcheck disable=SC2086 # CC may have words behind the name.
   $compiler -std=c99 -D_POSIX_C_SOURCE=200809L -pthread -Wall -Wextra -Werror -O1 -I"$headers" -o "$work/$1" \
@@ -75,6 +76,13 @@ echo "what_is_lent_is_asked_alone"
 
 compile stories -Wl,--wrap=malloc,--wrap=realloc,--wrap=free || exit 1
 timeout 60 "$work/stories" || exit 1
+compile manager -Wl,--wrap=malloc,--wrap=realloc,--wrap=free && timeout 60 "$work/manager" || exit 1
+compile schemas -Wl,--wrap=malloc,--wrap=realloc,--wrap=free || exit 1
+timeout 60 "$work/schemas" || exit 1
+compile twins || exit 1
+timeout 60 "$work/twins" || exit 1
+compile play || exit 1
+timeout 60 "$work/play" || exit 1
 compile many -Wl,--wrap=malloc,--wrap=realloc,--wrap=free || exit 1
 timeout 100 "$work/many" || exit 1
 compile shared -Wl,--wrap=malloc,--wrap=realloc,--wrap=free || exit 1

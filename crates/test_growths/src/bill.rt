@@ -1,11 +1,5 @@
 //! What is printed of the plays. Printing takes no memory.
 
-ghost use Rattle.std.specs.Prelude.{◌≤◌};
-
-use crate::scene::Scene;
-use crate::step::Play;
-use crate::store::{Deed, Store};
-use gl_table::Detect;
 use std::alloc::Global;
 
 /// Tells how each play went, and remembers whether all went as wanted.
@@ -33,44 +27,6 @@ impl<'a> Bill<'a> {
         };
         if differs.is_some() || printed.is_err() {
             self.failed = true;
-        }
-    }
-
-    /// Opens a scene for each of these, and tells how the play went in it.
-    pub(crate) fn scenes(&mut self, plays: &[Play]) {
-        for play in plays {
-            self.scene(*play, Detect::AtBlock, 64);
-        }
-    }
-
-    /// Opens a scene with this way of detection, for at most so many transactions, and tells how a play
-    /// went in it.
-    pub(crate) fn scene(&mut self, play: Play, detect: Detect, most: usize)
-        requires some { 1 ≤ most }
-        requires few { most ≤ 128 }
-    {
-        let (name, parts) = play;
-        match Scene::open(self.alloc(), detect, most) {
-            Some(mut scene) => {
-                scene.play(parts);
-                self.tell(name, scene.differs());
-            }
-            None => self.tell(name, Some(0)),
-        }
-    }
-
-    /// Opens a store for each of these, and tells how the play went in it. At its end no row may be
-    /// named.
-    pub(crate) fn stores(&mut self, plays: &[(&str, &[Deed])]) {
-        for (name, deeds) in plays {
-            match Store::open(self.alloc()) {
-                Some(mut store) => {
-                    store.play(deeds);
-                    store.names(0);
-                    self.tell(name, store.watch.differs());
-                }
-                None => self.tell(name, Some(0)),
-            }
         }
     }
 

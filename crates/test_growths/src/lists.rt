@@ -1,20 +1,23 @@
-//! Waits by commands, and whole lists of them.
+//! Lists of commands, none of which wants memory: all that can be refused its room is the list.
 
-use crate::step::{Ask, N1, Play, Row, Step};
-use gl_catalog::Answer;
-use gl_modes::Mode::{IS, IX, NL, S, SIX, X};
-use gl_modes::{NodeId, Refusal};
-use gl_table::{Notice, TxnId};
+ghost use Rattle.std.specs.Prelude.{◌≤◌};
 
-pub(crate) const PLAYS: &[Play] = &[
-    ("manager: a commit grants", &[GRANTS_ON_COMMIT]),
-    ("manager: a held lock is raised", &[RAISES_A_MEMBER]),
-    ("manager: a victim ends a deadlock", &[SETTLES]),
-    ("manager: a refused list applies nothing", &[APPLIES_A_LIST]),
-];
+use crate::bill::Bill;
+use crate::watch::Watch;
+use gl_catalog::{Answer, Command, Manager, Reply, run_commands};
+use gl_modes::Mode::{IX, NL, S};
+use gl_modes::{Mode, NodeId, Refusal};
+use gl_table::{Detect, Notice, TxnId};
+use std::alloc::Global;
 
-/// The play of a table for two transactions, by a watcher.
-pub(crate) const BY_WATCHER: Play = ("manager: a list is answered in order", &[ANSWERS_IN_ORDER]);
+pub(crate) fn play(bill: &mut Bill<'_>) {
+    let differs = answers_in_order(bill.alloc());
+    bill.tell("manager: a list is answered in order", differs);
+    let differs = applies_a_list(bill.alloc());
+    bill.tell("manager: a refused list applies nothing", differs);
+}
+
+const DB: NodeId = NodeId { key: 0, birth: 1 };
 
 const A: TxnId = TxnId { slot: 0, age: 1 };
 
@@ -22,98 +25,120 @@ const B: TxnId = TxnId { slot: 1, age: 2 };
 
 const C: TxnId = TxnId { slot: 2, age: 3 };
 
-const D: TxnId = TxnId { slot: 3, age: 4 };
+/// What is answered to a command, and who alone is told what.
+type Said = (Answer, Option<(TxnId, Notice)>);
 
-/// A root.
-const DB: NodeId = N1;
+/// A manager with a root, each asked for again where it is refused.
+fn open(alloc: Global, detect: Detect, most: usize) -> Option<Manager>
+    requires some { 1 ≤ most }
+    requires few { most ≤ 128 }
+{
+    let mut manager = match Manager::new(alloc, detect, most) {
+        Ok(manager) => manager,
+        Err(_) => Manager::new(alloc, detect, most).ok()?,
+    };
+    if manager.add_inner(&[]).is_err() {
+        manager.add_inner(&[]).ok()?;
+    }
+    Some(manager)
+}
 
-const GRANTS_ON_COMMIT: &[Step] = &[
-    Step::Ask(Ask::Inner(&[]), Answer::Node(DB)),
-    Step::Ask(Ask::Begin, Answer::Begun(A)),
-    Step::Ask(Ask::Begin, Answer::Begun(B)),
-    Step::Ask(Ask::Lock(A, S, DB), Answer::Granted(S)),
-    Step::Ask(Ask::Lock(B, IX, DB), Answer::Waiting),
-    Step::Waiting(B, Some((DB, IX))),
-    Step::Waiting(A, None),
-    Step::Ask(Ask::Commit(B), Answer::Refused(Refusal::TxnWaiting)),
-    Step::Tells(Ask::Commit(A), B, Notice::Granted(DB, IX)),
-    Step::Ask(Ask::Group(DB), Answer::Mode(IX)),
-    Step::Ask(Ask::Try(B, S, DB), Answer::Granted(SIX)),
-    Step::Accepted(7),
-];
+/// Locks the root, again where memory is refused.
+fn asks(manager: &mut Manager, txn: TxnId, mode: Mode) -> Answer {
+    let lock = Command::Lock {
+        txn,
+        node: DB,
+        mode,
+    };
+    match manager.apply(lock).answer {
+        Answer::Refused(Refusal::NoMemory) => manager.apply(lock).answer,
+        answer => answer,
+    }
+}
 
-/// Four members fill the room that a header begins with, so that one more would want memory. A raise may
-/// not.
-const RAISES_A_MEMBER: &[Step] = &[
-    Step::Ask(Ask::Inner(&[]), Answer::Node(DB)),
-    Step::Ask(Ask::Begin, Answer::Begun(A)),
-    Step::Ask(Ask::Begin, Answer::Begun(B)),
-    Step::Ask(Ask::Begin, Answer::Begun(C)),
-    Step::Ask(Ask::Begin, Answer::Begun(D)),
-    Step::Takes(A, IS, &[DB]),
-    Step::Takes(B, IS, &[DB]),
-    Step::Takes(C, IS, &[DB]),
-    Step::Takes(D, IS, &[DB]),
-    Step::Ask(Ask::Lock(A, IX, DB), Answer::Granted(IX)),
-    Step::Ask(Ask::Try(B, IX, DB), Answer::Granted(IX)),
-    Step::Ask(Ask::Try(C, S, DB), Answer::Refused(Refusal::WouldBlock)),
-    Step::Ask(Ask::Lock(A, IS, DB), Answer::Granted(IX)),
-    Step::Ask(Ask::Unlock(B, DB), Answer::Done),
-    Step::Ask(Ask::Lock(A, S, DB), Answer::Granted(SIX)),
-    Step::Ask(Ask::Commit(C), Answer::Done),
-    Step::Ask(Ask::Abort(D), Answer::Done),
-    Step::Ask(Ask::Try(A, X, DB), Answer::Granted(X)),
-    Step::Ask(Ask::Group(DB), Answer::Mode(X)),
-];
+/// Runs a list, which must be answered so. Where its room was refused nothing may have been accepted, and it is run again.
+fn runs(
+    alloc: Global,
+    manager: &mut Manager,
+    commands: &[Command<'_>],
+    wanted: &[Said],
+    watch: &mut Watch,
+) {
+    watch.step();
+    let (accepted, ages) = (manager.accepted(), manager.board().ages);
+    let replies = match run_commands(alloc, manager, commands) {
+        Err(Refusal::NoMemory) => {
+            watch.same(manager.accepted(), accepted);
+            watch.same(manager.board().ages, ages);
+            run_commands(alloc, manager, commands)
+        }
+        replies => replies,
+    };
+    match replies {
+        Ok(replies) => hears(replies.as_slice(), wanted, watch),
+        Err(_) => watch.holds(false),
+    }
+}
 
-const SETTLES: &[Step] = &[
-    Step::Ask(Ask::Inner(&[]), Answer::Node(DB)),
-    Step::Ask(Ask::Begin, Answer::Begun(A)),
-    Step::Ask(Ask::Begin, Answer::Begun(B)),
-    Step::Takes(A, S, &[DB]),
-    Step::Takes(B, S, &[DB]),
-    Step::Ask(Ask::Lock(A, X, DB), Answer::Waiting),
-    Step::Ask(Ask::Lock(B, X, DB), Answer::Victim),
-    Step::Ask(Ask::Settle(A), Answer::Done),
-    Step::Ask(Ask::Cancel(A), Answer::Done),
-    Step::Ask(Ask::Cancel(B), Answer::Refused(Refusal::TxnCondemned)),
-    Step::Ask(Ask::Lock(A, X, DB), Answer::Waiting),
-    Step::Tells(Ask::Abort(B), A, Notice::Granted(DB, X)),
-];
+/// The replies must say this.
+fn hears(replies: &[Reply], wanted: &[Said], watch: &mut Watch) {
+    watch.same(replies.len(), wanted.len());
+    for (reply, (answer, told)) in replies.iter().zip(wanted) {
+        watch.same(reply.answer, *answer);
+        watch.same(reply.told.as_slice().first().copied(), *told);
+        watch.same(reply.told.len(), usize::from(told.is_some()));
+    }
+}
 
-const FOUR: &[Row] = &[
-    (Ask::Begin, Answer::Begun(A), None),
-    (Ask::Begin, Answer::Begun(B), None),
-    (Ask::Begin, Answer::Refused(Refusal::TooManyTxns), None),
-    (Ask::Group(DB), Answer::Mode(NL), None),
-];
+/// Two begin, a third does not.
+fn answers_in_order(alloc: Global) -> Option<u32> {
+    let mut watch = Watch::new();
+    let Some(mut manager) = open(alloc, Detect::ByWatcher, 2) else {
+        return Some(0);
+    };
+    let commands = [
+        Command::Begin,
+        Command::Begin,
+        Command::Begin,
+        Command::Group { node: DB },
+    ];
+    let wanted = [
+        (Answer::Begun(A), None),
+        (Answer::Begun(B), None),
+        (Answer::Refused(Refusal::TooManyTxns), None),
+        (Answer::Mode(NL), None),
+    ];
+    runs(alloc, &mut manager, &commands, &wanted, &mut watch);
+    watch.same(manager.accepted(), 3);
+    watch.same(manager.board().ages[1], 2);
+    watch.differs()
+}
 
-const ANSWERS_IN_ORDER: &[Step] = &[
-    Step::Ask(Ask::Inner(&[]), Answer::Node(DB)),
-    Step::List(FOUR),
-    Step::Accepted(3),
-    Step::Age(1, 2),
-];
-
-const FIVE: &[Row] = &[
-    (Ask::Begin, Answer::Begun(C), None),
-    (Ask::Group(DB), Answer::Mode(S), None),
-    (Ask::Commit(B), Answer::Refused(Refusal::TxnWaiting), None),
-    (
-        Ask::Commit(A),
-        Answer::Done,
-        Some((B, Notice::Granted(DB, IX))),
-    ),
-    (Ask::Held(B, DB), Answer::Mode(IX), None),
-];
-
-/// No command of the list wants memory: all that can be refused its room is the list.
-const APPLIES_A_LIST: &[Step] = &[
-    Step::Ask(Ask::Inner(&[]), Answer::Node(DB)),
-    Step::Ask(Ask::Begin, Answer::Begun(A)),
-    Step::Ask(Ask::Begin, Answer::Begun(B)),
-    Step::Takes(A, S, &[DB]),
-    Step::Ask(Ask::Lock(B, IX, DB), Answer::Waiting),
-    Step::List(FIVE),
-    Step::Accepted(7),
-];
+/// A commit among others grants a wait.
+fn applies_a_list(alloc: Global) -> Option<u32> {
+    let mut watch = Watch::new();
+    let Some(mut manager) = open(alloc, Detect::AtBlock, 64) else {
+        return Some(0);
+    };
+    watch.same(manager.begin(), Ok(A));
+    watch.same(manager.begin(), Ok(B));
+    watch.same(asks(&mut manager, A, S), Answer::Granted(S));
+    watch.same(asks(&mut manager, B, IX), Answer::Waiting);
+    let commands = [
+        Command::Begin,
+        Command::Group { node: DB },
+        Command::Commit { txn: B },
+        Command::Commit { txn: A },
+        Command::Held { txn: B, node: DB },
+    ];
+    let wanted = [
+        (Answer::Begun(C), None),
+        (Answer::Mode(S), None),
+        (Answer::Refused(Refusal::TxnWaiting), None),
+        (Answer::Done, Some((B, Notice::Granted(DB, IX)))),
+        (Answer::Mode(IX), None),
+    ];
+    runs(alloc, &mut manager, &commands, &wanted, &mut watch);
+    watch.same(manager.accepted(), 7);
+    watch.differs()
+}

@@ -2,26 +2,28 @@
 
 use crate::actor::{Act, Entry, acts, escalates_alone};
 use crate::forest::{Forest, add_forest};
-use crate::stage::{enact, new_manager, suspect_on};
-use crate::story::Story;
+use crate::stage::{new_manager, nobody_lives, play_on, suspect_on};
+use crate::story::{Entrant, Flag, Flags, Left, Story};
 use crate::tally::replays;
 use crate::wanted::same;
 use gl_catalog::{Answer, Command, Manager};
 use gl_modes::{Mode, NodeId, Refusal};
-use gl_shared::{Naming, Session, Share, Shared, Watcher};
+use gl_shared::{Naming, Session, Share, Shared, Telling, Watcher};
 use gl_table::{Detect, TxnId};
-use std::alloc::{AllocError, Global};
+use std::alloc::Global;
 use std::env;
 use std::env::VarError;
 use std::process::Abort;
-use std::rt::{Clock, Env};
+use std::rt::Env;
 use std::sync::Wait;
-use std::sync::atomic::{AtomicBool, Ordering};
 use std::test::Fail;
-use std::thread::{Threads, join, map_vec, yield_now};
+use std::thread::{Threads, yield_now};
 
 /// How many commands each session asks at least, where the environment has no other number.
 const COMMANDS: u32 = 200;
+
+/// How many sessions act.
+const ACTORS: usize = 128;
 
 /// Sessions over a forest, each of which asks at least so many commands.
 #[derive(Drop)]
@@ -29,55 +31,6 @@ pub struct Crowd {
     forest: Forest,
     detect: Detect,
     commands: u32,
-}
-
-/// A session before it acts: its share, its number, and how many commands it asks at least.
-#[derive(Drop)]
-struct Seat<N: Naming> {
-    share: Share<N>,
-    number: u64,
-    commands: u32,
-}
-
-/// What a session gives back: its share, and all that it asked.
-#[derive(Drop)]
-struct Left<N: Naming> {
-    share: Share<N>,
-    diary: Vec<Entry>,
-}
-
-fn act_from<N: Naming, R: Wait + Abort>(
-    rt: &R,
-    alloc: Global,
-    table: &Shared<N>,
-    forest: &Forest,
-    seat: Seat<N>,
-) -> Left<N> {
-    let Seat {
-        share,
-        number,
-        commands,
-    } = seat;
-    let (share, diary) = acts(rt, alloc, table, forest, share, number, commands);
-    Left { share, diary }
-}
-
-/// All at once, each in a thread; and then the flag is set.
-fn act_all<N: Naming + Send + Sync, R: Threads + Wait + Abort + Sync>(
-    rt: &R,
-    alloc: Global,
-    table: &Shared<N>,
-    forest: &Forest,
-    seats: Vec<Seat<N>>,
-    ended: &AtomicBool,
-) -> Result<Vec<Left<N>>, AllocError> {
-    let left = map_vec(
-        rt,
-        seats,
-        &|seat: Seat<N>| -> Left<N> { act_from(rt, alloc, table, forest, seat) },
-    );
-    ended.store(true, Ordering::SeqCst);
-    left
 }
 
 /// Settles a suspect, and says what it asked.
@@ -98,12 +51,12 @@ fn settles_all<N: Naming, R: Wait + Abort>(
     table: &Shared<N>,
     share: Share<N>,
     watcher: &mut Watcher<N>,
-    ended: &AtomicBool,
+    flags: &Flags,
 ) -> Left<N> {
     let mut session = Session::new(table, share);
     let mut diary = Vec::new(alloc);
     for _ in rt.forever() {
-        if ended.load(Ordering::SeqCst) {
+        if flags.count(Flag::First) == ACTORS {
             break;
         }
         if let Some(txn) = watcher.look().and_then(|board| suspect_on(&board)) {
@@ -127,20 +80,6 @@ fn escalate_last<N: Naming, R: Wait + Abort>(
     let (share, last) = escalates_alone(rt, alloc, table, forest, share);
     let _ = diary.extend_from_slice(last.as_slice());
     Left { share, diary }
-}
-
-/// A seat for each share.
-fn seat_all<N: Naming>(alloc: Global, shares: Vec<Share<N>>, commands: u32) -> Vec<Seat<N>> {
-    let mut seats = Vec::new(alloc);
-    for (place, share) in shares.into_iter().enumerate() {
-        let seat = Seat {
-            share,
-            number: place as u64,
-            commands,
-        };
-        let _ = seats.push(seat);
-    }
-    seats
 }
 
 /// Parts the shares from what was asked.
@@ -171,29 +110,50 @@ impl Crowd {
         replays(rt, &mut alone, diary);
     }
 
-    /// Plays with the shares and the watchers of a table, and gives the shares back. A manager alone
-    /// answers all that was asked alike.
-    pub fn play<N: Naming + Send + Sync, R: Threads + Wait + Abort + Clock + Sync>(
+    /// Asks what it draws; the one with a watcher settles suspects until all others have ended.
+    pub fn plays<N: Naming, R: Wait + Abort>(
         &self,
         rt: &R,
         alloc: Global,
         table: &Shared<N>,
-        mut shares: Vec<Share<N>>,
-        mut watchers: Vec<Watcher<N>>,
+        entrant: Entrant<N>,
+        flags: &Flags,
+    ) -> Left<N> {
+        let Entrant {
+            share,
+            mut watchers,
+            place,
+        } = entrant;
+        match watchers.pop() {
+            Some(mut watcher) => settles_all(rt, alloc, table, share, &mut watcher, flags),
+            None => {
+                let number = place as u64;
+                let (share, diary) = acts(
+                    rt,
+                    alloc,
+                    table,
+                    &self.forest,
+                    share,
+                    number,
+                    self.commands,
+                );
+                flags.raise(Flag::First);
+                Left { share, diary }
+            }
+        }
+    }
+
+    /// A manager alone answers all that was asked alike; gives the shares back.
+    pub fn ends<N: Naming, R: Wait + Abort>(
+        &self,
+        rt: &R,
+        alloc: Global,
+        table: &Shared<N>,
+        mut left: Vec<Left<N>>,
     ) -> Vec<Share<N>> {
-        let (Some(share), Some(mut watcher)) = (shares.pop(), watchers.pop()) else {
-            return shares;
-        };
-        let seats = seat_all(alloc, shares, self.commands);
-        let ended = AtomicBool::new(false);
-        let (flag, looking, forest) = (&ended, &mut watcher, &self.forest);
-        let (left, settler) = join(
-            rt,
-            move || act_all(rt, alloc, table, forest, seats, flag),
-            move || settles_all(rt, alloc, table, share, looking, flag),
-        );
-        let mut left = left.unwrap_or(Vec::new(alloc));
-        let _ = left.push(escalate_last(rt, alloc, table, forest, settler));
+        if let Some(last) = left.pop() {
+            let _ = left.push(escalate_last(rt, alloc, table, &self.forest, last));
+        }
         let (shares, diaries) = part_all(alloc, left);
         let diary = join_all(alloc, diaries.as_slice());
         self.replay(rt, alloc, diary);
@@ -211,7 +171,7 @@ fn commands_wanted<R: Env + Alloc>(rt: &R) -> Result<u32, Fail> {
 }
 
 /// Plays with 128 sessions. In the end nobody holds anything, and the book has all that was accepted.
-fn play_crowd<R: Threads + Wait + Abort + Clock + Sync>(
+fn play_crowd<R: Threads + Wait + Abort + Sync>(
     rt: &R,
     alloc: Global,
     detect: Detect,
@@ -225,7 +185,16 @@ fn play_crowd<R: Threads + Wait + Abort + Clock + Sync>(
         detect,
         commands,
     };
-    let mut closed = enact(rt, alloc, manager, 129, 1, &Story::Crowd(crowd));
+    let players = ACTORS as u64 + 1;
+    let mut closed = play_on(
+        rt,
+        alloc,
+        manager,
+        Telling::Always,
+        players,
+        &Story::Crowd(crowd),
+    );
+    assert!(rt; nobody_lives(&closed));
     let accepted = closed.manager.accepted();
     same(rt, opening.checked_add(closed.book), Some(accepted));
     assert!(rt; closed.book > 64 * u64::from(commands));

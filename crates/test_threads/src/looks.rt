@@ -1,20 +1,19 @@
 //! Watchers look and learn notes while sessions work.
 
-use crate::stage::{add_root, done, enact, new_manager};
-use crate::story::Story;
-use crate::wanted::same;
+use crate::stage::{new_manager, nobody_lives, play_on};
+use crate::story::{Entrant, Left, Story};
+use crate::wanted::{allowed, same};
 use gl_catalog::{Answer, Command};
 use gl_modes::Mode::X;
 use gl_modes::NodeId;
-use gl_shared::{Grant, Naming, Session, Share, Shared, Watcher};
+use gl_shared::{Grant, Naming, Session, Share, Shared, Telling, Watcher};
 use gl_slots::{SLOTS, Slot, Slots};
 use gl_table::{Detect, TxnId};
 use gl_waits::Board;
-use std::alloc::{AllocError, Global};
+use std::alloc::Global;
 use std::process::Abort;
-use std::rt::Clock;
 use std::sync::Wait;
-use std::thread::{Threads, map_vec};
+use std::thread::Threads;
 
 /// How often each session commits.
 const COMMITS: u32 = 100;
@@ -24,13 +23,6 @@ const COMMITS: u32 = 100;
 pub struct Watched {
     root: NodeId,
     last: u64,
-}
-
-/// Whoever plays: it has a share, and a watcher where it looks.
-#[derive(Drop)]
-struct Player<N: Naming> {
-    share: Share<N>,
-    watcher: Option<Watcher<N>>,
 }
 
 /// The slots in which nobody lives.
@@ -123,7 +115,11 @@ fn works_once<N: Naming, R: Wait + Abort>(rt: &R, session: &mut Session<'_, N>, 
         mode: X,
     };
     same(rt, session.lock(rt, txn, root, X), Ok(granted));
-    done(rt, session, Command::Commit { txn });
+    same(
+        rt,
+        session.ask(rt, Command::Commit { txn }).answer,
+        Answer::Done,
+    );
 }
 
 /// The same again and again.
@@ -140,67 +136,48 @@ fn works<N: Naming, R: Wait + Abort>(
     session.end()
 }
 
-/// Looks on where there is a watcher, and works where there is none.
-fn takes_part<N: Naming, R: Wait + Abort>(
-    rt: &R,
-    table: &Shared<N>,
-    player: Player<N>,
-    story: Watched,
-) -> Share<N> {
-    let Player { share, watcher } = player;
-    match watcher {
-        Some(watcher) => looks_on(rt, table, share, watcher, story.last),
-        None => works(rt, table, share, story.root),
-    }
-}
-
-/// All at once, each in a thread.
-fn take_part_all<N: Naming + Send + Sync, R: Threads + Wait + Abort + Sync>(
-    rt: &R,
-    table: &Shared<N>,
-    players: Vec<Player<N>>,
-    story: Watched,
-) -> Result<Vec<Share<N>>, AllocError> {
-    map_vec(
-        rt,
-        players,
-        &|player: Player<N>| -> Share<N> { takes_part(rt, table, player, story) },
-    )
-}
-
 impl Watched {
-    /// Plays with the shares and the watchers of a table, and gives the shares back.
-    pub fn play<N: Naming + Send + Sync, R: Threads + Wait + Abort + Clock + Sync>(
+    /// Looks on where there is a watcher, and works where there is none.
+    pub fn plays<N: Naming, R: Wait + Abort>(
         &self,
         rt: &R,
         alloc: Global,
         table: &Shared<N>,
-        shares: Vec<Share<N>>,
-        mut watchers: Vec<Watcher<N>>,
-    ) -> Vec<Share<N>> {
-        let story = *self;
-        let mut players = Vec::new(alloc);
-        for share in shares {
-            let player = Player {
-                share,
-                watcher: watchers.pop(),
-            };
-            let _ = players.push(player);
+        entrant: Entrant<N>,
+    ) -> Left<N> {
+        let Entrant {
+            share,
+            mut watchers,
+            place: _,
+        } = entrant;
+        let share = match watchers.pop() {
+            Some(watcher) => looks_on(rt, table, share, watcher, self.last),
+            None => works(rt, table, share, self.root),
+        };
+        Left {
+            share,
+            diary: Vec::new(alloc),
         }
-        let played = take_part_all(rt, table, players, story);
-        played.unwrap_or(Vec::new(alloc))
     }
 }
 
 /// Two look on while four work.
-fn look_on<R: Threads + Wait + Abort + Clock + Sync>(rt: &R, alloc: Global, detect: Detect) {
+fn look_on<R: Threads + Wait + Abort + Sync>(rt: &R, alloc: Global, detect: Detect) {
     let mut manager = new_manager(rt, alloc, detect);
-    let root = add_root(rt, &mut manager);
+    let root = allowed(rt, manager.add_inner(&[]));
     // The root, and of each of four sessions the begins, locks and commits.
     let story = Watched { root, last: 1201 };
-    let closed = enact(rt, alloc, manager, 6, 2, &Story::Watched(story));
+    let closed = play_on(
+        rt,
+        alloc,
+        manager,
+        Telling::Always,
+        6,
+        &Story::Watched(story),
+    );
     same(rt, closed.book, 1200);
     same(rt, closed.manager.accepted(), story.last);
+    assert!(rt; nobody_lives(&closed));
 }
 
 #[test]

@@ -4,22 +4,22 @@ ghost use Rattle.std.specs.Prelude.{◌≡◌, ◌<◌};
 ghost use Rattle.gl_table.specs.Table.{board_of};
 ghost use Rattle.gl_catalog.specs.Manager.{state_of};
 
-use crate::story::Story;
+use crate::alike::prepare;
+use crate::steps::Made;
+use crate::story::{Story, Tale};
 use crate::wanted::{allowed, same};
-use gl_catalog::{Answer, Command, Manager};
-use gl_modes::{Mode, NodeId};
-use gl_shared::{Closed, Naming, NotAll, Parts, Session, Share, Shared, Watcher, gather};
-use gl_table::{Detect, Notice, TxnId};
+use gl_catalog::Manager;
+use gl_shared::{Closed, Naming, NotAll, Parts, Shared, Telling, gather};
+use gl_table::{Detect, TxnId};
 use gl_waits::{Board, SLOTS, suspects, youngest};
 use std::alloc::Global;
 use std::marker::Brand;
 use std::process::Abort;
-use std::rt::Clock;
 use std::sync::Wait;
-use std::thread::{Threads, yield_now};
+use std::thread::Threads;
 
 /// The story on a table with its name.
-fn enact_under_name<N: Naming + Send + Sync, R: Threads + Wait + Abort + Clock + Sync>(
+fn enact_under_name<N: Naming + Send + Sync, R: Threads + Wait + Abort + Sync>(
     rt: &R,
     alloc: Global,
     parts: Parts,
@@ -44,65 +44,104 @@ fn enact_under_name<N: Naming + Send + Sync, R: Threads + Wait + Abort + Clock +
     }
 }
 
-/// Plays a story on a table over this manager, and closes it, where there is memory.
-fn try_on<R: Threads + Wait + Abort + Clock + Sync>(
+/// Plays a story on a table over this manager, whose sessions tell when this says, and closes it, where there is
+/// memory.
+fn try_on<R: Threads + Wait + Abort + Sync>(
     rt: &R,
     alloc: Global,
     manager: Manager,
+    telling: Telling,
     shares: u64,
-    watchers: usize,
     story: &Story,
 ) -> Option<Closed>
-    requires counts { (0 < shares) × (shares < 130) × (0 < watchers) × (watchers < 9) }
+    requires counts { (0 < shares) × (shares < 130) }
 {
-    match Parts::new(rt, alloc, manager, shares, watchers) {
-        Ok(parts) => enact_under_name::<Brand, R>(rt, alloc, parts, story),
+    match Parts::new(rt, alloc, manager, shares, 2) {
+        Ok(parts) => {
+            let parts = parts.with_telling(telling);
+            enact_under_name::<Brand, R>(rt, alloc, parts, story)
+        }
         Err(_) => None,
     }
 }
 
-/// The same, for which there must be memory. Nobody lives then.
-pub fn enact<R: Threads + Wait + Abort + Clock + Sync>(
+/// The same, for which there must be memory.
+pub fn play_on<R: Threads + Wait + Abort + Sync>(
     rt: &R,
     alloc: Global,
     manager: Manager,
+    telling: Telling,
     shares: u64,
-    watchers: usize,
     story: &Story,
 ) -> Closed
-    requires counts { (0 < shares) × (shares < 130) × (0 < watchers) × (watchers < 9) }
+    requires counts { (0 < shares) × (shares < 130) }
 {
-    let closed = try_on(rt, alloc, manager, shares, watchers, story);
+    let before = manager.accepted();
+    let closed = try_on(rt, alloc, manager, telling, shares, story);
     let closed = closed.expect(rt, "no memory, or a share is missing");
-    let board = closed.manager.board();
-    assert!(rt; board.ages == [0; SLOTS] && board.rows == [0; SLOTS]);
+    same(
+        rt,
+        closed.manager.accepted().checked_sub(before),
+        Some(closed.book),
+    );
     closed
+}
+
+/// Whether nobody lives.
+pub fn nobody_lives(closed: &Closed) -> bool {
+    let board = closed.manager.board();
+    board.ages == [0; SLOTS] && board.rows == [0; SLOTS]
+}
+
+/// Tells a tale over a manager in which this was made.
+pub fn tell_over<R: Threads + Wait + Abort + Sync>(
+    rt: &R,
+    alloc: Global,
+    manager: Manager,
+    made: Made,
+    telling: Telling,
+    tale: Tale,
+) {
+    let players = tale.players as u64;
+    let players = if 0 < players && players < 130 {
+        players
+    } else {
+        1
+    };
+    let closed = play_on(
+        rt,
+        alloc,
+        manager,
+        telling,
+        players,
+        &Story::Tale(tale, made),
+    );
+    let counted = tale.counted.unwrap_or(closed.book);
+    let is_over = nobody_lives(&closed) || !tale.is_over;
+    same(
+        rt,
+        (tale.name, closed.book, is_over),
+        (tale.name, counted, true),
+    );
+}
+
+/// Tells tales, each in all of its ways.
+pub fn tell_all<R: Threads + Wait + Abort + Sync>(rt: &R, alloc: Global, tales: &[Tale]) {
+    for tale in tales {
+        for (detect, telling) in tale.by {
+            let mut manager = new_manager(rt, alloc, *detect);
+            let mut made = Made::new();
+            for steps in tale.before {
+                prepare(&mut manager, &mut made, steps);
+            }
+            tell_over(rt, alloc, manager, made, *telling, *tale);
+        }
+    }
 }
 
 /// A manager for 128 transactions at once.
 pub fn new_manager<R: Abort>(rt: &R, alloc: Global, detect: Detect) -> Manager {
     allowed(rt, Manager::new(alloc, detect, 128))
-}
-
-/// A new root.
-pub fn add_root<R: Abort>(rt: &R, manager: &mut Manager) -> NodeId {
-    allowed(rt, manager.add_inner(&[]))
-}
-
-/// A new transaction that holds a node in this mode.
-pub fn begin_with<R: Abort>(rt: &R, manager: &mut Manager, node: NodeId, mode: Mode) -> TxnId {
-    let txn = allowed(rt, manager.begin());
-    same(rt, manager.try_lock(txn, node, mode), Ok(mode));
-    txn
-}
-
-/// Asks a session for what must be done.
-pub fn done<N: Naming, R: Wait + Abort>(
-    rt: &R,
-    session: &mut Session<'_, N>,
-    command: Command<'_>,
-) {
-    same(rt, session.ask(rt, command).answer, Answer::Done);
 }
 
 /// The youngest suspect of a board.
@@ -114,35 +153,4 @@ pub fn suspect_on(board: &Board) -> Option<TxnId> {
         }),
         _ => None,
     }
-}
-
-/// The youngest suspect of the first board that has one, of at most a million looks.
-pub fn youngest_suspect<N: Naming>(watcher: &mut Watcher<N>) -> Option<TxnId> {
-    for _ in 0..1000000u32 {
-        let suspect = watcher.look().and_then(|board| suspect_on(&board));
-        if suspect.is_some() {
-            return suspect;
-        }
-        yield_now();
-    }
-    None
-}
-
-/// Where a watcher is to find deadlocks, settles the youngest suspect, which alone is told.
-pub fn settles<N: Naming, R: Wait + Abort>(
-    rt: &R,
-    table: &Shared<N>,
-    share: Share<N>,
-    watcher: &mut Watcher<N>,
-    detect: Detect,
-    wanted: TxnId,
-) -> Share<N> {
-    let mut session = Session::new(table, share);
-    if detect == Detect::ByWatcher {
-        same(rt, youngest_suspect(watcher), Some(wanted));
-        let reply = session.ask(rt, Command::Settle { txn: wanted });
-        same(rt, reply.answer, Answer::Done);
-        assert!(rt; reply.told.as_slice() == [(wanted, Notice::Victim)].as_slice());
-    }
-    session.end()
 }

@@ -1,29 +1,209 @@
-//! The stories that are told on a stage.
+//! The stories that are told on a stage, and who takes part in them.
 
+use crate::actor::Entry;
+use crate::alike::Alike;
 use crate::crowd::Crowd;
 use crate::looks::Watched;
-use crate::races::{SettledLate, Upgrade};
-use crate::ring::Ring;
-use gl_shared::{Naming, Share, Shared, Watcher};
-use std::alloc::Global;
+use crate::player::{Deed, performs};
+use crate::steps::{Made, Step};
+use gl_shared::{Naming, Share, Shared, Telling, Watcher};
+use gl_table::Detect;
+use std::alloc::{AllocError, Global};
 use std::process::Abort;
-use std::rt::Clock;
 use std::sync::Wait;
-use std::thread::Threads;
+use std::sync::atomic::{AtomicUsize, Ordering};
+use std::thread::{Threads, map_vec, yield_now};
+
+/// A story of a few players: what was done before there were sessions, and what each player does.
+#[derive(Clone, Copy)]
+pub struct Tale {
+    pub name: &'static str,
+    pub before: &'static [&'static [Step]],
+    pub players: usize,
+    pub parts: &'static [&'static [Deed]],
+    /// How many commands of the sessions are counted, where that is said.
+    pub counted: Option<u64>,
+    /// How often the second flag is raised in the end.
+    pub raised: usize,
+    /// Whether nobody lives in the end.
+    pub is_over: bool,
+    /// By which ways of detection and of telling watchers it is played.
+    pub by: &'static [(Detect, Telling)],
+}
+
+impl Tale {
+    /// The deeds of a player: the last part is the last player's, and the others have those before it by their places. Where
+    /// they are more, the rest of them do what the last of these does.
+    pub fn part(&self, place: usize) -> &'static [Deed] {
+        let last = self.parts.len().saturating_sub(1);
+        let at = if place.saturating_add(1) == self.players {
+            last
+        } else {
+            place.min(last.saturating_sub(1))
+        };
+        self.parts.get(at).copied().unwrap_or(&[])
+    }
+}
+
+/// Each way of detection and of telling watchers.
+pub const EACH_WAY: &[(Detect, Telling)] = &[
+    (Detect::AtBlock, Telling::Always),
+    (Detect::ByWatcher, Telling::Always),
+    (Detect::AtBlock, Telling::WhileWaiting),
+    (Detect::ByWatcher, Telling::WhileWaiting),
+];
+
+/// Each way of detection, with watchers that are always told.
+pub const EACH_DETECTION: &[(Detect, Telling)] = &[
+    (Detect::AtBlock, Telling::Always),
+    (Detect::ByWatcher, Telling::Always),
+];
+
+pub const AT_BLOCK: &[(Detect, Telling)] = &[(Detect::AtBlock, Telling::Always)];
+
+pub const BY_WATCHER: &[(Detect, Telling)] = &[(Detect::ByWatcher, Telling::Always)];
 
 /// What sessions do with a table.
 #[derive(Drop)]
 pub enum Story {
-    Upgrade(Upgrade),
-    SettledLate(SettledLate),
-    Watched(Watched),
-    Ring(Ring),
+    Alike(Alike),
     Crowd(Crowd),
+    Tale(Tale, Made),
+    Watched(Watched),
+}
+
+/// Two counters that players raise and wait for.
+#[derive(Drop)]
+pub struct Flags {
+    first: AtomicUsize,
+    second: AtomicUsize,
+}
+
+/// One of the counters.
+#[derive(Clone, Copy)]
+pub enum Flag {
+    First,
+    Second,
+}
+
+impl Flags {
+    fn new() -> Flags {
+        Flags {
+            first: AtomicUsize::new(0),
+            second: AtomicUsize::new(0),
+        }
+    }
+
+    fn counter(&self, flag: Flag) -> &AtomicUsize {
+        match flag {
+            Flag::First => &self.first,
+            Flag::Second => &self.second,
+        }
+    }
+
+    pub fn raise(&self, flag: Flag) {
+        self.counter(flag).fetch_add(1, Ordering::SeqCst);
+    }
+
+    pub fn count(&self, flag: Flag) -> usize {
+        self.counter(flag).load(Ordering::SeqCst)
+    }
+
+    /// Whether the counter was seen at this count, in at most a million turns.
+    pub fn reaches(&self, flag: Flag, count: usize) -> bool {
+        for _ in 0..1000000u32 {
+            if self.count(flag) == count {
+                return true;
+            }
+            yield_now();
+        }
+        false
+    }
+}
+
+/// Whoever takes part, by its place: it has a share, and watchers where it looks.
+#[derive(Drop)]
+pub struct Entrant<N: Naming> {
+    pub share: Share<N>,
+    pub watchers: Vec<Watcher<N>>,
+    pub place: usize,
+}
+
+/// What an entrant gives back: its share, and what it asked where that is compared.
+#[derive(Drop)]
+pub struct Left<N: Naming> {
+    pub share: Share<N>,
+    pub diary: Vec<Entry>,
+}
+
+/// An entrant for each share. The last one has all watchers where few take part, and else each has one while there are any.
+fn entrants<N: Naming>(
+    alloc: Global,
+    shares: Vec<Share<N>>,
+    mut watchers: Vec<Watcher<N>>,
+    has_each: bool,
+) -> Vec<Entrant<N>> {
+    let mut entrants = Vec::new(alloc);
+    let last = shares.len();
+    for (place, share) in shares.into_iter().enumerate() {
+        let count = if has_each {
+            1
+        } else if place + 1 == last {
+            2
+        } else {
+            0
+        };
+        let mut own = Vec::new(alloc);
+        for _ in 0..count {
+            if let Some(watcher) = watchers.pop() {
+                let _ = own.push(watcher);
+            }
+        }
+        let _ = entrants.push(Entrant {
+            share,
+            watchers: own,
+            place,
+        });
+    }
+    entrants
 }
 
 impl Story {
+    /// What one does who takes part.
+    fn takes_part<N: Naming, R: Wait + Abort>(
+        &self,
+        rt: &R,
+        alloc: Global,
+        table: &Shared<N>,
+        entrant: Entrant<N>,
+        flags: &Flags,
+    ) -> Left<N> {
+        match self {
+            Story::Alike(story) => story.plays(rt, alloc, table, entrant),
+            Story::Crowd(story) => story.plays(rt, alloc, table, entrant, flags),
+            Story::Tale(tale, made) => performs(rt, alloc, table, entrant, flags, tale, made),
+            Story::Watched(story) => story.plays(rt, alloc, table, entrant),
+        }
+    }
+
+    /// All at once, each in a thread.
+    fn take_part_all<N: Naming + Send + Sync, R: Threads + Wait + Abort + Sync>(
+        &self,
+        rt: &R,
+        alloc: Global,
+        table: &Shared<N>,
+        entrants: Vec<Entrant<N>>,
+        flags: &Flags,
+    ) -> Result<Vec<Left<N>>, AllocError> {
+        map_vec(
+            rt,
+            entrants,
+            &|entrant: Entrant<N>| -> Left<N> { self.takes_part(rt, alloc, table, entrant, flags) },
+        )
+    }
+
     /// Plays with the shares and the watchers of a table, and gives the shares back.
-    pub fn play<N: Naming + Send + Sync, R: Threads + Wait + Abort + Clock + Sync>(
+    pub fn play<N: Naming + Send + Sync, R: Threads + Wait + Abort + Sync>(
         &self,
         rt: &R,
         alloc: Global,
@@ -31,12 +211,25 @@ impl Story {
         shares: Vec<Share<N>>,
         watchers: Vec<Watcher<N>>,
     ) -> Vec<Share<N>> {
+        let flags = Flags::new();
+        let entrants = entrants(alloc, shares, watchers, matches!(self, Story::Watched(_)));
+        let left = self.take_part_all(rt, alloc, table, entrants, &flags);
+        let left = left.unwrap_or(Vec::new(alloc));
         match self {
-            Story::Upgrade(story) => story.play(rt, table, shares, watchers),
-            Story::SettledLate(story) => story.play(rt, table, shares, watchers),
-            Story::Watched(story) => story.play(rt, alloc, table, shares, watchers),
-            Story::Ring(story) => story.play(rt, alloc, table, shares, watchers),
-            Story::Crowd(story) => story.play(rt, alloc, table, shares, watchers),
+            Story::Crowd(story) => story.ends(rt, alloc, table, left),
+            Story::Tale(tale, _) => {
+                assert!(rt; flags.count(Flag::Second) == tale.raised);
+                shares_of(alloc, left)
+            }
+            _ => shares_of(alloc, left),
         }
     }
+}
+
+fn shares_of<N: Naming>(alloc: Global, left: Vec<Left<N>>) -> Vec<Share<N>> {
+    let mut shares = Vec::new(alloc);
+    for Left { share, diary: _ } in left {
+        let _ = shares.push(share);
+    }
+    shares
 }

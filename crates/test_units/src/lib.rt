@@ -1,9 +1,7 @@
-//! The calls of the lower crates: modes, sets of slots, boards, the lock graph, headers, lists under nodes, and
-//! a script. Each on its happy path, and at its limits.
+//! The calls of the lower crates: modes, sets of slots, boards, the lock graph, headers, and lists under nodes. Each on
+//! its happy path, and at its limits.
 #![tactic(auto)]
 
-#[cfg(test)]
-mod bad_lines;
 #[cfg(test)]
 mod closures;
 #[cfg(test)]
@@ -15,11 +13,7 @@ mod keyed_headers;
 #[cfg(test)]
 mod listed;
 #[cfg(test)]
-mod listings;
-#[cfg(test)]
 mod modes;
-#[cfg(test)]
-mod script;
 #[cfg(test)]
 mod slots;
 #[cfg(test)]

@@ -2,7 +2,7 @@
 //! those of `gltool`. A script stands in `NAME.script`, and the report that it must have in
 //! `NAME.expected`.
 //!
-//! `rows/` has the worked rows of `crates/test_scripts`: those of a manager that detects deadlocks at
+//! `rows/` has the worked rows of `tests/scripts`: those of a manager that detects deadlocks at
 //! block, and of one that leaves them to a watcher.
 
 mod desk;

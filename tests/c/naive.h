@@ -1,0 +1,130 @@
+/*
+ * naive.h: a lock manager of plain lists, for the tests: the nodes with their parents, the transactions with what each
+ * holds, and the waits in the order of their arrival. Everything is looked up anew by a walk through these lists, and
+ * each rule is written as burlapslate.h and docs/LOCKS.md state it. It shares no code with the library, only the types
+ * of its headers, and it takes no memory.
+ *
+ * A command is a bs_command. All kinds are carried out but BS_DO_TRY_PATH and BS_DO_TRY_ROW, which only a shared table
+ * has. The reply is that of the manager's call of the same name.
+ *
+ * Within the lists a node is known by its birth: births are counted from 1. Its key is the one that was freed last, or
+ * a new one.
+ *
+ * A row is a record with a number. It exists as long as some transaction holds it or waits for it.
+ */
+#ifndef NAIVE_H
+#define NAIVE_H
+
+#include "burlapslate_shared.h"
+
+/* How many transactions and nodes can live at once, how many savepoints a transaction keeps, how many names of nodes
+ * that are gone are kept, and how many rows all transactions together can have asked for. */
+enum { NAIVE_TXNS = 128, NAIVE_NODES = 64, NAIVE_MARKS = 4, NAIVE_GONE = 8, NAIVE_ASKED = 2048 };
+
+/* A node: what it is, and its parents. */
+typedef struct naive_node {
+  bs_node name;
+  uint32_t kind; /* of enum bs_kinds */
+  size_t parent_count;
+  uint64_t parents[BS_MOST_PARENTS];
+  bool has_rows;   /* of a file: its records are rows */
+  bool is_adopted; /* of a file: some record came without a transaction */
+  uint64_t file;   /* of an index and of a record */
+  uint64_t index;  /* of an interval */
+  uint64_t from;   /* of an interval: its first key */
+  uint64_t to;     /* of an interval: the first key above it, if it is not the last */
+  bool is_last;    /* of an interval: it has all keys from its first on */
+  size_t key_count;
+  uint64_t keys[BS_MOST_PARENTS]; /* of a record, one for each index of its file */
+  bool is_row;
+  uint64_t number; /* of a row */
+} naive_node;
+
+/* A node that a transaction holds. */
+typedef struct naive_hold {
+  uint64_t node;
+  bs_mode mode;
+} naive_hold;
+
+/* A transaction. Its holds are in the order in which it came to hold them. A savepoint is how many of them there were;
+ * only those are kept that are still good: none of the holds from before them was given back. */
+typedef struct naive_txn {
+  bool lives;
+  bool is_condemned;
+  uint64_t age;
+  uint64_t since; /* the begin since which its work wants to be done */
+  size_t hold_count;
+  naive_hold holds[NAIVE_NODES];
+  size_t mark_count;
+  size_t marks[NAIVE_MARKS];
+  bs_notice box; /* the last notice to it, of kind 0 if there is none since its last lock */
+} naive_txn;
+
+/* A transaction that waits for a node, in its wanted mode. */
+typedef struct naive_wait {
+  uint32_t slot;
+  uint64_t node;
+  bs_mode mode;
+} naive_wait;
+
+/* A row that a transaction has asked for. Those of one transaction stand in the order in which they are let go. */
+typedef struct naive_asked {
+  uint32_t slot;
+  uint64_t file;
+  uint64_t number;
+} naive_asked;
+
+/* The lock manager. Nodes stand by rising births. The waits of a node stand in the order of its queue. */
+typedef struct naive {
+  bs_options limits;
+  size_t node_count;
+  naive_node nodes[NAIVE_NODES];
+  naive_txn txns[NAIVE_TXNS];
+  size_t wait_count;
+  naive_wait waits[NAIVE_TXNS];
+  size_t asked_count;
+  naive_asked asked[NAIVE_ASKED];
+  uint64_t births, begins;
+  size_t key_count, freed_count;
+  size_t freed[NAIVE_NODES]; /* the keys of nodes that are gone, the last one last */
+  size_t gone_count;
+  bs_node gone[NAIVE_GONE]; /* the names of the last nodes that went, the last one last */
+  bs_notices told;          /* by the last command */
+} naive;
+
+/* Begins with no nodes and no transactions. In the options no number is 0, but for the first two. */
+void naive_open(naive *m, const bs_options *options);
+
+/* Carries out a command. Those whom it told are in `told`. */
+bs_reply naive_make(naive *m, const bs_command *c);
+
+/* A savepoint of a transaction, as bs_mark. One that is taken while the transaction waits is not kept. */
+bs_reply naive_mark(naive *m, bs_txn txn);
+
+/* What became of a wait, as bs_verdict. */
+bs_reply naive_verdict(const naive *m, bs_txn txn, bs_node node, bs_mode mode);
+
+/* The transaction of this name; null if it does not live. */
+const naive_txn *naive_txn_of(const naive *m, bs_txn txn);
+
+/* The name of the transaction in a slot. */
+bs_txn naive_txn_in(const naive *m, uint32_t slot);
+
+/* The wait of a transaction; null if it does not wait. */
+const naive_wait *naive_wait_of(const naive *m, bs_txn txn);
+
+/* The node of this name, and of this birth; null if it is gone. */
+const naive_node *naive_find(const naive *m, bs_node name);
+const naive_node *naive_born(const naive *m, uint64_t birth);
+
+/* The node of a row; null if it has none. */
+const naive_node *naive_row(const naive *m, bs_node file, uint64_t number);
+
+/* The mode in which the transaction in a slot holds a node, BS_NL for none; and how many children of it it holds. */
+bs_mode naive_held(const naive *m, uint32_t slot, uint64_t node);
+size_t naive_held_children(const naive *m, uint32_t slot, uint64_t node);
+
+/* For whom the transaction in a slot waits: by slot, whether for that one. */
+void naive_waits_for(const naive *m, uint32_t slot, bool waits[NAIVE_TXNS]);
+
+#endif

@@ -1,0 +1,26 @@
+#!/usr/bin/env bash
+# pages.sh: prints the words of each page, or of pages that share a limit, with the limit. Ends with status 1 if there are
+# more. Whoever adds a section takes one away.
+set -uo pipefail
+cd "$(dirname "$0")/.." || exit 2
+
+status=0
+# limit MOST PAGE..: these pages have so many words at most.
+limit() {
+  local most=$1 words
+  words=$(cat "${@:2}" | wc -w) || exit 2
+  printf '%6d of %6d words: %s\n' "$words" "$most" "${*:2}"
+  [ "$words" -le "$most" ] || { echo "pages.sh: too many words: ${*:2}" >&2 && status=1; }
+}
+
+limit 800 README.md
+limit 5000 docs/ENGINES.md
+limit 5500 docs/LOCKS.md
+limit 7500 docs/SCRIPT.md docs/MODEL.md docs/FIGURES.md
+limit 3500 docs/PROMISES.md
+limit 2500 docs/DECISIONS.md
+limit 900 docs/TESTS.md
+limit 6000 docs/ARCHITECTURE.md CONTRIBUTING.md docs/CHOOSING.md docs/CLUSTERS.md docs/PICTURES.md
+limit 2500 CHANGELOG.md
+limit 32000 README.md CONTRIBUTING.md docs/*.md
+exit "$status"
