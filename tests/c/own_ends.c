@@ -734,8 +734,10 @@ static void the_path_has_gone_on(bool second_fell) {
   WANT(calls == (second_fell ? 2 : 1));
 }
 
-static void has_target(const struct target *t) {
+/* The caller has it, as the reply says; that of a row names its node. */
+static void has_target(const struct target *t, bs_reply reply) {
   bs_node of = t->by == BY_ROW ? ASK(table, bs_row_node, rows, ROW).node : t->is_child ? child : n;
+  WANT(reply.mode == (t->mode & ~(bs_mode)BS_INSTANT) && (t->by != BY_ROW || same_node(reply.node, of)));
   holds(caller, of, (t->mode & BS_INSTANT) != 0 ? BS_NL : t->mode);
 }
 
@@ -745,10 +747,11 @@ static void a_path_that_goes_on_grants_the_caller(void) {
   for (i = 0; i < TARGETS; i++) {
     for (asks = 0; asks < 2; asks++) {
       struct way way = way_to(&targets[i], asks);
+      bs_reply reply;
       set_up_second(&targets[i]);
-      WANT(DONE(make(&way, targets[i].is_child ? child : n, NULL)).mode == mode_of(&way));
+      reply = DONE(make(&way, targets[i].is_child ? child : n, NULL));
       has_no_wait_and_no_call();
-      has_target(&targets[i]);
+      has_target(&targets[i], reply);
       the_path_has_gone_on(true);
       close_table();
     }
@@ -786,9 +789,8 @@ static void a_list_goes_on_behind_a_path(void) {
   for (i = 0; i < TARGETS; i++) {
     set_up_second(&targets[i]);
     WANT(run_three(&targets[i], list) == 3);
-    WANT(list[1].reply.mode == (targets[i].mode & ~(bs_mode)BS_INSTANT));
     has_no_wait_and_no_call();
-    has_target(&targets[i]);
+    has_target(&targets[i], list[1].reply);
     the_path_has_gone_on(true);
     close_table();
   }
@@ -807,9 +809,8 @@ static void a_row_is_asked_for_again_in_its_call(void) {
     if (kind < 2) reply = make(&way, n, NULL);
     else WANT(run_three(&t, list) == 1), ANSWERS(BS_NOT_MADE, list[2].reply), reply = list[1].reply;
     ANSWERS(BS_OTHER_KEYS, reply);
-    WANT(reply.mode == BS_S && same_node(reply.node, ASK(table, bs_row_node, rows, ROW).node));
     has_no_wait_and_no_call();
-    has_target(&t);
+    has_target(&t, reply);
     the_path_has_gone_on(true);
     close_table();
   }
