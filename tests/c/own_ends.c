@@ -371,8 +371,9 @@ static void others_have_ended(bool sleeps) {
 }
 
 static void close_passer(bool sleeps) {
-  close_table();
+  DONE(bs_table_end(table));
   if (sleeps) BACK(&sleeping[0], BS_NO_MANAGER);
+  DONE(bs_table_free(&table));
 }
 
 /* What the caller asks for while the passer is in the queue: n itself, or the child with an intention on n. */
