@@ -388,18 +388,17 @@ fn an_instant_given_back_grants_the_caller() {
         for kind in 0..8 {
             let (is_task, is_asked_by_task, is_late) =
                 (kind & 1 != 0, kind & 2 != 0, kind & 4 != 0);
+            if is_none(each.call, is_task) {
+                continue;
+            }
             let store = Store::new(Detect::AtBlock);
             let mut queue = store.queue(each.passing, is_asked_by_task);
             let ask = queue.ask(each, is_task);
-            if !ask.is_none() {
-                let until = is_late.then(Instant::now);
-                let end = ask.make_alone(&mut queue.caller, until);
-                assert_eq!(end, Ok(RowLocked::Own(each.mode)), "{ask:?}");
-                queue.has_passed(each, ask);
-                queue.others_have_ended(each.passing);
-            } else {
-                store.table.abort(queue.caller.txn()).unwrap();
-            }
+            let until = is_late.then(Instant::now);
+            let end = ask.make_alone(&mut queue.caller, until);
+            assert_eq!(end, Ok(RowLocked::Own(each.mode)), "{ask:?}");
+            queue.has_passed(each, ask);
+            queue.others_have_ended(each.passing);
         }
     }
 }
@@ -515,9 +514,9 @@ fn a_path_is_let_by_twice() {
             let [holder, loser, passer] = more;
             assert_eq!(loser.ended(), Err(Stop::Victim));
             assert_eq!(passer.ended(), Ok(Mode::S));
-            queue.others_have_ended(Mode::S);
-            store.table.abort(holder.name()).unwrap();
+            store.table.abort(holder.name()).unwrap(); // The caller has still what that waits for.
             assert_eq!(holder.ended(), Err(Stop::Refused(Refusal::NoSuchTxn)));
+            queue.others_have_ended(Mode::S);
         }
     }
 }
@@ -636,11 +635,11 @@ const TARGETS: [(Call, bool, Mode); 9] = [
 fn a_path_that_goes_on_grants_the_caller() {
     for target in TARGETS {
         for is_task in [false, true] {
-            let mut scene = goer(target.0, true);
-            let ask = scene.ask(target, is_task, LOW_KEY);
-            if ask.is_none() {
+            if is_none(target.0, is_task) {
                 continue;
             }
+            let mut scene = goer(target.0, true);
+            let ask = scene.ask(target, is_task, LOW_KEY);
             let end = ask.make(&mut scene.caller, None);
             assert_eq!(end, Ok(RowLocked::Own(ask.mode)), "{ask:?}");
             scene.has_gone_on();
@@ -663,11 +662,11 @@ fn a_path_that_goes_on_grants_the_caller() {
 fn a_path_that_goes_on_fells_the_caller() {
     for target in TARGETS {
         for is_task in [false, true] {
-            let mut scene = goer(target.0, false);
-            let ask = scene.ask(target, is_task, LOW_KEY);
-            if ask.is_none() {
+            if is_none(target.0, is_task) {
                 continue;
             }
+            let mut scene = goer(target.0, false);
+            let ask = scene.ask(target, is_task, LOW_KEY);
             assert_eq!(
                 ask.make(&mut scene.caller, None),
                 Err(Stop::Victim),
