@@ -15,6 +15,8 @@
 
 #include "waiters.h"
 
+#include <sched.h>
+
 /* ------------------------------------------------------------------------------------------------
  * The calls that may wait.
  */
@@ -1103,6 +1105,124 @@ static void an_await_that_is_late_lets_others_pass(void) {
 }
 
 /* ------------------------------------------------------------------------------------------------
+ * A crowd of locks for an instant.
+ */
+
+enum { MEMBERS = 16, ROUNDS = 50, LOCKS = 3, CROWDED = 4 };
+
+/* A transaction at a time, in a thread that sleeps for its locks, or that asks for them and sleeps by itself. */
+struct member {
+  bool asks;
+  uint64_t dice;
+  bs_txn txn;
+  bool is_asked; /* the ear guards this, and those below */
+  bs_reply end;
+  pthread_cond_t ended;
+  pthread_t thread;
+};
+
+static bs_node crowded[CROWDED]; /* the last lies under the first two */
+static uint64_t wanted_nodes;    /* so many of these are wanted */
+static pthread_barrier_t crowd_gate;
+
+static void member_hears(void *context, bs_txn txn, bs_reply end, void *word) {
+  struct member *m = (struct member *)word;
+  (void)context;
+  pthread_mutex_lock(&ear);
+  WANT(m->is_asked && same_txn(m->txn, txn));
+  m->is_asked = false;
+  m->end = end;
+  pthread_cond_signal(&m->ended);
+  pthread_mutex_unlock(&ear);
+}
+
+/* An ask, and its end: by its answer, or by the one call of the function. */
+static bs_reply member_asks(struct member *m, bs_node node, bs_mode mode) {
+  bs_reply reply;
+  pthread_mutex_lock(&ear);
+  m->is_asked = true;
+  pthread_mutex_unlock(&ear);
+  reply = bs_table_ask_path(table, m->txn, node, mode, NULL, m);
+  pthread_mutex_lock(&ear);
+  if (reply.status != BS_WAITING) WANT(m->is_asked);
+  while (reply.status == BS_WAITING && m->is_asked) pthread_cond_wait(&m->ended, &ear);
+  if (reply.status == BS_WAITING) reply = m->end;
+  m->is_asked = false;
+  pthread_mutex_unlock(&ear);
+  return reply;
+}
+
+/* Whether a lock for an instant on this node is released again: it is not held, nor is a child of it. */
+static bool is_released(bs_txn txn, bs_node node) {
+  bool is_parent = same_node(node, crowded[0]) || same_node(node, crowded[1]);
+  bool has_child = ASK(table, bs_held, txn, crowded[CROWDED - 1]).mode != BS_NL;
+  return ASK(table, bs_held, txn, node).mode == BS_NL && !(is_parent && has_child);
+}
+
+/* Locks one of the nodes, which all others want too; not, if it was chosen as victim. One that was locked for an
+ * instant is not held after that. */
+static bool member_locks(struct member *m) {
+  static const bs_mode modes[] = { BS_IS, BS_IX, BS_S, BS_SIX, BS_X };
+  bs_node node = crowded[roll(&m->dice, wanted_nodes)];
+  bs_mode mode = modes[roll(&m->dice, 5)], held;
+  bool for_instant = roll(&m->dice, 2) == 0, is_back = for_instant && is_released(m->txn, node);
+  bs_reply reply;
+  if (for_instant) mode |= BS_INSTANT;
+  reply = m->asks ? member_asks(m, node, mode) : bs_table_lock_path(table, m->txn, node, mode, NULL);
+  if (reply.status == BS_VICTIM) return false;
+  DONE(reply);
+  held = ASK(table, bs_held, m->txn, node).mode;
+  WANT(held == (is_back ? BS_NL : reply.mode));
+  return true;
+}
+
+static void *crowds(void *arg) {
+  struct member *m = (struct member *)arg;
+  int round, lock;
+  pthread_barrier_wait(&crowd_gate);
+  for (round = 0; round < ROUNDS; round++) {
+    bool is_victim = false;
+    m->txn = begin();
+    for (lock = 0; lock < LOCKS && !is_victim; lock++) is_victim = !member_locks(m), sched_yield();
+    DONE(is_victim ? bs_table_abort(table, m->txn, NULL) : bs_table_commit(table, m->txn, NULL));
+  }
+  return NULL;
+}
+
+/* Each call has its end, and no lock stays. */
+static void a_crowd(uint32_t detect, size_t askers) {
+  static struct member all[MEMBERS];
+  size_t i;
+  DONE(make_table(&table, detect, BS_YOUNGEST, BS_SLOTS));
+  DONE(bs_table_on_end(table, member_hears, NULL));
+  for (i = 0; i < CROWDED - 1; i++) crowded[i] = add_root();
+  crowded[CROWDED - 1] = DONE(bs_table_add_inner(table, crowded, 2)).node;
+  if (detect == BS_BY_WATCHER) DONE(bs_table_watch_thread(table, 0));
+  WANT(pthread_barrier_init(&crowd_gate, NULL, MEMBERS) == 0);
+  for (i = 0; i < MEMBERS; i++) {
+    memset(&all[i], 0, sizeof all[i]);
+    all[i].asks = i < askers;
+    all[i].dice = 88172645463325252u + i;
+    WANT(pthread_cond_init(&all[i].ended, NULL) == 0);
+    start(&all[i].thread, crowds, &all[i]);
+  }
+  for (i = 0; i < MEMBERS; i++) join(all[i].thread), pthread_cond_destroy(&all[i].ended);
+  WANT(pthread_barrier_destroy(&crowd_gate) == 0);
+  for (i = 0; i < CROWDED; i++) WANT(ASK(table, bs_group, crowded[i]).mode == BS_NL);
+  close_table();
+}
+
+static void a_crowd_of_instants(void) {
+  size_t askers;
+  for (wanted_nodes = CROWDED - 1; wanted_nodes <= CROWDED; wanted_nodes++) {
+    for (askers = 0; askers <= MEMBERS; askers += MEMBERS / 2) {
+      a_crowd(BS_AT_BLOCK, askers);
+      a_crowd(BS_BY_WATCHER, askers);
+    }
+  }
+}
+
+/* ------------------------------------------------------------------------------------------------
  * The whole.
  */
 
@@ -1135,5 +1255,6 @@ int main(int count, char **words) {
   TELL(a_table_ends_within_a_call);
   TELL(a_time_that_comes_lets_others_pass);
   TELL(an_await_that_is_late_lets_others_pass);
+  TELL(a_crowd_of_instants);
   return 0;
 }
