@@ -6,10 +6,10 @@ mod waiters;
 
 use burlapslate::{Detect, Mark, Mode, Node, Refusal, RowLocked, Session, Stop, Txn};
 use std::pin::pin;
-use std::sync::{Arc, Mutex};
+use std::sync::{Arc, Barrier, Mutex};
 use std::task::{Context, Poll, Waker};
 use std::thread;
-use std::time::Instant;
+use std::time::{Duration, Instant};
 use waiters::*;
 
 // ------------------------------------------------------------------------------------------------------------------
@@ -768,4 +768,105 @@ fn an_ask_within_a_waker_is_granted() {
             assert_eq!(other.ended(), end);
         }
     }
+}
+
+// ------------------------------------------------------------------------------------------------------------------
+// A crowd of locks for an instant.
+
+const MEMBERS: u64 = 12;
+const ROUNDS: usize = 40;
+
+/// Small random numbers, by Marsaglia's xorshift: from 0 to below `sides`.
+fn roll(dice: &mut u64, sides: u64) -> u64 {
+    *dice ^= *dice << 13;
+    *dice ^= *dice >> 7;
+    *dice ^= *dice << 17;
+    (*dice >> 16) % sides
+}
+
+/// Locks one of these, which all others want too; not, if the session was chosen as victim. One that was locked for an
+/// instant is not held after that.
+fn locks_one(
+    store: &Store,
+    session: &mut Session<'static>,
+    nodes: &[Node],
+    dice: &mut u64,
+) -> bool {
+    let modes = [Mode::IS, Mode::IX, Mode::S, Mode::SIX, Mode::X];
+    let (node, mode) = (
+        nodes[roll(dice, nodes.len() as u64) as usize],
+        modes[roll(dice, 5) as usize],
+    );
+    let ask = Ask {
+        call: [Lock, ForAnInstant, Path, ForAnInstant][roll(dice, 4) as usize],
+        node,
+        mode,
+        row: store.row,
+        keys: LOW_KEY,
+        is_task: roll(dice, 2) == 0,
+    };
+    let name = session.txn();
+    let is_new = store.held(name, node) == Mode::NL;
+    session.set_deadline(Instant::now().checked_add(PATIENCE));
+    let end = if ask.is_task {
+        block_on(ask.future(session))
+    } else {
+        ask.sleep(session)
+    };
+    match end {
+        Err(stop) => assert_eq!(stop, Stop::Victim, "{ask:?}"),
+        Ok(RowLocked::Own(held)) => {
+            let wanted = if ask.is_instant() && is_new {
+                Mode::NL
+            } else {
+                held
+            };
+            assert_eq!(store.held(name, node), wanted, "{ask:?}");
+        }
+        Ok(RowLocked::OtherKeys(_)) => unreachable!("no row is asked for"),
+    }
+    end.is_ok()
+}
+
+/// Each call has its end, and no lock stays.
+fn crowd(detect: Detect) {
+    let store = Store::new(detect);
+    let nodes = [(); 3].map(|()| store.add_root());
+    let gate = Barrier::new(MEMBERS as usize);
+    thread::scope(|scope| {
+        let watch = (detect == Detect::ByWatcher)
+            .then(|| scope.spawn(|| store.table.watch_over(Duration::ZERO).unwrap()));
+        let members: Vec<_> = (0..MEMBERS)
+            .map(|member| {
+                let (store, gate) = (&store, &gate);
+                scope.spawn(move || {
+                    let mut dice = 88172645463325252 + member;
+                    gate.wait();
+                    for _ in 0..ROUNDS {
+                        let mut session = store.begin();
+                        let all = (0..3).all(|_| {
+                            thread::yield_now();
+                            locks_one(store, &mut session, &nodes, &mut dice)
+                        });
+                        if all {
+                            session.commit().unwrap();
+                        }
+                    }
+                })
+            })
+            .collect();
+        let ends: Vec<_> = members.into_iter().map(|member| member.join()).collect();
+        store.table.end_watch();
+        drop(watch);
+        assert!(ends.into_iter().all(|end| end.is_ok()));
+    });
+    for node in nodes {
+        assert_eq!(store.table.with(|m| m.group(node)), Ok(Mode::NL));
+    }
+}
+
+#[test]
+fn a_crowd_of_instants() {
+    crowd(Detect::AtBlock);
+    crowd(Detect::ByWatcher);
 }
