@@ -354,8 +354,8 @@ fn waker_with(act: &OnDrop) -> Waker {
     unsafe { Waker::from_raw(RawWaker::new(std::ptr::from_ref(act).cast(), &TABLE)) }
 }
 
-/// A cancel that comes while a task goes on from one lock of a path to the next, here as a waker is dropped, is not
-/// lost: there is no such moment, or it reaches the path.
+/// A cancel between two locks of a path of a task, here as a waker is dropped, is not lost: there is no such moment, or
+/// it reaches the path.
 #[test]
 fn a_path_is_cancelled_between_two_locks() {
     let store = Store::new(Detect::AtBlock);

@@ -1,5 +1,5 @@
 //! A call whose own wait ends within it: by a lock for an instant that another transaction gives back, by a path that
-//! goes on, or by what a waker does. The call answers that end, as `tests/c/own_ends.c` has it: a thread does not
+//! continues, or by what a waker does. The call answers that end, as `tests/c/own_ends.c` has it: a thread does not
 //! sleep, and a task is ready, or is woken before its poll returns.
 
 mod waiters;
@@ -65,8 +65,8 @@ fn answer(
         act(own, holder).await;
     });
     let (table, name) = (Arc::clone(&store.table), loser.txn());
-    let falls = Does::waker(move || table.abort(name).unwrap());
-    let mut loser = store.waits(loser, callers_node, Mode::X, falls);
+    let aborts = Does::waker(move || table.abort(name).unwrap());
+    let mut loser = store.waits(loser, callers_node, Mode::X, aborts);
     let ask = Ask {
         call,
         node: store.low,
@@ -179,7 +179,7 @@ fn a_waker_ends_the_callers_wait() {
     is_ended(deletes, Stop::Gone, |call| call == OfRow);
 }
 
-/// A path begins anew, and a wait that still meets the rule of the graph goes on: the row is asked for again then, by
+/// A path begins anew, and a wait that still meets the rule of the graph continues: the row is asked for again then, by
 /// keys that are others.
 #[test]
 fn a_waker_moves_what_the_caller_waits_for() {
@@ -292,8 +292,8 @@ impl Store {
     }
 
     /// The holder has n in IS and waits for the caller. In the queue of n the loser wants X, and the passer after it a
-    /// mode for an instant, which goes with IS. A call of the caller that joins the queue closes a cycle; the loser is
-    /// its youngest, so the passer is granted, and gives back what kept the caller waiting.
+    /// mode for an instant, which is compatible with IS. A call of the caller that joins the queue closes a cycle. Its
+    /// youngest is the loser; so the passer is granted, and gives back what kept the caller waiting.
     fn queue(&self, passing: Mode, is_task: bool) -> Queue {
         let [callers_node, n, n2] = [(); 3].map(|()| self.add_root());
         let child = self.table.add_inner(&[n, n2]).unwrap();
@@ -329,7 +329,7 @@ impl Queue {
         }
     }
 
-    /// What the caller holds behind its call for that.
+    /// What the caller holds after its call for that.
     fn has_passed(&self, passing: &Passing, ask: Ask) {
         let wanted = if ask.is_instant() { Mode::NL } else { ask.mode };
         let name = self.caller.txn();
@@ -441,7 +441,7 @@ fn a_lock_that_an_instant_granted_is_like_any() {
 
 /// A reader holds the child: the path that the passer has let by waits there, and ends there.
 #[test]
-fn a_path_goes_on_to_another_wait() {
+fn a_path_continues_to_another_wait() {
     for is_cancelled in [false, true] {
         for is_task in [false, true] {
             let store = Store::new(Detect::AtBlock);
@@ -522,10 +522,10 @@ fn a_path_is_let_by_twice() {
 }
 
 // ------------------------------------------------------------------------------------------------------------------
-// A path that goes on.
+// A path that continues.
 
 /// A path to the goal waits at its start for the loser, and that for the blocker, which waits for the caller. When the
-/// loser falls the path goes on, to wait for the transaction that reads the goal. So it closes a cycle.
+/// loser is a victim the path continues, and waits for the transaction that reads the goal. So it closes a cycle.
 struct Goer {
     store: Store,
     n: Node,
@@ -540,9 +540,9 @@ struct Goer {
     _path: Arc<Inline>,
 }
 
-/// The second waits for n, or for the row, for its reader, which waits for the path's transaction. By its fall the
-/// caller is granted. Or else the keeper has n and the row in X, and waits for the path's transaction: then the
-/// caller is the youngest on the cycle.
+/// The second waits for n, or for the row, for its reader, which waits for the path's transaction: when the second is a
+/// victim the caller is granted. Or else the keeper has n and the row in X, and waits for the path's transaction: then
+/// the caller is the youngest on the cycle.
 fn goer(call: Call, has_second: bool) -> Goer {
     let store = Store::new(Detect::AtBlock);
     let [callers_node, n, start, side, goers_node] = [(); 5].map(|()| store.add_root());
@@ -609,7 +609,7 @@ impl Goer {
     }
 
     /// The path waits for its goal now; the loser has its end, and so has the second.
-    fn has_gone_on(&mut self) {
+    fn has_continued(&mut self) {
         assert_eq!(self.store.waits_for(self.goer), Some(self.goal));
         assert_eq!(self.loser.ended(), Err(Stop::Victim));
         if let Some(second) = &mut self.second {
@@ -632,7 +632,7 @@ const TARGETS: [(Call, bool, Mode); 9] = [
 ];
 
 #[test]
-fn a_path_that_goes_on_grants_the_caller() {
+fn a_path_that_continues_grants_the_caller() {
     for target in TARGETS {
         for is_task in [false, true] {
             if is_none(target.0, is_task) {
@@ -642,7 +642,7 @@ fn a_path_that_goes_on_grants_the_caller() {
             let ask = scene.ask(target, is_task, LOW_KEY);
             let end = ask.make(&mut scene.caller, None);
             assert_eq!(end, Ok(RowLocked::Own(ask.mode)), "{ask:?}");
-            scene.has_gone_on();
+            scene.has_continued();
             let node = if ask.call == OfRow {
                 scene.store.row_node()
             } else {
@@ -659,7 +659,7 @@ fn a_path_that_goes_on_grants_the_caller() {
 }
 
 #[test]
-fn a_path_that_goes_on_fells_the_caller() {
+fn a_path_that_continues_makes_the_caller_a_victim() {
     for target in TARGETS {
         for is_task in [false, true] {
             if is_none(target.0, is_task) {
@@ -672,7 +672,7 @@ fn a_path_that_goes_on_fells_the_caller() {
                 Err(Stop::Victim),
                 "{ask:?}"
             );
-            scene.has_gone_on();
+            scene.has_continued();
             let again = scene.caller.lock(scene.n, Mode::S);
             assert_eq!(again, Err(Stop::Refused(Refusal::TxnCondemned)));
         }
@@ -687,16 +687,16 @@ fn a_row_is_asked_for_again_in_its_call() {
         let ask = scene.ask((OfRow, false, Mode::S), is_task, HIGH_KEY);
         let end = ask.make(&mut scene.caller, None);
         assert_eq!(end, Ok(RowLocked::OtherKeys(Mode::S)));
-        scene.has_gone_on();
+        scene.has_continued();
         let held = scene.store.held(scene.caller.txn(), scene.store.row_node());
         assert_eq!(held, Mode::S);
     }
 }
 
-/// A path goes on in another's commit, and ends there: it falls itself, or the other falls whose lock it waits for,
-/// and whose waker gives up its locks.
+/// A path continues in another's commit, and ends there. It is a victim itself; or the transaction is whose lock it
+/// waits for, and whose waker gives up its locks.
 #[test]
-fn a_path_ends_in_the_call_that_lets_it_go_on() {
+fn a_path_ends_in_the_call_that_lets_it_continue() {
     for is_younger in [false, true] {
         let store = Store::new(Detect::AtBlock);
         let node = store.add_root();
@@ -718,9 +718,9 @@ fn a_path_ends_in_the_call_that_lets_it_go_on() {
         });
         assert_eq!(store.waits_for(name), Some(store.below));
         let table = Arc::clone(&store.table);
-        let fell = other.txn();
-        let falls = Does::waker(move || table.abort(fell).unwrap());
-        let _other = store.waits(other, node, Mode::X, falls);
+        let other_name = other.txn();
+        let aborts = Does::waker(move || table.abort(other_name).unwrap());
+        let _other = store.waits(other, node, Mode::X, aborts);
         holder.commit().unwrap();
         let wanted = if is_younger {
             Err(Stop::Victim)
@@ -729,7 +729,7 @@ fn a_path_ends_in_the_call_that_lets_it_go_on() {
         };
         assert_eq!(*end.lock().unwrap(), Some(wanted));
         assert_eq!(store.held(name, store.below), Mode::IX);
-        assert_eq!(store.lives(fell), is_younger);
+        assert_eq!(store.lives(other_name), is_younger);
     }
 }
 

@@ -433,7 +433,7 @@ fn a_skip_passes_over_what_moved_or_is_gone() {
         session.try_first(&all),
         Ok(Some(Taken { place: 5, locked }))
     );
-    holder.commit().unwrap(); // The node of row 7 goes with that.
+    holder.commit().unwrap(); // Row 7 has no node after that.
     assert_eq!(
         session.try_first(&all),
         Ok(Some(Taken { place: 1, locked }))

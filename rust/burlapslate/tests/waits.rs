@@ -402,7 +402,7 @@ fn an_instant_of_before_is_nothing_to_a_wait() {
     }
 }
 
-/// A path that waits on its way where an instant came before is cancelled there, and does not go on.
+/// A path that waits on its way where an instant came before is cancelled there, and does not continue.
 #[test]
 fn an_instant_of_before_is_nothing_to_a_way() {
     for is_task in [false, true] {
