@@ -68,8 +68,6 @@ instant-that-came-is-the-next-wait	/table_register(/,/^}/s/^  own->came.status.*
 lock-wakes-before-it-registers	/ table_lock_by(/,/^}/{/table_register(/d;s/^  table_wake(table, .*/&\n  if (reply.status == BS_WAITING) table_register(table, txn, node, is_instant);/}
 path-wakes-before-it-registers	/ table_path_by(/,/^}/{/table_register(/d;s/^  table_wake(table, .*/&\n  if (reply.status == BS_WAITING) table_register(table, txn, node, is_instant \&\& table_is_same_node(reply.node, node));/}
 path-asks-for-its-mode-too-late	/ table_path_by(/,/^}/{/wait->mode/d;s/^  table_wake(table, .*/&\n  wait->mode = bs_call_doing(\&table->manager, txn).mode;/}
-row-wakes-before-it-registers	/ table_ask_row(/,/^}/{/table_register(/d;s/^  table_wake(table, .*/&\n  if (reply.status == BS_WAITING) table_register(table, txn, reply.node, false);/}
-list-wakes-before-it-registers	/ table_run_next(/,/^}/{/table_say_for_what(/d;s/^  table_wake(table, .*/&\n  if (next->reply.status == BS_WAITING) table_say_for_what(table, next, txn);/}
 own-ask-is-not-looked-at	s/^  table->asks->due.words.slot . 64. |= bit;//
 sleeper-looks-not-at-its-own-wait	s/^  if (table->is_due) reply = table_verdict(.*//
 list-does-not-settle	s/^  if (next->reply.status == BS_WAITING \&\& table->is_due) .*//
@@ -256,7 +254,7 @@ found() {
     timeout 60 "$there/waits" 5 >>"$there/said" 2>&1 && timeout 60 "$there/own_ends" 5 >>"$there/said" 2>&1 &&
     timeout 60 "$there/crowd" 4 4 >>"$there/said" 2>&1
   [ $? -eq 1 ] || { echo "faults.sh: $1 was not found"; return 1; }
-  echo "$1: found: $(grep -E ': (hangs|not so|[a-z_]*: not so)' "$there/said" | tail -n 1 | sed 's/^[^ ]*\.c:[0-9]*: //')"
+  echo "$1: found: $(grep -E ': (hangs|not so|[a-z_]*: not so)' "$there/said" | tail -n 1 | sed 's/^[^ ]*\.[ch]:[0-9]*: //')"
 }
 
 status=0

@@ -1,8 +1,8 @@
 /*
- * Stories of a call whose own wait ends within it: by a lock for an instant that others give back, by a path that goes
- * on, or by what the engine's function does for another's end. The call answers that end, and there is no call of the
- * function for it. Each is a function that ends the program with status 1 at the first answer that is not as wanted,
- * and else prints its name.
+ * Stories of a call whose own wait ends within it: by a lock for an instant that others give back, by a path that
+ * continues, or by what the engine's function does for another's end. The call answers that end, and there is no call
+ * of the function for it. Each is a function that ends the program with status 1 at the first answer that is not as
+ * wanted, and else prints its name.
  *
  *   own_ends [SECONDS]   the time that a story may take before it is said to hang, 20 if none is given
  *
@@ -14,6 +14,8 @@
 #include "burlapslate_shared.c"
 
 #include "waiters.h"
+
+#include <sched.h>
 
 /* ------------------------------------------------------------------------------------------------
  * The calls that may wait.
@@ -96,7 +98,7 @@ static void loses(struct heard *h) {
   act();
 }
 
-/* The holder has the record and the row in X, and waits for the loser, who waits for the caller. So a call of the
+/* The holder has the record and the row in X, and waits for the loser, which waits for the caller. So a call of the
  * caller for the record, or for the row, closes a cycle, and the loser is its youngest. The caller may write in the
  * lower intervals, and in the upper ones too if it is wide. */
 static void set_up_cycle(void (*does)(void), bool is_wide) {
@@ -167,7 +169,7 @@ static void deletes(void) {
   DONE(bs_table_delete(table, holder, low, NULL));
 }
 
-/* The holder closes a cycle with the caller, who is younger. */
+/* The holder closes a cycle with the caller, which is younger. */
 static void condemns(void) {
   static struct heard again;
   WAITS(ask(&again, holder, callers_node, BS_S));
@@ -229,7 +231,7 @@ static void a_function_ends_the_callers_wait(void) {
   }
 }
 
-/* The record and the row move. A path begins anew, and a wait that still meets the rule of the graph goes on: the row
+/* The record and the row move. A path begins anew; a wait that still meets the rule of the graph continues: the row
  * is asked for again then, by keys that are others. */
 static void is_granted_elsewhere(const struct way *way) {
   bool is_row = way->by == BY_ROW;
@@ -264,7 +266,7 @@ static void a_function_expires_the_callers_ask(void) {
   }
 }
 
-/* The function does nothing to the caller's wait: that goes on, and its end is told later. */
+/* The function does nothing to the caller's wait: that continues, and its end is told later. */
 static void a_function_leaves_the_caller_waiting(void) {
   static void (*const acts[])(void) = { commits, deletes };
   size_t w, i;
@@ -341,8 +343,8 @@ static void has_wait(struct sleeper *s, struct heard *h, bs_txn txn, bs_node nod
 }
 
 /* The holder has n in IS and waits for the caller. In the queue of n the loser wants X, and the passer after it a mode
- * for an instant, which goes with IS. A call of the caller that joins the queue closes a cycle; the loser is its
- * youngest, so the passer is granted, and gives back what kept the caller waiting. */
+ * for an instant, which is compatible with IS. A call of the caller that joins the queue closes a cycle; the loser is
+ * its youngest, so the passer is granted, and gives back what kept the caller waiting. */
 static void set_up_passer(bs_mode passing, bool sleeps) {
   set_up(BS_AT_BLOCK);
   memset(&own, 0, sizeof own);
@@ -371,8 +373,9 @@ static void others_have_ended(bool sleeps) {
 }
 
 static void close_passer(bool sleeps) {
-  close_table();
+  DONE(bs_table_end(table));
   if (sleeps) BACK(&sleeping[0], BS_NO_MANAGER);
+  DONE(bs_table_free(&table));
 }
 
 /* What the caller asks for while the passer is in the queue: n itself, or the child with an intention on n. */
@@ -391,7 +394,7 @@ static const struct passing passings[] = {
 
 enum { PASSINGS = sizeof passings / sizeof *passings };
 
-/* What the caller holds, behind its call for that. */
+/* What the caller holds after its call for that. */
 static void has_passed(const struct passing *p) {
   bs_mode mode = p->mode & ~(bs_mode)BS_INSTANT;
   holds(caller, p->is_child ? child : n, (p->mode & BS_INSTANT) != 0 ? BS_NL : mode);
@@ -515,7 +518,7 @@ static void a_lock_that_an_instant_granted_is_like_any(void) {
   what_was_granted_so_has_no_later_end(true);
 }
 
-/* A list whose lock is granted so goes on with its next command, if there is one. */
+/* A list whose lock is granted so continues with its next command, if there is one. */
 static void list_passes(const struct passing *p, bool sleeps, size_t count) {
   struct way way;
   bs_command list[3];
@@ -533,7 +536,7 @@ static void list_passes(const struct passing *p, bool sleeps, size_t count) {
   close_passer(sleeps);
 }
 
-static void a_list_goes_on_behind_an_instant(void) {
+static void a_list_continues_after_an_instant(void) {
   size_t i, count;
   for (i = 0; i < PASSINGS; i++) {
     for (count = 2; count <= 3; count++) {
@@ -576,7 +579,7 @@ static void waits_for_the_child(void) {
   holds(caller, n, BS_IX), holds(caller, n2, BS_IX);
 }
 
-static void a_path_waits_behind_what_it_passed(bool is_cancelled) {
+static void a_path_waits_after_it_was_let_by(bool is_cancelled) {
   bs_status status = is_cancelled ? BS_NOT_WAITING : BS_DONE;
   struct sleeper s;
   bs_command list[2];
@@ -590,7 +593,7 @@ static void a_path_waits_behind_what_it_passed(bool is_cancelled) {
   WANT(pthread_equal(losers.by, s.thread) && pthread_equal(passers.by, s.thread));
   close_table();
   keeper = set_up_keeper();
-  WAITS(ask_path(&own, caller, child, BS_X));
+  WANT(same_node(WAITS(ask_path(&own, caller, child, BS_X)).node, child));
   waits_for_the_child();
   DONE(is_cancelled ? bs_table_cancel(table, caller, NULL) : bs_table_commit(table, keeper, NULL));
   HEARD_BY_NOW(&own, status);
@@ -606,9 +609,9 @@ static void a_path_waits_behind_what_it_passed(bool is_cancelled) {
   close_table();
 }
 
-static void a_path_goes_on_to_another_wait(void) {
-  a_path_waits_behind_what_it_passed(false);
-  a_path_waits_behind_what_it_passed(true);
+static void a_path_continues_to_another_wait(void) {
+  a_path_waits_after_it_was_let_by(false);
+  a_path_waits_after_it_was_let_by(true);
 }
 
 /* A passer in the queue of each parent of the child: a path to the child is let by twice in its call. */
@@ -644,15 +647,15 @@ static void a_path_is_let_by_twice(void) {
 }
 
 /* ------------------------------------------------------------------------------------------------
- * A path that goes on.
+ * A path that continues.
  */
 
 static bs_txn goer, blocker, reader, second, keeper;
 static struct heard goers, blockers, readers, seconds, keepers;
 static bs_node start_node, side_node, goal, goers_node; /* the goal lies under the first two */
 
-/* A path to the goal waits at its start for the loser, and that for the blocker, who waits for the caller. When the
- * loser falls the path goes on, to wait for whoever reads the goal. */
+/* A path to the goal waits at its start for the loser, and that for the blocker, which waits for the caller. When
+ * the loser is a victim the path continues, and waits for the transaction that reads the goal. */
 static void set_up_path(bs_txn at_goal) {
   WANT(same_txn(at_goal, caller) || same_txn(at_goal, second));
   DONE(bs_table_lock(table, caller, callers_node, BS_X, NULL));
@@ -695,8 +698,8 @@ static struct way way_to(const struct target *t, bool asks) {
   return way;
 }
 
-/* The second waits for n, or for the row, behind its reader, who waits for the path's transaction: so the path closes a
- * cycle as it goes on, of which the second is the youngest. By its fall the caller is granted. */
+/* The second waits for n, or for the row, for its reader, which waits for the path's transaction: so the path closes a
+ * cycle as it continues, of which the second is the youngest. When that is a victim the caller is granted. */
 static void set_up_second(const struct target *t) {
   set_up(BS_AT_BLOCK);
   memset(&own, 0, sizeof own);
@@ -711,8 +714,8 @@ static void set_up_second(const struct target *t) {
   WAITS(t->by == BY_ROW ? ask_row(&seconds, second, LOW_KEY, BS_X) : ask(&seconds, second, n, BS_X));
 }
 
-/* The keeper has n and the row in X, and waits for the path's transaction: so the path closes a cycle as it goes on, of
- * which the caller is the youngest. */
+/* The keeper has n and the row in X, and waits for the path's transaction: so the path closes a cycle as it continues,
+ * of which the caller is the youngest. */
 static void set_up_keeper_of_all(void) {
   set_up(BS_AT_BLOCK);
   memset(&own, 0, sizeof own);
@@ -725,37 +728,40 @@ static void set_up_keeper_of_all(void) {
   WAITS(ask(&keepers, keeper, goers_node, BS_X));
 }
 
-/* The path waits for its goal now, and the loser has heard its end; so has the second, if it fell too. */
-static void the_path_has_gone_on(bool second_fell) {
+/* The path waits for its goal now, and the loser has heard its end; so has the second, if it is a victim too. */
+static void the_path_has_continued(bool second_is_victim) {
   WANT(waits_for(goer, goal));
   holds(goer, start_node, BS_IX);
   HEARD_BY_NOW(&losers, BS_VICTIM);
-  if (second_fell) HEARD_BY_NOW(&seconds, BS_VICTIM);
-  WANT(calls == (second_fell ? 2 : 1));
+  if (second_is_victim) HEARD_BY_NOW(&seconds, BS_VICTIM);
+  WANT(calls == (second_is_victim ? 2 : 1));
 }
 
-static void has_target(const struct target *t) {
+/* The caller has it, as the reply says; that of a row names its node. */
+static void has_target(const struct target *t, bs_reply reply) {
   bs_node of = t->by == BY_ROW ? ASK(table, bs_row_node, rows, ROW).node : t->is_child ? child : n;
+  WANT(reply.mode == (t->mode & ~(bs_mode)BS_INSTANT) && (t->by != BY_ROW || same_node(reply.node, of)));
   holds(caller, of, (t->mode & BS_INSTANT) != 0 ? BS_NL : t->mode);
 }
 
-static void a_path_that_goes_on_grants_the_caller(void) {
+static void a_path_that_continues_grants_the_caller(void) {
   size_t i;
   int asks;
   for (i = 0; i < TARGETS; i++) {
     for (asks = 0; asks < 2; asks++) {
       struct way way = way_to(&targets[i], asks);
+      bs_reply reply;
       set_up_second(&targets[i]);
-      WANT(DONE(make(&way, targets[i].is_child ? child : n, NULL)).mode == mode_of(&way));
+      reply = DONE(make(&way, targets[i].is_child ? child : n, NULL));
       has_no_wait_and_no_call();
-      has_target(&targets[i]);
-      the_path_has_gone_on(true);
+      has_target(&targets[i], reply);
+      the_path_has_continued(true);
       close_table();
     }
   }
 }
 
-static void a_path_that_goes_on_fells_the_caller(void) {
+static void a_path_that_continues_makes_the_caller_a_victim(void) {
   size_t i;
   int asks;
   for (i = 0; i < TARGETS; i++) {
@@ -765,7 +771,7 @@ static void a_path_that_goes_on_fells_the_caller(void) {
       ANSWERS(BS_VICTIM, make(&way, targets[i].is_child ? child : n, NULL));
       has_no_wait_and_no_call();
       WANT(doing_of(caller) == BS_CONDEMNED);
-      the_path_has_gone_on(false);
+      the_path_has_continued(false);
       close_table();
     }
   }
@@ -780,16 +786,15 @@ static size_t run_three(const struct target *t, bs_command *list) {
   return bs_table_run(table, list, 3);
 }
 
-static void a_list_goes_on_behind_a_path(void) {
+static void a_list_continues_after_a_path(void) {
   bs_command list[3];
   size_t i;
   for (i = 0; i < TARGETS; i++) {
     set_up_second(&targets[i]);
     WANT(run_three(&targets[i], list) == 3);
-    WANT(list[1].reply.mode == (targets[i].mode & ~(bs_mode)BS_INSTANT));
     has_no_wait_and_no_call();
-    has_target(&targets[i]);
-    the_path_has_gone_on(true);
+    has_target(&targets[i], list[1].reply);
+    the_path_has_continued(true);
     close_table();
   }
 }
@@ -807,15 +812,14 @@ static void a_row_is_asked_for_again_in_its_call(void) {
     if (kind < 2) reply = make(&way, n, NULL);
     else WANT(run_three(&t, list) == 1), ANSWERS(BS_NOT_MADE, list[2].reply), reply = list[1].reply;
     ANSWERS(BS_OTHER_KEYS, reply);
-    WANT(reply.mode == BS_S && same_node(reply.node, ASK(table, bs_row_node, rows, ROW).node));
     has_no_wait_and_no_call();
-    has_target(&t);
-    the_path_has_gone_on(true);
+    has_target(&t, reply);
+    the_path_has_continued(true);
     close_table();
   }
 }
 
-static void a_list_ends_where_its_caller_falls(void) {
+static void a_list_ends_where_its_caller_is_a_victim(void) {
   bs_command list[3];
   size_t i;
   for (i = 0; i < TARGETS; i++) {
@@ -824,20 +828,20 @@ static void a_list_ends_where_its_caller_falls(void) {
     ANSWERS(BS_VICTIM, list[1].reply), ANSWERS(BS_NOT_MADE, list[2].reply);
     has_no_wait_and_no_call();
     WANT(doing_of(caller) == BS_CONDEMNED);
-    the_path_has_gone_on(false);
+    the_path_has_continued(false);
     close_table();
   }
 }
 
 /* ------------------------------------------------------------------------------------------------
- * A path that goes on in another's call, and whose next wait ends there.
+ * A path that continues in another's call, and whose next wait ends there.
  */
 
 static bs_txn one, other;
 static struct heard ones, others, holders_wait;
 
 /* The other reads the record and waits for the one, whose path to the record waits for the lower interval: for a holder
- * that reads it, or behind a holder that waits for it in X to a time that is over. */
+ * that reads it, or that waits for it in X ahead of the path, to a time that is over. */
 static void set_up_way(bool is_held, bool is_younger) {
   struct timespec past = moment_in(0);
   bs_node node;
@@ -858,17 +862,17 @@ static void set_up_way(bool is_held, bool is_younger) {
   WAITS(ask(&others, other, node, BS_X));
 }
 
-static void aborts_what_fell(struct heard *h) {
+static void aborts_a_victim(struct heard *h) {
   if (h->end.status == BS_VICTIM) DONE(bs_table_abort(table, h->txn, NULL));
 }
 
-/* The call of the holder, or for it, lets the path go on. The younger of the two falls by that: the one by its own
- * lock, or the other, whose locks the function gives up; and the one is granted then. */
-static void goes_on_in(bool is_held, void (*does)(void), int more_calls) {
+/* The call of the holder, or for it, lets the path continue. The younger of the two is a victim then: the one by its
+ * own lock, or the other, whose locks the function gives up; and the one is granted then. */
+static void continues_in(bool is_held, void (*does)(void), int more_calls) {
   int is_younger;
   for (is_younger = 0; is_younger < 2; is_younger++) {
     set_up_way(is_held, is_younger);
-    others.does = aborts_what_fell;
+    others.does = aborts_a_victim;
     does();
     WANT(calls == (is_younger ? 1 : 2) + more_calls);
     HEARD_BY_NOW(&ones, is_younger ? BS_VICTIM : BS_DONE);
@@ -891,21 +895,21 @@ static void cancels_the_holder(void) {
   DONE(bs_table_cancel(table, holder, NULL));
 }
 
-static void a_path_ends_in_the_call_that_lets_it_go_on(void) {
-  goes_on_in(true, commits, 0);
-  goes_on_in(true, aborts, 0);
-  goes_on_in(true, releases, 0);
-  goes_on_in(true, unlocks_the_interval, 0);
-  goes_on_in(true, runs_an_unlock, 0);
-  goes_on_in(true, runs_a_commit, 0);
-  goes_on_in(false, cancels_the_holder, 1);
-  goes_on_in(false, aborts, 1);
-  goes_on_in(false, expires, 1);
+static void a_path_ends_in_the_call_that_lets_it_continue(void) {
+  continues_in(true, commits, 0);
+  continues_in(true, aborts, 0);
+  continues_in(true, releases, 0);
+  continues_in(true, unlocks_the_interval, 0);
+  continues_in(true, runs_an_unlock, 0);
+  continues_in(true, runs_a_commit, 0);
+  continues_in(false, cancels_the_holder, 1);
+  continues_in(false, aborts, 1);
+  continues_in(false, expires, 1);
 }
 
-/* A path for an instant goes on, and waits for its node behind the second. Another path goes on in the same call, and
- * by it the second falls: the first is granted, given back, and told once. */
-static void two_paths_go_on(bool is_first) {
+/* A path for an instant continues, and waits for its node after the second. Another path continues in the same call,
+ * and makes the second a victim: the first is granted, given back, and told once. */
+static void two_paths_continue(bool is_first) {
   struct heard aheads;
   bs_command list[2];
   bs_node upper;
@@ -940,9 +944,9 @@ static void two_paths_go_on(bool is_first) {
   close_table();
 }
 
-static void a_path_for_an_instant_ends_as_another_goes_on(void) {
-  two_paths_go_on(true);
-  two_paths_go_on(false);
+static void a_path_for_an_instant_ends_as_another_continues(void) {
+  two_paths_continue(true);
+  two_paths_continue(false);
 }
 
 /* ------------------------------------------------------------------------------------------------
@@ -961,7 +965,7 @@ static void asks_within(struct heard *h) {
   holds(caller, n, is_passed ? BS_NL : BS_S);
 }
 
-/* The ends of others that the ask has set off are told behind the function. */
+/* The ends of others that the ask has set off are told after the function. */
 static void an_ask_within_the_function_is_granted(void) {
   int kind;
   for (kind = 0; kind < 2; kind++) {
@@ -980,7 +984,7 @@ static void an_ask_within_the_function_is_granted(void) {
   }
 }
 
-/* An ask that the function makes is left waiting: what others' functions do for it comes behind that, and is told. */
+/* An ask that the function makes is left waiting: what the functions for others do comes after it, and is told. */
 static void asks_and_waits_within(struct heard *h) {
   (void)h;
   WAITS(ask(&own, caller, low, BS_X));
@@ -1063,8 +1067,8 @@ static bs_reply ask_late(int way, const struct timespec *until) {
   return ask_await_until(&own, caller, root, BS_X, until);
 }
 
-/* The time of an ask is over. Those behind it go by in the call that looks at it: one for an instant, and one that the
- * first lets by. */
+/* The time of an ask is over. Those after it in the queue are granted in the call that looks at it: one for an instant,
+ * and one that the first lets by. */
 static void a_time_that_comes_lets_others_pass(void) {
   struct timespec past = moment_in(0);
   int way;
@@ -1082,7 +1086,7 @@ static void a_time_that_comes_lets_others_pass(void) {
   }
 }
 
-/* The same of an await that sleeps to a time that is over: those behind it go by within it. */
+/* The same of an await that sleeps to a time that is over: those after it in the queue are granted within it. */
 static void an_await_that_is_late_lets_others_pass(void) {
   struct timespec past = moment_in(0);
   bs_command command;
@@ -1098,6 +1102,124 @@ static void an_await_that_is_late_lets_others_pass(void) {
   HEARD_BY_NOW(&passers, BS_DONE), HEARD_BY_NOW(&seconds, BS_DONE);
   holds(passer, root, BS_NL), holds(second, root, BS_IX);
   close_table();
+}
+
+/* ------------------------------------------------------------------------------------------------
+ * A crowd of locks for an instant.
+ */
+
+enum { MEMBERS = 16, ROUNDS = 50, LOCKS = 3, CROWDED = 4 };
+
+/* A transaction at a time, in a thread that sleeps for its locks, or that asks for them and sleeps by itself. */
+struct member {
+  bool asks;
+  uint64_t dice;
+  bs_txn txn;
+  bool is_asked; /* the ear guards this, and those below */
+  bs_reply end;
+  pthread_cond_t ended;
+  pthread_t thread;
+};
+
+static bs_node crowded[CROWDED]; /* the last lies under the first two */
+static uint64_t wanted_nodes;    /* so many of these are wanted */
+static pthread_barrier_t crowd_gate;
+
+static void member_hears(void *context, bs_txn txn, bs_reply end, void *word) {
+  struct member *m = (struct member *)word;
+  (void)context;
+  pthread_mutex_lock(&ear);
+  WANT(m->is_asked && same_txn(m->txn, txn));
+  m->is_asked = false;
+  m->end = end;
+  pthread_cond_signal(&m->ended);
+  pthread_mutex_unlock(&ear);
+}
+
+/* An ask, and its end: by its answer, or by the one call of the function. */
+static bs_reply member_asks(struct member *m, bs_node node, bs_mode mode) {
+  bs_reply reply;
+  pthread_mutex_lock(&ear);
+  m->is_asked = true;
+  pthread_mutex_unlock(&ear);
+  reply = bs_table_ask_path(table, m->txn, node, mode, NULL, m);
+  pthread_mutex_lock(&ear);
+  if (reply.status != BS_WAITING) WANT(m->is_asked);
+  while (reply.status == BS_WAITING && m->is_asked) pthread_cond_wait(&m->ended, &ear);
+  if (reply.status == BS_WAITING) reply = m->end;
+  m->is_asked = false;
+  pthread_mutex_unlock(&ear);
+  return reply;
+}
+
+/* Whether a lock for an instant on this node is released again: it is not held, nor is a child of it. */
+static bool is_released(bs_txn txn, bs_node node) {
+  bool is_parent = same_node(node, crowded[0]) || same_node(node, crowded[1]);
+  bool has_child = ASK(table, bs_held, txn, crowded[CROWDED - 1]).mode != BS_NL;
+  return ASK(table, bs_held, txn, node).mode == BS_NL && !(is_parent && has_child);
+}
+
+/* Locks one of the nodes, which all others want too; not, if it was chosen as victim. One that was locked for an
+ * instant is not held after that. */
+static bool member_locks(struct member *m) {
+  static const bs_mode modes[] = { BS_IS, BS_IX, BS_S, BS_SIX, BS_X };
+  bs_node node = crowded[roll(&m->dice, wanted_nodes)];
+  bs_mode mode = modes[roll(&m->dice, 5)], held;
+  bool for_instant = roll(&m->dice, 2) == 0, is_back = for_instant && is_released(m->txn, node);
+  bs_reply reply;
+  if (for_instant) mode |= BS_INSTANT;
+  reply = m->asks ? member_asks(m, node, mode) : bs_table_lock_path(table, m->txn, node, mode, NULL);
+  if (reply.status == BS_VICTIM) return false;
+  DONE(reply);
+  held = ASK(table, bs_held, m->txn, node).mode;
+  WANT(held == (is_back ? BS_NL : reply.mode));
+  return true;
+}
+
+static void *crowds(void *arg) {
+  struct member *m = (struct member *)arg;
+  int round, lock;
+  pthread_barrier_wait(&crowd_gate);
+  for (round = 0; round < ROUNDS; round++) {
+    bool is_victim = false;
+    m->txn = begin();
+    for (lock = 0; lock < LOCKS && !is_victim; lock++) is_victim = !member_locks(m), sched_yield();
+    DONE(is_victim ? bs_table_abort(table, m->txn, NULL) : bs_table_commit(table, m->txn, NULL));
+  }
+  return NULL;
+}
+
+/* Each call has its end, and no lock stays. */
+static void a_crowd(uint32_t detect, size_t askers) {
+  static struct member all[MEMBERS];
+  size_t i;
+  DONE(make_table(&table, detect, BS_YOUNGEST, BS_SLOTS));
+  DONE(bs_table_on_end(table, member_hears, NULL));
+  for (i = 0; i < CROWDED - 1; i++) crowded[i] = add_root();
+  crowded[CROWDED - 1] = DONE(bs_table_add_inner(table, crowded, 2)).node;
+  if (detect == BS_BY_WATCHER) DONE(bs_table_watch_thread(table, 0));
+  WANT(pthread_barrier_init(&crowd_gate, NULL, MEMBERS) == 0);
+  for (i = 0; i < MEMBERS; i++) {
+    memset(&all[i], 0, sizeof all[i]);
+    all[i].asks = i < askers;
+    all[i].dice = 88172645463325252u + i;
+    WANT(pthread_cond_init(&all[i].ended, NULL) == 0);
+    start(&all[i].thread, crowds, &all[i]);
+  }
+  for (i = 0; i < MEMBERS; i++) join(all[i].thread), pthread_cond_destroy(&all[i].ended);
+  WANT(pthread_barrier_destroy(&crowd_gate) == 0);
+  for (i = 0; i < CROWDED; i++) WANT(ASK(table, bs_group, crowded[i]).mode == BS_NL);
+  close_table();
+}
+
+static void a_crowd_of_instants(void) {
+  size_t askers;
+  for (wanted_nodes = CROWDED - 1; wanted_nodes <= CROWDED; wanted_nodes++) {
+    for (askers = 0; askers <= MEMBERS; askers += MEMBERS / 2) {
+      a_crowd(BS_AT_BLOCK, askers);
+      a_crowd(BS_BY_WATCHER, askers);
+    }
+  }
 }
 
 /* ------------------------------------------------------------------------------------------------
@@ -1117,21 +1239,22 @@ int main(int count, char **words) {
   TELL(a_grant_within_the_call_is_answered_as_any);
   TELL(a_function_comes_after_the_callers_end);
   TELL(a_lock_that_an_instant_granted_is_like_any);
-  TELL(a_list_goes_on_behind_an_instant);
+  TELL(a_list_continues_after_an_instant);
   TELL(a_caller_is_not_told_of_itself);
-  TELL(a_path_goes_on_to_another_wait);
+  TELL(a_path_continues_to_another_wait);
   TELL(a_path_is_let_by_twice);
-  TELL(a_path_that_goes_on_grants_the_caller);
-  TELL(a_path_that_goes_on_fells_the_caller);
-  TELL(a_list_goes_on_behind_a_path);
+  TELL(a_path_that_continues_grants_the_caller);
+  TELL(a_path_that_continues_makes_the_caller_a_victim);
+  TELL(a_list_continues_after_a_path);
   TELL(a_row_is_asked_for_again_in_its_call);
-  TELL(a_list_ends_where_its_caller_falls);
-  TELL(a_path_ends_in_the_call_that_lets_it_go_on);
-  TELL(a_path_for_an_instant_ends_as_another_goes_on);
+  TELL(a_list_ends_where_its_caller_is_a_victim);
+  TELL(a_path_ends_in_the_call_that_lets_it_continue);
+  TELL(a_path_for_an_instant_ends_as_another_continues);
   TELL(an_ask_within_the_function_is_granted);
   TELL(an_ask_within_the_function_waits);
   TELL(a_table_ends_within_a_call);
   TELL(a_time_that_comes_lets_others_pass);
   TELL(an_await_that_is_late_lets_others_pass);
+  TELL(a_crowd_of_instants);
   return 0;
 }

@@ -1,10 +1,11 @@
 #!/usr/bin/env bash
 # races.sh [TOOL..]: runs the stories of a shared table, its asks, its waits and a small crowd under tools that look for
 # races: `tsan` (ThreadSanitizer, which sees what is compiled here: the table and the programs), `helgrind` and `drd`
-# (valgrind's, which see the library too); all three where none is named. `short` stands for the stories and the asks, under the first of
-# them that is found, which takes seconds: where none is, it ends with status 77, not tried. races.supp says what is no
-# race. Prints a line for each run. Ends with status 1 where one reports anything or a program fails; a tool that is not
-# found is passed over. RACES_LIBS names other archives than those of tools/c_library.sh, with a space between. CC names another compiler.
+# (valgrind's, which see the library too); all three where none is named. `short` stands for all but the crowd, under the
+# first of them that is found, which takes seconds: where none is, it ends with status 77, not tried. races.supp says
+# what is no race. Prints a line for each run. Ends with status 1 where one reports anything or a program fails; a tool
+# that is not found is passed over. RACES_LIBS names other archives than those of tools/c_library.sh, with a space
+# between. CC names another compiler.
 set -uo pipefail
 top=$(cd "$(dirname "$0")/../.." && pwd) || exit 2
 work=$(mktemp -d) || exit 2

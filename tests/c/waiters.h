@@ -1,5 +1,5 @@
 /*
- * waiters.h: a table with a store, and those who wait in it: threads that sleep, and asks whose ends are heard. The
+ * waiters.h: a table with a store, and its waiters: threads that sleep, and asks whose ends are heard. The
  * program includes memory.h and burlapslate_shared.c before it.
  */
 #ifndef WAITERS_H
@@ -54,7 +54,7 @@ static inline void intend(bs_txn txn, bs_node of_file, bs_node lower, bs_node up
   DONE(bs_table_lock_path(table, txn, upper, BS_IX, NULL));
 }
 
-/* A transaction that may write records and rows, wherever they lie. */
+/* A transaction that may write records and rows in all intervals. */
 static inline bs_txn begin_writer(void) {
   bs_txn txn = begin();
   intend(txn, file, below, above);

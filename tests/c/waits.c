@@ -932,7 +932,7 @@ static void an_instant_of_before_is_nothing_to_a_wait(void) {
   for (way = 0; way < LATER_WAITS; way++) is_nothing_to(way);
 }
 
-/* A path that waits on its way where an instant came before is cancelled there, and does not go on. */
+/* A path that waits on its way where an instant came before is cancelled there, and does not continue. */
 static void an_instant_of_before_is_nothing_to_a_way(void) {
   struct sleeper s;
   struct heard h;

@@ -5,10 +5,10 @@ use burlapslate::{Detect, Mode, Node, Refusal, Row, RowLocked, Session, Stop, Ta
 use std::cell::Cell;
 use std::future::Future;
 use std::pin::{pin, Pin};
-use std::sync::atomic::{AtomicUsize, Ordering};
+use std::sync::atomic::{AtomicBool, AtomicUsize, Ordering};
 use std::sync::mpsc::{channel, Sender};
 use std::sync::{Arc, Barrier, Mutex};
-use std::task::{Context, Poll, Wake, Waker};
+use std::task::{Context, Poll, RawWaker, RawWakerVTable, Wake, Waker};
 use std::thread::{self, Thread};
 use std::time::{Duration, Instant};
 
@@ -337,6 +337,91 @@ fn a_path_is_dropped_on_its_way() {
     }
     assert_eq!(store.table.cancel(name), Err(Refusal::NotWaiting));
     assert_eq!(store.held(name, store.below), Mode::IX);
+    asker.commit().unwrap();
+}
+
+/// What a waker does whenever it, or a copy of it, is dropped.
+struct OnDrop(Box<dyn Fn() + Send + Sync>);
+
+/// A waker that wakes nobody. What it does outlives it.
+fn waker_with(act: &OnDrop) -> Waker {
+    static TABLE: RawWakerVTable = RawWakerVTable::new(
+        |act| RawWaker::new(act, &TABLE),
+        |act| unsafe { (*act.cast::<OnDrop>()).0() },
+        |_| (),
+        |act| unsafe { (*act.cast::<OnDrop>()).0() },
+    );
+    unsafe { Waker::from_raw(RawWaker::new(std::ptr::from_ref(act).cast(), &TABLE)) }
+}
+
+/// A cancel between two locks of a path of a task, here as a waker is dropped, is not lost: there is no such moment, or
+/// it reaches the path.
+#[test]
+fn a_path_is_cancelled_between_two_locks() {
+    let store = Store::new(Detect::AtBlock);
+    let (_bell, waker) = store.bell();
+    let (mut first, mut second, mut asker) = (store.begin(), store.begin(), store.begin());
+    let (name, answer) = (asker.txn(), Arc::new(Mutex::new(None)));
+    let (table, answered) = (Arc::clone(&store.table), Arc::clone(&answer));
+    let is_armed = Arc::new(AtomicBool::new(false));
+    let armed = Arc::clone(&is_armed);
+    let act = OnDrop(Box::new(move || {
+        if armed.swap(false, Ordering::SeqCst) {
+            *answered.lock().unwrap() = Some(table.cancel(name));
+        }
+    }));
+    first.lock_path(store.low, Mode::S).unwrap();
+    second.lock_path(store.below, Mode::S).unwrap();
+    {
+        let mut lock = pin!(asker.lock_path_async(store.low, Mode::X));
+        let own = waker_with(&act);
+        assert_eq!(poll(&mut lock, &own), Poll::Pending);
+        assert_eq!(store.waits_for(name), Some(store.below));
+        second.commit().unwrap();
+        is_armed.store(true, Ordering::SeqCst);
+        let polled = poll(&mut lock, &own);
+        let cancelled = answer.lock().unwrap().take();
+        is_armed.store(false, Ordering::SeqCst);
+        assert_eq!(
+            cancelled.unwrap_or_else(|| store.table.cancel(name)),
+            Ok(())
+        );
+        let end = if polled.is_pending() {
+            poll(&mut lock, &waker)
+        } else {
+            polled
+        };
+        assert_eq!(end, Poll::Ready(Err(Stop::Cancelled)));
+    }
+    assert_eq!(store.waits_for(name), None);
+    assert_eq!(store.held(name, store.low), Mode::NL);
+    assert_eq!(store.table.cancel(name), Err(Refusal::NotWaiting));
+}
+
+/// The future of a path is leaked where it was granted on its way: it counts as a path that continues, which a cancel
+/// ends, until the session waits again. The next wait is one like any other.
+#[test]
+fn a_path_is_leaked_on_its_way() {
+    let store = Store::new(Detect::AtBlock);
+    let (_bell, waker) = store.bell();
+    let (mut first, mut second, mut asker) = (store.begin(), store.begin(), store.begin());
+    let name = asker.txn();
+    first.lock_path(store.below, Mode::S).unwrap();
+    second.lock_path(store.above, Mode::S).unwrap();
+    let mut path = Box::pin(asker.lock_path_async(store.low, Mode::X));
+    assert_eq!(poll(&mut path.as_mut(), &waker), Poll::Pending);
+    std::mem::forget(path);
+    first.commit().unwrap();
+    assert_eq!(store.table.cancel(name), Ok(()));
+    {
+        let mut lock = pin!(asker.lock_async(store.above, Mode::IX));
+        assert_eq!(poll(&mut lock, &waker), Poll::Pending);
+        assert_eq!(store.waits_for(name), Some(store.above));
+        second.commit().unwrap();
+        assert_eq!(store.table.cancel(name), Err(Refusal::NotWaiting));
+        assert_eq!(poll(&mut lock, &waker), Poll::Ready(Ok(Mode::IX)));
+    }
+    assert_eq!(store.table.cancel(name), Err(Refusal::NotWaiting));
     asker.commit().unwrap();
 }
 

@@ -9,16 +9,29 @@
 mod common;
 
 use burlapslate::{
-    Detect, Keep, Manager, Mode, Node, Notice, Refusal, Row, RowAsked, RowLocked, Stop, Table,
-    Tried, Txn, SLOTS,
+    Detect, Keep, Manager, Mode, Node, Notice, Refusal, Row, RowAsked, RowLocked, Session, Stop,
+    Table, Tried, Txn, SLOTS,
 };
 use common::{at_block, begin, grant, manager, store, wait};
 use std::cell::Cell;
 use std::ffi::c_void;
+use std::future::Future;
+use std::mem::forget;
 use std::ptr::null_mut;
 use std::sync::atomic::{AtomicBool, Ordering};
+use std::sync::Arc;
+use std::task::{Context, Poll, Wake, Waker};
 use std::thread;
-use std::time::Duration;
+use std::time::{Duration, Instant};
+
+/// How long a test waits for what is to come.
+const PATIENCE: Duration = Duration::from_secs(20);
+
+struct Nobody;
+
+impl Wake for Nobody {
+    fn wake(self: Arc<Nobody>) {}
+}
 
 /// Which growths of a thread are refused.
 #[derive(Clone, Copy, PartialEq, Debug)]
@@ -330,6 +343,69 @@ fn who_watches_without_memory_settles_once() {
         one_falls(table, root);
         table.end_watch();
     });
+}
+
+/// A task of this session asks for X on the root, and is left waiting. Whether a growth was refused then, which is that
+/// of the board alone; a board that takes the memory of an older one needs none.
+fn wait_unshown(session: &mut Session<'_>, root: Node) -> bool {
+    let waker = Waker::from(Arc::new(Nobody));
+    let mut context = Context::from_waker(&waker);
+    let mut n = 0;
+    loop {
+        n += 1;
+        let mut lock = Box::pin(session.lock_async(root, Mode::X));
+        let (polled, left) = refusing(Refused::Nth(n), || lock.as_mut().poll(&mut context));
+        if polled.is_pending() {
+            forget(lock); // The session waits on.
+            return left == Refused::None;
+        }
+        assert!(polled == Poll::Ready(Err(Stop::Refused(Refusal::NoMemory))));
+    }
+}
+
+/// A watch ends with this, also where a test has failed.
+struct EndsWatch<'t>(&'t Table);
+
+impl Drop for EndsWatch<'_> {
+    fn drop(&mut self) {
+        self.0.end_watch();
+    }
+}
+
+/// Whether the board of the last wait could not be shown. The deadlock is ended all the same.
+fn a_watch_ends_it() -> bool {
+    let table = &Table::new(Detect::ByWatcher, SLOTS).unwrap();
+    let root = table.add_inner(&[]).unwrap();
+    let (mut older, mut younger) = (table.begin().unwrap(), table.begin().unwrap());
+    for session in [&mut older, &mut younger] {
+        session.lock(root, Mode::S).unwrap();
+    }
+    let name = younger.txn();
+    thread::scope(|scope| {
+        scope.spawn(|| table.watch_over(Duration::ZERO).unwrap());
+        let _ends = EndsWatch(table);
+        let waits = scope.spawn(move || older.lock_timeout(root, Mode::X, PATIENCE));
+        while table.with(|m| m.counters().waited) == 0 {
+            thread::yield_now();
+        }
+        let is_unshown = wait_unshown(&mut younger, root);
+        let limit = Instant::now() + PATIENCE;
+        while table.with(|m| m.waiting(name)).is_some() && Instant::now() < limit {
+            thread::sleep(Duration::from_micros(50));
+        }
+        let condemned = Err(Stop::Refused(Refusal::TxnCondemned));
+        assert_eq!(younger.lock(root, Mode::S), condemned);
+        younger.abort();
+        assert_eq!(waits.join().unwrap(), Ok(Mode::X));
+        is_unshown
+    })
+}
+
+/// The one that watches reads a board that could not be shown, for want of memory.
+#[test]
+fn a_watch_takes_no_old_board() {
+    let unshown = (0..20).filter(|_| a_watch_ends_it()).count();
+    assert!(unshown > 0);
 }
 
 #[test]

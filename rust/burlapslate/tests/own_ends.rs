@@ -1,15 +1,15 @@
 //! A call whose own wait ends within it: by a lock for an instant that another transaction gives back, by a path that
-//! goes on, or by what a waker does. The call answers that end, as `tests/c/own_ends.c` has it: a thread does not
+//! continues, or by what a waker does. The call answers that end, as `tests/c/own_ends.c` has it: a thread does not
 //! sleep, and a task is ready, or is woken before its poll returns.
 
 mod waiters;
 
 use burlapslate::{Detect, Mark, Mode, Node, Refusal, RowLocked, Session, Stop, Txn};
 use std::pin::pin;
-use std::sync::{Arc, Mutex};
+use std::sync::{Arc, Barrier, Mutex};
 use std::task::{Context, Poll, Waker};
 use std::thread;
-use std::time::Instant;
+use std::time::{Duration, Instant};
 use waiters::*;
 
 // ------------------------------------------------------------------------------------------------------------------
@@ -65,8 +65,8 @@ fn answer(
         act(own, holder).await;
     });
     let (table, name) = (Arc::clone(&store.table), loser.txn());
-    let falls = Does::waker(move || table.abort(name).unwrap());
-    let mut loser = store.waits(loser, callers_node, Mode::X, falls);
+    let aborts = Does::waker(move || table.abort(name).unwrap());
+    let mut loser = store.waits(loser, callers_node, Mode::X, aborts);
     let ask = Ask {
         call,
         node: store.low,
@@ -179,7 +179,7 @@ fn a_waker_ends_the_callers_wait() {
     is_ended(deletes, Stop::Gone, |call| call == OfRow);
 }
 
-/// A path begins anew, and a wait that still meets the rule of the graph goes on: the row is asked for again then, by
+/// A path begins anew, and a wait that still meets the rule of the graph continues: the row is asked for again then, by
 /// keys that are others.
 #[test]
 fn a_waker_moves_what_the_caller_waits_for() {
@@ -292,8 +292,8 @@ impl Store {
     }
 
     /// The holder has n in IS and waits for the caller. In the queue of n the loser wants X, and the passer after it a
-    /// mode for an instant, which goes with IS. A call of the caller that joins the queue closes a cycle; the loser is
-    /// its youngest, so the passer is granted, and gives back what kept the caller waiting.
+    /// mode for an instant, which is compatible with IS. A call of the caller that joins the queue closes a cycle. Its
+    /// youngest is the loser; so the passer is granted, and gives back what kept the caller waiting.
     fn queue(&self, passing: Mode, is_task: bool) -> Queue {
         let [callers_node, n, n2] = [(); 3].map(|()| self.add_root());
         let child = self.table.add_inner(&[n, n2]).unwrap();
@@ -329,7 +329,7 @@ impl Queue {
         }
     }
 
-    /// What the caller holds behind its call for that.
+    /// What the caller holds after its call for that.
     fn has_passed(&self, passing: &Passing, ask: Ask) {
         let wanted = if ask.is_instant() { Mode::NL } else { ask.mode };
         let name = self.caller.txn();
@@ -388,18 +388,17 @@ fn an_instant_given_back_grants_the_caller() {
         for kind in 0..8 {
             let (is_task, is_asked_by_task, is_late) =
                 (kind & 1 != 0, kind & 2 != 0, kind & 4 != 0);
+            if is_none(each.call, is_task) {
+                continue;
+            }
             let store = Store::new(Detect::AtBlock);
             let mut queue = store.queue(each.passing, is_asked_by_task);
             let ask = queue.ask(each, is_task);
-            if !ask.is_none() {
-                let until = is_late.then(Instant::now);
-                let end = ask.make_alone(&mut queue.caller, until);
-                assert_eq!(end, Ok(RowLocked::Own(each.mode)), "{ask:?}");
-                queue.has_passed(each, ask);
-                queue.others_have_ended(each.passing);
-            } else {
-                store.table.abort(queue.caller.txn()).unwrap();
-            }
+            let until = is_late.then(Instant::now);
+            let end = ask.make_alone(&mut queue.caller, until);
+            assert_eq!(end, Ok(RowLocked::Own(each.mode)), "{ask:?}");
+            queue.has_passed(each, ask);
+            queue.others_have_ended(each.passing);
         }
     }
 }
@@ -442,7 +441,7 @@ fn a_lock_that_an_instant_granted_is_like_any() {
 
 /// A reader holds the child: the path that the passer has let by waits there, and ends there.
 #[test]
-fn a_path_goes_on_to_another_wait() {
+fn a_path_continues_to_another_wait() {
     for is_cancelled in [false, true] {
         for is_task in [false, true] {
             let store = Store::new(Detect::AtBlock);
@@ -515,18 +514,18 @@ fn a_path_is_let_by_twice() {
             let [holder, loser, passer] = more;
             assert_eq!(loser.ended(), Err(Stop::Victim));
             assert_eq!(passer.ended(), Ok(Mode::S));
-            queue.others_have_ended(Mode::S);
-            store.table.abort(holder.name()).unwrap();
+            store.table.abort(holder.name()).unwrap(); // The caller has still what that waits for.
             assert_eq!(holder.ended(), Err(Stop::Refused(Refusal::NoSuchTxn)));
+            queue.others_have_ended(Mode::S);
         }
     }
 }
 
 // ------------------------------------------------------------------------------------------------------------------
-// A path that goes on.
+// A path that continues.
 
 /// A path to the goal waits at its start for the loser, and that for the blocker, which waits for the caller. When the
-/// loser falls the path goes on, to wait for the transaction that reads the goal. So it closes a cycle.
+/// loser is a victim the path continues, and waits for the transaction that reads the goal. So it closes a cycle.
 struct Goer {
     store: Store,
     n: Node,
@@ -541,9 +540,9 @@ struct Goer {
     _path: Arc<Inline>,
 }
 
-/// The second waits for n, or for the row, for its reader, which waits for the path's transaction. By its fall the
-/// caller is granted. Or else the keeper has n and the row in X, and waits for the path's transaction: then the
-/// caller is the youngest on the cycle.
+/// The second waits for n, or for the row, for its reader, which waits for the path's transaction: when the second is a
+/// victim the caller is granted. Or else the keeper has n and the row in X, and waits for the path's transaction: then
+/// the caller is the youngest on the cycle.
 fn goer(call: Call, has_second: bool) -> Goer {
     let store = Store::new(Detect::AtBlock);
     let [callers_node, n, start, side, goers_node] = [(); 5].map(|()| store.add_root());
@@ -610,7 +609,7 @@ impl Goer {
     }
 
     /// The path waits for its goal now; the loser has its end, and so has the second.
-    fn has_gone_on(&mut self) {
+    fn has_continued(&mut self) {
         assert_eq!(self.store.waits_for(self.goer), Some(self.goal));
         assert_eq!(self.loser.ended(), Err(Stop::Victim));
         if let Some(second) = &mut self.second {
@@ -633,17 +632,17 @@ const TARGETS: [(Call, bool, Mode); 9] = [
 ];
 
 #[test]
-fn a_path_that_goes_on_grants_the_caller() {
+fn a_path_that_continues_grants_the_caller() {
     for target in TARGETS {
         for is_task in [false, true] {
-            let mut scene = goer(target.0, true);
-            let ask = scene.ask(target, is_task, LOW_KEY);
-            if ask.is_none() {
+            if is_none(target.0, is_task) {
                 continue;
             }
+            let mut scene = goer(target.0, true);
+            let ask = scene.ask(target, is_task, LOW_KEY);
             let end = ask.make(&mut scene.caller, None);
             assert_eq!(end, Ok(RowLocked::Own(ask.mode)), "{ask:?}");
-            scene.has_gone_on();
+            scene.has_continued();
             let node = if ask.call == OfRow {
                 scene.store.row_node()
             } else {
@@ -660,20 +659,20 @@ fn a_path_that_goes_on_grants_the_caller() {
 }
 
 #[test]
-fn a_path_that_goes_on_fells_the_caller() {
+fn a_path_that_continues_makes_the_caller_a_victim() {
     for target in TARGETS {
         for is_task in [false, true] {
-            let mut scene = goer(target.0, false);
-            let ask = scene.ask(target, is_task, LOW_KEY);
-            if ask.is_none() {
+            if is_none(target.0, is_task) {
                 continue;
             }
+            let mut scene = goer(target.0, false);
+            let ask = scene.ask(target, is_task, LOW_KEY);
             assert_eq!(
                 ask.make(&mut scene.caller, None),
                 Err(Stop::Victim),
                 "{ask:?}"
             );
-            scene.has_gone_on();
+            scene.has_continued();
             let again = scene.caller.lock(scene.n, Mode::S);
             assert_eq!(again, Err(Stop::Refused(Refusal::TxnCondemned)));
         }
@@ -688,16 +687,16 @@ fn a_row_is_asked_for_again_in_its_call() {
         let ask = scene.ask((OfRow, false, Mode::S), is_task, HIGH_KEY);
         let end = ask.make(&mut scene.caller, None);
         assert_eq!(end, Ok(RowLocked::OtherKeys(Mode::S)));
-        scene.has_gone_on();
+        scene.has_continued();
         let held = scene.store.held(scene.caller.txn(), scene.store.row_node());
         assert_eq!(held, Mode::S);
     }
 }
 
-/// A path goes on in another's commit, and ends there: it falls itself, or the other falls whose lock it waits for,
-/// and whose waker gives up its locks.
+/// A path continues in another's commit, and ends there. It is a victim itself; or the transaction is whose lock it
+/// waits for, and whose waker gives up its locks.
 #[test]
-fn a_path_ends_in_the_call_that_lets_it_go_on() {
+fn a_path_ends_in_the_call_that_lets_it_continue() {
     for is_younger in [false, true] {
         let store = Store::new(Detect::AtBlock);
         let node = store.add_root();
@@ -719,9 +718,9 @@ fn a_path_ends_in_the_call_that_lets_it_go_on() {
         });
         assert_eq!(store.waits_for(name), Some(store.below));
         let table = Arc::clone(&store.table);
-        let fell = other.txn();
-        let falls = Does::waker(move || table.abort(fell).unwrap());
-        let _other = store.waits(other, node, Mode::X, falls);
+        let other_name = other.txn();
+        let aborts = Does::waker(move || table.abort(other_name).unwrap());
+        let _other = store.waits(other, node, Mode::X, aborts);
         holder.commit().unwrap();
         let wanted = if is_younger {
             Err(Stop::Victim)
@@ -730,7 +729,7 @@ fn a_path_ends_in_the_call_that_lets_it_go_on() {
         };
         assert_eq!(*end.lock().unwrap(), Some(wanted));
         assert_eq!(store.held(name, store.below), Mode::IX);
-        assert_eq!(store.lives(fell), is_younger);
+        assert_eq!(store.lives(other_name), is_younger);
     }
 }
 
@@ -769,4 +768,105 @@ fn an_ask_within_a_waker_is_granted() {
             assert_eq!(other.ended(), end);
         }
     }
+}
+
+// ------------------------------------------------------------------------------------------------------------------
+// A crowd of locks for an instant.
+
+const MEMBERS: u64 = 12;
+const ROUNDS: usize = 40;
+
+/// Small random numbers, by Marsaglia's xorshift: from 0 to below `sides`.
+fn roll(dice: &mut u64, sides: u64) -> u64 {
+    *dice ^= *dice << 13;
+    *dice ^= *dice >> 7;
+    *dice ^= *dice << 17;
+    (*dice >> 16) % sides
+}
+
+/// Locks one of these, which all others want too; not, if the session was chosen as victim. One that was locked for an
+/// instant is not held after that.
+fn locks_one(
+    store: &Store,
+    session: &mut Session<'static>,
+    nodes: &[Node],
+    dice: &mut u64,
+) -> bool {
+    let modes = [Mode::IS, Mode::IX, Mode::S, Mode::SIX, Mode::X];
+    let (node, mode) = (
+        nodes[roll(dice, nodes.len() as u64) as usize],
+        modes[roll(dice, 5) as usize],
+    );
+    let ask = Ask {
+        call: [Lock, ForAnInstant, Path, ForAnInstant][roll(dice, 4) as usize],
+        node,
+        mode,
+        row: store.row,
+        keys: LOW_KEY,
+        is_task: roll(dice, 2) == 0,
+    };
+    let name = session.txn();
+    let is_new = store.held(name, node) == Mode::NL;
+    session.set_deadline(Instant::now().checked_add(PATIENCE));
+    let end = if ask.is_task {
+        block_on(ask.future(session))
+    } else {
+        ask.sleep(session)
+    };
+    match end {
+        Err(stop) => assert_eq!(stop, Stop::Victim, "{ask:?}"),
+        Ok(RowLocked::Own(held)) => {
+            let wanted = if ask.is_instant() && is_new {
+                Mode::NL
+            } else {
+                held
+            };
+            assert_eq!(store.held(name, node), wanted, "{ask:?}");
+        }
+        Ok(RowLocked::OtherKeys(_)) => unreachable!("no row is asked for"),
+    }
+    end.is_ok()
+}
+
+/// Each call has its end, and no lock stays.
+fn crowd(detect: Detect) {
+    let store = Store::new(detect);
+    let nodes = [(); 3].map(|()| store.add_root());
+    let gate = Barrier::new(MEMBERS as usize);
+    thread::scope(|scope| {
+        let watch = (detect == Detect::ByWatcher)
+            .then(|| scope.spawn(|| store.table.watch_over(Duration::ZERO).unwrap()));
+        let members: Vec<_> = (0..MEMBERS)
+            .map(|member| {
+                let (store, gate) = (&store, &gate);
+                scope.spawn(move || {
+                    let mut dice = 88172645463325252 + member;
+                    gate.wait();
+                    for _ in 0..ROUNDS {
+                        let mut session = store.begin();
+                        let all = (0..3).all(|_| {
+                            thread::yield_now();
+                            locks_one(store, &mut session, &nodes, &mut dice)
+                        });
+                        if all {
+                            session.commit().unwrap();
+                        }
+                    }
+                })
+            })
+            .collect();
+        let ends: Vec<_> = members.into_iter().map(|member| member.join()).collect();
+        store.table.end_watch();
+        drop(watch);
+        assert!(ends.into_iter().all(|end| end.is_ok()));
+    });
+    for node in nodes {
+        assert_eq!(store.table.with(|m| m.group(node)), Ok(Mode::NL));
+    }
+}
+
+#[test]
+fn a_crowd_of_instants() {
+    crowd(Detect::AtBlock);
+    crowd(Detect::ByWatcher);
 }

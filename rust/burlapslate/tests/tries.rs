@@ -382,3 +382,61 @@ fn each_job_is_done_once() {
     }
     store.counts(0);
 }
+
+/// A skip passes over a record and a row that have moved to where the session holds nothing above them, and over a
+/// record that is gone, by its node and by its path. It takes the next that is free.
+#[test]
+fn a_skip_passes_over_what_moved_or_is_gone() {
+    let store = Store::new();
+    let (mut holder, mut session) = (store.writer(), store.writer());
+    let index = store.table.with(|m| m.parent(store.below, 0)).unwrap();
+    let above = store.table.with(|m| m.interval_of(index, 200)).unwrap();
+    for node in [store.file, store.below, above, store.rows_above] {
+        holder.lock_path(node, Mode::IX).unwrap();
+    }
+    for node in [store.file, store.below] {
+        session.lock_path(node, Mode::IX).unwrap();
+    }
+    holder.lock_path(store.low, Mode::X).unwrap();
+    holder.lock_path(store.high, Mode::X).unwrap();
+    holder.rekey(store.low, index, OTHER_KEY[0]).unwrap();
+    holder.delete(store.high).unwrap();
+    for (number, keys) in [(7, OTHER_KEY), (8, KEY)] {
+        let locked = holder.lock_row(store.row(number), &keys, Mode::X);
+        assert_eq!(locked, Ok(RowLocked::Own(Mode::X)));
+    }
+    let mode = Mode::X;
+    let node = |node| Try::Node { node, mode };
+    let row = |number| Try::Row {
+        row: store.row(number),
+        keys: &KEY,
+        mode,
+    };
+    let path = Try::Path {
+        node: store.high,
+        mode,
+        keep: Keep::Nothing,
+    };
+    let all = [
+        node(store.low),
+        row(7),
+        node(store.high),
+        path,
+        row(8),
+        row(9),
+    ];
+    let held = store.locks(&session);
+    assert_eq!(session.try_first(&all[..5]), Ok(None));
+    assert_eq!(store.locks(&session), held);
+    let locked = RowLocked::Own(mode);
+    assert_eq!(
+        session.try_first(&all),
+        Ok(Some(Taken { place: 5, locked }))
+    );
+    holder.commit().unwrap(); // Row 7 has no node after that.
+    assert_eq!(
+        session.try_first(&all),
+        Ok(Some(Taken { place: 1, locked }))
+    );
+    store.counts(0);
+}

@@ -182,8 +182,8 @@ fn a_late_task_and_the_next_path() {
     }
 }
 
-/// The next transaction of the slot was granted a lock, on no path: there is nothing to cancel, whether the late path is
-/// polled again or dropped.
+/// The next transaction of the slot was granted a lock, on no path: there is nothing to cancel, whether the late path
+/// is polled again or dropped.
 #[test]
 fn a_path_of_before_takes_no_cancel() {
     for is_dropped in [false, true] {
@@ -402,7 +402,7 @@ fn an_instant_of_before_is_nothing_to_a_wait() {
     }
 }
 
-/// A path that waits on its way where an instant came before is cancelled there, and does not go on.
+/// A path that waits on its way where an instant came before is cancelled there, and does not continue.
 #[test]
 fn an_instant_of_before_is_nothing_to_a_way() {
     for is_task in [false, true] {

@@ -8,7 +8,7 @@ use crate::mode::{Detect, Mode};
 use crate::names::{Node, Txn};
 use crate::refusal::Refusal;
 use crate::session::{Session, Stop};
-use crate::turns::MY_ARRIVAL;
+use crate::turns::{Turns, MY_ARRIVAL};
 use std::sync::atomic::{AtomicUsize, Ordering};
 use std::sync::Mutex;
 use std::thread;
@@ -206,6 +206,49 @@ fn some_leave_the_line_in(time: Duration) -> bool {
 #[test]
 fn some_leave_the_line() {
     until_in_time(Duration::from_millis(50), some_leave_the_line_in);
+}
+
+/// Of four that sleep for a slot two leave, one after the other, after some were served, and a fifth comes at some
+/// moment of that. The others are served in their order, and the fifth is the last; each takes its own turn, in
+/// whatever order they wake.
+fn two_leave([first, second]: [usize; 2], served: usize, moment: usize) {
+    const LINE: usize = 4;
+    let refused = Err(Refusal::NoMemory);
+    let mut turns = Turns::new();
+    let mut line: Vec<_> = (0..LINE)
+        .map(|n| turns.join(Some(n as u64)).unwrap())
+        .collect();
+    (0..served).for_each(|_| turns.serve(refused));
+    for (now, leaver) in [Some(first), Some(second), None].into_iter().enumerate() {
+        if now == moment {
+            line.push(turns.join(Some(LINE as u64)).unwrap());
+        }
+        if let Some(leaver) = leaver {
+            assert_eq!(turns.take(line[leaver]), None);
+            turns.leave(line[leaver]);
+        }
+    }
+    let stays = |n: &usize| ![first, second].contains(n);
+    for n in (served..=LINE).filter(stays) {
+        assert_eq!(turns.next_since(), Some(n as u64));
+        turns.serve(refused);
+    }
+    assert!(!turns.has_next());
+    for n in (0..=LINE).rev().filter(stays) {
+        assert_eq!(turns.take(line[n]), Some(refused));
+    }
+    assert_eq!(turns.sleepers(), 0);
+}
+
+#[test]
+fn some_leave_the_line_while_one_comes() {
+    for served in 0..2 {
+        for first in served..4 {
+            for second in (served..4).filter(|second| *second != first) {
+                (0..3).for_each(|moment| two_leave([first, second], served, moment));
+            }
+        }
+    }
 }
 
 /// The time is over, and then, before the one who sleeps has the latch again, a slot is free. `false`:

@@ -162,14 +162,14 @@ pub struct Ask {
     pub is_task: bool,
 }
 
+/// No task locks a path for an instant.
+pub fn is_none(call: Call, is_task: bool) -> bool {
+    is_task && call == PathInstant
+}
+
 impl Ask {
     pub fn is_instant(self) -> bool {
         matches!(self.call, ForAnInstant | PathInstant)
-    }
-
-    /// There is no such call.
-    pub fn is_none(self) -> bool {
-        self.is_task && self.call == PathInstant
     }
 
     /// Makes the call, with this deadline of the session.
