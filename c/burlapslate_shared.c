@@ -1583,13 +1583,15 @@ static void table_tell_all_but(bs_notices *told, bs_txn txn) {
   told->count = kept;
 }
 
-/* What a command of a list comes to whose own wait has ended so. A path goes on, and a row is asked for again. */
+/* What a command of a list comes to whose own wait has ended so. A path goes on, and a row is asked for again. A victim of
+ * a path or of a row has the node for which it waited. */
 static bs_reply table_made_on(bs_table *table, const bs_command *c, bs_txn txn, bs_notices *told, bs_reply became) {
   bool is_on_the_way;
   if (c->kind == BS_DO_LOCK_ROW && became.status == BS_DONE) {
     table_row row = table_row_of(c->file, c->number, c->keys, c->key_count);
     return table_row_again(table, txn, &row, c->mode, c->reply.node, became);
   }
+  if (became.status == BS_VICTIM && c->kind != BS_DO_LOCK) became.node = c->reply.node;
   if (c->kind != BS_DO_LOCK_PATH) return became;
   is_on_the_way = became.status == BS_MOVED ||
                   (became.status == BS_DONE && !table_is_same_node(c->reply.node, c->node));

@@ -70,6 +70,7 @@ path-wakes-before-it-registers	/ table_path_by(/,/^}/{/table_register(/d;s/^  ta
 path-asks-for-its-mode-too-late	/ table_path_by(/,/^}/{/wait->mode/d;s/^  table_wake(table, .*/&\n  wait->mode = bs_call_doing(\&table->manager, txn).mode;/}
 own-ask-is-not-looked-at	s/^  table->asks->due.words.slot . 64. |= bit;//
 sleeper-looks-not-at-its-own-wait	s/^  if (table->is_due) reply = table_verdict(.*//
+list-victim-has-no-node	s/^  if (became.status == BS_VICTIM .*//
 list-does-not-settle	s/^  if (next->reply.status == BS_WAITING \&\& table->is_due) .*//
 list-tells-its-own	s/^    table_tell_all_but(told, txn);//
 list-goes-not-on-with-its-path	/ table_made_on(/,/^}/s/^  if (c->kind != BS_DO_LOCK_PATH) return became;/  return became;/

@@ -833,6 +833,22 @@ static void a_list_ends_where_its_caller_is_a_victim(void) {
   }
 }
 
+/* A victim in a list is told the node where it was chosen, as by the call of that name: for a path the node for which it
+ * waited, for a row its node. */
+static void a_victim_in_a_list_is_told_where(void) {
+  bs_command list[3];
+  size_t i;
+  for (i = 0; i < TARGETS; i++) {
+    bs_node at = { 0, 0 };
+    set_up_keeper_of_all();
+    if (targets[i].by == BY_ROW) at = ASK(table, bs_row_node, rows, ROW).node;
+    else if (targets[i].by == BY_PATH) at = n;
+    WANT(run_three(&targets[i], list) == 1);
+    WANT(same_node(ANSWERS(BS_VICTIM, list[1].reply).node, at));
+    close_table();
+  }
+}
+
 /* ------------------------------------------------------------------------------------------------
  * A path that continues in another's call, and whose next wait ends there.
  */
@@ -1248,6 +1264,7 @@ int main(int count, char **words) {
   TELL(a_list_continues_after_a_path);
   TELL(a_row_is_asked_for_again_in_its_call);
   TELL(a_list_ends_where_its_caller_is_a_victim);
+  TELL(a_victim_in_a_list_is_told_where);
   TELL(a_path_ends_in_the_call_that_lets_it_continue);
   TELL(a_path_for_an_instant_ends_as_another_continues);
   TELL(an_ask_within_the_function_is_granted);
