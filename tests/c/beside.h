@@ -150,8 +150,9 @@ static inline const char *same_holders(const bs_manager *m, const naive *n, cons
   bs_slots came = bs_holders(m, node->name).slots;
   uint32_t slot;
   for (slot = 0; slot < n->limits.transactions; slot++) {
-    bool holds = naive_held(n, slot, node->name.birth) != BS_NL;
-    if (bs_has(came, slot) != holds) return say("whether slot %u holds node %lu", slot, (unsigned long)node->name.birth);
+    unsigned long birth = (unsigned long)node->name.birth;
+    bool holds = naive_held(n, slot, birth) != BS_NL;
+    if (bs_has(came, slot) != holds) return say("whether slot %u holds node %lu", slot, birth);
   }
   return NULL;
 }

@@ -1,14 +1,13 @@
 /*
  * naive.h: a lock manager of plain lists, for the tests: the nodes with their parents, the transactions with what each
- * holds, and the waits in the order of their arrival. Everything is looked up anew by a walk through these lists, and
- * each rule is written as burlapslate.h and docs/LOCKS.md state it. It shares no code with the library, only the types
+ * holds, and the waits in the order of their arrival. It looks everything up anew in these lists, and states each rule
+ * as burlapslate.h and docs/LOCKS.md do. It shares no code with the library, only the types
  * of its headers, and it takes no memory.
  *
  * A command is a bs_command. All kinds are carried out but BS_DO_TRY_PATH and BS_DO_TRY_ROW, which only a shared table
  * has. The reply is that of the manager's call of the same name.
  *
- * Within the lists a node is known by its birth: births are counted from 1. Its key is the one that was freed last, or
- * a new one.
+ * The lists name a node by its birth. Births are counted from 1.
  *
  * A row is a record with a number. It exists as long as some transaction holds it or waits for it.
  */
@@ -17,8 +16,8 @@
 
 #include "burlapslate_shared.h"
 
-/* How many transactions and nodes can live at once, how many savepoints a transaction keeps, how many names of nodes
- * that are gone are kept, and how many rows all transactions together can have asked for. */
+/* How many transactions and nodes can live at once; how many savepoints of a transaction and names of removed nodes are
+ * kept; and how many rows all transactions together can have asked for. */
 enum { NAIVE_TXNS = 128, NAIVE_NODES = 64, NAIVE_MARKS = 4, NAIVE_GONE = 8, NAIVE_ASKED = 2048 };
 
 /* A node: what it is, and its parents. */
@@ -46,8 +45,8 @@ typedef struct naive_hold {
   bs_mode mode;
 } naive_hold;
 
-/* A transaction. Its holds are in the order in which it came to hold them. A savepoint is how many of them there were;
- * only those are kept that are still good: none of the holds from before them was given back. */
+/* A transaction. Its holds are in the order in which they were acquired. A savepoint is how many holds there were; it
+ * is kept as long as it is good, which is until one of these holds is released. */
 typedef struct naive_txn {
   bool lives;
   bool is_condemned;
@@ -67,14 +66,15 @@ typedef struct naive_wait {
   bs_mode mode;
 } naive_wait;
 
-/* A row that a transaction has asked for. Those of one transaction stand in the order in which they are let go. */
+/* A row that a transaction has asked for. Those of one transaction are in the order in which their nodes are removed.
+ * */
 typedef struct naive_asked {
   uint32_t slot;
   uint64_t file;
   uint64_t number;
 } naive_asked;
 
-/* The lock manager. Nodes stand by rising births. The waits of a node stand in the order of its queue. */
+/* The lock manager. Nodes are listed by rising births, and the waits for one node in the order of its queue. */
 typedef struct naive {
   bs_options limits;
   size_t node_count;
@@ -86,19 +86,19 @@ typedef struct naive {
   naive_asked asked[NAIVE_ASKED];
   uint64_t births, begins;
   size_t key_count, freed_count;
-  size_t freed[NAIVE_NODES]; /* the keys of nodes that are gone, the last one last */
+  size_t freed[NAIVE_NODES]; /* the keys of removed nodes, the last one last */
   size_t gone_count;
-  bs_node gone[NAIVE_GONE]; /* the names of the last nodes that went, the last one last */
+  bs_node gone[NAIVE_GONE]; /* the names of the last nodes that were removed, the last one last */
   bs_notices told;          /* by the last command */
 } naive;
 
-/* Begins with no nodes and no transactions. In the options no number is 0, but for the first two. */
+/* Makes a manager with no nodes and no transactions. Only the first two options can be 0. */
 void naive_open(naive *m, const bs_options *options);
 
-/* Carries out a command. Those whom it told are in `told`. */
+/* Carries out a command. Its notices are in `told`. */
 bs_reply naive_make(naive *m, const bs_command *c);
 
-/* A savepoint of a transaction, as bs_mark. One that is taken while the transaction waits is not kept. */
+/* A savepoint of a transaction, as bs_mark. It is not kept if the transaction waits. */
 bs_reply naive_mark(naive *m, bs_txn txn);
 
 /* What became of a wait, as bs_verdict. */
@@ -113,7 +113,7 @@ bs_txn naive_txn_in(const naive *m, uint32_t slot);
 /* The wait of a transaction; null if it does not wait. */
 const naive_wait *naive_wait_of(const naive *m, bs_txn txn);
 
-/* The node of this name, and of this birth; null if it is gone. */
+/* The node of this name, and the node of this birth; null if there is none. */
 const naive_node *naive_find(const naive *m, bs_node name);
 const naive_node *naive_born(const naive *m, uint64_t birth);
 

@@ -1,10 +1,9 @@
 /*
- * Random schemas: tables, indexes, records and rows come and go over a manager of the library, beside the manager of
- * plain lists of naive.h. Both are asked every command. Each answer, each node that is made or named, and all that is
- * told must be the same; and behind each command so must be who holds what and who waits for what, and behind each
- * change of the schema every node with its parents, keys, indexes and intervals. A node that is gone is known to nobody.
- * In the end each kind of command was accepted and refused, and every answer to a drop and to an index by a transaction
- * came up.
+ * Random schemas over a manager of the library, beside the manager of plain lists of naive.h: tables, indexes, records
+ * and rows are made, changed and removed. Both get every command, and must answer and tell the same. After each command
+ * the transactions, their locks and the queues must be the same; after each change of the schema also every node, with
+ * its parents, keys, indexes and intervals. Neither knows a removed node. By the end each kind of command was accepted
+ * and refused, and every answer to a drop and to an index by a transaction came up.
  *
  *   schemas [DRAWS]   how many times each play draws its work, 6000 where none is given
  *
@@ -20,7 +19,10 @@
 
 #include <stdlib.h>
 
-enum { TXNS = 3, MOST_NODES = 36, MOST_BOUNDS = 3, KEYS = 30, ROWS = 4, KINDS = BS_DO_RELEASE_SINCE + 1, STATUSES = 75 };
+enum { TXNS = 3, MOST_NODES = 36, MOST_BOUNDS = 3, KEYS = 30, ROWS = 4 };
+
+/* How many kinds of commands and how many statuses there are. */
+enum { KINDS = BS_DO_RELEASE_SINCE + 1, STATUSES = 75 };
 
 /* A play: how the manager is made, from which seed the work is drawn, and whether it is all kinds of work. */
 typedef struct setting {
@@ -74,7 +76,8 @@ static bs_reply made_of_nodes(const bs_command *c) {
     case BS_DO_ADD_FILE: return bs_add_file(&m, c->parents, c->parent_count);
     case BS_DO_ADD_ROW_FILE: return bs_add_row_file(&m, c->parents, c->parent_count);
     case BS_DO_ADD_INDEX: return bs_add_index(&m, c->parents, c->parent_count, c->file, c->bounds, c->bound_count);
-    case BS_DO_INDEX_BY: return bs_index_by(&m, c->txn, c->parents, c->parent_count, c->file, c->bounds, c->bound_count);
+    case BS_DO_INDEX_BY:
+      return bs_index_by(&m, c->txn, c->parents, c->parent_count, c->file, c->bounds, c->bound_count);
     case BS_DO_INSERT: return bs_insert(&m, c->txn, c->file, c->keys, c->key_count);
     case BS_DO_ADOPT: return bs_adopt(&m, c->file, c->keys, c->key_count);
     case BS_DO_DELETE: return bs_delete(&m, c->txn, c->node, &told);
@@ -698,7 +701,8 @@ static const bs_status of_indexes[] = { BS_DONE, BS_NO_SUCH_TXN, BS_TXN_WAITING,
 static void all_came(uint32_t kind, const bs_status *statuses, size_t all) {
   size_t i;
   for (i = 0; i < all; i++) {
-    if (tally[kind][statuses[i]] == 0) wanted(say("command %u was never answered %s", kind, bs_text(statuses[i])), NULL);
+    bool has_come = tally[kind][statuses[i]] > 0;
+    if (!has_come) wanted(say("command %u was never answered %s", kind, bs_text(statuses[i])), NULL);
   }
 }
 

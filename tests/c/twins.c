@@ -1,9 +1,10 @@
 /*
- * Twins: two managers side by side do the same random work of four transactions on the rows of a file with two indexes.
- * In the one each row is locked by its number, and has a node only while it is locked; in the other each row is a record
- * that stands from the start. They answer alike and tell the same transactions the same, but for the names of rows'
- * nodes; behind each step the transaction holds each row in the same mode and may do the same to it in both. Now and
- * then a row is locked by keys that are not its own: then it is locked by the node that it has, and the answer says so.
+ * Twins: two managers side by side do the same random work of four transactions, on the rows of a file with two
+ * indexes. In the one each row is locked by its number, and has a node only while it is locked. In the other each row
+ * is a record that exists from the start. They give the same answers and notices, but for the names of rows' nodes.
+ * After each step the transaction holds each row in the same mode in both, and has the same effective mode on it. Now
+ * and then a transaction names keys that are not the row's own: the row is locked by the node that it has, and the
+ * answer says so.
  *
  *   twins [STEPS]   how many steps each play has, 6000 where none is given
  *
