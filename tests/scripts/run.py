@@ -515,6 +515,9 @@ def compile_streams(folder):
 def main(names):
     tasks = []
     pages = sorted(HERE.glob("*.transcript"))
+    unknown = set(names) - {page.stem for page in pages}
+    if unknown:
+        sys.exit(f"tests/scripts: there is no page {unknown.pop()}")
     for page in pages:
         if not names or page.stem in names:
             tasks += [lambda script=script: play(script) for script in scripts_of(page)]
