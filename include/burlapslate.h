@@ -399,7 +399,8 @@ static inline bs_reply bs_unlock(bs_manager *manager, bs_txn txn, bs_node node, 
 
 /* A savepoint of a transaction, in `count`, for bs_release_since: how many nodes it holds or waits for. Nothing is kept
  * for it. It is good until the transaction gives a lock back that it had by then: by bs_unlock, bs_unlock_row,
- * bs_escalate, bs_delete or bs_drop, or as another takes the node away. Refused with BS_NO_SUCH_TXN. */
+ * bs_escalate, bs_delete or bs_drop, or as another takes the node away. One that is made during a wait counts that
+ * wait, and a cancel of it gives it back. Refused with BS_NO_SUCH_TXN. */
 static inline bs_reply bs_mark(const bs_manager *manager, bs_txn txn) {
   return bs_call_can_ask(manager) ? bs_call_lock_count(manager, txn) : bs_call_unasked(manager);
 }
@@ -547,9 +548,9 @@ static inline bs_reply bs_index_by(bs_manager *manager, bs_txn txn, const bs_nod
  * file, or of a node that is none, calls about a row are refused with BS_NOT_ROWS.
  *
  * A row has a node while some transaction holds it or waits for it. bs_lock_row makes the node. bs_unlock_row,
- * bs_rekey_row, bs_commit, bs_abort, bs_cancel and bs_escalate let a row go: they take its node away behind the last
- * who holds it or waits for it. No row has two nodes, and no two rows have one. By its node a row is locked and asked
- * after as any record is.
+ * bs_rekey_row, bs_commit, bs_abort, bs_cancel and bs_escalate let a row go: after the last transaction that holds it
+ * or waits for it they take its node away, if that transaction has asked for the row by bs_lock_row. No row has two
+ * nodes, and no two rows have one. By its node a row is locked and asked after as any record is.
  *
  * The keys are the row's own, one for each index of its file in the order of making. Only the engine knows them. It
  * reads them before it locks the row, and looks at them again behind each grant. Where they are others by then it gives
@@ -621,7 +622,8 @@ static inline bs_reply bs_verdict(const bs_manager *manager, bs_txn txn, bs_node
 
 /* The slots whose wait the last command that was accepted may have ended: whose sleepers are to be woken. Those
  * are the slots that it told, and that which a cancel or an abort names; no other transaction's wait was ended
- * by it. A refused command and a question leave them as they are. */
+ * by it. A bs_release_since that releases nothing leaves none. A refused command and a question leave them as they
+ * are. */
 static inline bs_found bs_ended(const bs_manager *manager) {
   return bs_call_can_ask(manager) ? bs_call_ended(manager) : bs_call_none_found(bs_call_unasked(manager).status);
 }
