@@ -770,7 +770,9 @@ static void a_savepoint(void) {
   accepted = accepted_by(&m);
   WANT(DONE(bs_release_since(&m, a, second, &told)).count == 1 && accepted_by(&m) == accepted + 1);
   WANT(told.count == 1 && is_told(0, b, BS_TOLD_GRANTED) && bs_held(&m, a, f.high).mode == BS_NL);
+  WANT(bs_has(bs_ended(&m).slots, b.slot));
   WANT(DONE(bs_release_since(&m, a, second, &told)).count == 0 && told.count == 0);
+  WANT(!bs_has(bs_ended(&m).slots, b.slot));
   WANT(DONE(bs_release_since(&m, a, first, &told)).count == 2 && accepted_by(&m) == accepted + 3);
   WANT(bs_held(&m, a, root).mode == BS_IX && bs_held(&m, a, f.file).mode == BS_IX);
   WANT(bs_held(&m, a, f.low).mode == BS_S && bs_held(&m, a, f.index).mode == BS_NL);
@@ -814,6 +816,43 @@ static void a_savepoint_that_is_spoilt(void) {
   DONE(bs_unlock(&m, a, root, &told));
   WANT(DONE(bs_release_since(&m, a, mark, &told)).count == 2 && bs_held(&m, a, others[0]).mode == BS_X);
   WANT(DONE(bs_mark(&m, a)).count == mark && DONE(bs_release_since(&m, a, mark, &told)).count == 0);
+  DONE(bs_end(&m));
+}
+
+/* A savepoint that is made during a wait counts that wait: a cancel of it spoils the savepoint. */
+static void a_savepoint_of_a_wait(void) {
+  bs_manager m = BS_NO_MANAGER_HERE;
+  bs_node root = begin_manager(&m, BS_AT_BLOCK), others[3];
+  bs_txn a = begin(&m), b = begin(&m);
+  uint64_t mark;
+  size_t i;
+  for (i = 0; i < 3; i++) others[i] = DONE(bs_add_inner(&m, NULL, 0)).node;
+  DONE(bs_lock(&m, a, root, BS_X, &told));
+  DONE(bs_lock(&m, b, others[0], BS_X, &told));
+  WANT(bs_lock(&m, b, root, BS_X, &told).status == BS_WAITING);
+  mark = DONE(bs_mark(&m, b)).count;
+  DONE(bs_cancel(&m, b, &told));
+  WANT(mark == 2 && DONE(bs_mark(&m, b)).count == 1);
+  for (i = 1; i < 3; i++) DONE(bs_lock(&m, b, others[i], BS_X, &told));
+  WANT(DONE(bs_release_since(&m, b, mark, &told)).count == 1 && bs_held(&m, b, others[0]).mode == BS_X);
+  DONE(bs_end(&m));
+}
+
+/* A row whose last transaction locked it by its node alone keeps the node, until one that asked by number ends. */
+static void a_row_that_is_locked_by_its_node(void) {
+  bs_manager m = BS_NO_MANAGER_HERE;
+  struct file f = begin_rows(&m);
+  bs_txn a = begin(&m), b = begin(&m), c = begin(&m);
+  bs_node row;
+  DONE(lock_row(&m, a, f, 1, 10, BS_S));
+  row = DONE(bs_row_node(&m, f.file, 1)).node;
+  DONE(bs_lock_path(&m, b, row, BS_S, &told));
+  DONE(bs_commit(&m, a, &told));
+  DONE(bs_commit(&m, b, &told));
+  WANT(has_node(&m, f, 1));
+  DONE(lock_row(&m, c, f, 1, 10, BS_S));
+  DONE(bs_commit(&m, c, &told));
+  WANT(!has_node(&m, f, 1));
   DONE(bs_end(&m));
 }
 
@@ -1796,6 +1835,8 @@ int main(void) {
   TELL(a_savepoint);
   TELL(a_savepoint_before_a_raise);
   TELL(a_savepoint_that_is_spoilt);
+  TELL(a_savepoint_of_a_wait);
+  TELL(a_row_that_is_locked_by_its_node);
   TELL(a_savepoint_of_rows);
   TELL(a_savepoint_is_refused);
   TELL(a_file_moves);
