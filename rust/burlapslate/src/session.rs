@@ -1,4 +1,4 @@
-//! A transaction of a shared table, in the hands of a thread.
+//! Sessions: a transaction of a shared table that one thread drives.
 
 use crate::manager::{Escalated, Mark};
 use crate::mode::Mode;
@@ -11,11 +11,11 @@ use std::ops::Deref;
 use std::sync::Arc;
 use std::time::{Duration, Instant};
 
-/// Why a lock gave no grant.
+/// Why a lock was not granted.
 #[non_exhaustive]
 #[derive(Clone, Copy, PartialEq, Eq, Hash, Debug)]
 pub enum Stop {
-    /// It was refused, before it waited or behind that: [`Refusal::NoSuchTxn`] where another thread
+    /// The request was refused, before or after it waited: with [`Refusal::NoSuchTxn`] if another thread
     /// ended the transaction meanwhile.
     Refused(Refusal),
     /// The transaction was condemned to end a deadlock, and can only abort.
@@ -24,10 +24,10 @@ pub enum Stop {
     Moved,
     /// The node is gone.
     Gone,
-    /// Its time came first. The wait was taken back, and the transaction is active; of a begin, nothing has
-    /// begun.
+    /// The time was over first. The wait is cancelled, and the transaction is active. After a begin that
+    /// timed out there is no transaction.
     TimedOut,
-    /// Another thread took the wait back, and the transaction is active.
+    /// Another thread cancelled the wait, and the transaction is active.
     Cancelled,
 }
 
@@ -53,15 +53,15 @@ impl From<Refusal> for Stop {
     }
 }
 
-/// How a row is held by a session.
+/// How a session holds a row.
 #[must_use = "a row with other keys lies elsewhere than was said"]
 #[derive(Clone, Copy, PartialEq, Eq, Hash, Debug)]
 pub enum RowLocked {
-    /// In this mode, and the keys that were said are those of the row's node.
+    /// In this mode, and the keys of the call are those of the row's node.
     Own(Mode),
-    /// In this mode, but the row's node has other keys than were said, or was not asked for want of
-    /// memory. The engine looks at the row's keys again. Where they are others, it unlocks the row and
-    /// begins anew.
+    /// In this mode, but the row's node has other keys than the call's, or could not be asked for want of
+    /// memory. The engine reads the row's keys again. If they differ from the call's, it unlocks the row
+    /// and starts again.
     OtherKeys(Mode),
 }
 
@@ -74,20 +74,20 @@ impl RowLocked {
     }
 }
 
-/// What a try came to that was not refused.
+/// What an accepted try answers.
 #[must_use = "a try that would block locked nothing"]
 #[derive(Clone, Copy, PartialEq, Eq, Hash, Debug)]
 pub enum Tried<T> {
-    /// It is held: how.
+    /// The node or row is held: how.
     Locked(T),
-    /// It would have to be waited for, at this node.
+    /// The transaction would have to wait, at this node.
     WouldBlock(Node),
 }
 
-/// What a try of a path that is not done keeps of the locks that it took on the way.
+/// What a failed try of a path keeps of the locks that it acquired.
 #[derive(Clone, Copy, PartialEq, Eq, Hash, Debug)]
 pub enum Keep {
-    /// Nothing that it took anew.
+    /// Nothing that it newly acquired.
     Nothing,
     /// All of it.
     Way,
@@ -109,7 +109,7 @@ pub enum Try<'a> {
         node: Node,
         /// Its mode.
         mode: Mode,
-        /// What is kept where it is passed over.
+        /// What is kept if the try is passed over.
         keep: Keep,
     },
     /// As [`Session::try_lock_row`].
@@ -123,7 +123,7 @@ pub enum Try<'a> {
     },
 }
 
-/// The try of a list that was taken.
+/// The try of a list that was done.
 #[derive(Clone, Copy, PartialEq, Eq, Hash, Debug)]
 pub struct Taken {
     /// Its place in the list.
@@ -132,9 +132,9 @@ pub struct Taken {
     pub locked: RowLocked,
 }
 
-/// A transaction of a [`Table`], which one thread drives. Its locks sleep until they are granted. One
-/// that is dropped without a commit is aborted, so that its locks never outlive it: undo first what
-/// it wrote. It has its table lent, or is one of its owners ([`Table::begin_shared`]).
+/// A transaction of a [`Table`], which one thread drives. A lock call sleeps until the lock is granted.
+/// A session that is dropped without a commit is aborted, so that its locks never outlive it: undo what
+/// it wrote first. It borrows its table, or is one of its owners ([`Table::begin_shared`]).
 ///
 /// ```
 /// use burlapslate::{Detect, Mode, Table, SLOTS};
@@ -152,11 +152,11 @@ pub struct Session<'t> {
     table: Handle<'t>,
     txn: Txn,
     has_ended: bool,
-    /// When each of its waits ends at the latest.
+    /// The deadline of each of its waits.
     deadline: Option<Instant>,
 }
 
-/// How a session has its table: lent, or as one of its owners.
+/// How a session has its table: borrowed, or as one of its owners.
 enum Handle<'t> {
     Lent(&'t Table),
     Shared(Arc<Table>),
@@ -174,7 +174,7 @@ impl Deref for Handle<'_> {
 }
 
 impl Session<'static> {
-    /// The same transaction in the hands of a session that owns its table with others.
+    /// The same transaction, in a session that shares ownership of its table.
     pub(crate) fn shared(table: &Arc<Table>, lent: Session<'_>) -> Session<'static> {
         Session::over(Handle::Shared(Arc::clone(table)), lent.leave())
     }
@@ -199,8 +199,8 @@ impl<'t> Session<'t> {
         self.txn
     }
 
-    /// From now on each of its waits for a lock ends at this time at the latest, and is answered with
-    /// [`Stop::TimedOut`], whatever the call that waits says; with `None` that is over.
+    /// Sets a deadline: from now on each wait for a lock ends at this time at the latest and is answered
+    /// with [`Stop::TimedOut`], also if the call that waits has a later time or none. `None` removes it.
     ///
     /// ```
     /// # use burlapslate::{Detect, Mode, Stop, Table, SLOTS};
@@ -248,20 +248,21 @@ impl<'t> Session<'t> {
         locked.map(RowLocked::mode)
     }
 
-    /// As [`Manager::lock`](crate::Manager::lock), but it sleeps until the lock is granted, or never
-    /// will be. It answers the mode that is held then.
+    /// As [`Manager::lock`](crate::Manager::lock), but the call sleeps until the lock is granted or the
+    /// wait ends otherwise. It answers the mode that is held then.
     pub fn lock(&mut self, node: Node, mode: Mode) -> Result<Mode, Stop> {
         self.sought(Sought::node(node, mode, Stay::Kept), None)
     }
 
-    /// As [`lock`](Session::lock), for an instant: it is asked for and waited for as any lock, and given
-    /// back as soon as it is granted, in the same hold of the latch. So it answers that the lock could be
-    /// had, and in which mode, and nobody found it held; those behind it in the queue come next. It is for
-    /// keys that are to be free as one goes by, as the interval is that a new key parts.
+    /// As [`lock`](Session::lock), for an instant: the lock is requested and waited for as any other, and
+    /// released as soon as it is granted, within the same critical section. So the answer says that the
+    /// lock was granted and in which mode, no other thread sees it held, and the next waiters in the queue
+    /// are granted. It is for keys that must be free at one moment, such as the interval that a new key
+    /// splits.
     ///
-    /// A node that the transaction holds already is raised, and stays so, since no mode is ever lowered.
-    /// One of which it holds a child by another parent stays too, since [`unlock`](Session::unlock)
-    /// refuses that.
+    /// A node that the transaction holds already is converted and stays so, since no mode is ever lowered.
+    /// A node of which it holds a child by another parent stays locked too, since
+    /// [`unlock`](Session::unlock) refuses that.
     ///
     /// ```
     /// # use burlapslate::{Detect, Mode, Stop, Table, SLOTS};
@@ -277,13 +278,13 @@ impl<'t> Session<'t> {
     }
 
     /// As [`lock_path`](Session::lock_path), with the node itself for an instant, as
-    /// [`lock_instant`](Session::lock_instant). What is locked above it stays locked.
+    /// [`lock_instant`](Session::lock_instant). The locks above it stay.
     pub fn lock_path_instant(&mut self, node: Node, mode: Mode) -> Result<Mode, Stop> {
         self.sought(Sought::path(node, mode, Stay::Instant), None)
     }
 
-    /// As [`lock`](Session::lock), but the wait is taken back after this time, and answered with
-    /// [`Stop::TimedOut`]. A grant that comes at the same moment is a grant.
+    /// As [`lock`](Session::lock), but after this time the wait is cancelled and answered with
+    /// [`Stop::TimedOut`]. A lock that was granted by then is answered as granted.
     ///
     /// ```
     /// # use burlapslate::{Detect, Mode, Stop, Table, SLOTS};
@@ -301,16 +302,16 @@ impl<'t> Session<'t> {
         self.sought(Sought::node(node, mode, Stay::Kept), deadline(time))
     }
 
-    /// As [`lock_timeout`](Session::lock_timeout), with the time at which the wait is taken back.
+    /// As [`lock_timeout`](Session::lock_timeout), with the time at which the wait is cancelled.
     pub fn lock_until(&mut self, node: Node, mode: Mode, until: Instant) -> Result<Mode, Stop> {
         self.sought(Sought::node(node, mode, Stay::Kept), Some(until))
     }
 
-    /// Locks a node with what has to be held above it: intentions, root first, on all parents to
-    /// write, and to read on a parent that is held already, or else on the first; then the node in
-    /// its mode. Each is waited for in its turn. A node that moves meanwhile is begun anew, so it is
-    /// never answered [`Stop::Moved`]. Else it ends at the first lock that is refused or comes to
-    /// nothing; what was locked before that stays locked.
+    /// Locks a node with what must be held above it: intentions, root first, on all parents to write; to
+    /// read, on a parent that is held already, or else on the first; then the node in its mode. The call
+    /// waits for each in turn. If the node moves meanwhile the path starts again, so the answer is never
+    /// [`Stop::Moved`]. Otherwise it ends at the first lock that is refused or not granted; the locks
+    /// acquired before that stay.
     ///
     /// ```
     /// # use burlapslate::{Detect, Mode, Table, SLOTS};
@@ -337,7 +338,7 @@ impl<'t> Session<'t> {
         self.sought(Sought::path(node, mode, Stay::Kept), deadline(time))
     }
 
-    /// As [`lock_path_timeout`](Session::lock_path_timeout), with the time at which a wait is taken back.
+    /// As [`lock_path_timeout`](Session::lock_path_timeout), with the time at which a wait is cancelled.
     pub fn lock_path_until(
         &mut self,
         node: Node,
@@ -347,12 +348,12 @@ impl<'t> Session<'t> {
         self.sought(Sought::path(node, mode, Stay::Kept), Some(until))
     }
 
-    /// As [`Manager::lock_row`](crate::Manager::lock_row), but it sleeps until the row is granted, or never
-    /// will be. What has to be held above it is the caller's to lock: a parent that is wanting is refused
-    /// with [`NeedParents`](Refusal::NeedParents), and [`lock_path`](Session::lock_path) locks it. That may
-    /// sleep, and the keys may be others behind it. Behind each grant the engine looks at the row's keys
-    /// again; where they are others than were said, it unlocks the row and begins anew. The end of the
-    /// session lets its rows go.
+    /// As [`Manager::lock_row`](crate::Manager::lock_row), but the call sleeps until the row is granted or
+    /// the wait ends otherwise. The caller locks what must be held above the row: if a parent is missing
+    /// the call is refused with [`NeedParents`](Refusal::NeedParents), and [`lock_path`](Session::lock_path)
+    /// locks that parent. That may sleep, and the keys may differ after it. After each grant the engine
+    /// reads the row's keys again; if they differ from the call's, it unlocks the row and starts again.
+    /// The end of the session lets its rows go.
     ///
     /// ```
     /// # use burlapslate::{Detect, Mode, Row, RowLocked, Table, SLOTS};
@@ -371,7 +372,7 @@ impl<'t> Session<'t> {
         self.sought_row(row, keys, mode, None)
     }
 
-    /// As [`lock_row`](Session::lock_row), but the wait is taken back after this time, and answered with
+    /// As [`lock_row`](Session::lock_row), but after this time the wait is cancelled and answered with
     /// [`Stop::TimedOut`].
     pub fn lock_row_timeout(
         &mut self,
@@ -383,7 +384,7 @@ impl<'t> Session<'t> {
         self.sought_row(row, keys, mode, deadline(time))
     }
 
-    /// As [`lock_row_timeout`](Session::lock_row_timeout), with the time at which the wait is taken back.
+    /// As [`lock_row_timeout`](Session::lock_row_timeout), with the time at which the wait is cancelled.
     pub fn lock_row_until(
         &mut self,
         row: Row,
@@ -394,17 +395,17 @@ impl<'t> Session<'t> {
         self.sought_row(row, keys, mode, Some(until))
     }
 
-    /// As [`lock`](Session::lock), for a task: where the lock waits no thread sleeps, and the task is woken
-    /// when the wait is over. It takes no runtime, and asks when it is first polled.
+    /// As [`lock`](Session::lock), for a task: no thread sleeps while the lock waits, and the task is woken
+    /// when the wait is over. It needs no runtime, and requests the lock at the first poll.
     ///
-    /// A future that is dropped while it waits takes its wait back. Where the lock was granted by then, it
-    /// is the transaction's, and goes with its end, as all its locks do: no command lowers a mode. So
-    /// whoever lets a lock go by a timeout may ask for it again, and it is granted at once; and where it
-    /// was condemned by then, all that it can do is abort. One that is leaked waits on, until the session
-    /// is dropped; a path that is leaked counts as one that continues, until the session's next wait.
+    /// A future that is dropped while it waits cancels its wait. If the lock was granted by then, the
+    /// transaction keeps it until its end, as all its locks: no command lowers a mode. So a task that gave
+    /// up a lock by a timeout may request it again, and it is granted at once. If the transaction was
+    /// condemned by then, it can only abort. A leaked future waits on until the session is dropped; a
+    /// leaked path counts as one that continues until the session's next wait.
     ///
-    /// A deadline of the session counts ([`set_deadline`](Session::set_deadline)), where somebody polls the
-    /// future then ([`Table::expire`]).
+    /// The session's deadline counts ([`set_deadline`](Session::set_deadline)) if the future is polled then
+    /// ([`Table::expire`]).
     ///
     /// ```
     /// # use burlapslate::{Detect, Mode, Table, SLOTS};
@@ -439,16 +440,16 @@ impl<'t> Session<'t> {
             .await
     }
 
-    /// As [`lock_path`](Session::lock_path), for a task, as [`lock_async`](Session::lock_async). Behind each
-    /// grant on the way the task is woken, to ask for the next lock. Where the future is dropped, what was
-    /// locked before stays locked.
+    /// As [`lock_path`](Session::lock_path), for a task, as [`lock_async`](Session::lock_async). After each
+    /// grant on the way the task is woken, to request the next lock. If the future is dropped, the locks
+    /// acquired before stay.
     pub async fn lock_path_async(&mut self, node: Node, mode: Mode) -> Result<Mode, Stop> {
         self.sought_async(Sought::path(node, mode, Stay::Kept))
             .await
     }
 
-    /// As [`lock_row`](Session::lock_row), for a task, as [`lock_async`](Session::lock_async). Where the future
-    /// is dropped behind a grant, the row is held, and its keys were not looked at.
+    /// As [`lock_row`](Session::lock_row), for a task, as [`lock_async`](Session::lock_async). If the future
+    /// is dropped after a grant, the row is held, and its keys were not looked at.
     pub async fn lock_row_async(
         &mut self,
         row: Row,
@@ -460,20 +461,20 @@ impl<'t> Session<'t> {
         self.table.lock_async(self.txn, sought, until).await
     }
 
-    /// Locks a node with what has to be held above it, as [`lock_path`](Session::lock_path) takes it, but
-    /// each lock by a try, in one hold of the latch: it never sleeps, joins no queue and fells nobody. It
-    /// answers the mode that is held then, or the node, which is this one or one above it, that it would
-    /// have to wait for.
+    /// Locks a node with what must be held above it, as [`lock_path`](Session::lock_path) does, but each
+    /// lock by a try, in one critical section: the call never sleeps, joins no queue and makes nobody a
+    /// victim. It answers the mode that is held then, or the node, this one or one above it, for which the
+    /// transaction would have to wait.
     ///
     /// Refused as [`lock`](crate::Manager::lock), but never with [`NeedParents`](Refusal::NeedParents), and
     /// before anything is locked; [`NoMemory`](Refusal::NoMemory) and [`WornOut`](Refusal::WornOut) may also
-    /// come behind some of the locks.
+    /// be answered after some of the locks.
     ///
-    /// Where it is not done behind some of the locks, `keep` says what becomes of these. With
-    /// [`Keep::Nothing`] each node that this call took anew is released again, the last first. A node that
-    /// was held before stays in the mode to which it was raised, since no mode is ever lowered. So does a
-    /// node of which the transaction holds a child by another parent since before, with what is above it;
-    /// and all of them behind [`WornOut`](Refusal::WornOut).
+    /// If the call fails after some of the locks, `keep` says what becomes of these. With [`Keep::Nothing`]
+    /// each node that this call newly acquired is released again, the last first. A node that was held
+    /// before stays in the mode to which it was converted, since no mode is ever lowered. A node of which
+    /// the transaction already held a child by another parent stays too, with what is above it. After
+    /// [`WornOut`](Refusal::WornOut) all of them stay.
     ///
     /// ```
     /// # use burlapslate::{Detect, Keep, Mode, Table, Tried, SLOTS};
@@ -497,13 +498,12 @@ impl<'t> Session<'t> {
         self.table.try_lock_path(self.txn, node, mode, keep)
     }
 
-    /// As [`lock_row`](Session::lock_row), but it never sleeps, joins no queue and fells nobody: where the
-    /// row would have to be waited for it answers its node, and nothing was changed.
+    /// As [`lock_row`](Session::lock_row), but the call never sleeps, joins no queue and makes nobody a
+    /// victim: if the transaction would have to wait, the call answers the row's node and changes nothing.
     ///
-    /// Refused as [`Manager::lock_row`](crate::Manager::lock_row), and nothing was changed then, also for
-    /// want of memory. Where the transaction held the row before, and memory or numbers are wanting behind
-    /// the grant, it is held with [`RowLocked::OtherKeys`]; so it is where the last number went for the
-    /// grant.
+    /// Refused as [`Manager::lock_row`](crate::Manager::lock_row); a refused call changes nothing, also for
+    /// want of memory. If the transaction held the row before, and memory or numbers are missing after the
+    /// grant, the answer is [`RowLocked::OtherKeys`]; it is the same if the grant used the last number.
     pub fn try_lock_row(
         &mut self,
         row: Row,
@@ -599,7 +599,7 @@ impl<'t> Session<'t> {
         self.table.ask(|m| m.insert(self.txn, file, keys))
     }
 
-    /// As [`Manager::delete`](crate::Manager::delete). Who sleeps for the record is woken.
+    /// As [`Manager::delete`](crate::Manager::delete). Threads that sleep for the record are woken.
     pub fn delete(&mut self, record: Node) -> Result<(), Refusal> {
         self.table.serve(|m| m.delete(self.txn, record).map(drop))
     }
@@ -616,8 +616,8 @@ impl<'t> Session<'t> {
             .serve(|m| m.move_node(self.txn, node, parents).map(drop))
     }
 
-    /// As [`Manager::drop_node`](crate::Manager::drop_node). Who sleeps for the node is woken, and answered
-    /// [`Stop::Gone`].
+    /// As [`Manager::drop_node`](crate::Manager::drop_node). Threads that sleep for the node are woken and
+    /// answered [`Stop::Gone`].
     pub fn drop_node(&mut self, node: Node) -> Result<(), Refusal> {
         self.table.serve(|m| m.drop_node(self.txn, node).map(drop))
     }
@@ -633,8 +633,8 @@ impl<'t> Session<'t> {
             .ask(|m| m.index_by(self.txn, parents, file, bounds))
     }
 
-    /// Commits, wakes whoever is granted by that, and lets its rows go. One that is refused, since the
-    /// transaction was condemned or another thread ended it, is aborted.
+    /// Commits, wakes the waiters that are granted by it, and lets its rows go. If the commit is refused,
+    /// because the transaction was condemned or another thread ended it, the session is aborted.
     ///
     /// Refused as [`Manager::commit`](crate::Manager::commit).
     pub fn commit(mut self) -> Result<(), Refusal> {
@@ -646,8 +646,8 @@ impl<'t> Session<'t> {
     /// Aborts. A session that is dropped does the same.
     pub fn abort(self) {}
 
-    /// Lets the transaction live on without a session, with its locks, as one that is prepared: whoever
-    /// has its name ends it by [`Table::commit`] or [`Table::abort`].
+    /// Keeps the transaction and its locks without a session, as for one that is prepared: any thread
+    /// with its name ends it by [`Table::commit`] or [`Table::abort`].
     pub fn leave(mut self) -> Txn {
         self.has_ended = true;
         self.txn
@@ -657,7 +657,7 @@ impl<'t> Session<'t> {
 impl Drop for Session<'_> {
     fn drop(&mut self) {
         if !self.has_ended {
-            let _ = self.table.abort(self.txn); // Refused where another thread has ended it.
+            let _ = self.table.abort(self.txn); // Refused if another thread has ended it.
         }
     }
 }
@@ -668,7 +668,7 @@ impl fmt::Debug for Session<'_> {
     }
 }
 
-/// When so much time will be over; `None` where that is beyond the clock.
+/// The time after this duration; `None` if that is beyond the clock.
 pub(crate) fn deadline(time: Duration) -> Option<Instant> {
     Instant::now().checked_add(time)
 }
