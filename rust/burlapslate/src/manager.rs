@@ -12,18 +12,18 @@ use crate::watcher::Watcher;
 use crate::SLOTS;
 use std::fmt;
 
-/// What an ask for a lock comes to.
+/// What a request for a lock answers.
 #[must_use = "a lock that is waited for is not granted"]
 #[derive(Clone, Copy, PartialEq, Eq, Hash, Debug)]
 pub enum Asked {
-    /// It was granted: the transaction holds the node in this mode, in which what it held and what
-    /// it asked for are joined.
+    /// Granted: the transaction holds the node in this mode, the supremum of what it held and what it
+    /// requested.
     Granted(Mode),
-    /// The transaction waits, and does nothing else until a notice of another's command tells it
-    /// the end, or it cancels or aborts. [`Manager::waiting`] says for what.
+    /// The transaction waits, and does nothing else until a notice of another transaction's command ends
+    /// the wait, or it cancels or aborts. [`Manager::waiting`] says for what.
     Waiting,
-    /// Its wait closed a cycle of waits, and it is the one to give way: it is condemned, keeps its
-    /// locks, and can only abort.
+    /// Its wait closed a cycle of waits, and it is the victim: it is condemned, keeps its locks, and can
+    /// only abort.
     Victim,
 }
 
@@ -39,20 +39,20 @@ impl Asked {
     }
 }
 
-/// What an ask for a row's lock comes to.
+/// What a request for a row's lock answers.
 #[must_use = "a row that is waited for is not held, and one with other keys lies elsewhere"]
 #[derive(Clone, Copy, PartialEq, Eq, Hash, Debug)]
 pub enum RowAsked {
-    /// It was granted: the transaction holds the row in this mode, and the keys that were said are
-    /// those of the row's node.
+    /// Granted: the transaction holds the row in this mode, and the keys of the call are those of the
+    /// row's node.
     Granted(Mode),
-    /// It was granted as well, but the row's node has other keys than were said. The engine looks at
-    /// the row's keys again. Where they are others, it unlocks the row and begins anew.
+    /// Granted as well, but the row's node has other keys than the call's. The engine reads the row's
+    /// keys again. If they differ from the call's, it unlocks the row and starts again.
     OtherKeys(Mode),
-    /// The transaction waits, as with [`Asked::Waiting`]. Behind the grant the row is asked for again,
-    /// which waits for nothing and says whether the keys are those of the row's node.
+    /// The transaction waits, as with [`Asked::Waiting`]. After the grant the row is requested again; that
+    /// does not wait, and says whether the keys are those of the row's node.
     Waiting,
-    /// The asker is condemned, as with [`Asked::Victim`].
+    /// The transaction is condemned, as with [`Asked::Victim`].
     Victim,
 }
 
@@ -75,14 +75,14 @@ impl RowAsked {
 pub enum Reached {
     /// To its end: the transaction holds the node in this mode.
     Granted(Mode),
-    /// To this node, the path's own or one above it, for which the transaction waits. Once it is
-    /// granted the path is asked for again.
+    /// To this node, the path's own or one above it, for which the transaction waits. After the grant the
+    /// path is requested again.
     Waiting(Node),
-    /// To a lock whose wait closed a cycle of waits, and by which the transaction fell: it is
+    /// To a lock whose wait closed a cycle of waits of which the transaction is the victim: it is
     /// condemned, keeps its locks, and can only abort.
     Victim,
-    /// To this node above, which was granted by the fall of others. The path is asked for again, when
-    /// all who are told have heard.
+    /// To this node above, which was granted because others were condemned. The path is requested again
+    /// after all notices were delivered.
     Above(Node),
 }
 
@@ -91,7 +91,7 @@ pub enum Reached {
 pub struct Wait {
     /// The node.
     pub node: Node,
-    /// The mode in which it is to hold the node.
+    /// The mode in which it would hold the node.
     pub mode: Mode,
 }
 
@@ -99,7 +99,7 @@ pub struct Wait {
 #[derive(Clone, Copy, PartialEq, Eq, Hash, Debug)]
 pub struct Mark(usize);
 
-/// How an escalation went.
+/// What an escalation did.
 #[derive(Clone, Copy, PartialEq, Eq, Hash, Debug)]
 pub struct Escalated {
     /// The mode in which the node is held now.
@@ -122,12 +122,11 @@ impl Escalated {
 
 /// A lock manager.
 ///
-/// It is used by one thread at a time, now one and now another: it is `Send`, and not `Sync`.
-/// Threads share one in a `Mutex`. No call waits, so none holds the mutex for long.
+/// One thread uses it at a time: it is `Send`, and not `Sync`. Threads can share one in a `Mutex`. No
+/// call waits, so none holds the mutex for long.
 ///
-/// Commands take it by `&mut`. Questions change nothing and take it by `&`. A dropped manager ends,
-/// whatever its transactions do, and gives back all memory that it took; that costs a walk over all
-/// that it has.
+/// Commands take it by `&mut`. Questions change nothing and take it by `&`. A manager can be dropped
+/// whatever its transactions do; that frees all its memory, and costs a walk over all that it has.
 ///
 /// ```compile_fail,E0277
 /// # use burlapslate::{Detect, Manager};
@@ -137,7 +136,7 @@ impl Escalated {
 /// });
 /// ```
 ///
-/// The notices of a command lie in the manager, and are read before its next call:
+/// The notices of a command are kept in the manager, and must be read before its next call:
 ///
 /// ```compile_fail,E0502
 /// # use burlapslate::{Detect, Manager};
@@ -171,8 +170,8 @@ pub struct Options {
 }
 
 impl Options {
-    /// For [`SLOTS`] transactions and 65,536 nodes at once, and 256 bounds of an index; of those in a deadlock
-    /// the youngest falls.
+    /// For [`SLOTS`] transactions and 65,536 nodes at once, and 256 bounds of an index; the victim of a
+    /// deadlock is its youngest member.
     pub fn new(detect: Detect) -> Options {
         Options {
             detect,
@@ -208,8 +207,8 @@ impl Options {
 }
 
 impl Manager {
-    /// Makes a manager for `most` transactions at once, 1 to [`SLOTS`], with a way of detection. Of
-    /// those in a deadlock the youngest falls.
+    /// Makes a manager for `most` transactions at once, 1 to [`SLOTS`], with a way of detection. The
+    /// victim of a deadlock is its youngest member.
     ///
     /// Refused with [`BadNumber`](Refusal::BadNumber), [`NoMemory`](Refusal::NoMemory). Takes
     /// memory, more for more transactions.
@@ -249,8 +248,8 @@ impl Manager {
 
 /// # The graph
 ///
-/// No path closes, whatever is made, moved or removed. These take memory; each answers the new
-/// node. They tell nobody. Nodes go by [`drop_node`](Manager::drop_node), and no name is ever given twice.
+/// The graph never has a cycle, whatever is made, moved or removed. These calls take memory, answer the
+/// new node and notify nobody. [`drop_node`](Manager::drop_node) removes nodes; no name is ever given twice.
 impl Manager {
     /// A new inner node under 0 to 8 different inner nodes; without parents it is a root.
     ///
@@ -270,8 +269,8 @@ impl Manager {
     }
 
     /// A new file of rows, under 1 to 8 different inner nodes. Each of its records is a [`Row`], which
-    /// the engine names by a number of its own, and comes, goes and gets other keys by the calls about
-    /// rows alone. A file is of records or of rows for good.
+    /// the engine names by a number of its own, and which only the calls about rows make, remove and
+    /// rekey. A file is of records or of rows for good.
     ///
     /// Refused as [`add_inner`](Manager::add_inner), but that [`NoMemory`](Refusal::NoMemory) may come
     /// before all but [`BadNumber`](Refusal::BadNumber).
@@ -292,13 +291,13 @@ impl Manager {
     }
 
     /// A new index of a file that has no records, and of which no row ever had a node by
-    /// [`adopt`](Manager::adopt) or [`lock_row`](Manager::lock_row); else [`index_by`](Manager::index_by)
-    /// makes one. It lies under 1 to 8 different inner nodes, and has up to 256 bounds, or as many as were chosen by [`bounds`](Options::bounds). They rise
-    /// from above 0: interval 0 has the keys below the first bound, interval i those from bound i - 1 on.
-    /// Each interval is a node.
+    /// [`adopt`](Manager::adopt) or [`lock_row`](Manager::lock_row); otherwise use
+    /// [`index_by`](Manager::index_by). It is under 1 to 8 different inner nodes, and has up to 256 bounds,
+    /// or up to the number chosen by [`bounds`](Options::bounds). Bounds rise from above 0: interval 0 has
+    /// the keys below the first bound, interval i those from bound i - 1 on. Each interval is a node.
     ///
     /// Refused with [`BadNumber`](Refusal::BadNumber), [`WornOut`](Refusal::WornOut),
-    /// [`NoSuchNode`](Refusal::NoSuchNode), [`BadParents`](Refusal::BadParents) (also where the
+    /// [`NoSuchNode`](Refusal::NoSuchNode), [`BadParents`](Refusal::BadParents) (also if the
     /// file has 7 indexes), [`FileInUse`](Refusal::FileInUse), [`BadKeys`](Refusal::BadKeys),
     /// [`TooManyNodes`](Refusal::TooManyNodes), [`NoMemory`](Refusal::NoMemory). Costs a step for
     /// each bound.
@@ -327,9 +326,9 @@ impl Manager {
 
 /// # Transactions and locks
 ///
-/// A call that tells somebody answers the [`Notices`] too. The caller of a lock and of a cancel is
-/// not told: it has its answer. What ends something or gives something back takes no memory and
-/// cannot fail for want of it; the notices take none either.
+/// A call that notifies transactions answers the [`Notices`] too. The caller of a lock and of a cancel
+/// is not notified: it has its answer. Calls that end or release something take no memory and cannot
+/// fail for want of it; nor do notices.
 impl Manager {
     /// A new transaction.
     ///
@@ -339,12 +338,13 @@ impl Manager {
         accepted(sys::bs_call_begin(&mut self.pinned.place)).map(|reply| reply.txn)
     }
 
-    /// A new transaction, as by [`begin`](Manager::begin), for work that an earlier one was to do, which fell or gave
-    /// up: `since` is the age of the first of these ([`Txn::age`](Txn::age)). Of a deadlock's members the one falls
-    /// whose work is the latest by that number, of several such the youngest; the number of one that
-    /// [`begin`](Manager::begin) began is its own age. So work that begins again with its first number falls only for
-    /// work that is older. With [`Victims::Fewest`](crate::Victims::Fewest) its oldest member falls also where nobody
-    /// else ends a deadlock. A number above its own age counts as that.
+    /// A new transaction, as by [`begin`](Manager::begin), that retries work of an earlier one, which was a
+    /// victim or gave up: `since` is the age of the first that tried ([`Txn::age`](Txn::age)). The victim of
+    /// a deadlock is the member whose work is the latest by that number, and of several such the youngest;
+    /// the number of a transaction that [`begin`](Manager::begin) made is its own age. So work that is
+    /// retried with its first number is a victim only for older work. With
+    /// [`Victims::Fewest`](crate::Victims::Fewest) the oldest member is a victim also if no other member alone
+    /// ends the deadlock. A number above the transaction's own age counts as that age.
     ///
     /// Refused as [`begin`](Manager::begin).
     ///
@@ -366,23 +366,23 @@ impl Manager {
         accepted(sys::bs_call_begin_again(&mut self.pinned.place, since)).map(|reply| reply.txn)
     }
 
-    /// Asks for a mode on a node: to read ([`IS`](Mode::IS), [`S`](Mode::S)) intentions to read or
-    /// more are needed on one parent, to write ([`IX`](Mode::IX), [`SIX`](Mode::SIX),
-    /// [`X`](Mode::X)) intentions to write or more on all parents. What is held and what is asked
-    /// join.
+    /// Requests a mode on a node. To read ([`IS`](Mode::IS), [`S`](Mode::S)) the transaction needs `IS` or
+    /// greater on one parent; to write ([`IX`](Mode::IX), [`SIX`](Mode::SIX), [`X`](Mode::X)) it needs `IX`
+    /// or greater on all parents. A node that is held is converted to the supremum of the held and the
+    /// requested mode.
     ///
-    /// Where it is not granted at once the transaction waits, and with detection at block victims are
-    /// condemned, by the choice of [`Victims`](crate::Victims), until it is on no cycle: others are
-    /// told [`Notice::Victim`](crate::Notice::Victim), it itself is answered [`Asked::Victim`]. As
-    /// those who are condemned leave their queues, others may be granted, and it itself.
+    /// If the lock is not granted at once the transaction waits. With detection at block, victims are then
+    /// condemned, by the choice of [`Victims`](crate::Victims), until it is on no cycle: the others are
+    /// told [`Notice::Victim`](crate::Notice::Victim), the transaction itself is answered
+    /// [`Asked::Victim`]. Condemned transactions leave their queues, by which others may be granted, and
+    /// the transaction itself.
     ///
     /// Refused with [`WornOut`](Refusal::WornOut), [`NoSuchTxn`](Refusal::NoSuchTxn),
     /// [`TxnWaiting`](Refusal::TxnWaiting), [`TxnCondemned`](Refusal::TxnCondemned),
     /// [`NoSuchNode`](Refusal::NoSuchNode), [`BadMode`](Refusal::BadMode),
-    /// [`NeedParents`](Refusal::NeedParents), [`NoMemory`](Refusal::NoMemory). Takes memory, but
-    /// for a node that the transaction holds already, granted at once. Costs one look-up of the
-    /// node and one for each parent; where it waits with detection at block a search along the
-    /// waits too.
+    /// [`NeedParents`](Refusal::NeedParents), [`NoMemory`](Refusal::NoMemory). Takes memory, except
+    /// for a conversion that is granted at once. Costs one look-up of the node and one for each parent;
+    /// if it waits with detection at block, a search along the waits too.
     ///
     /// ```
     /// # use burlapslate::{Asked, Detect, Manager, Mode, Refusal, SLOTS};
@@ -408,14 +408,14 @@ impl Manager {
         Ok((Asked::of(&reply)?, Notices::of(told)))
     }
 
-    /// Locks a node with what has to be held above it: intentions, root first, on all parents to
-    /// write, and to read on the first, where none is held already; then the node in its mode. Each
-    /// is a lock as [`lock`](Manager::lock) asks for it, and a command. What is held already is not
-    /// asked for. What was locked stays locked, however far it came.
+    /// Locks a node with what must be held above it: intentions, root first, on all parents to write; to
+    /// read, on the first if none is held already; then the node in its mode. Each is requested as by
+    /// [`lock`](Manager::lock), and is one command. What is held already is not requested. The locks that
+    /// were acquired stay, however far the path came.
     ///
-    /// Refused as [`lock`](Manager::lock), but never with [`NeedParents`](Refusal::NeedParents).
-    /// Nothing was locked then, but that [`NoMemory`](Refusal::NoMemory) and
-    /// [`WornOut`](Refusal::WornOut) may come behind some of the locks, which stay.
+    /// Refused as [`lock`](Manager::lock), but never with [`NeedParents`](Refusal::NeedParents). Then
+    /// nothing was locked, except that [`NoMemory`](Refusal::NoMemory) and [`WornOut`](Refusal::WornOut)
+    /// may be answered after some of the locks, which stay.
     ///
     /// ```
     /// # use burlapslate::{Detect, Manager, Mode, Reached, SLOTS};
@@ -446,9 +446,9 @@ impl Manager {
         Ok((reached, Notices::of(told)))
     }
 
-    /// As [`lock`](Manager::lock), but where the lock cannot be granted at once it is refused with
-    /// [`WouldBlock`](Refusal::WouldBlock), after the other refusals but
-    /// [`NoMemory`](Refusal::NoMemory). It never waits and tells nobody; it answers the mode that
+    /// As [`lock`](Manager::lock), but if the lock cannot be granted at once it is refused with
+    /// [`WouldBlock`](Refusal::WouldBlock), after all other refusals except
+    /// [`NoMemory`](Refusal::NoMemory). The call never waits and notifies nobody; it answers the mode that
     /// is held now.
     pub fn try_lock(&mut self, txn: Txn, node: Node, mode: Mode) -> Result<Mode, Refusal> {
         let reply = sys::bs_call_try(&mut self.pinned.place, txn, node, mode as u32);
@@ -468,25 +468,25 @@ impl Manager {
         Ok(Notices::of(told))
     }
 
-    /// A savepoint of a transaction, for [`release_since`](Manager::release_since). Nothing is kept for it.
-    /// It is good until the transaction gives a lock back that it had by then, or another takes that
-    /// lock's node away.
+    /// A savepoint of a transaction, for [`release_since`](Manager::release_since). Nothing is stored for it.
+    /// It is exact until the transaction releases a lock that it had by then, or another transaction
+    /// removes that lock's node. One made during a wait counts that wait, and a cancel of it releases it.
     ///
     /// Refused with [`NoSuchTxn`](Refusal::NoSuchTxn).
     pub fn mark(&self, txn: Txn) -> Result<Mark, Refusal> {
         self.lock_count(txn).map(Mark)
     }
 
-    /// Goes back to a savepoint: releases what the transaction has locked since, children before their
-    /// parents, and answers how many nodes that were. What it had by then it has still, in that mode, or
-    /// in the greater one to which it was raised since: no mode is ever lowered. A node of which it holds
-    /// a child still stays too: that was held before by another parent, or was raised since, which took
-    /// intentions on all its parents. Rows that nobody holds any more are let go. Behind a savepoint that
-    /// is not good any more fewer nodes go, and never one of before.
+    /// Rolls the locks back to a savepoint: releases the nodes that the transaction locked since, children
+    /// before their parents, and answers how many. Locks from before the savepoint stay, in their mode then
+    /// or in the greater one to which they were converted since: no mode is ever lowered. A node of which
+    /// the transaction still holds a child stays too: that child was held before by another parent, or was
+    /// converted since, which needed intentions on all its parents. Rows that nobody holds any more are let
+    /// go. If the savepoint is no longer exact, fewer nodes are released, and never one from before it.
     ///
-    /// It is one command for each node. Refused, before anything is released, with
+    /// Each node is one command. Refused, before anything is released, with
     /// [`NoSuchTxn`](Refusal::NoSuchTxn), [`TxnWaiting`](Refusal::TxnWaiting),
-    /// [`TxnCondemned`](Refusal::TxnCondemned), and with [`WornOut`](Refusal::WornOut) where not each lock
+    /// [`TxnCondemned`](Refusal::TxnCondemned), and with [`WornOut`](Refusal::WornOut) if not each lock
     /// since can be counted. Takes no memory. Costs a step for each lock since, for each waiter that is
     /// granted, and for each row that the transaction has asked for.
     ///
@@ -510,7 +510,7 @@ impl Manager {
         Ok((reply.count as usize, Notices::of(told)))
     }
 
-    /// Takes the wait of a transaction back. A row that it waited for is let go.
+    /// Cancels the wait of a transaction. A row that it waited for is let go.
     ///
     /// Refused with [`WornOut`](Refusal::WornOut), [`NoSuchTxn`](Refusal::NoSuchTxn),
     /// [`TxnCondemned`](Refusal::TxnCondemned), [`NotWaiting`](Refusal::NotWaiting). Takes no
@@ -548,8 +548,8 @@ impl Manager {
         Ok(Notices::of(told))
     }
 
-    /// Ends a transaction whatever it is doing, and releases everything, its rows among it. What it did
-    /// stays done: undo it first.
+    /// Ends a transaction whatever it is doing, and releases everything, its rows among it. It undoes
+    /// nothing: undo what the transaction wrote first.
     ///
     /// Refused with [`WornOut`](Refusal::WornOut), [`NoSuchTxn`](Refusal::NoSuchTxn). Takes no
     /// memory. Costs as [`commit`](Manager::commit).
@@ -560,8 +560,8 @@ impl Manager {
     }
 
     /// Condemns victims, by the choice of [`Victims`](crate::Victims), until the transaction is on no
-    /// cycle of waits; whoever is condemned is told [`Notice::Victim`](crate::Notice::Victim), the
-    /// transaction itself among them. It is how a watcher ends deadlocks.
+    /// cycle of waits. Each victim is told [`Notice::Victim`](crate::Notice::Victim), also if it is the
+    /// transaction itself. A watcher ends deadlocks by this call.
     ///
     /// Refused with [`WornOut`](Refusal::WornOut), [`NoSuchTxn`](Refusal::NoSuchTxn). Takes no
     /// memory.
@@ -571,7 +571,7 @@ impl Manager {
         Ok(Notices::of(told))
     }
 
-    /// Raises the lock of a node to [`X`](Mode::X) where the transaction writes below it, else to
+    /// Converts the lock of a node to [`X`](Mode::X) if the transaction writes below it, else to
     /// [`S`](Mode::S), and releases the children whose locks that implies. Rows that it released are let
     /// go. It never waits.
     ///
@@ -589,11 +589,11 @@ impl Manager {
 
 /// # Records, and nodes that move
 ///
-/// Nodes that move tell waiters whose wait is over. An insert, delete, adopt, forget or rekey of a record
+/// A move notifies the waiters whose wait it ends. An insert, delete, adopt, forget or rekey of a record
 /// of a file of rows is refused with [`RowsByNumber`](Refusal::RowsByNumber), before all else.
 impl Manager {
     /// A new record of a file, with a key for each of the file's indexes, in order of their making.
-    /// It lies under the file and, for each index, the interval of its key, and is held in
+    /// Its parents are the file and, for each index, the interval of its key. The transaction holds it in
     /// [`X`](Mode::X).
     ///
     /// Refused with [`WornOut`](Refusal::WornOut), [`NoSuchTxn`](Refusal::NoSuchTxn),
@@ -607,8 +607,8 @@ impl Manager {
     }
 
     /// A new record of a file, as [`insert`](Manager::insert) makes one, but for no transaction: nobody
-    /// holds it, and no locks are asked for. It is for an engine that itself gives its rows nodes while
-    /// they are locked. From then on no index of the file is made but by [`index_by`](Manager::index_by).
+    /// holds it, and no locks are needed. It is for an engine that itself gives its rows nodes while they
+    /// are locked. From then on only [`index_by`](Manager::index_by) makes an index of the file.
     ///
     /// Refused with [`WornOut`](Refusal::WornOut), [`NoSuchNode`](Refusal::NoSuchNode),
     /// [`BadParents`](Refusal::BadParents) (no file), [`BadKeys`](Refusal::BadKeys),
@@ -618,7 +618,7 @@ impl Manager {
         accepted(sys::adopt(&mut self.pinned.place, file, keys)).map(|reply| reply.node)
     }
 
-    /// Takes a record away that nobody holds and nobody waits for.
+    /// Removes a record that nobody holds and nobody waits for.
     ///
     /// Refused with [`WornOut`](Refusal::WornOut), [`NoSuchNode`](Refusal::NoSuchNode),
     /// [`BadParents`](Refusal::BadParents) (no record), [`RecordInUse`](Refusal::RecordInUse). Takes no
@@ -627,7 +627,7 @@ impl Manager {
         accepted(sys::bs_call_forget(&mut self.pinned.place, record)).map(drop)
     }
 
-    /// Takes a record away that the transaction holds in [`X`](Mode::X). Who waits for it is told
+    /// Removes a record that the transaction holds in [`X`](Mode::X). Its waiters are told
     /// [`Notice::Gone`](crate::Notice::Gone).
     ///
     /// Refused with [`WornOut`](Refusal::WornOut), [`NoSuchTxn`](Refusal::NoSuchTxn),
@@ -640,9 +640,9 @@ impl Manager {
         Ok(Notices::of(told))
     }
 
-    /// Gives a record another key for one index, and so another interval. Lawful with
-    /// [`X`](Mode::X) on the record and [`IX`](Mode::IX) or more on the new parents, or with `X` on
-    /// all old and new parents. Who waits for it and no longer meets the rule of the graph is told
+    /// Gives a record another key for one index, and so another interval. The transaction needs
+    /// [`X`](Mode::X) on the record and [`IX`](Mode::IX) or greater on the new parents, or `X` on all old
+    /// and new parents. A waiter that no longer holds what it needs above the record is told
     /// [`Notice::Moved`](crate::Notice::Moved).
     ///
     /// Refused with [`WornOut`](Refusal::WornOut), [`NoSuchTxn`](Refusal::NoSuchTxn),
@@ -663,9 +663,9 @@ impl Manager {
     }
 
     /// Gives an inner node, a file or an index other parents; an inner node without parents becomes
-    /// a root. Lawful with [`X`](Mode::X) on the node and [`IX`](Mode::IX) or more on the new
-    /// parents, or, where there are both, with `X` on all old and new parents. Who waits for it and
-    /// no longer meets the rule of the graph is told [`Notice::Moved`](crate::Notice::Moved).
+    /// a root. The transaction needs [`X`](Mode::X) on the node and [`IX`](Mode::IX) or greater on
+    /// the new parents, or, if there are both, `X` on all old and new parents. A waiter that no longer
+    /// holds what it needs above the node is told [`Notice::Moved`](crate::Notice::Moved).
     ///
     /// Refused with [`BadNumber`](Refusal::BadNumber), [`WornOut`](Refusal::WornOut),
     /// [`NoSuchTxn`](Refusal::NoSuchTxn), [`TxnWaiting`](Refusal::TxnWaiting),
@@ -688,14 +688,14 @@ impl Manager {
 
 /// # What a schema changes
 ///
-/// Both are for files of either kind. An abort undoes neither. The name of a node that is gone is never
-/// another's: whoever has kept it is refused with [`NoSuchNode`](Refusal::NoSuchNode).
+/// Both are for files of either kind. An abort undoes neither. The name of a removed node is never given
+/// again: a call with it is refused with [`NoSuchNode`](Refusal::NoSuchNode).
 impl Manager {
-    /// Takes away an inner node that has no children, a file that has no records and no indexes, or an index
-    /// with its intervals, of whose file no record stands. The transaction holds [`X`](Mode::X) on the node,
-    /// and for an index on its file too. All locks on the node and on its intervals go, its own among them.
-    /// Who waits for it is told [`Notice::Gone`](crate::Notice::Gone). Behind an index that goes, the later
-    /// ones of its file have their places and their keys one lower.
+    /// Removes an inner node that has no children, a file that has no records and no indexes, or an index
+    /// with its intervals if its file has no record. The transaction holds [`X`](Mode::X) on the node, and
+    /// for an index on its file too. All locks on the node and on its intervals end, its own among them.
+    /// Its waiters are told [`Notice::Gone`](crate::Notice::Gone). After an index is removed, the places
+    /// and the keys of the file's later indexes are one lower.
     ///
     /// Refused with [`WornOut`](Refusal::WornOut), [`NoSuchTxn`](Refusal::NoSuchTxn),
     /// [`TxnWaiting`](Refusal::TxnWaiting), [`TxnCondemned`](Refusal::TxnCondemned),
@@ -724,15 +724,15 @@ impl Manager {
         Ok(Notices::of(told))
     }
 
-    /// A new index of a file of which no record stands now, with parents and bounds as
+    /// A new index of a file that has no record now, with parents and bounds as
     /// [`add_index`](Manager::add_index) takes them. It is the last of the file's indexes. The transaction
-    /// holds [`X`](Mode::X) on the file and [`IX`](Mode::IX) or more on each parent, and holds the index in
-    /// `X` from then on: so nobody comes by the new index until it ends.
+    /// needs [`X`](Mode::X) on the file and [`IX`](Mode::IX) or greater on each parent, and holds the index
+    /// in `X` from then on, so nobody locks by the new index until it ends.
     ///
     /// Refused with [`BadNumber`](Refusal::BadNumber), [`WornOut`](Refusal::WornOut),
     /// [`NoSuchTxn`](Refusal::NoSuchTxn), [`TxnWaiting`](Refusal::TxnWaiting),
     /// [`TxnCondemned`](Refusal::TxnCondemned), [`NoSuchNode`](Refusal::NoSuchNode),
-    /// [`BadParents`](Refusal::BadParents) (also where the file has 7 indexes),
+    /// [`BadParents`](Refusal::BadParents) (also if the file has 7 indexes),
     /// [`NeedExclusive`](Refusal::NeedExclusive), [`NeedParents`](Refusal::NeedParents),
     /// [`FileInUse`](Refusal::FileInUse), [`BadKeys`](Refusal::BadKeys),
     /// [`TooManyNodes`](Refusal::TooManyNodes), [`NoMemory`](Refusal::NoMemory). Takes memory. It tells
@@ -752,38 +752,40 @@ impl Manager {
 /// # Rows by the engine's own numbers
 ///
 /// A [`Row`] of a file of rows ([`add_row_file`](Manager::add_row_file)) has a node while some transaction
-/// holds it or waits for it: [`lock_row`](Manager::lock_row) makes the node, and the other calls with `row`
-/// in their names take it away behind the last of these. No row has two nodes, and no two rows have one.
+/// holds it or waits for it. [`lock_row`](Manager::lock_row) makes the node.
+/// [`unlock_row`](Manager::unlock_row), [`rekey_row`](Manager::rekey_row), [`commit`](Manager::commit),
+/// [`abort`](Manager::abort), [`cancel`](Manager::cancel), [`escalate`](Manager::escalate) and
+/// [`release_since`](Manager::release_since) let a row go: after the last transaction that holds it or waits
+/// for it they remove its node, if that transaction asked for the row by number. No row has two nodes, and
+/// no two rows have one.
 ///
 /// The keys are the row's own, one for each index of its file in the order of making. Only the engine knows
-/// them. It reads them before it locks the row, and looks at them again behind each grant. Where they are
-/// others by then it gives the row back by [`unlock_row`](Manager::unlock_row), and begins anew: with the
-/// keys of now, and with what has to be held above them.
+/// them. It reads them before it locks the row, and again after each grant. If they differ by then it
+/// releases the row by [`unlock_row`](Manager::unlock_row) and starts again, with the present keys and with
+/// what must be held above them.
 ///
-/// A row that is to be inserted is locked in [`X`](Mode::X) by its number, with the keys that it will have.
-/// One that is to be deleted is locked in `X` too, and keeps its lock, its node and its number until its
-/// transaction ends.
+/// To insert a row, lock it in [`X`](Mode::X) by its number, with the keys that it will have. To delete one,
+/// lock it in `X` too; it keeps its lock, its node and its number until its transaction ends.
 ///
-/// [`commit`](Manager::commit), [`abort`](Manager::abort), [`cancel`](Manager::cancel),
-/// [`escalate`](Manager::escalate) and [`unlock`](Manager::unlock) let no row go: its node stands on
-/// then, and goes when the row is next let go. Each call is one command, and each node that comes or goes
-/// by it is one more. A call with `rows` in its name goes over all rows that its transaction asked for: a
-/// look-up for each, and a step for each node that goes.
+/// [`unlock`](Manager::unlock) of the row's node lets no row go: the node then stays until the row is next
+/// let go. Each call is one command, and each node that it makes or removes is one more. Calls that end a
+/// transaction, an escalation and a cancel go over all rows that the transaction asked for: a look-up for
+/// each, and a step for each removed node.
 impl Manager {
     /// Locks a row by its node, which is answered too, as [`lock`](Manager::lock) locks a node. A row
-    /// without a node gets one with these keys; so does one whose node has other keys, where nobody
-    /// holds that or waits for it. Any other row is locked by the node that it has, whatever keys are
-    /// said. What has to be held above that node is the caller's to lock: a parent that is wanting is
-    /// named by [`NeedParents`](Refusal::NeedParents).
+    /// without a node gets one with these keys; so does one whose node has other keys, if nobody holds
+    /// that node or waits for it. Any other row is locked by the node that it has, whatever the keys of
+    /// the call. The caller locks what must be held above that node:
+    /// [`NeedParents`](Refusal::NeedParents) names a missing parent.
     ///
-    /// Refused with [`NotRows`](Refusal::NotRows). Else a row that keeps its node is refused as
+    /// Refused with [`NotRows`](Refusal::NotRows). Otherwise a row that keeps its node is refused as
     /// [`lock`](Manager::lock) of that node. One that gets a node is refused with
-    /// [`WornOut`](Refusal::WornOut) where fewer than two commands can be counted any more, or three
-    /// where another node goes for it; [`NoSuchTxn`](Refusal::NoSuchTxn),
+    /// [`WornOut`](Refusal::WornOut) if fewer than two commands can be counted any more, or three if
+    /// another node is removed for it; [`NoSuchTxn`](Refusal::NoSuchTxn),
     /// [`TxnWaiting`](Refusal::TxnWaiting), [`TxnCondemned`](Refusal::TxnCondemned),
-    /// [`BadKeys`](Refusal::BadKeys), [`TooManyNodes`](Refusal::TooManyNodes), also where another node
-    /// would go for it, [`BadMode`](Refusal::BadMode), [`NeedParents`](Refusal::NeedParents).
-    /// [`NoMemory`](Refusal::NoMemory) may come before all of these. Takes memory.
+    /// [`BadKeys`](Refusal::BadKeys), [`TooManyNodes`](Refusal::TooManyNodes), also if another node would
+    /// be removed for it, [`BadMode`](Refusal::BadMode), [`NeedParents`](Refusal::NeedParents).
+    /// [`NoMemory`](Refusal::NoMemory) may be answered before all of these. Takes memory.
     ///
     /// ```
     /// # use burlapslate::{Detect, Manager, Mode, Row, RowAsked, SLOTS};
@@ -811,11 +813,11 @@ impl Manager {
         Ok((RowAsked::of(&reply)?, reply.node, Notices::of(told)))
     }
 
-    /// Releases a row, as [`unlock`](Manager::unlock) releases its node, which goes where nobody else
-    /// holds it or waits for it.
+    /// Releases a row, as [`unlock`](Manager::unlock) releases its node, and removes the node if nobody
+    /// else holds it or waits for it.
     ///
     /// Refused with [`NotRows`](Refusal::NotRows), and then as [`unlock`](Manager::unlock); a row without
-    /// a node is refused as a node that is gone. Takes no memory.
+    /// a node is refused as a removed node. Takes no memory.
     pub fn unlock_row(&mut self, txn: Txn, row: Row) -> Result<Notices<'_>, Refusal> {
         let Pinned { place, told } = &mut *self.pinned;
         accepted(sys::bs_call_unlock_row(
@@ -827,7 +829,7 @@ impl Manager {
     /// Gives a row another key for one index, as [`rekey`](Manager::rekey) does its node.
     ///
     /// Refused with [`NotRows`](Refusal::NotRows), and then as [`rekey`](Manager::rekey); a row without a
-    /// node is refused as a node that is gone. Takes no memory.
+    /// node is refused as a removed node. Takes no memory.
     pub fn rekey_row(
         &mut self,
         txn: Txn,
@@ -842,8 +844,8 @@ impl Manager {
         Ok(Notices::of(told))
     }
 
-    /// The node of a row, for questions and for [`verdict`](Manager::verdict). `None` where it has none,
-    /// also where its file is none of rows.
+    /// The node of a row, for questions and for [`verdict`](Manager::verdict). `None` if it has none, also
+    /// if its file is no file of rows.
     pub fn row_node(&self, row: Row) -> Option<Node> {
         let reply = sys::bs_call_row_node(&self.pinned.place, row.file, row.number);
         (reply.status == sys::DONE).then_some(reply.node)
@@ -856,8 +858,8 @@ impl Manager {
 /// look-up or two; what costs more says so. They may be asked about a transaction that waits or is
 /// condemned.
 impl Manager {
-    /// The group mode of a node: the least that covers all that is held on it, [`NL`](Mode::NL)
-    /// where nobody holds it.
+    /// The group mode of a node: the supremum of the modes held on it, [`NL`](Mode::NL) if nobody holds
+    /// it.
     ///
     /// Refused with [`NoSuchNode`](Refusal::NoSuchNode).
     pub fn group(&self, node: Node) -> Result<Mode, Refusal> {
@@ -880,7 +882,7 @@ impl Manager {
         mode_in(sys::bs_call_effective(&self.pinned.place, txn, node))
     }
 
-    /// What a transaction waits for; `None` where it does not wait, or does not live.
+    /// What a transaction waits for; `None` if it does not wait, or does not live.
     pub fn waiting(&self, txn: Txn) -> Option<Wait> {
         match self.doing(txn) {
             Ok(Doing::Waiting(wait)) => Some(wait),
@@ -890,7 +892,7 @@ impl Manager {
 
     /// How many children of a node a transaction holds.
     ///
-    /// Refused with [`NotHeld`](Refusal::NotHeld) where it does not live or does not hold the node.
+    /// Refused with [`NotHeld`](Refusal::NotHeld) if it does not live or does not hold the node.
     pub fn children(&self, txn: Txn, node: Node) -> Result<u64, Refusal> {
         accepted(sys::bs_call_children(&self.pinned.place, txn, node)).map(|reply| reply.count)
     }
@@ -903,7 +905,7 @@ impl Manager {
     }
 
     /// A parent of a node, by its place from 0 on; of a record first its file and then, for each
-    /// index, an interval. `None` where there are fewer, or the node does not live.
+    /// index, an interval. `None` if there are fewer, or the node does not live.
     ///
     /// ```
     /// # use burlapslate::{Detect, Manager, SLOTS};
@@ -918,15 +920,15 @@ impl Manager {
         placed(sys::bs_call_parent(&self.pinned.place, node, place)).map(|reply| reply.node)
     }
 
-    /// A key of a record, by the place of its index. `None` where there are fewer, or the name
+    /// A key of a record, by the place of its index. `None` if there are fewer, or the name
     /// names no record.
     pub fn key(&self, record: Node, place: usize) -> Option<u64> {
         placed(sys::bs_call_key(&self.pinned.place, record, place)).map(|reply| reply.count)
     }
 
-    /// An index of a file, by its place in the order of making; `None` where there are fewer.
+    /// An index of a file, by its place in the order of making; `None` if there are fewer.
     ///
-    /// Refused with [`NoSuchNode`](Refusal::NoSuchNode) where the name names no file.
+    /// Refused with [`NoSuchNode`](Refusal::NoSuchNode) if the name names no file.
     pub fn index(&self, file: Node, place: usize) -> Result<Option<Node>, Refusal> {
         let reply = sys::bs_call_index(&self.pinned.place, file, place);
         if reply.status == sys::NO_PLACE {
@@ -935,15 +937,15 @@ impl Manager {
         accepted(reply).map(|reply| Some(reply.node))
     }
 
-    /// An interval of an index, by its place. `None` where there are fewer, or the name names no
+    /// An interval of an index, by its place. `None` if there are fewer, or the name names no
     /// index.
     pub fn interval(&self, index: Node, place: usize) -> Option<Node> {
         placed(sys::bs_call_interval(&self.pinned.place, index, place)).map(|reply| reply.node)
     }
 
-    /// The interval of an index in which a key lies.
+    /// The interval of an index that contains a key.
     ///
-    /// Refused with [`NoSuchNode`](Refusal::NoSuchNode) where the name names no index. Costs a
+    /// Refused with [`NoSuchNode`](Refusal::NoSuchNode) if the name names no index. Costs a
     /// binary search.
     pub fn interval_of(&self, index: Node, key: u64) -> Result<Node, Refusal> {
         accepted(sys::bs_call_interval_of(&self.pinned.place, index, key)).map(|reply| reply.node)
@@ -951,7 +953,7 @@ impl Manager {
 
     /// The place of an interval in its index.
     ///
-    /// Refused with [`NoSuchNode`](Refusal::NoSuchNode) where the name names no interval.
+    /// Refused with [`NoSuchNode`](Refusal::NoSuchNode) if the name names no interval.
     pub fn place(&self, interval: Node) -> Result<usize, Refusal> {
         let reply = sys::bs_call_place(&self.pinned.place, interval);
         accepted(reply).map(|reply| reply.count as usize)
@@ -959,7 +961,7 @@ impl Manager {
 
     /// Whether a file has records.
     ///
-    /// Refused with [`NoSuchNode`](Refusal::NoSuchNode) where the name names no file.
+    /// Refused with [`NoSuchNode`](Refusal::NoSuchNode) if the name names no file.
     pub fn has_records(&self, file: Node) -> Result<bool, Refusal> {
         accepted(sys::bs_call_has_records(&self.pinned.place, file)).map(|reply| reply.count != 0)
     }
@@ -974,7 +976,7 @@ impl Manager {
         self.len() == 0
     }
 
-    /// How many commands were accepted: all that were neither refused nor questions.
+    /// How many commands were accepted; refused commands and questions do not count.
     pub fn accepted(&self) -> u64 {
         answered(sys::bs_call_accepted(&self.pinned.place))
     }
@@ -984,7 +986,7 @@ impl Manager {
         Detect::of(answered(sys::bs_call_detect(&self.pinned.place)))
     }
 
-    /// Whom a deadlock takes.
+    /// The choice of a deadlock's victims.
     pub fn victims(&self) -> Victims {
         Victims::of(answered(sys::bs_call_victims(&self.pinned.place)))
     }
