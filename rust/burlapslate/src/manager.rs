@@ -1011,11 +1011,11 @@ impl Manager {
 
 /// # Waits and watchers
 ///
-/// What whoever lets threads sleep asks, as [`Table`](crate::Table) does.
+/// Questions for a layer that puts threads to sleep, such as [`Table`](crate::Table).
 impl Manager {
-    /// What became of a lock that was left waiting for this node: `None` where the wait goes on; the
-    /// mode now held, which covers the asked one; or why it was not granted. It is
-    /// [`Stop::Cancelled`] where it does not wait for the node and no notice tells why.
+    /// How the wait for this node ended: `None` if the transaction still waits; the mode now held, which
+    /// covers the requested one; or why the lock was not granted. The answer is [`Stop::Cancelled`] if the
+    /// transaction does not wait for the node and no notice says why.
     ///
     /// ```
     /// # use burlapslate::{Asked, Detect, Manager, Mode, SLOTS};
@@ -1043,8 +1043,9 @@ impl Manager {
         })
     }
 
-    /// The slots whose wait the last command that was accepted may have ended: whose sleepers are to
-    /// be woken. No other transaction's wait was ended by it.
+    /// The slots whose wait the last accepted command may have ended, whose sleepers must be woken. It ended
+    /// no other transaction's wait. A [`release_since`](Manager::release_since) that releases nothing leaves
+    /// none.
     pub fn ended(&self) -> Slots {
         found(sys::bs_call_ended(&self.pinned.place)).unwrap_or(Slots::NONE)
     }
@@ -1064,8 +1065,8 @@ impl Manager {
 
 /// # Listings
 ///
-/// Who lives, who holds what and who waits where. They change nothing, and all that is asked between
-/// two commands is of one moment. Rows can be printed.
+/// The living transactions, their locks and their waits. These calls change nothing, and all answers
+/// between two commands are of one moment. Rows can be printed.
 impl Manager {
     /// How many transactions may live at once.
     pub fn most(&self) -> usize {
@@ -1133,7 +1134,7 @@ impl Manager {
         Ok(reply.count as usize)
     }
 
-    /// The nodes that a transaction holds or waits for, each once; none where it does not live.
+    /// The nodes that a transaction holds or waits for, each once; none if it does not live.
     pub fn locks(&self, txn: Txn) -> impl Iterator<Item = LockRow> + '_ {
         let row = move |reply: Reply| LockRow {
             txn,
@@ -1147,7 +1148,7 @@ impl Manager {
         })
     }
 
-    /// The slots of those who hold a node.
+    /// The slots of the holders of a node.
     ///
     /// Refused with [`NoSuchNode`](Refusal::NoSuchNode).
     pub fn holders(&self, node: Node) -> Result<Slots, Refusal> {
@@ -1155,7 +1156,7 @@ impl Manager {
     }
 
     /// The mode in which the transaction of a slot holds a node, [`NL`](Mode::NL) for none, also
-    /// where there is no such slot.
+    /// if there is no such slot.
     pub fn mode_at(&self, slot: usize, node: Node) -> Mode {
         if slot >= SLOTS {
             return Mode::NL;
@@ -1164,7 +1165,7 @@ impl Manager {
         Mode::of(answered_in_full(reply).mode)
     }
 
-    /// Who waits for a node, the first to be granted first.
+    /// The waiters of a node, the first to be granted first.
     ///
     /// Refused with [`NoSuchNode`](Refusal::NoSuchNode).
     pub fn queue(&self, node: Node) -> Result<impl Iterator<Item = Waiter> + '_, Refusal> {
@@ -1178,22 +1179,22 @@ impl Manager {
         }))
     }
 
-    /// The slots of those for whom a transaction waits; none where it does not wait.
+    /// The slots of the transactions for which a transaction waits; none if it does not wait.
     ///
     /// Refused with [`NoSuchTxn`](Refusal::NoSuchTxn).
     pub fn waits_for(&self, txn: Txn) -> Result<Slots, Refusal> {
         found(sys::bs_call_waits_for(&self.pinned.place, txn))
     }
 
-    /// How many stand ahead of a transaction that waits, in the queue of its node: those alone, and members that
-    /// will be raised, can be granted the node before it.
+    /// How many waiters are ahead of a waiting transaction in the queue of its node. Only those, and holders
+    /// that request a conversion, can be granted the node before it.
     ///
     /// Refused with [`NoSuchTxn`](Refusal::NoSuchTxn), [`NotWaiting`](Refusal::NotWaiting).
     pub fn ahead(&self, txn: Txn) -> Result<u64, Refusal> {
         accepted(sys::bs_call_ahead(&self.pinned.place, txn)).map(|reply| reply.count)
     }
 
-    /// The deadlock of which the last victim fell; `None` where nobody ever fell.
+    /// The deadlock that the last victim was condemned for; `None` if there was no victim yet.
     pub fn last_deadlock(&self) -> Option<Deadlock> {
         let mut deadlock = sys::Deadlock::new();
         placed(sys::bs_call_last_deadlock(
@@ -1244,7 +1245,7 @@ fn found(found: sys::Found) -> Result<Slots, Refusal> {
     accepted(Reply::with_status(status)).map(|_| found.slots)
 }
 
-/// The reply of a question that asks for a place; `None` where there are fewer.
+/// The reply of a question that asks for a place; `None` if there are fewer.
 fn placed(reply: Reply) -> Option<Reply> {
     if reply.status == sys::NO_PLACE {
         return None;

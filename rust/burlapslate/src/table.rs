@@ -21,8 +21,8 @@ pub(crate) use locks::{Sought, Stay};
 /// A table of granular locks that threads share: a [`Manager`] behind one mutex, its latch, with a
 /// condition for each slot.
 ///
-/// A thread begins a [`Session`], which sleeps while its locks are waited for; each command that
-/// ends the wait of somebody wakes who sleeps for it.
+/// A thread begins a [`Session`], whose calls sleep while their locks wait. Each command that ends a wait
+/// wakes the thread or task that waits.
 ///
 /// ```
 /// use burlapslate::{Detect, Mode, Stop, Table, SLOTS};
@@ -43,14 +43,13 @@ pub(crate) use locks::{Sought, Stay};
 /// # Ok::<(), burlapslate::Refusal>(())
 /// ```
 ///
-/// What is proved: what each command does, whom it tells, what became of a wait and whose sleepers
-/// are to be woken. Written in Rust here, and tested: the mutex, the conditions, and the calls round
-/// them.
+/// Proved are: what each command does, whom it tells, how a wait ended and which slots' sleepers must be
+/// woken. Written in Rust here, and tested: the mutex, the conditions, and the calls around them.
 pub struct Table {
     latch: Mutex<Guarded>,
     /// By slot: a wait may be over.
     ended: [Condvar; SLOTS],
-    /// A lock was left waiting, or nobody is to watch any more.
+    /// A lock was left waiting, or the watches end.
     began: Condvar,
 }
 
@@ -58,19 +57,19 @@ struct Guarded {
     manager: Manager,
     /// How many commands had been accepted when the last lock was left waiting.
     waited: u64,
-    /// Whether those who watch over the table are to end.
+    /// Whether the threads that watch over the table must end.
     is_unwatched: bool,
-    /// Those who sleep for a slot: none is free while there is one.
+    /// The threads that sleep for a slot: no slot is free while there is one.
     turns: Turns,
-    /// By slot, who sleeps on a path.
+    /// By slot, the thread that sleeps on a path.
     paths: Box<[Option<Path>]>,
-    /// Those who wait and sleep in no thread.
+    /// The waits for which no thread sleeps.
     tasks: Tasks,
-    /// By slot, who waits for a lock for an instant.
+    /// By slot, the wait for a lock for an instant.
     instants: Box<[Option<InstantLock>]>,
 }
 
-/// One who sleeps on a path.
+/// A thread that sleeps on a path.
 #[derive(Clone, Copy)]
 struct Path {
     txn: Txn,
@@ -82,8 +81,8 @@ struct Path {
 }
 
 impl Table {
-    /// Makes a table for `most` transactions at once, 1 to [`SLOTS`], with a way of detection. Of
-    /// those in a deadlock the youngest falls.
+    /// Makes a table for `most` transactions at once, 1 to [`SLOTS`], with a way of detection. The victim
+    /// of a deadlock is its youngest member.
     ///
     /// Refused as [`Manager::new`].
     pub fn new(detect: Detect, most: usize) -> Result<Table, Refusal> {
@@ -115,8 +114,8 @@ impl Table {
         })
     }
 
-    /// A new transaction, in the hands of this thread. While somebody sleeps for a slot
-    /// ([`begin_in_turn`](Table::begin_in_turn)) none is free, and it is refused with
+    /// A new transaction, for this thread. While a thread sleeps for a slot
+    /// ([`begin_in_turn`](Table::begin_in_turn)) no slot is free, and the call is refused with
     /// [`TooManyTxns`](Refusal::TooManyTxns).
     ///
     /// Refused as [`Manager::begin`].
@@ -125,14 +124,14 @@ impl Table {
         Ok(Session::of(self, txn))
     }
 
-    /// As [`begin`](Table::begin), but where all slots are taken it sleeps until one is its own. Those
-    /// who sleep for a slot are served in the order in which they came: whoever ends a transaction
-    /// begins the next for the first of them. So nobody who came later is served before.
+    /// As [`begin`](Table::begin), but if all slots are taken the thread sleeps until it has one. Threads
+    /// that sleep for a slot are served in the order of their arrival: the thread that ends a transaction
+    /// begins the next one for the first of them.
     ///
-    /// One who sleeps has no transaction, so it is on no cycle of waits. A thread that has a session
-    /// still, and sleeps for another, may wait for itself, and nobody finds that.
+    /// A thread that sleeps for a slot has no transaction there, so it is on no cycle of waits. If it has
+    /// another session open it may wait for itself, and no detection finds that.
     ///
-    /// Refused as [`Manager::begin`], but never with [`TooManyTxns`](Refusal::TooManyTxns). To sleep takes
+    /// Refused as [`Manager::begin`], but never with [`TooManyTxns`](Refusal::TooManyTxns). A sleep takes
     /// memory.
     ///
     /// ```
@@ -155,11 +154,11 @@ impl Table {
     /// ```
     pub fn begin_in_turn(&self) -> Result<Session<'_>, Refusal> {
         let begun = self.begin_until(None, None)?;
-        begun.ok_or(Refusal::TooManyTxns) // But no time comes first.
+        begun.ok_or(Refusal::TooManyTxns) // Without a deadline it never times out.
     }
 
-    /// As [`begin`](Table::begin), of a transaction for work that wants to be done since an earlier begin, as
-    /// [`Manager::begin_again`] has it.
+    /// As [`begin`](Table::begin), for work that an earlier transaction began, as
+    /// [`Manager::begin_again`].
     ///
     /// ```
     /// # use burlapslate::{Detect, Mode, Stop, Table, SLOTS};
@@ -179,22 +178,22 @@ impl Table {
         Ok(Session::of(self, txn))
     }
 
-    /// As [`begin_in_turn`](Table::begin_in_turn), for work that wants to be done since an earlier begin. That is no
-    /// earlier place in the line of those who sleep for a slot.
+    /// As [`begin_in_turn`](Table::begin_in_turn), for work that an earlier transaction began. It gives no
+    /// earlier place in the begin queue.
     pub fn begin_again_in_turn(&self, since: u64) -> Result<Session<'_>, Refusal> {
         let begun = self.begin_until(Some(since), None)?;
-        begun.ok_or(Refusal::TooManyTxns) // But no time comes first.
+        begun.ok_or(Refusal::TooManyTxns) // Without a deadline it never times out.
     }
 
-    /// As [`begin_in_turn`](Table::begin_in_turn), but it sleeps no longer than this time, and is
-    /// answered [`Stop::TimedOut`] then. A slot that is free at the same moment is a begin.
+    /// As [`begin_in_turn`](Table::begin_in_turn), but the thread sleeps no longer than this time, and the
+    /// answer is then [`Stop::TimedOut`]. If a slot was freed for it by then, the transaction has begun.
     pub fn begin_timeout(&self, time: Duration) -> Result<Session<'_>, Stop> {
         self.begin_until(None, deadline(time))?
             .ok_or(Stop::TimedOut)
     }
 
-    /// As [`begin`](Table::begin), of a session that is one of the table's owners: whatever keeps it, as a
-    /// connection does, needs no table beside it.
+    /// As [`begin`](Table::begin), for a session that is one of the table's owners: what stores the session,
+    /// such as a connection, need not store the table.
     ///
     /// ```
     /// use burlapslate::{Detect, Mode, Session, Table, SLOTS};
@@ -218,17 +217,17 @@ impl Table {
         Ok(Session::shared(self, self.begin()?))
     }
 
-    /// As [`begin_in_turn`](Table::begin_in_turn), of a session that is one of the table's owners.
+    /// As [`begin_in_turn`](Table::begin_in_turn), for a session that is one of the table's owners.
     pub fn begin_shared_in_turn(self: &Arc<Table>) -> Result<Session<'static>, Refusal> {
         Ok(Session::shared(self, self.begin_in_turn()?))
     }
 
-    /// As [`begin_again`](Table::begin_again), of a session that is one of the table's owners.
+    /// As [`begin_again`](Table::begin_again), for a session that is one of the table's owners.
     pub fn begin_shared_again(self: &Arc<Table>, since: u64) -> Result<Session<'static>, Refusal> {
         Ok(Session::shared(self, self.begin_again(since)?))
     }
 
-    /// As [`begin_again_in_turn`](Table::begin_again_in_turn), of a session that is one of the table's owners.
+    /// As [`begin_again_in_turn`](Table::begin_again_in_turn), for a session that is one of the table's owners.
     pub fn begin_shared_again_in_turn(
         self: &Arc<Table>,
         since: u64,
@@ -236,7 +235,7 @@ impl Table {
         Ok(Session::shared(self, self.begin_again_in_turn(since)?))
     }
 
-    /// As [`begin_timeout`](Table::begin_timeout), of a session that is one of the table's owners.
+    /// As [`begin_timeout`](Table::begin_timeout), for a session that is one of the table's owners.
     pub fn begin_shared_timeout(
         self: &Arc<Table>,
         time: Duration,
@@ -279,8 +278,8 @@ impl Table {
         self.with(|m| m.row_node(row))
     }
 
-    /// Ends a transaction whatever it is doing, from any thread, and lets its rows go. Whoever sleeps
-    /// for it is woken, and answered [`Refusal::NoSuchTxn`].
+    /// Ends a transaction whatever it is doing, from any thread, and lets its rows go. A thread or task that
+    /// waits for it is woken and answered [`Refusal::NoSuchTxn`].
     ///
     /// Refused as [`Manager::abort`].
     pub fn abort(&self, txn: Txn) -> Result<(), Refusal> {
@@ -295,9 +294,9 @@ impl Table {
         self.serve(|m| m.commit(txn).map(drop))
     }
 
-    /// Takes the wait of a transaction back, from any thread. Whoever sleeps for it is woken, and
-    /// answered [`Stop::Cancelled`]. A row that only it waited for is let go. One whose wait on the way of
-    /// a path was granted, and that is not awake yet, is answered so too: its path ends there.
+    /// Cancels the wait of a transaction, from any thread. The thread or task that waits is woken and
+    /// answered [`Stop::Cancelled`]. A row that only this transaction waited for is let go. If a lock on the
+    /// way of a path was granted and its thread is not awake yet, that path ends and is answered so too.
     ///
     /// Refused as [`Manager::cancel`].
     pub fn cancel(&self, txn: Txn) -> Result<(), Refusal> {
@@ -317,8 +316,8 @@ impl Table {
         })
     }
 
-    /// Asks questions that are all of one moment, with the latch held. A closure that calls this
-    /// table again never comes to an end.
+    /// Asks questions that are all of one moment, with the latch held. A closure that calls this table
+    /// again never ends.
     ///
     /// ```
     /// # use burlapslate::{Detect, Mode, Table, SLOTS};
@@ -351,8 +350,8 @@ impl Table {
 
     /// Ends deadlocks, for a table with [`Detect::ByWatcher`], until
     /// [`end_watch`](Table::end_watch) is called: looks as a watcher does, settles every suspect, the
-    /// youngest first, and rests for this time behind each look. While no lock has been left waiting
-    /// since it looked it sleeps. It counts as a watcher.
+    /// youngest first, and rests for this time after each look. It sleeps while no lock has been left
+    /// waiting since its last look. It counts as a watcher.
     ///
     /// Refused as [`Manager::watch`].
     ///
@@ -383,7 +382,7 @@ impl Table {
     pub fn watch_over(&self, rest: Duration) -> Result<(), Refusal> {
         let mut watcher = self.watch()?;
         let mut board = Board::new();
-        let mut seen = 0; // It never falls: all waits up to this count of commands are settled.
+        let mut seen = 0; // It never decreases: all waits up to this count of commands are settled.
         let mut guarded = self.guarded();
         while !guarded.is_unwatched {
             if guarded.waited <= seen {
@@ -404,7 +403,7 @@ impl Table {
         Ok(())
     }
 
-    /// Ends all who watch over the table, now and from now on.
+    /// Ends all watches over the table, now and from now on.
     pub fn end_watch(&self) {
         self.guarded().is_unwatched = true;
         self.began.notify_all();
@@ -413,7 +412,7 @@ impl Table {
 
 /// What a [`Session`] asks.
 impl Table {
-    /// Serves a command that tells nobody.
+    /// Serves a command that notifies nobody.
     pub(crate) fn ask<T>(
         &self,
         command: impl FnOnce(&mut Manager) -> Result<T, Refusal>,
@@ -421,7 +420,7 @@ impl Table {
         command(&mut self.guarded().manager)
     }
 
-    /// Serves a command that never waits, and wakes whose wait it ended.
+    /// Serves a command that never waits, and wakes those whose wait it ended.
     pub(crate) fn serve<T>(
         &self,
         command: impl FnOnce(&mut Manager) -> Result<T, Refusal>,
@@ -433,8 +432,8 @@ impl Table {
         Ok(answer)
     }
 
-    /// Begins, or sleeps for a slot; `None`, where its time came first. Whether its turn has come is asked
-    /// before the clock.
+    /// Begins, or sleeps for a slot; `None` if the time was over first. It asks whether its turn has come
+    /// before it asks the clock.
     fn begin_until(
         &self,
         since: Option<u64>,
@@ -470,8 +469,8 @@ impl Table {
         Ok(())
     }
 
-    /// Sleeps until the wait has its end, or the time is over. What became of the wait is asked before the clock, and
-    /// before a sleep: the call that began the wait may have ended it. Tasks whose wait the call has ended are woken
+    /// Sleeps until the wait or the time is over. It asks how the wait ended before it asks the clock and before it
+    /// sleeps, because the call that began the wait may have ended it. Tasks whose wait the call has ended are woken
     /// before it sleeps.
     fn sleep<'t>(
         &'t self,
@@ -500,7 +499,7 @@ impl Table {
         }
     }
 
-    /// Takes back the wait of one whose time is over.
+    /// Cancels a wait whose time is over.
     fn time_out(&self, guarded: &mut Guarded, txn: Txn) -> Stop {
         let end = match guarded.manager.cancel(txn).map(drop) {
             Ok(()) => Stop::TimedOut,
@@ -510,8 +509,8 @@ impl Table {
         end
     }
 
-    /// Wakes those whose wait the last command may have ended: tasks where the latch is given back. A lock that was
-    /// granted for an instant is given back before anybody else has the latch, that of the lowest slot first.
+    /// Wakes those whose wait the last command may have ended; tasks as the latch is released. A lock that was granted
+    /// for an instant is released before another thread has the latch, that of the lowest slot first.
     fn wake(&self, guarded: &mut Guarded) {
         let mut granted = self.note_ended(guarded);
         while let Some(slot) = granted.iter().next() {
@@ -534,8 +533,8 @@ impl Table {
         ended.iter().filter(is_instant).collect()
     }
 
-    /// Settles every suspect of a board, the youngest first, while somebody is to watch. The latch is free between two
-    /// of them: each searches the whole graph of waits.
+    /// Settles every suspect of a board, the youngest first, until the watches end. The latch is free between two of
+    /// them, because each searches the whole graph of waits.
     fn settle_all<'t>(&'t self, mut guarded: Hold<'t>, board: &mut Board) -> Hold<'t> {
         while let Some(slot) = board.youngest(board.suspects()) {
             if guarded.is_unwatched {
@@ -548,8 +547,8 @@ impl Table {
         guarded
     }
 
-    /// Settles a suspect of a board. It, and each transaction that this tells, is taken off the board: so none is
-    /// settled whose cycles are open by then.
+    /// Settles a suspect of a board. It removes the suspect, and each transaction that this notifies, from the board:
+    /// so none is settled whose cycles are broken by then.
     fn settle_one(&self, guarded: &mut Guarded, board: &mut Board, slot: usize) {
         let settled = board
             .txn(slot)
@@ -563,7 +562,7 @@ impl Table {
         }
     }
 
-    /// Lets some time go by, but no longer than somebody is to watch.
+    /// Sleeps for this time, or until the watches end.
     fn rest<'t>(&'t self, mut guarded: Hold<'t>, time: Duration) -> Hold<'t> {
         let until = deadline(time);
         let mut is_late = time.is_zero();
@@ -576,8 +575,8 @@ impl Table {
         guarded
     }
 
-    /// Takes the latch. A thread that panics does so in a closure of [`with`](Table::with), which
-    /// changes nothing: so what is guarded is whole also then.
+    /// Acquires the latch. A thread can panic only in a closure of [`with`](Table::with), which changes
+    /// nothing: so the guarded state is whole also then.
     fn guarded(&self) -> Hold<'_> {
         Hold::of(self)
     }
@@ -599,7 +598,7 @@ impl Path {
 }
 
 impl Guarded {
-    /// Ends the path of one whose wait is over, but that would wake to wait for the next node: whether
+    /// Ends the path of a thread whose wait is over but that would wake to wait for the next node: whether
     /// there is one.
     fn cancels_path(&mut self, txn: Txn) -> bool {
         let Some(path) = &mut self.paths[txn.slot()] else {
@@ -616,7 +615,7 @@ impl Guarded {
         goes_on
     }
 
-    /// One who slept on a path is awake: whether that was cancelled.
+    /// A thread that slept on a path is awake: whether that path was cancelled.
     fn leaves_path(&mut self, txn: Txn) -> bool {
         let place = &mut self.paths[txn.slot()];
         let own = place.take_if(|path| path.txn == txn);
@@ -634,7 +633,7 @@ fn no_paths() -> Result<Box<[Option<Path>]>, Refusal> {
     Ok(paths.into_boxed_slice())
 }
 
-/// Begins a transaction for new work, or for such as wants to be done since an earlier begin.
+/// Begins a transaction for new work, or for work that an earlier one began.
 fn begin_since(manager: &mut Manager, since: Option<u64>) -> Result<Txn, Refusal> {
     match since {
         Some(since) => manager.begin_again(since),
@@ -642,8 +641,8 @@ fn begin_since(manager: &mut Manager, since: Option<u64>) -> Result<Txn, Refusal
     }
 }
 
-/// Behind what may have ended a transaction: begins for those who sleep for a slot, while one is free. So
-/// no hold of the latch leaves a slot free while somebody sleeps for one.
+/// After a call that may have ended a transaction: begins for the threads that sleep for a slot, while one is
+/// free. So no critical section leaves a slot free while a thread sleeps for one.
 fn hand_on(guarded: &mut Guarded) {
     let Guarded { manager, turns, .. } = guarded;
     while turns.has_next() {
@@ -654,7 +653,7 @@ fn hand_on(guarded: &mut Guarded) {
     }
 }
 
-/// Sleeps until somebody wakes this thread, but no longer than to a moment.
+/// Sleeps until this thread is woken, but no longer than to a moment.
 fn park_until(until: Option<Instant>) {
     match until {
         None => thread::park(),
