@@ -59,7 +59,7 @@ impl Slots {
 ///
 /// # Panics
 ///
-/// Where one is not below [`SLOTS`].
+/// If one is not below [`SLOTS`].
 impl FromIterator<usize> for Slots {
     fn from_iter<I: IntoIterator<Item = usize>>(slots: I) -> Slots {
         let mut words = [0; WORDS];
@@ -119,12 +119,11 @@ impl ExactSizeIterator for SlotIter {}
 
 impl FusedIterator for SlotIter {}
 
-/// Who waits for whom at one moment: one transaction waits for another where that one holds what is
-/// in its way, or stands ahead of it in the queue.
+/// Who waits for whom at one moment: a transaction waits for another that holds the node in an
+/// incompatible mode, or that is ahead of it in the queue.
 ///
 /// A board is a value of its own, which any thread may read without the manager and its mutex. It is large: some three
-/// kilobytes for 128 slots, 136 for 1,024. It may be older than what is; to settle a suspect of an old board does no
-/// harm.
+/// kilobytes for 128 slots, 136 for 1,024. It may be out of date; to settle a suspect of an old board does no harm.
 ///
 /// ```
 /// use burlapslate::{Asked, Detect, Manager, Mode, Notice, SLOTS};
@@ -149,7 +148,7 @@ impl FusedIterator for SlotIter {}
 pub struct Board(sys::Board);
 
 impl Board {
-    /// A board on which nobody lives, to read others into ([`Manager::read_board`]).
+    /// A board without transactions, to read others into ([`Manager::read_board`]).
     ///
     /// [`Manager::read_board`]: crate::Manager::read_board
     pub fn new() -> Board {
@@ -185,7 +184,7 @@ impl Board {
         &self.0.rows
     }
 
-    /// The transaction in a slot; `None` where the slot is free, or there is no such slot.
+    /// The transaction in a slot; `None` if the slot is free, or there is no such slot.
     pub fn txn(&self, slot: usize) -> Option<Txn> {
         match self.0.ages.get(slot) {
             None | Some(0) => None,
@@ -193,7 +192,7 @@ impl Board {
         }
     }
 
-    /// The slots on a cycle of waits with this slot; none where it is on none, or there is no such
+    /// The slots on a cycle of waits with this slot; none if it is on no cycle, or there is no such
     /// slot.
     ///
     /// Costs at most a step for each slot that it reaches, twice.
@@ -207,14 +206,13 @@ impl Board {
 
     /// The slots that are on any cycle of waits.
     ///
-    /// Costs a pass over the rows where nobody waits, else a step for each slot and each that
-    /// waits.
+    /// Costs a pass over the rows if nobody waits, else a step for each slot and each waiter.
     pub fn suspects(&self) -> Slots {
         found(sys::bs_call_suspects(&self.0))
     }
 
     /// The youngest of these slots, which has the greatest age, of equal ages the lowest; `None`
-    /// where there is no slot. It is whom a settle condemns first, of those on a cycle.
+    /// if there is no slot. Of the slots on a cycle, it is the one that a settle condemns first.
     pub fn youngest(&self, slots: Slots) -> Option<usize> {
         let reply = sys::bs_call_youngest(&self.0, &slots);
         match reply.status {

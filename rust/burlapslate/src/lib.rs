@@ -1,13 +1,13 @@
 //! A lock manager of granular locks, for storage engines.
 //!
 //! Transactions lock the nodes of a graph: inner nodes (a data base, an area), files, indexes of
-//! files, intervals of indexes, and records. Whoever locks a node holds intentions above it, so
-//! that a lock on a node stands for locks on all that lies below.
+//! files, intervals of indexes, and records. A transaction that locks a node holds intentions above
+//! it, so that a lock on a node is an implicit lock on everything below.
 //!
-//! The crate is a safe face of the library that `include/burlapslate.h` declares. What that header
-//! asks of a program in C is kept by the types here, but for two things: no call is made from a
-//! signal handler or from the forked child of a process with threads, and the program's `malloc`,
-//! `realloc` and `free` are one allocator's. Rust's own allocator may be another.
+//! The crate is a safe interface to the library that `include/burlapslate.h` declares. The types here
+//! keep what that header asks of a program in C, except for two rules: no call is made from a signal
+//! handler or from the forked child of a process with threads, and the program's `malloc`, `realloc`
+//! and `free` are one allocator's. Rust's own allocator may be another.
 //!
 //! ```
 //! use burlapslate::{Asked, Detect, Manager, Mode, Notice, SLOTS};
@@ -26,10 +26,10 @@
 //!
 //! # Threads
 //!
-//! A [`Table`] is what threads share: each begins a [`Session`], whose locks sleep until they are
-//! granted, and which is aborted where it is dropped without a commit. Where there are more threads than
-//! slots they [begin in turn](Table::begin_in_turn). A task of a runtime awaits its locks, and no thread
-//! sleeps ([`Session::lock_async`]). A [`Watcher`] looks at who waits for whom without its mutex.
+//! Threads share a [`Table`]. Each begins a [`Session`], whose lock calls sleep until the lock is
+//! granted, and which is aborted if it is dropped without a commit. If there are more threads than slots
+//! they [begin in turn](Table::begin_in_turn). A task of a runtime awaits its locks, and no thread sleeps
+//! ([`Session::lock_async`]). A [`Watcher`] reads who waits for whom without the mutex.
 //!
 //! ```
 //! use burlapslate::{Detect, Mode, Node, Stop, Table, SLOTS};
@@ -39,7 +39,7 @@
 //! fn write(table: &Table, node: Node) -> Result<(), Stop> {
 //!     let mut session = table.begin()?;
 //!     session.lock_path(node, Mode::X)?;
-//!     // Here the node is written. Where a lock comes to nothing, the session is dropped, and so
+//!     // Here the node is written. If a lock is not granted, the session is dropped, and so
 //!     // aborted.
 //!     session.commit()?;
 //!     Ok(())
@@ -57,31 +57,30 @@
 //! # Ok::<(), burlapslate::Refusal>(())
 //! ```
 //!
-//! A [`Manager`] is for those with a scheduler of their own. It is used by one thread at a time, now
-//! one and now another. No call waits: a lock that is not granted at once is answered with
-//! [`Asked::Waiting`], and a later call of another transaction tells its end by a [`Notice`].
-//! Whoever made that call hands it on, to where the waiting transaction sleeps, before the manager is
-//! used again, so that notices come in their order. [`Manager::verdict`] and [`Manager::ended`] say
-//! the same to those who only wake.
+//! A [`Manager`] is for programs with a scheduler of their own. One thread uses it at a time. No call
+//! waits: a lock that is not granted at once is answered with [`Asked::Waiting`], and a later call of
+//! another transaction ends the wait with a [`Notice`]. The caller of that call delivers the notice to
+//! the waiting transaction before the manager is used again, so that notices arrive in order.
+//! [`Manager::verdict`] and [`Manager::ended`] say the same to a program that only wakes its sleepers.
 //!
 //! # Refusals
 //!
-//! A call that is refused changed nothing. [`lock_path`](Manager::lock_path) is several locks, and says
-//! which of them may stay. Where several refusals hold, the first in the order of the call's list is
-//! answered ([`Refusal`]).
+//! A refused call changes nothing. [`lock_path`](Manager::lock_path) is several locks, and says which of
+//! them may stay. If several refusals apply, the first in the order of the call's list is answered
+//! ([`Refusal`]).
 //!
 //! # Memory
 //!
-//! Calls that end something or give something back take no memory and cannot fail for want of it:
+//! Calls that end or release something take no memory and cannot fail for want of it:
 //! [`unlock`](Manager::unlock), [`cancel`](Manager::cancel), [`commit`](Manager::commit),
 //! [`abort`](Manager::abort), [`settle`](Manager::settle), [`delete`](Manager::delete),
 //! [`rekey`](Manager::rekey), [`escalate`](Manager::escalate), of nodes and of rows. The others are
-//! refused with [`Refusal::NoMemory`] where the allocator refuses, and can be asked again. Beside the library's
-//! memory a manager takes 40 bytes for each slot when it is made, for the notices, and none afterwards; and a path
-//! that is tried, and is to keep nothing, some for the nodes that it takes.
+//! refused with [`Refusal::NoMemory`] if the allocator refuses, and can be made again. Beside the library's
+//! memory a manager takes 40 bytes for each slot when it is made, for the notices, and none afterwards; and a try of
+//! a path that keeps nothing takes some for the nodes that it acquires.
 //!
-//! With 1,024 slots a manager takes two megabytes of stack when it is made, and what reads a board 0.7: more than a thread
-//! has that is spawned as usual ([`std::thread::Builder::stack_size`]).
+//! With 1,024 slots, making a manager takes two megabytes of stack, and reading a board 0.7: more than a thread has by
+//! default ([`std::thread::Builder::stack_size`]).
 
 //!
 //! # The library
@@ -89,9 +88,9 @@
 //! The crate is linked with the library for C, of its own version. The build takes the archives that
 //! `BURLAPSLATE_LIBS` names; or else the folder of an installation that `BURLAPSLATE_DIR` names; or else the
 //! installation that `pkg-config` knows; or else, within the repository, what `tools/c_library.sh` builds. How many
-//! [`SLOTS`] there are says `BURLAPSLATE_SLOTS`; or else `include/burlapslate.h`, in the folder nearest above the archive
-//! that has it. A program that was built for another number than its library, or for another version, stops when it makes
-//! a manager or a board.
+//! [`SLOTS`] there are says `BURLAPSLATE_SLOTS`; or else `include/burlapslate.h`, in the folder nearest above the
+//! archive that has it. If a program was built for another number or another version than its library's, it stops when
+//! it makes a manager or a board.
 
 #![deny(missing_docs)]
 #![deny(unsafe_code)] // But for `sys`.

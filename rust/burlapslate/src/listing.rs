@@ -1,4 +1,4 @@
-//! Listings: who lives, who holds what and who waits where, the last deadlock and counters.
+//! Listings: the living transactions, their locks and waits, the last deadlock and counters.
 
 use crate::board::Slots;
 use crate::manager::{Manager, Wait};
@@ -11,7 +11,7 @@ use std::fmt;
 #[non_exhaustive]
 #[derive(Clone, Copy, PartialEq, Eq, Hash, Debug)]
 pub enum Doing {
-    /// It may ask for locks.
+    /// It may request locks.
     Active,
     /// It waits for a lock.
     Waiting(Wait),
@@ -30,19 +30,19 @@ impl fmt::Display for Doing {
     }
 }
 
-/// A transaction that lives.
+/// A living transaction.
 #[derive(Clone, Copy, PartialEq, Eq, Debug)]
 pub struct TxnRow {
     /// Its name.
     pub txn: Txn,
     /// What it is doing.
     pub doing: Doing,
-    /// For whom it waits: who holds the node in a mode that does not go with the wanted one, and
-    /// who stands ahead in its queue.
+    /// The transactions for which it waits: the holders of the node in a mode that is incompatible with the
+    /// wanted one, and the waiters ahead in its queue.
     pub waits_for: Slots,
 }
 
-/// Slot, age, what it is doing, and for what it waits behind whom.
+/// Slot, age, what it is doing, what it waits for, and for whom.
 impl fmt::Display for TxnRow {
     fn fmt(&self, f: &mut fmt::Formatter<'_>) -> fmt::Result {
         write!(
@@ -68,13 +68,13 @@ impl fmt::Display for TxnRow {
 /// A node that a transaction holds or waits for.
 #[derive(Clone, Copy, PartialEq, Eq, Debug)]
 pub struct LockRow {
-    /// Whose lock it is.
+    /// The transaction whose lock it is.
     pub txn: Txn,
     /// The node.
     pub node: Node,
-    /// The mode in which it is held, [`NL`](Mode::NL) where it is only waited for.
+    /// The mode in which it is held, [`NL`](Mode::NL) if the transaction only waits for it.
     pub mode: Mode,
-    /// The mode for which the transaction waits there; `None` where it does not.
+    /// The mode for which the transaction waits there; `None` if it does not.
     pub wants: Option<Mode>,
     /// How many of its children are held.
     pub children: u64,
@@ -93,7 +93,7 @@ impl fmt::Display for LockRow {
     }
 }
 
-/// Who waits for a node.
+/// A waiter of a node.
 #[derive(Clone, Copy, PartialEq, Eq, Debug)]
 pub struct Waiter {
     /// Its name.
@@ -109,18 +109,18 @@ impl fmt::Display for Waiter {
     }
 }
 
-/// One who waits on a cycle.
+/// A member of a deadlock.
 #[derive(Clone, Copy, PartialEq, Eq, Debug)]
 pub struct Stuck {
     /// Its name.
     pub txn: Txn,
     /// What it waits for.
     pub wait: Wait,
-    /// The slots of those on the cycle for whom it waits.
+    /// The slots of the members for which it waits.
     pub waits_for: Slots,
 }
 
-/// Slot, age, the wanted mode and node, and behind whom.
+/// Slot, age, the wanted mode and node, and for whom it waits.
 impl fmt::Display for Stuck {
     fn fmt(&self, f: &mut fmt::Formatter<'_>) -> fmt::Result {
         let (slot, age, wait) = (self.txn.slot(), self.txn.age(), self.wait);
@@ -136,13 +136,13 @@ impl fmt::Display for Stuck {
 /// A deadlock, as it was when its victim was condemned. Its transactions may have ended since.
 #[derive(Clone, PartialEq, Eq, Debug)]
 pub struct Deadlock {
-    /// Who was condemned to end it.
+    /// The transaction that was condemned to end it.
     pub victim: Txn,
-    /// Those on a cycle with the one that was settled, the victim among them, by rising slot.
+    /// The transactions on a cycle with the settled one, the victim among them, by rising slot.
     pub stuck: Vec<Stuck>,
 }
 
-/// The victim, and a row for each of those on the cycle.
+/// The victim, and a row for each member.
 impl fmt::Display for Deadlock {
     fn fmt(&self, f: &mut fmt::Formatter<'_>) -> fmt::Result {
         writeln!(
@@ -163,31 +163,31 @@ impl fmt::Display for Deadlock {
 #[repr(C)]
 #[derive(Clone, Copy, PartialEq, Eq, Debug, Default)]
 pub struct Counters {
-    /// All commands that were neither refused nor questions.
+    /// All accepted commands; questions do not count.
     pub accepted: u64,
-    /// Asks, by lock or by try, that were answered with a mode.
+    /// Requests, by lock or by try, that were granted at once.
     pub granted: u64,
     /// Locks that were answered with a wait.
     pub waited: u64,
-    /// Asks of a node that the transaction held already, where not refused.
+    /// Requests for a node that the transaction held already, unless refused.
     pub conversions: u64,
     /// Waits that ended with a grant.
     pub granted_later: u64,
     /// Transactions that were condemned to end a deadlock.
     pub condemned: u64,
-    /// Waits that ended since the node moved.
+    /// Waits that ended because the node moved.
     pub moved: u64,
-    /// Waits that ended since the node is gone.
+    /// Waits that ended because the node was removed.
     pub gone: u64,
     /// Escalations that were done.
     pub escalations: u64,
     /// Children that escalations released.
     pub released_children: u64,
-    /// The most transactions that waited at once, behind a lock that waits.
+    /// The most transactions that waited at once, after a lock that waits.
     pub most_waiting: u64,
-    /// The most that waited for one node at once, behind a lock that waits for it.
+    /// The most that waited for one node at once, after a lock that waits for it.
     pub longest_queue: u64,
-    /// Modes that were raised at once on a node for which somebody else waits still.
+    /// Conversions that were granted at once on a node for which another transaction still waits.
     pub passed: u64,
 }
 
@@ -254,7 +254,7 @@ impl Listing<'_> {
         format!("{kind} {node}")
     }
 
-    /// Of each node that is waited for, who holds it and who waits.
+    /// Of each node with a queue, its holders and its waiters.
     fn queues(&self, f: &mut fmt::Formatter<'_>) -> fmt::Result {
         for row in self.manager.transactions() {
             let Doing::Waiting(Wait { node, .. }) = row.doing else {
@@ -262,7 +262,7 @@ impl Listing<'_> {
             };
             let queue: Vec<Waiter> = self.manager.queue(node).into_iter().flatten().collect();
             if queue.first().is_none_or(|first| first.txn != row.txn) {
-                continue; // It is listed with the first who waits for it.
+                continue; // It is listed with its first waiter.
             }
             writeln!(f, "{}", self.named(node))?;
             for slot in self.manager.holders(node).into_iter().flatten() {

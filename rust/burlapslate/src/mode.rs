@@ -4,12 +4,12 @@ use std::fmt;
 
 /// A lock mode.
 ///
-/// These go together on one node, held by different transactions: `IS` with all but `X`, `IX` with
-/// `IS` and `IX`, `S` with `IS` and `S`, `SIX` with `IS`, and `X` with none.
+/// Different transactions can hold these on one node: `IS` with all but `X`, `IX` with `IS` and `IX`,
+/// `S` with `IS` and `S`, `SIX` with `IS`, and `X` with none.
 #[repr(u32)]
 #[derive(Clone, Copy, PartialEq, Eq, Hash, Debug)]
 pub enum Mode {
-    /// No lock. It is answered, and refused where it is asked for.
+    /// No lock. It is answered, and a request for it is refused.
     NL = 0,
     /// The intention to read below the node.
     IS = 1,
@@ -81,16 +81,16 @@ impl Kind {
     }
 }
 
-/// How deadlocks are found.
+/// How deadlocks are detected.
 #[repr(u32)]
 #[derive(Clone, Copy, PartialEq, Eq, Hash, Debug)]
 pub enum Detect {
     /// When a transaction begins to wait: a lock that closes a cycle of waits has a victim at
     /// once.
     AtBlock = 0,
-    /// By one who watches: [`Table::watch_over`](crate::Table::watch_over), or a watcher of yours,
+    /// By a watcher: [`Table::watch_over`](crate::Table::watch_over), or a watcher of yours,
     /// which reads boards ([`Manager::board`](crate::Manager::board)) and asks
-    /// [`Manager::settle`](crate::Manager::settle) for victims. Until then a cycle of waits stands.
+    /// [`Manager::settle`](crate::Manager::settle) for victims. Until then a cycle of waits remains.
     ByWatcher = 1,
 }
 
@@ -105,16 +105,16 @@ impl Detect {
     }
 }
 
-/// Whom a deadlock takes.
+/// How a deadlock's victims are chosen.
 #[non_exhaustive]
 #[repr(u32)]
 #[derive(Clone, Copy, PartialEq, Eq, Hash, Debug)]
 pub enum Victims {
-    /// The youngest of those on a cycle with the transaction that closed it, again and again until
-    /// it is on none.
+    /// The youngest member of a cycle with the transaction that closed it, repeated until that one is on
+    /// no cycle.
     Youngest = 0,
-    /// The youngest of those that alone take that transaction off all its cycles, so that one is
-    /// always enough.
+    /// The youngest of the members each of which alone takes that transaction off all its cycles, so that
+    /// one victim is always enough.
     Fewest = 1,
 }
 

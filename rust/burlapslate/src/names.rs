@@ -2,9 +2,9 @@
 
 use std::fmt;
 
-/// The name of a node. It is the same as long as the node lives, and never another's: once the node
-/// is gone it names nothing, and each call refuses it. So names are safe to keep, wherever and as
-/// long as you like.
+/// The name of a node. It is the same as long as the node lives, and is never given again: after the node
+/// is removed it names nothing, and each call refuses it. So names are safe to keep, anywhere and as long
+/// as you like.
 ///
 /// A name is good with the manager that gave it. With another manager it names nothing, or whatever
 /// node has that name there.
@@ -42,9 +42,9 @@ impl fmt::Display for Node {
     }
 }
 
-/// The name of a transaction. It is the same as long as the transaction lives, and never another's:
-/// once it has ended it names nothing, and each call refuses it, also when its slot is another
-/// transaction's.
+/// The name of a transaction. It is the same as long as the transaction lives, and is never given again:
+/// after it has ended the name names nothing, and each call refuses it, also when another transaction has
+/// its slot.
 ///
 /// As with [`Node`], a name is good with the manager that gave it.
 #[repr(C)]

@@ -6,7 +6,7 @@ use crate::sys;
 use std::iter::FusedIterator;
 use std::slice;
 
-/// What a transaction is told of another's command: how its wait ended.
+/// What a transaction is told of another transaction's command: how its wait ended.
 #[non_exhaustive]
 #[derive(Clone, Copy, PartialEq, Eq, Hash, Debug)]
 pub enum Notice {
@@ -24,13 +24,13 @@ pub enum Notice {
         /// Who is told.
         txn: Txn,
     },
-    /// The node moved to where the transaction lacks the locks above it: its wait is over, and it
-    /// may lock there and ask again.
+    /// The node moved to where the transaction lacks the locks above it. Its wait is over; it may lock
+    /// there and request the node again.
     Moved {
         /// Who is told.
         txn: Txn,
     },
-    /// The node is gone: the wait is over, and there is nothing to ask for again.
+    /// The node was removed: the wait is over, and there is nothing to request again.
     Gone {
         /// Who is told.
         txn: Txn,
@@ -67,12 +67,12 @@ impl Notice {
 /// The notices of one command, which end the waits of others: at most one for each transaction, by
 /// rising slot.
 ///
-/// They lie in the manager, in a place that each command fills anew, and are read there: so they
-/// take no memory, are not copied, and have to be read before the manager is used again. To keep
-/// them, collect them.
+/// They are stored in the manager, in a place that each command fills anew, and are read there: they
+/// take no memory, are not copied, and must be read before the manager is used again. To keep them,
+/// collect them.
 ///
-/// Whoever is told sleeps until somebody wakes it, so a caller does not drop them unread, unless it
-/// knows that nobody waits.
+/// The notified transactions sleep until the program wakes them, so a caller must not drop notices unread
+/// unless it knows that nobody waits.
 #[must_use = "whoever is told waits no more, and has to learn it from here"]
 #[derive(Clone, Debug)]
 pub struct Notices<'a> {

@@ -5,25 +5,25 @@ use crate::sys::{self, Reply};
 use std::error::Error;
 use std::fmt;
 
-/// Why a call was refused. A refused call changed nothing and told nobody. Where several refusals
-/// hold, the first in the order of the call's list is answered.
+/// Why a call was refused. A refused call changes nothing and notifies nobody. If several refusals
+/// apply, the first in the order of the call's list is answered.
 #[non_exhaustive]
 #[derive(Clone, Copy, PartialEq, Eq, Hash, Debug)]
 pub enum Refusal {
-    /// The allocator refused. It comes to calls that take memory, and last of all, but where one says
-    /// otherwise.
+    /// The allocator refused. Calls that take memory answer it, after all other refusals unless a call
+    /// says otherwise.
     NoMemory,
     /// A name names no node.
     NoSuchNode,
-    /// The name names no transaction that lives.
+    /// The name names no living transaction.
     NoSuchTxn,
     /// The transaction waits for a lock.
     TxnWaiting,
     /// The transaction was chosen as a victim, and can only abort.
     TxnCondemned,
-    /// No lock was asked, or other than `S` or `X` on a record.
+    /// `NL` was requested, or a mode other than `S` or `X` on a record.
     BadMode,
-    /// The rule of the graph fails at this parent: it is not held as the call needs it.
+    /// This parent is not held as the call needs it.
     NeedParents(Node),
     /// The transaction does not hold the node.
     NotHeld,
@@ -31,10 +31,10 @@ pub enum Refusal {
     HeldChild(Node),
     /// The lock cannot be granted at once.
     WouldBlock,
-    /// As many transactions live as may.
+    /// The most transactions that may live at once do.
     TooManyTxns,
-    /// As many nodes live as may, intervals and records among them: 65,536, where no other number was
-    /// chosen.
+    /// The most nodes that may live at once do, intervals and records among them: 65,536, unless another
+    /// number was chosen.
     TooManyNodes,
     /// A node of the wrong kind for its place, one parent twice, or too few parents.
     BadParents,
@@ -43,28 +43,29 @@ pub enum Refusal {
     /// The transaction waits for nothing.
     NotWaiting,
     /// The file has records. Of [`add_index`](crate::Manager::add_index): or a row of it had a node. Of
-    /// [`drop_node`](crate::Manager::drop_node): or the file that is to go has indexes.
+    /// [`drop_node`](crate::Manager::drop_node): or the file to be removed has indexes.
     FileInUse,
     /// Bounds that do not rise from above 0, too many of them, or not a key for each index.
     BadKeys,
-    /// A counter has come to its end, near 2^64. It comes first of all but [`Refusal::BadNumber`],
-    /// [`Refusal::RowsByNumber`] and [`Refusal::NotRows`], and to all calls but questions.
+    /// A counter is at its end, near 2^64. All calls but questions answer it, before all other refusals
+    /// except [`Refusal::BadNumber`], [`Refusal::RowsByNumber`] and [`Refusal::NotRows`].
     WornOut,
-    /// The new parent is the node itself or lies below it; this is that parent.
+    /// The new parent is the node itself or is below it; this is that parent.
     Cycle(Node),
-    /// A record is not forgotten while some transaction holds it or waits for it.
+    /// A record cannot be forgotten while some transaction holds it or waits for it.
     RecordInUse,
-    /// An inner node with children is not dropped.
+    /// An inner node with children cannot be dropped.
     HasChildren,
-    /// The file is one of rows: its records come, go and change by calls about rows alone. It comes
-    /// first of all.
+    /// The file is a file of rows: only calls about rows make, remove and change its records. It is answered
+    /// before all other refusals.
     RowsByNumber,
-    /// The file is none of rows. It comes first of all, but that want of memory may come before it.
+    /// The file is no file of rows. It is answered before all other refusals, except that
+    /// [`Refusal::NoMemory`] may be answered before it.
     NotRows,
-    /// As many watch already as may: [`MOST_WATCHERS`](crate::MOST_WATCHERS).
+    /// There are [`MOST_WATCHERS`](crate::MOST_WATCHERS) watchers already.
     TooManyWatchers,
     /// More than 8 parents, or a manager for none or more than [`SLOTS`](crate::SLOTS) transactions. It
-    /// comes first of all.
+    /// is answered before all other refusals.
     BadNumber,
 }
 

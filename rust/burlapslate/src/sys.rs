@@ -85,7 +85,7 @@ pub(crate) struct WatcherPlace {
 }
 
 impl WatcherPlace {
-    /// The place of no watcher, which stays where it is; `None` where memory is refused.
+    /// The place of no watcher, which is never moved; `None` if memory is refused.
     pub(crate) fn new() -> Option<Box<WatcherPlace>> {
         // SAFETY: zero in all bytes is a value of it: `false`, and a null pointer.
         unsafe { zeroed() }
@@ -195,7 +195,7 @@ pub(crate) struct Pinned {
 }
 
 impl Pinned {
-    /// A place without a manager, and no notices; `None` where memory is refused.
+    /// A place without a manager, and no notices; `None` if memory is refused.
     pub(crate) fn new() -> Option<Box<Pinned>> {
         assert_fits();
         // SAFETY: zero in all bytes is a value of it: numbers, `false`, and a null pointer.
@@ -203,7 +203,7 @@ impl Pinned {
     }
 }
 
-/// A box of zero in all bytes; `None` where memory is refused.
+/// A box of zero in all bytes; `None` if memory is refused.
 ///
 /// # Safety
 ///

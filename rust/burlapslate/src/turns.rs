@@ -1,12 +1,12 @@
-//! The line of those who sleep for a slot.
+//! The begin queue: the threads that sleep for a slot.
 
 use crate::names::Txn;
 use crate::refusal::Refusal;
 use std::collections::VecDeque;
 use std::thread::{self, Thread};
 
-/// Those who sleep for a slot, by their arrival, and in front of them those whose turn has come, but who
-/// have not been at the latch since.
+/// The threads that sleep for a slot, by arrival, and in front of them those whose turn has come but which
+/// have not had the latch since.
 pub(crate) struct Turns {
     line: VecDeque<Turn>,
     /// How many ever came.

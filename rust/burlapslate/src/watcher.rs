@@ -6,13 +6,13 @@ use crate::refusal::{accepted, Refusal};
 use crate::sys::{self, WatcherPlace};
 use std::fmt;
 
-/// One who looks at the boards that a manager shows, with no mutex and no wait.
+/// A watcher reads the boards that a manager publishes, with no mutex and no wait.
 ///
-/// A manager that has watchers shows them its board behind each accepted command by which a wait may
-/// have come, gone or changed. Where none is needed, the last board shows every wait that stands, with
-/// the ages of those who wait and of those for whom they wait; its epoch and all other ages are of its
-/// own moment. Where there is no memory for a board, the next command shows one. A watcher may outlive
-/// its manager: then it sees the last board that was shown.
+/// A manager that has watchers publishes its board after each accepted command that may have begun, ended
+/// or changed a wait. After other commands the last board still shows every wait, with the ages of the
+/// waiters and of the transactions for which they wait; its epoch and all other ages are of its own
+/// moment. If there is no memory for a board, the next command publishes one. A watcher may outlive its
+/// manager: then it sees the last board that was published.
 ///
 /// ```
 /// use burlapslate::{Board, Detect, Mode, Table, SLOTS};
@@ -38,8 +38,8 @@ impl Watcher {
         Ok(Watcher { place })
     }
 
-    /// Looks: writes the last board that was shown over this one. It is whole, and never older than
-    /// what this watcher saw before; with detection at block it has no suspect.
+    /// Looks: writes the last published board over this one. It is whole, and never older than the board
+    /// that this watcher saw before; with detection at block it has no suspect.
     pub fn look(&mut self, board: &mut Board) {
         let reply = sys::bs_call_look(&mut self.place, board.as_sys());
         assert_eq!(reply.status, sys::DONE, "a look was refused");

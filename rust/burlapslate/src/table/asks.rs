@@ -1,4 +1,4 @@
-//! Waits of tasks, which are polled and sleep in no thread.
+//! Waits of tasks, which are polled, and for which no thread sleeps.
 
 use super::locks::{Sought, Step};
 use super::{Guarded, Table};
@@ -18,17 +18,17 @@ use std::time::Instant;
 
 /// The tasks whose locks wait.
 pub(super) struct Tasks {
-    /// By slot; there are no places before the first one waits.
+    /// By slot; there are no places before the first task waits.
     at: Vec<Option<Task>>,
     waiting: usize,
-    /// Those whose wait may be over, who are to be woken without the latch. There is room for all who wait.
+    /// The tasks whose wait may be over, to be woken without the latch. There is room for all that wait.
     rung: VecDeque<Waker>,
 }
 
 struct Task {
     txn: Txn,
     waker: Waker,
-    /// When its wait ends at the latest.
+    /// The deadline of its wait.
     until: Option<Instant>,
 }
 
@@ -60,7 +60,7 @@ impl Tasks {
         self.waiting += 1;
     }
 
-    /// Takes the task of a transaction away, to be dropped without the latch.
+    /// Removes the task of a transaction, to be dropped without the latch.
     fn forget(&mut self, txn: Txn) -> Option<Task> {
         let place = self.at.get_mut(txn.slot())?;
         let task = place.take_if(|task| task.txn == txn)?;
@@ -68,7 +68,7 @@ impl Tasks {
         Some(task)
     }
 
-    /// The wait of this slot may be over: its task is to be woken.
+    /// The wait of this slot may be over: its task will be woken.
     pub(super) fn ring(&mut self, slot: usize) {
         if let Some(task) = self.at.get_mut(slot).and_then(Option::take) {
             self.waiting -= 1;
@@ -76,7 +76,7 @@ impl Tasks {
         }
     }
 
-    /// Those whose time is over are to be woken; when the next one's is.
+    /// Marks the tasks whose time is over, to be woken; answers when the next one's is.
     fn ring_late(&mut self, now: Instant) -> Option<Instant> {
         let mut next = None;
         for slot in 0..self.at.len() {
@@ -89,7 +89,7 @@ impl Tasks {
     }
 }
 
-/// The latch, held. Where it is given back, the tasks are woken whose wait may be over: a waker may do
+/// The latch, held. After it is released, the tasks whose wait may be over are woken: a waker may do
 /// anything, also call the table.
 pub(super) struct Hold<'t> {
     table: &'t Table,
@@ -105,8 +105,8 @@ impl<'t> Hold<'t> {
         }
     }
 
-    /// Wakes the tasks whose wait may be over, and has the latch again behind that. Whether there were any:
-    /// others may have used the table meanwhile.
+    /// Wakes the tasks whose wait may be over without the latch, and acquires it again. Whether there were any:
+    /// other threads may have used the table meanwhile.
     pub(super) fn ring(&mut self) -> bool {
         let mut has_rung = false;
         while let Some(waker) = self.tasks.rung.pop_front() {
@@ -122,7 +122,7 @@ impl<'t> Hold<'t> {
 impl Drop for Hold<'_> {
     fn drop(&mut self) {
         if self.guarded.is_some() {
-            self.ring(); // Else a waker has panicked: those behind it are the next one's to wake.
+            self.ring(); // Else a waker has panicked: the next hold wakes those after it.
         }
     }
 }
@@ -141,20 +141,20 @@ impl DerefMut for Hold<'_> {
     }
 }
 
-/// Locks that a task polls. Where it is dropped before their end the wait is taken back; what was granted by then stays
-/// held.
+/// Locks that a task polls. If the future is dropped before their end the wait is cancelled; locks that were granted by
+/// then stay.
 pub(crate) struct Locking<'a> {
     table: &'a Table,
     txn: Txn,
     sought: Sought<'a>,
     until: Option<Instant>,
-    /// For what it waits; `None` before it is first polled.
+    /// What it waits for; `None` before the first poll.
     wait: Option<Wait>,
     is_over: bool,
 }
 
 impl Locking<'_> {
-    /// Goes as far as it can by now, in this hold of the latch; `None` while it waits.
+    /// Continues as far as it can in this critical section; `None` while it waits.
     fn advance(&mut self, hold: &mut Hold<'_>) -> Option<Result<RowLocked, Stop>> {
         loop {
             let step = match self.wait {
@@ -172,7 +172,7 @@ impl Locking<'_> {
         }
     }
 
-    /// What became of the wait; `None` while it goes on. That is asked before the clock.
+    /// How the wait ended; `None` while it waits. That is asked before the clock.
     fn end(&self, hold: &mut Hold<'_>, wait: Wait) -> Option<Result<Mode, Stop>> {
         let verdict = hold.verdict(self.txn, wait);
         if verdict.is_some() || self.until.is_none_or(|until| Instant::now() < until) {
@@ -181,7 +181,7 @@ impl Locking<'_> {
         Some(Err(self.table.time_out(hold, self.txn)))
     }
 
-    /// Notes the task of a wait that goes on. Without memory the wait is taken back, and that is its end.
+    /// Notes the task of a wait. Without memory the wait is cancelled, and that is its end.
     fn wait_on(
         &self,
         hold: &mut Hold<'_>,
@@ -201,7 +201,7 @@ impl Locking<'_> {
         }
     }
 
-    /// Takes the wait back, where it goes on.
+    /// Cancels the wait, unless it is over.
     fn take_back(&self, hold: &mut Hold<'_>) {
         let waits = self
             .wait
@@ -230,7 +230,7 @@ impl Future for Locking<'_> {
             .or_else(|| own.wait_on(&mut hold, &mut task));
         own.is_over = end.is_some();
         drop(hold);
-        drop((before, task)); // A waker that goes may call the table.
+        drop((before, task)); // A waker that is dropped may call the table.
         end.map_or(Poll::Pending, Poll::Ready)
     }
 }
@@ -250,16 +250,16 @@ impl Drop for Locking<'_> {
 
 /// What a [`Session`](crate::Session) of a task asks.
 impl Table {
-    /// Wakes the tasks whose waits should be over by the deadlines of their sessions
-    /// ([`Session::set_deadline`](crate::Session::set_deadline)), and answers when the next one's will be. A
-    /// wait of a task is taken back where it is polled at that time or later. A runtime that polls it at
-    /// other times alone, as behind its grant, may make this call by a timer of its own; most have a
-    /// timeout of theirs, which drops the future.
+    /// Wakes the tasks whose waits are past the deadlines of their sessions
+    /// ([`Session::set_deadline`](crate::Session::set_deadline)), and answers the next deadline. The wait of
+    /// a task is cancelled when its future is polled at that time or later. A runtime that polls it only at
+    /// other times, such as after its grant, may make this call by a timer of its own; most have a timeout
+    /// of their own, which drops the future.
     ///
     /// ```
     /// # use burlapslate::{Detect, Table, SLOTS};
     /// # let table = Table::new(Detect::AtBlock, SLOTS)?;
-    /// assert_eq!(table.expire(), None); // Nobody waits to a time.
+    /// assert_eq!(table.expire(), None); // Nobody waits with a deadline.
     /// # Ok::<(), burlapslate::Refusal>(())
     /// ```
     pub fn expire(&self) -> Option<Instant> {

@@ -1,4 +1,4 @@
-//! Locks for an instant, which are given back as they are granted.
+//! Locks for an instant, which are released as soon as they are granted.
 
 use super::locks::Stay;
 use super::{Guarded, Table};
@@ -9,16 +9,16 @@ use crate::refusal::Refusal;
 use crate::session::Stop;
 use crate::SLOTS;
 
-/// A lock that is waited for, to be given back as it is granted.
+/// A wait for a lock that is released as soon as it is granted.
 #[derive(Clone, Copy)]
 pub(super) struct InstantLock {
     txn: Txn,
     node: Node,
-    /// As what it was granted, once it was.
+    /// The mode in which it was granted, after that.
     came: Option<Mode>,
 }
 
-/// A place for each slot, with nobody who waits so.
+/// A place for each slot, without a wait.
 pub(super) fn no_instants() -> Result<Box<[Option<InstantLock>]>, Refusal> {
     let mut places = Vec::new();
     let room = places.try_reserve_exact(SLOTS);
@@ -28,7 +28,7 @@ pub(super) fn no_instants() -> Result<Box<[Option<InstantLock>]>, Refusal> {
 }
 
 impl Table {
-    /// Releases a node that was granted at once for an instant, where no child of it is held.
+    /// Releases a node that was granted at once for an instant, if no child of it is held.
     pub(super) fn release_instant(&self, guarded: &mut Guarded, txn: Txn, node: Node) {
         if guarded.manager.unlock(txn, node).map(drop).is_ok() {
             self.wake(guarded);
@@ -37,7 +37,7 @@ impl Table {
 }
 
 impl Guarded {
-    /// The node of a lock for an instant, where it is not held: so it is given back as soon as it is granted.
+    /// The node of a lock for an instant, if it is not held: so it is released as soon as it is granted.
     pub(super) fn instant_of(&self, txn: Txn, node: Node, stay: Stay) -> Option<Node> {
         let is_new = || self.manager.held(txn, node) == Ok(Mode::NL);
         (stay == Stay::Instant && is_new()).then_some(node)
@@ -57,7 +57,7 @@ impl Guarded {
         self.instants[slot].is_some_and(|lock| lock.came.is_none())
     }
 
-    /// The wait of this slot for an instant is over: where it was granted it is given back, and `true` says so. A
+    /// The wait of this slot for an instant is over: if the lock was granted it is released, and `true` says so. A
     /// transaction whose wait ended in another way holds nothing there.
     pub(super) fn gives_back(&mut self, slot: usize) -> bool {
         let Guarded {
@@ -78,8 +78,8 @@ impl Guarded {
         }
     }
 
-    /// What became of a lock that was left waiting. The manager knows nothing of one that was given back as
-    /// it came.
+    /// How the wait for a lock ended. The manager does not know of one that was released as soon as it was
+    /// granted.
     pub(super) fn verdict(&self, txn: Txn, wait: Wait) -> Option<Result<Mode, Stop>> {
         let Wait { node, mode } = wait;
         let verdict = self.manager.verdict(txn, node, mode);

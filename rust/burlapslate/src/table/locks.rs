@@ -1,4 +1,4 @@
-//! What a session locks: what it asks for, what that comes to in one hold of the latch, and how it goes on after a wait.
+//! What a session locks: its request, what that reaches in one critical section, and how it continues after a wait.
 
 use super::{Guarded, Path, Table};
 use crate::manager::{Asked, Reached, RowAsked, Wait};
@@ -8,12 +8,12 @@ use crate::refusal::Refusal;
 use crate::session::{RowLocked, Stop};
 use std::time::Instant;
 
-/// What a session asks for.
+/// What a session requests.
 #[derive(Clone, Copy)]
 pub(crate) enum Sought<'k> {
     /// A node.
     Node { node: Node, mode: Mode, stay: Stay },
-    /// A node with what has to be held above it.
+    /// A node with what must be held above it.
     Path { node: Node, mode: Mode, stay: Stay },
     /// A row, with its keys.
     Row {
@@ -38,11 +38,11 @@ impl Sought<'_> {
 pub(crate) enum Stay {
     /// Until it is released.
     Kept,
-    /// For an instant: it is given back as soon as it is granted, unless it was held before.
+    /// For an instant: it is released as soon as it is granted, unless it was held before.
     Instant,
 }
 
-/// How far a session came with what it asks for.
+/// How far a session came with its request.
 pub(super) enum Step {
     Held(RowLocked),
     Waits(Wait),
@@ -53,8 +53,8 @@ fn held(mode: Mode) -> Step {
 }
 
 impl Table {
-    /// Locks what is asked for, and sleeps for each lock that has to wait. All of it is one hold of the latch, but for
-    /// the sleeps.
+    /// Locks what is requested, and sleeps for each lock that must wait. Apart from the sleeps it is one critical
+    /// section.
     pub(crate) fn lock(
         &self,
         txn: Txn,
@@ -75,7 +75,7 @@ impl Table {
         }
     }
 
-    /// Asks for what is sought, up to its end or to a lock that waits.
+    /// Requests what is sought, up to its end or to a lock that waits.
     pub(super) fn ask_for(
         &self,
         guarded: &mut Guarded,
@@ -97,8 +97,8 @@ impl Table {
         }
     }
 
-    /// Goes on after a wait that has ended so. The rest of a path is asked for, and a row is asked for again: where
-    /// that is refused, for want of memory or of numbers, its keys may be others.
+    /// Continues after a wait that has ended so. The rest of a path is requested, and a row is requested again: if
+    /// that is refused, for want of memory or of numbers, its keys may differ.
     pub(super) fn go_on(
         &self,
         guarded: &mut Guarded,
@@ -177,12 +177,12 @@ impl Table {
                 (Reached::Granted(mode), _) => return Ok(self.granted(guarded, txn, instant, mode)),
                 (_, Some(wait)) => return Ok(Step::Waits(wait)),
                 (Reached::Victim, _) => return Err(Stop::Victim),
-                _ => {} // Others fell for a lock above: the rest is asked for.
+                _ => {} // Others were condemned for a lock above: the rest is requested.
             }
         }
     }
 
-    /// Asks for a row, and wakes whom that tells.
+    /// Requests a row, and wakes those whom that notifies.
     pub(super) fn ask_row(
         &self,
         guarded: &mut Guarded,
@@ -202,7 +202,7 @@ impl Table {
         Ok((asked, node))
     }
 
-    /// A lock that was granted at once; one for an instant is given back.
+    /// A lock that was granted at once; one for an instant is released.
     fn granted(&self, guarded: &mut Guarded, txn: Txn, instant: Option<Node>, mode: Mode) -> Step {
         if let Some(node) = instant {
             self.release_instant(guarded, txn, node);
@@ -210,8 +210,8 @@ impl Table {
         held(mode)
     }
 
-    /// Registers a wait that has just begun, before anybody is woken: what is set off then may end this wait too. What
-    /// came for an instant before, and a path of before, is nothing to it. Who watches is woken.
+    /// Registers a wait that has just begun, before anybody is woken: what a wake-up sets off may end this wait too. It
+    /// replaces an earlier lock for an instant and an earlier path. Threads that watch are woken.
     pub(super) fn register(
         &self,
         guarded: &mut Guarded,
@@ -227,7 +227,7 @@ impl Table {
 }
 
 impl Guarded {
-    /// For what a path waits. The manager forgets the mode with the wait, which may be over when others are woken.
+    /// What a path waits for. The manager forgets the mode with the wait, which may be over when others are woken.
     fn path_wait(&self, txn: Txn, reached: Reached, mode: Mode) -> Option<Wait> {
         let Reached::Waiting(node) = reached else {
             return None;

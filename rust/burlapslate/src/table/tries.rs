@@ -7,7 +7,7 @@ use crate::names::{Node, Row, Txn};
 use crate::refusal::Refusal;
 use crate::session::{Keep, RowLocked, Taken, Tried, Try};
 
-/// How many nodes above a path that is tried keeps.
+/// How many nodes above it a tried path remembers.
 const MOST_ABOVE: usize = 16;
 
 /// A path that is tried.
@@ -15,11 +15,11 @@ struct Path {
     txn: Txn,
     node: Node,
     mode: Mode,
-    /// The nodes above that are known to be wanted, upwards: the first `height` places.
+    /// The nodes above that are known to be needed, upwards: the first `height` places.
     above: [Node; MOST_ABOVE],
     height: usize,
     keep: Keep,
-    /// What it took anew, in that order, where that is to be given back.
+    /// What it newly acquired, in that order, if that must be released again.
     taken: Vec<Node>,
 }
 
@@ -44,8 +44,8 @@ impl Table {
         self.row_tried(&mut self.guarded(), txn, row, keys, mode)
     }
 
-    /// The first of these that can be had, in one hold of the latch. One that would block, whose record or row has
-    /// moved, or that is gone, is passed over.
+    /// The first of these that is granted, in one critical section. One that would block, whose record or row has
+    /// moved, or whose node is removed, is passed over.
     pub(crate) fn try_first(&self, txn: Txn, tries: &[Try<'_>]) -> Result<Option<Taken>, Refusal> {
         let mut guarded = self.guarded();
         for (place, each) in tries.iter().enumerate() {
@@ -76,8 +76,8 @@ impl Table {
         })
     }
 
-    /// Tries a path, with the latch held. Where it is not done, it gives back what it took anew, unless
-    /// that is to be kept.
+    /// Tries a path, with the latch held. If that fails, it releases what it newly acquired, unless that is to
+    /// be kept.
     fn path_tried(
         &self,
         guarded: &mut Guarded,
@@ -102,9 +102,9 @@ impl Table {
         tried
     }
 
-    /// Releases what a path took anew, the last first: so children go before their parents. What the
-    /// transaction holds a child of since before is refused, and stays. Nobody could come to wait for any
-    /// of them in this hold of the latch, so nobody is woken; but it is not left to that.
+    /// Releases what a path newly acquired, the last first, so children before their parents. A node of which
+    /// the transaction already held a child is refused, and stays. Nobody could begin to wait for any of them
+    /// in this critical section, so nobody needs to be woken; this does not rely on it.
     fn give_back(&self, guarded: &mut Guarded, path: &Path) {
         for node in path.taken.iter().rev() {
             let released = guarded.manager.unlock(path.txn, *node);
@@ -115,8 +115,8 @@ impl Table {
     }
 
     /// Tries a row, with the latch held. A row without a node gets one, and so may one whose node nobody
-    /// holds: nobody is to be waited for then, since a queue stands behind a holder alone. Any other is
-    /// locked by the node that it has, if that can be done at once.
+    /// holds: there is nobody to wait for then, since only a held node has a queue. Any other is locked by the
+    /// node that it has, if that can be granted at once.
     fn row_tried(
         &self,
         guarded: &mut Guarded,
@@ -142,9 +142,9 @@ impl Table {
         self.row_noted(guarded, txn, row, keys, held, was_held)
     }
 
-    /// Of a row that a try has just locked by its node: asks for it as a row, which waits for nothing
-    /// then. So the row is noted for the transaction, which lets it go in the end. Where that is refused,
-    /// a row that was not held before is given back; else it stays held, and its keys are looked at again.
+    /// Requests a row as a row after a try has locked its node, which does not wait then. So the row is noted
+    /// for the transaction, whose end lets it go. If that is refused, a row that was not held before is
+    /// released; otherwise it stays held, and its keys must be read again.
     fn row_noted(
         &self,
         guarded: &mut Guarded,
@@ -163,7 +163,7 @@ impl Table {
         }
     }
 
-    /// Asks for a row for which nobody has to be waited.
+    /// Requests a row for which the transaction need not wait.
     fn row_asked(
         &self,
         guarded: &mut Guarded,
@@ -181,11 +181,10 @@ impl Table {
 }
 
 impl Path {
-    /// Makes the tries of a path up to its end. Which node comes first the manager says: a try that is
-    /// refused for want of a parent names it, and the climb goes on from there. It comes to an end, since
-    /// no path of the graph closes. Behind a grant a writer goes down by one; a reader may want fewer
-    /// then, and climbs anew. Where a way is longer than what is kept, those below are forgotten, to be
-    /// found again.
+    /// Makes the tries of a path up to its end. The manager says which node is first: a try that is refused for
+    /// want of a parent names it, and the climb continues from there. It ends, since the graph has no cycle.
+    /// After a grant a writer descends by one; a reader may need fewer nodes then, and climbs again. If a path
+    /// is longer than what is remembered, the lowest nodes are forgotten and found again.
     fn climb(&mut self, manager: &mut Manager) -> Result<Tried<Mode>, Refusal> {
         loop {
             match self.try_next(manager) {
@@ -196,8 +195,8 @@ impl Path {
         }
     }
 
-    /// Tries the highest node that is known to be wanted, or else the path's own, and notes it where it is
-    /// taken anew. The place for that is there before.
+    /// Tries the highest node that is known to be needed, or else the path's own, and notes it if it is newly
+    /// acquired. The place for that was made before.
     fn try_next(&mut self, manager: &mut Manager) -> Result<Tried<Mode>, Refusal> {
         let Some(above) = self.height.checked_sub(1) else {
             return node_tried(manager, self.txn, self.node, self.mode);
@@ -231,7 +230,7 @@ impl Path {
         }
     }
 
-    /// The intention that its mode wants on parents.
+    /// The intention that its mode needs on parents.
     fn intention(&self) -> Mode {
         match self.mode {
             Mode::IS | Mode::S => Mode::IS,
