@@ -2,8 +2,8 @@
  * burlapslate_shared.h: a table of granular locks that threads share, for C and C++.
  *
  * A bs_table is a manager of burlapslate.h with one mutex, its latch, and a condition variable for each slot. Any
- * thread calls it. A lock that must wait sleeps until it is granted, or until it never will be; each call that ends a
- * wait wakes the thread that sleeps for it. If there are more threads than slots, a begin can sleep too.
+ * thread may call it. A call whose lock must wait sleeps until the lock is granted, or never will be; each call that
+ * ends a wait wakes the thread that sleeps for it. If there are more threads than slots, a begin can sleep too.
  *
  * What this header declares is compiled in the library. If the compiler keeps to ISO C (-std=c99), define
  * _POSIX_C_SOURCE as 200809L before the first header of the program, or _DEFAULT_SOURCE, as pkg-config's flags do.
@@ -19,14 +19,14 @@
  *   - the table's memory, which lasts until bs_table_free, even after bs_table_end: join the threads in between;
  *   - names of transactions and nodes, which are valid with the table that gave them.
  *
- * WHAT A CALL ANSWERS. What the call of burlapslate.h answers that has its name without `table_`, with one more status,
- * BS_TIMED_OUT; and BS_NOT_MADE for a command of a list that was not made. What that header says of refusals, memory
- * and costs holds here too. A call is one critical section: no other thread's steps come between its own. If it sleeps,
- * other threads use the table meanwhile. A call answers after all that it set off in that critical section: if its own
- * wait has ended by then, it answers that end and does not sleep. A null table is refused with BS_NULL_POINTER, and one
- * that was ended with BS_NO_MANAGER. While a thread holds a table by bs_table_hold, its calls of that table except
- * bs_table_let_go are refused with BS_IN_USE, and so are its calls of any table that could sleep: the thread would keep
- * the latch. A call with `told` fills it if it is not null; sleepers are woken, whether it is null or not.
+ * WHAT A CALL ANSWERS. A call answers as the call of burlapslate.h that has its name without `table_`. There is one
+ * more status, BS_TIMED_OUT, and BS_NOT_MADE for a command of a list that was not made. What that header says of
+ * refusals, memory and costs holds here too. A call is one critical section: no other thread's steps come between its
+ * own. If it sleeps, other threads use the table meanwhile. A call answers after all that it set off in that critical
+ * section: if its own wait has ended by then, it answers that end and does not sleep. A null table is refused with
+ * BS_NULL_POINTER, and one that was ended with BS_NO_MANAGER. While a thread holds a table by bs_table_hold, its calls
+ * of that table except bs_table_let_go are refused with BS_IN_USE, and so are its calls of any table that could sleep:
+ * the thread would keep the latch. A call with `told` fills it if it is not null; sleepers are woken in any case.
  *
  * HOW LONG A SLEEP IS. A call that may sleep takes `until`, the time by CLOCK_MONOTONIC up to which it sleeps at most;
  * bs_after gives one. If it is null, the call sleeps until the end. If it is not a valid time, the call is refused with
@@ -40,8 +40,8 @@
  *   - BS_NOT_WAITING: another thread cancelled the wait by bs_table_cancel; the transaction is active;
  *   - BS_NO_SUCH_TXN: another thread ended the transaction by bs_table_abort;
  *   - BS_NO_MANAGER: bs_table_end was called.
- * A grant that came before the sleeper acquired the latch is a grant, even if its time was over by then. A thread that
- * sleeps for a slot is answered as bs_table_begin_in_turn says, and BS_NO_MANAGER if the table ends.
+ * A grant that came before the sleeper acquired the latch again is a grant, even if its time was over by then. A thread
+ * that sleeps for a slot is answered as bs_table_begin_in_turn says, and BS_NO_MANAGER if the table ends.
  *
  * WAITS WITHOUT A SLEEPING THREAD. An event loop asks: bs_table_ask and its like answer at once, with BS_WAITING if the
  * lock waits. The table tells how such a wait ends by a call of the engine's function, its callback, which the engine
@@ -53,8 +53,8 @@
  *     that watches, or the one that ends the table. If one command ended several waits, their ends are told by rising
  *     slots. Two threads may call the callback at once.
  *   - An ask whose wait ends before it releases the latch for the last time is answered with that end, and has no call.
- *     So the call is never made within the ask itself. But what the asker writes after its ask may not be there yet: by
- *     the word it must give all that the callback needs.
+ *     So the call is never made within the ask itself. But what the asker writes after its ask may not be there yet:
+ *     the word must give all that the callback needs.
  *   - A path continues by itself, in the critical section of the thread that granted a lock on its way, and a row is
  *     asked for again there.
  *   - No thread sleeps for the time of an ask: a thread that has a clock calls bs_table_expire.
@@ -132,10 +132,10 @@ bs_reply bs_table_begin(bs_table *table);
 
 /* As bs_begin, but never answers BS_TOO_MANY_TXNS: if all slots are taken, it sleeps until it has one. Threads that
  * sleep for a slot are served in order of arrival. The call that ends a transaction begins the next for the first of
- * them, in the same critical section: so no thread that came later is served before. A slot that is free before the
- * sleeper acquired the latch is a begin, even if its time was over by then. A sleeper has no transaction, so it is on
- * no cycle of waits. A thread that still has one, and sleeps for another, may wait for itself, and nothing detects
- * that. BS_TIMED_OUT: its time came first, and nothing has begun. BS_NO_MEMORY may also come after a sleep. */
+ * them, in the same critical section: so no thread that came later is served before. If a slot is free before the
+ * sleeper has acquired the latch again, it begins, even if its time is over by then. A sleeper has no transaction, so
+ * it is on no cycle of waits. A thread that still has one, and sleeps for another, may wait for itself, and nothing
+ * detects that. BS_TIMED_OUT: its time came first, and nothing has begun. BS_NO_MEMORY may also come after a sleep. */
 bs_reply bs_table_begin_in_turn(bs_table *table, const struct timespec *until);
 
 /* As these two, for a transaction whose work has been tried since an earlier begin, as in bs_begin_again. That gives it
@@ -149,7 +149,7 @@ bs_reply bs_table_begin_again_in_turn(bs_table *table, uint64_t since, const str
 bs_reply bs_table_deadline(bs_table *table, bs_txn txn, const struct timespec *until);
 
 /* Joined to the mode of a lock, as in BS_X | BS_INSTANT: the lock is requested and waits as any other, and is released
- * as soon as it is granted, in the same critical section. So BS_DONE says that it could be had, in `mode`, and no
+ * as soon as it is granted, in the same critical section. So BS_DONE says that the lock could be had, in `mode`, and no
  * transaction found it held; the waiters after it in the queue are next. It is for keys that must be free at that
  * moment only, as the interval that a new key divides. A node that the transaction holds already is raised, and stays
  * so: no command lowers a mode. If it holds a child of the node by another parent, the node stays too, since bs_unlock
@@ -160,7 +160,7 @@ bs_reply bs_table_deadline(bs_table *table, bs_txn txn, const struct timespec *u
  * answers BS_NOT_WAITING. */
 #define BS_INSTANT 256u
 
-/* As bs_lock, but never answers BS_WAITING: a lock that must wait sleeps until its end. */
+/* As bs_lock, but never answers BS_WAITING: if the lock must wait, the call sleeps until the end of the wait. */
 bs_reply bs_table_lock(bs_table *table, bs_txn txn, bs_node node, bs_mode mode, const struct timespec *until);
 
 /* Locks a node and what must be held above it, as bs_lock_path does, and sleeps for each lock that must wait. If the
@@ -171,8 +171,8 @@ bs_reply bs_table_lock(bs_table *table, bs_txn txn, bs_node node, bs_mode mode, 
 bs_reply bs_table_lock_path(bs_table *table, bs_txn txn, bs_node node, bs_mode mode, const struct timespec *until);
 
 /* Sleeps until the end of a lock that bs_table_run left waiting, as bs_table_lock does. BS_NOT_WAITING: the transaction
- * waits for another node, or for none, and no notice tells of this one. To ask without a sleep whether a wait has its
- * end, use bs_verdict of the manager that the table lends. */
+ * waits for another node, or for none, and no notice tells of this one. bs_verdict of the manager that the table lends
+ * says without a sleep whether a wait has its end. */
 bs_reply bs_table_await(bs_table *table, bs_txn txn, bs_node node, bs_mode mode, const struct timespec *until);
 
 bs_reply bs_table_try(bs_table *table, bs_txn txn, bs_node node, bs_mode mode);
@@ -203,8 +203,8 @@ bs_reply bs_table_unlock(bs_table *table, bs_txn txn, bs_node node, bs_notices *
 bs_reply bs_table_mark(bs_table *table, bs_txn txn);
 bs_reply bs_table_release_since(bs_table *table, bs_txn txn, uint64_t savepoint, bs_notices *told);
 
-/* Cancels a wait, and wakes the thread that sleeps for it: that one is answered BS_NOT_WAITING. So is one whose wait on
- * the way of a path was granted, and that is not awake yet: its path ends there. */
+/* Cancels a wait, and wakes the thread that sleeps for it: that one is answered BS_NOT_WAITING. So is a thread whose
+ * wait on the way of a path was granted, and that is not awake yet: its path ends there. */
 bs_reply bs_table_cancel(bs_table *table, bs_txn txn, bs_notices *told);
 
 bs_reply bs_table_commit(bs_table *table, bs_txn txn, bs_notices *told);
@@ -235,21 +235,21 @@ bs_reply bs_table_index_by(bs_table *table, bs_txn txn, const bs_node *parents, 
  * Rows by the engine's own numbers.
  */
 
-/* As bs_lock_row, but never answers BS_WAITING: if the row must be waited for, it sleeps. After a sleep that was
- * granted, it asks for the row again, in the same critical section: so the answer is BS_DONE, or BS_OTHER_KEYS. It is
- * BS_OTHER_KEYS too if that second call was refused, for lack of memory or of numbers: the row is held, and its keys
- * must be looked at again. The caller must lock what must be held above the row: a missing parent is refused with
- * BS_NEED_PARENTS, in `node`, and bs_table_lock_path locks it. That may sleep, and the keys may be others after it. A
- * row whose time was over is let go. */
+/* As bs_lock_row, but never answers BS_WAITING: if the lock must wait, the call sleeps. After a sleep that was granted,
+ * it asks for the row again, in the same critical section: so the answer is BS_DONE, or BS_OTHER_KEYS. It is
+ * BS_OTHER_KEYS too if that second call was refused, for lack of memory or of numbers: the row is held, and the caller
+ * must look at its keys again. The caller must also lock what must be held above the row: a missing parent is refused
+ * with BS_NEED_PARENTS, in `node`, and bs_table_lock_path locks it. That may sleep, and the keys may be others after
+ * it. After BS_TIMED_OUT the row is let go. */
 bs_reply bs_table_lock_row(bs_table *table, bs_txn txn, bs_node file, uint64_t number, const uint64_t *keys,
                            size_t count, bs_mode mode, const struct timespec *until);
 
-/* As bs_table_lock_row, but if the row must be waited for, it is refused with BS_WOULD_BLOCK, after the other refusals,
- * and `node` is the row's node. It never sleeps, joins no queue and makes no victim. If it is refused, no lock was
- * changed: if there is no memory to note the row for its transaction, the row is released. A row that the transaction
- * held before cannot be, and then the answer is BS_OTHER_KEYS: it is held in `mode`, and its keys must be looked at
- * again. The answer is the same if the lock took the last number. A row that has a holder costs two commands, which
- * bs_counters counts. Takes memory. */
+/* As bs_table_lock_row, but if the lock would have to wait, it is refused with BS_WOULD_BLOCK, after the other
+ * refusals, and `node` is the row's node. It never sleeps, joins no queue and makes no victim. If it is refused, no
+ * lock was changed: if there is no memory to note the row for its transaction, the row is released. A row that the
+ * transaction held before cannot be, and then the answer is BS_OTHER_KEYS: it is held in `mode`, and the caller must
+ * look at its keys again. The answer is the same if the lock took the last number. A row that has a holder costs two
+ * commands, which bs_counters counts. Takes memory. */
 bs_reply bs_table_try_row(bs_table *table, bs_txn txn, bs_node file, uint64_t number, const uint64_t *keys,
                           size_t count, bs_mode mode);
 
@@ -261,7 +261,7 @@ bs_reply bs_table_rekey_row(bs_table *table, bs_txn txn, bs_node file, uint64_t 
  * Asks, which do not sleep: their ends come by callbacks.
  */
 
-/* Gives a table its callback, the function that is called with the end of each ask, and the first argument of that,
+/* Gives a table its callback, the function that is called with the end of each ask, and that function's first argument,
  * which may be null. A table has one, for good: BS_IN_USE if it has one already. Refused with BS_NULL_POINTER also if
  * the function is null, BS_IN_USE, BS_NO_MEMORY. */
 bs_reply bs_table_on_end(bs_table *table, void (*function)(void *context, bs_txn txn, bs_reply end, void *word),
@@ -272,7 +272,7 @@ bs_reply bs_table_on_end(bs_table *table, void (*function)(void *context, bs_txn
  * BS_TXN_WAITING, and bs_table_cancel and bs_table_abort end the wait. `until`, and the transaction's deadline, are the
  * time from which on bs_table_expire cancels the wait. The keys of a row are copied. Refused with BS_NULL_POINTER also
  * if the table has no callback. BS_NO_MEMORY may come before all other refusals but BS_NULL_POINTER, BS_BAD_NUMBER of
- * the time, BS_NO_MANAGER and BS_IN_USE. To end takes no memory. */
+ * the time, BS_NO_MANAGER and BS_IN_USE. The end takes no memory. */
 bs_reply bs_table_ask(bs_table *table, bs_txn txn, bs_node node, bs_mode mode, const struct timespec *until,
                       void *word);
 bs_reply bs_table_ask_path(bs_table *table, bs_txn txn, bs_node node, bs_mode mode, const struct timespec *until,
@@ -287,9 +287,9 @@ bs_reply bs_table_ask_await(bs_table *table, bs_txn txn, bs_node node, bs_mode m
 
 /* Cancels the wait of each ask whose time is over by CLOCK_MONOTONIC, which ends with BS_TIMED_OUT. `count` says how
  * many still wait to a time; if it is not 0, the earliest of these times is written into `next`, which may be null. It
- * is for a loop that has a timer of its own: the loop makes this call after each alarm, and sets the timer to `next`; a
- * time that is asked for meanwhile may be earlier. An ask whose time is over waits until some thread makes this call.
- * Costs a step for each slot. */
+ * is for a loop that has a timer of its own: the loop makes this call after each alarm, and sets the timer to `next`;
+ * the time of an ask that comes meanwhile may be earlier. An ask whose time is over waits until some thread makes this
+ * call. Costs a step for each slot. */
 bs_reply bs_table_expire(bs_table *table, struct timespec *next);
 
 /* ------------------------------------------------------------------------------------------------
@@ -365,10 +365,10 @@ static inline bs_txn bs_begun(void) {
  *   - BS_OTHER_KEYS: the row is held, but its keys are others than was said.
  * The commands after it were not made, and their replies are BS_NOT_MADE. All others are answered as the call of their
  * name. A path continues if others became victims for a lock above, and is never BS_ON_THE_WAY: its `told` has the
- * notices of all its locks. Each transaction that a command tells is woken, by the first command or the last. An
+ * notices of all its locks. Transactions that a command tells are woken, whether it is the first or the last. An
  * unknown kind is refused with BS_BAD_NUMBER. If the table is refused, so is the first command; a null list has no
- * commands. A begin is refused with BS_TOO_MANY_TXNS while a thread sleeps in bs_table_begin_in_turn: that one gets a
- * slot that the list has freed, after its last command. */
+ * commands. A begin is refused with BS_TOO_MANY_TXNS while a thread sleeps in bs_table_begin_in_turn: that thread gets
+ * a slot that the list has freed, after the last command. */
 size_t bs_table_run(bs_table *table, bs_command *commands, size_t count);
 
 /* Makes tries in order, in one critical section, each BS_DO_TRY, BS_DO_TRY_PATH or BS_DO_TRY_ROW, up to the first that
@@ -380,7 +380,7 @@ size_t bs_table_run(bs_table *table, bs_command *commands, size_t count);
  * A path that is passed over keeps nothing, except as its `keep` or bs_table_try_path says. The reply of the try at the
  * answered place is
  *   - BS_DONE: it is the one that was acquired;
- *   - BS_OTHER_KEYS: it was acquired too, and is a row whose keys must be looked at again;
+ *   - BS_OTHER_KEYS: it was acquired too, and is a row whose keys the caller must look at again;
  *   - else it was refused so, and none was acquired.
  * The tries after it were not made, and their replies are BS_NOT_MADE. A kind that is no try is refused with
  * BS_BAD_NUMBER. If the table is refused, so is the first command, at place 0; in a null list none is acquired. */
