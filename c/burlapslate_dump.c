@@ -8,7 +8,7 @@
 
 enum { DUMP_PART = 256 };
 
-/* A transaction in a dump; what it waits for, and whom. */
+/* A transaction in a dump; the node and the transactions that it waits for. */
 typedef struct dump_txn {
   bs_txn txn;
   bs_reply doing;
@@ -16,10 +16,10 @@ typedef struct dump_txn {
   bs_slots waits_for;
 } dump_txn;
 
-/* What a dump has copied, a part at a time: of a manager that its caller holds, or of that of a table, whose latch is
- * held for each part. */
+/* What a dump has copied, a part at a time: from a manager that its caller holds, or from that of a table, whose latch
+ * is held for each part. */
 typedef struct dump_copy {
-  const bs_manager *manager; /* null where it is a table's */
+  const bs_manager *manager; /* null if it is a table's */
   bs_table *table;
   bs_counts counts; /* these are of one moment, with the last deadlock */
   uint64_t nodes, most;
@@ -31,13 +31,13 @@ typedef struct dump_copy {
   size_t lock_count; /* some locks of a transaction */
   bs_reply locks[DUMP_PART];
   uint64_t lock_kinds[DUMP_PART];
-  bs_slots holders; /* who holds a node, in which modes, and its queue */
+  bs_slots holders; /* the holders of a node, their modes, and its queue */
   bs_mode held[BS_SLOTS];
   size_t waiter_count;
   bs_reply waiters[BS_SLOTS];
 } dump_copy;
 
-/* The manager, for a part; null where the table was ended. */
+/* The manager, for a part; null if the table was ended. */
 static const bs_manager *dump_hold(dump_copy *copy) {
   return copy->manager != NULL ? copy->manager : bs_table_hold(copy->table);
 }
@@ -92,7 +92,7 @@ static void dump_copy_locks(const bs_manager *m, bs_txn txn, size_t place, dump_
   copy->lock_count = i;
 }
 
-/* The queue in which a transaction is the first; none where it is in none, or behind others. */
+/* The queue in which a transaction is the first; none if it waits in none, or after others. */
 static void dump_copy_queue(const bs_manager *m, dump_txn *of, dump_copy *copy) {
   uint32_t slot;
   copy->waiter_count = 0;
@@ -164,7 +164,7 @@ static void dump_put_txn(const dump_txn *of, FILE *out) {
   fprintf(out, "\n");
 }
 
-/* Locks of a transaction: what it holds, and in the column behind it what it waits for. */
+/* Locks of a transaction: what it holds, and in the next column what it waits for. */
 static void dump_put_some_locks(bs_txn txn, const dump_copy *copy, FILE *out) {
   size_t i;
   for (i = 0; i < copy->lock_count; i++) {
@@ -177,7 +177,7 @@ static void dump_put_some_locks(bs_txn txn, const dump_copy *copy, FILE *out) {
   }
 }
 
-/* A queue: who holds its node, and who waits for it. */
+/* A queue: the holders of its node, and its waiters. */
 static void dump_put_one_queue(const dump_txn *first, const dump_copy *copy, FILE *out) {
   uint32_t slot;
   size_t place;
@@ -237,7 +237,7 @@ static bool dump_queue(dump_txn *first, dump_copy *copy, FILE *out) {
   return true;
 }
 
-/* Each part is copied, and then written. False: the table was ended. */
+/* Copies each part, and then writes it. False: the table was ended. */
 static bool dump_parts(dump_copy *copy, FILE *out) {
   const bs_manager *m = dump_hold(copy);
   size_t i;
@@ -259,7 +259,7 @@ static bool dump_parts(dump_copy *copy, FILE *out) {
   return true;
 }
 
-/* The thread's cancellation is held off: to write may be a point of it, which would keep the copy and a lent latch. */
+/* Holds off the thread's cancellation: to write may be a point of it, which would keep the copy and a lent latch. */
 static bs_reply dump_of(const bs_manager *held, bs_table *table, FILE *out) {
   dump_copy *copy = (dump_copy *)malloc(sizeof *copy);
   bool is_whole;

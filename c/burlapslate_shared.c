@@ -1,17 +1,17 @@
 /*
- * burlapslate_shared.c: the table of burlapslate_shared.h: a manager behind one mutex, its latch, with a condition for
- * each slot.
+ * burlapslate_shared.c: the table of burlapslate_shared.h: a manager with one mutex, its latch, and a condition
+ * variable for each slot.
  *
- * WHAT IS PROVED, AND WHAT IS NOT. The library is proved: what each command does and whom it tells, what became of
- * a wait (bs_verdict), whose sleepers are to be woken (bs_ended), that a look gives a whole board and never an older
- * one. Written in C here, and tested: the mutex and the conditions, and the line of those who sleep for a slot. They
- * are in table_enter and table_release, round each call; table_wake, behind each command; table_hand_on, behind what
- * may have ended a transaction; table_sleep, where a lock waits; table_sleep_in_line, where a begin does; bs_table_end;
- * and table_watch_over, the thread that watches. So is what several calls with the manager come to together, of which
- * each is proved: table_try_up and table_give_back, of a path that is tried, table_row_tried, of a row, and
- * table_register, of a wait, which may be for an instant and is given back then as it is granted. And so are
- * asks, whose end comes by a call of the engine's: table_go_on, at the end of each hold that may have ended one, and
- * table_tell, behind it. All else here makes calls of burlapslate.h between these.
+ * WHAT IS PROVED, AND WHAT IS NOT. The library is proved: what each command does and whom it tells, what became of a
+ * wait (bs_verdict), whose sleepers must be woken (bs_ended), that a look gives a whole board and never an older one.
+ * Written in C here, and tested: the mutex and the condition variables, and the begin queue. They are in table_enter
+ * and table_release, around each call; table_wake, after each command; table_hand_on, after what may have ended a
+ * transaction; table_sleep, when a lock waits; table_sleep_in_line, when a begin does; bs_table_end; and
+ * table_watch_over, the thread that watches. So is what several calls of the manager, each of them proved, do together:
+ * table_try_up and table_give_back, for a path that is tried, table_row_tried, for a row, and table_register, for a
+ * wait, which may be for an instant and is then released when it is granted. And so are asks, whose end comes by a
+ * callback: table_go_on, at the end of each critical section that may have ended one, and table_tell, after it. All
+ * else here makes calls of burlapslate.h between these.
  */
 #include "burlapslate_shared.h"
 
@@ -21,7 +21,7 @@
 #include <stdlib.h>
 #include <unistd.h>
 
-/* One who sleeps for a slot, in the frame of its own call: its place in the line, and what its begin was answered. */
+/* A thread that sleeps for a slot, in its call's frame: its place in the queue, and what its begin was answered. */
 typedef struct table_turn {
   struct table_turn *ahead, *behind;
   uint64_t since;      /* when its work began, or TABLE_NEW_WORK */
@@ -29,7 +29,7 @@ typedef struct table_turn {
   pthread_cond_t came;
 } table_turn;
 
-/* One who sleeps on a path, in the frame of its own call. */
+/* A thread that sleeps on a path, in the frame of its own call. */
 typedef struct table_way {
   bs_txn txn;
   bs_node at;        /* the node that it waits for: that of the path, or one above it */
@@ -38,20 +38,20 @@ typedef struct table_way {
   bool is_cancelled;
 } table_way;
 
-/* For what a call was left waiting. */
+/* What a call was left waiting for. */
 typedef struct table_wait {
   bs_node node;
   bs_mode mode;
 } table_wait;
 
-/* A lock that is waited for, to be given back as it is granted; and what it was granted as, once it was. */
+/* A lock for an instant that waits, to be released when it is granted; and what it was granted as, once it was. */
 typedef struct table_instant {
   bs_txn txn;
   bs_node node;
   bs_reply came; /* BS_WAITING: it was not granted yet */
 } table_instant;
 
-/* The time at which each wait of a transaction ends at last; of age 0 there is none. */
+/* The latest time at which each wait of a transaction ends; with age 0 there is none. */
 typedef struct table_deadline {
   uint64_t age;
   struct timespec time;
@@ -65,10 +65,10 @@ typedef struct table_row {
   size_t count;
 } table_row;
 
-/* What is asked for without a sleep. */
+/* What an ask asks for. */
 typedef enum table_asked_kind { TABLE_NODE, TABLE_PATH, TABLE_ROW } table_asked_kind;
 
-/* An ask: it waits, its end is to be told, or it is a spare one. */
+/* An ask: it waits, its end must be told, or it is a spare one. */
 typedef struct table_asked {
   struct table_asked *next; /* in its list */
   bs_table *table;
@@ -83,18 +83,18 @@ typedef struct table_asked {
   uint64_t keys[BS_MOST_PARENTS]; /* of the row: one more than any row has */
   bool has_limit, has_time;
   struct timespec limit;    /* of the call */
-  struct timespec time;     /* of the wait: that, or the transaction's where it is earlier */
+  struct timespec time;     /* of the wait: that, or the transaction's if it is earlier */
   bool is_inside;           /* its call has not returned: so that answers its end */
   bool has_ended;
   bs_reply end;
 } table_asked;
 
-/* Asks in their order. */
+/* Asks in order. */
 typedef struct table_asked_list {
   table_asked *first, *last;
 } table_asked_list;
 
-/* The asks of a table whose engine has given a function for their ends. */
+/* The asks of a table whose engine has given a callback. */
 typedef struct table_asks {
   void (*on_end)(void *context, bs_txn txn, bs_reply end, void *word);
   void *context;
@@ -105,32 +105,32 @@ typedef struct table_asks {
   table_asked *spare;
 } table_asks;
 
-/* A table is ending as soon as it is to wake all who sleep, and ended when its manager is gone. */
+/* A table is ending as soon as it must wake all sleepers, and ended when its manager is gone. */
 typedef enum table_stage { TABLE_OPEN = 0, TABLE_ENDING, TABLE_ENDED } table_stage;
 
-/* All but the latch, and `looks`, is read and written with it held. What each call reads and writes comes first, up to
- * the count of `told`: 80 bytes, which lie in two lines of the cache wherever malloc puts a table. */
+/* All fields but the latch and `looks` are read and written with the latch held. What each call reads and writes comes
+ * first, up to the count of `told`: 80 bytes, which are in two cache lines wherever malloc puts a table. */
 struct bs_table {
   pthread_mutex_t latch;
   bs_manager manager;
   table_stage stage;
-  bool is_due;                    /* this hold may have ended waits: who waited is woken or told as it ends */
-  table_turn *first;              /* the line of those who sleep for a slot, by their arrival, up to `last` */
+  bool is_due;                    /* this hold may have ended waits: waiters are woken or told as it ends */
+  table_turn *first;              /* the begin queue, by order of arrival, up to `last` */
   bs_notices told;                /* by the last command whose caller wanted no list */
   table_turn *last;
-  table_asks *asks;               /* null, where nobody can ask without a sleep */
+  table_asks *asks;               /* null if nobody can ask without a sleep */
   size_t sleepers;                /* how many threads sleep, for a lock or for a slot */
   uint64_t waited;                /* how many commands had been accepted when the last lock was left waiting */
-  bs_slots to_wake;               /* the slots whose sleepers are to be woken behind this hold */
-  bs_table *held_before;          /* of one that is held by bs_table_hold: what its holder held before */
-  uint32_t looks;                 /* how often one who finds the latch held looks again before it sleeps */
+  bs_slots to_wake;               /* the slots whose sleepers must be woken after this hold */
+  bs_table *held_before;          /* if bs_table_hold holds this one: what its holder held before */
+  uint32_t looks;                 /* how often a thread that finds the latch held retries before it sleeps */
   pthread_cond_t ended[BS_SLOTS]; /* by slot: a wait may be over */
-  table_way *ways[BS_SLOTS];      /* by slot: who sleeps on a path */
+  table_way *ways[BS_SLOTS];      /* by slot: the thread that sleeps on a path */
   table_deadline deadlines[BS_SLOTS]; /* by slot: of the transaction of this age, and of no later one */
   bs_slots instantly;             /* the slots that wait for a lock for an instant */
   table_instant instants[BS_SLOTS]; /* by slot: for which, up to its next wait */
-  size_t to_tell;                 /* how many ends of asks are to be told, and asks that tell others' before they end */
-  pthread_cond_t left;            /* the last who slept has left an ending table, or the last end was told */
+  size_t to_tell;                 /* how many ends of asks must be told, and asks that tell others' before they end */
+  pthread_cond_t left;            /* the last sleeper has left an ending table, or the last end was told */
   bool is_watched;                /* there is a thread that watches, and it looks by `eye` */
   pthread_t watch;
   bs_watcher eye;
@@ -139,17 +139,17 @@ struct bs_table {
   pthread_cond_t over;            /* the table ends */
 };
 
-/* What is rare stands apart, so that the way of each call is short. */
+/* Rare code is not inlined, so that the path of each call is short. */
 #define TABLE_APART __attribute__((noinline))
 
 /* ------------------------------------------------------------------------------------------------
  * The latch and the wake-ups.
  */
 
-/* Who finds the latch held looks again so often before it sleeps, and pauses so many times ahead of each look. A hold
- * is mostly over by the first look, and to sleep and be woken takes longer than all of them. Who looked more often
- * would get the latch sooner, but all together would do less: between two looks a thread makes several calls, and what
- * they write stays in its own cache. With one processor nobody gives the latch back meanwhile, and nobody looks. */
+/* A thread that finds the latch held retries so often before it sleeps, and pauses so many times before each retry. A
+ * hold is mostly over by the first retry, and to sleep and be woken takes longer than all. With more retries each would
+ * get the latch sooner, but all together would do less: between two retries a thread makes several calls, and what they
+ * write stays in its own cache. With one processor no thread releases the latch meanwhile, and none retries. */
 enum { TABLE_LOOKS = 10, TABLE_PAUSES = 200 };
 
 static inline void table_pause(void) {
@@ -167,12 +167,12 @@ static TABLE_APART void table_take_held(bs_table *table) {
   pthread_mutex_lock(&table->latch);
 }
 
-/* Takes the latch. */
+/* Acquires the latch. */
 static inline void table_take(bs_table *table) {
   if (pthread_mutex_trylock(&table->latch) != 0) table_take_held(table);
 }
 
-/* What this thread holds by bs_table_hold, the last table first. */
+/* The tables that this thread holds by bs_table_hold, the last first. */
 static __thread __attribute__((tls_model("initial-exec"))) bs_table *table_held;
 
 /* Whether a table is one of these, which were held one after the other. */
@@ -181,8 +181,8 @@ static TABLE_APART bool table_is_among(const bs_table *table, const bs_table *he
   return held != NULL;
 }
 
-/* What this thread held when the engine's function was called, which the function does not give back; null, where it is
- * in no call of one. */
+/* What this thread held when the callback was called, which the callback does not give back; null outside a
+ * callback. */
 static __thread __attribute__((tls_model("initial-exec"))) bs_table *table_held_outside;
 
 /* Whether this thread holds the table. */
@@ -190,12 +190,12 @@ static inline bool table_holds(const bs_table *table) {
   return table_held != NULL && table_is_among(table, table_held);
 }
 
-/* The ends that this thread tells: null, where it is in no call of an engine's function. */
+/* The ends that this thread tells; null outside a callback. */
 static __thread __attribute__((tls_model("initial-exec"))) table_asked_list *table_telling;
 
 static TABLE_APART void table_release_and_tell(bs_table *table);
 
-/* Gives the latch back, with all that its hold has brought about. */
+/* Releases the latch, with all that its critical section has set off. */
 static inline void table_release(bs_table *table) {
   if (table->is_due) table_release_and_tell(table);
   else pthread_mutex_unlock(&table->latch);
@@ -206,7 +206,7 @@ static TABLE_APART bool table_turned_away(bs_table *table) {
   return false;
 }
 
-/* Takes the latch of a table, and answers whether the table is open; where it is not, the latch is not held. */
+/* Acquires the latch of a table, and answers whether the table is open; if it is not, the latch is not held. */
 static inline bool table_enter(bs_table *table) {
   if (table == NULL || table_holds(table)) return false;
   table_take(table);
@@ -241,7 +241,7 @@ static void table_note_due(bs_table *table, const bs_slots *ended) {
   for (i = 0; i < BS_SLOTS / 64; i++) asks->due.words[i] |= ended->words[i] & asks->asked.words[i];
 }
 
-/* Adds what a later command told: that is others, since whoever is told waits no more. */
+/* Adds what a later command told: those are others, since a transaction that is told waits no more. */
 static void table_tell_too(bs_notices *told, const bs_notices *more) {
   size_t i;
   for (i = 0; i < more->count && told->count < BS_SLOTS; i++) {
@@ -252,7 +252,7 @@ static void table_tell_too(bs_notices *told, const bs_notices *more) {
   }
 }
 
-/* Takes the lowest of some slots out; BS_SLOTS, where there is none. */
+/* Takes the lowest of some slots out; BS_SLOTS if there is none. */
 static uint32_t table_take_slot(bs_slots *slots) {
   uint32_t i;
   for (i = 0; i < BS_SLOTS / 64; i++) {
@@ -266,7 +266,7 @@ static uint32_t table_take_slot(bs_slots *slots) {
   return BS_SLOTS;
 }
 
-/* Notes that those are to be woken whose wait the last command has ended; and which of them waited for an instant. */
+/* Notes the slots to wake, whose wait the last command has ended; and which of them waited for an instant. */
 static void table_note_ended(bs_table *table, bs_slots *granted) {
   bs_slots ended = bs_call_ended(&table->manager).slots;
   size_t i;
@@ -280,8 +280,8 @@ static void table_note_ended(bs_table *table, bs_slots *granted) {
   if (table->asks != NULL) table_note_due(table, &ended);
 }
 
-/* Gives the locks back that were granted to these for an instant, in the hold in which they were granted: so nobody
- * finds them held. What one gives back may grant others. */
+/* Releases the locks that were granted to these for an instant, in the critical section that granted them: so nobody
+ * finds them held. A release may grant others. */
 static TABLE_APART void table_give_instants_back(bs_table *table, bs_slots *granted, bs_notices *told) {
   uint32_t slot = table_take_slot(granted);
   for (; slot < BS_SLOTS; slot = table_take_slot(granted)) {
@@ -297,8 +297,7 @@ static TABLE_APART void table_give_instants_back(bs_table *table, bs_slots *gran
   }
 }
 
-/* Notes that those are to be woken whose wait the last command may have ended, which bs_ended says, where that was not
- * refused. */
+/* Notes the sleepers whose wait the last command may have ended, as bs_ended says, unless that command was refused. */
 static TABLE_APART void table_wake_ended(bs_table *table, bs_status status, bs_notices *told) {
   bs_slots granted = { { 0 } };
   bool is_accepted = status == BS_DONE || status == BS_WAITING || status == BS_VICTIM || status == BS_ON_THE_WAY ||
@@ -308,21 +307,21 @@ static TABLE_APART void table_wake_ended(bs_table *table, bs_status status, bs_n
   table_give_instants_back(table, &granted, told);
 }
 
-/* A wait began: who watches is woken. */
+/* A wait began: wakes the thread that watches. */
 static inline void table_wait_began(bs_table *table) {
   table->waited = bs_call_accepted(&table->manager).count;
   pthread_cond_signal(&table->began);
 }
 
-/* Behind a command that was answered so: those are to be woken whose wait it may have ended. It is not asked who that
- * is where there is nobody: where it told nobody, and ends no wait by name. A cancel and an abort end one by name. */
+/* After a command that was answered so, notes the sleepers whose wait it may have ended. It does not ask for them if
+ * there are none: if the command told nobody, and ends no wait by name. A cancel and an abort end one by name. */
 static inline void table_wake(bs_table *table, bs_status status, bs_notices *told, bool by_name) {
   if (by_name || told->count > 0) table_wake_ended(table, status, told);
   if (status == BS_WAITING) table_wait_began(table);
 }
 
 /* Registers the wait of a transaction that was just left waiting, for an instant or not, before anybody is woken: what
- * is set off then may end this wait too. What came for an instant before is nothing to it. */
+ * is set off then may end this wait too. An earlier grant for an instant says nothing of it. */
 static TABLE_APART void table_register(bs_table *table, bs_txn txn, bs_node node, bool is_instant) {
   table_instant *own = &table->instants[txn.slot];
   own->came.status = BS_WAITING;
@@ -332,9 +331,9 @@ static TABLE_APART void table_register(bs_table *table, bs_txn txn, bs_node node
   table->instantly.words[txn.slot / 64] |= (uint64_t)1 << txn.slot % 64;
 }
 
-/* Sleeps on a condition, with the latch held before and behind it, to a time at most where that is not null: whether
- * that is over, by ETIMEDOUT. Nobody is to be woken or told any more by the one who sleeps. The thread's cancellation
- * is held off: it would keep the latch. */
+/* Sleeps on a condition variable, with the latch held before and after, at most until a time if that is not null.
+ * Answers ETIMEDOUT if that time is over. The sleeper must have nobody left to wake or tell. Holds off the thread's
+ * cancellation, which would keep the latch. */
 static int table_doze(bs_table *table, pthread_cond_t *on, const struct timespec *until) {
   int state, late;
   pthread_setcancelstate(PTHREAD_CANCEL_DISABLE, &state);
@@ -343,13 +342,13 @@ static int table_doze(bs_table *table, pthread_cond_t *on, const struct timespec
   return late;
 }
 
-/* One who slept has the latch again, and leaves. */
+/* A sleeper has the latch again, and leaves. */
 static void table_woken(bs_table *table) {
   table->sleepers--;
   if (table->stage == TABLE_ENDING && table->sleepers == 0) pthread_cond_signal(&table->left);
 }
 
-/* Takes back the wait of one whose time is over, and answers so. */
+/* Cancels the wait of a transaction whose time is over, and answers so. */
 static bs_reply table_time_out(bs_table *table, bs_txn txn) {
   bs_reply reply = bs_cancel(&table->manager, txn, &table->told);
   table_wake(table, reply.status, &table->told, true);
@@ -357,7 +356,7 @@ static bs_reply table_time_out(bs_table *table, bs_txn txn) {
   return reply;
 }
 
-/* The time at which a wait that begins now ends at last: the earlier of the call's and the transaction's; or null. */
+/* The latest time at which a wait that begins now ends: the earlier of the call's and the transaction's; or null. */
 static const struct timespec *table_earlier(const bs_table *table, bs_txn txn, const struct timespec *until) {
   const table_deadline *own = &table->deadlines[txn.slot];
   if (own->age != txn.age) return until;
@@ -365,8 +364,8 @@ static const struct timespec *table_earlier(const bs_table *table, bs_txn txn, c
   return own->time.tv_sec == until->tv_sec && own->time.tv_nsec < until->tv_nsec ? &own->time : until;
 }
 
-/* Within a call that goes on: wakes and tells whom this hold has brought something, with the latch held before and
- * behind it; whether there was anybody. Others use the table meanwhile. */
+/* Within a call that continues: wakes and tells those to whom this critical section has brought something, with the
+ * latch held before and after; whether there were any. Others use the table meanwhile. */
 static TABLE_APART bool table_tell_between(bs_table *table) {
   if (!table->is_due) return false;
   table_release(table);
@@ -378,7 +377,7 @@ static bool table_is_same_node(bs_node one, bs_node other) {
   return one.key == other.key && one.birth == other.birth;
 }
 
-/* What became of a lock that was left waiting. The manager knows nothing of one that was given back as it came. */
+/* What became of a lock that was left waiting. The manager knows nothing of one released when granted. */
 static bs_reply table_became(bs_table *table, bs_txn txn, bs_node node, bs_mode mode) {
   bs_reply reply = bs_call_verdict(&table->manager, txn, node, mode);
   const table_instant *own;
@@ -388,15 +387,15 @@ static bs_reply table_became(bs_table *table, bs_txn txn, bs_node node, bs_mode 
   return table_is_same_node(own->node, node) ? own->came : reply;
 }
 
-/* The same for one who sleeps: a table that ends answers so. */
+/* The same for a sleeper: a table that ends answers so. */
 static bs_reply table_verdict(bs_table *table, bs_txn txn, bs_node node, bs_mode mode) {
   return table->stage == TABLE_ENDING ? table_no_table(table) : table_became(table, txn, node, mode);
 }
 
-/* Of a lock that was answered BS_WAITING: sleeps, with the latch held before and behind it, until it has its verdict,
- * or the time is over, or the table ends. What became of the wait is asked before the clock, and before a sleep where
- * the call has ended waits: its own may be one of them. The time is copied: a deadline that another thread sets
- * meanwhile is of later waits. Whose wait it has ended is woken or told before it sleeps. */
+/* For a lock that was answered BS_WAITING: sleeps, with the latch held before and after, until it has its verdict, or
+ * the time is over, or the table ends. It asks what became of the wait before it looks at the clock, and before a sleep
+ * if the call has ended waits: its own may be one of them. It copies the time: a deadline that another thread sets
+ * meanwhile is for later waits. It wakes or tells those whose wait it has ended before it sleeps. */
 static TABLE_APART bs_reply table_sleep(bs_table *table, bs_txn txn, bs_node node, bs_mode mode,
                                         const struct timespec *until) {
   struct timespec time;
@@ -420,10 +419,10 @@ static TABLE_APART bs_reply table_sleep(bs_table *table, bs_txn txn, bs_node nod
 }
 
 /* ------------------------------------------------------------------------------------------------
- * The line of those who sleep for a slot.
+ * The begin queue: the threads that sleep for a slot.
  */
 
-/* A condition whose times are of the clock that is never set. */
+/* A condition variable whose times are by the clock that is never set. */
 static void table_make_steady(pthread_cond_t *cond) {
   pthread_condattr_t steady;
   pthread_condattr_init(&steady);
@@ -432,10 +431,10 @@ static void table_make_steady(pthread_cond_t *cond) {
   pthread_condattr_destroy(&steady);
 }
 
-/* Of a begin for new work, which wants to be done since no earlier begin. */
+/* Of a begin for new work, which no earlier begin has tried. */
 #define TABLE_NEW_WORK UINT64_MAX
 
-/* Begins a transaction, whose work wants to be done since this number. */
+/* Begins a transaction, whose work has been tried since this number. */
 static inline bs_reply table_begin_since(bs_table *table, uint64_t since) {
   return since == TABLE_NEW_WORK ? bs_begin(&table->manager) : bs_begin_again(&table->manager, since);
 }
@@ -455,9 +454,9 @@ static void table_leave_line(bs_table *table, table_turn *own) {
   else own->behind->ahead = own->ahead;
 }
 
-/* Behind what may have ended a transaction: begins for those who sleep for a slot, in their order, while one is free.
- * So no hold of the latch leaves a slot free while somebody sleeps for one. And no turn can be lost: one whose time is
- * over has begun by then, or stands in the line still. */
+/* After what may have ended a transaction: begins for the threads in the begin queue, in order, while a slot is free.
+ * So no critical section leaves a slot free while a thread sleeps for one. And no turn can be lost: a thread whose time
+ * is over has begun by then, or is in the queue still. */
 static TABLE_APART void table_serve_line(bs_table *table) {
   while (table->first != NULL) {
     table_turn *next = table->first;
@@ -473,8 +472,8 @@ static inline void table_hand_on(bs_table *table) {
   if (table->first != NULL) table_serve_line(table);
 }
 
-/* Sleeps for a slot, with the latch held before and behind it, until somebody has begun for the one who sleeps, or the
- * time is over, or the table ends. Whether it has begun is asked before the clock. */
+/* Sleeps for a slot, with the latch held before and after, until another thread has begun for this one, or the time is
+ * over, or the table ends. It asks whether it has begun before it looks at the clock. */
 static TABLE_APART bs_reply table_sleep_in_line(bs_table *table, uint64_t since, const struct timespec *until) {
   table_turn own;
   int late = 0;
@@ -496,7 +495,7 @@ static TABLE_APART bs_reply table_sleep_in_line(bs_table *table, uint64_t since,
   return own.begun;
 }
 
-/* The time by CLOCK_MONOTONIC that lies so far ahead. */
+/* The time by CLOCK_MONOTONIC that is so far from now. */
 static struct timespec table_ahead(uint64_t seconds, uint32_t nanoseconds) {
   struct timespec time;
   clock_gettime(CLOCK_MONOTONIC, &time);
@@ -513,7 +512,7 @@ struct timespec bs_after(uint64_t milliseconds) {
   return table_ahead(milliseconds / 1000u, (uint32_t)(milliseconds % 1000u) * 1000000u);
 }
 
-/* Whether this is a time: null, or with nanoseconds below a second. */
+/* Whether this is a valid time: null, or with nanoseconds below a second. */
 static bool table_is_time(const struct timespec *until) {
   return until == NULL || (until->tv_nsec >= 0 && until->tv_nsec < 1000000000L);
 }
@@ -523,13 +522,13 @@ static bs_notices *table_list_of(bs_table *table, bs_notices *told) {
   return told == NULL ? &table->told : told;
 }
 
-/* Where there is no table nobody is told. */
+/* If there is no table, nobody is told. */
 static TABLE_APART bs_reply table_tell_none(bs_table *table, bs_notices *told) {
   if (told != NULL) told->count = 0;
   return table_no_table(table);
 }
 
-/* The body of a function that makes one call with the manager; of one whose call tells somebody. */
+/* The body of a function that makes one call of the manager, and of one whose call tells somebody. */
 #define TABLE_ASK(table, call)                           \
   bs_reply reply;                                        \
   if (!table_enter(table)) return table_no_table(table); \
@@ -548,7 +547,7 @@ static TABLE_APART bs_reply table_tell_none(bs_table *table, bs_notices *told) {
   table_release(table);                                         \
   return reply
 
-/* As table_enter, of a call with a time; and why it was not entered. */
+/* As table_enter, for a call with a time; and why it was not entered. */
 static inline bool table_enter_until(bs_table *table, const struct timespec *until) {
   if (!table_enter(table)) return false;
   return table_is_time(until) || table_turned_away(table);
@@ -559,13 +558,13 @@ static TABLE_APART bs_reply table_no_entry(bs_table *table) {
   return bs_call_only(shut == BS_DONE ? BS_BAD_NUMBER : shut);
 }
 
-/* Whether this thread may sleep: it is in no call of an engine's function, where it is another's, and holds no table by
- * bs_table_hold, whose latch it would keep. */
+/* Whether this thread may sleep: it is in no callback, where it is another's, and holds no table by bs_table_hold,
+ * whose latch it would keep. */
 static inline bool table_may_sleep(void) {
   return table_telling == NULL && table_held == NULL;
 }
 
-/* As table_enter_until, of a call that may sleep; and why it was not entered. */
+/* As table_enter_until, for a call that may sleep; and why it was not entered. */
 static inline bool table_enter_to_sleep(bs_table *table, const struct timespec *until) {
   return table_may_sleep() && table_enter_until(table, until);
 }
@@ -578,7 +577,7 @@ static TABLE_APART bs_reply table_no_sleep(bs_table *table) {
  * Tables.
  */
 
-/* A new table, with no manager yet; null where memory is refused. */
+/* A new table, with no manager yet; null if memory is refused. */
 static bs_table *table_new_table(void) {
   bs_table *table = (bs_table *)malloc(sizeof *table);
   size_t slot;
@@ -622,7 +621,7 @@ bs_reply bs_call_table_make(bs_table **table, const bs_options *options, size_t 
   return reply;
 }
 
-/* Wakes all who sleep with a table that ends. */
+/* Wakes all sleepers of a table that ends. */
 static void table_wake_all(bs_table *table) {
   table_turn *each;
   size_t slot;
@@ -632,7 +631,7 @@ static void table_wake_all(bs_table *table) {
   pthread_cond_broadcast(&table->over);
 }
 
-/* Ends an ask: so its call answers, or else the end is to be told. */
+/* Ends an ask: its call answers the end, or else the end must be told. */
 static void table_end_ask(bs_table *table, table_asked *ask, bs_reply end) {
   table_asks *asks = table->asks;
   uint32_t slot = ask->txn.slot;
@@ -747,8 +746,8 @@ bs_reply bs_table_deadline(bs_table *table, bs_txn txn, const struct timespec *u
   return table_leave(table, bs_call_only(BS_DONE));
 }
 
-/* Gives a lock back that was granted at once, for an instant. Whom that grants is told with the lock: where a victim was
- * chosen for it, others may wait behind it. */
+/* Releases a lock that was granted at once, for an instant. Transactions that this grants are told with the lock: if a
+ * victim was chosen for it, others may wait after it. */
 static TABLE_APART void table_give_back_at_once(bs_table *table, bs_txn txn, bs_node node, bs_notices *told) {
   bs_notices more;
   bs_reply reply = bs_unlock(&table->manager, txn, node, &more);
@@ -756,17 +755,17 @@ static TABLE_APART void table_give_back_at_once(bs_table *table, bs_txn txn, bs_
   table_tell_too(told, &more);
 }
 
-/* The mode of an ask, without what else it says. */
+/* The mode of a request, without what else it says. */
 static inline bs_mode table_mode_of(bs_mode asked) {
   return asked & ~(bs_mode)BS_INSTANT;
 }
 
-/* Whether a node is asked for an instant, and not held: so it is given back as soon as it is granted. */
+/* Whether a node is requested for an instant, and not held: so it is released as soon as it is granted. */
 static inline bool table_is_instant(const bs_table *table, bs_txn txn, bs_node node, bs_mode asked) {
   return (asked & BS_INSTANT) != 0 && bs_held(&table->manager, txn, node).mode == BS_NL;
 }
 
-/* In line, with a constant, so that a lock that stays pays nothing for those for an instant. */
+/* Inlined, with a constant, so that a lock that stays pays nothing for those for an instant. */
 #define TABLE_IN_LINE inline __attribute__((always_inline))
 
 /* Makes the call bs_lock with the latch held. */
@@ -785,13 +784,13 @@ static TABLE_APART bs_reply table_lock_instantly(bs_table *table, bs_txn txn, bs
   return table_lock_by(table, txn, node, table_mode_of(asked), is_instant, told);
 }
 
-/* The same of a mode as it was asked for. */
+/* The same, of a mode as it was requested. */
 static inline bs_reply table_lock_now(bs_table *table, bs_txn txn, bs_node node, bs_mode asked, bs_notices *told) {
   if ((asked & BS_INSTANT) != 0) return table_lock_instantly(table, txn, node, asked, told);
   return table_lock_by(table, txn, node, asked, false, told);
 }
 
-/* Makes the call bs_lock_path with the latch held. Where that waits, for what is written: the manager forgets the mode
+/* Makes the call bs_lock_path with the latch held. If that waits, `wait` says for what: the manager forgets the mode
  * with the wait, which may be over when others are woken. */
 static TABLE_IN_LINE bs_reply table_path_by(bs_table *table, bs_txn txn, bs_node node, bs_mode mode, bool is_instant,
                                             bs_notices *told, table_wait *wait) {
@@ -812,7 +811,7 @@ static TABLE_APART bs_reply table_path_instantly(bs_table *table, bs_txn txn, bs
   return table_path_by(table, txn, node, table_mode_of(asked), is_instant, told, wait);
 }
 
-/* The same of a mode as it was asked for. */
+/* The same, of a mode as it was requested. */
 static inline bs_reply table_path_now(bs_table *table, bs_txn txn, bs_node node, bs_mode asked, bs_notices *told,
                                       table_wait *wait) {
   if ((asked & BS_INSTANT) != 0) return table_path_instantly(table, txn, node, asked, told, wait);
@@ -861,8 +860,8 @@ bs_reply bs_table_unlock(bs_table *table, bs_txn txn, bs_node node, bs_notices *
   TABLE_TELL(table, told, false, bs_unlock(&table->manager, txn, node, list));
 }
 
-/* Behind a cancel: where the wait was over by then, but its sleeper would wake to wait for the next node of its path,
- * the path is to end in place of that. */
+/* After a cancel: if the wait was over by then, but its sleeper would wake to wait for the next node of its path, the
+ * path must end instead. */
 static bs_reply table_cancel_path(bs_table *table, bs_txn txn, bs_reply cancelled) {
   table_way *path = cancelled.status == BS_NOT_WAITING && txn.slot < BS_SLOTS ? table->ways[txn.slot] : NULL;
   bs_status end;
@@ -894,7 +893,7 @@ bs_reply bs_table_escalate(bs_table *table, bs_txn txn, bs_node node, bs_notices
   TABLE_TELL(table, told, false, bs_escalate(&table->manager, txn, node, list));
 }
 
-/* Makes the call bs_lock_path with the latch held, and sleeps where that waits. */
+/* Makes the call bs_lock_path with the latch held, and sleeps if that waits. */
 static bs_reply table_path_inside(bs_table *table, bs_txn txn, bs_node node, bs_mode mode,
                                   const struct timespec *until) {
   table_wait wait;
@@ -927,7 +926,7 @@ bs_reply bs_table_lock_path(bs_table *table, bs_txn txn, bs_node node, bs_mode m
  * Paths that are tried.
  */
 
-/* How many nodes above a path that is tried keeps, and how many that it took without memory for them. */
+/* How many nodes above it a tried path keeps, and how many that it acquired without memory for them. */
 enum { TABLE_MOST_ABOVE = 16, TABLE_FEW_TAKEN = 32 };
 
 /* A path that is tried, in the frame of its own call. */
@@ -937,9 +936,9 @@ typedef struct table_try {
   bs_mode mode;
   bs_node above[TABLE_MOST_ABOVE]; /* the nodes above that are known to be wanted, upwards */
   size_t height;                   /* how many these are */
-  bool is_kept;                    /* what it took stays, however it ends */
+  bool is_kept;                    /* what it acquired stays, however it ends */
   bs_node few[TABLE_FEW_TAKEN];
-  bs_node *taken;                  /* else what it took anew, in that order: `few`, or a list that is freed */
+  bs_node *taken;                  /* else what it acquired anew, in that order: `few`, or a list that is freed */
   size_t count, room;
 } table_try;
 
@@ -954,7 +953,7 @@ static TABLE_APART bool table_note_more(table_try *path) {
   return true;
 }
 
-/* Asks for a node by a try, and notes it where it is taken anew. The place for that is there before. */
+/* Requests a node by a try, and notes it if it is acquired anew. It makes room for that first. */
 static bs_reply table_try_at(bs_table *table, table_try *path, bs_node node, bs_mode mode) {
   bs_manager *m = &table->manager;
   bool is_noted = !path->is_kept && path->height > 0 && bs_held(m, path->txn, node).mode == BS_NL;
@@ -966,11 +965,11 @@ static bs_reply table_try_at(bs_table *table, table_try *path, bs_node node, bs_
   return reply;
 }
 
-/* Makes the tries of a path up to its end. Which node comes first the manager says: a try that is refused for want of a
- * parent names it, and the climb goes on from there. It comes to an end, since no path of the graph closes. Behind a
- * grant a writer goes down by one; a reader may want fewer then, and climbs anew. Each grant is counted, so that the
- * path ends where the count does, if not before. Where a way is longer than what is kept, those below are forgotten,
- * to be found again. */
+/* Makes the tries of a path up to its end. The manager says which node is first: a try that is refused for lack of a
+ * parent names it, and the climb continues from there. The climb ends, since no path of the graph closes. After a grant
+ * a writer descends by one; a reader may need fewer then, and climbs anew. Each grant is counted, so that the path ends
+ * when the count does, if not before. If a way is longer than what is kept, the nodes below are forgotten, to be found
+ * again. */
 static bs_reply table_try_up(bs_table *table, table_try *path) {
   bs_mode intention = path->mode == BS_IS || path->mode == BS_S ? BS_IS : BS_IX;
   for (;;) {
@@ -988,9 +987,9 @@ static bs_reply table_try_up(bs_table *table, table_try *path) {
   }
 }
 
-/* Releases what a path took anew, the last first: so children go before their parents. What the transaction holds a
- * child of since before stays. Nobody could come to wait for any of them in this hold of the latch, so nobody is woken;
- * but it is not left to that. */
+/* Releases what a path acquired anew, the last first: so children before their parents. A node stays if the transaction
+ * has held a child of it since before. No transaction could begin to wait for any of them in this critical section, so
+ * nobody is woken; but this code does not rely on that. */
 static TABLE_APART void table_give_back(bs_table *table, table_try *path) {
   while (path->count > 0) {
     bs_reply reply = bs_unlock(&table->manager, path->txn, path->taken[--path->count], &table->told);
@@ -1063,7 +1062,7 @@ bs_reply bs_table_index_by(bs_table *table, bs_txn txn, const bs_node *parents, 
  * Rows by the engine's own numbers.
  */
 
-/* Asks for a row with the latch held, for one who may wait. */
+/* Requests a row with the latch held, for a caller that may wait. */
 static bs_reply table_ask_row(bs_table *table, bs_txn txn, const table_row *row, bs_mode mode) {
   bs_reply reply =
     bs_lock_row(&table->manager, txn, row->file, row->number, row->keys, row->count, mode, &table->told);
@@ -1072,7 +1071,7 @@ static bs_reply table_ask_row(bs_table *table, bs_txn txn, const table_row *row,
   return reply;
 }
 
-/* Behind a wait for a row that was granted so: it is asked for again, since what became of the wait says nothing of its
+/* After a wait for a row that was granted so: requests it again, since what became of the wait says nothing of its
  * keys. */
 static bs_reply table_row_again(bs_table *table, bs_txn txn, const table_row *row, bs_mode mode, bs_node node,
                                 bs_reply granted) {
@@ -1081,7 +1080,7 @@ static bs_reply table_row_again(bs_table *table, bs_txn txn, const table_row *ro
   return granted;
 }
 
-/* Asks for a row, and sleeps where it has to be waited for. */
+/* Requests a row, and sleeps if it must be waited for. */
 static bs_reply table_row_inside(bs_table *table, bs_txn txn, const table_row *row, bs_mode mode,
                                  const struct timespec *until) {
   bs_reply reply = table_ask_row(table, txn, row, mode);
@@ -1110,9 +1109,9 @@ bs_reply bs_table_lock_row(bs_table *table, bs_txn txn, bs_node file, uint64_t n
   return reply;
 }
 
-/* Of a row that a try has just locked by its node: asks for it as a row, which waits for nothing then. So the row is
- * noted for the transaction, which lets it go in the end, and it is heard whether the keys are its node's own. Where
- * that is refused, a row that was not held before is given back; else it stays held, and its keys are looked at
+/* For a row that a try has just locked by its node: requests it as a row, which waits for nothing then. So the row is
+ * noted for the transaction, which releases it in the end, and the answer says whether the keys are its node's own. If
+ * that is refused, a row that was not held before is released; otherwise it stays held, and its keys must be looked at
  * again. */
 static bs_reply table_row_noted(bs_table *table, bs_txn txn, const table_row *row, bs_reply tried, bool was_held) {
   bs_manager *m = &table->manager;
@@ -1127,9 +1126,9 @@ static bs_reply table_row_noted(bs_table *table, bs_txn txn, const table_row *ro
   return tried;
 }
 
-/* Tries a row with the latch held. A row without a node gets one, and so may one whose node nobody holds: nobody is to
- * be waited for then, since a queue stands behind a holder alone. Any other is locked by the node that it has, if that
- * can be done at once. */
+/* Tries a row with the latch held. A row without a node gets one, and so may one whose node nobody holds: nobody must
+ * be waited for then, since only a node with a holder has a queue. Any other is locked by the node that it has, if that
+ * can be granted at once. */
 static TABLE_APART bs_reply table_row_tried(bs_table *table, bs_txn txn, const table_row *row, bs_mode mode) {
   bs_manager *m = &table->manager;
   bs_node node;
@@ -1161,10 +1160,11 @@ bs_reply bs_table_rekey_row(bs_table *table, bs_txn txn, bs_node file, uint64_t 
 }
 
 /* ------------------------------------------------------------------------------------------------
- * Asks, which do not sleep: their ends come by calls of the engine's function.
+ * Asks, which do not sleep: their ends come by callbacks.
  */
 
-/* Asks for the locks of a path up to its end, or up to one that waits. Where others fell for one above it goes on. */
+/* Requests the locks of a path up to its end, or to one that waits. Continues if others became victims for one
+ * above. */
 static bs_reply table_ask_path(bs_table *table, table_asked *ask) {
   table_wait wait;
   bs_reply reply;
@@ -1178,14 +1178,14 @@ static bs_reply table_ask_path(bs_table *table, table_asked *ask) {
   return reply;
 }
 
-/* A wait of an ask begins: when it ends at the latest. */
+/* A wait of an ask begins: notes its latest time. */
 static void table_ask_waits(bs_table *table, table_asked *ask) {
   const struct timespec *time = table_earlier(table, ask->txn, ask->has_limit ? &ask->limit : NULL);
   ask->has_time = time != NULL;
   if (time != NULL) ask->time = *time;
 }
 
-/* What became of the wait of an ask. A path that has not come to its end goes on. */
+/* What became of the wait of an ask. A path that has not reached its end continues. */
 static bs_reply table_ask_became(bs_table *table, table_asked *ask) {
   bs_reply reply = table_became(table, ask->txn, ask->at, ask->wanted);
   bool is_on_the_way = reply.status == BS_MOVED || (reply.status == BS_DONE && !table_is_same_node(ask->at, ask->node));
@@ -1198,8 +1198,8 @@ static bs_reply table_ask_became(bs_table *table, table_asked *ask) {
   return reply;
 }
 
-/* Before a hold ends: looks at the asks whose wait it may have ended, by rising slots. A path that goes on may end more
- * of them. */
+/* Before a critical section ends: looks at the asks whose wait it may have ended, by rising slots. A path that
+ * continues may end more of them. */
 static void table_go_on(bs_table *table) {
   table_asks *asks = table->asks;
   uint32_t slot = table_take_slot(&asks->due);
@@ -1221,8 +1221,8 @@ static void table_was_told(bs_table *table) {
   if (table->stage == TABLE_ENDING && table->to_tell == 0) pthread_cond_signal(&table->left);
 }
 
-/* Makes the engine's call for an ask that has ended, without the latch. What the engine's function has taken by
- * bs_table_hold it has no more behind it. */
+/* Calls the callback for an ask that has ended, without the latch. Then gives back what the callback still holds by
+ * bs_table_hold. */
 static void table_tell_one(table_asked *ask) {
   bs_table *table = ask->table;
   table_held_outside = table_held;
@@ -1235,8 +1235,8 @@ static void table_tell_one(table_asked *ask) {
   pthread_mutex_unlock(&table->latch);
 }
 
-/* Makes the engine's calls for these, and for those that come to an end by its calls of a table: where this thread is
- * in a call of the function already, that tells them behind it. The thread's cancellation is held off. */
+/* Calls the callback for these, and for those that its calls of a table end: if this thread is in a callback already,
+ * they are told after it. Holds off the thread's cancellation. */
 static void table_tell(table_asked_list *over) {
   int state;
   if (table_telling != NULL) {
@@ -1266,8 +1266,8 @@ static table_asked_list table_take_over(bs_table *table) {
   return over;
 }
 
-/* Who sleeps is woken behind the hold, since who wakes takes the latch: a table's memory is there as long as anybody is
- * in a call with it. */
+/* Sleepers are woken after the critical section, since a woken thread acquires the latch: a table's memory is there as
+ * long as any thread is in a call with it. */
 static void table_wake_sleepers(bs_table *table, const bs_slots *slots) {
   size_t i;
   for (i = 0; i < BS_SLOTS / 64; i++) {
@@ -1299,7 +1299,7 @@ bs_reply bs_table_on_end(bs_table *table, void (*function)(void *context, bs_txn
   return table_leave(table, bs_call_only(BS_DONE));
 }
 
-/* A place for an ask; null where memory is refused. */
+/* A place for an ask; null if memory is refused. */
 static table_asked *table_place(bs_table *table) {
   table_asked *place = table->asks->spare;
   if (place == NULL) return (table_asked *)malloc(sizeof *place);
@@ -1307,7 +1307,7 @@ static table_asked *table_place(bs_table *table) {
   return place;
 }
 
-/* Enters a table for an ask, with a place for it; null where that is refused, as `why` says then. */
+/* Enters a table for an ask, with a place for it; null if that is refused, as `why` says then. */
 static table_asked *table_enter_to_ask(bs_table *table, bs_txn txn, const struct timespec *until, void *word,
                                        bs_reply *why) {
   table_asked *own;
@@ -1329,8 +1329,8 @@ static table_asked *table_enter_to_ask(bs_table *table, bs_txn txn, const struct
   return own;
 }
 
-/* Leaves behind an ask that waits, where others' ends are to be told before it returns. Its own end, where it comes
- * meanwhile, is its answer, and else the node for which it waits by then. */
+/* Leaves after an ask that waits, if others' ends must be told before it returns. If its own end comes meanwhile, that
+ * is its answer, and else the node for which it waits by then. */
 static TABLE_APART bs_reply table_ask_and_tell(bs_table *table, table_asked *own, bs_reply reply) {
   own->is_inside = true;
   table->to_tell++;
@@ -1348,7 +1348,7 @@ static TABLE_APART bs_reply table_ask_and_tell(bs_table *table, table_asked *own
   return reply;
 }
 
-/* Leaves behind an ask that was answered so. One that waits, and that has ended waits, is looked at with those: its own
+/* Leaves after an ask that was answered so. One that waits, and that has ended waits, is looked at with those: its own
  * may be one of them. */
 static bs_reply table_leave_asked(bs_table *table, table_asked *own, bs_reply reply) {
   uint32_t slot = own->txn.slot;
@@ -1402,7 +1402,7 @@ bs_reply bs_table_ask_path(bs_table *table, bs_txn txn, bs_node node, bs_mode mo
   return table_leave_asked(table, own, reply);
 }
 
-/* Keeps the keys of a row. More than any row has are cut to so many that they are others still. */
+/* Keeps the keys of a row. If they are more than any row has, it cuts them to so many that they still differ. */
 static void table_keep_keys(table_asked *own) {
   if (own->row.count > BS_MOST_PARENTS) own->row.count = BS_MOST_PARENTS;
   if (own->row.count > 0) memcpy(own->keys, own->row.keys, own->row.count * sizeof own->keys[0]);
@@ -1428,8 +1428,8 @@ static bool table_is_later(const struct timespec *one, const struct timespec *ot
   return one->tv_sec > other->tv_sec || (one->tv_sec == other->tv_sec && one->tv_nsec > other->tv_nsec);
 }
 
-/* Takes back the wait of each ask whose time is over; how many. What one of them grants to others is theirs, before it
- * is asked whether their time is over. */
+/* Cancels the wait of each ask whose time is over; how many. What one of them grants to others is theirs, before the
+ * call looks whether their time is over. */
 static size_t table_end_late(bs_table *table, const struct timespec *now) {
   size_t count = 0;
   uint32_t slot;
@@ -1444,7 +1444,7 @@ static size_t table_end_late(bs_table *table, const struct timespec *now) {
   return count;
 }
 
-/* How many asks wait to a time; the earliest of these is written. */
+/* How many asks wait to a time; writes the earliest of these. */
 static uint64_t table_next_time(const bs_table *table, struct timespec *next) {
   const struct timespec *first = NULL;
   uint64_t count = 0;
@@ -1472,7 +1472,7 @@ bs_reply bs_table_expire(bs_table *table, struct timespec *next) {
 }
 
 /* ------------------------------------------------------------------------------------------------
- * Several commands in one hold of the latch, with nobody's between them.
+ * Several commands in one critical section.
  */
 
 /* The rest of a path in a list, whose caller has the notices of all its locks. */
@@ -1487,8 +1487,8 @@ static TABLE_APART bs_reply table_path_made_on(bs_table *table, const bs_command
   return reply;
 }
 
-/* A path in a list. Where others fell for a lock above it goes on, as a path that may sleep does: they are woken, and
- * no command of theirs comes between. */
+/* A path in a list. If others became victims for a lock above, it continues, as a path that may sleep does: they are
+ * woken, and no command of theirs comes between. */
 static bs_reply table_path_made(bs_table *table, const bs_command *c, bs_txn txn, bs_notices *told) {
   table_wait wait;
   bs_reply reply = table_path_now(table, txn, c->node, c->mode, told, &wait);
@@ -1497,13 +1497,13 @@ static bs_reply table_path_made(bs_table *table, const bs_command *c, bs_txn txn
   return reply;
 }
 
-/* A lock in a list. Whose wait it has ended is noted behind it, but for a lock for an instant. */
+/* A lock in a list. The waits that it has ended are noted after it, except for a lock for an instant. */
 static inline bs_reply table_lock_made(bs_table *table, const bs_command *c, bs_txn txn, bs_notices *told) {
   if ((c->mode & BS_INSTANT) == 0) return bs_lock(&table->manager, txn, c->node, c->mode, told);
   return table_lock_now(table, txn, c->node, c->mode, told);
 }
 
-/* A row in a list that is tried. */
+/* A tried row in a list. */
 static bs_reply table_row_made(bs_table *table, const bs_command *c, bs_txn txn) {
   table_row row = table_row_of(c->file, c->number, c->keys, c->key_count);
   return table_row_tried(table, txn, &row, c->mode);
@@ -1513,7 +1513,7 @@ static TABLE_APART bs_reply table_no_slot(void) {
   return bs_call_only(BS_TOO_MANY_TXNS);
 }
 
-/* Makes a command of those that begin, that ask for locks or give them back, but for the most frequent. */
+/* Makes a command that begins, or that requests or releases locks, except the most frequent. */
 static TABLE_APART bs_reply table_other_made(bs_table *table, const bs_command *c, bs_txn txn, bs_notices *told) {
   bs_manager *m = &table->manager;
   switch (c->kind) {
@@ -1534,7 +1534,7 @@ static TABLE_APART bs_reply table_other_made(bs_table *table, const bs_command *
   }
 }
 
-/* Makes a command. A slot that the list has freed is for those who sleep for one. */
+/* Makes a command. A slot that the list has freed is for the begin queue. */
 static inline bs_reply table_made(bs_table *table, const bs_command *c, bs_txn txn, bs_notices *told) {
   bs_manager *m = &table->manager;
   switch (c->kind) {
@@ -1558,15 +1558,14 @@ static inline bs_reply table_made(bs_table *table, const bs_command *c, bs_txn t
   }
 }
 
-/* Of those behind the first that was not done. */
+/* For those after the first that was not done. */
 static void table_not_made(bs_command *commands, size_t count) {
   size_t i;
   for (i = 0; i < count; i++) commands[i].reply = bs_call_only(BS_NOT_MADE);
 }
 
-/* Of a command that waits, before anybody is woken: the reply has the node and the mode that are to be awaited. The
- * library says the node of a path and of a row. What is asked for by a path, or for an instant, is registered by then.
- * */
+/* For a command that waits, before anybody is woken: the reply has the node and the mode to await. The library says the
+ * node of a path and of a row. What is requested by a path, or for an instant, is registered by then. */
 static inline void table_say_for_what(bs_table *table, bs_command *c, bs_txn txn) {
   if (c->kind == BS_DO_LOCK_PATH) return;
   if ((c->mode & BS_INSTANT) == 0) table_register(table, txn, c->node, false);
@@ -1574,7 +1573,7 @@ static inline void table_say_for_what(bs_table *table, bs_command *c, bs_txn txn
   if (c->kind == BS_DO_LOCK) c->reply.node = c->node;
 }
 
-/* Takes the notice of a transaction off a list: it is answered what that says. */
+/* Takes the notice of a transaction off a list: its answer says the same. */
 static void table_tell_all_but(bs_notices *told, bs_txn txn) {
   size_t i, kept = 0;
   for (i = 0; i < told->count; i++) {
@@ -1583,8 +1582,8 @@ static void table_tell_all_but(bs_notices *told, bs_txn txn) {
   told->count = kept;
 }
 
-/* What a command of a list comes to whose own wait has ended so. A path goes on, and a row is asked for again. A victim of
- * a path or of a row has the node for which it waited. */
+/* What a command of a list comes to after its own wait has ended so. A path continues, and a row is requested again. A
+ * victim of a path or of a row has the node for which it waited. */
 static bs_reply table_made_on(bs_table *table, const bs_command *c, bs_txn txn, bs_notices *told, bs_reply became) {
   bool is_on_the_way;
   if (c->kind == BS_DO_LOCK_ROW && became.status == BS_DONE) {
@@ -1598,8 +1597,8 @@ static bs_reply table_made_on(bs_table *table, const bs_command *c, bs_txn txn, 
   return is_on_the_way ? table_path_made_on(table, c, txn, told) : became;
 }
 
-/* Of a command of a list that was left waiting, and that has ended waits: what these set off settles, and where its own
- * wait ends by that it comes to what it can come to now. */
+/* For a command of a list that was left waiting, and that has ended waits: what these set off settles, and if its own
+ * wait ends by that, it comes to what it can come to now. */
 static TABLE_APART void table_settle_made(bs_table *table, bs_command *c, bs_txn txn, bs_notices *told) {
   bs_reply became;
   do {
@@ -1611,7 +1610,7 @@ static TABLE_APART void table_settle_made(bs_table *table, bs_command *c, bs_txn
   } while (c->reply.status == BS_WAITING);
 }
 
-/* Makes the next command of a list, and writes its reply. It stands in line in both loops: a call for each command of a
+/* Makes the next command of a list, and writes its reply. It is inlined in both loops: a call for each command of a
  * list costs a twentieth of it. */
 static inline __attribute__((always_inline)) bs_status table_run_next(bs_table *table, bs_command *next, bs_txn begun) {
   bs_txn none = bs_begun();
@@ -1627,7 +1626,7 @@ static inline __attribute__((always_inline)) bs_status table_run_next(bs_table *
   return next->reply.status;
 }
 
-/* Of a list whose table was not entered: the first command is refused so. */
+/* For a list whose table was not entered: the first command is refused so. */
 static TABLE_APART size_t table_none_made(bs_table *table, bs_command *commands, size_t count) {
   commands[0].reply = table_tell_none(table, commands[0].told);
   table_not_made(commands + 1, count - 1);
@@ -1698,14 +1697,14 @@ bs_reply bs_table_let_go(bs_table *table) {
 }
 
 /* ------------------------------------------------------------------------------------------------
- * Watchers: who waits for whom, without the latch.
+ * Watchers: the waits-for graph, without the latch.
  */
 
 bs_reply bs_call_table_watch(bs_table *table, bs_watcher *watcher) {
   TABLE_ASK(table, bs_watch(&table->manager, watcher));
 }
 
-/* Sleeps for some nanoseconds, but no longer than the table lives. The latch is held before and behind it. */
+/* Sleeps for some nanoseconds, but no longer than the table lives. The latch is held before and after. */
 static void table_rest(bs_table *table, uint64_t nanoseconds) {
   struct timespec until;
   if (nanoseconds == 0) return;
@@ -1728,8 +1727,8 @@ static void table_settle_one(bs_table *table, bs_board *board, uint32_t slot) {
   for (i = 0; i < table->told.count; i++) board->rows[table->told.at[i].txn.slot] = none;
 }
 
-/* Settles every suspect of a board, the youngest first, while the table is open. The latch is held before and behind
- * it, and is free between two of them: each searches the whole graph of waits. */
+/* Settles every suspect of a board, the youngest first, while the table is open. The latch is held before and after,
+ * and is free between two of them: each searches the whole waits-for graph. */
 static void table_settle_all(bs_table *table, bs_board *board) {
   bs_reply youngest = bs_youngest(board, bs_suspects(board).slots);
   while (youngest.status == BS_DONE && table->stage == TABLE_OPEN) {
@@ -1740,9 +1739,9 @@ static void table_settle_all(bs_table *table, bs_board *board) {
   }
 }
 
-/* The thread that watches. No cycle of waits closes but by a lock that is left waiting: so it sleeps until there was
- * one since the last board that it settled. A board that is older than the last of these could not be shown, for want
- * of memory: then it is read with the latch, which takes none. */
+/* The thread that watches. Only a lock that is left waiting closes a cycle of waits: so the thread sleeps until there
+ * was one since the last board that it settled. A board older than the last such lock could not be shown, for lack of
+ * memory: then it is read with the latch held, which takes no memory. */
 static void *table_watch_over(void *place) {
   bs_table *table = (bs_table *)place;
   bs_board board;
@@ -1769,8 +1768,8 @@ static void *table_watch_over(void *place) {
   return NULL;
 }
 
-/* Starts the thread that watches, whether it could be. It takes no signals that are the process's, but for those that a
- * fault of its own raises: these cannot wait. */
+/* Starts the thread that watches; whether it could be started. The thread takes no signals that are the process's,
+ * except those that a fault of its own raises: these cannot wait. */
 static bool table_start_watch(bs_table *table) {
   static const int faults[] = { SIGSEGV, SIGBUS, SIGFPE, SIGILL, SIGTRAP };
   sigset_t blocked, before;
