@@ -145,7 +145,7 @@ bs_reply bs_table_begin_again_in_turn(bs_table *table, uint64_t since, const str
 
 /* From now on each wait of a transaction for a lock ends at this time at the latest, whatever the waiting call says;
  * null removes that limit. A wait that sleeps already keeps its time. The limit is the transaction's own: the next one
- * of its slot has none. Refused with BS_NO_SUCH_TXN, and with BS_BAD_NUMBER if it is not a valid time. */
+ * of its slot has none. Refused with BS_NO_SUCH_TXN, and with BS_BAD_NUMBER, before that, if it is not a valid time. */
 bs_reply bs_table_deadline(bs_table *table, bs_txn txn, const struct timespec *until);
 
 /* Joined to the mode of a lock, as in BS_X | BS_INSTANT: the lock is requested and waits as any other, and is released
@@ -199,7 +199,7 @@ bs_reply bs_table_try_path(bs_table *table, bs_txn txn, bs_node node, bs_mode mo
 
 bs_reply bs_table_unlock(bs_table *table, bs_txn txn, bs_node node, bs_notices *told);
 
-/* A savepoint, and the way back to it. A sleeper has none: a transaction that waits is refused with BS_TXN_WAITING. */
+/* As bs_mark and bs_release_since. */
 bs_reply bs_table_mark(bs_table *table, bs_txn txn);
 bs_reply bs_table_release_since(bs_table *table, bs_txn txn, uint64_t savepoint, bs_notices *told);
 
