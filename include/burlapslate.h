@@ -1,55 +1,55 @@
 /*
  * burlapslate.h: a lock manager of granular locks, for C and C++.
  *
- * Transactions lock the nodes of a graph: inner nodes (a data base, an area), files, indexes of files,
- * intervals of indexes, and records. Whoever locks a node holds intentions above it, so that a lock on
- * a node stands for locks on all that lies below.
+ * Transactions lock the nodes of a graph: inner nodes (a database, an area), files, indexes of files, intervals of
+ * indexes, and records. A transaction that locks a node holds intentions above it, so a lock on a node counts as locks
+ * on everything below it.
  *
- * WHO MAY CALL WHEN. A manager is used by one thread at a time, now one and now another: hold a mutex of
- * your own round each call with it. No call waits: a lock that is not granted at once is answered with
- * BS_WAITING, and a later call of another transaction tells its end by a notice. Two managers share
- * nothing, and a board is a value of its own, which any thread may read. A bs_watcher is used by one thread at
- * a time as well, but bs_look and bs_watch_end need no mutex: they go on while others use the manager. No call
- * may be made from a signal handler, or from the forked child of a process with threads. A manager that is const can
- * only be asked, as one that a shared table lends: but two threads may not ask at once.
+ * WHO MAY CALL WHEN. One thread at a time may use a manager, now one thread and now another: hold a mutex of your own
+ * during each call with it. No call blocks. A lock that is not granted at once is answered with BS_WAITING, and a later
+ * call of another transaction reports the end of the wait by a notice. Two managers share nothing, and a board is a
+ * value of its own, which any thread may read. One thread at a time may use a bs_watcher as well, but bs_look and
+ * bs_watch_end need no mutex: they work while other threads use the manager. No call may be made from a signal handler,
+ * or from the forked child of a process with threads. A const manager, such as one that a shared table lends, can only
+ * be asked questions, and two threads may not ask at once.
  *
- * WHAT YOU KEEP. Beside what a call says:
- *   - a bs_manager is BS_NO_MANAGER_HERE, which is all zero, before the first call with it; from then on
- *     it is neither copied, moved, read nor written by you, until bs_end;
- *   - the same holds of a bs_watcher, which is BS_NO_WATCHER_HERE, until bs_watch_end;
- *   - a pointer is null or points to what its type says, which was given some value before; a list points to as
- *     many as its count says;
- *   - what a call writes (its manager, watcher, notices or board) overlaps with nothing else that it is given;
+ * WHAT YOU KEEP. In addition to what a call says:
+ *   - a bs_manager is BS_NO_MANAGER_HERE, which is all zero, before the first call with it; from then until bs_end you
+ *     neither copy, move, read nor write it;
+ *   - the same holds of a bs_watcher, with BS_NO_WATCHER_HERE and bs_watch_end;
+ *   - a pointer is null, or points to an object of its type that was given some value before; a list points to as many
+ *     objects as its count says;
+ *   - what a call writes (its manager, watcher, notices or board) overlaps nothing else that the call is given, and
  *     nobody else uses it during the call;
- *   - malloc, realloc and free are one allocator's, and align as the C standard asks.
- * Null pointers are refused with BS_NULL_POINTER and never read; a list of count 0 may be null. Names may be
- * any values at all: the name of a node that is gone, of a transaction that has ended, or one made up,
- * names nothing and is refused.
+ *   - malloc, realloc and free belong to one allocator, and align as the C standard requires.
+ * Null pointers are refused with BS_NULL_POINTER and never read; a list of count 0 may be null. Names may have any
+ * values: the name of a node that is gone, the name of a transaction that has ended, or an invented one names nothing
+ * and is refused.
  *
- * WHAT A CALL ANSWERS. A bs_reply. Its status is BS_DONE, BS_WAITING, BS_VICTIM or another that the call speaks
- * of; else it says why the call was refused. A refused call changed nothing. bs_lock_path is several locks, and says
- * which of them may stay. All fields that a call does not speak of are zero. Where several refusals hold, the first
- * of these is answered:
+ * WHAT A CALL ANSWERS. A call returns a bs_reply. Its status is BS_DONE, BS_WAITING, BS_VICTIM or another that the
+ * call's comment describes; otherwise it says why the call was refused. A refused call changed nothing. bs_lock_path
+ * makes several locks, and says which of them may stay. All fields that a call's comment does not mention are zero. If
+ * several refusals hold, the call answers the first of these:
  *   - BS_NULL_POINTER;
  *   - BS_OTHER_VERSION, and then BS_OTHER_SLOTS, of the calls that name them;
- *   - BS_BAD_NUMBER, where the call says that it comes first of all;
+ *   - BS_BAD_NUMBER, if the call says that it comes first of all;
  *   - BS_NO_MANAGER;
  *   - BS_ROWS_BY_NUMBER, BS_NOT_ROWS;
- *   - BS_WORN_OUT, of every call but the questions;
+ *   - BS_WORN_OUT, of every call except the questions;
  *   - those in the call's list, in their order;
- *   - BS_NO_MEMORY, of a call that takes memory, but where it says otherwise.
+ *   - BS_NO_MEMORY, of a call that takes memory, unless it says otherwise.
  *
- * NOTICES. A call with `told` fills it anew: whom it told what, at most one notice for each transaction, by
- * rising slot. It is empty where the call was refused. The transaction that a lock, a cancel or an abort
- * names is left out: whoever makes the call has its answer.
+ * NOTICES. A call with `told` overwrites it with the call's notices: at most one for each transaction, by rising slot.
+ * It is empty if the call was refused. The transaction that a lock, a cancel or an abort names gets no notice: the
+ * caller has the answer.
  *
- * MEMORY. Calls that end something or give something back take no memory and cannot fail for want of it:
- * unlock, cancel, commit, abort, settle, delete, rekey, escalate, of nodes and of rows; and drop. Others say so.
+ * MEMORY. Calls that end or release something take no memory and cannot fail for lack of it: unlock, cancel, commit,
+ * abort, settle, delete, rekey, escalate, of nodes and of rows; and drop. Others say so.
  *
- * ZERO. An option that is 0 is as usual. A name that is all zero names nothing.
+ * ZERO. An option that is 0 has its default. A name that is all zero names nothing.
  *
- * STACK. To make a manager takes some 140 kilobytes of stack, any other call 20 at most. With 1,024 slots it takes two
- * megabytes, and what reads a board or finds a deadlock 0.7: give the thread so much.
+ * STACK. Making a manager needs some 140 kilobytes of stack, any other call at most 20. With 1,024 slots it needs two
+ * megabytes, and a call that reads a board or detects a deadlock 0.7: give the thread that much.
  */
 #ifndef BURLAPSLATE_H
 #define BURLAPSLATE_H
@@ -63,104 +63,104 @@
 extern "C" {
 #endif
 
-/* The version of what is declared here. The first number rises where a program has to be changed for it, or the second
- * while the first is 0. The second rises where something is added, the third where neither. */
+/* The version of these declarations. The first number rises if programs must be changed, or the second while the first
+ * is 0. The second rises if something is added, the third if neither. */
 #define BS_VERSION_MAJOR 0
 #define BS_VERSION_MINOR 19
 #define BS_VERSION_PATCH 0
 
 /* How many transactions can live at once, and so how many notices a call can have. A library can be built for another
- * number, and is then installed with headers that have it here. */
+ * number; it is then installed with headers that have that number here. */
 #define BS_SLOTS 128
 
 /* How many parents a node can have, and how many watchers a manager can have at once. */
 enum { BS_MOST_PARENTS = 8, BS_MOST_WATCHERS = 8 };
 
-/* What a call comes to. Refusals are 1 to 23, of the manager, and 64 to 74, of this library. */
+/* The outcome of a call. Refusals are 1 to 23, of the manager, and 64 to 74, of this library. */
 typedef uint32_t bs_status;
 enum bs_statuses {
   BS_DONE = 0,
   BS_NO_MEMORY = 1,       /* the allocator refused */
   BS_NO_SUCH_NODE = 2,    /* a name names no node */
-  BS_NO_SUCH_TXN = 3,     /* the name names no transaction that lives */
+  BS_NO_SUCH_TXN = 3,     /* the name names no living transaction */
   BS_TXN_WAITING = 4,     /* the transaction waits for a lock */
-  BS_TXN_CONDEMNED = 5,   /* the transaction was chosen as a victim, and can only abort */
-  BS_BAD_MODE = 6,        /* BS_NL was asked, or other than S or X on a record */
+  BS_TXN_CONDEMNED = 5,   /* the transaction was condemned as a victim, and can only abort */
+  BS_BAD_MODE = 6,        /* the requested mode is BS_NL, or on a record neither S nor X */
   BS_NEED_PARENTS = 7,    /* the rule of the graph fails at the parent `node` */
-  BS_NOT_HELD = 8,        /* the transaction does not hold the node; of bs_table_let_go: nor this thread the table */
+  BS_NOT_HELD = 8,        /* the transaction does not hold the node, or this thread not the table (bs_table_let_go) */
   BS_HELD_CHILD = 9,      /* the transaction holds the child `node` */
   BS_WOULD_BLOCK = 10,    /* the lock cannot be granted at once */
-  BS_TOO_MANY_TXNS = 11,  /* as many transactions live as may */
-  BS_TOO_MANY_NODES = 12, /* as many nodes live as may, 65,536 where no other number was chosen */
-  BS_BAD_PARENTS = 13,    /* a node of the wrong kind for its place, one parent twice, or too few */
-  BS_NEED_EXCLUSIVE = 14, /* without the exclusive locks that the call needs: a delete, a move, a drop, bs_index_by */
+  BS_TOO_MANY_TXNS = 11,  /* the limit of living transactions is reached */
+  BS_TOO_MANY_NODES = 12, /* the limit of living nodes is reached, by default 65,536 */
+  BS_BAD_PARENTS = 13,    /* a node of the wrong kind for its place, the same parent twice, or too few */
+  BS_NEED_EXCLUSIVE = 14, /* exclusive locks are missing that the call needs: a delete, a move, a drop, bs_index_by */
   BS_NOT_WAITING = 15,    /* the transaction waits for nothing */
   BS_NAME_TAKEN = 16,     /* not answered here: names are the manager's own */
-  BS_FILE_IN_USE = 17,    /* the file has records; or of bs_add_index: a row had a node; of bs_drop: it has indexes */
+  BS_FILE_IN_USE = 17,    /* the file has records; of bs_add_index: or a row had a node; of bs_drop: or indexes */
   BS_BAD_KEYS = 18,       /* bounds that do not rise from above 0, too many, or not a key for each index */
-  BS_WORN_OUT = 19,       /* a counter has come to its end */
+  BS_WORN_OUT = 19,       /* a counter has reached its end */
   BS_BAD_LINE = 20,       /* not answered here */
   BS_CYCLE = 21,          /* the new parent `node` is the node itself or lies below it */
-  BS_RECORD_IN_USE = 22,  /* of bs_forget: some transaction holds the record or waits for it */
+  BS_RECORD_IN_USE = 22,  /* of bs_forget: a transaction holds the record or waits for it */
   BS_HAS_CHILDREN = 23,   /* of bs_drop: the inner node has children */
-  BS_WAITING = 32,        /* the lock is waited for */
-  BS_VICTIM = 33,         /* the asker was condemned to end a deadlock, and can only abort */
+  BS_WAITING = 32,        /* the transaction waits for the lock */
+  BS_VICTIM = 33,         /* the requester was condemned to end a deadlock, and can only abort */
   BS_MOVED = 34,          /* the node moved, and the wait is over */
   BS_GONE = 35,           /* the node is gone, and the wait is over */
-  BS_TIMED_OUT = 36,      /* not answered here: the lock was not granted in time, and the wait was taken back */
-  BS_ON_THE_WAY = 37,     /* a path is locked as far as `node`, and others are told: it is asked for again */
-  BS_OTHER_KEYS = 38,     /* the row is held, but its keys are others than was said: they are read again */
-  BS_NOT_MADE = 39,       /* not answered here: of a command in a list, it was not made */
+  BS_TIMED_OUT = 36,      /* not answered here: the lock was not granted in time, and the wait was cancelled */
+  BS_ON_THE_WAY = 37,     /* the path is locked as far as `node`, and others were notified: call again */
+  BS_OTHER_KEYS = 38,     /* the row is held, but its keys are not those that the caller named: read them again */
+  BS_NOT_MADE = 39,       /* not answered here: this command of a list was not made */
   BS_NULL_POINTER = 64,   /* a pointer is null */
   BS_NO_MANAGER = 65,     /* no manager was made at this place, or it was ended */
   BS_BAD_NUMBER = 66,     /* a number names nothing of its kind, or a count is out of range */
-  BS_IN_USE = 67,         /* there is a manager, a table or a watcher at this place; or this thread holds the table */
+  BS_IN_USE = 67,         /* this place has a manager, a table or a watcher; or this thread holds the table */
   BS_NO_PLACE = 68,       /* there are fewer than that */
   BS_NO_WATCHER = 69,     /* no watcher was made at this place, or it was ended */
-  BS_TOO_MANY_WATCHERS = 70, /* as many watch already as may */
-  BS_ROWS_BY_NUMBER = 71, /* the file is one of rows: its records come, go and change by calls about rows alone */
-  BS_NOT_ROWS = 72,       /* the file is none of rows */
-  BS_OTHER_SLOTS = 73,    /* the library was built for another number of slots than BS_SLOTS */
-  BS_OTHER_VERSION = 74   /* the library is of another version than the headers of the program */
+  BS_TOO_MANY_WATCHERS = 70, /* the manager has as many watchers as it may */
+  BS_ROWS_BY_NUMBER = 71, /* a file of rows: its records are inserted, deleted and changed by calls about rows alone */
+  BS_NOT_ROWS = 72,       /* the file is not a file of rows */
+  BS_OTHER_SLOTS = 73,    /* the library was built for a number of slots other than BS_SLOTS */
+  BS_OTHER_VERSION = 74   /* the library's version differs from that of the program's headers */
 };
 
-/* Lock modes, from none to exclusive. Of what different transactions hold on one node, BS_IS goes with all
- * but BS_X, BS_IX with BS_IS and BS_IX, BS_S with BS_IS and BS_S, BS_SIX with BS_IS alone, BS_X with none. */
+/* Lock modes, from none to exclusive. Between different transactions on one node, BS_IS is compatible with all but
+ * BS_X, BS_IX with BS_IS and BS_IX, BS_S with BS_IS and BS_S, BS_SIX with BS_IS alone, BS_X with none. */
 typedef uint32_t bs_mode;
 enum bs_modes { BS_NL = 0, BS_IS = 1, BS_IX = 2, BS_S = 3, BS_SIX = 4, BS_X = 5 };
 
-/* How deadlocks are found: when a transaction begins to wait, or by a watcher that reads boards. */
+/* How deadlocks are detected: when a transaction begins to wait, or by a watcher that reads boards. */
 enum bs_detects { BS_AT_BLOCK = 0, BS_BY_WATCHER = 1 };
 
-/* Whom a deadlock takes. BS_YOUNGEST: the youngest of those on a cycle of waits with the transaction that closed
- * it, again and again until that is on none. BS_FEWEST: the youngest of those that alone take it off all its
- * cycles, so that one is always enough. */
+/* How victims are chosen. BS_YOUNGEST: the youngest transaction on a cycle of waits with the one that closed it, again
+ * and again until that one is on no cycle. BS_FEWEST: the youngest of those that alone take that one off all its
+ * cycles, so one victim is always enough. */
 enum bs_choices { BS_YOUNGEST = 0, BS_FEWEST = 1 };
 
 /* What a node is. */
 enum bs_kinds { BS_INNER = 1, BS_FILE = 2, BS_INDEX = 3, BS_INTERVAL = 4, BS_RECORD = 5 };
 
-/* What a transaction is doing: it may ask for locks; it waits for one; it was condemned, and can only abort. */
+/* What a transaction is doing: it may request locks; it waits for one; it was condemned, and can only abort. */
 enum bs_doings { BS_ACTIVE = 1, BS_WAITS = 2, BS_CONDEMNED = 3 };
 
-/* What a transaction is told. */
+/* What a notice tells a transaction. */
 enum bs_notice_kinds {
   BS_TOLD_GRANTED = 1, /* its wait is over: it holds `node` in `mode` */
   BS_TOLD_VICTIM = 2,  /* it was condemned to end a deadlock, and can only abort */
-  BS_TOLD_MOVED = 3,   /* the node moved, and its wait no longer meets the rule of the graph: it is over */
+  BS_TOLD_MOVED = 3,   /* the node moved, and its wait no longer meets the rule of the graph: the wait is over */
   BS_TOLD_GONE = 4     /* the node is gone, and its wait is over */
 };
 
-/* The name of a node. It is the same as long as the node lives, and never another's in its manager; in
- * another manager, or one made later at the same place, it may name anything. */
+/* The name of a node. It stays the same while the node lives, and never names another node of its manager. In another
+ * manager, or one made later at the same place, it may name anything. */
 typedef struct bs_node {
   size_t key;
   uint64_t birth;
 } bs_node;
 
-/* The name of a transaction. It is the same as long as it lives, and never another's in its manager. */
+/* The name of a transaction. It stays the same while the transaction lives, and never names another of its manager. */
 typedef struct bs_txn {
-  uint32_t slot; /* below BS_SLOTS; any other names no transaction */
+  uint32_t slot; /* below BS_SLOTS; any other value names no transaction */
   uint64_t age;  /* its number in the order of begins: the youngest has the greatest */
 } bs_txn;
 
@@ -180,24 +180,24 @@ typedef struct bs_watcher {
 
 #define BS_NO_WATCHER_HERE { false, NULL }
 
-/* What a call answers. */
+/* The answer of a call. */
 typedef struct bs_reply {
   bs_status status;
-  bs_mode mode;      /* the mode that was granted, or that was asked after */
-  bs_node node;      /* the node that was made, asked for or asked after, or that the refusal names */
-  bs_txn txn;        /* the transaction that began or was asked after */
+  bs_mode mode;      /* the mode that was granted or asked about */
+  bs_node node;      /* the node that was made, requested or asked about, or that the refusal names */
+  bs_txn txn;        /* the transaction that began or was asked about */
   uint32_t released; /* of an escalation: how many children were released */
   uint32_t kept;     /* of an escalation: how many held children were kept */
-  uint64_t count;    /* the number that was asked after */
-  bs_mode wanted;    /* of bs_lock_at: the mode in which the node is waited for */
+  uint64_t count;    /* the number that was asked about */
+  bs_mode wanted;    /* of bs_lock_at: the mode in which the transaction waits for the node */
 } bs_reply;
 
 /* One notice. */
 typedef struct bs_notice {
   bs_txn txn;
-  bs_node node;  /* what was granted; zero of the other kinds */
+  bs_node node;  /* what was granted; zero in notices of other kinds */
   uint32_t kind; /* of enum bs_notice_kinds */
-  bs_mode mode;  /* what was granted; zero of the other kinds */
+  bs_mode mode;  /* what was granted; zero in notices of other kinds */
 } bs_notice;
 
 /* The notices of one call: the first `count` places. */
@@ -211,65 +211,65 @@ typedef struct bs_slots {
   uint64_t words[BS_SLOTS / 64];
 } bs_slots;
 
-/* Who waits for whom at one moment. */
+/* A snapshot: who waits for whom at one moment. */
 typedef struct bs_board {
-  uint64_t epoch;          /* how many commands had been accepted by then */
-  uint64_t ages[BS_SLOTS]; /* by slot, the age of its transaction; 0: the slot is free */
-  bs_slots rows[BS_SLOTS]; /* by slot, for whom it waits */
+  uint64_t epoch;          /* how many commands had been accepted by that moment */
+  uint64_t ages[BS_SLOTS]; /* by slot, the age of its transaction; 0 if the slot is free */
+  bs_slots rows[BS_SLOTS]; /* by slot, the slots for which it waits */
 } bs_board;
 
-/* Slots that were asked after; none where it was refused. */
+/* The slots that a question asks for; none if it was refused. */
 typedef struct bs_found {
   bs_status status;
   bs_slots slots;
 } bs_found;
 
-/* One who waits on a cycle. */
+/* A transaction that waits on a cycle. */
 typedef struct bs_stuck {
   bs_txn txn;
   bs_node node;       /* the node that it waits for */
   bs_mode mode;       /* the mode in which it wants that node */
-  bs_slots waits_for; /* the slots of those on the cycle for whom it waits */
+  bs_slots waits_for; /* the slots of the transactions on the cycle for which it waits */
 } bs_stuck;
 
 /* A deadlock, as it was when its victim was condemned. */
 typedef struct bs_deadlock {
-  bs_txn victim;         /* who was condemned to end it */
-  size_t count;          /* how many were on a cycle with the one that was settled, the victim among them */
+  bs_txn victim;         /* the transaction that was condemned to end it */
+  size_t count;          /* how many were on a cycle with the settled transaction, the victim among them */
   bs_stuck at[BS_SLOTS]; /* these, by rising slot: the first `count` places */
 } bs_deadlock;
 
-/* What a manager is made with. A number that is 0 is as usual. */
+/* What a manager is made with. A number that is 0 has its default. */
 typedef struct bs_options {
-  uint32_t detect;       /* of enum bs_detects; BS_AT_BLOCK as usual */
-  uint32_t victims;      /* of enum bs_choices; BS_YOUNGEST as usual */
-  uint32_t transactions; /* how many may live at once, 1 to BS_SLOTS; BS_SLOTS as usual */
-  uint32_t nodes;        /* how many may live at once, 1 to 2^31, records and intervals among them; 65,536 as usual */
-  uint32_t bounds;       /* how many an index may have at most, 1 to 2^31; 256 as usual */
+  uint32_t detect;       /* of enum bs_detects; by default BS_AT_BLOCK */
+  uint32_t victims;      /* of enum bs_choices; by default BS_YOUNGEST */
+  uint32_t transactions; /* how many may live at once, 1 to BS_SLOTS; by default BS_SLOTS */
+  uint32_t nodes;        /* how many may live at once, 1 to 2^31, records and intervals among them; by default 65,536 */
+  uint32_t bounds;       /* how many an index may have at most, 1 to 2^31; by default 256 */
 } bs_options;
 
-/* What a manager has been doing since it was made, in commands that it accepted. Each of these is a count
- * that stops at the greatest uint64_t. */
+/* What a manager has done since it was made, in commands that it accepted. Each count stops at the greatest
+ * uint64_t. */
 typedef struct bs_counts {
   uint64_t accepted;          /* all commands that were neither refused nor questions */
-  uint64_t granted;           /* asks, by lock or by try, that were answered with a mode */
+  uint64_t granted;           /* requests, by lock or by try, that were answered with a mode */
   uint64_t waited;            /* locks that were answered with a wait */
-  uint64_t conversions;       /* asks of a node that the transaction held already, where not refused */
+  uint64_t conversions;       /* requests for a node that the transaction already held, unless refused */
   uint64_t granted_later;     /* waits that ended with a grant */
   uint64_t condemned;         /* transactions that were condemned to end a deadlock */
-  uint64_t moved;             /* waits that ended since the node moved */
-  uint64_t gone;              /* waits that ended since the node is gone */
+  uint64_t moved;             /* waits that ended because the node moved */
+  uint64_t gone;              /* waits that ended because the node is gone */
   uint64_t escalations;       /* escalations that were done */
   uint64_t released_children; /* children that escalations released */
-  uint64_t most_waiting;      /* the most transactions that waited at once, behind a lock that waits */
-  uint64_t longest_queue;     /* the most that waited for one node at once, behind a lock that waits for it */
-  uint64_t passed;            /* modes that were raised at once on a node for which somebody else waits still */
+  uint64_t most_waiting;      /* the most transactions that waited at once, counted after a lock that waits */
+  uint64_t longest_queue;     /* the most that waited for one node at once, counted after a lock that waits for it */
+  uint64_t passed;            /* modes that were raised at once on a node for which another transaction still waits */
 } bs_counts;
 
-/* The version of the library as one number: a million times the first, a thousand times the second, and the third. */
+/* The version of the library as one number: 1,000,000 times the first, plus 1,000 times the second, plus the third. */
 uint32_t bs_version(void);
 
-/* The calls of the library, and what the functions below share. A program uses none of it. */
+/* The calls of the library, and what the functions below share. Programs do not use them. */
 #include "burlapslate_calls.h"
 
 /* ------------------------------------------------------------------------------------------------
