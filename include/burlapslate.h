@@ -100,7 +100,7 @@ enum bs_statuses {
   BS_BAD_KEYS = 18,       /* bounds that do not rise from above 0, too many, or not a key for each index */
   BS_WORN_OUT = 19,       /* a counter has reached its end */
   BS_BAD_LINE = 20,       /* not answered here */
-  BS_CYCLE = 21,          /* the new parent `node` is the node itself or lies below it */
+  BS_CYCLE = 21,          /* the new parent `node` is the node itself or is below it */
   BS_RECORD_IN_USE = 22,  /* of bs_forget: a transaction holds the record or waits for it */
   BS_HAS_CHILDREN = 23,   /* of bs_drop: the inner node has children */
   BS_WAITING = 32,        /* the transaction waits for the lock */
@@ -276,10 +276,10 @@ uint32_t bs_version(void);
  * Managers.
  */
 
-/* Makes a manager at a place that has none, by options; where they are null it is one as usual. Takes memory, more for
- * more transactions; that for nodes is taken as they are made. Refused with BS_NULL_POINTER; with BS_OTHER_VERSION and
- * BS_OTHER_SLOTS, which are that the program was compiled with the headers of another library; with BS_IN_USE,
- * BS_BAD_NUMBER, BS_NO_MEMORY. A version is another where its first number is, or its second. */
+/* Makes a manager at a place that has none, by `options`; if that is null, all options have their defaults. Takes
+ * memory, more for more transactions; memory for nodes is taken as they are made. Refused with BS_NULL_POINTER; with
+ * BS_OTHER_VERSION and BS_OTHER_SLOTS, if the program was compiled with the headers of another library; with BS_IN_USE,
+ * BS_BAD_NUMBER, BS_NO_MEMORY. A version is another if its first or its second number differs. */
 static inline bs_reply bs_make(bs_manager *manager, const bs_options *options) {
   bs_options chosen = bs_call_chosen(options, sizeof *options);
   bs_status misfit = bs_call_misfit();
@@ -288,46 +288,46 @@ static inline bs_reply bs_make(bs_manager *manager, const bs_options *options) {
   return bs_call_make_with(manager, chosen.detect, chosen.victims, chosen.transactions, chosen.nodes, chosen.bounds);
 }
 
-/* Ends a manager, whatever its transactions do, and gives back all memory that it took. Its place has
- * no manager then, and may be used for another. Costs a walk over all that it has. */
+/* Ends a manager, whatever its transactions do, and frees all memory that it took. The place then has no manager, and
+ * may be used for another. Costs a walk over all that the manager has. */
 static inline bs_reply bs_end(bs_manager *manager) {
   return manager == NULL ? bs_call_null() : bs_call_end(manager);
 }
 
 /* ------------------------------------------------------------------------------------------------
- * The graph. No path closes, whatever is made, moved or removed. These take memory; each answers the
- * new node in `node`. They tell nobody. Nodes go by bs_drop, and no name is ever given twice.
+ * The graph. It never has a cycle, whatever is made, moved or removed. These calls take memory; each answers the new
+ * node in `node`. They notify nobody. bs_drop removes nodes, and no name is ever given twice.
  */
 
-/* A new inner node under 0 to 8 different inner nodes; without parents it is a root. Refused with
- * BS_NO_SUCH_NODE, BS_BAD_PARENTS, BS_TOO_MANY_NODES; with BS_BAD_NUMBER, first of all, where there are
- * more than 8 parents. Costs a look-up for each parent. */
+/* Makes an inner node under 0 to 8 different inner nodes; without parents it is a root. Refused with BS_NO_SUCH_NODE,
+ * BS_BAD_PARENTS, BS_TOO_MANY_NODES; with BS_BAD_NUMBER, first of all, if there are more than 8 parents. Costs a
+ * look-up for each parent. */
 static inline bs_reply bs_add_inner(bs_manager *manager, const bs_node *parents, size_t count) {
   if (manager == NULL || (parents == NULL && count != 0)) return bs_call_null();
   return bs_call_add_inner(manager, bs_call_nodes(parents), count);
 }
 
-/* A new file of records, under 1 to 8 different inner nodes. Its records are named by their nodes. Refused as
+/* Makes a file of records under 1 to 8 different inner nodes. Its records are named by their nodes. Refused as
  * bs_add_inner. */
 static inline bs_reply bs_add_file(bs_manager *manager, const bs_node *parents, size_t count) {
   if (manager == NULL || (parents == NULL && count != 0)) return bs_call_null();
   return bs_call_add_file(manager, bs_call_nodes(parents), count);
 }
 
-/* A new file of rows, under 1 to 8 different inner nodes. Each of its records is a row, which the engine names by a
- * number of its own, and comes, goes and gets other keys by the calls about rows alone. A file is of records or of rows
+/* Makes a file of rows under 1 to 8 different inner nodes. Each of its records is a row, which the engine names by a
+ * number of its own. Calls about rows alone make a row, remove it and change its keys. A file is of records or of rows
  * for good. Refused as bs_add_inner; BS_NO_MEMORY may come before all refusals but BS_BAD_NUMBER and BS_NO_MANAGER. */
 static inline bs_reply bs_add_row_file(bs_manager *manager, const bs_node *parents, size_t count) {
   if (manager == NULL || (parents == NULL && count != 0)) return bs_call_null();
   return bs_call_row_file(manager, bs_call_nodes(parents), count);
 }
 
-/* A new index of a file that has no records, and of which no row ever had a node by bs_adopt or bs_lock_row; else
- * bs_index_by makes one. It lies under 1 to 8 different inner nodes. It has up to 256 bounds, or up to the number that
- * was chosen at its making. Bounds rise from above 0: interval 0 has the keys below the first bound, interval i those
- * from bound i - 1 on. Each interval is a node. Refused with BS_NO_SUCH_NODE, BS_BAD_PARENTS (also where the file has 7
- * indexes), BS_FILE_IN_USE, BS_BAD_KEYS, BS_TOO_MANY_NODES (its intervals count); with BS_BAD_NUMBER, first of all,
- * where there are more than 8 parents. Costs a step for each bound. */
+/* Makes an index of a file that has no records, and whose rows never had a node by bs_adopt or bs_lock_row; otherwise
+ * bs_index_by makes one. Its parents are 1 to 8 different inner nodes. It has up to 256 bounds, or up to the number
+ * that was chosen when the manager was made. Bounds rise from above 0: interval 0 has the keys below the first bound,
+ * interval i those from bound i - 1 on. Each interval is a node. Refused with BS_NO_SUCH_NODE, BS_BAD_PARENTS (also if
+ * the file has 7 indexes), BS_FILE_IN_USE, BS_BAD_KEYS, BS_TOO_MANY_NODES (its intervals count); with BS_BAD_NUMBER,
+ * first of all, if there are more than 8 parents. Costs a step for each bound. */
 static inline bs_reply bs_add_index(bs_manager *manager, const bs_node *parents, size_t count, bs_node file,
                                     const uint64_t *bounds, size_t bound_count) {
   if (manager == NULL || (parents == NULL && count != 0) || (bounds == NULL && bound_count != 0)) return bs_call_null();
@@ -338,176 +338,174 @@ static inline bs_reply bs_add_index(bs_manager *manager, const bs_node *parents,
  * Transactions and locks.
  */
 
-/* A new transaction, in `txn`. Refused with BS_TOO_MANY_TXNS. Takes memory. */
+/* Begins a transaction, in `txn`. Refused with BS_TOO_MANY_TXNS. Takes memory. */
 static inline bs_reply bs_begin(bs_manager *manager) {
   return manager == NULL ? bs_call_null() : bs_call_begin(manager);
 }
 
-/* A new transaction, as bs_begin, for work that an earlier one was to do, which fell or gave up: `since` is the age of
- * the first of these. Of a deadlock's members the one falls whose work is the latest by that number, of several such
- * the youngest; the number of one that bs_begin began is its own age. So work that begins again with its first number
- * falls only for work that is older, and of that there is less with each that ends: with BS_YOUNGEST no deadlock takes
- * its oldest. With BS_FEWEST it does where nobody else ends it. A number above its own age counts as that. With 0
- * it is older than all that bs_begin began. Refused as bs_begin. */
+/* Begins a transaction, as bs_begin does, for work of an earlier transaction that was a victim or gave up: `since` is
+ * the age of the first of these. A deadlock's victim is the member with the latest `since`, or the youngest of several
+ * such; a transaction of bs_begin has its own age as `since`. So work that begins again with its first `since` is
+ * condemned only for older work, and each older one that ends leaves less of that. With BS_YOUNGEST no deadlock
+ * condemns its oldest member. With BS_FEWEST it does if no other member ends it. A `since` above the transaction's own
+ * age counts as that age. With 0 it is older than all that bs_begin began. Refused as bs_begin. */
 static inline bs_reply bs_begin_again(bs_manager *manager, uint64_t since) {
   return manager == NULL ? bs_call_null() : bs_call_begin_again(manager, since);
 }
 
-/* Asks for a mode on a node: to read (BS_IS, BS_S) intentions to read or more are needed on one parent, to
- * write (BS_IX, BS_SIX, BS_X) intentions to write or more on all parents. What is held and what is asked
- * join to what is wanted. It is granted at once where two things hold: it goes with what others hold; and the
- * transaction holds the node already, or nobody waits for it. So a newcomer passes no queue, and one that holds
- * the node waits ahead of all newcomers. BS_DONE: `mode` is the mode now held. BS_WAITING: the transaction
- * waits, and what it held stays held. It does nothing else until a notice tells it the end, or it cancels or
- * aborts. BS_VICTIM: its wait closed a cycle of waits, and it is one to give way. Its wait is over, its
- * locks stay, and all that it can do is abort.
- * Where a cycle was closed others may fall too, also beside BS_VICTIM, and are told BS_TOLD_VICTIM; who
- * stood behind a victim may be told BS_TOLD_GRANTED.
- * Refused with BS_NO_SUCH_TXN, BS_TXN_WAITING, BS_TXN_CONDEMNED, BS_NO_SUCH_NODE, BS_BAD_MODE,
- * BS_NEED_PARENTS, and with BS_BAD_NUMBER, first of all, where the mode is no number of enum bs_modes. Takes
- * memory, but for a node that the transaction holds already, granted at once. Costs one look-up of the node
- * and one for each parent; where it waits with detection at block a search along the waits too. */
+/* Requests a mode on a node. To read (BS_IS, BS_S) the transaction must hold intentions to read, or more, on one
+ * parent; to write (BS_IX, BS_SIX, BS_X) intentions to write, or more, on all parents. The held and the requested mode
+ * join to the wanted mode. It is granted at once if two things hold: it is compatible with what others hold; and the
+ * transaction already holds the node, or nobody waits for it. So a newcomer passes no queue, and a transaction that
+ * holds the node waits ahead of all newcomers. BS_DONE: `mode` is the mode now held. BS_WAITING: the transaction waits,
+ * and still holds what it held. It does nothing else until a notice tells it the end, or it cancels or aborts.
+ * BS_VICTIM: its wait closed a cycle of waits, and it was chosen as a victim. Its wait is over, its locks stay, and it
+ * can only abort.
+ * If the wait closed a cycle, others may be condemned too, also beside BS_VICTIM, and are told BS_TOLD_VICTIM. Those
+ * queued behind a victim may be told BS_TOLD_GRANTED.
+ * Refused with BS_NO_SUCH_TXN, BS_TXN_WAITING, BS_TXN_CONDEMNED, BS_NO_SUCH_NODE, BS_BAD_MODE, BS_NEED_PARENTS, and
+ * with BS_BAD_NUMBER, first of all, if the mode is no number of enum bs_modes. Takes memory, unless the transaction
+ * already holds the node and is granted at once. Costs one look-up of the node and one for each parent; a wait with
+ * detection at block costs a search along the waits too. */
 static inline bs_reply bs_lock(bs_manager *manager, bs_txn txn, bs_node node, bs_mode mode, bs_notices *told) {
   return bs_call_lacks(manager, told) ? bs_call_null() : bs_call_lock(manager, txn, node, mode, told);
 }
 
-/* Locks a node with what has to be held above it. That is intentions, root first: to write on all parents, to read
- * on the first, where none is held already. Then it locks the node in its mode. Each is a lock as bs_lock asks for it,
- * and a command. What is held already is not asked for. It ends at the first lock that waits or whose asker falls; what
- * was locked before that stays locked. BS_DONE: `mode` is the mode in which the node is held. BS_WAITING and BS_VICTIM:
- * `node` is the one for which it waits or fell, which is the node itself or one above it. Once that is granted the
- * call is made again. BS_ON_THE_WAY: `node`, one above, was granted by the fall of others. Make the call again, when
- * all in `told` have heard. Refused as bs_lock, but never with BS_NEED_PARENTS. Nothing was locked then, except where
- * BS_NO_MEMORY or BS_WORN_OUT comes behind some of the locks: these stay. Costs its locks, and a look at each node
- * above for each of them. */
+/* Locks a node after what must be held above it. That is intentions, root first: to write on all parents, to read on
+ * the first, if none is held already. Then it locks the node in its mode. Each is a lock as by bs_lock, and a command.
+ * What is held already is not requested. The call ends at the first lock that waits or makes the transaction a victim;
+ * what was locked before stays locked. BS_DONE: `mode` is the mode in which the node is held. BS_WAITING and BS_VICTIM:
+ * `node` is the one for which the transaction waits or was condemned: the node itself or one above it. After that lock
+ * is granted, make the call again. BS_ON_THE_WAY: `node`, one above, was granted because others were condemned. Make
+ * the call again after all in `told` were notified. Refused as bs_lock, but never with BS_NEED_PARENTS. Nothing was
+ * locked then, unless BS_NO_MEMORY or BS_WORN_OUT comes after some of the locks: these stay. Costs its locks, and for
+ * each of them a look at each node above. */
 static inline bs_reply bs_lock_path(bs_manager *manager, bs_txn txn, bs_node node, bs_mode mode, bs_notices *told) {
   return bs_call_lacks(manager, told) ? bs_call_null() : bs_call_lock_path(manager, txn, node, mode, told);
 }
 
-/* As bs_lock, but where the lock cannot be granted at once it is refused with BS_WOULD_BLOCK, after the
- * other refusals. It never waits and tells nobody. */
+/* As bs_lock, but a lock that cannot be granted at once is refused with BS_WOULD_BLOCK, after the other refusals. It
+ * never waits and notifies nobody. */
 static inline bs_reply bs_try(bs_manager *manager, bs_txn txn, bs_node node, bs_mode mode) {
   return manager == NULL ? bs_call_null() : bs_call_try(manager, txn, node, mode);
 }
 
-/* Releases one node of which the transaction holds no child, also none that it may read by another parent.
- * Refused with BS_NO_SUCH_TXN, BS_TXN_WAITING, BS_TXN_CONDEMNED, BS_NO_SUCH_NODE, BS_NOT_HELD,
- * BS_HELD_CHILD. Costs a look-up, and a step for each waiter that is granted. */
+/* Releases a node if the transaction holds no child of it, not even one that it may read by another parent. Refused
+ * with BS_NO_SUCH_TXN, BS_TXN_WAITING, BS_TXN_CONDEMNED, BS_NO_SUCH_NODE, BS_NOT_HELD, BS_HELD_CHILD. Costs a look-up,
+ * and a step for each waiter that is granted. */
 static inline bs_reply bs_unlock(bs_manager *manager, bs_txn txn, bs_node node, bs_notices *told) {
   return bs_call_lacks(manager, told) ? bs_call_null() : bs_call_unlock(manager, txn, node, told);
 }
 
-/* A savepoint of a transaction, in `count`, for bs_release_since: how many nodes it holds or waits for. Nothing is kept
- * for it. It is good until the transaction gives a lock back that it had by then: by bs_unlock, bs_unlock_row,
- * bs_escalate, bs_delete or bs_drop, or as another takes the node away. One that is made during a wait counts that
- * wait, and a cancel of it gives it back. Refused with BS_NO_SUCH_TXN. */
+/* Answers a savepoint of a transaction, in `count`, for bs_release_since: how many nodes it holds or waits for. Nothing
+ * is stored for it. It is valid until the transaction releases a lock that it had by then: by bs_unlock, bs_unlock_row,
+ * bs_escalate, bs_delete or bs_drop, or because another removes the node. A savepoint made during a wait counts that
+ * wait, and a cancel of that wait is such a release. Refused with BS_NO_SUCH_TXN. */
 static inline bs_reply bs_mark(const bs_manager *manager, bs_txn txn) {
   return bs_call_can_ask(manager) ? bs_call_lock_count(manager, txn) : bs_call_unasked(manager);
 }
 
-/* Goes back to a savepoint: releases what the transaction has locked since, children before their parents; how many
- * nodes that were is in `count`. What it had by then it has still, in that mode, or in the greater one to which it was
- * raised since: no command lowers a mode, and what was held before is not known any more. For the same reason a node
- * stays of which it holds a child still: that was held before by another parent, or was raised since, which took
- * intentions on all its parents. Rows that nobody holds any more are let go. Behind a savepoint that is not good any
- * more fewer nodes go, and never one of before.
- * It is one command for each node. Refused, before anything is released, with BS_NO_SUCH_TXN, BS_TXN_WAITING,
- * BS_TXN_CONDEMNED, and with BS_WORN_OUT where not each lock since can be counted. Takes no memory. Costs a step for
- * each lock since, for each waiter that is granted, and for each row that the transaction has asked for. */
+/* Rolls back to a savepoint: releases what the transaction has locked since, children before their parents; `count` is
+ * how many nodes those were. The transaction still holds what it had by then, in that mode or in the greater one to
+ * which it was raised since: no command lowers a mode, and the earlier mode is no longer known. For the same reason a
+ * node stays if the transaction still holds a child of it: the child was held before by another parent, or was raised
+ * since, which took intentions on all its parents. Rows that nobody holds any more are let go. With a savepoint that is
+ * no longer valid it releases fewer nodes, and never one from before it.
+ * Each node is one command. Refused, before anything is released, with BS_NO_SUCH_TXN, BS_TXN_WAITING,
+ * BS_TXN_CONDEMNED, and with BS_WORN_OUT if not each lock since can be counted. Takes no memory. Costs a step for each
+ * lock since, for each waiter that is granted, and for each row that the transaction has requested. */
 static inline bs_reply bs_release_since(bs_manager *manager, bs_txn txn, uint64_t savepoint, bs_notices *told) {
   if (bs_call_lacks(manager, told)) return bs_call_null();
   return bs_call_release_since(manager, txn, (size_t)savepoint, told);
 }
 
-/* Takes the wait of a transaction back. A row that it waited for is let go. The transaction itself is told nothing:
- * where another thread sleeps for it, tell that one. Refused with BS_NO_SUCH_TXN, BS_TXN_CONDEMNED, BS_NOT_WAITING. */
+/* Cancels the wait of a transaction. A row that it waited for is let go. The transaction itself gets no notice: if
+ * another thread sleeps for it, notify that thread. Refused with BS_NO_SUCH_TXN, BS_TXN_CONDEMNED, BS_NOT_WAITING. */
 static inline bs_reply bs_cancel(bs_manager *manager, bs_txn txn, bs_notices *told) {
   return bs_call_lacks(manager, told) ? bs_call_null() : bs_call_cancel_rows(manager, txn, told);
 }
 
-/* Ends a transaction and releases everything, its rows among it. Refused with BS_NO_SUCH_TXN, BS_TXN_WAITING,
+/* Ends a transaction and releases everything, its rows included. Refused with BS_NO_SUCH_TXN, BS_TXN_WAITING,
  * BS_TXN_CONDEMNED. Costs a step for each lock and each waiter that is granted. */
 static inline bs_reply bs_commit(bs_manager *manager, bs_txn txn, bs_notices *told) {
   return bs_call_lacks(manager, told) ? bs_call_null() : bs_call_commit_rows(manager, txn, told);
 }
 
-/* Ends a transaction whatever it is doing, and releases everything, its rows among it. It undoes nothing: a record that
- * was inserted stays, and one that was deleted or moved stays so. The transaction itself is told nothing: where
- * another thread sleeps for it, tell that one. Refused with BS_NO_SUCH_TXN. */
+/* Ends a transaction whatever it is doing, and releases everything, its rows included. It undoes nothing: an inserted
+ * record stays, and a deleted or moved one stays so. The transaction itself gets no notice: if another thread sleeps
+ * for it, notify that thread. Refused with BS_NO_SUCH_TXN. */
 static inline bs_reply bs_abort(bs_manager *manager, bs_txn txn, bs_notices *told) {
   return bs_call_lacks(manager, told) ? bs_call_null() : bs_call_abort_rows(manager, txn, told);
 }
 
-/* Condemns who is to fall for the transaction, by the choice of victims, until it is on no cycle of waits.
- * Whoever is condemned is told BS_TOLD_VICTIM: its wait is over, and its locks stay until it aborts. Who
- * stood behind it may be told BS_TOLD_GRANTED. It is how a watcher ends deadlocks. Refused with
- * BS_NO_SUCH_TXN. */
+/* Condemns victims, by the choice of victims, until the transaction is on no cycle of waits. Each victim is told
+ * BS_TOLD_VICTIM: its wait is over, and its locks stay until it aborts. Those queued behind it may be told
+ * BS_TOLD_GRANTED. A watcher ends deadlocks by this call. Refused with BS_NO_SUCH_TXN. */
 static inline bs_reply bs_settle(bs_manager *manager, bs_txn txn, bs_notices *told) {
   return bs_call_lacks(manager, told) ? bs_call_null() : bs_call_settle(manager, txn, told);
 }
 
-/* Raises the lock of a node. Where the transaction holds a child to write (BS_IX, BS_SIX, BS_X) the lock is joined with
- * BS_X, else with BS_S, so that BS_IX becomes BS_SIX. Then it releases the children whose locks that implies and of
- * which it holds no children; rows that it released are let go. `mode` is what is now held, `released` and `kept` how
- * many held children went and stayed. Whoever has locks further down escalates there first. It never waits, and passes
- * whoever does. Refused with BS_NO_SUCH_TXN, BS_TXN_WAITING, BS_TXN_CONDEMNED, BS_NO_SUCH_NODE, BS_BAD_PARENTS (a
- * record), BS_NOT_HELD, BS_WOULD_BLOCK. Costs a step for each lock of the transaction. */
+/* Raises the lock of a node. If the transaction holds a child to write (BS_IX, BS_SIX, BS_X), the lock is joined with
+ * BS_X, otherwise with BS_S, so that BS_IX becomes BS_SIX. Then it releases each child whose lock that implies, unless
+ * the transaction holds children of it; released rows are let go. `mode` is the mode now held, `released` and `kept`
+ * are how many held children were released and kept. A transaction with locks further down escalates there first. The
+ * call never waits, and passes all waiters. Refused with BS_NO_SUCH_TXN, BS_TXN_WAITING, BS_TXN_CONDEMNED,
+ * BS_NO_SUCH_NODE, BS_BAD_PARENTS (a record), BS_NOT_HELD, BS_WOULD_BLOCK. Costs a step for each lock of the
+ * transaction. */
 static inline bs_reply bs_escalate(bs_manager *manager, bs_txn txn, bs_node node, bs_notices *told) {
   return bs_call_lacks(manager, told) ? bs_call_null() : bs_call_escalate_rows(manager, txn, node, told);
 }
 
 /* ------------------------------------------------------------------------------------------------
- * Records, and nodes that move. Nodes that move tell waiters whose wait is over. An insert, delete, adopt, forget or
+ * Records, and nodes that move. A move notifies the waiters whose wait is over. An insert, delete, adopt, forget or
  * rekey of a record of a file of rows is refused with BS_ROWS_BY_NUMBER.
  */
 
-/* A new record of a file, in `node`, with a key for each of the file's indexes, in order of their making. It
- * lies under the file and, for each index, the interval of its key, and is held in X. Refused with
- * BS_NO_SUCH_TXN, BS_TXN_WAITING, BS_TXN_CONDEMNED, BS_NO_SUCH_NODE, BS_BAD_PARENTS (no file), BS_BAD_KEYS,
- * BS_NEED_PARENTS (a parent not itself held in IX or more), BS_TOO_MANY_NODES. Takes memory. */
+/* Inserts a record into a file, in `node`, with a key for each of the file's indexes, in the order of their making. Its
+ * parents are the file and, for each index, the interval of its key; it is held in X. Refused with BS_NO_SUCH_TXN,
+ * BS_TXN_WAITING, BS_TXN_CONDEMNED, BS_NO_SUCH_NODE, BS_BAD_PARENTS (no file), BS_BAD_KEYS, BS_NEED_PARENTS (a parent
+ * not itself held in IX or more), BS_TOO_MANY_NODES. Takes memory. */
 static inline bs_reply bs_insert(bs_manager *manager, bs_txn txn, bs_node file, const uint64_t *keys, size_t count) {
   if (manager == NULL || (keys == NULL && count != 0)) return bs_call_null();
   return bs_call_insert(manager, txn, file, bs_call_numbers(keys), count);
 }
 
-/* Takes a record away that the transaction holds in X by a lock on the record itself, as an insert leaves
- * one; X above it is not enough. Who waits for it is told BS_TOLD_GONE. Refused with BS_NO_SUCH_TXN,
- * BS_TXN_WAITING, BS_TXN_CONDEMNED, BS_NO_SUCH_NODE, BS_BAD_PARENTS (no record), BS_NEED_EXCLUSIVE. */
+/* Deletes a record that the transaction holds in X by a lock on the record itself, as an insert leaves one; X above it
+ * is not enough. Its waiters are told BS_TOLD_GONE. Refused with BS_NO_SUCH_TXN, BS_TXN_WAITING, BS_TXN_CONDEMNED,
+ * BS_NO_SUCH_NODE, BS_BAD_PARENTS (no record), BS_NEED_EXCLUSIVE. */
 static inline bs_reply bs_delete(bs_manager *manager, bs_txn txn, bs_node record, bs_notices *told) {
   return bs_call_lacks(manager, told) ? bs_call_null() : bs_call_delete(manager, txn, record, told);
 }
 
-/* A new record of a file, in `node`, as bs_insert makes one, but for no transaction: nobody holds it, and no locks are
- * asked for. It is for an engine that itself gives its rows nodes while they are locked. From then on no index of the
- * file is made but by bs_index_by. Refused with BS_NO_SUCH_NODE, BS_BAD_PARENTS (no file), BS_BAD_KEYS,
- * BS_TOO_MANY_NODES. Takes memory. */
+/* Makes a record of a file, in `node`, as bs_insert does, but for no transaction: nobody holds it, and no locks are
+ * needed. It is for an engine that itself gives its rows nodes while they are locked. After it, only bs_index_by makes
+ * an index of the file. Refused with BS_NO_SUCH_NODE, BS_BAD_PARENTS (no file), BS_BAD_KEYS, BS_TOO_MANY_NODES. Takes
+ * memory. */
 static inline bs_reply bs_adopt(bs_manager *manager, bs_node file, const uint64_t *keys, size_t count) {
   if (manager == NULL || (keys == NULL && count != 0)) return bs_call_null();
   return bs_call_adopt(manager, file, bs_call_numbers(keys), count);
 }
 
-/* Takes a record away that nobody holds and nobody waits for. Refused with BS_NO_SUCH_NODE, BS_BAD_PARENTS (no
- * record), BS_RECORD_IN_USE. */
+/* Removes a record that nobody holds and nobody waits for. Refused with BS_NO_SUCH_NODE, BS_BAD_PARENTS (no record),
+ * BS_RECORD_IN_USE. */
 static inline bs_reply bs_forget(bs_manager *manager, bs_node record) {
   return manager == NULL ? bs_call_null() : bs_call_forget(manager, record);
 }
 
-/* Gives a record another key for one index, and so another interval. Its parents are the file and an interval of
- * each of the file's indexes. Lawful with X on the record and IX or more on the new parents, or with X on all old
- * and new parents; each by a lock on that node itself. Refused with BS_NO_SUCH_TXN, BS_TXN_WAITING,
- * BS_TXN_CONDEMNED, BS_NO_SUCH_NODE, BS_BAD_PARENTS (no record, or no index of its file), BS_NEED_EXCLUSIVE,
- * BS_NEED_PARENTS. */
+/* Gives a record another key for one index, and so another interval. Its parents are the file and an interval of each
+ * of the file's indexes. The transaction needs X on the record and IX or more on the new parents, or X on all old and
+ * new parents; each by a lock on that node itself. Refused with BS_NO_SUCH_TXN, BS_TXN_WAITING, BS_TXN_CONDEMNED,
+ * BS_NO_SUCH_NODE, BS_BAD_PARENTS (no record, or no index of its file), BS_NEED_EXCLUSIVE, BS_NEED_PARENTS. */
 static inline bs_reply bs_rekey(bs_manager *manager, bs_txn txn, bs_node record, bs_node index, uint64_t key,
                                 bs_notices *told) {
   return bs_call_lacks(manager, told) ? bs_call_null() : bs_call_rekey(manager, txn, record, index, key, told);
 }
 
-/* Gives an inner node, a file or an index other parents. Lawful with X on the node and IX or more on the new
- * parents, or, where there are both, with X on all old and new parents; each by a lock on that node itself.
- * Refused with BS_NO_SUCH_TXN, BS_TXN_WAITING, BS_TXN_CONDEMNED, BS_NO_SUCH_NODE, BS_BAD_PARENTS,
- * BS_NEED_EXCLUSIVE, BS_NEED_PARENTS, BS_CYCLE; with BS_BAD_NUMBER, first of all, where there are more than
- * 8 parents. Takes memory, and BS_NO_MEMORY may come in place of BS_CYCLE. Costs a search up from the
- * parents. */
+/* Gives an inner node, a file or an index other parents. The transaction needs X on the node and IX or more on the new
+ * parents, or, if there are both, X on all old and new parents; each by a lock on that node itself. Refused with
+ * BS_NO_SUCH_TXN, BS_TXN_WAITING, BS_TXN_CONDEMNED, BS_NO_SUCH_NODE, BS_BAD_PARENTS, BS_NEED_EXCLUSIVE,
+ * BS_NEED_PARENTS, BS_CYCLE; with BS_BAD_NUMBER, first of all, if there are more than 8 parents. Takes memory, and
+ * BS_NO_MEMORY may come in place of BS_CYCLE. Costs a search up from the parents. */
 static inline bs_reply bs_move(bs_manager *manager, bs_txn txn, bs_node node, const bs_node *parents, size_t count,
                                bs_notices *told) {
   if (bs_call_lacks(manager, told) || (parents == NULL && count != 0)) return bs_call_null();
@@ -515,28 +513,28 @@ static inline bs_reply bs_move(bs_manager *manager, bs_txn txn, bs_node node, co
 }
 
 /* ------------------------------------------------------------------------------------------------
- * What a schema changes. Both are for files of either kind. An abort undoes neither. The name of a node that is gone is
- * never another's: whoever has kept it is refused with BS_NO_SUCH_NODE.
+ * Schema changes. Both are for files of either kind. An abort undoes neither. The name of a removed node is never
+ * another's: a call with it is refused with BS_NO_SUCH_NODE.
  */
 
-/* Takes away an inner node that has no children, a file that has no records and no indexes, or an index with its
- * intervals, of whose file no record stands. The transaction holds BS_X on the node, and for an index on its file too;
- * each by a lock on that node itself. All locks on the node and on its intervals go, its own among them. Who waits for
- * it is told BS_TOLD_GONE. Behind an index that goes, the later ones of its file have their places and their keys one
- * lower. Refused with BS_NO_SUCH_TXN, BS_TXN_WAITING, BS_TXN_CONDEMNED, BS_NO_SUCH_NODE, BS_BAD_PARENTS (an interval or
- * a record), BS_NEED_EXCLUSIVE, and then with BS_HAS_CHILDREN (an inner node) or BS_FILE_IN_USE (a file or an index).
- * Costs a look-up or two for the node and for each of its intervals. */
+/* Drops an inner node that has no children, a file that has no records and no indexes, or an index with its intervals
+ * if its file has no record now. The transaction must hold BS_X on the node, and for an index on its file too; each by
+ * a lock on that node itself. All locks on the node and on its intervals end, the transaction's own among them. Its
+ * waiters are told BS_TOLD_GONE. After an index is dropped, the later indexes of its file have their places and their
+ * keys one lower. Refused with BS_NO_SUCH_TXN, BS_TXN_WAITING, BS_TXN_CONDEMNED, BS_NO_SUCH_NODE, BS_BAD_PARENTS (an
+ * interval or a record), BS_NEED_EXCLUSIVE, and then with BS_HAS_CHILDREN (an inner node) or BS_FILE_IN_USE (a file or
+ * an index). Costs a look-up or two for the node and for each of its intervals. */
 static inline bs_reply bs_drop(bs_manager *manager, bs_txn txn, bs_node node, bs_notices *told) {
   return bs_call_lacks(manager, told) ? bs_call_null() : bs_call_drop(manager, txn, node, told);
 }
 
-/* A new index of a file of which no record stands now, in `node`, with parents and bounds as bs_add_index takes them.
- * It is the last of the file's indexes. The transaction holds BS_X on the file and BS_IX or more on each parent, each
- * by a lock on that node itself, and holds the index in BS_X from then on: so nobody comes by the new index until it
- * ends. Tells nobody. Refused with BS_NO_SUCH_TXN, BS_TXN_WAITING, BS_TXN_CONDEMNED, BS_NO_SUCH_NODE, BS_BAD_PARENTS
- * (also where the file has 7 indexes), BS_NEED_EXCLUSIVE, BS_NEED_PARENTS, BS_FILE_IN_USE, BS_BAD_KEYS,
- * BS_TOO_MANY_NODES (its intervals count); with BS_BAD_NUMBER, first of all, where there are more than 8 parents. Takes
- * memory. Costs a step for each bound. */
+/* Makes an index, in `node`, of a file that has no record now, with parents and bounds as bs_add_index takes them. It
+ * is the last of the file's indexes. The transaction must hold BS_X on the file and BS_IX or more on each parent, each
+ * by a lock on that node itself. It holds the index in BS_X from then on, so nobody locks by the new index until it
+ * ends. Notifies nobody. Refused with BS_NO_SUCH_TXN, BS_TXN_WAITING, BS_TXN_CONDEMNED, BS_NO_SUCH_NODE, BS_BAD_PARENTS
+ * (also if the file has 7 indexes), BS_NEED_EXCLUSIVE, BS_NEED_PARENTS, BS_FILE_IN_USE, BS_BAD_KEYS, BS_TOO_MANY_NODES
+ * (its intervals count); with BS_BAD_NUMBER, first of all, if there are more than 8 parents. Takes memory. Costs a step
+ * for each bound. */
 static inline bs_reply bs_index_by(bs_manager *manager, bs_txn txn, const bs_node *parents, size_t count, bs_node file,
                                    const uint64_t *bounds, size_t bound_count) {
   if (manager == NULL || (parents == NULL && count != 0) || (bounds == NULL && bound_count != 0)) return bs_call_null();
