@@ -542,152 +542,150 @@ static inline bs_reply bs_index_by(bs_manager *manager, bs_txn txn, const bs_nod
 }
 
 /* ------------------------------------------------------------------------------------------------
- * Rows by the engine's own numbers. A row is a file of bs_add_row_file and a number, any number at all. Of another
- * file, or of a node that is none, calls about a row are refused with BS_NOT_ROWS.
+ * Rows by the engine's own numbers. A row is a file of bs_add_row_file and a number, any number at all. For another
+ * file, or a node that is no file, calls about a row are refused with BS_NOT_ROWS.
  *
  * A row has a node while some transaction holds it or waits for it. bs_lock_row makes the node. bs_unlock_row,
  * bs_rekey_row, bs_commit, bs_abort, bs_cancel and bs_escalate let a row go: after the last transaction that holds it
- * or waits for it they take its node away, if that transaction has asked for the row by bs_lock_row. No row has two
- * nodes, and no two rows have one. By its node a row is locked and asked after as any record is.
+ * or waits for it they remove its node, if that transaction has requested the row by bs_lock_row. No row has two nodes,
+ * and no two rows share one. By its node a row is locked and asked about like any record.
  *
  * The keys are the row's own, one for each index of its file in the order of making. Only the engine knows them. It
- * reads them before it locks the row, and looks at them again behind each grant. Where they are others by then it gives
- * the row back by bs_unlock_row, and begins anew: with the keys of now, and with what has to be held above them.
+ * reads them before it locks the row, and reads them again after each grant. If they have changed by then, it releases
+ * the row by bs_unlock_row and begins anew, with the present keys and with what must be held above them.
  *
- * A row that is to be inserted is locked in BS_X by its number, with the keys that it will have. One that is to be
- * deleted is locked in BS_X too, and keeps its lock, its node and its number until its transaction ends: nobody else
- * gets the row, or its number, before the commit.
+ * To insert a row, lock it in BS_X by its number, with the keys that it will have. To delete a row, lock it in BS_X
+ * too. It keeps its lock, its node and its number until its transaction ends: nobody else gets the row, or its number,
+ * before the commit.
  *
- * bs_unlock, of the row's node, lets no row go: that stands on then, and goes when the row is next let go. Each call is
- * one command, and each node that comes or goes by it is one more. What ends a transaction, and an escalation and a
- * cancel, goes over all rows that the transaction asked for: a look-up for each, and a step for each node that goes.
+ * bs_unlock, of the row's node, lets no row go: the node stays, and is removed when the row is next let go. Each call
+ * is one command, and each node that it makes or removes is one more. A commit, an abort, an escalation and a cancel
+ * look at all rows that the transaction requested: a look-up for each, and a step for each node that is removed.
  */
 
-/* Locks a row by its node, as bs_lock locks a node. A row without a node gets one with these keys; so does one whose
- * node has other keys, where nobody holds that or waits for it. Any other row is locked by the node that it has,
- * whatever keys are said. What has to be held above that node is the caller's to lock: a parent that is wanting is
- * named by BS_NEED_PARENTS in `node`.
- * Where the lock is not refused `node` is the row's node. BS_DONE: the row is held in `mode`, and the keys that were
- * said are the node's own. BS_OTHER_KEYS: the row is held in `mode` as well, but the node's keys are others.
- * BS_WAITING: the transaction waits, as of bs_lock. Behind the grant the same call is made again: it waits for nothing
- * then, and says whether the keys are the node's own. BS_VICTIM: as of bs_lock.
+/* Locks a row by its node, as bs_lock locks a node. A row without a node gets one with these keys; so does a row whose
+ * node has other keys, if nobody holds that node or waits for it. Any other row is locked by the node that it has,
+ * whatever keys are named. The caller must lock what has to be held above that node: BS_NEED_PARENTS names a missing
+ * parent in `node`.
+ * If the lock is not refused, `node` is the row's node. BS_DONE: the row is held in `mode`, and the named keys are the
+ * node's own. BS_OTHER_KEYS: the row is held in `mode` as well, but the node's keys are others. BS_WAITING: the
+ * transaction waits, as of bs_lock. After the grant make the same call again: it does not wait then, and says whether
+ * the keys are the node's own. BS_VICTIM: as of bs_lock.
  * A row that keeps its node is refused as the lock of that node. One that gets a node is refused with BS_WORN_OUT,
  * BS_NO_SUCH_TXN, BS_TXN_WAITING, BS_TXN_CONDEMNED, BS_BAD_KEYS, BS_TOO_MANY_NODES, BS_BAD_MODE, BS_NEED_PARENTS.
- * BS_WORN_OUT comes where fewer than two commands can be counted any more, or three where another node goes for it.
- * BS_TOO_MANY_NODES comes also where another node would go for it. Refused with BS_BAD_NUMBER, first of all, where the
- * mode is no number of enum bs_modes. BS_NO_MEMORY may come before all refusals but BS_BAD_NUMBER and BS_NO_MANAGER.
- * Takes memory. */
+ * BS_WORN_OUT comes if fewer than two commands can still be counted, or three if another node is removed for it.
+ * BS_TOO_MANY_NODES comes also if another node would be removed for it. Refused with BS_BAD_NUMBER, first of all, if
+ * the mode is no number of enum bs_modes. BS_NO_MEMORY may come before all refusals but BS_BAD_NUMBER and
+ * BS_NO_MANAGER. Takes memory. */
 static inline bs_reply bs_lock_row(bs_manager *manager, bs_txn txn, bs_node file, uint64_t number, const uint64_t *keys,
                                    size_t count, bs_mode mode, bs_notices *told) {
   if (bs_call_lacks(manager, told) || (keys == NULL && count != 0)) return bs_call_null();
   return bs_call_lock_row(manager, txn, file, number, bs_call_numbers(keys), count, mode, told);
 }
 
-/* Releases a row, as bs_unlock releases its node, which goes where nobody else holds it or waits for it. A row without
- * a node is refused as a node that is gone, here and in the call below. */
+/* Releases a row, as bs_unlock releases its node. The node is removed if nobody else holds it or waits for it. A row
+ * without a node is refused as a node that is gone, here and in the call below. */
 static inline bs_reply bs_unlock_row(bs_manager *manager, bs_txn txn, bs_node file, uint64_t number, bs_notices *told) {
   if (bs_call_lacks(manager, told)) return bs_call_null();
   return bs_call_unlock_row(manager, txn, file, number, told);
 }
 
-/* Gives a row another key for one index, as bs_rekey does its node. */
+/* Gives a row another key for one index, as bs_rekey does for its node. */
 static inline bs_reply bs_rekey_row(bs_manager *manager, bs_txn txn, bs_node file, uint64_t number, bs_node index,
                                     uint64_t key, bs_notices *told) {
   if (bs_call_lacks(manager, told)) return bs_call_null();
   return bs_call_rekey_row(manager, txn, file, number, index, key, told);
 }
 
-/* The node of a row, in `node`, for questions and for bs_verdict. Refused with BS_NO_SUCH_NODE where it has none, also
- * where its file is none of rows. It changes nothing and takes no memory. */
+/* The node of a row, in `node`, for questions and for bs_verdict. Refused with BS_NO_SUCH_NODE if the row has none,
+ * also if its file is no file of rows. Changes nothing and takes no memory. */
 static inline bs_reply bs_row_node(const bs_manager *manager, bs_node file, uint64_t number) {
   return bs_call_can_ask(manager) ? bs_call_row_node(manager, file, number) : bs_call_unasked(manager);
 }
 
 /* ------------------------------------------------------------------------------------------------
- * Waits: what whoever lets threads sleep asks. Each slot has a box, in which its last notice lies; a lock that
- * was not refused empties the box of its own slot.
+ * Waits: questions for a caller that lets threads sleep. Each slot has a box with its last notice; a lock that was not
+ * refused empties the box of its own slot.
  */
 
-/* What became of a lock that was left waiting for this node. BS_WAITING: the wait goes on. BS_DONE: it was
- * granted; `mode` is the mode now held, which covers the asked one. BS_VICTIM, BS_MOVED, BS_GONE: it was not,
- * and the wait is over. Refused with BS_NO_SUCH_TXN, and with BS_NOT_WAITING where it does not wait for the
- * node and no notice tells why, as after a cancel. Refused with BS_BAD_NUMBER, first of all, where the mode is no
- * number of enum bs_modes. */
+/* How a lock that was left waiting for this node ended. BS_WAITING: the wait continues. BS_DONE: the lock was granted;
+ * `mode` is the mode now held, which covers the requested one. BS_VICTIM, BS_MOVED, BS_GONE: it was not granted, and
+ * the wait is over. Refused with BS_NO_SUCH_TXN, and with BS_NOT_WAITING if the transaction does not wait for the node
+ * and no notice tells why, as after a cancel. Refused with BS_BAD_NUMBER, first of all, if the mode is no number of
+ * enum bs_modes. */
 static inline bs_reply bs_verdict(const bs_manager *manager, bs_txn txn, bs_node node, bs_mode mode) {
   if (manager != NULL && mode > BS_X) return bs_call_only(BS_BAD_NUMBER);
   return bs_call_can_ask(manager) ? bs_call_verdict(manager, txn, node, mode) : bs_call_unasked(manager);
 }
 
-/* The slots whose wait the last command that was accepted may have ended: whose sleepers are to be woken. Those
- * are the slots that it told, and that which a cancel or an abort names; no other transaction's wait was ended
- * by it. A bs_release_since that releases nothing leaves none. A refused command and a question leave them as they
- * are. */
+/* The slots whose wait the last accepted command may have ended: wake their sleepers. These are the slots that it told,
+ * and the slot that a cancel or an abort names; it ended no other transaction's wait. A bs_release_since that releases
+ * nothing leaves none. A refused command and a question leave the slots as they are. */
 static inline bs_found bs_ended(const bs_manager *manager) {
   return bs_call_can_ask(manager) ? bs_call_ended(manager) : bs_call_none_found(bs_call_unasked(manager).status);
 }
 
 /* ------------------------------------------------------------------------------------------------
- * Watchers: who waits for whom, without the mutex of the manager. A manager that has watchers shows them its
- * board behind each accepted command by which a wait may have come, gone or changed, and behind the first one since
- * a watcher was made. None is needed, where nobody waits, behind a command that leaves nobody waiting. Else none is
- * needed behind a command that tells nobody and makes a node or a transaction, or is one of a transaction that neither
- * waits nor holds a node for which somebody waits: a lock, path or row that is granted at once, an unlock, a commit or
- * an abort. Then the last board shows every wait that stands, with the ages of those who wait and of those for whom
- * they wait; its epoch and all other ages are of its own moment. To show a board takes memory, some three kilobytes,
- * with 1,024 slots 136; where that is refused the command is done all the same, the last board may lack what it
- * changed, and the next command shows the board.
+ * Watchers: who waits for whom, without the mutex of the manager. A manager with watchers shows them its board after
+ * each accepted command that may have begun, ended or changed a wait, and after the first one since a watcher was made.
+ * If nobody waits, no board is needed after a command that leaves nobody waiting. Otherwise none is needed after a
+ * command that tells nobody, if it makes a node or a transaction, or is one of a transaction that neither waits nor
+ * holds a node for which somebody waits: a lock, path or row that is granted at once, an unlock, a commit or an abort.
+ * Then the last board shows every present wait, with the ages of the waiters and of those for whom they wait; its epoch
+ * and all other ages are of its own moment. Showing a board takes memory, some three kilobytes, with 1,024 slots 136.
+ * If that is refused, the command is done all the same, the last board may lack what it changed, and the next command
+ * shows the board.
  */
 
-/* Makes a watcher of a manager at a place that has none, which knows the board of this moment. Refused with
- * BS_OTHER_VERSION, BS_OTHER_SLOTS, BS_IN_USE, BS_TOO_MANY_WATCHERS, BS_NO_MEMORY; for want of memory the other
- * watchers may be shown the board of this moment all the same. Takes memory. Costs what bs_read_board does. */
+/* Makes a watcher of a manager at a place that has none; it starts with the board of this moment. Refused with
+ * BS_OTHER_VERSION, BS_OTHER_SLOTS, BS_IN_USE, BS_TOO_MANY_WATCHERS, BS_NO_MEMORY; after a refusal for memory the other
+ * watchers may still be shown the board of this moment. Takes memory. Costs what bs_read_board does. */
 static inline bs_reply bs_watch(bs_manager *manager, bs_watcher *watcher) {
   bs_status misfit = bs_call_misfit();
   if (manager == NULL || watcher == NULL) return bs_call_null();
   return misfit == BS_DONE ? bs_call_watch(manager, watcher) : bs_call_only(misfit);
 }
 
-/* The last board that was shown, written into `board`: whole, and never older than what this watcher was given
- * before. With detection at block it has no suspect. It needs no mutex, never waits, and takes no memory. Of a
- * manager that was ended it is the last that it showed. Refused with BS_OTHER_VERSION, BS_OTHER_SLOTS, BS_NO_WATCHER;
- * nothing is written then. */
+/* Writes the last board that was shown into `board`: whole, and never older than one that this watcher was given
+ * before. With detection at block it has no suspect. Needs no mutex, never waits, and takes no memory. After the
+ * manager was ended it is the last board that the manager showed. Refused with BS_OTHER_VERSION, BS_OTHER_SLOTS,
+ * BS_NO_WATCHER; nothing is written then. */
 static inline bs_reply bs_look(bs_watcher *watcher, bs_board *board) {
   bs_status misfit = bs_call_misfit();
   if (watcher == NULL || board == NULL) return bs_call_null();
   return misfit == BS_DONE ? bs_call_look(watcher, board) : bs_call_only(misfit);
 }
 
-/* Ends a watcher, with no mutex. Its place has none then, and may be used for another. Refused with
+/* Ends a watcher, without a mutex. The place then has no watcher, and may be used for another. Refused with
  * BS_NO_WATCHER. */
 static inline bs_reply bs_watch_end(bs_watcher *watcher) {
   return watcher == NULL ? bs_call_null() : bs_call_watch_end(watcher);
 }
 
 /* ------------------------------------------------------------------------------------------------
- * Questions. They change nothing and, but for bs_effective, take no memory. Each costs a look-up or two;
- * what costs more says so.
+ * Questions. They change nothing and, except bs_effective, take no memory. Each costs a look-up or two; a question that
+ * costs more says so.
  */
 
-/* The group mode of a node in `mode`: the least that covers all that is held on it. Refused with
- * BS_NO_SUCH_NODE. */
+/* The group mode of a node, in `mode`: the least that covers all modes held on it. Refused with BS_NO_SUCH_NODE. */
 static inline bs_reply bs_group(const bs_manager *manager, bs_node node) {
   return bs_call_can_ask(manager) ? bs_call_group(manager, node) : bs_call_unasked(manager);
 }
 
-/* The mode in which a transaction holds a node in `mode`, BS_NL for none. Refused with BS_NO_SUCH_TXN,
+/* The mode in which a transaction holds a node, in `mode`; BS_NL if it does not. Refused with BS_NO_SUCH_TXN,
  * BS_NO_SUCH_NODE. */
 static inline bs_reply bs_held(const bs_manager *manager, bs_txn txn, bs_node node) {
   return bs_call_can_ask(manager) ? bs_call_held(manager, txn, node) : bs_call_unasked(manager);
 }
 
-/* What a transaction may do to a node by all its locks together, in `mode`: BS_NL, BS_S or BS_X.
+/* The effective mode of a transaction on a node, in `mode`: what all its locks together permit, BS_NL, BS_S or BS_X.
  * Refused with BS_NO_SUCH_TXN, BS_NO_SUCH_NODE. Takes memory, and looks at each ancestor. */
 static inline bs_reply bs_effective(const bs_manager *manager, bs_txn txn, bs_node node) {
   return bs_call_can_ask(manager) ? bs_call_effective(manager, txn, node) : bs_call_unasked(manager);
 }
 
 /* How many children of a node a transaction holds, in `count`. Refused with BS_NO_SUCH_TXN, BS_NO_SUCH_NODE, and with
- * BS_NOT_HELD where it does not hold the node itself, also where it holds children of it by another parent. */
+ * BS_NOT_HELD if it does not hold the node itself, even if it holds children of it by another parent. */
 static inline bs_reply bs_children(const bs_manager *manager, bs_txn txn, bs_node node) {
   bs_reply reply;
   if (!bs_call_can_ask(manager)) return bs_call_unasked(manager);
@@ -700,47 +698,45 @@ static inline bs_reply bs_kind(const bs_manager *manager, bs_node node) {
   return bs_call_can_ask(manager) ? bs_call_kind(manager, node) : bs_call_unasked(manager);
 }
 
-/* A parent of a node in `node`, by its place from 0 on; of a record first its file and then, for each
- * index, an interval. Refused with BS_NO_SUCH_NODE, and with BS_NO_PLACE where there are fewer. */
+/* A parent of a node, in `node`, by its place from 0 on; the parents of a record are first its file and then, for each
+ * index, an interval. Refused with BS_NO_SUCH_NODE, and with BS_NO_PLACE if there are fewer. */
 static inline bs_reply bs_parent(const bs_manager *manager, bs_node node, size_t place) {
   if (!bs_call_can_ask(manager)) return bs_call_unasked(manager);
   return bs_call_of_kind(manager, bs_call_parent(manager, node, place), node, 0);
 }
 
-/* A key of a record in `count`, by the place of its index. Refused with BS_NO_SUCH_NODE where the name names no record,
- * and with BS_NO_PLACE where there are fewer. */
+/* A key of a record, in `count`, by the place of its index. Refused with BS_NO_SUCH_NODE if the name names no record,
+ * and with BS_NO_PLACE if there are fewer. */
 static inline bs_reply bs_key(const bs_manager *manager, bs_node record, size_t place) {
   if (!bs_call_can_ask(manager)) return bs_call_unasked(manager);
   return bs_call_of_kind(manager, bs_call_key(manager, record, place), record, BS_RECORD);
 }
 
-/* An index of a file in `node`, by its place in the order of making. Refused with BS_NO_SUCH_NODE where
- * the name names no file, and with BS_NO_PLACE where there are fewer. */
+/* An index of a file, in `node`, by its place in the order of making. Refused with BS_NO_SUCH_NODE if the name names no
+ * file, and with BS_NO_PLACE if there are fewer. */
 static inline bs_reply bs_index(const bs_manager *manager, bs_node file, size_t place) {
   return bs_call_can_ask(manager) ? bs_call_index(manager, file, place) : bs_call_unasked(manager);
 }
 
-/* An interval of an index in `node`, by its place. Refused with BS_NO_SUCH_NODE where the name names no index, and with
- * BS_NO_PLACE where there are fewer. */
+/* An interval of an index, in `node`, by its place. Refused with BS_NO_SUCH_NODE if the name names no index, and with
+ * BS_NO_PLACE if there are fewer. */
 static inline bs_reply bs_interval(const bs_manager *manager, bs_node index, size_t place) {
   if (!bs_call_can_ask(manager)) return bs_call_unasked(manager);
   return bs_call_of_kind(manager, bs_call_interval(manager, index, place), index, BS_INDEX);
 }
 
-/* The interval of an index in which a key lies, in `node`. Refused with BS_NO_SUCH_NODE where the name
- * names no index. Costs a binary search. */
+/* The interval of an index that has a key, in `node`. Refused with BS_NO_SUCH_NODE if the name names no index. Costs a
+ * binary search. */
 static inline bs_reply bs_interval_of(const bs_manager *manager, bs_node index, uint64_t key) {
   return bs_call_can_ask(manager) ? bs_call_interval_of(manager, index, key) : bs_call_unasked(manager);
 }
 
-/* The place of an interval in its index, in `count`. Refused with BS_NO_SUCH_NODE where the name names
- * no interval. */
+/* The place of an interval in its index, in `count`. Refused with BS_NO_SUCH_NODE if the name names no interval. */
 static inline bs_reply bs_place(const bs_manager *manager, bs_node interval) {
   return bs_call_can_ask(manager) ? bs_call_place(manager, interval) : bs_call_unasked(manager);
 }
 
-/* Whether a file has records: 1 or 0 in `count`. Refused with BS_NO_SUCH_NODE where the name names no
- * file. */
+/* Whether a file has records: 1 or 0, in `count`. Refused with BS_NO_SUCH_NODE if the name names no file. */
 static inline bs_reply bs_has_records(const bs_manager *manager, bs_node file) {
   return bs_call_can_ask(manager) ? bs_call_has_records(manager, file) : bs_call_unasked(manager);
 }
