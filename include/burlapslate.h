@@ -573,10 +573,10 @@ static inline bs_reply bs_index_by(bs_manager *manager, bs_txn txn, const bs_nod
  * the keys are the node's own. BS_VICTIM: as of bs_lock.
  * A row that keeps its node is refused as the lock of that node. One that gets a node is refused with BS_WORN_OUT,
  * BS_NO_SUCH_TXN, BS_TXN_WAITING, BS_TXN_CONDEMNED, BS_BAD_KEYS, BS_TOO_MANY_NODES, BS_BAD_MODE, BS_NEED_PARENTS.
- * BS_WORN_OUT comes if fewer than two commands can still be counted, or three if another node is removed for it.
- * BS_TOO_MANY_NODES comes also if another node would be removed for it. Refused with BS_BAD_NUMBER, first of all, if
- * the mode is no number of enum bs_modes. BS_NO_MEMORY may come before all refusals but BS_BAD_NUMBER and
- * BS_NO_MANAGER. Takes memory. */
+ * BS_WORN_OUT: fewer than two commands can still be counted, or fewer than three if another node is removed for it.
+ * BS_TOO_MANY_NODES: also if another node would be removed for it. Refused with BS_BAD_NUMBER, first of all, if the
+ * mode is no number of enum bs_modes. BS_NO_MEMORY may come before all refusals but BS_BAD_NUMBER and BS_NO_MANAGER.
+ * Takes memory. */
 static inline bs_reply bs_lock_row(bs_manager *manager, bs_txn txn, bs_node file, uint64_t number, const uint64_t *keys,
                                    size_t count, bs_mode mode, bs_notices *told) {
   if (bs_call_lacks(manager, told) || (keys == NULL && count != 0)) return bs_call_null();
@@ -608,19 +608,19 @@ static inline bs_reply bs_row_node(const bs_manager *manager, bs_node file, uint
  * refused empties the box of its own slot.
  */
 
-/* How a lock that was left waiting for this node ended. BS_WAITING: the wait continues. BS_DONE: the lock was granted;
- * `mode` is the mode now held, which covers the requested one. BS_VICTIM, BS_MOVED, BS_GONE: it was not granted, and
- * the wait is over. Refused with BS_NO_SUCH_TXN, and with BS_NOT_WAITING if the transaction does not wait for the node
- * and no notice tells why, as after a cancel. Refused with BS_BAD_NUMBER, first of all, if the mode is no number of
- * enum bs_modes. */
+/* What became of a lock that was left waiting for this node. BS_WAITING: the wait continues. BS_DONE: the lock was
+ * granted; `mode` is the mode now held, which covers the requested one. BS_VICTIM, BS_MOVED, BS_GONE: it was not
+ * granted, and the wait is over. Refused with BS_NO_SUCH_TXN, and with BS_NOT_WAITING if the transaction does not wait
+ * for the node and no notice tells why, as after a cancel. Refused with BS_BAD_NUMBER, first of all, if the mode is no
+ * number of enum bs_modes. */
 static inline bs_reply bs_verdict(const bs_manager *manager, bs_txn txn, bs_node node, bs_mode mode) {
   if (manager != NULL && mode > BS_X) return bs_call_only(BS_BAD_NUMBER);
   return bs_call_can_ask(manager) ? bs_call_verdict(manager, txn, node, mode) : bs_call_unasked(manager);
 }
 
 /* The slots whose wait the last accepted command may have ended: wake their sleepers. These are the slots that it told,
- * and the slot that a cancel or an abort names; it ended no other transaction's wait. A bs_release_since that releases
- * nothing leaves none. A refused command and a question leave the slots as they are. */
+ * and the slot that a cancel or an abort names; it ended no other transaction's wait. After a bs_release_since that
+ * releases nothing there are none. A refused command and a question leave the slots as they are. */
 static inline bs_found bs_ended(const bs_manager *manager) {
   return bs_call_can_ask(manager) ? bs_call_ended(manager) : bs_call_none_found(bs_call_unasked(manager).status);
 }
@@ -725,8 +725,8 @@ static inline bs_reply bs_interval(const bs_manager *manager, bs_node index, siz
   return bs_call_of_kind(manager, bs_call_interval(manager, index, place), index, BS_INDEX);
 }
 
-/* The interval of an index that has a key, in `node`. Refused with BS_NO_SUCH_NODE if the name names no index. Costs a
- * binary search. */
+/* The interval of an index to which a key belongs, in `node`. Refused with BS_NO_SUCH_NODE if the name names no index.
+ * Costs a binary search. */
 static inline bs_reply bs_interval_of(const bs_manager *manager, bs_node index, uint64_t key) {
   return bs_call_can_ask(manager) ? bs_call_interval_of(manager, index, key) : bs_call_unasked(manager);
 }
@@ -747,12 +747,12 @@ static inline bs_reply bs_len(const bs_manager *manager) {
 }
 
 /* ------------------------------------------------------------------------------------------------
- * Listings: who lives, who holds what and who waits where, one after the other. They change nothing and take
- * no memory; all that is asked between two commands is of one moment.
+ * Listings: which transactions live, what each holds, and which wait where, one after the other. They change nothing
+ * and take no memory. All answers between two commands are of one moment.
  */
 
-/* What a manager was made with, written into `options`, with a number for each that was as usual. Where it is refused
- * zero is written. The slots of its transactions are those below `transactions`. */
+/* The options with which a manager was made, written into `options`, with each default as its number. If the call is
+ * refused, zero is written. The slots of its transactions are those below `transactions`. */
 static inline bs_reply bs_limits(const bs_manager *manager, bs_options *options) {
   if (options == NULL) return bs_call_null();
   memset(options, 0, sizeof *options);
@@ -765,22 +765,22 @@ static inline bs_reply bs_limits(const bs_manager *manager, bs_options *options)
   return bs_call_only(BS_DONE);
 }
 
-/* The transaction in a slot, in `txn`. Refused with BS_BAD_NUMBER, first of all, where the slot is
- * BS_SLOTS or more, and with BS_NO_PLACE where it is free. */
+/* The transaction in a slot, in `txn`. Refused with BS_BAD_NUMBER, first of all, if the slot is BS_SLOTS or more, and
+ * with BS_NO_PLACE if it is free. */
 static inline bs_reply bs_living(const bs_manager *manager, uint32_t slot) {
   if (manager != NULL && slot >= BS_SLOTS) return bs_call_only(BS_BAD_NUMBER);
   return bs_call_can_ask(manager) ? bs_call_living(manager, slot) : bs_call_unasked(manager);
 }
 
-/* What a transaction is doing, in `count`, of enum bs_doings; where it waits, the node in `node` and the wanted
- * mode in `mode`, what is held and what was asked joined. Refused with BS_NO_SUCH_TXN. */
+/* What a transaction is doing, in `count`, of enum bs_doings. If it waits, `node` is the node and `mode` the wanted
+ * mode, which joins the held and the requested mode. Refused with BS_NO_SUCH_TXN. */
 static inline bs_reply bs_doing(const bs_manager *manager, bs_txn txn) {
   return bs_call_can_ask(manager) ? bs_call_doing(manager, txn) : bs_call_unasked(manager);
 }
 
-/* How many stand ahead of a transaction that waits, in the queue of its node, in `count`: those alone, and members that
- * will be raised, can be granted the node before it. Refused with BS_NO_SUCH_TXN, BS_NOT_WAITING. Costs a step for each
- * that waits there. */
+/* How many waiters are ahead of a waiting transaction in the queue of its node, in `count`. They alone, and members
+ * that convert, can be granted the node before it. Refused with BS_NO_SUCH_TXN, BS_NOT_WAITING. Costs a step for each
+ * waiter there. */
 static inline bs_reply bs_ahead(const bs_manager *manager, bs_txn txn) {
   return bs_call_can_ask(manager) ? bs_call_ahead(manager, txn) : bs_call_unasked(manager);
 }
@@ -790,10 +790,10 @@ static inline bs_reply bs_lock_count(const bs_manager *manager, bs_txn txn) {
   return bs_call_can_ask(manager) ? bs_call_lock_count(manager, txn) : bs_call_unasked(manager);
 }
 
-/* A node that a transaction holds or waits for, by its place from 0 on, in `node`. In `mode` is the mode in which it
- * is held, BS_NL where it is only waited for. In `wanted` is the wanted mode, BS_NL where it is not waited for. In
- * `count` is how many of its children are held. Each such node has one place; a command may change the places.
- * Refused with BS_NO_SUCH_TXN, and with BS_NO_PLACE where there are fewer. */
+/* A node that a transaction holds or waits for, by its place from 0 on, in `node`. `mode` is the mode in which the
+ * transaction holds it, BS_NL if it only waits for it. `wanted` is the wanted mode, BS_NL if it does not wait for it.
+ * `count` is how many children of the node it holds. Each such node has one place; a command may change the places.
+ * Refused with BS_NO_SUCH_TXN, and with BS_NO_PLACE if there are fewer. */
 static inline bs_reply bs_lock_at(const bs_manager *manager, bs_txn txn, size_t place) {
   bs_reply reply;
   if (!bs_call_can_ask(manager)) return bs_call_unasked(manager);
@@ -802,7 +802,7 @@ static inline bs_reply bs_lock_at(const bs_manager *manager, bs_txn txn, size_t 
   return bs_call_only(BS_NO_SUCH_TXN);
 }
 
-/* The slots of those who hold a node. Refused with BS_NO_SUCH_NODE. */
+/* The slots of the transactions that hold a node. Refused with BS_NO_SUCH_NODE. */
 static inline bs_found bs_holders(const bs_manager *manager, bs_node node) {
   if (!bs_call_can_ask(manager)) return bs_call_none_found(bs_call_unasked(manager).status);
   return bs_call_holders(manager, node);
@@ -813,39 +813,39 @@ static inline bs_reply bs_queue_len(const bs_manager *manager, bs_node node) {
   return bs_call_can_ask(manager) ? bs_call_queue_len(manager, node) : bs_call_unasked(manager);
 }
 
-/* Who waits for a node, by its place in the queue from 0 on, the first to be granted first, in `txn`, and the
- * wanted mode in `mode`. Refused with BS_NO_SUCH_NODE, and with BS_NO_PLACE where there are fewer. */
+/* A transaction that waits for a node, in `txn`, by its place in the queue from 0 on, the first to be granted first;
+ * `mode` is its wanted mode. Refused with BS_NO_SUCH_NODE, and with BS_NO_PLACE if there are fewer. */
 static inline bs_reply bs_queue_at(const bs_manager *manager, bs_node node, size_t place) {
   return bs_call_can_ask(manager) ? bs_call_queue_at(manager, node, place) : bs_call_unasked(manager);
 }
 
-/* The slots of those for whom a transaction waits: who holds the node in a mode that does not go with the
- * wanted one, and who stands ahead in its queue; none where it does not wait. Refused with BS_NO_SUCH_TXN. */
+/* The slots for which a transaction waits: those that hold the node in a mode incompatible with the wanted one, and
+ * those ahead in its queue; none if it does not wait. Refused with BS_NO_SUCH_TXN. */
 static inline bs_found bs_waits_for(const bs_manager *manager, bs_txn txn) {
   if (!bs_call_can_ask(manager)) return bs_call_none_found(bs_call_unasked(manager).status);
   return bs_call_waits_for(manager, txn);
 }
 
-/* The deadlock of which the last victim fell, as it was when that was condemned, written into `deadlock`. Its
- * transactions may have ended since. Refused with BS_NO_PLACE where nobody ever fell; nothing is written then.
- * Costs a copy of its rows. */
+/* The deadlock of the last victim, as it was when the victim was condemned, written into `deadlock`. Its transactions
+ * may have ended since. Refused with BS_NO_PLACE if no victim was ever condemned; nothing is written then. Costs a copy
+ * of its rows. */
 static inline bs_reply bs_last_deadlock(const bs_manager *manager, bs_deadlock *deadlock) {
   if (deadlock == NULL) return bs_call_null();
   return bs_call_can_ask(manager) ? bs_call_last_deadlock(manager, deadlock) : bs_call_unasked(manager);
 }
 
-/* What the manager has been doing since it was made, written into `counts`. */
+/* What the manager has done since it was made, written into `counts`. */
 static inline bs_reply bs_counters(const bs_manager *manager, bs_counts *counts) {
   if (counts == NULL) return bs_call_null();
   return bs_call_can_ask(manager) ? bs_call_counters(manager, counts) : bs_call_unasked(manager);
 }
 
 /* ------------------------------------------------------------------------------------------------
- * Boards: who waits for whom at one moment, as a value that any thread may read without the manager and
- * its mutex. A board may be older than what is; to settle a suspect of an old board does no harm.
+ * Boards: who waits for whom at one moment, as a value that any thread may read without the manager and its mutex. A
+ * board may be out of date; to settle a suspect of an old board does no harm.
  */
 
-/* The board of this moment, written into `board`; where it is refused nothing is written. Refused with
+/* The board of this moment, written into `board`; if the call is refused, nothing is written. Refused with
  * BS_OTHER_VERSION, BS_OTHER_SLOTS. Costs a step for each transaction, and two passes over each queue. */
 static inline bs_reply bs_read_board(const bs_manager *manager, bs_board *board) {
   bs_status misfit = bs_call_misfit();
@@ -854,9 +854,9 @@ static inline bs_reply bs_read_board(const bs_manager *manager, bs_board *board)
   return bs_call_can_ask(manager) ? bs_call_board(manager, board) : bs_call_unasked(manager);
 }
 
-/* The slots on a cycle of waits with this slot, which are those that it reaches by waits and that reach it;
- * none where it is on none. Refused with BS_NULL_POINTER, BS_OTHER_VERSION, BS_OTHER_SLOTS, and BS_BAD_NUMBER where the
- * slot is BS_SLOTS or more. Costs at most a step for each slot that it reaches, twice. */
+/* The slots on a cycle of waits with this slot: those that it reaches by waits and that reach it; none if it is on no
+ * cycle. Refused with BS_NULL_POINTER, BS_OTHER_VERSION, BS_OTHER_SLOTS, and BS_BAD_NUMBER if the slot is BS_SLOTS or
+ * more. Costs at most a step for each slot that it reaches, twice. */
 static inline bs_found bs_on_cycle(const bs_board *board, uint32_t slot) {
   bs_status misfit = bs_call_misfit();
   if (board == NULL) return bs_call_none_found(BS_NULL_POINTER);
@@ -864,22 +864,22 @@ static inline bs_found bs_on_cycle(const bs_board *board, uint32_t slot) {
 }
 
 /* The slots that are on any cycle of waits. Refused with BS_NULL_POINTER, BS_OTHER_VERSION, BS_OTHER_SLOTS. Costs a
- * pass over the rows where nobody waits, else a step for each slot and each that waits. */
+ * pass over the rows if nobody waits, otherwise a step for each slot and each that waits. */
 static inline bs_found bs_suspects(const bs_board *board) {
   bs_status misfit = bs_call_misfit();
   if (board == NULL) return bs_call_none_found(BS_NULL_POINTER);
   return misfit == BS_DONE ? bs_call_suspects(board) : bs_call_none_found(misfit);
 }
 
-/* The youngest of these slots in `count`, of equal ages the lowest. Refused with BS_NULL_POINTER, BS_OTHER_VERSION,
- * BS_OTHER_SLOTS, and with BS_NO_PLACE where there is none. */
+/* The youngest of these slots, in `count`; of equal ages, the lowest slot. Refused with BS_NULL_POINTER,
+ * BS_OTHER_VERSION, BS_OTHER_SLOTS, and with BS_NO_PLACE if there is none. */
 static inline bs_reply bs_youngest(const bs_board *board, bs_slots slots) {
   bs_status misfit = bs_call_misfit();
   if (board == NULL) return bs_call_null();
   return misfit == BS_DONE ? bs_call_youngest(board, &slots) : bs_call_only(misfit);
 }
 
-/* Whether a set has a slot, of any number. */
+/* Whether a set has a slot, which may be any number. */
 static inline bool bs_has(bs_slots slots, uint32_t slot) {
   return slot < BS_SLOTS && (slots.words[slot / 64] >> slot % 64 & 1) != 0;
 }
@@ -888,19 +888,19 @@ static inline bool bs_has(bs_slots slots, uint32_t slot) {
  * Texts.
  */
 
-/* The name of a mode; of a number that is none, "?". */
+/* The name of a mode; "?" for any other number. */
 static inline const char *bs_mode_text(bs_mode mode) {
   static const char *const texts[] = { "NL", "IS", "IX", "S", "SIX", "X" };
   return mode <= BS_X ? texts[mode] : "?";
 }
 
-/* The name of what a node is, of enum bs_kinds; of a number that is none, "?". */
+/* The name of a kind of node, of enum bs_kinds; "?" for any other number. */
 static inline const char *bs_kind_text(uint64_t kind) {
   static const char *const texts[] = { "?", "inner", "file", "index", "interval", "record" };
   return kind <= BS_RECORD ? texts[kind] : "?";
 }
 
-/* The name of a status, for a log; of a number that is none, "?". */
+/* The name of a status, for a log; "?" for any other number. */
 static inline const char *bs_text(bs_status status) {
   switch (status) {
     case BS_DONE: return "Done";
