@@ -296,7 +296,7 @@ static inline bs_reply bs_end(bs_manager *manager) {
 
 /* ------------------------------------------------------------------------------------------------
  * The graph. It never has a cycle, whatever is made, moved or removed. These calls take memory; each answers the new
- * node in `node`. They notify nobody. bs_drop removes nodes, and no name is ever given twice.
+ * node in `node`. They notify nobody. Nodes are removed by bs_drop, and no name is ever given twice.
  */
 
 /* Makes an inner node under 0 to 8 different inner nodes; without parents it is a root. Refused with BS_NO_SUCH_NODE,
@@ -343,28 +343,28 @@ static inline bs_reply bs_begin(bs_manager *manager) {
   return manager == NULL ? bs_call_null() : bs_call_begin(manager);
 }
 
-/* Begins a transaction, as bs_begin does, for work of an earlier transaction that was a victim or gave up: `since` is
- * the age of the first of these. A deadlock's victim is the member with the latest `since`, or the youngest of several
- * such; a transaction of bs_begin has its own age as `since`. So work that begins again with its first `since` is
- * condemned only for older work, and each older one that ends leaves less of that. With BS_YOUNGEST no deadlock
- * condemns its oldest member. With BS_FEWEST it does if no other member ends it. A `since` above the transaction's own
- * age counts as that age. With 0 it is older than all that bs_begin began. Refused as bs_begin. */
+/* Begins a transaction, as bs_begin does, for work that earlier transactions did not finish, as victims or because they
+ * gave up. `since` is the age of the first of them. A deadlock's victim is the member with the latest `since`, or the
+ * youngest of several such; a transaction of bs_begin has its own age as `since`. So work that begins again with its
+ * first `since` is condemned only for older work, and less of that is left with each that ends. With BS_YOUNGEST no
+ * deadlock condemns its oldest member. With BS_FEWEST one does if no other member ends it. A `since` above the
+ * transaction's own age counts as that age. With 0 it is older than all that bs_begin began. Refused as bs_begin. */
 static inline bs_reply bs_begin_again(bs_manager *manager, uint64_t since) {
   return manager == NULL ? bs_call_null() : bs_call_begin_again(manager, since);
 }
 
 /* Requests a mode on a node. To read (BS_IS, BS_S) the transaction must hold intentions to read, or more, on one
- * parent; to write (BS_IX, BS_SIX, BS_X) intentions to write, or more, on all parents. The held and the requested mode
- * join to the wanted mode. It is granted at once if two things hold: it is compatible with what others hold; and the
- * transaction already holds the node, or nobody waits for it. So a newcomer passes no queue, and a transaction that
- * holds the node waits ahead of all newcomers. BS_DONE: `mode` is the mode now held. BS_WAITING: the transaction waits,
- * and still holds what it held. It does nothing else until a notice tells it the end, or it cancels or aborts.
- * BS_VICTIM: its wait closed a cycle of waits, and it was chosen as a victim. Its wait is over, its locks stay, and it
- * can only abort.
+ * parent; to write (BS_IX, BS_SIX, BS_X) intentions to write, or more, on all parents. The wanted mode is the least
+ * that covers the held and the requested mode. It is granted at once if two things hold: it is compatible with what
+ * others hold; and the transaction already holds the node, or nobody waits for it. So a newcomer passes no queue, and a
+ * transaction that holds the node waits ahead of all newcomers. BS_DONE: `mode` is the mode now held. BS_WAITING: the
+ * transaction waits, and still holds what it held. It does nothing else until a notice tells it the end of the wait, or
+ * it cancels or aborts. BS_VICTIM: its wait closed a cycle of waits, and it was chosen as a victim. Its wait is over,
+ * its locks stay, and it can only abort.
  * If the wait closed a cycle, others may be condemned too, also beside BS_VICTIM, and are told BS_TOLD_VICTIM. Those
  * queued behind a victim may be told BS_TOLD_GRANTED.
  * Refused with BS_NO_SUCH_TXN, BS_TXN_WAITING, BS_TXN_CONDEMNED, BS_NO_SUCH_NODE, BS_BAD_MODE, BS_NEED_PARENTS, and
- * with BS_BAD_NUMBER, first of all, if the mode is no number of enum bs_modes. Takes memory, unless the transaction
+ * with BS_BAD_NUMBER, first of all, if the mode is not a value of enum bs_modes. Takes memory, unless the transaction
  * already holds the node and is granted at once. Costs one look-up of the node and one for each parent; a wait with
  * detection at block costs a search along the waits too. */
 static inline bs_reply bs_lock(bs_manager *manager, bs_txn txn, bs_node node, bs_mode mode, bs_notices *told) {
@@ -399,8 +399,8 @@ static inline bs_reply bs_unlock(bs_manager *manager, bs_txn txn, bs_node node, 
 
 /* Answers a savepoint of a transaction, in `count`, for bs_release_since: how many nodes it holds or waits for. Nothing
  * is stored for it. It is valid until the transaction releases a lock that it had by then: by bs_unlock, bs_unlock_row,
- * bs_escalate, bs_delete or bs_drop, or because another removes the node. A savepoint made during a wait counts that
- * wait, and a cancel of that wait is such a release. Refused with BS_NO_SUCH_TXN. */
+ * bs_escalate, bs_delete or bs_drop, or because another transaction removes the node. A savepoint made during a wait
+ * counts that wait, and a cancel of that wait is such a release. Refused with BS_NO_SUCH_TXN. */
 static inline bs_reply bs_mark(const bs_manager *manager, bs_txn txn) {
   return bs_call_can_ask(manager) ? bs_call_lock_count(manager, txn) : bs_call_unasked(manager);
 }
@@ -461,10 +461,10 @@ static inline bs_reply bs_escalate(bs_manager *manager, bs_txn txn, bs_node node
  * rekey of a record of a file of rows is refused with BS_ROWS_BY_NUMBER.
  */
 
-/* Inserts a record into a file, in `node`, with a key for each of the file's indexes, in the order of their making. Its
- * parents are the file and, for each index, the interval of its key; it is held in X. Refused with BS_NO_SUCH_TXN,
- * BS_TXN_WAITING, BS_TXN_CONDEMNED, BS_NO_SUCH_NODE, BS_BAD_PARENTS (no file), BS_BAD_KEYS, BS_NEED_PARENTS (a parent
- * not itself held in IX or more), BS_TOO_MANY_NODES. Takes memory. */
+/* Inserts a record into a file, in `node`, with a key for each of the file's indexes, in the order in which they were
+ * made. Its parents are the file and, for each index, the interval of its key; it is held in X. Refused with
+ * BS_NO_SUCH_TXN, BS_TXN_WAITING, BS_TXN_CONDEMNED, BS_NO_SUCH_NODE, BS_BAD_PARENTS (not a file), BS_BAD_KEYS,
+ * BS_NEED_PARENTS (a parent not itself held in IX or more), BS_TOO_MANY_NODES. Takes memory. */
 static inline bs_reply bs_insert(bs_manager *manager, bs_txn txn, bs_node file, const uint64_t *keys, size_t count) {
   if (manager == NULL || (keys == NULL && count != 0)) return bs_call_null();
   return bs_call_insert(manager, txn, file, bs_call_numbers(keys), count);
@@ -472,21 +472,21 @@ static inline bs_reply bs_insert(bs_manager *manager, bs_txn txn, bs_node file, 
 
 /* Deletes a record that the transaction holds in X by a lock on the record itself, as an insert leaves one; X above it
  * is not enough. Its waiters are told BS_TOLD_GONE. Refused with BS_NO_SUCH_TXN, BS_TXN_WAITING, BS_TXN_CONDEMNED,
- * BS_NO_SUCH_NODE, BS_BAD_PARENTS (no record), BS_NEED_EXCLUSIVE. */
+ * BS_NO_SUCH_NODE, BS_BAD_PARENTS (not a record), BS_NEED_EXCLUSIVE. */
 static inline bs_reply bs_delete(bs_manager *manager, bs_txn txn, bs_node record, bs_notices *told) {
   return bs_call_lacks(manager, told) ? bs_call_null() : bs_call_delete(manager, txn, record, told);
 }
 
 /* Makes a record of a file, in `node`, as bs_insert does, but for no transaction: nobody holds it, and no locks are
  * needed. It is for an engine that itself gives its rows nodes while they are locked. After it, only bs_index_by makes
- * an index of the file. Refused with BS_NO_SUCH_NODE, BS_BAD_PARENTS (no file), BS_BAD_KEYS, BS_TOO_MANY_NODES. Takes
- * memory. */
+ * an index of the file. Refused with BS_NO_SUCH_NODE, BS_BAD_PARENTS (not a file), BS_BAD_KEYS, BS_TOO_MANY_NODES.
+ * Takes memory. */
 static inline bs_reply bs_adopt(bs_manager *manager, bs_node file, const uint64_t *keys, size_t count) {
   if (manager == NULL || (keys == NULL && count != 0)) return bs_call_null();
   return bs_call_adopt(manager, file, bs_call_numbers(keys), count);
 }
 
-/* Removes a record that nobody holds and nobody waits for. Refused with BS_NO_SUCH_NODE, BS_BAD_PARENTS (no record),
+/* Removes a record that nobody holds and nobody waits for. Refused with BS_NO_SUCH_NODE, BS_BAD_PARENTS (not a record),
  * BS_RECORD_IN_USE. */
 static inline bs_reply bs_forget(bs_manager *manager, bs_node record) {
   return manager == NULL ? bs_call_null() : bs_call_forget(manager, record);
@@ -495,7 +495,7 @@ static inline bs_reply bs_forget(bs_manager *manager, bs_node record) {
 /* Gives a record another key for one index, and so another interval. Its parents are the file and an interval of each
  * of the file's indexes. The transaction needs X on the record and IX or more on the new parents, or X on all old and
  * new parents; each by a lock on that node itself. Refused with BS_NO_SUCH_TXN, BS_TXN_WAITING, BS_TXN_CONDEMNED,
- * BS_NO_SUCH_NODE, BS_BAD_PARENTS (no record, or no index of its file), BS_NEED_EXCLUSIVE, BS_NEED_PARENTS. */
+ * BS_NO_SUCH_NODE, BS_BAD_PARENTS (not a record, or not an index of its file), BS_NEED_EXCLUSIVE, BS_NEED_PARENTS. */
 static inline bs_reply bs_rekey(bs_manager *manager, bs_txn txn, bs_node record, bs_node index, uint64_t key,
                                 bs_notices *told) {
   return bs_call_lacks(manager, told) ? bs_call_null() : bs_call_rekey(manager, txn, record, index, key, told);
@@ -517,9 +517,9 @@ static inline bs_reply bs_move(bs_manager *manager, bs_txn txn, bs_node node, co
  * another's: a call with it is refused with BS_NO_SUCH_NODE.
  */
 
-/* Drops an inner node that has no children, a file that has no records and no indexes, or an index with its intervals
- * if its file has no record now. The transaction must hold BS_X on the node, and for an index on its file too; each by
- * a lock on that node itself. All locks on the node and on its intervals end, the transaction's own among them. Its
+/* Drops an inner node that has no children, a file that has no records and no indexes, or an index, with its intervals,
+ * whose file has no record now. The transaction must hold BS_X on the node, and for an index on its file too; each by a
+ * lock on that node itself. All locks on the node and on its intervals end, the transaction's own among them. Its
  * waiters are told BS_TOLD_GONE. After an index is dropped, the later indexes of its file have their places and their
  * keys one lower. Refused with BS_NO_SUCH_TXN, BS_TXN_WAITING, BS_TXN_CONDEMNED, BS_NO_SUCH_NODE, BS_BAD_PARENTS (an
  * interval or a record), BS_NEED_EXCLUSIVE, and then with BS_HAS_CHILDREN (an inner node) or BS_FILE_IN_USE (a file or
@@ -542,13 +542,13 @@ static inline bs_reply bs_index_by(bs_manager *manager, bs_txn txn, const bs_nod
 }
 
 /* ------------------------------------------------------------------------------------------------
- * Rows by the engine's own numbers. A row is a file of bs_add_row_file and a number, any number at all. For another
- * file, or a node that is no file, calls about a row are refused with BS_NOT_ROWS.
+ * Rows by the engine's own numbers. A row is a file of bs_add_row_file and a number, any number at all. For a file of
+ * records, or a name that names no file, calls about a row are refused with BS_NOT_ROWS.
  *
  * A row has a node while some transaction holds it or waits for it. bs_lock_row makes the node. bs_unlock_row,
- * bs_rekey_row, bs_commit, bs_abort, bs_cancel and bs_escalate let a row go: after the last transaction that holds it
- * or waits for it they remove its node, if that transaction has requested the row by bs_lock_row. No row has two nodes,
- * and no two rows share one. By its node a row is locked and asked about like any record.
+ * bs_rekey_row, bs_commit, bs_abort, bs_cancel and bs_escalate let a row go. That means: after the last transaction
+ * that holds it or waits for it they remove its node, if that transaction has requested the row by bs_lock_row. No row
+ * has two nodes, and no two rows share one. A row can be locked by its node, and asked about by it, like any record.
  *
  * The keys are the row's own, one for each index of its file in the order of making. Only the engine knows them. It
  * reads them before it locks the row, and reads them again after each grant. If they have changed by then, it releases
@@ -575,7 +575,7 @@ static inline bs_reply bs_index_by(bs_manager *manager, bs_txn txn, const bs_nod
  * BS_NO_SUCH_TXN, BS_TXN_WAITING, BS_TXN_CONDEMNED, BS_BAD_KEYS, BS_TOO_MANY_NODES, BS_BAD_MODE, BS_NEED_PARENTS.
  * BS_WORN_OUT: fewer than two commands can still be counted, or fewer than three if another node is removed for it.
  * BS_TOO_MANY_NODES: also if another node would be removed for it. Refused with BS_BAD_NUMBER, first of all, if the
- * mode is no number of enum bs_modes. BS_NO_MEMORY may come before all refusals but BS_BAD_NUMBER and BS_NO_MANAGER.
+ * mode is not a value of enum bs_modes. BS_NO_MEMORY may come before all refusals but BS_BAD_NUMBER and BS_NO_MANAGER.
  * Takes memory. */
 static inline bs_reply bs_lock_row(bs_manager *manager, bs_txn txn, bs_node file, uint64_t number, const uint64_t *keys,
                                    size_t count, bs_mode mode, bs_notices *told) {
@@ -598,7 +598,7 @@ static inline bs_reply bs_rekey_row(bs_manager *manager, bs_txn txn, bs_node fil
 }
 
 /* The node of a row, in `node`, for questions and for bs_verdict. Refused with BS_NO_SUCH_NODE if the row has none,
- * also if its file is no file of rows. Changes nothing and takes no memory. */
+ * also if its file is not a file of rows. Changes nothing and takes no memory. */
 static inline bs_reply bs_row_node(const bs_manager *manager, bs_node file, uint64_t number) {
   return bs_call_can_ask(manager) ? bs_call_row_node(manager, file, number) : bs_call_unasked(manager);
 }
@@ -611,8 +611,8 @@ static inline bs_reply bs_row_node(const bs_manager *manager, bs_node file, uint
 /* What became of a lock that was left waiting for this node. BS_WAITING: the wait continues. BS_DONE: the lock was
  * granted; `mode` is the mode now held, which covers the requested one. BS_VICTIM, BS_MOVED, BS_GONE: it was not
  * granted, and the wait is over. Refused with BS_NO_SUCH_TXN, and with BS_NOT_WAITING if the transaction does not wait
- * for the node and no notice tells why, as after a cancel. Refused with BS_BAD_NUMBER, first of all, if the mode is no
- * number of enum bs_modes. */
+ * for the node and no notice tells why, as after a cancel. Refused with BS_BAD_NUMBER, first of all, if the mode is not
+ * a value of enum bs_modes. */
 static inline bs_reply bs_verdict(const bs_manager *manager, bs_txn txn, bs_node node, bs_mode mode) {
   if (manager != NULL && mode > BS_X) return bs_call_only(BS_BAD_NUMBER);
   return bs_call_can_ask(manager) ? bs_call_verdict(manager, txn, node, mode) : bs_call_unasked(manager);
@@ -638,8 +638,8 @@ static inline bs_found bs_ended(const bs_manager *manager) {
  */
 
 /* Makes a watcher of a manager at a place that has none; it starts with the board of this moment. Refused with
- * BS_OTHER_VERSION, BS_OTHER_SLOTS, BS_IN_USE, BS_TOO_MANY_WATCHERS, BS_NO_MEMORY; after a refusal for memory the other
- * watchers may still be shown the board of this moment. Takes memory. Costs what bs_read_board does. */
+ * BS_OTHER_VERSION, BS_OTHER_SLOTS, BS_IN_USE, BS_TOO_MANY_WATCHERS, BS_NO_MEMORY; after a refusal for lack of memory
+ * the other watchers may still be shown the board of this moment. Takes memory. Costs what bs_read_board does. */
 static inline bs_reply bs_watch(bs_manager *manager, bs_watcher *watcher) {
   bs_status misfit = bs_call_misfit();
   if (manager == NULL || watcher == NULL) return bs_call_null();
@@ -773,7 +773,7 @@ static inline bs_reply bs_living(const bs_manager *manager, uint32_t slot) {
 }
 
 /* What a transaction is doing, in `count`, of enum bs_doings. If it waits, `node` is the node and `mode` the wanted
- * mode, which joins the held and the requested mode. Refused with BS_NO_SUCH_TXN. */
+ * mode, the least that covers the held and the requested mode. Refused with BS_NO_SUCH_TXN. */
 static inline bs_reply bs_doing(const bs_manager *manager, bs_txn txn) {
   return bs_call_can_ask(manager) ? bs_call_doing(manager, txn) : bs_call_unasked(manager);
 }
