@@ -357,10 +357,10 @@ static inline bs_reply bs_begin_again(bs_manager *manager, uint64_t since) {
  * parent; to write (BS_IX, BS_SIX, BS_X) intentions to write, or more, on all parents. The wanted mode is the least
  * that covers the held and the requested mode. It is granted at once if two things hold: it is compatible with what
  * others hold; and the transaction already holds the node, or nobody waits for it. So a newcomer passes no queue, and a
- * transaction that holds the node waits ahead of all newcomers. BS_DONE: `mode` is the mode now held. BS_WAITING: the
- * transaction waits, and still holds what it held. It does nothing else until a notice tells it the end of the wait, or
- * it cancels or aborts. BS_VICTIM: its wait closed a cycle of waits, and it was chosen as a victim. Its wait is over,
- * its locks stay, and it can only abort.
+ * transaction that holds the node waits ahead of all newcomers.
+ * BS_DONE: `mode` is the mode now held. BS_WAITING: the transaction waits, and still holds what it held. It does
+ * nothing else until a notice tells it the end of the wait, or it cancels or aborts. BS_VICTIM: its wait closed a cycle
+ * of waits, and it was chosen as a victim. Its wait is over, its locks stay, and it can only abort.
  * If the wait closed a cycle, others may be condemned too, also beside BS_VICTIM, and are told BS_TOLD_VICTIM. Those
  * queued behind a victim may be told BS_TOLD_GRANTED.
  * Refused with BS_NO_SUCH_TXN, BS_TXN_WAITING, BS_TXN_CONDEMNED, BS_NO_SUCH_NODE, BS_BAD_MODE, BS_NEED_PARENTS, and
@@ -374,12 +374,13 @@ static inline bs_reply bs_lock(bs_manager *manager, bs_txn txn, bs_node node, bs
 /* Locks a node after what must be held above it. That is intentions, root first: to write on all parents, to read on
  * the first, if none is held already. Then it locks the node in its mode. Each is a lock as by bs_lock, and a command.
  * What is held already is not requested. The call ends at the first lock that waits or makes the transaction a victim;
- * what was locked before stays locked. BS_DONE: `mode` is the mode in which the node is held. BS_WAITING and BS_VICTIM:
- * `node` is the one for which the transaction waits or was condemned: the node itself or one above it. After that lock
- * is granted, make the call again. BS_ON_THE_WAY: `node`, one above, was granted because others were condemned. Make
- * the call again after all in `told` were notified. Refused as bs_lock, but never with BS_NEED_PARENTS. Nothing was
- * locked then, unless BS_NO_MEMORY or BS_WORN_OUT comes after some of the locks: these stay. Costs its locks, and for
- * each of them a look at each node above. */
+ * what was locked before stays locked.
+ * BS_DONE: `mode` is the mode in which the node is held. BS_WAITING and BS_VICTIM: `node` is the one for which the
+ * transaction waits or was condemned: the node itself or one above it. After that lock is granted, make the call again.
+ * BS_ON_THE_WAY: `node`, one above, was granted because others were condemned. Make the call again after all in `told`
+ * were notified.
+ * Refused as bs_lock, but never with BS_NEED_PARENTS. Nothing was locked then, unless BS_NO_MEMORY or BS_WORN_OUT comes
+ * after some of the locks: these stay. Costs its locks, and for each of them a look at each node above. */
 static inline bs_reply bs_lock_path(bs_manager *manager, bs_txn txn, bs_node node, bs_mode mode, bs_notices *told) {
   return bs_call_lacks(manager, told) ? bs_call_null() : bs_call_lock_path(manager, txn, node, mode, told);
 }
