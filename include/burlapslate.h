@@ -1,55 +1,55 @@
 /*
  * burlapslate.h: a lock manager of granular locks, for C and C++.
  *
- * Transactions lock the nodes of a graph: inner nodes (a data base, an area), files, indexes of files,
- * intervals of indexes, and records. Whoever locks a node holds intentions above it, so that a lock on
- * a node stands for locks on all that lies below.
+ * Transactions lock the nodes of a graph: inner nodes (a database, an area), files, indexes of files, intervals of
+ * indexes, and records. A transaction that locks a node holds intentions above it, so a lock on a node counts as locks
+ * on everything below it.
  *
- * WHO MAY CALL WHEN. A manager is used by one thread at a time, now one and now another: hold a mutex of
- * your own round each call with it. No call waits: a lock that is not granted at once is answered with
- * BS_WAITING, and a later call of another transaction tells its end by a notice. Two managers share
- * nothing, and a board is a value of its own, which any thread may read. A bs_watcher is used by one thread at
- * a time as well, but bs_look and bs_watch_end need no mutex: they go on while others use the manager. No call
- * may be made from a signal handler, or from the forked child of a process with threads. A manager that is const can
- * only be asked, as one that a shared table lends: but two threads may not ask at once.
+ * WHO MAY CALL WHEN. One thread at a time may use a manager, now one thread and now another: hold a mutex of your own
+ * during each call with it. No call blocks. A lock that is not granted at once is answered with BS_WAITING, and a later
+ * call of another transaction reports the end of the wait by a notice. Two managers share nothing, and a board is a
+ * value of its own, which any thread may read. One thread at a time may use a bs_watcher as well, but bs_look and
+ * bs_watch_end need no mutex: they work while other threads use the manager. No call may be made from a signal handler,
+ * or from the forked child of a process with threads. A const manager, such as one that a shared table lends, can only
+ * be asked questions, and two threads may not ask at once.
  *
- * WHAT YOU KEEP. Beside what a call says:
- *   - a bs_manager is BS_NO_MANAGER_HERE, which is all zero, before the first call with it; from then on
- *     it is neither copied, moved, read nor written by you, until bs_end;
- *   - the same holds of a bs_watcher, which is BS_NO_WATCHER_HERE, until bs_watch_end;
- *   - a pointer is null or points to what its type says, which was given some value before; a list points to as
- *     many as its count says;
- *   - what a call writes (its manager, watcher, notices or board) overlaps with nothing else that it is given;
+ * WHAT YOU KEEP. In addition to what a call says:
+ *   - a bs_manager is BS_NO_MANAGER_HERE, which is all zero, before the first call with it; from then until bs_end you
+ *     neither copy, move, read nor write it;
+ *   - the same holds of a bs_watcher, with BS_NO_WATCHER_HERE and bs_watch_end;
+ *   - a pointer is null, or points to an object of its type that was given some value before; a list points to as many
+ *     objects as its count says;
+ *   - what a call writes (its manager, watcher, notices or board) overlaps nothing else that the call is given, and
  *     nobody else uses it during the call;
- *   - malloc, realloc and free are one allocator's, and align as the C standard asks.
- * Null pointers are refused with BS_NULL_POINTER and never read; a list of count 0 may be null. Names may be
- * any values at all: the name of a node that is gone, of a transaction that has ended, or one made up,
- * names nothing and is refused.
+ *   - malloc, realloc and free belong to one allocator, and align as the C standard requires.
+ * Null pointers are refused with BS_NULL_POINTER and never read; a list of count 0 may be null. Names may have any
+ * values: the name of a node that is gone, the name of a transaction that has ended, or an invented one names nothing
+ * and is refused.
  *
- * WHAT A CALL ANSWERS. A bs_reply. Its status is BS_DONE, BS_WAITING, BS_VICTIM or another that the call speaks
- * of; else it says why the call was refused. A refused call changed nothing. bs_lock_path is several locks, and says
- * which of them may stay. All fields that a call does not speak of are zero. Where several refusals hold, the first
- * of these is answered:
+ * WHAT A CALL ANSWERS. A call returns a bs_reply. Its status is BS_DONE, BS_WAITING, BS_VICTIM or another that the
+ * call's comment describes; otherwise it says why the call was refused. A refused call changed nothing. bs_lock_path
+ * makes several locks, and says which of them may stay. All fields that a call's comment does not mention are zero. If
+ * several refusals hold, the call answers the first of these:
  *   - BS_NULL_POINTER;
  *   - BS_OTHER_VERSION, and then BS_OTHER_SLOTS, of the calls that name them;
- *   - BS_BAD_NUMBER, where the call says that it comes first of all;
+ *   - BS_BAD_NUMBER, if the call says that it comes first of all;
  *   - BS_NO_MANAGER;
  *   - BS_ROWS_BY_NUMBER, BS_NOT_ROWS;
- *   - BS_WORN_OUT, of every call but the questions;
+ *   - BS_WORN_OUT, of every call except the questions;
  *   - those in the call's list, in their order;
- *   - BS_NO_MEMORY, of a call that takes memory, but where it says otherwise.
+ *   - BS_NO_MEMORY, of a call that takes memory, unless it says otherwise.
  *
- * NOTICES. A call with `told` fills it anew: whom it told what, at most one notice for each transaction, by
- * rising slot. It is empty where the call was refused. The transaction that a lock, a cancel or an abort
- * names is left out: whoever makes the call has its answer.
+ * NOTICES. A call with `told` overwrites it with the call's notices: at most one for each transaction, by rising slot.
+ * It is empty if the call was refused. The transaction that a lock, a cancel or an abort names gets no notice: the
+ * caller has the answer.
  *
- * MEMORY. Calls that end something or give something back take no memory and cannot fail for want of it:
- * unlock, cancel, commit, abort, settle, delete, rekey, escalate, of nodes and of rows; and drop. Others say so.
+ * MEMORY. Calls that end or release something take no memory and cannot fail for lack of it: unlock, cancel, commit,
+ * abort, settle, delete, rekey, escalate, of nodes and of rows; and drop. Others say so.
  *
- * ZERO. An option that is 0 is as usual. A name that is all zero names nothing.
+ * ZERO. An option that is 0 has its default. A name that is all zero names nothing.
  *
- * STACK. To make a manager takes some 140 kilobytes of stack, any other call 20 at most. With 1,024 slots it takes two
- * megabytes, and what reads a board or finds a deadlock 0.7: give the thread so much.
+ * STACK. Making a manager needs some 140 kilobytes of stack, any other call at most 20. With 1,024 slots it needs two
+ * megabytes, and a call that reads a board or detects a deadlock 0.7: give the thread that much.
  */
 #ifndef BURLAPSLATE_H
 #define BURLAPSLATE_H
@@ -63,104 +63,104 @@
 extern "C" {
 #endif
 
-/* The version of what is declared here. The first number rises where a program has to be changed for it, or the second
- * while the first is 0. The second rises where something is added, the third where neither. */
+/* The version of these declarations. The first number rises if programs must be changed, or the second while the first
+ * is 0. The second rises if something is added, the third if neither. */
 #define BS_VERSION_MAJOR 0
 #define BS_VERSION_MINOR 19
 #define BS_VERSION_PATCH 0
 
 /* How many transactions can live at once, and so how many notices a call can have. A library can be built for another
- * number, and is then installed with headers that have it here. */
+ * number; it is then installed with headers that have that number here. */
 #define BS_SLOTS 128
 
 /* How many parents a node can have, and how many watchers a manager can have at once. */
 enum { BS_MOST_PARENTS = 8, BS_MOST_WATCHERS = 8 };
 
-/* What a call comes to. Refusals are 1 to 23, of the manager, and 64 to 74, of this library. */
+/* The outcome of a call. Refusals are 1 to 23, of the manager, and 64 to 74, of this library. */
 typedef uint32_t bs_status;
 enum bs_statuses {
   BS_DONE = 0,
   BS_NO_MEMORY = 1,       /* the allocator refused */
   BS_NO_SUCH_NODE = 2,    /* a name names no node */
-  BS_NO_SUCH_TXN = 3,     /* the name names no transaction that lives */
+  BS_NO_SUCH_TXN = 3,     /* the name names no living transaction */
   BS_TXN_WAITING = 4,     /* the transaction waits for a lock */
-  BS_TXN_CONDEMNED = 5,   /* the transaction was chosen as a victim, and can only abort */
-  BS_BAD_MODE = 6,        /* BS_NL was asked, or other than S or X on a record */
+  BS_TXN_CONDEMNED = 5,   /* the transaction was condemned as a victim, and can only abort */
+  BS_BAD_MODE = 6,        /* the requested mode is BS_NL, or on a record neither S nor X */
   BS_NEED_PARENTS = 7,    /* the rule of the graph fails at the parent `node` */
-  BS_NOT_HELD = 8,        /* the transaction does not hold the node; of bs_table_let_go: nor this thread the table */
+  BS_NOT_HELD = 8,        /* the transaction does not hold the node, or this thread not the table (bs_table_let_go) */
   BS_HELD_CHILD = 9,      /* the transaction holds the child `node` */
   BS_WOULD_BLOCK = 10,    /* the lock cannot be granted at once */
-  BS_TOO_MANY_TXNS = 11,  /* as many transactions live as may */
-  BS_TOO_MANY_NODES = 12, /* as many nodes live as may, 65,536 where no other number was chosen */
-  BS_BAD_PARENTS = 13,    /* a node of the wrong kind for its place, one parent twice, or too few */
-  BS_NEED_EXCLUSIVE = 14, /* without the exclusive locks that the call needs: a delete, a move, a drop, bs_index_by */
+  BS_TOO_MANY_TXNS = 11,  /* the limit of living transactions is reached */
+  BS_TOO_MANY_NODES = 12, /* the limit of living nodes is reached, by default 65,536 */
+  BS_BAD_PARENTS = 13,    /* a node of the wrong kind for its place, the same parent twice, or too few */
+  BS_NEED_EXCLUSIVE = 14, /* exclusive locks are missing that the call needs: a delete, a move, a drop, bs_index_by */
   BS_NOT_WAITING = 15,    /* the transaction waits for nothing */
   BS_NAME_TAKEN = 16,     /* not answered here: names are the manager's own */
-  BS_FILE_IN_USE = 17,    /* the file has records; or of bs_add_index: a row had a node; of bs_drop: it has indexes */
+  BS_FILE_IN_USE = 17,    /* the file has records; of bs_add_index: or a row had a node; of bs_drop: or indexes */
   BS_BAD_KEYS = 18,       /* bounds that do not rise from above 0, too many, or not a key for each index */
-  BS_WORN_OUT = 19,       /* a counter has come to its end */
+  BS_WORN_OUT = 19,       /* a counter has reached its end */
   BS_BAD_LINE = 20,       /* not answered here */
-  BS_CYCLE = 21,          /* the new parent `node` is the node itself or lies below it */
-  BS_RECORD_IN_USE = 22,  /* of bs_forget: some transaction holds the record or waits for it */
+  BS_CYCLE = 21,          /* the new parent `node` is the node itself or is below it */
+  BS_RECORD_IN_USE = 22,  /* of bs_forget: a transaction holds the record or waits for it */
   BS_HAS_CHILDREN = 23,   /* of bs_drop: the inner node has children */
-  BS_WAITING = 32,        /* the lock is waited for */
-  BS_VICTIM = 33,         /* the asker was condemned to end a deadlock, and can only abort */
+  BS_WAITING = 32,        /* the transaction waits for the lock */
+  BS_VICTIM = 33,         /* the requester was condemned to end a deadlock, and can only abort */
   BS_MOVED = 34,          /* the node moved, and the wait is over */
   BS_GONE = 35,           /* the node is gone, and the wait is over */
-  BS_TIMED_OUT = 36,      /* not answered here: the lock was not granted in time, and the wait was taken back */
-  BS_ON_THE_WAY = 37,     /* a path is locked as far as `node`, and others are told: it is asked for again */
-  BS_OTHER_KEYS = 38,     /* the row is held, but its keys are others than was said: they are read again */
-  BS_NOT_MADE = 39,       /* not answered here: of a command in a list, it was not made */
+  BS_TIMED_OUT = 36,      /* not answered here: the lock was not granted in time, and the wait was cancelled */
+  BS_ON_THE_WAY = 37,     /* the path is locked as far as `node`, and others were notified: call again */
+  BS_OTHER_KEYS = 38,     /* the row is held, but its keys are not those that the caller named: read them again */
+  BS_NOT_MADE = 39,       /* not answered here: this command of a list was not made */
   BS_NULL_POINTER = 64,   /* a pointer is null */
   BS_NO_MANAGER = 65,     /* no manager was made at this place, or it was ended */
   BS_BAD_NUMBER = 66,     /* a number names nothing of its kind, or a count is out of range */
-  BS_IN_USE = 67,         /* there is a manager, a table or a watcher at this place; or this thread holds the table */
+  BS_IN_USE = 67,         /* this place has a manager, a table or a watcher; or this thread holds the table */
   BS_NO_PLACE = 68,       /* there are fewer than that */
   BS_NO_WATCHER = 69,     /* no watcher was made at this place, or it was ended */
-  BS_TOO_MANY_WATCHERS = 70, /* as many watch already as may */
-  BS_ROWS_BY_NUMBER = 71, /* the file is one of rows: its records come, go and change by calls about rows alone */
-  BS_NOT_ROWS = 72,       /* the file is none of rows */
-  BS_OTHER_SLOTS = 73,    /* the library was built for another number of slots than BS_SLOTS */
-  BS_OTHER_VERSION = 74   /* the library is of another version than the headers of the program */
+  BS_TOO_MANY_WATCHERS = 70, /* the manager has as many watchers as it may */
+  BS_ROWS_BY_NUMBER = 71, /* a file of rows: its records are inserted, deleted and changed by calls about rows alone */
+  BS_NOT_ROWS = 72,       /* the file is not a file of rows */
+  BS_OTHER_SLOTS = 73,    /* the library was built for a number of slots other than BS_SLOTS */
+  BS_OTHER_VERSION = 74   /* the library's version differs from that of the program's headers */
 };
 
-/* Lock modes, from none to exclusive. Of what different transactions hold on one node, BS_IS goes with all
- * but BS_X, BS_IX with BS_IS and BS_IX, BS_S with BS_IS and BS_S, BS_SIX with BS_IS alone, BS_X with none. */
+/* Lock modes, from none to exclusive. Between different transactions on one node, BS_IS is compatible with all but
+ * BS_X, BS_IX with BS_IS and BS_IX, BS_S with BS_IS and BS_S, BS_SIX with BS_IS alone, BS_X with none. */
 typedef uint32_t bs_mode;
 enum bs_modes { BS_NL = 0, BS_IS = 1, BS_IX = 2, BS_S = 3, BS_SIX = 4, BS_X = 5 };
 
-/* How deadlocks are found: when a transaction begins to wait, or by a watcher that reads boards. */
+/* How deadlocks are detected: when a transaction begins to wait, or by a watcher that reads boards. */
 enum bs_detects { BS_AT_BLOCK = 0, BS_BY_WATCHER = 1 };
 
-/* Whom a deadlock takes. BS_YOUNGEST: the youngest of those on a cycle of waits with the transaction that closed
- * it, again and again until that is on none. BS_FEWEST: the youngest of those that alone take it off all its
- * cycles, so that one is always enough. */
+/* How victims are chosen. BS_YOUNGEST: the youngest transaction on a cycle of waits with the one that closed it, again
+ * and again until that one is on no cycle. BS_FEWEST: the youngest of those that alone take that one off all its
+ * cycles, so one victim is always enough. */
 enum bs_choices { BS_YOUNGEST = 0, BS_FEWEST = 1 };
 
 /* What a node is. */
 enum bs_kinds { BS_INNER = 1, BS_FILE = 2, BS_INDEX = 3, BS_INTERVAL = 4, BS_RECORD = 5 };
 
-/* What a transaction is doing: it may ask for locks; it waits for one; it was condemned, and can only abort. */
+/* What a transaction is doing: it may request locks; it waits for one; it was condemned, and can only abort. */
 enum bs_doings { BS_ACTIVE = 1, BS_WAITS = 2, BS_CONDEMNED = 3 };
 
-/* What a transaction is told. */
+/* What a notice tells a transaction. */
 enum bs_notice_kinds {
   BS_TOLD_GRANTED = 1, /* its wait is over: it holds `node` in `mode` */
   BS_TOLD_VICTIM = 2,  /* it was condemned to end a deadlock, and can only abort */
-  BS_TOLD_MOVED = 3,   /* the node moved, and its wait no longer meets the rule of the graph: it is over */
+  BS_TOLD_MOVED = 3,   /* the node moved, and its wait no longer meets the rule of the graph: the wait is over */
   BS_TOLD_GONE = 4     /* the node is gone, and its wait is over */
 };
 
-/* The name of a node. It is the same as long as the node lives, and never another's in its manager; in
- * another manager, or one made later at the same place, it may name anything. */
+/* The name of a node. It stays the same while the node lives, and never names another node of its manager. In another
+ * manager, or one made later at the same place, it may name anything. */
 typedef struct bs_node {
   size_t key;
   uint64_t birth;
 } bs_node;
 
-/* The name of a transaction. It is the same as long as it lives, and never another's in its manager. */
+/* The name of a transaction. It stays the same while the transaction lives, and never names another of its manager. */
 typedef struct bs_txn {
-  uint32_t slot; /* below BS_SLOTS; any other names no transaction */
+  uint32_t slot; /* below BS_SLOTS; any other value names no transaction */
   uint64_t age;  /* its number in the order of begins: the youngest has the greatest */
 } bs_txn;
 
@@ -180,24 +180,24 @@ typedef struct bs_watcher {
 
 #define BS_NO_WATCHER_HERE { false, NULL }
 
-/* What a call answers. */
+/* The answer of a call. */
 typedef struct bs_reply {
   bs_status status;
-  bs_mode mode;      /* the mode that was granted, or that was asked after */
-  bs_node node;      /* the node that was made, asked for or asked after, or that the refusal names */
-  bs_txn txn;        /* the transaction that began or was asked after */
+  bs_mode mode;      /* the mode that was granted or asked about */
+  bs_node node;      /* the node that was made, requested or asked about, or that the refusal names */
+  bs_txn txn;        /* the transaction that began or was asked about */
   uint32_t released; /* of an escalation: how many children were released */
   uint32_t kept;     /* of an escalation: how many held children were kept */
-  uint64_t count;    /* the number that was asked after */
-  bs_mode wanted;    /* of bs_lock_at: the mode in which the node is waited for */
+  uint64_t count;    /* the number that was asked about */
+  bs_mode wanted;    /* of bs_lock_at: the mode in which the transaction waits for the node */
 } bs_reply;
 
 /* One notice. */
 typedef struct bs_notice {
   bs_txn txn;
-  bs_node node;  /* what was granted; zero of the other kinds */
+  bs_node node;  /* what was granted; zero in notices of other kinds */
   uint32_t kind; /* of enum bs_notice_kinds */
-  bs_mode mode;  /* what was granted; zero of the other kinds */
+  bs_mode mode;  /* what was granted; zero in notices of other kinds */
 } bs_notice;
 
 /* The notices of one call: the first `count` places. */
@@ -211,75 +211,75 @@ typedef struct bs_slots {
   uint64_t words[BS_SLOTS / 64];
 } bs_slots;
 
-/* Who waits for whom at one moment. */
+/* A snapshot: who waits for whom at one moment. */
 typedef struct bs_board {
-  uint64_t epoch;          /* how many commands had been accepted by then */
-  uint64_t ages[BS_SLOTS]; /* by slot, the age of its transaction; 0: the slot is free */
-  bs_slots rows[BS_SLOTS]; /* by slot, for whom it waits */
+  uint64_t epoch;          /* how many commands had been accepted by that moment */
+  uint64_t ages[BS_SLOTS]; /* by slot, the age of its transaction; 0 if the slot is free */
+  bs_slots rows[BS_SLOTS]; /* by slot, the slots for which it waits */
 } bs_board;
 
-/* Slots that were asked after; none where it was refused. */
+/* The slots that a question asks for; none if it was refused. */
 typedef struct bs_found {
   bs_status status;
   bs_slots slots;
 } bs_found;
 
-/* One who waits on a cycle. */
+/* A transaction that waits on a cycle. */
 typedef struct bs_stuck {
   bs_txn txn;
   bs_node node;       /* the node that it waits for */
   bs_mode mode;       /* the mode in which it wants that node */
-  bs_slots waits_for; /* the slots of those on the cycle for whom it waits */
+  bs_slots waits_for; /* the slots of the transactions on the cycle for which it waits */
 } bs_stuck;
 
 /* A deadlock, as it was when its victim was condemned. */
 typedef struct bs_deadlock {
-  bs_txn victim;         /* who was condemned to end it */
-  size_t count;          /* how many were on a cycle with the one that was settled, the victim among them */
+  bs_txn victim;         /* the transaction that was condemned to end it */
+  size_t count;          /* how many were on a cycle with the settled transaction, the victim among them */
   bs_stuck at[BS_SLOTS]; /* these, by rising slot: the first `count` places */
 } bs_deadlock;
 
-/* What a manager is made with. A number that is 0 is as usual. */
+/* What a manager is made with. A number that is 0 has its default. */
 typedef struct bs_options {
-  uint32_t detect;       /* of enum bs_detects; BS_AT_BLOCK as usual */
-  uint32_t victims;      /* of enum bs_choices; BS_YOUNGEST as usual */
-  uint32_t transactions; /* how many may live at once, 1 to BS_SLOTS; BS_SLOTS as usual */
-  uint32_t nodes;        /* how many may live at once, 1 to 2^31, records and intervals among them; 65,536 as usual */
-  uint32_t bounds;       /* how many an index may have at most, 1 to 2^31; 256 as usual */
+  uint32_t detect;       /* of enum bs_detects; by default BS_AT_BLOCK */
+  uint32_t victims;      /* of enum bs_choices; by default BS_YOUNGEST */
+  uint32_t transactions; /* how many may live at once, 1 to BS_SLOTS; by default BS_SLOTS */
+  uint32_t nodes;        /* how many may live at once, 1 to 2^31, records and intervals among them; by default 65,536 */
+  uint32_t bounds;       /* how many an index may have at most, 1 to 2^31; by default 256 */
 } bs_options;
 
-/* What a manager has been doing since it was made, in commands that it accepted. Each of these is a count
- * that stops at the greatest uint64_t. */
+/* What a manager has done since it was made, in commands that it accepted. Each count stops at the greatest
+ * uint64_t. */
 typedef struct bs_counts {
   uint64_t accepted;          /* all commands that were neither refused nor questions */
-  uint64_t granted;           /* asks, by lock or by try, that were answered with a mode */
+  uint64_t granted;           /* requests, by lock or by try, that were answered with a mode */
   uint64_t waited;            /* locks that were answered with a wait */
-  uint64_t conversions;       /* asks of a node that the transaction held already, where not refused */
+  uint64_t conversions;       /* requests for a node that the transaction already held, unless refused */
   uint64_t granted_later;     /* waits that ended with a grant */
   uint64_t condemned;         /* transactions that were condemned to end a deadlock */
-  uint64_t moved;             /* waits that ended since the node moved */
-  uint64_t gone;              /* waits that ended since the node is gone */
+  uint64_t moved;             /* waits that ended because the node moved */
+  uint64_t gone;              /* waits that ended because the node is gone */
   uint64_t escalations;       /* escalations that were done */
   uint64_t released_children; /* children that escalations released */
-  uint64_t most_waiting;      /* the most transactions that waited at once, behind a lock that waits */
-  uint64_t longest_queue;     /* the most that waited for one node at once, behind a lock that waits for it */
-  uint64_t passed;            /* modes that were raised at once on a node for which somebody else waits still */
+  uint64_t most_waiting;      /* the most transactions that waited at once, counted after a lock that waits */
+  uint64_t longest_queue;     /* the most that waited for one node at once, counted after a lock that waits for it */
+  uint64_t passed;            /* modes that were raised at once on a node for which another transaction still waits */
 } bs_counts;
 
-/* The version of the library as one number: a million times the first, a thousand times the second, and the third. */
+/* The version of the library as one number: 1,000,000 times the first, plus 1,000 times the second, plus the third. */
 uint32_t bs_version(void);
 
-/* The calls of the library, and what the functions below share. A program uses none of it. */
+/* The calls of the library, and what the functions below share. Programs do not use them. */
 #include "burlapslate_calls.h"
 
 /* ------------------------------------------------------------------------------------------------
  * Managers.
  */
 
-/* Makes a manager at a place that has none, by options; where they are null it is one as usual. Takes memory, more for
- * more transactions; that for nodes is taken as they are made. Refused with BS_NULL_POINTER; with BS_OTHER_VERSION and
- * BS_OTHER_SLOTS, which are that the program was compiled with the headers of another library; with BS_IN_USE,
- * BS_BAD_NUMBER, BS_NO_MEMORY. A version is another where its first number is, or its second. */
+/* Makes a manager at a place that has none, by `options`; if that is null, all options have their defaults. Takes
+ * memory, more for more transactions; memory for nodes is taken as they are made. Refused with BS_NULL_POINTER; with
+ * BS_OTHER_VERSION and BS_OTHER_SLOTS, if the program was compiled with the headers of another library; with BS_IN_USE,
+ * BS_BAD_NUMBER, BS_NO_MEMORY. A version is another if its first or its second number differs. */
 static inline bs_reply bs_make(bs_manager *manager, const bs_options *options) {
   bs_options chosen = bs_call_chosen(options, sizeof *options);
   bs_status misfit = bs_call_misfit();
@@ -288,46 +288,46 @@ static inline bs_reply bs_make(bs_manager *manager, const bs_options *options) {
   return bs_call_make_with(manager, chosen.detect, chosen.victims, chosen.transactions, chosen.nodes, chosen.bounds);
 }
 
-/* Ends a manager, whatever its transactions do, and gives back all memory that it took. Its place has
- * no manager then, and may be used for another. Costs a walk over all that it has. */
+/* Ends a manager, whatever its transactions do, and frees all memory that it took. The place then has no manager, and
+ * may be used for another. Costs a walk over all that the manager has. */
 static inline bs_reply bs_end(bs_manager *manager) {
   return manager == NULL ? bs_call_null() : bs_call_end(manager);
 }
 
 /* ------------------------------------------------------------------------------------------------
- * The graph. No path closes, whatever is made, moved or removed. These take memory; each answers the
- * new node in `node`. They tell nobody. Nodes go by bs_drop, and no name is ever given twice.
+ * The graph. It never has a cycle, whatever is made, moved or removed. These calls take memory; each answers the new
+ * node in `node`. They notify nobody. Nodes are removed by bs_drop, and no name is ever given twice.
  */
 
-/* A new inner node under 0 to 8 different inner nodes; without parents it is a root. Refused with
- * BS_NO_SUCH_NODE, BS_BAD_PARENTS, BS_TOO_MANY_NODES; with BS_BAD_NUMBER, first of all, where there are
- * more than 8 parents. Costs a look-up for each parent. */
+/* Makes an inner node under 0 to 8 different inner nodes; without parents it is a root. Refused with BS_NO_SUCH_NODE,
+ * BS_BAD_PARENTS, BS_TOO_MANY_NODES; with BS_BAD_NUMBER, first of all, if there are more than 8 parents. Costs a
+ * look-up for each parent. */
 static inline bs_reply bs_add_inner(bs_manager *manager, const bs_node *parents, size_t count) {
   if (manager == NULL || (parents == NULL && count != 0)) return bs_call_null();
   return bs_call_add_inner(manager, bs_call_nodes(parents), count);
 }
 
-/* A new file of records, under 1 to 8 different inner nodes. Its records are named by their nodes. Refused as
+/* Makes a file of records under 1 to 8 different inner nodes. Its records are named by their nodes. Refused as
  * bs_add_inner. */
 static inline bs_reply bs_add_file(bs_manager *manager, const bs_node *parents, size_t count) {
   if (manager == NULL || (parents == NULL && count != 0)) return bs_call_null();
   return bs_call_add_file(manager, bs_call_nodes(parents), count);
 }
 
-/* A new file of rows, under 1 to 8 different inner nodes. Each of its records is a row, which the engine names by a
- * number of its own, and comes, goes and gets other keys by the calls about rows alone. A file is of records or of rows
+/* Makes a file of rows under 1 to 8 different inner nodes. Each of its records is a row, which the engine names by a
+ * number of its own. Calls about rows alone make a row, remove it and change its keys. A file is of records or of rows
  * for good. Refused as bs_add_inner; BS_NO_MEMORY may come before all refusals but BS_BAD_NUMBER and BS_NO_MANAGER. */
 static inline bs_reply bs_add_row_file(bs_manager *manager, const bs_node *parents, size_t count) {
   if (manager == NULL || (parents == NULL && count != 0)) return bs_call_null();
   return bs_call_row_file(manager, bs_call_nodes(parents), count);
 }
 
-/* A new index of a file that has no records, and of which no row ever had a node by bs_adopt or bs_lock_row; else
- * bs_index_by makes one. It lies under 1 to 8 different inner nodes. It has up to 256 bounds, or up to the number that
- * was chosen at its making. Bounds rise from above 0: interval 0 has the keys below the first bound, interval i those
- * from bound i - 1 on. Each interval is a node. Refused with BS_NO_SUCH_NODE, BS_BAD_PARENTS (also where the file has 7
- * indexes), BS_FILE_IN_USE, BS_BAD_KEYS, BS_TOO_MANY_NODES (its intervals count); with BS_BAD_NUMBER, first of all,
- * where there are more than 8 parents. Costs a step for each bound. */
+/* Makes an index of a file that has no records, and whose rows never had a node by bs_adopt or bs_lock_row; otherwise
+ * bs_index_by makes one. Its parents are 1 to 8 different inner nodes. It has up to 256 bounds, or up to the number
+ * that was chosen when the manager was made. Bounds rise from above 0: interval 0 has the keys below the first bound,
+ * interval i those from bound i - 1 on. Each interval is a node. Refused with BS_NO_SUCH_NODE, BS_BAD_PARENTS (also if
+ * the file has 7 indexes), BS_FILE_IN_USE, BS_BAD_KEYS, BS_TOO_MANY_NODES (its intervals count); with BS_BAD_NUMBER,
+ * first of all, if there are more than 8 parents. Costs a step for each bound. */
 static inline bs_reply bs_add_index(bs_manager *manager, const bs_node *parents, size_t count, bs_node file,
                                     const uint64_t *bounds, size_t bound_count) {
   if (manager == NULL || (parents == NULL && count != 0) || (bounds == NULL && bound_count != 0)) return bs_call_null();
@@ -338,176 +338,175 @@ static inline bs_reply bs_add_index(bs_manager *manager, const bs_node *parents,
  * Transactions and locks.
  */
 
-/* A new transaction, in `txn`. Refused with BS_TOO_MANY_TXNS. Takes memory. */
+/* Begins a transaction, in `txn`. Refused with BS_TOO_MANY_TXNS. Takes memory. */
 static inline bs_reply bs_begin(bs_manager *manager) {
   return manager == NULL ? bs_call_null() : bs_call_begin(manager);
 }
 
-/* A new transaction, as bs_begin, for work that an earlier one was to do, which fell or gave up: `since` is the age of
- * the first of these. Of a deadlock's members the one falls whose work is the latest by that number, of several such
- * the youngest; the number of one that bs_begin began is its own age. So work that begins again with its first number
- * falls only for work that is older, and of that there is less with each that ends: with BS_YOUNGEST no deadlock takes
- * its oldest. With BS_FEWEST it does where nobody else ends it. A number above its own age counts as that. With 0
- * it is older than all that bs_begin began. Refused as bs_begin. */
+/* Begins a transaction, as bs_begin does, for work that earlier transactions did not finish, as victims or because they
+ * gave up. `since` is the age of the first of them. A deadlock's victim is the member with the latest `since`, or the
+ * youngest of several such; a transaction of bs_begin has its own age as `since`. So work that begins again with its
+ * first `since` is condemned only for older work, and less of that is left with each that ends. With BS_YOUNGEST no
+ * deadlock condemns its oldest member. With BS_FEWEST one does if no other member ends it. A `since` above the
+ * transaction's own age counts as that age. With 0 it is older than all that bs_begin began. Refused as bs_begin. */
 static inline bs_reply bs_begin_again(bs_manager *manager, uint64_t since) {
   return manager == NULL ? bs_call_null() : bs_call_begin_again(manager, since);
 }
 
-/* Asks for a mode on a node: to read (BS_IS, BS_S) intentions to read or more are needed on one parent, to
- * write (BS_IX, BS_SIX, BS_X) intentions to write or more on all parents. What is held and what is asked
- * join to what is wanted. It is granted at once where two things hold: it goes with what others hold; and the
- * transaction holds the node already, or nobody waits for it. So a newcomer passes no queue, and one that holds
- * the node waits ahead of all newcomers. BS_DONE: `mode` is the mode now held. BS_WAITING: the transaction
- * waits, and what it held stays held. It does nothing else until a notice tells it the end, or it cancels or
- * aborts. BS_VICTIM: its wait closed a cycle of waits, and it is one to give way. Its wait is over, its
- * locks stay, and all that it can do is abort.
- * Where a cycle was closed others may fall too, also beside BS_VICTIM, and are told BS_TOLD_VICTIM; who
- * stood behind a victim may be told BS_TOLD_GRANTED.
- * Refused with BS_NO_SUCH_TXN, BS_TXN_WAITING, BS_TXN_CONDEMNED, BS_NO_SUCH_NODE, BS_BAD_MODE,
- * BS_NEED_PARENTS, and with BS_BAD_NUMBER, first of all, where the mode is no number of enum bs_modes. Takes
- * memory, but for a node that the transaction holds already, granted at once. Costs one look-up of the node
- * and one for each parent; where it waits with detection at block a search along the waits too. */
+/* Requests a mode on a node. To read (BS_IS, BS_S) the transaction must hold intentions to read, or more, on one
+ * parent; to write (BS_IX, BS_SIX, BS_X) intentions to write, or more, on all parents. The wanted mode is the least
+ * that covers the held and the requested mode. It is granted at once if two things hold: it is compatible with what
+ * others hold; and the transaction already holds the node, or nobody waits for it. So a newcomer passes no queue, and a
+ * transaction that holds the node waits ahead of all newcomers.
+ * BS_DONE: `mode` is the mode now held. BS_WAITING: the transaction waits, and still holds what it held. It does
+ * nothing else until a notice tells it the end of the wait, or it cancels or aborts. BS_VICTIM: its wait closed a cycle
+ * of waits, and it was chosen as a victim. Its wait is over, its locks stay, and it can only abort.
+ * If the wait closed a cycle, others may be condemned too, also beside BS_VICTIM, and are told BS_TOLD_VICTIM. Those
+ * queued behind a victim may be told BS_TOLD_GRANTED.
+ * Refused with BS_NO_SUCH_TXN, BS_TXN_WAITING, BS_TXN_CONDEMNED, BS_NO_SUCH_NODE, BS_BAD_MODE, BS_NEED_PARENTS, and
+ * with BS_BAD_NUMBER, first of all, if the mode is not a value of enum bs_modes. Takes memory, unless the transaction
+ * already holds the node and is granted at once. Costs one look-up of the node and one for each parent; a wait with
+ * detection at block costs a search along the waits too. */
 static inline bs_reply bs_lock(bs_manager *manager, bs_txn txn, bs_node node, bs_mode mode, bs_notices *told) {
   return bs_call_lacks(manager, told) ? bs_call_null() : bs_call_lock(manager, txn, node, mode, told);
 }
 
-/* Locks a node with what has to be held above it. That is intentions, root first: to write on all parents, to read
- * on the first, where none is held already. Then it locks the node in its mode. Each is a lock as bs_lock asks for it,
- * and a command. What is held already is not asked for. It ends at the first lock that waits or whose asker falls; what
- * was locked before that stays locked. BS_DONE: `mode` is the mode in which the node is held. BS_WAITING and BS_VICTIM:
- * `node` is the one for which it waits or fell, which is the node itself or one above it. Once that is granted the
- * call is made again. BS_ON_THE_WAY: `node`, one above, was granted by the fall of others. Make the call again, when
- * all in `told` have heard. Refused as bs_lock, but never with BS_NEED_PARENTS. Nothing was locked then, except where
- * BS_NO_MEMORY or BS_WORN_OUT comes behind some of the locks: these stay. Costs its locks, and a look at each node
- * above for each of them. */
+/* Locks a node after what must be held above it. That is intentions, root first: to write on all parents, to read on
+ * the first, if none is held already. Then it locks the node in its mode. Each is a lock as by bs_lock, and a command.
+ * What is held already is not requested. The call ends at the first lock that waits or makes the transaction a victim;
+ * what was locked before stays locked.
+ * BS_DONE: `mode` is the mode in which the node is held. BS_WAITING and BS_VICTIM: `node` is the one for which the
+ * transaction waits or was condemned: the node itself or one above it. After that lock is granted, make the call again.
+ * BS_ON_THE_WAY: `node`, one above, was granted because others were condemned. Make the call again after all in `told`
+ * were notified.
+ * Refused as bs_lock, but never with BS_NEED_PARENTS. Nothing was locked then, unless BS_NO_MEMORY or BS_WORN_OUT comes
+ * after some of the locks: these stay. Costs its locks, and for each of them a look at each node above. */
 static inline bs_reply bs_lock_path(bs_manager *manager, bs_txn txn, bs_node node, bs_mode mode, bs_notices *told) {
   return bs_call_lacks(manager, told) ? bs_call_null() : bs_call_lock_path(manager, txn, node, mode, told);
 }
 
-/* As bs_lock, but where the lock cannot be granted at once it is refused with BS_WOULD_BLOCK, after the
- * other refusals. It never waits and tells nobody. */
+/* As bs_lock, but a lock that cannot be granted at once is refused with BS_WOULD_BLOCK, after the other refusals. It
+ * never waits and notifies nobody. */
 static inline bs_reply bs_try(bs_manager *manager, bs_txn txn, bs_node node, bs_mode mode) {
   return manager == NULL ? bs_call_null() : bs_call_try(manager, txn, node, mode);
 }
 
-/* Releases one node of which the transaction holds no child, also none that it may read by another parent.
- * Refused with BS_NO_SUCH_TXN, BS_TXN_WAITING, BS_TXN_CONDEMNED, BS_NO_SUCH_NODE, BS_NOT_HELD,
- * BS_HELD_CHILD. Costs a look-up, and a step for each waiter that is granted. */
+/* Releases a node if the transaction holds no child of it, not even one that it may read by another parent. Refused
+ * with BS_NO_SUCH_TXN, BS_TXN_WAITING, BS_TXN_CONDEMNED, BS_NO_SUCH_NODE, BS_NOT_HELD, BS_HELD_CHILD. Costs a look-up,
+ * and a step for each waiter that is granted. */
 static inline bs_reply bs_unlock(bs_manager *manager, bs_txn txn, bs_node node, bs_notices *told) {
   return bs_call_lacks(manager, told) ? bs_call_null() : bs_call_unlock(manager, txn, node, told);
 }
 
-/* A savepoint of a transaction, in `count`, for bs_release_since: how many nodes it holds or waits for. Nothing is kept
- * for it. It is good until the transaction gives a lock back that it had by then: by bs_unlock, bs_unlock_row,
- * bs_escalate, bs_delete or bs_drop, or as another takes the node away. One that is made during a wait counts that
- * wait, and a cancel of it gives it back. Refused with BS_NO_SUCH_TXN. */
+/* Answers a savepoint of a transaction, in `count`, for bs_release_since: how many nodes it holds or waits for. Nothing
+ * is stored for it. It is valid until the transaction releases a lock that it had by then: by bs_unlock, bs_unlock_row,
+ * bs_escalate, bs_delete or bs_drop, or because another transaction removes the node. A savepoint made during a wait
+ * counts that wait, and a cancel of that wait is such a release. Refused with BS_NO_SUCH_TXN. */
 static inline bs_reply bs_mark(const bs_manager *manager, bs_txn txn) {
   return bs_call_can_ask(manager) ? bs_call_lock_count(manager, txn) : bs_call_unasked(manager);
 }
 
-/* Goes back to a savepoint: releases what the transaction has locked since, children before their parents; how many
- * nodes that were is in `count`. What it had by then it has still, in that mode, or in the greater one to which it was
- * raised since: no command lowers a mode, and what was held before is not known any more. For the same reason a node
- * stays of which it holds a child still: that was held before by another parent, or was raised since, which took
- * intentions on all its parents. Rows that nobody holds any more are let go. Behind a savepoint that is not good any
- * more fewer nodes go, and never one of before.
- * It is one command for each node. Refused, before anything is released, with BS_NO_SUCH_TXN, BS_TXN_WAITING,
- * BS_TXN_CONDEMNED, and with BS_WORN_OUT where not each lock since can be counted. Takes no memory. Costs a step for
- * each lock since, for each waiter that is granted, and for each row that the transaction has asked for. */
+/* Rolls back to a savepoint: releases what the transaction has locked since, children before their parents; `count` is
+ * how many nodes those were. The transaction still holds what it had by then, in that mode or in the greater one to
+ * which it was raised since: no command lowers a mode, and the earlier mode is no longer known. For the same reason a
+ * node stays if the transaction still holds a child of it: the child was held before by another parent, or was raised
+ * since, which took intentions on all its parents. Rows that nobody holds any more are let go. With a savepoint that is
+ * no longer valid it releases fewer nodes, and never one from before it.
+ * Each node is one command. Refused, before anything is released, with BS_NO_SUCH_TXN, BS_TXN_WAITING,
+ * BS_TXN_CONDEMNED, and with BS_WORN_OUT if not each lock since can be counted. Takes no memory. Costs a step for each
+ * lock since, for each waiter that is granted, and for each row that the transaction has requested. */
 static inline bs_reply bs_release_since(bs_manager *manager, bs_txn txn, uint64_t savepoint, bs_notices *told) {
   if (bs_call_lacks(manager, told)) return bs_call_null();
   return bs_call_release_since(manager, txn, (size_t)savepoint, told);
 }
 
-/* Takes the wait of a transaction back. A row that it waited for is let go. The transaction itself is told nothing:
- * where another thread sleeps for it, tell that one. Refused with BS_NO_SUCH_TXN, BS_TXN_CONDEMNED, BS_NOT_WAITING. */
+/* Cancels the wait of a transaction. A row that it waited for is let go. The transaction itself gets no notice: if
+ * another thread sleeps for it, notify that thread. Refused with BS_NO_SUCH_TXN, BS_TXN_CONDEMNED, BS_NOT_WAITING. */
 static inline bs_reply bs_cancel(bs_manager *manager, bs_txn txn, bs_notices *told) {
   return bs_call_lacks(manager, told) ? bs_call_null() : bs_call_cancel_rows(manager, txn, told);
 }
 
-/* Ends a transaction and releases everything, its rows among it. Refused with BS_NO_SUCH_TXN, BS_TXN_WAITING,
+/* Ends a transaction and releases everything, its rows included. Refused with BS_NO_SUCH_TXN, BS_TXN_WAITING,
  * BS_TXN_CONDEMNED. Costs a step for each lock and each waiter that is granted. */
 static inline bs_reply bs_commit(bs_manager *manager, bs_txn txn, bs_notices *told) {
   return bs_call_lacks(manager, told) ? bs_call_null() : bs_call_commit_rows(manager, txn, told);
 }
 
-/* Ends a transaction whatever it is doing, and releases everything, its rows among it. It undoes nothing: a record that
- * was inserted stays, and one that was deleted or moved stays so. The transaction itself is told nothing: where
- * another thread sleeps for it, tell that one. Refused with BS_NO_SUCH_TXN. */
+/* Ends a transaction whatever it is doing, and releases everything, its rows included. It undoes nothing: an inserted
+ * record stays, and a deleted or moved one stays so. The transaction itself gets no notice: if another thread sleeps
+ * for it, notify that thread. Refused with BS_NO_SUCH_TXN. */
 static inline bs_reply bs_abort(bs_manager *manager, bs_txn txn, bs_notices *told) {
   return bs_call_lacks(manager, told) ? bs_call_null() : bs_call_abort_rows(manager, txn, told);
 }
 
-/* Condemns who is to fall for the transaction, by the choice of victims, until it is on no cycle of waits.
- * Whoever is condemned is told BS_TOLD_VICTIM: its wait is over, and its locks stay until it aborts. Who
- * stood behind it may be told BS_TOLD_GRANTED. It is how a watcher ends deadlocks. Refused with
- * BS_NO_SUCH_TXN. */
+/* Condemns victims, by the choice of victims, until the transaction is on no cycle of waits. Each victim is told
+ * BS_TOLD_VICTIM: its wait is over, and its locks stay until it aborts. Those queued behind it may be told
+ * BS_TOLD_GRANTED. A watcher ends deadlocks by this call. Refused with BS_NO_SUCH_TXN. */
 static inline bs_reply bs_settle(bs_manager *manager, bs_txn txn, bs_notices *told) {
   return bs_call_lacks(manager, told) ? bs_call_null() : bs_call_settle(manager, txn, told);
 }
 
-/* Raises the lock of a node. Where the transaction holds a child to write (BS_IX, BS_SIX, BS_X) the lock is joined with
- * BS_X, else with BS_S, so that BS_IX becomes BS_SIX. Then it releases the children whose locks that implies and of
- * which it holds no children; rows that it released are let go. `mode` is what is now held, `released` and `kept` how
- * many held children went and stayed. Whoever has locks further down escalates there first. It never waits, and passes
- * whoever does. Refused with BS_NO_SUCH_TXN, BS_TXN_WAITING, BS_TXN_CONDEMNED, BS_NO_SUCH_NODE, BS_BAD_PARENTS (a
- * record), BS_NOT_HELD, BS_WOULD_BLOCK. Costs a step for each lock of the transaction. */
+/* Raises the lock of a node. If the transaction holds a child to write (BS_IX, BS_SIX, BS_X), the lock is joined with
+ * BS_X, otherwise with BS_S, so that BS_IX becomes BS_SIX. Then it releases each child whose lock that implies, unless
+ * the transaction holds children of it; released rows are let go. `mode` is the mode now held, `released` and `kept`
+ * are how many held children were released and kept. A transaction with locks further down escalates there first. The
+ * call never waits, and passes all waiters. Refused with BS_NO_SUCH_TXN, BS_TXN_WAITING, BS_TXN_CONDEMNED,
+ * BS_NO_SUCH_NODE, BS_BAD_PARENTS (a record), BS_NOT_HELD, BS_WOULD_BLOCK. Costs a step for each lock of the
+ * transaction. */
 static inline bs_reply bs_escalate(bs_manager *manager, bs_txn txn, bs_node node, bs_notices *told) {
   return bs_call_lacks(manager, told) ? bs_call_null() : bs_call_escalate_rows(manager, txn, node, told);
 }
 
 /* ------------------------------------------------------------------------------------------------
- * Records, and nodes that move. Nodes that move tell waiters whose wait is over. An insert, delete, adopt, forget or
+ * Records, and nodes that move. A move notifies the waiters whose wait is over. An insert, delete, adopt, forget or
  * rekey of a record of a file of rows is refused with BS_ROWS_BY_NUMBER.
  */
 
-/* A new record of a file, in `node`, with a key for each of the file's indexes, in order of their making. It
- * lies under the file and, for each index, the interval of its key, and is held in X. Refused with
- * BS_NO_SUCH_TXN, BS_TXN_WAITING, BS_TXN_CONDEMNED, BS_NO_SUCH_NODE, BS_BAD_PARENTS (no file), BS_BAD_KEYS,
+/* Inserts a record into a file, in `node`, with a key for each of the file's indexes, in the order in which they were
+ * made. Its parents are the file and, for each index, the interval of its key; it is held in X. Refused with
+ * BS_NO_SUCH_TXN, BS_TXN_WAITING, BS_TXN_CONDEMNED, BS_NO_SUCH_NODE, BS_BAD_PARENTS (not a file), BS_BAD_KEYS,
  * BS_NEED_PARENTS (a parent not itself held in IX or more), BS_TOO_MANY_NODES. Takes memory. */
 static inline bs_reply bs_insert(bs_manager *manager, bs_txn txn, bs_node file, const uint64_t *keys, size_t count) {
   if (manager == NULL || (keys == NULL && count != 0)) return bs_call_null();
   return bs_call_insert(manager, txn, file, bs_call_numbers(keys), count);
 }
 
-/* Takes a record away that the transaction holds in X by a lock on the record itself, as an insert leaves
- * one; X above it is not enough. Who waits for it is told BS_TOLD_GONE. Refused with BS_NO_SUCH_TXN,
- * BS_TXN_WAITING, BS_TXN_CONDEMNED, BS_NO_SUCH_NODE, BS_BAD_PARENTS (no record), BS_NEED_EXCLUSIVE. */
+/* Deletes a record that the transaction holds in X by a lock on the record itself, as an insert leaves one; X above it
+ * is not enough. Its waiters are told BS_TOLD_GONE. Refused with BS_NO_SUCH_TXN, BS_TXN_WAITING, BS_TXN_CONDEMNED,
+ * BS_NO_SUCH_NODE, BS_BAD_PARENTS (not a record), BS_NEED_EXCLUSIVE. */
 static inline bs_reply bs_delete(bs_manager *manager, bs_txn txn, bs_node record, bs_notices *told) {
   return bs_call_lacks(manager, told) ? bs_call_null() : bs_call_delete(manager, txn, record, told);
 }
 
-/* A new record of a file, in `node`, as bs_insert makes one, but for no transaction: nobody holds it, and no locks are
- * asked for. It is for an engine that itself gives its rows nodes while they are locked. From then on no index of the
- * file is made but by bs_index_by. Refused with BS_NO_SUCH_NODE, BS_BAD_PARENTS (no file), BS_BAD_KEYS,
- * BS_TOO_MANY_NODES. Takes memory. */
+/* Makes a record of a file, in `node`, as bs_insert does, but for no transaction: nobody holds it, and no locks are
+ * needed. It is for an engine that itself gives its rows nodes while they are locked. After it, only bs_index_by makes
+ * an index of the file. Refused with BS_NO_SUCH_NODE, BS_BAD_PARENTS (not a file), BS_BAD_KEYS, BS_TOO_MANY_NODES.
+ * Takes memory. */
 static inline bs_reply bs_adopt(bs_manager *manager, bs_node file, const uint64_t *keys, size_t count) {
   if (manager == NULL || (keys == NULL && count != 0)) return bs_call_null();
   return bs_call_adopt(manager, file, bs_call_numbers(keys), count);
 }
 
-/* Takes a record away that nobody holds and nobody waits for. Refused with BS_NO_SUCH_NODE, BS_BAD_PARENTS (no
- * record), BS_RECORD_IN_USE. */
+/* Removes a record that nobody holds and nobody waits for. Refused with BS_NO_SUCH_NODE, BS_BAD_PARENTS (not a record),
+ * BS_RECORD_IN_USE. */
 static inline bs_reply bs_forget(bs_manager *manager, bs_node record) {
   return manager == NULL ? bs_call_null() : bs_call_forget(manager, record);
 }
 
-/* Gives a record another key for one index, and so another interval. Its parents are the file and an interval of
- * each of the file's indexes. Lawful with X on the record and IX or more on the new parents, or with X on all old
- * and new parents; each by a lock on that node itself. Refused with BS_NO_SUCH_TXN, BS_TXN_WAITING,
- * BS_TXN_CONDEMNED, BS_NO_SUCH_NODE, BS_BAD_PARENTS (no record, or no index of its file), BS_NEED_EXCLUSIVE,
- * BS_NEED_PARENTS. */
+/* Gives a record another key for one index, and so another interval. Its parents are the file and an interval of each
+ * of the file's indexes. The transaction needs X on the record and IX or more on the new parents, or X on all old and
+ * new parents; each by a lock on that node itself. Refused with BS_NO_SUCH_TXN, BS_TXN_WAITING, BS_TXN_CONDEMNED,
+ * BS_NO_SUCH_NODE, BS_BAD_PARENTS (not a record, or not an index of its file), BS_NEED_EXCLUSIVE, BS_NEED_PARENTS. */
 static inline bs_reply bs_rekey(bs_manager *manager, bs_txn txn, bs_node record, bs_node index, uint64_t key,
                                 bs_notices *told) {
   return bs_call_lacks(manager, told) ? bs_call_null() : bs_call_rekey(manager, txn, record, index, key, told);
 }
 
-/* Gives an inner node, a file or an index other parents. Lawful with X on the node and IX or more on the new
- * parents, or, where there are both, with X on all old and new parents; each by a lock on that node itself.
- * Refused with BS_NO_SUCH_TXN, BS_TXN_WAITING, BS_TXN_CONDEMNED, BS_NO_SUCH_NODE, BS_BAD_PARENTS,
- * BS_NEED_EXCLUSIVE, BS_NEED_PARENTS, BS_CYCLE; with BS_BAD_NUMBER, first of all, where there are more than
- * 8 parents. Takes memory, and BS_NO_MEMORY may come in place of BS_CYCLE. Costs a search up from the
- * parents. */
+/* Gives an inner node, a file or an index other parents. The transaction needs X on the node and IX or more on the new
+ * parents, or, if there are both, X on all old and new parents; each by a lock on that node itself. Refused with
+ * BS_NO_SUCH_TXN, BS_TXN_WAITING, BS_TXN_CONDEMNED, BS_NO_SUCH_NODE, BS_BAD_PARENTS, BS_NEED_EXCLUSIVE,
+ * BS_NEED_PARENTS, BS_CYCLE; with BS_BAD_NUMBER, first of all, if there are more than 8 parents. Takes memory, and
+ * BS_NO_MEMORY may come in place of BS_CYCLE. Costs a search up from the parents. */
 static inline bs_reply bs_move(bs_manager *manager, bs_txn txn, bs_node node, const bs_node *parents, size_t count,
                                bs_notices *told) {
   if (bs_call_lacks(manager, told) || (parents == NULL && count != 0)) return bs_call_null();
@@ -515,28 +514,28 @@ static inline bs_reply bs_move(bs_manager *manager, bs_txn txn, bs_node node, co
 }
 
 /* ------------------------------------------------------------------------------------------------
- * What a schema changes. Both are for files of either kind. An abort undoes neither. The name of a node that is gone is
- * never another's: whoever has kept it is refused with BS_NO_SUCH_NODE.
+ * Schema changes. Both are for files of either kind. An abort undoes neither. The name of a removed node is never
+ * another's: a call with it is refused with BS_NO_SUCH_NODE.
  */
 
-/* Takes away an inner node that has no children, a file that has no records and no indexes, or an index with its
- * intervals, of whose file no record stands. The transaction holds BS_X on the node, and for an index on its file too;
- * each by a lock on that node itself. All locks on the node and on its intervals go, its own among them. Who waits for
- * it is told BS_TOLD_GONE. Behind an index that goes, the later ones of its file have their places and their keys one
- * lower. Refused with BS_NO_SUCH_TXN, BS_TXN_WAITING, BS_TXN_CONDEMNED, BS_NO_SUCH_NODE, BS_BAD_PARENTS (an interval or
- * a record), BS_NEED_EXCLUSIVE, and then with BS_HAS_CHILDREN (an inner node) or BS_FILE_IN_USE (a file or an index).
- * Costs a look-up or two for the node and for each of its intervals. */
+/* Drops an inner node that has no children, a file that has no records and no indexes, or an index, with its intervals,
+ * whose file has no record now. The transaction must hold BS_X on the node, and for an index on its file too; each by a
+ * lock on that node itself. All locks on the node and on its intervals end, the transaction's own among them. Its
+ * waiters are told BS_TOLD_GONE. After an index is dropped, the later indexes of its file have their places and their
+ * keys one lower. Refused with BS_NO_SUCH_TXN, BS_TXN_WAITING, BS_TXN_CONDEMNED, BS_NO_SUCH_NODE, BS_BAD_PARENTS (an
+ * interval or a record), BS_NEED_EXCLUSIVE, and then with BS_HAS_CHILDREN (an inner node) or BS_FILE_IN_USE (a file or
+ * an index). Costs a look-up or two for the node and for each of its intervals. */
 static inline bs_reply bs_drop(bs_manager *manager, bs_txn txn, bs_node node, bs_notices *told) {
   return bs_call_lacks(manager, told) ? bs_call_null() : bs_call_drop(manager, txn, node, told);
 }
 
-/* A new index of a file of which no record stands now, in `node`, with parents and bounds as bs_add_index takes them.
- * It is the last of the file's indexes. The transaction holds BS_X on the file and BS_IX or more on each parent, each
- * by a lock on that node itself, and holds the index in BS_X from then on: so nobody comes by the new index until it
- * ends. Tells nobody. Refused with BS_NO_SUCH_TXN, BS_TXN_WAITING, BS_TXN_CONDEMNED, BS_NO_SUCH_NODE, BS_BAD_PARENTS
- * (also where the file has 7 indexes), BS_NEED_EXCLUSIVE, BS_NEED_PARENTS, BS_FILE_IN_USE, BS_BAD_KEYS,
- * BS_TOO_MANY_NODES (its intervals count); with BS_BAD_NUMBER, first of all, where there are more than 8 parents. Takes
- * memory. Costs a step for each bound. */
+/* Makes an index, in `node`, of a file that has no record now, with parents and bounds as bs_add_index takes them. It
+ * is the last of the file's indexes. The transaction must hold BS_X on the file and BS_IX or more on each parent, each
+ * by a lock on that node itself. It holds the index in BS_X from then on, so nobody locks by the new index until it
+ * ends. Notifies nobody. Refused with BS_NO_SUCH_TXN, BS_TXN_WAITING, BS_TXN_CONDEMNED, BS_NO_SUCH_NODE, BS_BAD_PARENTS
+ * (also if the file has 7 indexes), BS_NEED_EXCLUSIVE, BS_NEED_PARENTS, BS_FILE_IN_USE, BS_BAD_KEYS, BS_TOO_MANY_NODES
+ * (its intervals count); with BS_BAD_NUMBER, first of all, if there are more than 8 parents. Takes memory. Costs a step
+ * for each bound. */
 static inline bs_reply bs_index_by(bs_manager *manager, bs_txn txn, const bs_node *parents, size_t count, bs_node file,
                                    const uint64_t *bounds, size_t bound_count) {
   if (manager == NULL || (parents == NULL && count != 0) || (bounds == NULL && bound_count != 0)) return bs_call_null();
@@ -544,40 +543,40 @@ static inline bs_reply bs_index_by(bs_manager *manager, bs_txn txn, const bs_nod
 }
 
 /* ------------------------------------------------------------------------------------------------
- * Rows by the engine's own numbers. A row is a file of bs_add_row_file and a number, any number at all. Of another
- * file, or of a node that is none, calls about a row are refused with BS_NOT_ROWS.
+ * Rows by the engine's own numbers. A row is a file of bs_add_row_file and a number, any number at all. For a file of
+ * records, or a name that names no file, calls about a row are refused with BS_NOT_ROWS.
  *
  * A row has a node while some transaction holds it or waits for it. bs_lock_row makes the node. bs_unlock_row,
- * bs_rekey_row, bs_commit, bs_abort, bs_cancel and bs_escalate let a row go: after the last transaction that holds it
- * or waits for it they take its node away, if that transaction has asked for the row by bs_lock_row. No row has two
- * nodes, and no two rows have one. By its node a row is locked and asked after as any record is.
+ * bs_rekey_row, bs_commit, bs_abort, bs_cancel and bs_escalate let a row go. That means: after the last transaction
+ * that holds it or waits for it they remove its node, if that transaction has requested the row by bs_lock_row. No row
+ * has two nodes, and no two rows share one. A row can be locked by its node, and asked about by it, like any record.
  *
  * The keys are the row's own, one for each index of its file in the order of making. Only the engine knows them. It
- * reads them before it locks the row, and looks at them again behind each grant. Where they are others by then it gives
- * the row back by bs_unlock_row, and begins anew: with the keys of now, and with what has to be held above them.
+ * reads them before it locks the row, and reads them again after each grant. If they have changed by then, it releases
+ * the row by bs_unlock_row and begins anew, with the present keys and with what must be held above them.
  *
- * A row that is to be inserted is locked in BS_X by its number, with the keys that it will have. One that is to be
- * deleted is locked in BS_X too, and keeps its lock, its node and its number until its transaction ends: nobody else
- * gets the row, or its number, before the commit.
+ * To insert a row, lock it in BS_X by its number, with the keys that it will have. To delete a row, lock it in BS_X
+ * too. It keeps its lock, its node and its number until its transaction ends: nobody else gets the row, or its number,
+ * before the commit.
  *
- * bs_unlock, of the row's node, lets no row go: that stands on then, and goes when the row is next let go. Each call is
- * one command, and each node that comes or goes by it is one more. What ends a transaction, and an escalation and a
- * cancel, goes over all rows that the transaction asked for: a look-up for each, and a step for each node that goes.
+ * bs_unlock, of the row's node, lets no row go: the node stays, and is removed when the row is next let go. Each call
+ * is one command, and each node that it makes or removes is one more. A commit, an abort, an escalation and a cancel
+ * look at all rows that the transaction requested: a look-up for each, and a step for each node that is removed.
  */
 
-/* Locks a row by its node, as bs_lock locks a node. A row without a node gets one with these keys; so does one whose
- * node has other keys, where nobody holds that or waits for it. Any other row is locked by the node that it has,
- * whatever keys are said. What has to be held above that node is the caller's to lock: a parent that is wanting is
- * named by BS_NEED_PARENTS in `node`.
- * Where the lock is not refused `node` is the row's node. BS_DONE: the row is held in `mode`, and the keys that were
- * said are the node's own. BS_OTHER_KEYS: the row is held in `mode` as well, but the node's keys are others.
- * BS_WAITING: the transaction waits, as of bs_lock. Behind the grant the same call is made again: it waits for nothing
- * then, and says whether the keys are the node's own. BS_VICTIM: as of bs_lock.
+/* Locks a row by its node, as bs_lock locks a node. A row without a node gets one with these keys; so does a row whose
+ * node has other keys, if nobody holds that node or waits for it. Any other row is locked by the node that it has,
+ * whatever keys are named. The caller must lock what has to be held above that node: BS_NEED_PARENTS names a missing
+ * parent in `node`.
+ * If the lock is not refused, `node` is the row's node. BS_DONE: the row is held in `mode`, and the named keys are the
+ * node's own. BS_OTHER_KEYS: the row is held in `mode` as well, but the node's keys are others. BS_WAITING: the
+ * transaction waits, as of bs_lock. After the grant make the same call again: it does not wait then, and says whether
+ * the keys are the node's own. BS_VICTIM: as of bs_lock.
  * A row that keeps its node is refused as the lock of that node. One that gets a node is refused with BS_WORN_OUT,
  * BS_NO_SUCH_TXN, BS_TXN_WAITING, BS_TXN_CONDEMNED, BS_BAD_KEYS, BS_TOO_MANY_NODES, BS_BAD_MODE, BS_NEED_PARENTS.
- * BS_WORN_OUT comes where fewer than two commands can be counted any more, or three where another node goes for it.
- * BS_TOO_MANY_NODES comes also where another node would go for it. Refused with BS_BAD_NUMBER, first of all, where the
- * mode is no number of enum bs_modes. BS_NO_MEMORY may come before all refusals but BS_BAD_NUMBER and BS_NO_MANAGER.
+ * BS_WORN_OUT: fewer than two commands can still be counted, or fewer than three if another node is removed for it.
+ * BS_TOO_MANY_NODES: also if another node would be removed for it. Refused with BS_BAD_NUMBER, first of all, if the
+ * mode is not a value of enum bs_modes. BS_NO_MEMORY may come before all refusals but BS_BAD_NUMBER and BS_NO_MANAGER.
  * Takes memory. */
 static inline bs_reply bs_lock_row(bs_manager *manager, bs_txn txn, bs_node file, uint64_t number, const uint64_t *keys,
                                    size_t count, bs_mode mode, bs_notices *told) {
@@ -585,111 +584,109 @@ static inline bs_reply bs_lock_row(bs_manager *manager, bs_txn txn, bs_node file
   return bs_call_lock_row(manager, txn, file, number, bs_call_numbers(keys), count, mode, told);
 }
 
-/* Releases a row, as bs_unlock releases its node, which goes where nobody else holds it or waits for it. A row without
- * a node is refused as a node that is gone, here and in the call below. */
+/* Releases a row, as bs_unlock releases its node. The node is removed if nobody else holds it or waits for it. A row
+ * without a node is refused as a node that is gone, here and in the call below. */
 static inline bs_reply bs_unlock_row(bs_manager *manager, bs_txn txn, bs_node file, uint64_t number, bs_notices *told) {
   if (bs_call_lacks(manager, told)) return bs_call_null();
   return bs_call_unlock_row(manager, txn, file, number, told);
 }
 
-/* Gives a row another key for one index, as bs_rekey does its node. */
+/* Gives a row another key for one index, as bs_rekey does for its node. */
 static inline bs_reply bs_rekey_row(bs_manager *manager, bs_txn txn, bs_node file, uint64_t number, bs_node index,
                                     uint64_t key, bs_notices *told) {
   if (bs_call_lacks(manager, told)) return bs_call_null();
   return bs_call_rekey_row(manager, txn, file, number, index, key, told);
 }
 
-/* The node of a row, in `node`, for questions and for bs_verdict. Refused with BS_NO_SUCH_NODE where it has none, also
- * where its file is none of rows. It changes nothing and takes no memory. */
+/* The node of a row, in `node`, for questions and for bs_verdict. Refused with BS_NO_SUCH_NODE if the row has none,
+ * also if its file is not a file of rows. Changes nothing and takes no memory. */
 static inline bs_reply bs_row_node(const bs_manager *manager, bs_node file, uint64_t number) {
   return bs_call_can_ask(manager) ? bs_call_row_node(manager, file, number) : bs_call_unasked(manager);
 }
 
 /* ------------------------------------------------------------------------------------------------
- * Waits: what whoever lets threads sleep asks. Each slot has a box, in which its last notice lies; a lock that
- * was not refused empties the box of its own slot.
+ * Waits: questions for a caller that lets threads sleep. Each slot has a box with its last notice; a lock that was not
+ * refused empties the box of its own slot.
  */
 
-/* What became of a lock that was left waiting for this node. BS_WAITING: the wait goes on. BS_DONE: it was
- * granted; `mode` is the mode now held, which covers the asked one. BS_VICTIM, BS_MOVED, BS_GONE: it was not,
- * and the wait is over. Refused with BS_NO_SUCH_TXN, and with BS_NOT_WAITING where it does not wait for the
- * node and no notice tells why, as after a cancel. Refused with BS_BAD_NUMBER, first of all, where the mode is no
- * number of enum bs_modes. */
+/* What became of a lock that was left waiting for this node. BS_WAITING: the wait continues. BS_DONE: the lock was
+ * granted; `mode` is the mode now held, which covers the requested one. BS_VICTIM, BS_MOVED, BS_GONE: it was not
+ * granted, and the wait is over. Refused with BS_NO_SUCH_TXN, and with BS_NOT_WAITING if the transaction does not wait
+ * for the node and no notice tells why, as after a cancel. Refused with BS_BAD_NUMBER, first of all, if the mode is not
+ * a value of enum bs_modes. */
 static inline bs_reply bs_verdict(const bs_manager *manager, bs_txn txn, bs_node node, bs_mode mode) {
   if (manager != NULL && mode > BS_X) return bs_call_only(BS_BAD_NUMBER);
   return bs_call_can_ask(manager) ? bs_call_verdict(manager, txn, node, mode) : bs_call_unasked(manager);
 }
 
-/* The slots whose wait the last command that was accepted may have ended: whose sleepers are to be woken. Those
- * are the slots that it told, and that which a cancel or an abort names; no other transaction's wait was ended
- * by it. A bs_release_since that releases nothing leaves none. A refused command and a question leave them as they
- * are. */
+/* The slots whose wait the last accepted command may have ended: wake their sleepers. These are the slots that it told,
+ * and the slot that a cancel or an abort names; it ended no other transaction's wait. After a bs_release_since that
+ * releases nothing there are none. A refused command and a question leave the slots as they are. */
 static inline bs_found bs_ended(const bs_manager *manager) {
   return bs_call_can_ask(manager) ? bs_call_ended(manager) : bs_call_none_found(bs_call_unasked(manager).status);
 }
 
 /* ------------------------------------------------------------------------------------------------
- * Watchers: who waits for whom, without the mutex of the manager. A manager that has watchers shows them its
- * board behind each accepted command by which a wait may have come, gone or changed, and behind the first one since
- * a watcher was made. None is needed, where nobody waits, behind a command that leaves nobody waiting. Else none is
- * needed behind a command that tells nobody and makes a node or a transaction, or is one of a transaction that neither
- * waits nor holds a node for which somebody waits: a lock, path or row that is granted at once, an unlock, a commit or
- * an abort. Then the last board shows every wait that stands, with the ages of those who wait and of those for whom
- * they wait; its epoch and all other ages are of its own moment. To show a board takes memory, some three kilobytes,
- * with 1,024 slots 136; where that is refused the command is done all the same, the last board may lack what it
- * changed, and the next command shows the board.
+ * Watchers: who waits for whom, without the mutex of the manager. A manager with watchers shows them its board after
+ * each accepted command that may have begun, ended or changed a wait, and after the first one since a watcher was made.
+ * If nobody waits, no board is needed after a command that leaves nobody waiting. Otherwise none is needed after a
+ * command that tells nobody, if it makes a node or a transaction, or is one of a transaction that neither waits nor
+ * holds a node for which somebody waits: a lock, path or row that is granted at once, an unlock, a commit or an abort.
+ * Then the last board shows every present wait, with the ages of the waiters and of those for whom they wait; its epoch
+ * and all other ages are of its own moment. Showing a board takes memory, some three kilobytes, with 1,024 slots 136.
+ * If that is refused, the command is done all the same, the last board may lack what it changed, and the next command
+ * shows the board.
  */
 
-/* Makes a watcher of a manager at a place that has none, which knows the board of this moment. Refused with
- * BS_OTHER_VERSION, BS_OTHER_SLOTS, BS_IN_USE, BS_TOO_MANY_WATCHERS, BS_NO_MEMORY; for want of memory the other
- * watchers may be shown the board of this moment all the same. Takes memory. Costs what bs_read_board does. */
+/* Makes a watcher of a manager at a place that has none; it starts with the board of this moment. Refused with
+ * BS_OTHER_VERSION, BS_OTHER_SLOTS, BS_IN_USE, BS_TOO_MANY_WATCHERS, BS_NO_MEMORY; after a refusal for lack of memory
+ * the other watchers may still be shown the board of this moment. Takes memory. Costs what bs_read_board does. */
 static inline bs_reply bs_watch(bs_manager *manager, bs_watcher *watcher) {
   bs_status misfit = bs_call_misfit();
   if (manager == NULL || watcher == NULL) return bs_call_null();
   return misfit == BS_DONE ? bs_call_watch(manager, watcher) : bs_call_only(misfit);
 }
 
-/* The last board that was shown, written into `board`: whole, and never older than what this watcher was given
- * before. With detection at block it has no suspect. It needs no mutex, never waits, and takes no memory. Of a
- * manager that was ended it is the last that it showed. Refused with BS_OTHER_VERSION, BS_OTHER_SLOTS, BS_NO_WATCHER;
- * nothing is written then. */
+/* Writes the last board that was shown into `board`: whole, and never older than one that this watcher was given
+ * before. With detection at block it has no suspect. Needs no mutex, never waits, and takes no memory. After the
+ * manager was ended it is the last board that the manager showed. Refused with BS_OTHER_VERSION, BS_OTHER_SLOTS,
+ * BS_NO_WATCHER; nothing is written then. */
 static inline bs_reply bs_look(bs_watcher *watcher, bs_board *board) {
   bs_status misfit = bs_call_misfit();
   if (watcher == NULL || board == NULL) return bs_call_null();
   return misfit == BS_DONE ? bs_call_look(watcher, board) : bs_call_only(misfit);
 }
 
-/* Ends a watcher, with no mutex. Its place has none then, and may be used for another. Refused with
+/* Ends a watcher, without a mutex. The place then has no watcher, and may be used for another. Refused with
  * BS_NO_WATCHER. */
 static inline bs_reply bs_watch_end(bs_watcher *watcher) {
   return watcher == NULL ? bs_call_null() : bs_call_watch_end(watcher);
 }
 
 /* ------------------------------------------------------------------------------------------------
- * Questions. They change nothing and, but for bs_effective, take no memory. Each costs a look-up or two;
- * what costs more says so.
+ * Questions. They change nothing and, except bs_effective, take no memory. Each costs a look-up or two; a question that
+ * costs more says so.
  */
 
-/* The group mode of a node in `mode`: the least that covers all that is held on it. Refused with
- * BS_NO_SUCH_NODE. */
+/* The group mode of a node, in `mode`: the least that covers all modes held on it. Refused with BS_NO_SUCH_NODE. */
 static inline bs_reply bs_group(const bs_manager *manager, bs_node node) {
   return bs_call_can_ask(manager) ? bs_call_group(manager, node) : bs_call_unasked(manager);
 }
 
-/* The mode in which a transaction holds a node in `mode`, BS_NL for none. Refused with BS_NO_SUCH_TXN,
+/* The mode in which a transaction holds a node, in `mode`; BS_NL if it does not. Refused with BS_NO_SUCH_TXN,
  * BS_NO_SUCH_NODE. */
 static inline bs_reply bs_held(const bs_manager *manager, bs_txn txn, bs_node node) {
   return bs_call_can_ask(manager) ? bs_call_held(manager, txn, node) : bs_call_unasked(manager);
 }
 
-/* What a transaction may do to a node by all its locks together, in `mode`: BS_NL, BS_S or BS_X.
+/* The effective mode of a transaction on a node, in `mode`: what all its locks together permit, BS_NL, BS_S or BS_X.
  * Refused with BS_NO_SUCH_TXN, BS_NO_SUCH_NODE. Takes memory, and looks at each ancestor. */
 static inline bs_reply bs_effective(const bs_manager *manager, bs_txn txn, bs_node node) {
   return bs_call_can_ask(manager) ? bs_call_effective(manager, txn, node) : bs_call_unasked(manager);
 }
 
 /* How many children of a node a transaction holds, in `count`. Refused with BS_NO_SUCH_TXN, BS_NO_SUCH_NODE, and with
- * BS_NOT_HELD where it does not hold the node itself, also where it holds children of it by another parent. */
+ * BS_NOT_HELD if it does not hold the node itself, even if it holds children of it by another parent. */
 static inline bs_reply bs_children(const bs_manager *manager, bs_txn txn, bs_node node) {
   bs_reply reply;
   if (!bs_call_can_ask(manager)) return bs_call_unasked(manager);
@@ -702,47 +699,45 @@ static inline bs_reply bs_kind(const bs_manager *manager, bs_node node) {
   return bs_call_can_ask(manager) ? bs_call_kind(manager, node) : bs_call_unasked(manager);
 }
 
-/* A parent of a node in `node`, by its place from 0 on; of a record first its file and then, for each
- * index, an interval. Refused with BS_NO_SUCH_NODE, and with BS_NO_PLACE where there are fewer. */
+/* A parent of a node, in `node`, by its place from 0 on; the parents of a record are first its file and then, for each
+ * index, an interval. Refused with BS_NO_SUCH_NODE, and with BS_NO_PLACE if there are fewer. */
 static inline bs_reply bs_parent(const bs_manager *manager, bs_node node, size_t place) {
   if (!bs_call_can_ask(manager)) return bs_call_unasked(manager);
   return bs_call_of_kind(manager, bs_call_parent(manager, node, place), node, 0);
 }
 
-/* A key of a record in `count`, by the place of its index. Refused with BS_NO_SUCH_NODE where the name names no record,
- * and with BS_NO_PLACE where there are fewer. */
+/* A key of a record, in `count`, by the place of its index. Refused with BS_NO_SUCH_NODE if the name names no record,
+ * and with BS_NO_PLACE if there are fewer. */
 static inline bs_reply bs_key(const bs_manager *manager, bs_node record, size_t place) {
   if (!bs_call_can_ask(manager)) return bs_call_unasked(manager);
   return bs_call_of_kind(manager, bs_call_key(manager, record, place), record, BS_RECORD);
 }
 
-/* An index of a file in `node`, by its place in the order of making. Refused with BS_NO_SUCH_NODE where
- * the name names no file, and with BS_NO_PLACE where there are fewer. */
+/* An index of a file, in `node`, by its place in the order of making. Refused with BS_NO_SUCH_NODE if the name names no
+ * file, and with BS_NO_PLACE if there are fewer. */
 static inline bs_reply bs_index(const bs_manager *manager, bs_node file, size_t place) {
   return bs_call_can_ask(manager) ? bs_call_index(manager, file, place) : bs_call_unasked(manager);
 }
 
-/* An interval of an index in `node`, by its place. Refused with BS_NO_SUCH_NODE where the name names no index, and with
- * BS_NO_PLACE where there are fewer. */
+/* An interval of an index, in `node`, by its place. Refused with BS_NO_SUCH_NODE if the name names no index, and with
+ * BS_NO_PLACE if there are fewer. */
 static inline bs_reply bs_interval(const bs_manager *manager, bs_node index, size_t place) {
   if (!bs_call_can_ask(manager)) return bs_call_unasked(manager);
   return bs_call_of_kind(manager, bs_call_interval(manager, index, place), index, BS_INDEX);
 }
 
-/* The interval of an index in which a key lies, in `node`. Refused with BS_NO_SUCH_NODE where the name
- * names no index. Costs a binary search. */
+/* The interval of an index to which a key belongs, in `node`. Refused with BS_NO_SUCH_NODE if the name names no index.
+ * Costs a binary search. */
 static inline bs_reply bs_interval_of(const bs_manager *manager, bs_node index, uint64_t key) {
   return bs_call_can_ask(manager) ? bs_call_interval_of(manager, index, key) : bs_call_unasked(manager);
 }
 
-/* The place of an interval in its index, in `count`. Refused with BS_NO_SUCH_NODE where the name names
- * no interval. */
+/* The place of an interval in its index, in `count`. Refused with BS_NO_SUCH_NODE if the name names no interval. */
 static inline bs_reply bs_place(const bs_manager *manager, bs_node interval) {
   return bs_call_can_ask(manager) ? bs_call_place(manager, interval) : bs_call_unasked(manager);
 }
 
-/* Whether a file has records: 1 or 0 in `count`. Refused with BS_NO_SUCH_NODE where the name names no
- * file. */
+/* Whether a file has records: 1 or 0, in `count`. Refused with BS_NO_SUCH_NODE if the name names no file. */
 static inline bs_reply bs_has_records(const bs_manager *manager, bs_node file) {
   return bs_call_can_ask(manager) ? bs_call_has_records(manager, file) : bs_call_unasked(manager);
 }
@@ -753,12 +748,12 @@ static inline bs_reply bs_len(const bs_manager *manager) {
 }
 
 /* ------------------------------------------------------------------------------------------------
- * Listings: who lives, who holds what and who waits where, one after the other. They change nothing and take
- * no memory; all that is asked between two commands is of one moment.
+ * Listings: which transactions live, what each holds, and which wait where, one after the other. They change nothing
+ * and take no memory. All answers between two commands are of one moment.
  */
 
-/* What a manager was made with, written into `options`, with a number for each that was as usual. Where it is refused
- * zero is written. The slots of its transactions are those below `transactions`. */
+/* The options with which a manager was made, written into `options`, with each default as its number. If the call is
+ * refused, zero is written. The slots of its transactions are those below `transactions`. */
 static inline bs_reply bs_limits(const bs_manager *manager, bs_options *options) {
   if (options == NULL) return bs_call_null();
   memset(options, 0, sizeof *options);
@@ -771,22 +766,22 @@ static inline bs_reply bs_limits(const bs_manager *manager, bs_options *options)
   return bs_call_only(BS_DONE);
 }
 
-/* The transaction in a slot, in `txn`. Refused with BS_BAD_NUMBER, first of all, where the slot is
- * BS_SLOTS or more, and with BS_NO_PLACE where it is free. */
+/* The transaction in a slot, in `txn`. Refused with BS_BAD_NUMBER, first of all, if the slot is BS_SLOTS or more, and
+ * with BS_NO_PLACE if it is free. */
 static inline bs_reply bs_living(const bs_manager *manager, uint32_t slot) {
   if (manager != NULL && slot >= BS_SLOTS) return bs_call_only(BS_BAD_NUMBER);
   return bs_call_can_ask(manager) ? bs_call_living(manager, slot) : bs_call_unasked(manager);
 }
 
-/* What a transaction is doing, in `count`, of enum bs_doings; where it waits, the node in `node` and the wanted
- * mode in `mode`, what is held and what was asked joined. Refused with BS_NO_SUCH_TXN. */
+/* What a transaction is doing, in `count`, of enum bs_doings. If it waits, `node` is the node and `mode` the wanted
+ * mode, the least that covers the held and the requested mode. Refused with BS_NO_SUCH_TXN. */
 static inline bs_reply bs_doing(const bs_manager *manager, bs_txn txn) {
   return bs_call_can_ask(manager) ? bs_call_doing(manager, txn) : bs_call_unasked(manager);
 }
 
-/* How many stand ahead of a transaction that waits, in the queue of its node, in `count`: those alone, and members that
- * will be raised, can be granted the node before it. Refused with BS_NO_SUCH_TXN, BS_NOT_WAITING. Costs a step for each
- * that waits there. */
+/* How many waiters are ahead of a waiting transaction in the queue of its node, in `count`. They alone, and members
+ * that convert, can be granted the node before it. Refused with BS_NO_SUCH_TXN, BS_NOT_WAITING. Costs a step for each
+ * waiter there. */
 static inline bs_reply bs_ahead(const bs_manager *manager, bs_txn txn) {
   return bs_call_can_ask(manager) ? bs_call_ahead(manager, txn) : bs_call_unasked(manager);
 }
@@ -796,10 +791,10 @@ static inline bs_reply bs_lock_count(const bs_manager *manager, bs_txn txn) {
   return bs_call_can_ask(manager) ? bs_call_lock_count(manager, txn) : bs_call_unasked(manager);
 }
 
-/* A node that a transaction holds or waits for, by its place from 0 on, in `node`. In `mode` is the mode in which it
- * is held, BS_NL where it is only waited for. In `wanted` is the wanted mode, BS_NL where it is not waited for. In
- * `count` is how many of its children are held. Each such node has one place; a command may change the places.
- * Refused with BS_NO_SUCH_TXN, and with BS_NO_PLACE where there are fewer. */
+/* A node that a transaction holds or waits for, by its place from 0 on, in `node`. `mode` is the mode in which the
+ * transaction holds it, BS_NL if it only waits for it. `wanted` is the wanted mode, BS_NL if it does not wait for it.
+ * `count` is how many children of the node it holds. Each such node has one place; a command may change the places.
+ * Refused with BS_NO_SUCH_TXN, and with BS_NO_PLACE if there are fewer. */
 static inline bs_reply bs_lock_at(const bs_manager *manager, bs_txn txn, size_t place) {
   bs_reply reply;
   if (!bs_call_can_ask(manager)) return bs_call_unasked(manager);
@@ -808,7 +803,7 @@ static inline bs_reply bs_lock_at(const bs_manager *manager, bs_txn txn, size_t 
   return bs_call_only(BS_NO_SUCH_TXN);
 }
 
-/* The slots of those who hold a node. Refused with BS_NO_SUCH_NODE. */
+/* The slots of the transactions that hold a node. Refused with BS_NO_SUCH_NODE. */
 static inline bs_found bs_holders(const bs_manager *manager, bs_node node) {
   if (!bs_call_can_ask(manager)) return bs_call_none_found(bs_call_unasked(manager).status);
   return bs_call_holders(manager, node);
@@ -819,39 +814,39 @@ static inline bs_reply bs_queue_len(const bs_manager *manager, bs_node node) {
   return bs_call_can_ask(manager) ? bs_call_queue_len(manager, node) : bs_call_unasked(manager);
 }
 
-/* Who waits for a node, by its place in the queue from 0 on, the first to be granted first, in `txn`, and the
- * wanted mode in `mode`. Refused with BS_NO_SUCH_NODE, and with BS_NO_PLACE where there are fewer. */
+/* A transaction that waits for a node, in `txn`, by its place in the queue from 0 on, the first to be granted first;
+ * `mode` is its wanted mode. Refused with BS_NO_SUCH_NODE, and with BS_NO_PLACE if there are fewer. */
 static inline bs_reply bs_queue_at(const bs_manager *manager, bs_node node, size_t place) {
   return bs_call_can_ask(manager) ? bs_call_queue_at(manager, node, place) : bs_call_unasked(manager);
 }
 
-/* The slots of those for whom a transaction waits: who holds the node in a mode that does not go with the
- * wanted one, and who stands ahead in its queue; none where it does not wait. Refused with BS_NO_SUCH_TXN. */
+/* The slots for which a transaction waits: those that hold the node in a mode incompatible with the wanted one, and
+ * those ahead in its queue; none if it does not wait. Refused with BS_NO_SUCH_TXN. */
 static inline bs_found bs_waits_for(const bs_manager *manager, bs_txn txn) {
   if (!bs_call_can_ask(manager)) return bs_call_none_found(bs_call_unasked(manager).status);
   return bs_call_waits_for(manager, txn);
 }
 
-/* The deadlock of which the last victim fell, as it was when that was condemned, written into `deadlock`. Its
- * transactions may have ended since. Refused with BS_NO_PLACE where nobody ever fell; nothing is written then.
- * Costs a copy of its rows. */
+/* The deadlock of the last victim, as it was when the victim was condemned, written into `deadlock`. Its transactions
+ * may have ended since. Refused with BS_NO_PLACE if no victim was ever condemned; nothing is written then. Costs a copy
+ * of its rows. */
 static inline bs_reply bs_last_deadlock(const bs_manager *manager, bs_deadlock *deadlock) {
   if (deadlock == NULL) return bs_call_null();
   return bs_call_can_ask(manager) ? bs_call_last_deadlock(manager, deadlock) : bs_call_unasked(manager);
 }
 
-/* What the manager has been doing since it was made, written into `counts`. */
+/* What the manager has done since it was made, written into `counts`. */
 static inline bs_reply bs_counters(const bs_manager *manager, bs_counts *counts) {
   if (counts == NULL) return bs_call_null();
   return bs_call_can_ask(manager) ? bs_call_counters(manager, counts) : bs_call_unasked(manager);
 }
 
 /* ------------------------------------------------------------------------------------------------
- * Boards: who waits for whom at one moment, as a value that any thread may read without the manager and
- * its mutex. A board may be older than what is; to settle a suspect of an old board does no harm.
+ * Boards: who waits for whom at one moment, as a value that any thread may read without the manager and its mutex. A
+ * board may be out of date; to settle a suspect of an old board does no harm.
  */
 
-/* The board of this moment, written into `board`; where it is refused nothing is written. Refused with
+/* The board of this moment, written into `board`; if the call is refused, nothing is written. Refused with
  * BS_OTHER_VERSION, BS_OTHER_SLOTS. Costs a step for each transaction, and two passes over each queue. */
 static inline bs_reply bs_read_board(const bs_manager *manager, bs_board *board) {
   bs_status misfit = bs_call_misfit();
@@ -860,9 +855,9 @@ static inline bs_reply bs_read_board(const bs_manager *manager, bs_board *board)
   return bs_call_can_ask(manager) ? bs_call_board(manager, board) : bs_call_unasked(manager);
 }
 
-/* The slots on a cycle of waits with this slot, which are those that it reaches by waits and that reach it;
- * none where it is on none. Refused with BS_NULL_POINTER, BS_OTHER_VERSION, BS_OTHER_SLOTS, and BS_BAD_NUMBER where the
- * slot is BS_SLOTS or more. Costs at most a step for each slot that it reaches, twice. */
+/* The slots on a cycle of waits with this slot: those that it reaches by waits and that reach it; none if it is on no
+ * cycle. Refused with BS_NULL_POINTER, BS_OTHER_VERSION, BS_OTHER_SLOTS, and BS_BAD_NUMBER if the slot is BS_SLOTS or
+ * more. Costs at most a step for each slot that it reaches, twice. */
 static inline bs_found bs_on_cycle(const bs_board *board, uint32_t slot) {
   bs_status misfit = bs_call_misfit();
   if (board == NULL) return bs_call_none_found(BS_NULL_POINTER);
@@ -870,22 +865,22 @@ static inline bs_found bs_on_cycle(const bs_board *board, uint32_t slot) {
 }
 
 /* The slots that are on any cycle of waits. Refused with BS_NULL_POINTER, BS_OTHER_VERSION, BS_OTHER_SLOTS. Costs a
- * pass over the rows where nobody waits, else a step for each slot and each that waits. */
+ * pass over the rows if nobody waits, otherwise a step for each slot and each that waits. */
 static inline bs_found bs_suspects(const bs_board *board) {
   bs_status misfit = bs_call_misfit();
   if (board == NULL) return bs_call_none_found(BS_NULL_POINTER);
   return misfit == BS_DONE ? bs_call_suspects(board) : bs_call_none_found(misfit);
 }
 
-/* The youngest of these slots in `count`, of equal ages the lowest. Refused with BS_NULL_POINTER, BS_OTHER_VERSION,
- * BS_OTHER_SLOTS, and with BS_NO_PLACE where there is none. */
+/* The youngest of these slots, in `count`; of equal ages, the lowest slot. Refused with BS_NULL_POINTER,
+ * BS_OTHER_VERSION, BS_OTHER_SLOTS, and with BS_NO_PLACE if there is none. */
 static inline bs_reply bs_youngest(const bs_board *board, bs_slots slots) {
   bs_status misfit = bs_call_misfit();
   if (board == NULL) return bs_call_null();
   return misfit == BS_DONE ? bs_call_youngest(board, &slots) : bs_call_only(misfit);
 }
 
-/* Whether a set has a slot, of any number. */
+/* Whether a set has a slot, which may be any number. */
 static inline bool bs_has(bs_slots slots, uint32_t slot) {
   return slot < BS_SLOTS && (slots.words[slot / 64] >> slot % 64 & 1) != 0;
 }
@@ -894,19 +889,19 @@ static inline bool bs_has(bs_slots slots, uint32_t slot) {
  * Texts.
  */
 
-/* The name of a mode; of a number that is none, "?". */
+/* The name of a mode; "?" for any other number. */
 static inline const char *bs_mode_text(bs_mode mode) {
   static const char *const texts[] = { "NL", "IS", "IX", "S", "SIX", "X" };
   return mode <= BS_X ? texts[mode] : "?";
 }
 
-/* The name of what a node is, of enum bs_kinds; of a number that is none, "?". */
+/* The name of a kind of node, of enum bs_kinds; "?" for any other number. */
 static inline const char *bs_kind_text(uint64_t kind) {
   static const char *const texts[] = { "?", "inner", "file", "index", "interval", "record" };
   return kind <= BS_RECORD ? texts[kind] : "?";
 }
 
-/* The name of a status, for a log; of a number that is none, "?". */
+/* The name of a status, for a log; "?" for any other number. */
 static inline const char *bs_text(bs_status status) {
   switch (status) {
     case BS_DONE: return "Done";

@@ -1,7 +1,6 @@
 /*
- * burlapslate_calls.h: the calls of the library, and what the functions of burlapslate.h share. A program uses none of
- * it: it calls the functions of burlapslate.h, each of which tests its pointers for null, and then makes the calls that
- * stand in it.
+ * burlapslate_calls.h: the calls of the library, and what the functions of burlapslate.h share. Programs do not use it:
+ * they call the functions of burlapslate.h, each of which tests its pointers for null and then makes these calls.
  */
 #ifndef BURLAPSLATE_CALLS_H
 #define BURLAPSLATE_CALLS_H
@@ -87,13 +86,13 @@ bs_found bs_call_suspects(const bs_board *board);
 bs_reply bs_call_youngest(const bs_board *board, const bs_slots *slots);
 uint32_t bs_call_slots(void);
 
-/* Those of a table. */
+/* The calls with a table. */
 struct bs_table;
 bs_reply bs_call_table_make(struct bs_table **table, const bs_options *options, size_t size);
 bs_status bs_call_table_shut(struct bs_table *table);
 bs_reply bs_call_table_watch(struct bs_table *table, bs_watcher *watcher);
 
-/* A reply that says no more than this. */
+/* A reply with this status and nothing else. */
 static inline bs_reply bs_call_only(bs_status status) {
   bs_reply reply = { BS_DONE, BS_NL, { 0, 0 }, { 0, 0 }, 0, 0, 0, BS_NL };
   reply.status = status;
@@ -105,42 +104,42 @@ static inline bs_reply bs_call_null(void) {
   return bs_call_only(BS_NULL_POINTER);
 }
 
-/* The slots of a call that is refused so. */
+/* No slots, for a call that is refused with this status. */
 static inline bs_found bs_call_none_found(bs_status status) {
   bs_found found = { BS_DONE, { { 0 } } };
   found.status = status;
   return found;
 }
 
-/* The version of this header, as bs_version answers that of the library. */
+/* The version of this header, in the form in which bs_version answers that of the library. */
 #define BS_CALL_VERSION (BS_VERSION_MAJOR * 1000000u + BS_VERSION_MINOR * 1000u + BS_VERSION_PATCH)
 
-/* Whether the library is that of this header, and knows its sizes. The third number of a version is of no weight: it
- * rises where nothing is added, and nothing has to be changed. */
+/* Whether the library has the version of this header and its number of slots. The third number of a version does not
+ * count: it rises if nothing is added and no program must be changed. */
 static inline bs_status bs_call_misfit(void) {
   if (bs_version() / 1000 != BS_CALL_VERSION / 1000) return BS_OTHER_VERSION;
   return bs_call_slots() == BS_SLOTS ? BS_DONE : BS_OTHER_SLOTS;
 }
 
-/* Whether one of these is null. The notices are emptied ahead of all else, so that none of an earlier call is left
- * where this one is refused. */
+/* Whether one of these is null. The notices are emptied first, so that a refused call leaves none of an earlier
+ * call. */
 static inline bool bs_call_lacks(const bs_manager *manager, bs_notices *told) {
   if (told != NULL) told->count = 0;
   return told == NULL || manager == NULL;
 }
 
-/* Whether there is a manager to be asked. The library takes a manager out of its place while it answers: so a place
- * that never had one, and may be a constant, is looked at here alone. */
+/* Whether there is a manager to ask. The library takes a manager out of its place while it answers. So only this
+ * function looks at a place that never had a manager, which may be a constant. */
 static inline bool bs_call_can_ask(const bs_manager *manager) {
   return manager != NULL && manager->is_open;
 }
 
-/* The reply where there is none. */
+/* The reply if there is none. */
 static inline bs_reply bs_call_unasked(const bs_manager *manager) {
   return bs_call_only(manager == NULL ? BS_NULL_POINTER : BS_NO_MANAGER);
 }
 
-/* A list that is not null, for a list that may be null where its count is 0. */
+/* A list that is not null, for a list that may be null if its count is 0. */
 static inline const bs_node *bs_call_nodes(const bs_node *list) {
   static const bs_node none = { 0, 0 };
   return list == NULL ? &none : list;
@@ -151,7 +150,7 @@ static inline const uint64_t *bs_call_numbers(const uint64_t *list) {
   return list == NULL ? &none : list;
 }
 
-/* The options of a maker who may know fewer, with a number for each that is as usual. */
+/* The options of a caller that may know fewer of them, with each default as its number. */
 static inline bs_options bs_call_chosen(const bs_options *given, size_t size) {
   bs_options options = { 0, 0, 0, 0, 0 };
   if (given != NULL) memcpy(&options, given, size < sizeof options ? size : sizeof options);
@@ -161,8 +160,8 @@ static inline bs_options bs_call_chosen(const bs_options *given, size_t size) {
   return options;
 }
 
-/* A reply about a place of a node, which is to be of this kind where that is not 0. That there are fewer places says
- * nothing of the node. */
+/* A reply about a place of a node, which must be of this kind unless that is 0. BS_NO_PLACE does not say whether the
+ * node exists. */
 static inline bs_reply bs_call_of_kind(const bs_manager *manager, bs_reply reply, bs_node node, uint64_t kind) {
   bs_reply is;
   if (reply.status != BS_NO_PLACE) return reply;
