@@ -1,4 +1,4 @@
-//! The laws of waiting: no one waits for ever.
+//! The laws of waiting: a wait ends once everybody before it has ended.
 #![tactic(auto)]
 
 pub mod laws;
