@@ -49,18 +49,22 @@ static bs_node last_node(void) {
  */
 
 /* Locks a node by an ask or in a list, which is left waiting or continues. */
-static void make_lock(bs_txn txn, bs_node node, bs_mode mode) {
+static void make_lock_by(call_kind kind, bs_txn txn, bs_node node, bs_mode mode) {
   const naive_node *found = naive_find(&n, node);
   bool is_root = found != NULL && found->parent_count == 0;
   call c;
   if (!is_free(txn)) return;
   memset(&c, 0, sizeof c);
-  c.kind = one_in(3) ? RUN : ASK;
+  c.kind = kind;
   if (c.kind == RUN && one_in(3)) add_bare(&c, BS_DO_SETTLE, some_living());
   add_lock(&c, !is_root || one_in(4) ? BS_DO_LOCK_PATH : BS_DO_LOCK, txn, node, mode);
   if (c.kind == RUN && one_in(2)) add_drawn(&c, BS_DO_LOCK, txn);
   make(&c);
   remember(&c);
+}
+
+static void make_lock(bs_txn txn, bs_node node, bs_mode mode) {
+  make_lock_by(one_in(3) ? RUN : ASK, txn, node, mode);
 }
 
 /* Locks what a transaction needs above a row. */
@@ -165,7 +169,7 @@ static void make_knot(void) {
   make_lock(members[0], other, BS_S);
   make_lock(members[2], at[draw(2)], mode_in_queue(true));
   make_lock(members[3], at[draw(2)], mode_in_queue(false));
-  make_lock(members[1], at[draw(2)], mode_in_queue(false));
+  make_lock_by(one_in(2) ? RUN : ASK, members[1], at[draw(2)], mode_in_queue(false));
   make_ends(members, 4);
 }
 
@@ -365,6 +369,12 @@ static void make_graph(void) {
   if (one_in(2)) make_one(BS_DO_ADD_INDEX, area, rows);
 }
 
+/* Begins so many transactions that the next ones have slots beyond the first word of a set of slots. */
+static void make_many(void) {
+  size_t i;
+  for (i = 0; i < 64; i++) make_one(BS_DO_BEGIN, no_node, no_node);
+}
+
 static bs_options options_of_seed(void) {
   static const uint32_t slots[] = { 4, 10, 32, 128 };
   bs_options options = { 0, 0, 0, MOST_NODES, MOST_BOUNDS };
@@ -418,6 +428,7 @@ static void play(unsigned long most) {
   open_table();
   draw_habits();
   make_graph();
+  if (n.limits.transactions > 64 && one_in(2)) make_many();
   while (calls_of_play < CALLS_OF_PLAY && calls_made < most) make_some();
   close_table();
 }

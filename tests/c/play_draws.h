@@ -61,13 +61,16 @@ static void draw_habits(void) {
  * Transactions.
  */
 
-/* A transaction that has ended, and by slot the last wait that a list left. */
-static bs_txn ended_txn;
-static struct {
+/* A wait that a list left. */
+typedef struct left_wait {
   bs_txn txn;
   bs_node node;
   bs_mode mode;
-} left_waits[NAIVE_TXNS];
+} left_wait;
+
+/* A transaction that has ended, and by slot the last two waits that lists left. */
+static bs_txn ended_txn;
+static left_wait left_waits[NAIVE_TXNS][2];
 
 /* Whether an ask of a transaction waits, or has an end that is not told yet: other calls leave it alone. */
 static bool is_busy(bs_txn txn) {
@@ -572,9 +575,10 @@ static void draw_await(call *c, bs_txn txn) {
   if (wait != NULL && !one_in(10)) {
     node = naive_born(&n, wait->node)->name;
     mode = wait->mode;
-  } else if (naive_txn_of(&n, txn) != NULL && same_txn(left_waits[txn.slot].txn, txn)) {
-    node = left_waits[txn.slot].node;
-    mode = left_waits[txn.slot].mode;
+  } else if (naive_txn_of(&n, txn) != NULL) {
+    const left_wait *left = &left_waits[txn.slot][one_in(3) ? 1 : 0];
+    if (same_txn(left->txn, txn)) node = left->node;
+    if (same_txn(left->txn, txn)) mode = left->mode;
   }
   c->kind = AWAIT;
   add_lock(c, BS_DO_LOCK, txn, node, mode);
@@ -694,19 +698,25 @@ static void draw_call(call *c) {
   else draw_for_others(c, txn);
 }
 
+/* Remembers a wait that a list left. */
+static void remember_wait(bs_txn txn) {
+  const naive_wait *wait = naive_wait_of(&n, txn);
+  left_wait *left = left_waits[txn.slot], now;
+  if (wait == NULL || asks[txn.slot].waits) return;
+  now.txn = txn;
+  now.node = naive_born(&n, wait->node)->name;
+  now.mode = wait->mode;
+  if (same_txn(left[0].txn, txn) && same_node(left[0].node, now.node)) return;
+  left[1] = left[0];
+  left[0] = now;
+}
+
 /* Remembers a transaction that has ended, and the waits that a list left. */
 static void remember(const call *c) {
+  bs_txn txn = c->list[0].c.txn;
   uint32_t slot;
-  if (c->kind == COMMAND && naive_txn_of(&n, c->list[0].c.txn) == NULL && c->list[0].c.txn.slot < BS_SLOTS) {
-    ended_txn = c->list[0].c.txn;
-  }
-  for (slot = 0; c->kind == RUN && slot < n.limits.transactions; slot++) {
-    const naive_wait *wait = naive_wait_of(&n, naive_txn_in(&n, slot));
-    if (wait == NULL || asks[slot].waits) continue;
-    left_waits[slot].txn = naive_txn_in(&n, slot);
-    left_waits[slot].node = naive_born(&n, wait->node)->name;
-    left_waits[slot].mode = wait->mode;
-  }
+  if (c->kind == COMMAND && naive_txn_of(&n, txn) == NULL && txn.slot < BS_SLOTS) ended_txn = txn;
+  for (slot = 0; c->kind == RUN && slot < n.limits.transactions; slot++) remember_wait(naive_txn_in(&n, slot));
 }
 
 #endif

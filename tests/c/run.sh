@@ -1,10 +1,10 @@
 #!/usr/bin/env bash
 # run.sh [--slots N]: compiles the stories over the C library, and runs them. Prints a line for each story, of one thread
-# and of a shared table, and for each setting of a crowd. A program with the headers of another library is refused, and
-# one that gives a command a manager that is lent is not compiled. Then it plants eight faults in the shared table, which
-# the stories must find. Ends with status 1 where something is not as wanted; where there is no C compiler it says so, and
-# ends with status 77: not tried. CC names another compiler than cc. N is the number of slots of the library, 128 or 1024
-# (tools/c_library.sh); faults are planted for 128 alone.
+# and of a shared table, for each play beside a naive lock manager, and for each setting of a crowd. A program with the
+# headers of another library is refused, and one that gives a command a manager that is lent is not compiled. Then it
+# plants eight faults in the shared table, which the stories must find. Ends with status 1 where something is not as
+# wanted; where there is no C compiler it says so, and ends with status 77: not tried. CC names another compiler than cc.
+# N is the number of slots of the library, 128 or 1024 (tools/c_library.sh); faults are planted for 128 alone.
 set -uo pipefail
 top=$(cd "$(dirname "$0")/../.." && pwd) || exit 2
 slots=128
