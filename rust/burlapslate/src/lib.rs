@@ -71,7 +71,7 @@
 //!
 //! # Memory
 //!
-//! Calls that end or release something take no memory and cannot fail for want of it:
+//! Calls that end or release something take no memory and cannot fail for lack of it:
 //! [`unlock`](Manager::unlock), [`cancel`](Manager::cancel), [`commit`](Manager::commit),
 //! [`abort`](Manager::abort), [`settle`](Manager::settle), [`delete`](Manager::delete),
 //! [`rekey`](Manager::rekey), [`escalate`](Manager::escalate), of nodes and of rows. The others are

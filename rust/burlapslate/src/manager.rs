@@ -328,7 +328,7 @@ impl Manager {
 ///
 /// A call that notifies transactions answers the [`Notices`] too. The caller of a lock and of a cancel
 /// is not notified: it has its answer. Calls that end or release something take no memory and cannot
-/// fail for want of it; nor do notices.
+/// fail for lack of it; nor do notices.
 impl Manager {
     /// A new transaction.
     ///

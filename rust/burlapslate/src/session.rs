@@ -59,7 +59,7 @@ impl From<Refusal> for Stop {
 pub enum RowLocked {
     /// In this mode, and the keys of the call are those of the row's node.
     Own(Mode),
-    /// In this mode, but the row's node has other keys than the call's, or could not be asked for want of
+    /// In this mode, but the row's node has other keys than the call's, or could not be asked for lack of
     /// memory. The engine reads the row's keys again. If they differ from the call's, it unlocks the row
     /// and starts again.
     OtherKeys(Mode),
@@ -502,7 +502,7 @@ impl<'t> Session<'t> {
     /// victim: if the transaction would have to wait, the call answers the row's node and changes nothing.
     ///
     /// Refused as [`Manager::lock_row`](crate::Manager::lock_row); a refused call changes nothing, also for
-    /// want of memory. If the transaction held the row before, and memory or numbers are missing after the
+    /// lack of memory. If the transaction held the row before, and memory or numbers are missing after the
     /// grant, the answer is [`RowLocked::OtherKeys`]; it is the same if the grant used the last number.
     pub fn try_lock_row(
         &mut self,

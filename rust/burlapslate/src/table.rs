@@ -394,7 +394,7 @@ impl Table {
             watcher.look(&mut board);
             guarded = self.guarded();
             if board.epoch() < seen {
-                guarded.manager.read_board(&mut board); // It could not be shown, for want of memory.
+                guarded.manager.read_board(&mut board); // It could not be shown, for lack of memory.
             }
             seen = board.epoch();
             guarded = self.settle_all(guarded, &mut board);

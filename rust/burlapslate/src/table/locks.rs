@@ -98,7 +98,7 @@ impl Table {
     }
 
     /// Continues after a wait that has ended so. The rest of a path is requested, and a row is requested again: if
-    /// that is refused, for want of memory or of numbers, its keys may differ.
+    /// that is refused, for lack of memory or of numbers, its keys may differ.
     pub(super) fn go_on(
         &self,
         guarded: &mut Guarded,

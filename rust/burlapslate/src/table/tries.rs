@@ -182,7 +182,7 @@ impl Table {
 
 impl Path {
     /// Makes the tries of a path up to its end. The manager says which node is first: a try that is refused for
-    /// want of a parent names it, and the climb continues from there. It ends, since the graph has no cycle.
+    /// lack of a parent names it, and the climb continues from there. It ends, since the graph has no cycle.
     /// After a grant a writer descends by one; a reader may need fewer nodes then, and climbs again. If a path
     /// is longer than what is remembered, the lowest nodes are forgotten and found again.
     fn climb(&mut self, manager: &mut Manager) -> Result<Tried<Mode>, Refusal> {
