@@ -1,4 +1,4 @@
--- What a call about rows does, by one entry, and what it is in commands.
+-- What each call about rows does, and which command it carries out.
 use Rattle.std.specs.Prelude.{◌≡◌, ◌⊎◌, Bool, true, false, List, [], Option, Some, None, Result}
 use Rattle.std.specs.List.{list_all}
 use Rattle.gl_modes.specs.declared.node.NodeId.{NodeId}
@@ -26,17 +26,17 @@ use Rattle.gl_registry.specs.Locking.{Line, LocksRow, Runs}
 use Rattle.gl_registry.specs.Releasing.{EndsTxn, GivesBack, RekeysRow, UnlocksRow, named_or_none}
 use Rattle.gl_registry.specs.Rows.{RegistryView, RowsView}
 
--- what a call came to is answered so, and was done so
+-- the outcome of a call, with its answer and its effect
 pub record Came {A : Type 0} {R : Type 0} (says : Result A R → RowAnswer) (done : Result A R → Type 0) (a : RowAnswer) : Type 0 where
   pub result : Result A R
   pub answered : a ≡ says result
   pub was_done : done result
 
--- what is answered as a command is
+-- an outcome that is answered as a command's
 abbrev pub plainly : {A : Type 0} → (A → Says) → Result A Refusal → RowAnswer
 plainly says result = row_answer.Answered (said says result).0
 
--- each call does what its name says
+-- what each call does
 abbrev pub AppliesRow : ManagerView → RowsView → RowCall → RowAnswer → Told → ManagerView → RowsView → Type 0
 AppliesRow m v (call.File ps) a told m' v' = Came {A = NodeId} {R = Refusal} (plainly made) (λ r. MakesFile m v ps r m' v' × (told ≡ [])) a
 AppliesRow m v (call.Lock t row keys mode) a told m' v' =
@@ -50,11 +50,11 @@ AppliesRow m v (call.Cancel t) a told m' v' =
 AppliesRow m v (call.Escalate t n) a told m' v' =
     Came {A = Escalated} {R = Refusal} (plainly (rising [])) (λ r. GivesBack (rising told) (command.Escalate t n) m v t.slot r told m' v') a
 
--- the same of a registry
+-- the same for a registry
 abbrev pub AppliesCall : RegistryView → RowCall → RowAnswer → Told → RegistryView → Type 0
 AppliesCall v c a told v' = AppliesRow v.manager v.rows c a told v'.manager v'.rows
 
--- the command that a call carries out, on the node by which its row is named
+-- the command that a call carries out, on its row's node
 abbrev pub own_command : RowsView → RowCall → Command
 own_command v (call.File ps) = command.File ps
 own_command v (call.Lock t row keys m) = command.Lock t (named_or_none v row) m
@@ -65,34 +65,34 @@ own_command v (call.Abort t) = command.Abort t
 own_command v (call.Cancel t) = command.Cancel t
 own_command v (call.Escalate t n) = command.Escalate t n
 
--- where no row is named
+-- no row has a node
 abbrev pub unnamed : RowsView
 unnamed = record { files = []; names = []; asked = [] }
 
--- a lock's row is named behind it, the row of any other call before it
+-- the rows that give a call its node: for a lock those after it, for any other call those before it
 abbrev pub naming : RowCall → RowsView → RowsView → RowsView
 naming (call.Lock t row keys m) v v' = v'
 naming c v v' = v
 
--- what its command was answered, if the call came to that
+-- the answer to the call's command; none after `NotRows`
 abbrev pub answer_in : RowAnswer → Option Answer
 answer_in (row_answer.Locked x) = Some (answer_of_lock x.locked)
 answer_in (row_answer.Answered a) = Some a
 answer_in row_answer.NotRows = None
 
--- a record is adopted or forgotten
+-- the command adopts or forgets a record
 abbrev pub is_upkeep : Command → Bool
 is_upkeep (command.Adopt f keys) = true
 is_upkeep (command.Forget r) = true
 is_upkeep c = false
 
--- records are adopted and forgotten, and nothing else is done
+-- a run that only adopts and forgets records
 pub record Upkeep (s s' : State) : Type 0 where
   pub lines : List Line
   pub run : Runs s lines s'
   pub kept : list_all (λ l. is_upkeep l.0) lines ≡ true
 
--- one step of a command, records being adopted and forgotten before and behind; the counters and the last deadlock become what that step makes of them
+-- one step of a command, with records adopted and forgotten before and after it; only that step changes the counters and the last deadlock
 pub record StepsAmid (m : ManagerView) (c : Command) (a : Answer) (told : Told) (m' : ManagerView) : Type 0 where
   pub ahead : State
   pub behind : State
@@ -102,11 +102,11 @@ pub record StepsAmid (m : ManagerView) (c : Command) (a : Answer) (told : Told) 
   pub counters : m'.counters ≡ counted ahead c a told behind m.counters
   pub deadlock : KeptBy c ahead m.table.deadlock a behind m'.table.deadlock
 
--- nobody is told, and nothing has changed
+-- nobody is told, and nothing changes
 abbrev pub Stays : ManagerView → Told → ManagerView → Type 0
 Stays m told m' = (told ≡ []) × (m' ≡ m)
 
--- an answer is that of such a step, or a refusal with which nothing has changed; where there is none, nothing has
+-- an answer is that of such a step, or a refusal that changes nothing; without an answer nothing changes
 abbrev pub CarriesOut : ManagerView → Command → Option Answer → Told → ManagerView → Type 0
 CarriesOut m c None told m' = Stays m told m'
 CarriesOut m c (Some a) told m' = StepsAmid m c a told m' ⊎ ((refuses a ≡ true) × Stays m told m')

@@ -1,4 +1,4 @@
--- What a row's lock does to the names alone. For the crate.
+-- What a row's lock does to the nodes of rows alone. For the crate.
 use Rattle.std.specs.Prelude.{◌≡◌, ℕ, ◌&&◌, ◌||◌, ◌==◌, List, Result, Ok, Err}
 use Rattle.gl_modes.specs.declared.node.NodeId.{NodeId}
 use Rattle.gl_model.specs.Tellings.{Told}
@@ -9,16 +9,16 @@ use Rattle.gl_registry.specs.declared.row.Row.{Row}
 use Rattle.gl_registry.specs.Locking.{LocksRow, Names, Wish}
 use Rattle.gl_registry.specs.Rows.{RowsView, has_asked, same_row}
 
--- files and names, with the rows that each slot's transaction has asked for
+-- files and nodes, with the rows that each slot's transaction asked for
 abbrev pub with_asked : List NodeId → Names → List (List Row) → RowsView
 with_asked files ns asked = record { files = files; names = ns; asked = asked }
 
--- where it was not refused, the row is among those that the transaction of this slot has asked for; else they stay
+-- unless it was refused, the slot's transaction has now asked for the row; else nothing changes
 abbrev pub Asks : {A : Type 0} {R : Type 0} → Result A R → ℕ → Row → RowsView → RowsView → Type 0
 Asks (Ok x) slot row v v' = (u : ℕ) (q : Row) → has_asked v' u q ≡ (has_asked v u q || ((u == slot) && same_row q row))
 Asks (Err r) slot row v v' = v'.asked ≡ v.asked
 
--- a row is locked, but for the rows that its transaction has asked for
+-- a row is locked, leaving aside the rows asked for
 abbrev pub LocksName : ManagerView → List NodeId → Names → Wish → Result RowLocked RowRefusal → Told → ManagerView → Names → Type 0
 LocksName m files ns w result told m' ns' =
     (asked asked' : List (List Row)) → Asks result w.txn.slot w.row (with_asked files ns asked) (with_asked files ns' asked')

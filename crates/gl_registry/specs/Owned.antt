@@ -8,6 +8,6 @@ use Rattle.gl_registry.specs.Rows.{RegistryView}
 abbrev pub registry_of : Inside → RegistryView
 registry_of r = record { manager = r.manager; rows = r.rows }
 
--- names are those of the manager's records
+-- the law of names, over the manager's graph
 abbrev pub IsNamedWell : Inside → Type 0
 IsNamedWell r = NamesHold r.rows (state_of r.manager).graph

@@ -1,4 +1,4 @@
--- What is promised of rows: of a file and a key for each of its indexes, whether or not a record stands for them.
+-- The promises about rows: a file and a key for each of its indexes, with or without a record.
 use Rattle.std.specs.Prelude.{◌≡◌, ◌≢◌, ◌||◌, ℕ, Bool, true, false, List, ◌∷◌, Option, Some, None, Result, length, if◌then◌else◌}
 use Rattle.std.specs.List.{list_all, list_any}
 use Rattle.gl_modes.specs.declared.mode.Mode.TheVariants.{NL}
@@ -34,48 +34,48 @@ pub record IsRow (g : Graph) (f : NodeId) (keys : List ℕ) : Type 0 where
   pub file : is_file_shape (shape_of g f) ≡ true
   pub a_key_each : length keys ≡ length (indexes_of g f)
 
--- t may write the row by a lock further up: it has effective X on the file and on each interval in which a key lies (1976)
+-- t may write the row by locks further up: it has effective X on the file and on the interval of each key
 abbrev pub writes_row : State → ℕ → NodeId → List ℕ → Bool
 writes_row s t f keys = list_all (λ n. is_at_least_effect (effective s t n) effect.X) (record_parents s.graph f keys)
 
--- t may read it by one: it has effective S or X on the file or on one of these intervals (1976)
+-- t may read the row by a lock further up: it has effective S or X on the file or on the interval of a key
 abbrev pub reads_row : State → ℕ → NodeId → List ℕ → Bool
 reads_row s t f keys = list_any (λ n. is_at_least_effect (effective s t n) effect.S) (record_parents s.graph f keys)
 
--- X for one who writes, else S for one who reads, else none
+-- X to write, else S to read, else none
 abbrev pub effect_of : Bool → Bool → Effect
 effect_of writes reads = if writes then effect.X else (if reads then effect.S else effect.None)
 
--- the effective mode that locks further up give on the row
+-- the effective mode on the row by locks further up
 abbrev pub row_effect : State → ℕ → NodeId → List ℕ → Effect
 row_effect s t f keys = effect_of (writes_row s t f keys) (reads_row s t f keys)
 
--- in a lawful state no row is written by one transaction and read by another (1976)
+-- in a lawful state no row can be written by one transaction and read by another
 abbrev pub NoRowConflict : Type 0
 NoRowConflict = (s : State) (t u : ℕ) (f : NodeId) (keys : List ℕ) → IsLawful s → t ≢ u → writes_row s t f keys ≡ true → reads_row s u f keys ≡ true → ⊥
 
 -- Rows of a registry, with the locks on their own nodes.
 
--- so it is of the row's node, if it has one
+-- the test holds of the row's node, if it has one
 abbrev pub of_node : (NodeId → Bool) → Option NodeId → Bool
 of_node test None = false
 of_node test (Some n) = test n
 
--- t may write the row: by a lock further up, as these keys say, or by one on its node
+-- t may write the row: by locks further up, for these keys, or by one on its node
 abbrev pub may_write : RegistryView → ℕ → Row → List ℕ → Bool
 may_write v t row keys =
     writes_row (state_of v.manager) t row.file keys || of_node (λ n. is_at_least_effect (effective (state_of v.manager) t n) effect.X) (name_of v.rows row)
 
--- t may read it so
+-- t may read the row, likewise
 abbrev pub may_read : RegistryView → ℕ → Row → List ℕ → Bool
 may_read v t row keys =
     reads_row (state_of v.manager) t row.file keys || of_node (λ n. is_at_least_effect (effective (state_of v.manager) t n) effect.S) (name_of v.rows row)
 
--- the keys are the row's own: where it has a node, that has them
+-- the keys are the row's own: those of its node, if it has one
 abbrev pub OwnKeys : RegistryView → Row → List ℕ → Type 0
 OwnKeys v row keys = (n : NodeId) → name_of v.rows row ≡ Some n → keys_in (shape_of (state_of v.manager).graph n) ≡ keys
 
--- in a registry no row is written by one transaction and read by another, by whatever locks, where its keys are its own
+-- in a registry no row can be written by one transaction and read by another, by any locks, if its keys are its own
 abbrev pub NoRowOfTwo : Type 0
 NoRowOfTwo =
     (v : RegistryView) (t u : ℕ) (row : Row) (keys : List ℕ) → IsLawful (state_of v.manager) → NamesHold v.rows (state_of v.manager).graph
@@ -83,12 +83,12 @@ NoRowOfTwo =
 
 -- Records and their rows.
 
--- t's effective mode on a record is at least that on its row, and just that where t holds nothing on the record itself
+-- t's effective mode on a record is at least that on its row, and exactly that if t holds nothing on the record itself
 pub record HasRowEffect (s : State) (t : ℕ) (r : NodeId) (f : NodeId) (keys : List ℕ) : Type 0 where
   pub above : is_at_least_effect (effective s t r) (row_effect s t f keys) ≡ true
   pub alone : s.held t r ≡ NL → effective s t r ≡ row_effect s t f keys
 
--- so it is for each record of a lawful state: its row is its file and its keys (1976, implicit locks)
+-- the same for each record of a lawful state: its row is its file and its keys
 abbrev pub RecordsHaveRowEffects : Type 0
 RecordsHaveRowEffects =
     (s : State) (t : ℕ) (r : NodeId) → IsLawful s → is_record_shape (shape_of s.graph r) ≡ true
@@ -98,24 +98,23 @@ RecordsHaveRowEffects =
 abbrev pub IsRowInBoth : State → State → NodeId → List ℕ → Type 0
 IsRowInBoth s s' f keys = IsRow s.graph f keys × IsRow s'.graph f keys
 
--- t's effective mode on every such row of f is the same, or the same or greater where t was told of a grant
+-- t's effective mode on every such row of f is the same, or may be greater if t was told of a grant
 pub record KeepsRowEffects (s s' : State) (t : TxnId) (f : NodeId) (granted : Bool) : Type 0 where
   pub same : granted ≡ false → (keys : List ℕ) → IsRowInBoth s s' f keys → row_effect s' t.slot f keys ≡ row_effect s t.slot f keys
   pub greater : (keys : List ℕ) → IsRowInBoth s s' f keys → is_at_least_effect (row_effect s' t.slot f keys) (row_effect s t.slot f keys) ≡ true
 
--- the command drops one of the indexes of the file f in g
+-- the command drops an index of the file f in g
 abbrev pub drops_index_of : Graph → NodeId → Command → Bool
 drops_index_of g f (command.Drop t n) = is_index_of_shape f (shape_of g n)
 drops_index_of g f c = false
 
--- over a run that does not name t, and in which no index is dropped that the file has, its effective modes on rows of the file stay, or grow where it was
--- told of a grant (own)
+-- a run that does not name t and drops no index of the file keeps t's effective modes on the file's rows, or may raise them if t was told of a grant
 abbrev pub OthersKeepRowEffects : Type 0
 OthersKeepRowEffects =
     (s s' : State) (cs : List Command) (rs : List (Answer × Told)) (t : TxnId) (f : NodeId) → IsLawful s → Run s cs rs s' → lives s t ≡ true
     → list_any (names t) cs ≡ false → list_any (drops_index_of s.graph f) cs ≡ false → KeepsRowEffects s s' t f (told_granted t rs)
 
--- the effective mode that locks on a file and on the intervals of these indexes give on a row with these keys
+-- the effective mode on a row with these keys by locks on a file and on the intervals of these indexes
 abbrev pub effect_by : State → ℕ → NodeId → List NodeId → List ℕ → Effect
 effect_by s t f is keys =
     effect_of (list_all (λ n. is_at_least_effect (effective s t n) effect.X) (f ∷ intervals_of s.graph is keys))
@@ -126,15 +125,14 @@ pub record AreIndexes (g : Graph) (f : NodeId) (is : List NodeId) : Type 0 where
   pub file : is_file_shape (shape_of g f) ≡ true
   pub indexes : list_all (λ i. is_index_of_shape f (shape_of g i)) is ≡ true
 
--- t's effective mode by a file and by indexes of it that stand in both states is the same, or the same or greater where t was told of a grant
+-- t's effective mode by a file and by indexes of it in both states is the same, or may be greater if t was told of a grant
 pub record KeepsByIndexes (s s' : State) (t : TxnId) (granted : Bool) : Type 0 where
   pub same : granted ≡ false → (f : NodeId) (is : List NodeId) (keys : List ℕ) → AreIndexes s.graph f is → AreIndexes s'.graph f is
       → effect_by s' t.slot f is keys ≡ effect_by s t.slot f is keys
   pub greater : (f : NodeId) (is : List NodeId) (keys : List ℕ) → AreIndexes s.graph f is → AreIndexes s'.graph f is
       → is_at_least_effect (effect_by s' t.slot f is keys) (effect_by s t.slot f is keys) ≡ true
 
--- over a run that does not name t, whatever it drops and makes, its effective modes by a file and by the indexes that stand stay, or grow where it was
--- told of a grant (own)
+-- a run that does not name t keeps t's effective modes by a file and by the indexes in both states, or may raise them if t was told of a grant
 abbrev pub OthersKeepByIndexes : Type 0
 OthersKeepByIndexes =
     (s s' : State) (cs : List Command) (rs : List (Answer × Told)) (t : TxnId) → IsLawful s → Run s cs rs s' → lives s t ≡ true → list_any (names t) cs ≡ false
@@ -152,7 +150,7 @@ pub record IsOwnInBoth (v v' : RegistryView) (row : Row) (keys : List ℕ) : Typ
   pub own : OwnKeys v row keys
   pub still_own : OwnKeys v' row keys
 
--- t's effective mode on every such row is the same, or the same or greater where t was told of a grant
+-- t's effective mode on every such row is the same, or may be greater if t was told of a grant
 pub record KeepsOnRows (v v' : RegistryView) (t : TxnId) (granted : Bool) : Type 0 where
   pub same : granted ≡ false → (row : Row) (keys : List ℕ) → IsOwnInBoth v v' row keys → effect_on v' t.slot row keys ≡ effect_on v t.slot row keys
   pub greater : (row : Row) (keys : List ℕ) → IsOwnInBoth v v' row keys → is_at_least_effect (effect_on v' t.slot row keys) (effect_on v t.slot row keys) ≡ true
@@ -161,35 +159,35 @@ pub record KeepsOnRows (v v' : RegistryView) (t : TxnId) (granted : Bool) : Type
 abbrev pub is_granted : TxnId → Told → Bool
 is_granted t told = list_any (is_grant_to t) told
 
--- what holds of every registry: its state is lawful, and its rows have their names
+-- what holds of every registry: a lawful state and the law of names
 pub record IsRegistry (v : RegistryView) : Type 0 where
   pub law : IsLawful (state_of v.manager)
   pub names : NamesHold v.rows (state_of v.manager).graph
 
--- a registry that serves a command by its node leaves that to each living transaction that the command does not name (own)
+-- serving a command by its node keeps that for each living transaction that the command does not name
 abbrev pub CommandsKeepOnRows : Type 0
 CommandsKeepOnRows =
     (v v' : RegistryView) (c : Command) (result : Option Answer) (told : Told) (t : TxnId) → IsRegistry v → ServesBy (touches_rows v c) v c result told v'
     → lives (state_of v.manager) t ≡ true → names t c ≡ false → KeepsOnRows v v' t (is_granted t told)
 
--- one that locks a path leaves it to each other living transaction (own)
+-- locking a path keeps that for each other living transaction
 abbrev pub PathsKeepOnRows : Type 0
 PathsKeepOnRows =
     (v v' : RegistryView) (u : TxnId) (ask : Ask) (result : Result Reached Refusal) (told : Told) (t : TxnId) → IsRegistry v → LocksWay u ask v result told v'
     → lives (state_of v.manager) t ≡ true → same_txn t u ≡ false → KeepsOnRows v v' t (is_granted t told)
 
--- one that goes back to a savepoint leaves it to each other living transaction (own)
+-- rolling back to a savepoint keeps that for each other living transaction
 abbrev pub BacksKeepOnRows : Type 0
 BacksKeepOnRows =
     (v v' : RegistryView) (u : TxnId) (mark : ℕ) (result : Result ℕ Refusal) (told : Told) (t : TxnId) → IsRegistry v
     → GoesBackTo u mark v.manager v.rows result told v'.manager v'.rows → lives (state_of v.manager) t ≡ true → same_txn t u ≡ false
     → KeepsOnRows v v' t (is_granted t told)
 
--- the call names t as its transaction: so does the command that it carries out, whatever its row's node
+-- the call names t as its transaction, and so does its command, whatever its row's node
 abbrev pub names_in : TxnId → RowCall → Bool
 names_in t c = names t (own_command unnamed c)
 
--- one that carries out a call about rows leaves it to each living transaction that the call does not name (own)
+-- a call about rows keeps that for each living transaction that the call does not name
 abbrev pub CallsKeepOnRows : Type 0
 CallsKeepOnRows =
     (v v' : RegistryView) (c : RowCall) (a : RowAnswer) (told : Told) (t : TxnId) → IsRegistry v → AppliesCall v c a told v'

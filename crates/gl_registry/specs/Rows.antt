@@ -11,7 +11,7 @@ use Rattle.gl_registry.specs.declared.row.Row.{Row}
 abbrev pub same_row : Row → Row → Bool
 same_row a b = same_node a.file b.file && (a.number == b.number)
 
--- the files of which each record is a row by its number, the node of each row that has one, and for each slot the rows that its transaction has asked for
+-- the files of rows, the node of each row that has one, and for each slot the rows that its transaction asked for
 pub record RowsView : Type 0 where
   pub files : List NodeId
   pub names : List (Row × NodeId)
@@ -26,10 +26,10 @@ pub record RegistryView : Type 0 where
 abbrev pub has_rows : RowsView → NodeId → Bool
 has_rows v file = list_any (same_node file) v.files
 
--- the node by which a row is named
+-- the row's node, if it has one
 abbrev pub name_of : RowsView → Row → Option NodeId
 name_of v row = lookup (same_row row) v.names
 
--- the row is among those that the transaction of a slot has asked for
+-- the slot's transaction asked for the row
 abbrev pub has_asked : RowsView → ℕ → Row → Bool
 has_asked v slot row = list_any (same_row row) (get_or v.asked slot [])

@@ -1,4 +1,4 @@
--- What a registry does by commands about nodes.
+-- How a registry serves commands about nodes.
 use Rattle.std.specs.Prelude.{◌≡◌, ◌&&◌, Bool, true, false, not, [], Option, Some, None, Result, Err, IfErr, OnErr}
 use Rattle.gl_modes.specs.declared.node.NodeId.{NodeId}
 use Rattle.gl_modes.specs.Nodes.{same_node}
@@ -21,7 +21,7 @@ use Rattle.gl_catalog.specs.Replies.{said}
 use Rattle.gl_steps.specs.Step.{Step}
 use Rattle.gl_registry.specs.Rows.{RegistryView, RowsView, has_rows}
 
--- the command would make, take away or change a record of a file of rows
+-- the command would make, remove or rekey a record of a file of rows
 abbrev pub touches_rows : RegistryView → Command → Bool
 touches_rows v (command.Insert t f keys) = has_rows v.rows f
 touches_rows v (command.Adopt f keys) = has_rows v.rows f
@@ -30,8 +30,8 @@ touches_rows v (command.Rekey t r i key) = has_rows v.rows (first_parent (state_
 touches_rows v (command.Forget r) = has_rows v.rows (first_parent (state_of v.manager).graph r)
 touches_rows v c = false
 
--- a command is one step of the model, leaves its caller and the others what the manager promises, keeps the last deadlock that it ends, and is
--- counted by the law of the counters; where it is refused or only asks, all is as before
+-- a command is one step of the model, keeps what the manager promises its caller and others, records the last deadlock that it ends, and is counted; one that
+-- is refused or only asks changes nothing
 pub record Applies (m : ManagerView) (c : Command) (a : Answer) (told : Told) (m' : ManagerView) : Type 0 where
   pub step : Step (state_of m) c a told (state_of m')
   pub caller : KeepsCaller c (state_of m) (state_of m')
@@ -41,29 +41,29 @@ pub record Applies (m : ManagerView) (c : Command) (a : Answer) (told : Told) (m
   pub counters : m'.counters ≡ counted (state_of m) c a told (state_of m') m.counters
   pub same : m'.accepted ≡ m.accepted → m' ≡ m
 
--- the node that a command drops which is answered so
+-- the node that a command with this answer has dropped
 abbrev pub dropped_by : Command → Answer → Option NodeId
 dropped_by (command.Drop t n) answer.Done = Some n
 dropped_by c a = None
 
--- the node is no file of rows any more, and all else is as it was
+-- the node is no file of rows any more, and all else is the same
 pub record ForgetsFile (v : RowsView) (n : NodeId) (v' : RowsView) : Type 0 where
   pub files : (f : NodeId) → has_rows v' f ≡ (has_rows v f && not (same_node n f))
   pub names : v'.names ≡ v.names
   pub asked : v'.asked ≡ v.asked
 
--- a node that was dropped is forgotten as a file; its rows have no names, since no record of it stood, and its name is never given again
+-- a dropped node is no file of rows any more; its rows have no nodes, since it had no record, and its id is never given again
 abbrev pub LeavesRows : Option NodeId → RowsView → RowsView → Type 0
 LeavesRows None v v' = v' ≡ v
 LeavesRows (Some n) v v' = ForgetsFile v n v'
 
--- such a command is not made; any other is, and leaves the rows, but for a file that it drops
+-- a command that touches rows is not carried out; any other is, and changes the rows only by a file that it drops
 abbrev pub ServesBy : Bool → RegistryView → Command → Option Answer → Told → RegistryView → Type 0
 ServesBy true v c result told v' = (result ≡ None) × (told ≡ []) × (v' ≡ v)
 ServesBy false v c result told v' =
     (a : Answer) × (result ≡ Some a) × Applies v.manager c a told v'.manager × LeavesRows (dropped_by c a) v.rows v'.rows
 
--- a path is locked by the manager, and leaves the rows
+-- the manager locks a path, and the rows stay the same
 pub record LocksWay (t : TxnId) (ask : Ask) (v : RegistryView) (result : Result Reached Refusal) (told : Told) (v' : RegistryView) : Type 0 where
   pub path : LocksPath t ask v.manager told result v'.manager
   pub tests : (r : Refusal) → first_refusal (path_tests (state_of v.manager) t ask.0 ask.1) ≡ Some r → (result ≡ Err r) × (v'.manager ≡ v.manager)

@@ -8,7 +8,7 @@ use Rattle.gl_registry.specs.Rows.{RowsView, same_row}
 use Rattle.gl_registry.specs.declared.row.Row.{Row}
 use Rattle.gl_registry.specs.declared.rows.Rows.TheInside.{Inside}
 
--- sets of rows, as they are kept
+-- sets of rows, as stored
 abbrev pub Sets : Type 0 → Type 0
 Sets H = List (IndexSet Row H)
 
@@ -17,11 +17,11 @@ module _ {H : Type 0} (sets : Sets H) where
   abbrev pub rows_of : List (List Row)
   rows_of = map (λ s. s.keys) sets
 
-  -- the row is in the set of a slot
+  -- the row is in the slot's set
   abbrev pub is_in : ℕ → Row → Bool
   is_in slot row = list_any (same_row row) (get_or rows_of slot [])
 
-  -- the set of a slot has room for a row more
+  -- the slot's set has room for one more row
   abbrev pub HasRoom : ℕ → Type 0
   HasRoom slot = (set : IndexSet Row H) → slice_get sets slot ≡ Some set → 0 < spare set
 

@@ -1,4 +1,4 @@
-//! What calls about rows come to.
+//! The answers to calls about rows.
 
 ghost use Rattle.std.specs.Prelude.{◌≡◌};
 ghost use Rattle.gl_registry.specs.Answers.{done_said, lock_said};
@@ -7,24 +7,24 @@ use gl_catalog::Answer;
 use gl_modes::{NodeId, Refusal};
 use gl_table::Locked;
 
-/// What a row's lock came to.
+/// The outcome of a row's lock.
 #[derive(Clone, Copy, PartialEq, Eq, Debug)]
 pub struct RowLocked {
-    /// The node by which the row is named.
+    /// The row's node.
     pub node: NodeId,
-    /// What the lock of that node came to.
+    /// The outcome of that node's lock.
     pub locked: Locked,
-    /// Whether the keys that were said are the node's own. Where they are not, the lock is one of a row
-    /// that lies elsewhere than the caller believes: its keys are to be read again.
+    /// Whether the given keys are the node's own. If not, the row's keys are others than the caller
+    /// assumed, and the caller must read them again.
     pub own_keys: bool,
 }
 
 /// Why a call about rows is refused.
 #[derive(Clone, Copy, PartialEq, Eq, Debug)]
 pub enum RowRefusal {
-    /// The file is none of rows.
+    /// The file is no file of rows.
     NotRows,
-    /// The manager's reason.
+    /// The manager's refusal.
     Refused(Refusal),
 }
 
@@ -39,18 +39,18 @@ impl From<Refusal> for RowRefusal {
     }
 }
 
-/// What is answered to a call about rows.
+/// The answer to a call about rows.
 #[derive(Clone, Copy, PartialEq, Eq, Debug)]
 pub enum RowAnswer {
-    /// A row's lock is held or waited for, or its asker fell.
+    /// A row's lock is granted or waits, or its requester was chosen as victim.
     Locked(RowLocked),
-    /// Any other call, and a lock that is refused: as its command is answered.
+    /// The answer of the call's command: for any other call, and for a refused lock.
     Answered(Answer),
-    /// The file is none of rows. Nothing has changed.
+    /// The file is no file of rows. Nothing has changed.
     NotRows,
 }
 
-/// A row was to be locked.
+/// The answer to a row's lock.
 pub(crate) fn lock_answer(outcome: Result<RowLocked, RowRefusal>) -> RowAnswer
     ensures { result ≡ lock_said outcome }
 {
@@ -61,7 +61,7 @@ pub(crate) fn lock_answer(outcome: Result<RowLocked, RowRefusal>) -> RowAnswer
     }
 }
 
-/// Something was to be done about a row.
+/// The answer to any other call about a row.
 pub(crate) fn done_row(outcome: Result<(), RowRefusal>) -> RowAnswer
     ensures { result ≡ done_said outcome }
 {

@@ -8,29 +8,29 @@ use gl_catalog::Command;
 use gl_modes::{Mode, NodeId};
 use gl_table::TxnId;
 
-/// One call about rows, or one by which rows may lose their nodes. A call that gives locks back lets
-/// go each row that its transaction has asked for and that nobody holds or waits for any more.
+/// One call about rows, or one by which rows may lose their nodes. `Unlock` lets its row go, and the
+/// other calls that release locks let go all rows that their transaction asked for: a row that nobody
+/// holds or waits for any more loses its node.
 ///
-/// A call about a row of a file that is none of rows is refused with `NotRows` before all else. Others
-/// are refused as the command that they stand for, and a row's lock also as it says.
+/// A call about a row whose file is no file of rows is refused with `NotRows` before all else. Other
+/// refusals are those of the call's command; `Lock` lists its own.
 #[derive(Clone, Copy)]
 pub enum RowCall<'a> {
-    /// A new file, under 1 to 8 inner nodes, of which each record is a row by its number. No record of
-    /// it is made, taken away or changed by its node.
+    /// Make a file of rows under 1 to 8 inner nodes. Its records are never made, removed or rekeyed by
+    /// their nodes.
     File {
         parents: &'a [NodeId],
     },
-    /// Lock a row whose keys are these, one for each index of its file in order of their making. A row
-    /// without a node gets one with these keys, and so does one whose node nobody holds or waits for.
-    /// Any other is locked by the node that it has, whatever its keys, and the answer says whether they
-    /// are those that were said.
+    /// Lock a row that has these keys, one for each index of its file in the order in which the
+    /// indexes were made. A row without a node gets one with these keys, and so does a row whose node
+    /// has other keys and which nobody holds or waits for. Any other row is locked by the node that it
+    /// has, and the answer says whether the given keys are that node's.
     ///
-    /// A row that has a node is refused as the lock of that node. One that gets a node is refused, in
-    /// this order, with `WornOut` (fewer than two commands can be counted any more, or three where it
-    /// loses another node), `NoSuchTxn`, `TxnWaiting`, `TxnCondemned`, as `Command::Adopt`, with
-    /// `BadMode` (other than `S` and `X`) and with `NeedParents`. `NoMemory` may come before all of
-    /// these. A row that is to be inserted is locked in `X` by its number, and so is one that is to be
-    /// deleted.
+    /// If the row keeps its node, the refusals are those of that node's lock. If it gets a node, they
+    /// are, in this order, `WornOut` (fewer than two commands can still be counted, or three if it
+    /// loses another node), `NoSuchTxn`, `TxnWaiting`, `TxnCondemned`, those of `Command::Adopt`,
+    /// `BadMode` (other than `S` and `X`) and `NeedParents`. `NoMemory` may precede all of these. To
+    /// insert or delete a row, lock it in `X` by its number.
     Lock {
         txn: TxnId,
         row: Row,
@@ -49,19 +49,19 @@ pub enum RowCall<'a> {
         index: NodeId,
         key: u64,
     },
-    /// End, and release everything.
+    /// End the transaction and release everything.
     Commit {
         txn: TxnId,
     },
-    /// End and release everything, also while waiting or condemned.
+    /// End the transaction and release everything, also while it waits or is condemned.
     Abort {
         txn: TxnId,
     },
-    /// Take a wait back.
+    /// Cancel the transaction's wait.
     Cancel {
         txn: TxnId,
     },
-    /// Raise the lock of a node, and release the children whose locks it then implies.
+    /// Raise the lock on a node, and release the children whose locks it then implies.
     Escalate {
         txn: TxnId,
         node: NodeId,
@@ -69,8 +69,8 @@ pub enum RowCall<'a> {
 }
 
 impl<'a> RowCall<'a> {
-    /// The command that the call carries out, with the name that names nothing in place of its row's
-    /// node. Who asks for a lock by it, and whose wait it takes back, are the same on every node.
+    /// The command that the call carries out, with `NodeId::NONE` in place of its row's node. The
+    /// transactions that request a lock or cancel a wait by it are the same for every node.
     pub fn command(self) -> Command<'a>
         ensures { result ≡ own_command unnamed self.entry }
     {

@@ -1,5 +1,5 @@
-//! Rows by the engine's own numbers: each has a node of the lock graph for as long as it is locked. And
-//! the laws of rows, whether or not a node stands for them.
+//! Rows by the engine's own numbers, each with a node of the lock graph while it is locked. And the
+//! laws of rows, with or without a node.
 #![tactic(auto)]
 
 mod answer;

@@ -1,4 +1,4 @@
-//! The nodes of rows.
+//! Forgetting the nodes of rows.
 
 ghost use Rattle.gl_catalog.specs.Manager.{state_of};
 ghost use Rattle.gl_registry.specs.Locking.{ForgetsLiving, LetsGo, SameAccount};
@@ -9,8 +9,8 @@ use gl_catalog::Manager;
 use gl_modes::{NodeId, Refusal};
 use indexmap::IndexMap;
 
-/// Forgets the node by which a row is named, if that still lives, and the name with it. Refused with
-/// `WornOut`, `BadParents` and `RecordInUse`.
+/// Forgets the row's node, if that still lives, and removes the row's entry. Refused with `WornOut`,
+/// `BadParents` and `RecordInUse`.
 pub(crate) fn let_go(
     names: &mut IndexMap<Row, NodeId>,
     manager: &mut Manager,
@@ -41,7 +41,7 @@ fn forget_living(manager: &mut Manager, node: NodeId) -> Result<(), Refusal>
     Err(refusal)
 }
 
-/// Lets each of these rows go.
+/// Does `let_go` for each of these rows, and ignores refusals.
 pub(crate) fn let_each_go(names: &mut IndexMap<Row, NodeId>, manager: &mut Manager, rows: &[Row])
     ensures goes { LetsEachGo (state_of manager.old) names.old.entries rows.now (state_of manager.new) names.new.entries }
     ensures account { SameAccount manager.old manager.new }

@@ -1,4 +1,4 @@
-//! The registry: a manager, and which node stands for a row.
+//! The registry: a manager, and the node of each row that has one.
 
 ghost use Rattle.std.specs.Prelude.{◌≡◌, ℕ, [], IfErr, IfOk, None, false, length, true};
 ghost use Rattle.gl_modes.specs.declared.node.NodeId.{NodeId as ANode};
@@ -25,12 +25,13 @@ use gl_table::{Told, TxnId};
 use std::alloc::Global;
 use std::marker::Model;
 
-/// A manager with files of rows, whose records come and go by the calls about rows alone.
+/// A manager with files of rows, whose records are made, removed and rekeyed by the calls about rows
+/// alone.
 ///
-/// A row gets its node by the call that locks it, and loses it where nobody holds it or waits for it
-/// any more. The registry owns the manager, lends it for questions, and serves every command: so each
-/// name stands for a living record of its file, no two rows have one node, and each record of a file of
-/// rows names a row of it.
+/// A row gets its node from the call that locks it, and loses it when nobody holds it or waits for it
+/// any more. The registry owns the manager, lends it for reading and serves every command. So each
+/// row's node is a living record of the row's file, no two rows have the same node, and each record of
+/// a file of rows is the node of one of its rows.
 #[derive(Drop)]
 pub struct Registry {
     manager: Manager,
@@ -50,7 +51,7 @@ impl Model for Registry {
 }
 
 impl Registry {
-    /// A registry over this manager, in which no file has rows. The only refusal is `NoMemory`.
+    /// A registry over this manager, without files of rows. The only refusal is `NoMemory`.
     pub fn new(alloc: Global, manager: Manager) -> Result<Self, Refusal>
         ensures manager { IfOk result (λ registry. registry.manager ≡ manager) }
         ensures fileless { IfOk result (λ registry. (file : ANode) → has_rows registry.rows file ≡ false) }
@@ -71,7 +72,7 @@ impl Registry {
         let _ = &self.rows;
     }
 
-    /// The manager, to be asked.
+    /// The manager, for reading.
     pub fn manager(&self) -> &Manager
         ensures { result.now ≡ self.now.manager }
     {
@@ -85,24 +86,24 @@ impl Registry {
         self.rows.has(file)
     }
 
-    /// The node by which a row is named; `None` where nobody holds it or waits for it.
+    /// The row's node; `None` if it has none.
     pub fn node(&self, row: Row) -> Option<NodeId>
         ensures { result ≡ name_of self.now.rows row }
     {
         self.rows.node(row)
     }
 
-    /// How many rows are named.
+    /// How many rows have a node.
     pub fn len(&self) -> usize
         ensures { result ≡ length self.now.rows.names }
     {
         self.rows.len()
     }
 
-    /// Carries out one command, and answers it as `Manager::apply_telling`. `None` where it would make,
-    /// take away or change a record of a file of rows by its node: then nothing has changed, whatever
-    /// else could be said against it. A file of rows that is dropped is forgotten as one. Notices are put
-    /// into an empty list.
+    /// Carries out one command, and answers as `Manager::apply_telling`. Answers `None` and changes
+    /// nothing if the command would make, remove or rekey a record of a file of rows by its node, even
+    /// if other refusals apply. A dropped file is no file of rows any more. `told` must be empty, and
+    /// receives the notices.
     #[inline(always)]
     pub fn serve(&mut self, command: Command<'_>, told: &mut Told) -> Option<Answer>
         requires empty { told.old.items ≡ [] }
@@ -117,7 +118,7 @@ impl Registry {
         Some(answer)
     }
 
-    /// Locks a node with what has to be held above it, as `Manager::lock_path_telling`.
+    /// Locks a node and what must be held above it, as `Manager::lock_path_telling`.
     pub fn lock_path(
         &mut self,
         t: TxnId,
@@ -131,8 +132,8 @@ impl Registry {
         self.manager.lock_path_telling(t, node, mode, told)
     }
 
-    /// Goes back to a savepoint, as `Manager::release_since_telling`. Rows that nobody holds or waits for
-    /// any more are let go.
+    /// Rolls back to a savepoint, as `Manager::release_since_telling`. Rows that the transaction asked
+    /// for and that nobody holds or waits for any more lose their nodes.
     pub fn release_since(
         &mut self,
         t: TxnId,
@@ -146,13 +147,13 @@ impl Registry {
         self.rows.release_since(&mut self.manager, t, mark, told)
     }
 
-    /// Carries out one call about rows. Notices are put into an empty list.
+    /// Carries out one call about rows. `told` must be empty, and receives the notices.
     ///
-    /// It is one step of the command that it stands for, on the node by which its row is named; before
-    /// and behind that, records that nobody holds are adopted and forgotten, which tells nobody and
-    /// ends nobody's wait. Where it is refused, nothing has changed.
+    /// The call is one step of its own command on the row's node. Before and after that step, records
+    /// that nobody holds may be adopted and forgotten, which tells nobody and ends no wait. A refused
+    /// call changes nothing.
     ///
-    /// `RowCall` says of each call when it is refused, and with what.
+    /// `RowCall` lists the refusals of each call.
     #[inline(always)]
     pub fn apply(&mut self, call: RowCall<'_>, told: &mut Told) -> RowAnswer
         requires empty { told.old.items ≡ [] }
@@ -164,7 +165,7 @@ impl Registry {
         carry_out(&mut self.manager, &mut self.rows, call, told)
     }
 
-    /// Whether the command would make, take away or change a record of a file of rows.
+    /// Whether the command would make, remove or rekey a record of a file of rows.
     #[inline(always)]
     fn touches_rows(&self, command: &Command<'_>) -> bool
         ensures { result ≡ touches_rows self.now command.now }
@@ -179,14 +180,13 @@ impl Registry {
     }
 }
 
-/// The first parent of a node: of a record its file.
+/// The first parent of a node; for a record, its file.
 fn first_parent(graph: &Graph, node: NodeId) -> NodeId
     ensures { result ≡ first_parent (graph_of graph.now) node }
 {
     graph.parents(node).first().copied().unwrap_or(NodeId::NONE)
 }
 
-/// Carries out one call by the call that does it.
 #[inline(always)]
 fn carry_out(
     manager: &mut Manager,

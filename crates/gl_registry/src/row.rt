@@ -2,7 +2,7 @@
 
 use gl_modes::NodeId;
 
-/// A row of an engine: its file, and the engine's own number for it there.
+/// A row: its file, and the engine's own number for it in that file.
 #[derive(Clone, Copy, PartialEq, Eq, Hash, Debug)]
 pub struct Row {
     pub file: NodeId,

@@ -1,6 +1,6 @@
-//! The rows of a registry: which files have rows, and which node stands for a row.
+//! The rows of a registry: the files of rows, and the node of each row that has one.
 //!
-//! Each call takes the manager whose nodes these are.
+//! Each call receives the manager whose nodes these are.
 
 ghost use Rattle.std.specs.Prelude.{◌≡◌, ℕ, IfErr, IfOk, None, false, length};
 ghost use Rattle.std.specs.List.{list_any};
@@ -25,11 +25,11 @@ use std::marker::Model;
 mod lock;
 mod release;
 
-/// How many files are looked through.
+/// The most files that are searched without hashing.
 const FEW: usize = 8;
 
-/// The files that have rows, the node of each row that stands, and for each slot the rows that its
-/// transaction has asked for.
+/// The files of rows, the node of each row that has one, and for each slot the rows that its
+/// transaction asked for.
 #[derive(Drop)]
 pub(crate) struct Rows {
     files: IndexSet<NodeId>,
@@ -50,7 +50,7 @@ impl Model for Rows {
 }
 
 impl Rows {
-    /// No file has rows. The only refusal is `NoMemory`.
+    /// No files and no rows. The only refusal is `NoMemory`.
     pub(crate) fn new(alloc: Global) -> Result<Self, Refusal>
         ensures fileless { IfOk result (λ rows. (file : ANode) → has_rows rows file ≡ false) }
         ensures unnamed { IfOk result (λ rows. (row : ARow) → name_of rows row ≡ None) }
@@ -71,22 +71,21 @@ impl Rows {
         is_among(&self.files, file)
     }
 
-    /// The node by which a row is named.
+    /// The row's node, if it has one.
     pub(crate) fn node(&self, row: Row) -> Option<NodeId>
         ensures { result ≡ name_of self.now row }
     {
         self.names.get(&row).copied()
     }
 
-    /// How many rows are named.
+    /// How many rows have a node.
     pub(crate) fn len(&self) -> usize
         ensures { result ≡ length self.now.names }
     {
         self.names.len()
     }
 
-    /// The node by which a row is named; the name that names nothing where the row of a file of rows has
-    /// none. Refused with `NotRows`.
+    /// The row's node; `NodeId::NONE` if a row of a file of rows has none. Refused with `NotRows`.
     fn node_for(&self, row: Row) -> Result<NodeId, RowRefusal>
         ensures { result ≡ node_for self.now row }
     {
@@ -113,7 +112,7 @@ impl Rows {
         Ok(file)
     }
 
-    /// A command was answered so. A node that it dropped is no file of rows any more.
+    /// Notes the answer to a command: a dropped node is no file of rows any more.
     #[inline(always)]
     pub(crate) fn note(&mut self, command: &Command<'_>, answer: Answer)
         ensures { LeavesRows (dropped_by command.now answer) self.old self.new }
@@ -125,7 +124,7 @@ impl Rows {
         }
     }
 
-    /// The node is no file of rows any more.
+    /// Removes a node from the files of rows.
     fn forget_file(&mut self, node: NodeId)
         ensures { ForgetsFile self.old node self.new }
     {
@@ -133,7 +132,7 @@ impl Rows {
     }
 }
 
-/// Whether a file is one of these. A few are looked through: to hash a name takes longer.
+/// Whether a file is one of these. A few files are searched: hashing takes longer.
 #[inline]
 pub(crate) fn is_among(files: &IndexSet<NodeId>, file: NodeId) -> bool
     ensures { result ≡ list_any (same_node file) files.now.keys }

@@ -1,5 +1,5 @@
-//! For each slot the rows that its transaction has asked for. From `SLOTS` on no transaction lives, and no
-//! row is asked for.
+//! For each slot, the rows that its transaction asked for. From `SLOTS` on there are no transactions
+//! and no rows.
 
 ghost use Rattle.gl_slots.specs.Limit.{most_slots};
 ghost use Rattle.std.specs.Prelude.{◌≡◌, ◌<◌, ◌&&◌, ◌||◌, ◌==◌, ℕ, [], get_or, not, IfErr, IfOk, OnOk, Some, false, length, slice_get};
@@ -14,7 +14,7 @@ use gl_slots::{SLOTS, Slot};
 use indexmap::IndexSet;
 use std::alloc::Global;
 
-/// A set for each slot, all of them empty.
+/// An empty set for each slot.
 pub(crate) fn empty_sets(alloc: Global) -> Result<Vec<IndexSet<Row>>, Refusal>
     ensures sets { IfOk result (λ sets. length sets.items ≡ most_slots) }
     ensures empty { IfOk result (λ sets. (slot : ℕ) (row : ARow) → is_in sets.items slot row ≡ false) }
@@ -29,7 +29,7 @@ pub(crate) fn empty_sets(alloc: Global) -> Result<Vec<IndexSet<Row>>, Refusal>
     Ok(sets)
 }
 
-/// Makes room for one row more in the set of a slot, if it has one.
+/// Makes room for one more row in a slot's set, if the slot has one.
 pub(crate) fn make_room(sets: &mut Vec<IndexSet<Row>>, slot: Slot) -> Result<(), Refusal>
     requires sets { length sets.old.items ≡ most_slots }
     ensures sets { length sets.new.items ≡ most_slots }
@@ -46,7 +46,7 @@ pub(crate) fn make_room(sets: &mut Vec<IndexSet<Row>>, slot: Slot) -> Result<(),
     }
 }
 
-/// Puts a row into the set of a slot.
+/// Adds a row to a slot's set.
 pub(crate) fn put(sets: &mut Vec<IndexSet<Row>>, slot: Slot, row: Row)
     requires sets { length sets.old.items ≡ most_slots }
     requires slot { slot < most_slots }
@@ -57,7 +57,7 @@ pub(crate) fn put(sets: &mut Vec<IndexSet<Row>>, slot: Slot, row: Row)
     sets[slot as usize].insert(row).unwrap();
 }
 
-/// The rows in the set of a slot.
+/// The rows in a slot's set.
 pub(crate) fn rows_in(sets: &Vec<IndexSet<Row>>, slot: Slot) -> &[Row]
     requires sets { length sets.now.items ≡ most_slots }
     ensures rows { result.now ≡ get_or (rows_of sets.now.items) slot [] }
@@ -68,7 +68,7 @@ pub(crate) fn rows_in(sets: &Vec<IndexSet<Row>>, slot: Slot) -> &[Row]
     }
 }
 
-/// Takes a row out of the set of a slot.
+/// Removes a row from a slot's set.
 pub(crate) fn take(sets: &mut Vec<IndexSet<Row>>, slot: Slot, row: Row)
     requires sets { length sets.old.items ≡ most_slots }
     ensures sets { length sets.new.items ≡ most_slots }
@@ -80,8 +80,8 @@ pub(crate) fn take(sets: &mut Vec<IndexSet<Row>>, slot: Slot, row: Row)
     sets[slot as usize].swap_remove(&row);
 }
 
-/// Takes all rows out of the set of a slot. To clear a set writes all its room; where that is far more
-/// than its rows they are taken out one by one.
+/// Empties a slot's set. Clearing a set writes all its room; if that is far more than its rows, they
+/// are removed one by one.
 pub(crate) fn clear(sets: &mut Vec<IndexSet<Row>>, slot: Slot)
     requires sets { length sets.old.items ≡ most_slots }
     ensures sets { length sets.new.items ≡ most_slots }
@@ -92,7 +92,7 @@ pub(crate) fn clear(sets: &mut Vec<IndexSet<Row>>, slot: Slot)
     }
     let set = &mut sets[slot as usize];
     if set.is_empty() {
-        return; // As of most who end.
+        return; // The usual case.
     }
     if set.len() < set.capacity() / 16 {
         set.truncate(0);

@@ -1,4 +1,4 @@
-//! Rows are locked.
+//! Locking rows.
 
 ghost use Rattle.std.specs.Prelude.{◌≡◌, [], OnOk, Some, true};
 ghost use Rattle.std.specs.Map.{lookup};
@@ -23,15 +23,16 @@ use indexmap::map::Entry;
 use indexmap::{IndexMap, IndexSet};
 
 impl Rows {
-    /// Locks a row, whose keys are these, one for each index of its file in order of their making: it
-    /// is granted, or waits, or fells its transaction, as a lock of its node does. A row that has no
-    /// node gets one with these keys, and so does one whose node nobody holds or waits for. Any other
-    /// is locked by the node that it has, and the answer says whether the keys are its own. Notices are
-    /// put into an empty list.
+    /// Locks a row that has these keys, one for each index of its file in the order in which the
+    /// indexes were made. The lock is granted, waits or makes its transaction a victim, as a lock of
+    /// its node does. A row without a node gets one with these keys, and so does a row whose node has
+    /// other keys and which nobody holds or waits for. Any other row is locked by the node that it
+    /// has, and the answer says whether the keys are that node's. `told` must be empty, and receives
+    /// the notices.
     ///
-    /// Refused, in this order, with `NotRows`; where the row has a node, as its lock; else with
-    /// `WornOut` (fewer than two commands can be counted any more, or three where a node is let go),
-    /// and as `Manager::adopt_locked`. `NoMemory` may come before all of these.
+    /// Refused, in this order, with `NotRows`; if the row keeps its node, as that node's lock; else
+    /// with `WornOut` (fewer than two commands can still be counted, or three if a node is forgotten),
+    /// and as `Manager::adopt_locked`. `NoMemory` may precede all of these.
     pub(crate) fn lock(
         &mut self,
         manager: &mut Manager,
@@ -62,8 +63,8 @@ impl Rows {
     }
 }
 
-/// Locks the node by which a row is named; else names the row by a node that is adopted and locked. The
-/// name is looked up once.
+/// Locks the row's node, or gives the row a node that is adopted and locked. The row is looked up
+/// once.
 fn lock_named(
     names: &mut IndexMap<Row, NodeId>,
     files: &IndexSet<NodeId>,
@@ -111,7 +112,7 @@ fn lock_named(
 }
 
 impl RowLocked {
-    /// A lock of a node that was adopted with the keys that were said.
+    /// The outcome for a node that was adopted with the given keys.
     fn first(node: NodeId, mode: Mode) -> RowLocked
         ensures { result ≡ first_locked node mode }
     {
@@ -123,7 +124,7 @@ impl RowLocked {
     }
 }
 
-/// Adopts and locks a record in place of one that nobody holds or waits for, which is forgotten. A
+/// Adopts and locks a record, and forgets the one that it replaces, which nobody holds or waits for. A
 /// refused call changes nothing.
 fn renew(
     manager: &mut Manager,

@@ -1,9 +1,8 @@
-//! Rows are given back or get other keys, and rows that nobody holds or waits for any more lose their
-//! nodes.
+//! Releasing and rekeying rows. Rows that nobody holds or waits for any more lose their nodes.
 //!
-//! A row keeps its node where the manager would refuse to forget that: somebody else holds it or waits
-//! for it, or no command can be counted any more. Each call fills a list that is empty before. A refused
-//! call changes nothing.
+//! A row keeps its node if the manager would refuse to forget it: a transaction still holds it or
+//! waits for it, or no command can be counted any more. `told` must be empty before each call. A
+//! refused call changes nothing.
 
 ghost use Rattle.std.specs.Prelude.{◌≡◌, []};
 ghost use Rattle.gl_steps.specs.declared.command.Command.TheVariants as command;
@@ -20,8 +19,8 @@ use gl_modes::{NodeId, Refusal};
 use gl_table::{Told, TxnId};
 
 impl Rows {
-    /// Releases a row's node, which grants from its front. A row without a node has the name that names
-    /// nothing. Refused with `NotRows`, and then as `Manager::unlock_telling`.
+    /// Releases a row's node, and grants waiters from the front of its queue. A row without a node
+    /// counts as `NodeId::NONE`. Refused with `NotRows`, and then as `Manager::unlock_telling`.
     pub(crate) fn unlock(
         &mut self,
         manager: &mut Manager,
@@ -39,8 +38,8 @@ impl Rows {
         Ok(())
     }
 
-    /// Gives a row's node another key for one index of its file. A row without a node has the name that
-    /// names nothing. Refused with `NotRows`, and then as `Manager::rekey_telling`.
+    /// Gives a row's node another key for one index of its file. A row without a node counts as
+    /// `NodeId::NONE`. Refused with `NotRows`, and then as `Manager::rekey_telling`.
     pub(crate) fn rekey(
         &mut self,
         manager: &mut Manager,
@@ -74,8 +73,7 @@ impl Rows {
         Ok(())
     }
 
-    /// Ends a transaction whatever it is doing, and releases everything. Refused as
-    /// `Manager::abort_telling`.
+    /// Ends a transaction of any status, and releases everything. Refused as `Manager::abort_telling`.
     pub(crate) fn abort(
         &mut self,
         manager: &mut Manager,
@@ -91,7 +89,7 @@ impl Rows {
         Ok(())
     }
 
-    /// Takes back the wait of a transaction. Refused as `Manager::cancel_telling`.
+    /// Cancels a transaction's wait. Refused as `Manager::cancel_telling`.
     pub(crate) fn cancel(
         &mut self,
         manager: &mut Manager,
@@ -106,7 +104,7 @@ impl Rows {
         Ok(())
     }
 
-    /// Raises the lock of a node, and releases the children whose locks it then implies. Refused as
+    /// Raises the lock on a node, and releases the children whose locks it then implies. Refused as
     /// `Manager::escalate_telling`.
     pub(crate) fn escalate(
         &mut self,
@@ -123,7 +121,7 @@ impl Rows {
         Ok(escalated)
     }
 
-    /// Goes back to a savepoint: unlocks what a transaction has locked since it had so many locks.
+    /// Rolls back to a savepoint: unlocks what the transaction locked since it had `mark` locks.
     /// Refused as `Manager::release_since_telling`.
     pub(crate) fn release_since(
         &mut self,
