@@ -1,4 +1,4 @@
--- The boxes of slots, what a command puts into them, and what became of a wait by them.
+-- The boxes of slots, what a command puts into them, and the outcome of a wait by them.
 use Rattle.std.specs.Prelude.{◌≡◌, ◌≢◌, ℕ, Bool, true, false, ◌&&◌, nat_eq, if◌then◌else◌, List, All, slice_set, slice_index_or, Option, Some, None}
 use Rattle.std.specs.Prelude.{Result, Ok, Err}
 use Rattle.gl_modes.specs.declared.mode.Mode.{Mode}
@@ -19,7 +19,7 @@ use Rattle.gl_wakes.specs.declared.grant.Grant.{Grant}
 use Rattle.gl_wakes.specs.declared.grant.Stop.{Stop}
 use Rattle.gl_wakes.specs.declared.grant.Stop.TheVariants as stop
 
--- the notice of a transaction, or nothing
+-- a notice with its transaction, or nothing
 abbrev pub Slot : Type 0
 Slot = Option (TxnId × Notice)
 
@@ -29,21 +29,21 @@ box_at boxes slot = slice_index_or boxes slot None
 abbrev pub put_in : List Slot → TxnId × Notice → List Slot
 put_in boxes x = slice_set boxes x.0.slot (Some x)
 
--- each told notice stands in its slot's box, and no other box changes
+-- each notice is in its slot's box, and no other box changes
 pub record Delivers (before : List Slot) (told : List (TxnId × Notice)) (after : List Slot) : Type 0 where
   pub stands : All (λ x. box_at after x.0.slot ≡ Some x) told
   pub others : (slot : ℕ) → All (λ x. x.0.slot ≢ slot) told → box_at after slot ≡ box_at before slot
 
--- the boxes behind an accepted command: a lock's own slot's is empty, so that what stands there later is its own verdict
+-- the boxes after an accepted command: a lock empties its own slot's, so that a later notice there is its own verdict
 abbrev pub emptied : Command → List Slot → List Slot
 emptied (command.Lock t n m) boxes = slice_set boxes t.slot None
 emptied c boxes = boxes
 
--- the boxes behind a command that was answered so: one that is refused empties none
+-- the boxes after a command with this answer: a refused one empties none
 abbrev pub cleared : Command → Answer → List Slot → List Slot
 cleared c a boxes = if is_refused a then boxes else emptied c boxes
 
--- the notice in the box of t's slot, where it names t and its age
+-- the notice in the box of t's slot, if it names t and its age
 abbrev pub named : TxnId → Slot → Option Notice
 named t None = None
 named t (Some x) = if nat_eq x.0.slot t.slot && nat_eq x.0.age t.age then Some x.1 else None
@@ -55,7 +55,7 @@ abbrev pub is_refusal : Stop → Bool
 is_refusal (stop.Refused r) = true
 is_refusal _ = false
 
--- by the notice: a grant only where it is for this node, and t holds there a mode that covers the asked one
+-- by the notice: a grant only if it is for this node, and t holds there a mode that covers the requested one
 abbrev pub by_notice : State → TxnId → NodeId → Mode → Option Notice → Option (Result Grant Stop)
 by_notice s t n k None = stopped NotWaiting
 by_notice s t n k (Some Victim) = Some (Err stop.Victim)

@@ -1,4 +1,4 @@
--- Who has to be woken after a step.
+-- Which slots must be woken after a step.
 use Rattle.gl_slots.specs.Limit.{most_slots}
 use Rattle.std.specs.Prelude.{◌≡◌, ℕ, ◌<◌, Bool, true, false, ◌==◌}
 use Rattle.gl_modes.specs.declared.node.NodeId.{NodeId}
@@ -14,12 +14,12 @@ use Rattle.gl_steps.specs.declared.command.Command.TheVariants as command
 use Rattle.gl_steps.specs.Promises.{waits_on}
 use Rattle.gl_steps.specs.Step.{Step}
 
--- whoever waits in the one state and no more in the other has its slot in the set
+-- the set has the slot of each transaction that waits in the first state and no more in the second
 abbrev pub HasEnded : State → State → Slots → Type 0
 HasEnded s s' slots = IsLawful s → (t : TxnId) (n : NodeId) → t.slot < most_slots → waits_on s t n ≡ true → waits_on s' t n ≡ false
     → has_slot slots t.slot ≡ true
 
--- each step of the command that tells these has in the set whoever waits no more behind it (own): so no sleeper is left whose wait is over
+-- for each step of the command with these notices, the set has each slot whose wait it ended; so no transaction sleeps on after its wait
 abbrev pub WakesEnded : Command → Told → Slots → Type 0
 WakesEnded c told slots = (s s' : State) (a : Answer) → Step s c a told s' → HasEnded s s' slots
 

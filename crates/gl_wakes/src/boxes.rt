@@ -1,4 +1,4 @@
-//! The boxes of slots: what each transaction was told last, and what became of its wait.
+//! The boxes of slots: the last notice to each transaction, and the outcome of its wait.
 
 ghost use Rattle.gl_slots.specs.Limit.{most_slots};
 ghost use Rattle.std.specs.Prelude.{◌≡◌, [], true, false, None, Some, Ok, List, slice_set, replicate};
@@ -19,7 +19,7 @@ use std::marker::Model;
 /// A slot's last notice.
 pub type Slot = Option<(TxnId, Notice)>;
 
-/// A box for each slot, where its last notice lies. To a contract it is the list of what they have.
+/// A box for each slot, with the slot's last notice. Contracts see the list of these notices.
 #[derive(Drop)]
 pub struct Boxes {
     slots: [Slot; SLOTS],
@@ -35,7 +35,7 @@ impl Model for Boxes {
 }
 
 impl Boxes {
-    /// Boxes that are empty.
+    /// Empty boxes.
     pub fn new() -> Boxes
         ensures { result ≡ replicate most_slots None }
     {
@@ -44,8 +44,8 @@ impl Boxes {
         }
     }
 
-    /// Puts the notices of an accepted command into their slots' boxes. Behind a lock its own slot's is
-    /// empty, so that what stands there later is its own verdict.
+    /// Puts the notices of an accepted command into their slots' boxes. A lock empties its own slot's
+    /// box, so that a later notice there is the lock's own verdict.
     pub fn deliver(&mut self, command: &Command<'_>, told: &[(TxnId, Notice)])
         requires { RisingTo 0 told.now most_slots }
         ensures told { (mid : List ASlot) × Delivers self.old told.now mid × (self.new ≡ emptied command.now mid) }
@@ -57,10 +57,10 @@ impl Boxes {
         }
     }
 
-    /// Whether the transaction has its answer on this node, and which. The first that applies:
-    /// refused with `NoSuchTxn` where it does not live; none yet where it waits on the node; what its
-    /// slot's box has for it, a grant only of a mode that it holds there and that covers the asked
-    /// one; else refused with `NotWaiting`.
+    /// The verdict on the transaction's request for this node, if there is one. The first that
+    /// applies: refused with `NoSuchTxn` if the transaction does not live; none yet if it waits on the
+    /// node; the notice in its slot's box, where a grant counts only if the transaction holds the node
+    /// in a mode that covers the requested one; else refused with `NotWaiting`.
     pub fn verdict(
         &self,
         manager: &Manager,
@@ -110,7 +110,7 @@ fn deliver(boxes: &mut [Slot; SLOTS], told: &[(TxnId, Notice)])
     }
 }
 
-/// Empties the box of a slot, where there is one.
+/// Empties the slot's box, if there is one.
 fn empty_box(boxes: &mut [Slot; SLOTS], slot: gl_slots::Slot)
     ensures { boxes.new ≡ slice_set boxes.old slot None }
 {
@@ -119,7 +119,7 @@ fn empty_box(boxes: &mut [Slot; SLOTS], slot: gl_slots::Slot)
     }
 }
 
-/// What the box of a transaction's slot has for it.
+/// The notice for the transaction in its slot's box.
 fn notice_for(boxes: &[Slot; SLOTS], txn: TxnId) -> Option<Notice>
     ensures { result ≡ named txn (box_at boxes.now txn.slot) }
 {

@@ -1,5 +1,5 @@
-//! Who is woken. A wait of a transaction ends only by a command that tells it, or by one that takes
-//! its wait back or ends it by name: so no other sleeper has to look.
+//! Which slots are woken. A wait ends only by a command that tells its transaction, or that cancels or
+//! aborts it by name; so no other sleeper needs to check.
 
 ghost use Rattle.gl_slots.specs.Limit.{most_slots};
 ghost use Rattle.std.specs.Prelude.{◌≡◌, ◌<◌, ◌||◌, ◌==◌, ℕ};
@@ -13,8 +13,8 @@ use gl_catalog::Command;
 use gl_model::{Notice, TxnId};
 use gl_slots::{SLOTS, Slots};
 
-/// The slots whose wait a command may have ended that told these: who is told, and whose wait it
-/// cancelled or aborted by name.
+/// The slots whose wait a command with these notices may have ended: those that it tells, and the one
+/// that it cancels or aborts by name.
 pub fn ended_by(command: &Command<'_>, told: &[(TxnId, Notice)]) -> Slots
     requires { RisingTo 0 told.now most_slots }
     ensures slots { (u : ℕ) → u < most_slots → has_slot result u ≡ (names_slot command.now u || list_any (λ x. x.0.slot == u) told.now) }

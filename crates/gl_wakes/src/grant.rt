@@ -1,4 +1,4 @@
-//! How a session's lock ends.
+//! The outcomes of a session's lock.
 
 use gl_model::TxnId;
 use gl_modes::{Mode, NodeId, Refusal};
@@ -11,7 +11,7 @@ pub struct Grant {
     pub mode: Mode,
 }
 
-/// Why a lock gave no grant.
+/// Why a lock was not granted.
 #[derive(Clone, Copy, PartialEq, Eq, Debug)]
 pub enum Stop {
     Refused(Refusal),

@@ -1,5 +1,5 @@
-//! How waits end in a table that threads share: the notices that a command leaves in boxes, what became of a
-//! wait by them, and whom a command wakes.
+//! How waits end in a table that threads share: the notices that a command leaves in boxes, the
+//! outcome of a wait by them, and the slots that a command wakes.
 #![tactic(auto)]
 
 mod boxes;
