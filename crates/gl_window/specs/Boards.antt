@@ -1,4 +1,4 @@
--- Lists of published boards.
+-- Lists of published snapshots.
 use Rattle.std.specs.Prelude.{◌≡◌, ℕ, ◌≤◌, ◌<◌, true, false, List, [], ◌∷◌, ◌++◌}
 use mathlib.Core.List.{IsPrefix}
 use Rattle.gl_modes.specs.declared.node.NodeId.{NodeId}
@@ -12,12 +12,12 @@ use Rattle.gl_model.specs.declared.answers.Detect.{Detect}
 use Rattle.gl_model.specs.declared.answers.Detect.TheVariants.{AtBlock}
 use Rattle.gl_model.specs.State.{State, age_of, is_wait, is_waiting_at, members, status_of, waits_for}
 
--- the epoch of the last board of the list, or e
+-- the epoch of the last snapshot of the list, or e
 abbrev pub last_epoch : ℕ → List Board → ℕ
 last_epoch e [] = e
 last_epoch e (b ∷ bs) = last_epoch b.epoch bs
 
--- epochs never fall, from e on
+-- epochs never decrease, from e on
 abbrev pub Rising : ℕ → List Board → Type 0
 Rising e [] = Unit {0}
 Rising e (b ∷ bs) = (e ≤ b.epoch) × Rising b.epoch bs
@@ -32,31 +32,31 @@ abbrev pub AllFine : Detect → List Board → Type 0
 AllFine detect [] = Unit {0}
 AllFine detect (b ∷ bs) = Fine detect b × AllFine detect bs
 
--- the list ends with this board
+-- the list ends with this snapshot
 abbrev pub Ends : List Board → Board → Type 0
 Ends list board = (front : List Board) × (list ≡ front ++ board ∷ [])
 
--- nobody waits on the last board of the list
+-- no transaction waits on the last snapshot of the list
 abbrev pub EndsIdle : List Board → Type 0
 EndsIdle list = (board : Board) × Ends list board × ShowsNobody board
 
--- what holds of each list of boards of a table: it begins with the board at making, its epochs never fall, and each board is fine
+-- what holds of each list of a table's snapshots: it begins with the table's first, its epochs never decrease, and each is fine
 pub record IsLawful (detect : Detect) (first : Board) (list : List Board) : Type 0 where
   pub begins : IsPrefix (first ∷ []) list
   pub rising : Rising 0 list
   pub fine : AllFine detect list
 
--- the set has all parties to waits: who waits, and who holds a node for which somebody waits
+-- the set has all parties to waits: every waiter, and every holder of a node with a waiter
 abbrev pub HasParties : State → Slots → Type 0
 HasParties s set =
     (t : ℕ) → has_slot set t ≡ false
     → (is_wait (status_of s t) ≡ false) × ((u : ℕ) (n : NodeId) → is_waiting_at s u n ≡ true → holds (members s n) t ≡ false)
 
--- the board shows the waits of the state: each, with the ages of who waits and of whom it waits for
+-- the snapshot shows each wait of the state, with the ages of the waiter and of the transaction waited for
 pub record ShowsWaits (s : State) (b : Board) : Type 0 where
   pub waits : (t u : ℕ) → board_edge b t u ≡ waits_for s t u
   pub ages : (t u : ℕ) → waits_for s t u ≡ true → (age_in b t ≡ age_of s t) × (age_in b u ≡ age_of s u)
 
--- the last board of the list shows them
+-- the last snapshot of the list shows them
 abbrev pub EndsWithWaits : State → List Board → Type 0
 EndsWithWaits s list = (board : Board) × Ends list board × ShowsWaits s board

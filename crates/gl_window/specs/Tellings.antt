@@ -17,8 +17,8 @@ abbrev pub is_due : Telling → Bool → Bool
 is_due Always waited = true
 is_due WhileWaiting waited = waited
 
--- whether a command is one that leaves all waits where it tells nobody, and none of these parties to waits gives it: a lock that is granted, or nodes
--- that are released; or it makes a node or a transaction, or takes a record away for which there is no lock
+-- whether a command changes no wait if it tells nobody, and none of these parties to waits gives it: it locks at once, tries or releases; makes a node or a
+-- transaction; or forgets a record
 abbrev pub spares_waits : Slots → Command → Answer → Bool
 spares_waits parties (command.Inner ps) a = true
 spares_waits parties (command.File ps) a = true
@@ -36,13 +36,11 @@ spares_waits parties (command.Forget r) a = true
 spares_waits parties (command.IndexBy t ps f bs) a = true
 spares_waits parties c a = false
 
--- whether an accepted command is known to have left all waits as they were, by the parties to waits before it: where there were none, it leaves nobody
--- waiting
+-- whether an accepted command is known to have changed no wait, by the parties to waits before it; if there were none, it leaves nobody waiting
 abbrev pub leaves_waits : Slots → Command → Answer → Told → Bool
 leaves_waits parties c a told = if has_none parties then not (leaves_waiting a) else is_empty told && spares_waits parties c a
 
--- all parties to waits, where it is known that the board that was shown last shows the waits: it is known still behind what, by these parties, is known to
--- have left all waits as they were
+-- the parties to waits, if the snapshot shown last is known to show the waits; it still is after a command that is known to have changed no wait
 abbrev pub still_known : Option Slots → (Slots → Bool) → Option Slots
 still_known None leaves = None
 still_known (Some parties) leaves = if leaves parties then Some parties else None

@@ -1,4 +1,5 @@
-//! The boards of a table in one history that only grows. It exists in proofs alone; what is stored is its length.
+//! The snapshots of a table in one history that only grows. It exists in proofs alone; only its length
+//! is stored.
 ghost use Rattle.std.specs.Prelude.{◌≡◌, ◌+◌, ◌∷◌, [], ◌++◌, ◌⊎◌, ◌≤◌, true, length, List, IfOk, IfSome};
 ghost use Rattle.std.specs.Arc.{arc_value};
 ghost use Rattle.gl_waits.specs.declared.board.Board.{Board as ABoard};
@@ -13,7 +14,7 @@ use std::alloc::{AllocError, Global};
 use std::marker::Model;
 use std::sync::Arc;
 
-/// The word of a book: the number of boards after the first.
+/// The word of a book: the number of snapshots after the first.
 pub type Head = Word<Board, u64, Law>;
 
 /// The rule of the book.
@@ -46,7 +47,7 @@ impl Gain<Board, u64> for Nothing {
     ghost after = { λ names about answer. ftrue };
 }
 
-/// The step that adds a board.
+/// The step that adds a snapshot.
 pub struct Add;
 
 impl Play<Board, u64> for Add {
@@ -63,19 +64,19 @@ impl Plain<Board, Board, u64> for Add {
     ghost state = { λ board. None };
 }
 
-/// A book opens with one board.
+/// A book opens with one snapshot.
 impl Opening<Board, Board> for Add {
     ghost use Rattle.std.specs.Prelude.{◌∷◌, []};
 
     ghost log = { λ count board. board ∷ [] };
 }
 
-/// A beginning of the published list, of which the last board is stored, once for all who know it.
+/// A prefix of the published list. Its last snapshot is stored, once for all owners.
 #[derive(Drop)]
 pub struct Line {
     board: Arc<Board>,
     count: u64,
-    /// Whether detection is at the block.
+    /// Whether detection is at block.
     detect: Detect,
     seen: Seen<Board, u64, Law>,
 }
@@ -94,7 +95,7 @@ impl Model for Line {
 }
 
 impl Line {
-    /// A new book with one board, and its word.
+    /// A new book with one snapshot, and its word.
     pub fn open(alloc: Global, board: Board, detect: Detect) -> Result<(Head, Line), AllocError>
         requires { Fine detect board }
         ensures { IfOk result (λ t. (t.0 ≡ head_of t.1.book) × (t.1.list ≡ board ∷ []) × (t.1.detect ≡ detect)) }
@@ -116,7 +117,7 @@ impl Line {
         ))
     }
 
-    /// The last board.
+    /// The last snapshot.
     pub fn board(&self) -> &Board
         ensures last { Ends self.now.list result.now }
         ensures epoch { result.now.epoch ≡ last_epoch 0 self.now.list }
@@ -126,8 +127,8 @@ impl Line {
         &self.board
     }
 
-    /// The same list for one owner more. It copies no board; it is refused where the board has as
-    /// many owners as can be counted.
+    /// The same list for one more owner. It copies no snapshot. Refused if the snapshot has as many
+    /// owners as can be counted.
     pub fn again(&self) -> Result<Line, AllocError>
         ensures { IfOk result (λ l. l ≡ self.now) }
     {
@@ -139,7 +140,7 @@ impl Line {
         })
     }
 
-    /// Goes on to another list of the book, where that is longer.
+    /// Becomes another list of the same book, if that is longer.
     pub fn learn(&mut self, other: Line)
         requires { (other.book ≡ self.old.book) × (other.detect ≡ self.old.detect) }
         ensures one { (self.new ≡ self.old) ⊎ (self.new ≡ other) }
@@ -152,7 +153,7 @@ impl Line {
         }
     }
 
-    // Both begin one list.
+    // Both are prefixes of one list.
     fn beside(&self, other: &Line)
         requires { (other.now.book ≡ self.now.book) × (other.now.detect ≡ self.now.detect) }
         ensures { (both : List ABoard) × IsPrefix self.now.list both × IsPrefix other.now.list both }
@@ -161,7 +162,7 @@ impl Line {
         both.learn(&other.seen);
     }
 
-    /// Adds a board to the book, unless others were added.
+    /// Adds a snapshot to the book, unless others were added after this list.
     pub fn add(&self, head: &Head, board: Arc<Board>) -> Option<Line>
         requires head { head.now ≡ head_of self.now.book }
         requires rises { last_epoch 0 self.now.list ≤ (arc_value board).epoch }
@@ -193,7 +194,7 @@ impl Line {
         })
     }
 
-    /// Whether the other list is this one and then its last board.
+    /// Whether the other list is this one and one more snapshot.
     pub fn is_followed(&self, other: &Line) -> bool
         requires { (other.now.book ≡ self.now.book) × (other.now.detect ≡ self.now.detect) }
         ensures { result ≡ true → (last : ABoard) → Ends other.now.list last → other.now.list ≡ self.now.list ++ last ∷ [] }

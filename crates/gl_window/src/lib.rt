@@ -1,5 +1,6 @@
-//! Boards for watchers: the board of now, the list of those that were published, and when one is due; and a
-//! window, through which up to eight watchers look at the last with no lock, each board whole.
+//! Waits-for snapshots for watchers: the current one, the list of those published, and when one is
+//! due; and a window through which up to eight watchers read the last one without a latch, always
+//! whole.
 #![tactic(auto)]
 
 mod history;

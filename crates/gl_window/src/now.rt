@@ -1,4 +1,4 @@
-//! The board of now, which every watcher may see.
+//! The current snapshot, which every watcher may read.
 
 ghost use Rattle.std.specs.Prelude.{◌≡◌};
 ghost use Rattle.gl_table.specs.Table.{board_of};
@@ -8,8 +8,8 @@ ghost use Rattle.gl_window.specs.Boards.{Fine};
 use gl_catalog::Manager;
 use gl_waits::Board;
 
-/// The board of a manager. No slot in it waits for itself or for a free slot, and with detection at
-/// block nobody is on a cycle of waits.
+/// The waits-for snapshot of a manager. In it no slot waits for itself or for a free slot, and with
+/// detection at block no slot is on a cycle of waits.
 pub fn board_now(manager: &Manager) -> Board
     ensures board { result ≡ board_of (state_of manager.now) }
     ensures fine { Fine manager.now.table.detect result }

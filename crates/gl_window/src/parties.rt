@@ -13,7 +13,7 @@ use gl_catalog::Manager;
 use gl_slots::{Slot, Slots};
 use gl_table::Status;
 
-/// All parties to waits: who waits, and who holds a node for which somebody waits.
+/// All parties to waits: every waiter, and every holder of a node with a waiter.
 pub fn parties_of(manager: &Manager) -> Slots
     ensures { HasParties (state_of manager.now) result }
 {
@@ -25,7 +25,7 @@ pub fn parties_of(manager: &Manager) -> Slots
     parties
 }
 
-/// All parties to the wait of a slot: itself, and who holds the node for which it waits; nobody where it
+/// All parties to a slot's wait: itself, and the holders of the node for which it waits; none if it
 /// does not wait.
 fn parties_to(manager: &Manager, slot: Slot) -> Slots
     requires within { slot < most_slots }

@@ -1,4 +1,4 @@
-//! The side that shows boards.
+//! The publisher, which shows snapshots.
 
 ghost use Rattle.std.specs.Prelude.{◌≡◌, ◌≤◌, ◌⊎◌, ◌++◌, ◌∷◌, [], true, IfOk};
 ghost use Rattle.gl_window.specs.Boards.{Fine, last_epoch};
@@ -14,16 +14,16 @@ use std::alloc::{AllocError, Global};
 use std::marker::Model;
 use std::sync::Arc;
 
-/// Why there is no watcher.
+/// Why no watcher is made.
 #[derive(Clone, Copy, PartialEq, Eq, Debug)]
 pub enum WatchFault {
-    /// Eight watch already.
+    /// There are eight watchers already.
     TooMany,
     NoMemory,
 }
 
-/// The one who shows boards. To a contract it is the list of all that it showed, with its book and the
-/// way of detection.
+/// The publisher of snapshots. Contracts see the list of all that it has shown, with its book and the
+/// detection setting.
 #[derive(Drop)]
 pub struct Publisher {
     alloc: Global,
@@ -47,7 +47,7 @@ impl Model for Publisher {
 }
 
 impl Publisher {
-    /// A publisher that shows this board.
+    /// A publisher that shows this snapshot.
     pub fn new(alloc: Global, board: Board, detect: Detect) -> Result<Publisher, AllocError>
         requires { Fine detect board }
         ensures { IfOk result (λ p. (p.list ≡ board ∷ []) × (p.detect ≡ detect)) }
@@ -69,8 +69,8 @@ impl Publisher {
         self.window.seats.find().any
     }
 
-    /// Shows a board behind those before, whole, and says whether it did: always, where there was memory
-    /// for it. One that was not shown is in the list from the next on.
+    /// Shows a snapshot after all earlier ones, whole, and says whether it did: always, if memory for
+    /// it could be allocated. A snapshot that was not shown may be in the list from the next one on.
     pub fn publish(&mut self, board: Board) -> bool
         requires rises { last_epoch 0 self.old.list ≤ board.epoch }
         requires fine { Fine self.old.detect board }
@@ -81,8 +81,8 @@ impl Publisher {
         add_and_show(self.alloc, &self.window, &self.head, &mut self.line, board)
     }
 
-    /// A watcher that knows all that was shown, and this board as the last of it. At most eight watch at
-    /// once.
+    /// A watcher that knows all that was shown, with this snapshot as the last. There are at most
+    /// eight watchers at once.
     pub fn watch(&mut self, board: Board) -> Result<Watcher, WatchFault>
         requires rises { last_epoch 0 self.old.list ≤ board.epoch }
         requires fine { Fine self.old.detect board }
@@ -109,8 +109,8 @@ impl Publisher {
     }
 }
 
-/// Adds a board to the list and shows that, and says whether it did. One that was not shown may be in the
-/// list.
+/// Adds a snapshot to the list and shows the list, and says whether it did. A snapshot that was not
+/// shown may be in the list.
 fn add_and_show(alloc: Global, window: &Window, head: &Head, line: &mut Line, board: Board) -> bool
     requires of { (head.now ≡ head_of line.old.book) × GoesOn window.now.first line.old }
     requires rises { last_epoch 0 line.old.list ≤ board.epoch }

@@ -1,5 +1,5 @@
-//! The seats of watchers: each has one watcher or nobody. They are one word, bit s for seat s, and the rule of
-//! the word is that a set bit has one token, and a token its bit.
+//! The seats of watchers: each seat has one watcher or none. They are one word, bit s for seat s. By
+//! the rule of the word one token has the seat of each set bit, and no token any other.
 
 ghost use Rattle.std.specs.Prelude.{◌≡◌, ◌<◌, ◌==◌, ℕ, IfOk, None, Some, not};
 ghost use Rattle.std.specs.Int.{bit_at};
@@ -8,16 +8,16 @@ ghost use Rattle.gl_window.specs.Seats.{Comes, Glances, Leaves, Takes};
 use atomic_table::{Play, Seat, Table, TableRule};
 use std::alloc::{AllocError, Global};
 
-/// How many watchers there can be at once.
+/// The most watchers at once.
 const MOST_WATCHERS: u32 = 8;
 
-/// What a token of the seats knows. No value of it is made.
+/// What a token of the seats knows. No value of it is ever made.
 pub struct Sitter {
-    /// The seat that it has.
+    /// The seat that it has, if any.
     pub has: Option<u32>,
     /// The seats that it found taken, as bits.
     pub tried: u64,
-    /// All that were taken when it looked, as bits.
+    /// All seats that were taken when it looked, as bits.
     pub found: Option<u64>,
 }
 
@@ -63,7 +63,7 @@ pub(crate) struct Seats {
     ghost one_word: { table.shared.table_id.words ≡ 1 },
 }
 
-/// A seat that is had. It cannot be lost: it has to be given back.
+/// A taken seat. It cannot be dropped: it must be given back.
 pub(crate) struct Chair {
     number: u32,
     pub(crate) token: Seat<(), Sitter>,
@@ -87,13 +87,13 @@ pub(crate) struct Found {
 }
 
 impl Seats {
-    /// Eight seats that nobody has.
+    /// Eight free seats.
     pub(crate) fn new(alloc: Global) -> Result<Seats, AllocError> {
         let (table, _) = Table::of_words(alloc, &[0], &())?;
         Ok(Seats { table })
     }
 
-    /// Takes the first seat that is found free; none, where each of the eight was found taken.
+    /// Takes the first seat found free; fails if each of the eight was found taken.
     pub(crate) fn take(&self) -> Result<Chair, Full>
         ensures { IfOk result (λ chair. chair.token.table_id ≡ self.now.table.shared.table_id) }
     {
@@ -108,7 +108,7 @@ impl Seats {
         Err(Full { token })
     }
 
-    /// Gives a seat back: its token has none from then on.
+    /// Gives a seat back; its token then has none.
     pub(crate) fn leave(&self, chair: Chair) -> Seat<(), Sitter>
         requires { chair.token.table_id ≡ self.now.table.shared.table_id }
         ensures { result.me.0.has ≡ None }
@@ -119,7 +119,7 @@ impl Seats {
         token
     }
 
-    /// Looks whether any seat is taken.
+    /// Checks whether any seat is taken.
     pub(crate) fn find(&self) -> Found {
         let (seats, token) = self.table.shared.load_new_seat::<Glance>(0);
         Found {

@@ -1,4 +1,4 @@
-//! When watchers are told, and what is known to leave all waits as they were.
+//! When watchers are told, and which commands are known to change no wait.
 
 ghost use Rattle.std.specs.Prelude.{◌≡◌, false};
 ghost use Rattle.gl_waits.specs.Boards.{ShowsNobody};
@@ -10,13 +10,13 @@ use gl_slots::Slots;
 use gl_steps::{Answer, Command, leaves_waiting};
 use gl_waits::Board;
 
-/// When a session tells watchers of a command that was accepted. A note tells in any case.
+/// When a session tells watchers of an accepted command. A note always tells them.
 #[derive(Clone, Copy, PartialEq, Eq, Debug)]
 pub enum Telling {
-    /// After each.
+    /// After each one.
     Always,
-    /// Where somebody waits then, or waited when watchers were last told. Else the board of then would
-    /// show no wait, as the last one does, so watchers miss ages and epochs alone.
+    /// If a transaction waits then, or waited when watchers were last told. Otherwise the snapshot
+    /// would show no wait, as the last one does, so watchers miss only ages and epochs.
     WhileWaiting,
 }
 
@@ -30,8 +30,8 @@ pub fn is_due(telling: Telling, waited: bool) -> bool
     }
 }
 
-/// Whether somebody may wait on a board that is told. Where every command is told nobody wants to know,
-/// so the board is not read.
+/// Whether a transaction may wait on a snapshot that is told. With `Always` nobody needs the answer,
+/// so the snapshot is not read.
 pub fn may_show_waits(telling: Telling, board: &Board) -> bool
     ensures none { result ≡ false → ShowsNobody board.now }
     ensures some { telling ≡ WhileWaiting → ShowsNobody board.now → result ≡ false }
@@ -39,8 +39,7 @@ pub fn may_show_waits(telling: Telling, board: &Board) -> bool
     telling == Telling::Always || !board.shows_nobody()
 }
 
-/// Whether a command that was accepted is known to have left all waits as they were, by the parties to
-/// waits before it.
+/// Whether an accepted command is known to have changed no wait, by the parties to waits before it.
 pub fn leaves_waits(
     parties: Slots,
     command: &Command<'_>,
@@ -56,9 +55,9 @@ pub fn leaves_waits(
     }
 }
 
-/// Whether a command is one that leaves all waits where it tells nobody, and none of these parties to
-/// waits gives it. One who holds no node for which somebody waits is granted no other, since it stands
-/// behind the queue there.
+/// Whether a command of this kind changes no wait if it tells nobody, and none of these parties to
+/// waits gives it. A transaction that holds no node with a waiter is granted no such node, since it
+/// would queue there.
 fn spares_waits(parties: Slots, command: &Command<'_>, answer: &Answer) -> bool
     ensures { result ≡ spares_waits parties command.now answer.now }
 {

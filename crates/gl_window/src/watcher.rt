@@ -1,4 +1,4 @@
-//! Watchers look at boards with no lock.
+//! Watchers read snapshots without a latch.
 
 ghost use Rattle.std.specs.Prelude.{◌≡◌, ◌≤◌};
 ghost use mathlib.Core.List.{IsPrefix};
@@ -11,8 +11,8 @@ use gl_waits::Board;
 use std::marker::Model;
 use std::sync::Arc;
 
-/// A reader of boards, with a seat of its own. To a contract it is the longest list that it saw, with
-/// its book and the way of detection.
+/// A reader of snapshots, with a seat of its own. Contracts see the longest list that it has read,
+/// with its book and the detection setting.
 pub struct Watcher {
     pub(crate) window: Arc<Window>,
     pub(crate) last: Line,
@@ -33,9 +33,9 @@ impl Model for Watcher {
 }
 
 impl Watcher {
-    /// The last board of a list that begins with the list behind the last look: a board that was shown,
-    /// and never an older one than before. No slot in it waits for itself or for a free slot, and with
-    /// detection at block nobody is on a cycle of waits. It takes no lock and no memory.
+    /// The last snapshot of a list that continues the one of the last look: a snapshot that was shown,
+    /// and never an older one than before. In it no slot waits for itself or for a free slot, and with
+    /// detection at block no slot is on a cycle of waits. Acquires no latch and allocates no memory.
     pub fn look(&mut self) -> Board
         ensures board { Ends self.new.list result }
         ensures later { IsPrefix self.old.list self.new.list }

@@ -1,4 +1,4 @@
-//! Counted places for lists of boards, one of which has the last that was shown.
+//! Counted places for lists of snapshots; one of them has the list that was shown last.
 
 ghost use Rattle.std.specs.Prelude.{◌≡◌, ◌<◌, IfOk, IfSome};
 ghost use Rattle.std.specs.List.{All};
@@ -10,13 +10,13 @@ use counted_slot::{Counted, Fits, MOST_READERS, ONE_READER, PRESENT, TAKEN};
 use std::alloc::{AllocError, Global};
 use std::sync::atomic::{AtomicU64, Ordering};
 
-/// How many lists there is room for: one for each watcher that looks, the one shown last, and one more.
+/// Places for lists: one for each watcher that looks, one for the list shown last, and one more.
 const PLACES: usize = 10;
 
-/// How often a look tries, each time behind another list that was shown meanwhile.
+/// How often a look tries; each further try means that another list was shown meanwhile.
 const TRIES: u32 = 1000;
 
-/// A list in a place of the window: it goes on from the first, by which the place is known.
+/// A list in a place of the window. It continues the first list, which is the place's tag.
 #[derive(Drop)]
 struct Shot {
     line: Line,
@@ -42,7 +42,7 @@ pub(crate) struct Window {
 }
 
 impl Window {
-    /// A window of lists that go on from this one, which shows none yet.
+    /// A window for lists that continue this one, which shows none yet.
     pub(crate) fn new(alloc: Global, first: Line) -> Result<Window, AllocError>
         ensures { IfOk result (λ w. w.first ≡ first) }
     {
@@ -55,7 +55,7 @@ impl Window {
         })
     }
 
-    /// Shows a list, and says whether there was a place for it: always, where nobody else shows one.
+    /// Shows a list, and says whether there was a place for it: always, if no other thread shows one.
     pub(crate) fn show(&self, line: &Line) -> bool
         requires { GoesOn self.now.first line.now }
     {
@@ -69,7 +69,7 @@ impl Window {
         false
     }
 
-    /// The list that was shown last; none, where each try came behind a newer one.
+    /// The list shown last; none if a newer one was shown during each try.
     pub(crate) fn look(&self) -> Option<Line>
         ensures { IfSome result (λ line. GoesOn self.now.first line) }
     {
@@ -85,7 +85,7 @@ impl Window {
     }
 }
 
-/// Places for lists that go on from this one.
+/// Places for lists that continue this one.
 fn places_of(alloc: Global, first: &Line) -> Result<Vec<Counted<Shot>>, AllocError>
     ensures { IfOk result (λ places. All (λ tag. tag ≡ first.now) places.items) }
 {
@@ -97,7 +97,7 @@ fn places_of(alloc: Global, first: &Line) -> Result<Vec<Counted<Shot>>, AllocErr
     Ok(places)
 }
 
-/// Puts a list into a place that nobody reads or writes, and says whether it is there.
+/// Puts a list into a place that no thread reads or writes, and says whether it did.
 fn put(place: &Counted<Shot>, line: &Line) -> bool
     requires { GoesOn place.now line.now }
 {
@@ -117,7 +117,7 @@ fn put(place: &Counted<Shot>, line: &Line) -> bool
     true
 }
 
-/// Reads the list in a place, where it has one.
+/// Reads the list in a place, if it has one.
 fn take(place: &Counted<Shot>) -> Option<Line>
     ensures { IfSome result (λ line. GoesOn place.now line) }
 {
