@@ -1,4 +1,4 @@
--- What each call makes of the graph.
+-- How each call changes the graph.
 use Rattle.std.specs.Prelude.{◌≡◌, ℕ, ◌+◌, Bool, true, not, ◌&&◌, ◌||◌, ◌==◌, List, [], ◌∷◌, length, Option, Some, None, if◌then◌else◌}
 use Rattle.std.specs.List.{list_any}
 use Rattle.gl_modes.specs.declared.node.NodeId.{NodeId}
@@ -10,11 +10,11 @@ use Rattle.gl_graph.specs.Graph.{Graph, Node, parents_in, shape_of, indexes_of, 
 abbrev pub with_node : Graph → ℕ → Node → Graph
 with_node g birth node = record { at = λ b. if b == birth then Some node else g.at b; births = g.births; most = g.most; most_bounds = g.most_bounds }
 
--- the graph with a node more, which has the next birth
+-- the graph with one more node, which has the next birth
 abbrev pub born_node : Graph → Node → Graph
 born_node g node = record { at = λ b. if b == g.births + 1 then Some node else g.at b; births = g.births + 1; most = g.most; most_bounds = g.most_bounds }
 
--- these nodes are born, one after the other
+-- the graph after these nodes are born, one after the other
 abbrev pub born_nodes : Graph → List Node → Graph
 born_nodes g [] = g
 born_nodes g (n ∷ ns) = born_nodes (born_node g n) ns
@@ -24,7 +24,7 @@ abbrev pub interval_nodes : NodeId → ℕ → List ℕ → List Node
 interval_nodes index place [] = []
 interval_nodes index place (key ∷ keys) = record { key = key; shape = Interval place; parents = index ∷ [] } ∷ interval_nodes index (place + 1) keys
 
--- the index, and then its intervals in order
+-- the graph after the index is born, and then its intervals in order
 abbrev pub born_index : Graph → ℕ → List NodeId → NodeId → List ℕ → List ℕ → Graph
 born_index g key parents file bounds interval_keys =
     let id : NodeId = record { key = key; birth = g.births + 1 } in
@@ -35,7 +35,7 @@ abbrev pub keys_of : List Node → List ℕ
 keys_of [] = []
 keys_of (n ∷ ns) = n.key ∷ keys_of ns
 
--- no two of these keys are one
+-- these keys are all different
 abbrev pub are_apart : List ℕ → Bool
 are_apart [] = true
 are_apart (k ∷ ks) = not (list_any (λ x. x == k) ks) && are_apart ks
@@ -46,7 +46,7 @@ pub record IsBorn (g g' : Graph) (n : NodeId) (shape : Shape) (parents : List No
   pub birth : n.birth ≡ g.births + 1
   pub after : g' ≡ born_node g (record { key = n.key; shape = shape; parents = parents })
 
--- the index n is born, and behind it an interval more than it has bounds, under different keys that no living node has
+-- the index n is born, and after it one more interval than it has bounds, under different keys that no living node has
 pub record IsIndexBorn (g g' : Graph) (n : NodeId) (parents : List NodeId) (file : NodeId) (bounds : List ℕ) : Type 0 where
   pub interval_keys : List ℕ
   pub intervals : length interval_keys ≡ length bounds + 1
@@ -55,11 +55,11 @@ pub record IsIndexBorn (g g' : Graph) (n : NodeId) (parents : List NodeId) (file
   pub birth : n.birth ≡ g.births + 1
   pub after : g' ≡ born_index g n.key parents file bounds interval_keys
 
--- the graph with one node less
+-- the graph without this node
 abbrev pub without_node : Graph → NodeId → Graph
 without_node g n = record { at = λ b. if b == n.birth then None else g.at b; births = g.births; most = g.most; most_bounds = g.most_bounds }
 
--- the graph without a node and its children, which of an index are its intervals
+-- the graph without a node and its children; an index's are its intervals
 abbrev pub without_branch : Graph → NodeId → Graph
 without_branch g n = record {
   at = λ b. if (b == n.birth) || list_any (same_node n) (parents_in (g.at b)) then None else g.at b;
@@ -74,7 +74,7 @@ abbrev pub reparented : List NodeId → Option Node → Option Node
 reparented ps None = None
 reparented ps (Some n) = Some (record n { parents = ps })
 
--- the node has these parents
+-- the graph in which the node has these parents
 abbrev pub with_parents : Graph → NodeId → List NodeId → Graph
 with_parents g n ps = record {
   at = λ b. if b == n.birth then reparented ps (g.at b) else g.at b;
@@ -84,7 +84,7 @@ with_parents g n ps = record {
       g.most_bounds;
 }
 
--- the shape, of a file as one of which rows were adopted
+-- the shape, for a file marked as one of which rows were adopted
 abbrev pub marked_shape : Shape → Shape
 marked_shape (File adopted) = File true
 marked_shape s = s
@@ -94,11 +94,11 @@ abbrev pub marked_node : Option Node → Option Node
 marked_node None = None
 marked_node (Some n) = Some (record n { shape = marked_shape n.shape })
 
--- the file is one of which rows were adopted
+-- the graph in which the file is so marked
 abbrev pub marked : Graph → NodeId → Graph
 marked g f = record { at = λ b. if b == f.birth then marked_node (g.at b) else g.at b; births = g.births; most = g.most; most_bounds = g.most_bounds }
 
--- the keys with the one of an index changed
+-- the keys with that of one index changed
 abbrev pub keys_with : List NodeId → List ℕ → NodeId → ℕ → List ℕ
 keys_with [] keys index key = keys
 keys_with (i ∷ is) [] index key = []
@@ -108,7 +108,7 @@ keys_with (i ∷ is) (k ∷ ks) index key = (if same_node i index then key else 
 abbrev pub rekeyed_keys : Graph → NodeId → NodeId → ℕ → List ℕ
 rekeyed_keys g rec index key = keys_with (indexes_of g (first_parent g rec)) (keys_in (shape_of g rec)) index key
 
--- the parents that it has with these keys
+-- the parents of a record with these keys
 abbrev pub rekeyed_parents : Graph → NodeId → NodeId → ℕ → List NodeId
 rekeyed_parents g rec index key = record_parents g (first_parent g rec) (rekeyed_keys g rec index key)
 
@@ -117,7 +117,7 @@ abbrev pub rekeyed_node : List ℕ → List NodeId → Option Node → Option No
 rekeyed_node keys ps None = None
 rekeyed_node keys ps (Some n) = Some (record { key = n.key; shape = Rec keys; parents = ps })
 
--- the record has another key for one index, and the interval in which it lies
+-- the graph in which the record has another key for one index, and the interval that contains it
 abbrev pub rekeyed : Graph → NodeId → NodeId → ℕ → Graph
 rekeyed g rec index key =
     record {
@@ -127,7 +127,7 @@ rekeyed g rec index key =
       most_bounds = g.most_bounds;
     }
 
--- n is born as a record of this file with these keys, and the file is one of which rows were adopted
+-- n is born as a record of this file with these keys, and the file is marked as one of which rows were adopted
 pub record IsAdopted (g g' : Graph) (n f : NodeId) (keys : List ℕ) : Type 0 where
   pub key_free : IsFreeKey g n.key
   pub birth : n.birth ≡ g.births + 1

@@ -1,24 +1,24 @@
--- The lock graph: a finite map from births to nodes. A node's name names a node where key and birth agree.
+-- The lock graph: a finite map from births to nodes. An id names a node if key and birth agree.
 use Rattle.std.specs.Prelude.{◌≡◌, ◌≢◌, ℕ, ◌+◌, Bool, true, ◌&&◌, ◌==◌, nat_le, List, [], ◌∷◌, length, Option, Some, None, if◌then◌else◌, is_some}
 use Rattle.std.specs.List.{filter, filter_map, list_any, range_with_len, count_by}
 use Rattle.gl_modes.specs.declared.node.NodeId.{NodeId}
 use Rattle.gl_modes.specs.Nodes.{same_node}
 use Rattle.gl_graph.specs.Shapes.{Shape, is_record_shape, is_index_of_shape, is_index_shape, bounds_in}
 
--- the key under which a node is kept, what it is, and its parents
+-- a node's key, its shape, and its parents
 pub record Node : Type 0 where
   pub key : ℕ
   pub shape : Shape
   pub parents : List NodeId
 
--- the living node of each birth, how many births there were, how many nodes may live at once, and how many bounds an index may have
+-- the living node of each birth, the number of births so far, and the limits of living nodes and of an index's bounds
 pub record Graph : Type 0 where
   pub at : ℕ → Option Node
   pub births : ℕ
   pub most : ℕ
   pub most_bounds : ℕ
 
--- the node, where it is kept under this key
+-- the node, if it has this key
 abbrev pub with_key : ℕ → Option Node → Option Node
 with_key key None = None
 with_key key (Some n) = if n.key == key then Some n else None
@@ -31,7 +31,7 @@ node_at g n = with_key n.key (g.at n.birth)
 abbrev pub is_live : Graph → NodeId → Bool
 is_live g n = is_some (node_at g n)
 
--- the parents of a node that is there
+-- the parents of the node, if there is one
 abbrev pub parents_in : Option Node → List NodeId
 parents_in None = []
 parents_in (Some n) = n.parents
@@ -40,16 +40,16 @@ parents_in (Some n) = n.parents
 abbrev pub parents_of : Graph → NodeId → List NodeId
 parents_of g n = parents_in (node_at g n)
 
--- what a node that is there is
+-- the shape of the node, if there is one
 abbrev pub shape_in : Option Node → Option Shape
 shape_in None = None
 shape_in (Some n) = Some n.shape
 
--- what the node that an id names is
+-- the shape of the node that an id names
 abbrev pub shape_of : Graph → NodeId → Option Shape
 shape_of g n = shape_in (node_at g n)
 
--- the id of the node of a birth
+-- the id of the node with this birth
 abbrev pub id_of : ℕ → Option Node → Option NodeId
 id_of birth None = None
 id_of birth (Some n) = Some (record { key = n.key; birth = birth })
@@ -70,52 +70,52 @@ is_child g n c = list_any (same_node n) (parents_of g c)
 abbrev pub IsFreeKey : Graph → ℕ → Type 0
 IsFreeKey g key = (n : NodeId) → is_live g n ≡ true → n.key ≢ key
 
--- the indexes of a file, in order of making
+-- the indexes of a file, in the order in which they were made
 abbrev pub indexes_of : Graph → NodeId → List NodeId
 indexes_of g f = filter (λ n. is_index_of_shape f (shape_of g n)) (nodes g)
 
--- the place of the interval in which a key lies: how many bounds are not above it
+-- the place of the interval that contains a key: the number of bounds at or below it
 abbrev pub interval_place : List ℕ → ℕ → ℕ
 interval_place bounds key = count_by (λ b. nat_le b key) bounds
 
--- the key of a node that is there
+-- the key of the node, or 0 if there is none
 abbrev pub key_or_zero : Option Node → ℕ
 key_or_zero None = 0
 key_or_zero (Some n) = n.key
 
--- an index is born first, then its intervals in order
+-- the interval of an index at this place: an index is born first, then its intervals in order
 abbrev pub interval : Graph → NodeId → ℕ → NodeId
 interval g index place =
     let birth = index.birth + 1 + place in record { key = key_or_zero (g.at birth); birth = birth }
 
--- the interval of an index with this place, where the index lives and has it
+-- the interval of an index at this place, if the index lives and has one
 abbrev pub interval_at : Graph → NodeId → ℕ → Option NodeId
 interval_at g index place =
     if is_index_shape (shape_of g index) && nat_le place (length (bounds_in (shape_of g index))) then Some (interval g index place) else None
 
--- the interval of an index in which a key lies
+-- the interval of an index that contains a key
 abbrev pub interval_of : Graph → NodeId → ℕ → NodeId
 interval_of g index key = interval g index (interval_place (bounds_in (shape_of g index)) key)
 
--- for each index the interval that holds its key
+-- for each index the interval that contains its key
 abbrev pub intervals_of : Graph → List NodeId → List ℕ → List NodeId
 intervals_of g [] keys = []
 intervals_of g (i ∷ is) [] = []
 intervals_of g (i ∷ is) (k ∷ ks) = interval_of g i k ∷ intervals_of g is ks
 
--- the parents that a record of this file with these keys has
+-- the parents of a record of this file with these keys
 abbrev pub record_parents : Graph → NodeId → List ℕ → List NodeId
 record_parents g file keys = file ∷ intervals_of g (indexes_of g file) keys
 
--- a record whose file this is
+-- a record of this file
 abbrev pub is_record_of : Graph → NodeId → NodeId → Bool
 is_record_of g f r = is_record_shape (shape_of g r) && is_child g f r
 
--- the file of a record, which is its first parent
+-- the first of these; the id that names no node if there is none
 abbrev pub first_in : List NodeId → NodeId
 first_in [] = record { key = 0; birth = 0 }
 first_in (p ∷ ps) = p
 
--- the first parent of a node: of a record, its file
+-- the first parent of a node; for a record, its file
 abbrev pub first_parent : Graph → NodeId → NodeId
 first_parent g n = first_in (parents_of g n)

@@ -1,4 +1,4 @@
--- Intervals come into a slab of nodes, one after the other, and go so.
+-- Intervals are inserted into a slab of nodes one after the other, and removed so.
 use Rattle.std.specs.Prelude.{◌≡◌, ◌≢◌, ◌⊎◌, ℕ, ◌+◌, ◌<◌, true, ◌==◌, List, [], ◌∷◌, length, Some, None, is_some, slice_get}
 use Rattle.std.specs.List.{list_any}
 use Rattle.gl_modes.specs.declared.node.NodeId.{NodeId}
@@ -10,7 +10,7 @@ use Rattle.gl_graph.specs.Changes.{born_nodes, interval_nodes, keys_of, are_apar
 use Rattle.gl_graph.specs.View.{graph_of}
 use Rattle.gl_graph.specs.Seen.{shape_in_body, children_in_body, body_with_children, Limits, seen, AreBornApart, AreBornWithin}
 
--- these nodes were born, in this order, and all others are as they were
+-- these nodes were born, in this order, and all others stay as they were
 pub record IsGrown (old : Slab Stored) (births : ℕ) (new : Slab Stored) (ns : List Node) : Type 0 where
   pub graph : (limits : Limits) → graph_of (seen limits new (births + length ns)) ≡ born_nodes (graph_of (seen limits old births)) ns
   pub apart : AreBornApart new
@@ -22,35 +22,35 @@ pub record IsGrown (old : Slab Stored) (births : ℕ) (new : Slab Stored) (ns : 
   pub taken : (k : ℕ) → list_any (λ y. y == k) (keys_of ns) ≡ true → is_some (get new k) ≡ true
   pub keys_apart : are_apart (keys_of ns) ≡ true
 
--- the names of nodes with these keys and births from this one on
+-- the ids of nodes with these keys and births from this one on
 abbrev pub ids_of : ℕ → List ℕ → List NodeId
 ids_of birth [] = []
 ids_of birth (key ∷ keys) = record { key = key; birth = birth } ∷ ids_of (birth + 1) keys
 
--- so many intervals of an index were born right behind it
+-- so many intervals of an index were born right after it
 pub record AreIntervalsBorn (old new : Slab Stored) (index : NodeId) (count : ℕ) (ids : List NodeId) : Type 0 where
   pub keys : List ℕ
   pub many : length keys ≡ count
   pub grown : IsGrown old index.birth new (interval_nodes index 0 keys)
   pub ids_are : ids ≡ ids_of (index.birth + 1) keys
 
--- the nodes with these names are stored, each under its own key
+-- the nodes with these ids are stored, each under its own key
 pub record AreStored (nodes : Slab Stored) (ids : List NodeId) : Type 0 where
   pub there : (place : ℕ) (n : NodeId) → slice_get ids place ≡ Some n → is_some (get nodes n.key) ≡ true
   pub apart : (place other : ℕ) (m n : NodeId) → slice_get ids place ≡ Some m → slice_get ids other ≡ Some n → m.key ≡ n.key → place ≡ other
 
--- each of these keeps such a number of children
+-- each of these stores such a number of children
 abbrev pub EachKeeps : (ℕ → Type 0) → Slab Stored → List NodeId → Type 0
 EachKeeps Such nodes ids = (place : ℕ) (n : NodeId) (x : Stored) → slice_get ids place ≡ Some n → get nodes n.key ≡ Some x → Such (children_in_body x.body)
 
--- the first so many of them keep another number of children, and all else is as it was
+-- the first so many of these store another number of children, and all else stays as it was
 pub record AreRecounted (fresh : ℕ → ℕ) (old new : Slab Stored) (ids : List NodeId) (count : ℕ) : Type 0 where
   pub counted : (place : ℕ) (n : NodeId) (x : Stored) → place < count → slice_get ids place ≡ Some n → get old n.key ≡ Some x
       → get new n.key ≡ Some (record x { body = body_with_children x.body (fresh (children_in_body x.body)) })
   pub stays : (key : ℕ) → ((place : ℕ) (n : NodeId) → place < count → slice_get ids place ≡ Some n → n.key ≢ key) → get new key ≡ get old key
   pub len : slab_len new ≡ slab_len old
 
--- the first so many of them are gone, and all other nodes are as they were
+-- the first so many of these are removed, and all other nodes stay as they were
 pub record AreGone (old new : Slab Stored) (ids : List NodeId) (count : ℕ) : Type 0 where
   pub gone : (place : ℕ) (n : NodeId) → place < count → slice_get ids place ≡ Some n → get new n.key ≡ None
   pub stays : (key : ℕ) → ((place : ℕ) (n : NodeId) → place < count → slice_get ids place ≡ Some n → n.key ≢ key) → get new key ≡ get old key

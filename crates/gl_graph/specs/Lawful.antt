@@ -1,4 +1,4 @@
--- Which graphs are lawful: kinds and limits, records under their file and intervals, no path closes.
+-- Which graphs are lawful: kinds and limits, records under their file and intervals, no cycles.
 use Rattle.std.specs.Prelude.{◌≡◌, ℕ, ◌^◌, ◌≤◌, Bool, true, not, ◌&&◌, nat_lt, List, [], ◌∷◌, length, Some, is_some, ⊤}
 use Rattle.std.specs.List.{list_all, list_any}
 use Rattle.gl_modes.specs.declared.node.NodeId.{NodeId}
@@ -7,7 +7,7 @@ use Rattle.gl_graph.specs.Shapes.{Shape, Inner, File, Index, Interval, Rec, is_i
 use Rattle.gl_graph.specs.Graph.{Graph, Node, node_at, is_live, shape_of, is_child, node_count, indexes_of, interval, record_parents}
 use Rattle.gl_graph.specs.Routes.{IsAcyclic}
 
--- each of these numbers is below all those behind it
+-- these numbers strictly increase
 abbrev pub IsRising : List ℕ → Type 0
 IsRising [] = ⊤
 IsRising (b ∷ bs) = list_all (λ c. nat_lt b c) bs ≡ true × IsRising bs
@@ -16,7 +16,7 @@ IsRising (b ∷ bs) = list_all (λ c. nat_lt b c) bs ≡ true × IsRising bs
 abbrev pub are_inner : Graph → List NodeId → Bool
 are_inner g ps = list_all (λ p. is_inner_shape (shape_of g p)) ps
 
--- no two of these are one node
+-- these nodes are all different
 abbrev pub are_distinct : List NodeId → Bool
 are_distinct [] = true
 are_distinct (n ∷ ns) = not (list_any (same_node n) ns) && are_distinct ns
@@ -28,7 +28,7 @@ pub record AreInnerParents (g : Graph) (least : ℕ) (ps : List NodeId) : Type 0
   pub inner : are_inner g ps ≡ true
   pub distinct : are_distinct ps ≡ true
 
--- its file, its bounds, and behind it in order of birth its intervals
+-- an index: its file, its bounds, and born right after it, in order, its intervals
 pub record IsIndexNode (g : Graph) (n f : NodeId) (bs : List ℕ) : Type 0 where
   pub file : is_file_shape (shape_of g f) ≡ true
   pub few : length bs ≤ g.most_bounds
@@ -36,13 +36,13 @@ pub record IsIndexNode (g : Graph) (n f : NodeId) (bs : List ℕ) : Type 0 where
   pub intervals : (place : ℕ) → place ≤ length bs
       → (node_at g (interval g n place) ≡ Some (record { key = (interval g n place).key; shape = Interval place; parents = n ∷ [] }))
 
--- a key for each index of its file, whose parents are the file and the intervals of the keys
+-- a record: a key for each index of its file; its parents are the file and the intervals of the keys
 pub record IsRecordNode (g : Graph) (keys : List ℕ) (ps : List NodeId) (file : NodeId) : Type 0 where
   pub file_is : is_file_shape (shape_of g file) ≡ true
   pub a_key_each : length keys ≡ length (indexes_of g file)
   pub parents : ps ≡ record_parents g file keys
 
--- what the kinds ask of the node with this id
+-- what its kind requires of the node with this id
 abbrev pub HasShape : Graph → NodeId → Shape → List NodeId → Type 0
 HasShape g n Inner ps = AreInnerParents g 0 ps
 HasShape g n (File adopted) ps = AreInnerParents g 1 ps
@@ -51,7 +51,7 @@ HasShape g n (Interval place) ps = (index : NodeId) × (ps ≡ index ∷ []) × 
     × (place ≤ length (bounds_in (shape_of g index))) × (n ≡ interval g index place)
 HasShape g n (Rec keys) ps = (file : NodeId) × IsRecordNode g keys ps file
 
--- the node is what its shape asks
+-- the node is as its shape requires
 abbrev pub IsWellFormed : Graph → NodeId → Node → Type 0
 IsWellFormed g n node = HasShape g n node.shape node.parents
 

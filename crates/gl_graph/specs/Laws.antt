@@ -7,15 +7,15 @@ use Rattle.gl_graph.specs.Routes.{IsRootPath}
 use Rattle.gl_graph.specs.Shapes.{bounds_in, is_index_shape}
 use Rattle.gl_graph.specs.Lawful.{IsLawfulGraph}
 
--- every node of a lawful graph has a root path
+-- every node of a lawful graph has a path to the root
 abbrev pub NodesHaveRootPaths : Type 0
 NodesHaveRootPaths = (g : Graph) → IsLawfulGraph g → (n : NodeId) → is_live g n ≡ true → (route : List NodeId) × IsRootPath g n route
 
--- a parent and a root path of it are a root path of the child
+-- a parent and its path to the root are a path to the root of the child
 abbrev pub RootPathsGrow : Type 0
 RootPathsGrow = (g : Graph) (n p : NodeId) (route : List NodeId) → is_child g p n ≡ true → IsRootPath g p route → IsRootPath g n (p ∷ route)
 
--- the first step of a root path leads to a parent, and its rest is a root path of that parent
+-- the first step of a path to the root leads to a parent, and its rest is a path to the root of that parent
 abbrev pub RootPathsShrink : Type 0
 RootPathsShrink = (g : Graph) (n p : NodeId) (route : List NodeId) → IsRootPath g n (p ∷ route) → (is_child g p n ≡ true) × IsRootPath g p route
 
@@ -25,7 +25,7 @@ KeysHaveIntervals =
     (g : Graph) → IsLawfulGraph g → (index : NodeId) (key : ℕ) → is_index_shape (shape_of g index) ≡ true → (place : ℕ)
     × (interval_at g index place ≡ Some (interval_of g index key))
 
--- of the intervals of an index, the interval of a key is the one that holds it
+-- of the intervals of an index, the interval of a key is the one that contains it
 abbrev pub IntervalsHoldKeys : Type 0
 IntervalsHoldKeys =
     (g : Graph) → IsLawfulGraph g → (index n : NodeId) (place key : ℕ) → interval_at g index place ≡ Some n

@@ -1,4 +1,4 @@
--- What a contract sees of a slab of nodes, and what holds of it always.
+-- What a contract sees of a slab of nodes, and what always holds of it.
 use Rattle.std.specs.Prelude.{◌≡◌, ℕ, Bool, true, false, not, count_by, ◌==◌, List, [], ◌∷◌, ◌++◌, map, Option, Some, None, if◌then◌else◌, slice_set}
 use Rattle.std.specs.Prelude.{◌+◌, ◌≤◌, Vec}
 use Rattle.std.specs.List.{filter, list_any}
@@ -15,7 +15,7 @@ use Rattle.gl_graph.specs.Graph.{node_count}
 use Rattle.gl_graph.specs.Lawful.{IsLawfulGraph}
 use Rattle.gl_graph.specs.View.{Vertex, View, graph_of, AgreesAt}
 
--- what a body says of the shape
+-- the shape of a body
 abbrev pub shape_in_body : Body → Shape
 shape_in_body (body.Inner children above) = Inner
 shape_in_body (body.File kept above) = File kept.value.adopted
@@ -27,7 +27,7 @@ shape_in_body (body.TwoKeys keys above) = Rec keys
 shape_in_body (body.ThreeKeys keys above) = Rec keys
 shape_in_body (body.ManyKeys keys above) = Rec keys.value.items
 
--- a node's parents, as they are kept
+-- a node's parents, as stored
 abbrev pub parents_in_body : Body → List NodeId
 parents_in_body (body.Inner children above) = above.items
 parents_in_body (body.File kept above) = above.items
@@ -39,22 +39,22 @@ parents_in_body (body.TwoKeys keys above) = above.value
 parents_in_body (body.ThreeKeys keys above) = above.value
 parents_in_body (body.ManyKeys keys above) = above.items
 
--- a file's indexes, as they are kept
+-- a file's indexes, as stored
 abbrev pub indexes_in_body : Body → List NodeId
 indexes_in_body (body.File kept above) = kept.value.indexes.items
 indexes_in_body b = []
 
--- the number of a file's records, as it is kept
+-- the number of a file's records, as stored
 abbrev pub records_in_body : Body → ℕ
 records_in_body (body.File kept above) = kept.value.records
 records_in_body b = 0
 
--- the number of an inner node's children, as it is kept
+-- the number of an inner node's children, as stored
 abbrev pub children_in_body : Body → ℕ
 children_in_body (body.Inner children above) = children
 children_in_body b = 0
 
--- an index's intervals, as they are kept
+-- an index's intervals, as stored
 abbrev pub intervals_in_body : Body → List NodeId
 intervals_in_body (body.Index kept above) = kept.value.intervals.items
 intervals_in_body b = []
@@ -70,7 +70,7 @@ vertex_of x = record {
   intervals = intervals_in_body x.body;
 }
 
--- the same of a slot
+-- the same for a slot
 abbrev pub see : Option Node → Option Vertex
 see None = None
 see (Some x) = Some (vertex_of x)
@@ -91,7 +91,7 @@ seen limits nodes births = record {
       nodes.vacant_key;
 }
 
--- the node that an id names
+-- the node, if it has this birth
 abbrev pub named_in : ℕ → Option Node → Option Node
 named_in birth None = None
 named_in birth (Some x) = if x.birth == birth then Some x else None
@@ -100,7 +100,7 @@ named_in birth (Some x) = if x.birth == birth then Some x else None
 abbrev pub named : Slab Node → NodeId → Option Node
 named nodes n = named_in n.birth (get nodes n.key)
 
--- no two nodes have one birth
+-- no two nodes have the same birth
 abbrev pub AreBornApart : Slab Node → Type 0
 AreBornApart nodes = (j k : ℕ) (x y : Node) → get nodes j ≡ Some x → get nodes k ≡ Some y → x.birth ≡ y.birth → j ≡ k
 
@@ -108,14 +108,14 @@ AreBornApart nodes = (j k : ℕ) (x y : Node) → get nodes j ≡ Some x → get
 abbrev pub AreBornWithin : Slab Node → ℕ → Type 0
 AreBornWithin nodes births = (k : ℕ) (x : Node) → get nodes k ≡ Some x → x.birth ≤ births
 
--- the graph is lawful, and what is kept beside it agrees with it
+-- the graph is lawful, and what is stored beside it agrees with it
 pub record AreSound (limits : Limits) (nodes : Slab Node) (births : ℕ) : Type 0 where
   pub lawful : IsLawfulGraph (graph_of (seen limits nodes births))
   pub apart : AreBornApart nodes
   pub counted : slab_len nodes ≡ node_count (graph_of (seen limits nodes births))
   pub agree : (key : ℕ) (x : Node) → get nodes key ≡ Some x → AgreesAt (graph_of (seen limits nodes births)) key (vertex_of x)
 
--- what a slot has is a child of n
+-- the slot's node is a child of n
 abbrev pub is_child_slot : NodeId → Option Node → Bool
 is_child_slot n None = false
 is_child_slot n (Some x) = list_any (same_node n) (parents_in_body x.body)
@@ -124,12 +124,12 @@ is_child_slot n (Some x) = list_any (same_node n) (parents_in_body x.body)
 abbrev pub child_count : Slab Node → NodeId → ℕ
 child_count nodes n = count_by (is_child_slot n) nodes.slots
 
--- each inner node keeps this number of children
+-- each inner node stores this number of children
 abbrev pub KeepChildren : Slab Node → (NodeId → ℕ) → Type 0
 KeepChildren nodes count = (key : ℕ) (x : Node) → get nodes key ≡ Some x → shape_in_body x.body ≡ Inner
     → children_in_body x.body ≡ count (record { key = key; birth = x.birth })
 
--- of an inner node without children, or of a file with nothing kept beside it
+-- an inner node without children, or a file with nothing stored beside it
 abbrev pub IsPlainBody : Body → Type 0
 IsPlainBody (body.Inner children above) = children ≡ 0
 IsPlainBody (body.File kept above) = (kept.value.indexes.items ≡ []) × (kept.value.records ≡ 0)
@@ -170,7 +170,7 @@ body_with_parent (body.ThreeKeys keys above) place fresh = body.ThreeKeys keys (
 body_with_parent (body.ManyKeys keys above) place fresh = body.ManyKeys keys (record above { items = slice_set above.items place fresh })
 body_with_parent b place fresh = b
 
--- a record with another key at this place, and its interval at the place behind it, since the first parent is the file
+-- a record with another key at this place, and its interval at the next place, since the first parent is the file
 abbrev pub body_rekeyed : Body → ℕ → ℕ → NodeId → Body
 body_rekeyed b place key interval = body_with_parent (body_with_key b place key) (place + 1) interval
 
@@ -184,7 +184,7 @@ abbrev pub body_with_indexes : Body → SmallVec NodeId → Body
 body_with_indexes (body.File kept above) fresh = body.File (record kept { value = record kept.value { indexes = fresh } }) above
 body_with_indexes b fresh = b
 
--- a file that does not list an index
+-- a file that does not list this index
 abbrev pub body_without_index : Body → NodeId → Body
 body_without_index (body.File kept above) index = body.File (record kept {
   value = record kept.value { indexes = record kept.value.indexes { items = filter (λ listed. not (same_node listed index)) kept.value.indexes.items } };
@@ -196,7 +196,7 @@ abbrev pub body_adopted : Body → Body
 body_adopted (body.File kept above) = body.File (record kept { value = record kept.value { adopted = true } }) above
 body_adopted b = b
 
--- ids, and then those of more that are not there yet
+-- ids, and then those of more that are not among them
 abbrev pub with_all : List NodeId → List NodeId → List NodeId
 with_all ids [] = ids
 with_all ids (m ∷ more) = with_all (if list_any (same_node m) ids then ids else ids ++ m ∷ []) more

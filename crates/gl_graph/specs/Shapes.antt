@@ -1,12 +1,12 @@
--- What a node is, and the tests of it.
+-- The shapes of nodes, and tests of them.
 use Rattle.std.specs.Prelude.{ℕ, Bool, true, false, List, [], Option, Some, None}
 use Rattle.gl_modes.specs.declared.node.NodeId.{NodeId}
 use Rattle.gl_modes.specs.Nodes.{same_node}
 use Rattle.gl_graph.specs.declared.kind.Kind.{Kind}
 use Rattle.gl_graph.specs.declared.kind.Kind.TheVariants as kind
 
--- a file has whether rows of it were ever adopted (a record of it came without a transaction, and may be gone),
--- an index its file and its bounds, an interval its place in the index, a record its keys
+-- a file has whether rows of it were ever adopted (a record of it was made without a transaction, and may be gone), an index its file and its bounds, an
+-- interval its place in the index, a record its keys
 pub data Shape : Type 0 where
   Inner : Shape
   File : (adopted : Bool) → Shape
@@ -14,7 +14,7 @@ pub data Shape : Type 0 where
   Interval : (place : ℕ) → Shape
   Rec : (keys : List ℕ) → Shape
 
--- the kind of a shape that is there
+-- the kind of the shape, if there is one
 abbrev pub kind_in : Option Shape → Option Kind
 kind_in None = None
 kind_in (Some Inner) = Some kind.Inner
@@ -23,27 +23,27 @@ kind_in (Some (Index file bounds)) = Some kind.Index
 kind_in (Some (Interval place)) = Some kind.Interval
 kind_in (Some (Rec keys)) = Some kind.Rec
 
--- of an inner node
+-- the shape is an inner node's
 abbrev pub is_inner_shape : Option Shape → Bool
 is_inner_shape (Some Inner) = true
 is_inner_shape s = false
 
--- of a file
+-- the shape is a file's
 abbrev pub is_file_shape : Option Shape → Bool
 is_file_shape (Some (File adopted)) = true
 is_file_shape s = false
 
--- of a file of which rows were adopted
+-- the shape is that of a file of which rows were adopted
 abbrev pub is_adopted : Option Shape → Bool
 is_adopted (Some (File adopted)) = adopted
 is_adopted s = false
 
--- of a record
+-- the shape is a record's
 abbrev pub is_record_shape : Option Shape → Bool
 is_record_shape (Some (Rec keys)) = true
 is_record_shape s = false
 
--- of an index
+-- the shape is an index's
 abbrev pub is_index_shape : Option Shape → Bool
 is_index_shape (Some (Index file bounds)) = true
 is_index_shape s = false
@@ -53,19 +53,19 @@ abbrev pub place_in : Option Shape → Option ℕ
 place_in (Some (Interval place)) = Some place
 place_in s = None
 
--- an index of this file
+-- the shape is that of an index of this file
 abbrev pub is_index_of_shape : NodeId → Option Shape → Bool
 is_index_of_shape f (Some (Index file bounds)) = same_node f file
 is_index_of_shape f s = false
 
--- what can be given other parents: an inner node, a file, an index
+-- a node that can be moved: an inner node, a file, an index
 abbrev pub is_movable_shape : Option Shape → Bool
 is_movable_shape (Some Inner) = true
 is_movable_shape (Some (File adopted)) = true
 is_movable_shape (Some (Index file bounds)) = true
 is_movable_shape s = false
 
--- how many parents a movable node has at least
+-- the least number of parents of a movable node
 abbrev pub least_parents : Option Shape → ℕ
 least_parents (Some Inner) = 0
 least_parents o = 1

@@ -1,10 +1,10 @@
-//! Where a key lies among the bounds of an index.
+//! The place of a key among the bounds of an index.
 
 ghost use Rattle.std.specs.Prelude.{◌≡◌, ◌≤◌, ◌<◌, length};
 ghost use Rattle.gl_graph.specs.Graph.{interval_place};
 ghost use Rattle.gl_graph.specs.Lawful.{IsRising};
 
-/// The place of the interval that holds the key: how many bounds are not above it.
+/// The place of the interval that contains the key: the number of bounds at or below it.
 pub(crate) fn interval_place(bounds: &[u64], key: u64) -> usize
     requires { IsRising bounds.now }
     ensures place { result ≡ interval_place bounds.now key }

@@ -1,4 +1,4 @@
-//! The nodes of a lock graph, under keys that are used again, with births that are not.
+//! The nodes of a lock graph. Keys are reused; births are not.
 
 ghost use Rattle.std.specs.Prelude.{◌≡◌, ◌≢◌, ◌≤◌, ◌^◌, ℕ, true, Option, None, slice_get};
 ghost use Rattle.gl_graph.specs.Shapes.{
@@ -38,10 +38,10 @@ use crate::kind::Kind;
 use crate::node::Node;
 use crate::store::find;
 
-/// How many nodes may live at once, where no other limit is chosen.
+/// The default limit of nodes that live at once.
 const MOST_NODES: u32 = 65_536;
 
-/// How many bounds an index may have, where no other limit is chosen.
+/// The default limit of an index's bounds.
 const MOST_BOUNDS: u32 = 256;
 
 /// A lawful lock graph: inner nodes, files and indexes under inner nodes, intervals under their
@@ -68,8 +68,8 @@ impl Model for Graph {
 }
 
 impl Graph {
-    /// A graph without nodes, of which at most 65,536 may live at once, and where an index has at most
-    /// 256 bounds.
+    /// A graph without nodes, of which at most 65,536 may live at once. An index may have at most 256
+    /// bounds.
     pub fn new(alloc: Global) -> Self
         ensures empty { (birth : ℕ) → (graph_of result).at birth ≡ None }
         ensures births { result.births ≡ 0 }
@@ -79,8 +79,8 @@ impl Graph {
         Graph::with_limits(alloc, MOST_NODES, MOST_BOUNDS)
     }
 
-    /// As `new`, with other limits: of the nodes that may live at once, at most 2^31, and of the bounds
-    /// of an index.
+    /// As `new`, with other limits: of nodes that live at once, at most 2^31, and of an index's
+    /// bounds.
     pub fn with_limits(alloc: Global, most: u32, most_bounds: u32) -> Self
         requires { most ≤ 2 ^ 31 }
         ensures empty { (birth : ℕ) → (graph_of result).at birth ≡ None }
@@ -125,22 +125,23 @@ impl Graph {
         self.nodes.len()
     }
 
-    /// Whether so many births were given that no node is made any more: a full graph of new nodes might
-    /// not be numbered.
+    /// Whether no node can be made any more, since too few births are left for a full graph of new
+    /// nodes.
     pub fn worn(&self) -> bool
         ensures { result ≡ births_worn (graph_of self.now) }
     {
         self.births > u64::MAX - self.most as u64
     }
 
-    /// The key that the next node gets. What is kept by key can so be made room for before a birth.
+    /// The key that the next node gets, so that room for what is stored by key can be made before the
+    /// node.
     pub fn next_key(&self) -> usize
         ensures { result ≡ self.now.next_key }
     {
         self.nodes.vacant_key()
     }
 
-    /// The kind of the node; `None` where the id names none.
+    /// The kind of the node; `None` if the id names none.
     pub fn kind(&self, n: NodeId) -> Option<Kind>
         ensures { result ≡ kind_in (shape_of (graph_of self.now) n) }
     {
@@ -150,7 +151,7 @@ impl Graph {
         }
     }
 
-    /// The parents of the node; none where the id names no node.
+    /// The parents of the node; none if the id names no node.
     pub fn parents(&self, n: NodeId) -> &[NodeId]
         ensures { result.now ≡ parents_of (graph_of self.now) n }
     {
@@ -160,7 +161,7 @@ impl Graph {
         }
     }
 
-    /// The keys of a record, one for each index of its file; none where the id names no record.
+    /// The keys of a record, one for each index of its file; none if the id names no record.
     pub fn keys(&self, rec: NodeId) -> &[u64]
         ensures { result.now ≡ keys_in (shape_of (graph_of self.now) rec) }
     {
@@ -170,7 +171,7 @@ impl Graph {
         }
     }
 
-    /// The indexes of a file, in order of making.
+    /// The indexes of a file, in the order in which they were made.
     pub fn indexes(&self, file: NodeId) -> &[NodeId]
         requires { is_file_shape (shape_of (graph_of self.now) file) ≡ true }
         ensures { result.now ≡ indexes_of (graph_of self.now) file }
@@ -189,8 +190,8 @@ impl Graph {
         self.records(file) > 0
     }
 
-    /// Whether rows of the file were ever adopted (a record of it came without a transaction, and may
-    /// be gone); `false` where the id names no file.
+    /// Whether rows of the file were ever adopted (a record of it was made without a transaction, and
+    /// may be gone); `false` if the id names no file.
     pub fn is_adopted(&self, file: NodeId) -> bool
         ensures { result ≡ is_adopted (shape_of (graph_of self.now) file) }
     {
@@ -211,7 +212,7 @@ impl Graph {
         }
     }
 
-    /// The interval of an index that has this place, counted from 0; `None` where there is none.
+    /// The interval of an index at this place, counted from 0; `None` if there is none.
     pub fn interval(&self, index: NodeId, place: usize) -> Option<NodeId>
         ensures { result ≡ interval_at (graph_of self.now) index place }
     {
@@ -221,7 +222,7 @@ impl Graph {
         }
     }
 
-    /// The file of an index; `None` where the id names no index.
+    /// The file of an index; `None` if the id names no index.
     pub fn file_of_index(&self, index: NodeId) -> Option<NodeId>
         ensures { result ≡ file_in (shape_of (graph_of self.now) index) }
     {
@@ -231,7 +232,7 @@ impl Graph {
         }
     }
 
-    /// The intervals of an index, in order; none where the id names no index.
+    /// The intervals of an index, in order; none if the id names no index.
     pub fn intervals(&self, index: NodeId) -> &[NodeId]
         ensures { (place : ℕ) → slice_get result.now place ≡ interval_at (graph_of self.now) index place }
     {
@@ -241,7 +242,7 @@ impl Graph {
         }
     }
 
-    /// The place of an interval in its index, counted from 0; `None` where the id names no interval.
+    /// The place of an interval in its index, counted from 0; `None` if the id names no interval.
     pub fn place(&self, n: NodeId) -> Option<usize>
         ensures { result ≡ place_in (shape_of (graph_of self.now) n) }
     {
@@ -251,7 +252,7 @@ impl Graph {
         }
     }
 
-    /// The one interval of an index in which the key lies.
+    /// The one interval of an index that contains the key.
     pub fn interval_of(&self, index: NodeId, key: u64) -> NodeId
         requires { is_index_shape (shape_of (graph_of self.now) index) ≡ true }
         ensures { result ≡ interval_of (graph_of self.now) index key }

@@ -1,7 +1,7 @@
-//! What a node can be.
+//! The kinds of nodes.
 
-/// What a node is: an inner node (a database, an area), a file, an index of a file, an interval of
-/// an index, or a record of a file. The kinds are this project's own choice.
+/// What a node is: an inner node (a database, an area), a file, an index of a file, an interval of an
+/// index, or a record of a file.
 #[derive(Clone, Copy, PartialEq, Eq, Debug)]
 pub enum Kind {
     Inner,

@@ -1,5 +1,5 @@
-//! The lock graph of Gray, Lorie, Putzolu and Traiger (1976) for a data base of inner nodes, files,
-//! indexes, intervals of indexes and records. No path closes, whatever is made, moved or removed.
+//! The lock graph of inner nodes, files, indexes, intervals of indexes and records. It has no cycle,
+//! whatever is made, moved or removed.
 #![tactic(auto)]
 
 mod bounds;

@@ -1,4 +1,4 @@
-//! What is kept of a node.
+//! A node as stored.
 
 use crate::kind::Kind;
 use gl_modes::NodeId;
@@ -6,13 +6,12 @@ use smallvec::SmallVec;
 use std::alloc::{AllocError, Global};
 use std::mem;
 
-/// What a node has, by its kind: its parents, and what it has beside them. Most nodes are records, and most
-/// records have one key or none: what takes more room is in boxes of just its size.
-/// Parents are named last, so that they begin at one place whatever the kind: each lock reads them.
+/// A node's parents and other data, by its kind. Most nodes are records, and most records have one key
+/// or none: larger data is in boxes of just its size. Parents are last, so that they begin at the same
+/// offset for each kind: each lock reads them.
 #[derive(Drop)]
 pub(crate) enum Body {
-    /// An inner node. How many nodes have it as a parent could be found by a search; it is kept so that
-    /// nothing is searched.
+    /// An inner node. The number of its children is stored to save a search.
     Inner {
         children: usize,
         parents: Vec<NodeId>,
@@ -54,8 +53,8 @@ pub(crate) enum Body {
     },
 }
 
-/// What a file has. Its indexes and the number of its records could be found by a search; they are
-/// kept so that nothing is searched. Whether rows of it were adopted is known from nothing else.
+/// A file's data. Its indexes and the number of its records are stored to save a search. Whether rows
+/// of it were adopted is stored only here.
 #[derive(Drop)]
 pub(crate) struct FileBody {
     pub(crate) indexes: SmallVec<NodeId, 1>,
@@ -63,7 +62,7 @@ pub(crate) struct FileBody {
     pub(crate) adopted: bool,
 }
 
-/// What an index has. Its intervals are kept for the same reason.
+/// An index's data. Its intervals are stored for the same reason.
 #[derive(Drop)]
 pub(crate) struct IndexBody {
     pub(crate) file: NodeId,
@@ -294,7 +293,7 @@ impl Body {
         }
     }
 
-    /// Writes how many children an inner node has; another body stays as it is.
+    /// Sets the number of an inner node's children; another body stays as it is.
     pub(crate) fn set_children(&mut self, fresh: usize)
         ensures { self.new ≡ body_with_children self.old fresh }
     {
@@ -303,7 +302,7 @@ impl Body {
         }
     }
 
-    /// Writes how many records a file has; another body stays as it is.
+    /// Sets the number of a file's records; another body stays as it is.
     pub(crate) fn set_records(&mut self, fresh: usize)
         ensures { self.new ≡ body_with_records self.old fresh }
     {
@@ -312,7 +311,7 @@ impl Body {
         }
     }
 
-    /// Writes that rows of a file were adopted; another body stays as it is.
+    /// Marks a file as one of which rows were adopted; another body stays as it is.
     pub(crate) fn adopt(&mut self)
         ensures { self.new ≡ body_adopted self.old }
     {
@@ -321,7 +320,7 @@ impl Body {
         }
     }
 
-    /// Writes the parents of an inner node, a file or an index, and gives those that it had.
+    /// Sets the parents of an inner node, a file or an index, and returns the old ones.
     pub(crate) fn set_parents(&mut self, fresh: Vec<NodeId>) -> Vec<NodeId>
         requires { is_movable_shape (Some (shape_in_body self.old)) ≡ true }
         ensures written { self.new ≡ body_with_parents self.old fresh }
@@ -335,7 +334,7 @@ impl Body {
         }
     }
 
-    /// Writes the key of a record at this place; another body stays as it is.
+    /// Sets the key of a record at this place; another body stays as it is.
     pub(crate) fn set_key(&mut self, place: usize, fresh: u64)
         requires { place < length (keys_in (Some (shape_in_body self.old))) }
         ensures { self.new ≡ body_with_key self.old place fresh }
@@ -349,7 +348,7 @@ impl Body {
         }
     }
 
-    /// Writes the parent of a record at this place; another body stays as it is.
+    /// Sets the parent of a record at this place; another body stays as it is.
     pub(crate) fn set_parent(&mut self, place: usize, fresh: NodeId)
         requires { place < length (parents_in_body self.old) }
         ensures { self.new ≡ body_with_parent self.old place fresh }
@@ -364,7 +363,7 @@ impl Body {
         }
     }
 
-    /// Writes the intervals of an index; another body stays as it is.
+    /// Sets the intervals of an index; another body stays as it is.
     pub(crate) fn set_intervals(&mut self, fresh: Vec<NodeId>)
         ensures { self.new ≡ body_with_intervals self.old fresh }
     {
@@ -373,7 +372,7 @@ impl Body {
         }
     }
 
-    /// Writes the indexes of a file; another body stays as it is.
+    /// Sets the indexes of a file; another body stays as it is.
     pub(crate) fn set_indexes(&mut self, fresh: SmallVec<NodeId, 1>)
         ensures { self.new ≡ body_with_indexes self.old fresh }
     {
@@ -382,7 +381,7 @@ impl Body {
         }
     }
 
-    /// Takes an index out of those of a file; another body stays as it is.
+    /// Removes an index from those of a file; another body stays as it is.
     pub(crate) fn unlist(&mut self, index: NodeId)
         ensures { self.new ≡ body_without_index self.old index }
     {

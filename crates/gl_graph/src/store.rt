@@ -1,4 +1,4 @@
-//! The slab of nodes: looking one up, and writing one.
+//! The slab of nodes: looking up and writing nodes.
 
 ghost use Rattle.std.specs.Prelude.{
   ◌+◌,
@@ -49,7 +49,7 @@ pub(crate) fn find(nodes: &Slab<Node>, n: NodeId) -> Option<&Node>
     }
 }
 
-/// Writes how many records a file has.
+/// Sets the number of a file's records.
 pub(crate) fn write_records(nodes: &mut Slab<Node>, key: usize, records: usize)
     requires { ContainsKey nodes.old key }
     ensures written { (x : Node) → get nodes.old key ≡ Some x → Updates nodes.old nodes.new key (Some (record x { body = body_with_records x.body records })) }
@@ -58,7 +58,7 @@ pub(crate) fn write_records(nodes: &mut Slab<Node>, key: usize, records: usize)
     nodes[key].body.set_records(records);
 }
 
-/// Writes how many children an inner node has.
+/// Sets the number of an inner node's children.
 fn write_children(nodes: &mut Slab<Node>, key: usize, children: usize)
     requires { ContainsKey nodes.old key }
     ensures written { (x : Node) → get nodes.old key ≡ Some x
@@ -68,7 +68,7 @@ fn write_children(nodes: &mut Slab<Node>, key: usize, children: usize)
     nodes[key].body.set_children(children);
 }
 
-/// Writes that rows of a file were adopted.
+/// Marks a file as one of which rows were adopted.
 pub(crate) fn write_adopted(nodes: &mut Slab<Node>, key: usize)
     requires { ContainsKey nodes.old key }
     ensures written { (x : Node) → get nodes.old key ≡ Some x → Updates nodes.old nodes.new key (Some (record x { body = body_adopted x.body })) }
@@ -78,7 +78,7 @@ pub(crate) fn write_adopted(nodes: &mut Slab<Node>, key: usize)
     nodes[key].body.adopt();
 }
 
-/// Writes the parents of an inner node, a file or an index, and gives those that it had.
+/// Sets the parents of an inner node, a file or an index, and returns the old ones.
 pub(crate) fn write_parents(nodes: &mut Slab<Node>, key: usize, fresh: Vec<NodeId>) -> Vec<NodeId>
     requires there { ContainsKey nodes.old key }
     requires movable { (x : Node) → get nodes.old key ≡ Some x → is_movable_shape (Some (shape_in_body x.body)) ≡ true }
@@ -89,7 +89,7 @@ pub(crate) fn write_parents(nodes: &mut Slab<Node>, key: usize, fresh: Vec<NodeI
     nodes[key].body.set_parents(fresh)
 }
 
-/// Each of these, which are stored apart, has a child more.
+/// Adds one to the number of children of each of these different nodes.
 pub(crate) fn count_up(nodes: &mut Slab<Node>, ids: &[NodeId])
     requires stored { AreStored nodes.old ids.now }
     requires room { EachKeeps (λ children. children + 1 < 2 ^ 64) nodes.old ids.now }
@@ -101,7 +101,7 @@ pub(crate) fn count_up(nodes: &mut Slab<Node>, ids: &[NodeId])
     }
 }
 
-/// Each of these, which are stored apart, has a child less.
+/// Subtracts one from the number of children of each of these different nodes.
 pub(crate) fn count_down(nodes: &mut Slab<Node>, ids: &[NodeId])
     requires stored { AreStored nodes.old ids.now }
     requires some { EachKeeps (λ children. 1 ≤ children) nodes.old ids.now }
@@ -113,7 +113,7 @@ pub(crate) fn count_down(nodes: &mut Slab<Node>, ids: &[NodeId])
     }
 }
 
-/// Writes one key of a record, and the interval in which it lies.
+/// Sets one key of a record, and the interval that contains it.
 pub(crate) fn write_key(
     nodes: &mut Slab<Node>,
     rec: usize,
@@ -134,7 +134,7 @@ pub(crate) fn write_key(
     body.set_parent(place + 1, interval);
 }
 
-/// Writes the intervals of an index.
+/// Sets the intervals of an index.
 pub(crate) fn write_intervals(nodes: &mut Slab<Node>, key: usize, intervals: Vec<NodeId>)
     requires { ContainsKey nodes.old key }
     ensures written { (x : Node) → get nodes.old key ≡ Some x
@@ -144,7 +144,7 @@ pub(crate) fn write_intervals(nodes: &mut Slab<Node>, key: usize, intervals: Vec
     nodes[key].body.set_intervals(intervals);
 }
 
-/// Writes the indexes of a file.
+/// Sets the indexes of a file.
 pub(crate) fn write_indexes(nodes: &mut Slab<Node>, key: usize, indexes: SmallVec<NodeId, 1>)
     requires { ContainsKey nodes.old key }
     ensures written { (x : Node) → get nodes.old key ≡ Some x → Updates nodes.old nodes.new key (Some (record x { body = body_with_indexes x.body indexes })) }
@@ -153,7 +153,7 @@ pub(crate) fn write_indexes(nodes: &mut Slab<Node>, key: usize, indexes: SmallVe
     nodes[key].body.set_indexes(indexes);
 }
 
-/// Takes an index out of those of a file.
+/// Removes an index from those of a file.
 pub(crate) fn unlist_index(nodes: &mut Slab<Node>, key: usize, index: NodeId)
     requires { ContainsKey nodes.old key }
     ensures written { (x : Node) → get nodes.old key ≡ Some x → Updates nodes.old nodes.new key (Some (record x { body = body_without_index x.body index })) }
@@ -162,7 +162,7 @@ pub(crate) fn unlist_index(nodes: &mut Slab<Node>, key: usize, index: NodeId)
     nodes[key].body.unlist(index);
 }
 
-/// Takes out the nodes with these names, which are stored apart.
+/// Removes these different nodes.
 pub(crate) fn remove_all(nodes: &mut Slab<Node>, ids: &[NodeId])
     requires { AreStored nodes.old ids.now }
     ensures gone { AreGone nodes.old nodes.new ids.now (length ids.now) }
@@ -172,7 +172,7 @@ pub(crate) fn remove_all(nodes: &mut Slab<Node>, ids: &[NodeId])
     }
 }
 
-/// Stores so many intervals of an index, with the births behind the index's, and lists them.
+/// Stores `count` intervals of an index, with the births after the index's, and lists them.
 pub(crate) fn insert_intervals(
     nodes: &mut Slab<Node>,
     index: NodeId,

@@ -1,4 +1,4 @@
-//! Changes of nodes that live.
+//! Changing and removing nodes.
 
 ghost use Rattle.std.specs.Prelude.{◌≡◌, Some, false, true, position};
 ghost use Rattle.std.specs.List.{list_any};
@@ -23,7 +23,7 @@ use crate::store::{
 };
 use gl_modes::NodeId;
 
-/// The place of the first of these that is the node.
+/// The first place of the node among these.
 fn place_among(ids: &[NodeId], n: NodeId) -> Option<usize>
     ensures { result ≡ position (λ id. same_node id n) ids.now }
 {
@@ -31,8 +31,8 @@ fn place_among(ids: &[NodeId], n: NodeId) -> Option<usize>
 }
 
 impl Graph {
-    /// Whether something stands against a drop: of an inner node a child, of a file a record or an
-    /// index, of an index a record of its file.
+    /// Whether the node is in use and cannot be dropped: an inner node has a child, a file has a
+    /// record or an index, or an index's file has a record.
     pub fn is_in_use(&self, n: NodeId) -> bool
         ensures { result ≡ is_in_use (graph_of self.now) n }
     {
@@ -47,7 +47,7 @@ impl Graph {
         }
     }
 
-    /// Takes a record out. Its key may be used again; its birth is not.
+    /// Removes a record. Its key may be reused; its birth is not.
     pub fn remove_record(&mut self, rec: NodeId)
         requires { is_record_shape (shape_of (graph_of self.old) rec) ≡ true }
         ensures removed { graph_of self.new ≡ without_node (graph_of self.old) rec }
@@ -58,9 +58,9 @@ impl Graph {
         write_records(&mut self.nodes, file.key, records);
     }
 
-    /// Takes out an inner node without children, a file without records and without indexes, or an
-    /// index with its intervals, where its file has no records. It takes no memory, and of an index a
-    /// step for each interval.
+    /// Removes an inner node without children, a file without records and without indexes, or an index
+    /// with its intervals, if its file has no records. Allocates no memory. An index needs a step for
+    /// each interval.
     pub fn remove_node(&mut self, n: NodeId)
         requires movable { is_movable_shape (shape_of (graph_of self.old) n) ≡ true }
         requires free { is_in_use (graph_of self.old) n ≡ false }
@@ -72,7 +72,7 @@ impl Graph {
         }
     }
 
-    /// Takes out an inner node or a file.
+    /// Removes an inner node or a file.
     fn remove_alone(&mut self, n: NodeId)
         requires movable { is_movable_shape (shape_of (graph_of self.old) n) ≡ true }
         requires alone { is_index_shape (shape_of (graph_of self.old) n) ≡ false }
@@ -83,7 +83,7 @@ impl Graph {
         count_down(&mut self.nodes, body.parents());
     }
 
-    /// Takes out an index with its intervals.
+    /// Removes an index with its intervals.
     fn remove_index(&mut self, index: NodeId)
         requires index { is_index_shape (shape_of (graph_of self.old) index) ≡ true }
         requires free { is_in_use (graph_of self.old) index ≡ false }
@@ -98,8 +98,8 @@ impl Graph {
         count_down(&mut self.nodes, parents.as_slice());
     }
 
-    /// Keeps for ever that rows of the file were adopted: `add_index` refuses an index of it from then
-    /// on. It takes no memory.
+    /// Marks the file for good as one of which rows were adopted: `add_index` then refuses an index of
+    /// it. Allocates no memory.
     pub fn mark_adopted(&mut self, file: NodeId)
         requires { is_file_shape (shape_of (graph_of self.old) file) ≡ true }
         ensures marked { graph_of self.new ≡ marked (graph_of self.old) file }
@@ -108,8 +108,8 @@ impl Graph {
         write_adopted(&mut self.nodes, file.key);
     }
 
-    /// Gives a record another key for one index of its file, and the interval in which that key
-    /// lies in place of the old one.
+    /// Gives a record another key for one index of its file, and the interval that contains this key
+    /// in place of the old one.
     pub fn set_key(&mut self, rec: NodeId, index: NodeId, key: u64)
         requires record { is_record_shape (shape_of (graph_of self.old) rec) ≡ true }
         requires index { is_index_of_shape (first_parent (graph_of self.old) rec) (shape_of (graph_of self.old) index) ≡ true }

@@ -1,4 +1,4 @@
-//! The tests that a call makes before it changes anything, each with the refusal that it answers.
+//! The tests that a call makes before it changes anything, each with its refusal.
 
 ghost use Rattle.std.specs.Prelude.{◌≡◌, ◌+◌, ◌∷◌, ◌++◌, [], ◌&&◌, ◌||◌, length, nat_lt};
 ghost use Rattle.std.specs.List.{list_all, list_any};
@@ -37,7 +37,7 @@ fn is_among(ids: &[NodeId], n: NodeId) -> bool
     ids.iter().any(|id| n == *id)
 }
 
-/// Whether no two of these are one node.
+/// Whether these nodes are all different.
 fn distinct(ids: &[NodeId]) -> bool
     ensures { result ≡ are_distinct ids.now }
 {
@@ -49,7 +49,7 @@ fn distinct(ids: &[NodeId]) -> bool
     true
 }
 
-/// Whether each of these is above the one before it, and the first above 0.
+/// Whether these bounds strictly increase, from above 0.
 fn are_rising(bounds: &[u64]) -> bool
     ensures { result ≡ is_rising (0 ∷ bounds.now) }
 {
@@ -94,7 +94,7 @@ impl Graph {
         ids.iter().all(|n| self.is_inner(*n))
     }
 
-    /// Whether with so many nodes more there are more than may live.
+    /// Whether so many more nodes would exceed the limit.
     fn too_many(&self, more: usize) -> bool
         ensures { result ≡ nat_lt (graph_of self.now).most (node_count (graph_of self.now) + more) }
     {
@@ -102,15 +102,15 @@ impl Graph {
         more > most || self.len() > most - more
     }
 
-    /// Whether no node more may live.
+    /// Whether no further node may live.
     pub fn is_full(&self) -> bool
         ensures { result ≡ nat_lt (graph_of self.now).most (node_count (graph_of self.now) + 1) }
     {
         self.too_many(1)
     }
 
-    /// Whether these cannot be the parents of a node that needs so many at least: one is no inner
-    /// node, or stands there twice, or there are too few or more than 8.
+    /// Whether these cannot be the parents of a node that needs at least `least`: one is no inner node
+    /// or is listed twice, or there are too few or more than 8.
     pub fn are_bad_parents(&self, least: usize, parents: &[NodeId]) -> bool
         ensures { result ≡ bad_parents (graph_of self.now) least parents.now }
     {
@@ -120,7 +120,7 @@ impl Graph {
             || !distinct(parents)
     }
 
-    /// The tests for an inner node or a file, which needs so many parents at least.
+    /// The tests for an inner node or a file, which needs at least `least` parents.
     pub(super) fn check_parents(&self, least: usize, parents: &[NodeId]) -> Result<(), Refusal>
         ensures { result ≡ verdict (parents_refusal (graph_of self.now) least parents.now) }
     {
@@ -191,8 +191,8 @@ impl Graph {
             || self.indexes(file).len() >= MOST_INDEXES
     }
 
-    /// Whether an index of this file could be made under these parents, whatever its bounds. Refused, in this
-    /// order, with `NoSuchNode` and `BadParents`.
+    /// Tests whether an index of this file can be made under these parents, whatever its bounds.
+    /// Refused, in this order, with `NoSuchNode` and `BadParents`.
     pub fn check_index_place(&self, parents: &[NodeId], file: NodeId) -> Result<(), Refusal>
         ensures { result ≡ verdict (first_refusal (some_no_node (graph_of self.now) (parents.now ++ file ∷ [])
             ∷ where_true (bad_index_place (graph_of self.now) parents.now file) ARefusal.BadParents ∷ [])) }
@@ -206,8 +206,8 @@ impl Graph {
         }
     }
 
-    /// Whether an index could have these bounds, and there is room for its intervals. Refused, in this order,
-    /// with `BadKeys` and `TooManyNodes`.
+    /// Tests whether an index can have these bounds, and whether its nodes are within the limit.
+    /// Refused, in this order, with `BadKeys` and `TooManyNodes`.
     pub fn check_index_bounds(&self, bounds: &[u64]) -> Result<(), Refusal>
         ensures { result ≡ verdict (first_refusal (where_true (bad_bounds (graph_of self.now) bounds.now) ARefusal.BadKeys
             ∷ too_many_nodes (graph_of self.now) (2 + length bounds.now) ∷ [])) }

@@ -1,4 +1,4 @@
-//! New nodes.
+//! Making nodes.
 
 ghost use Rattle.std.specs.Prelude.{◌≡◌, ◌+◌, ◌<◌, ◌^◌, ℕ, None, false, true, length, IfOk, OnErr, IfErr};
 ghost use Rattle.gl_modes.specs.declared.refusal.Refusal.{Refusal};
@@ -18,7 +18,7 @@ use gl_modes::{NodeId, Refusal};
 use smallvec::SmallVec;
 use std::alloc::{AllocError, Global};
 
-/// What a new index takes memory for, made before anything changes.
+/// What a new index allocates, before anything changes.
 #[derive(Drop)]
 struct IndexParts {
     parents: Vec<NodeId>,
@@ -26,7 +26,7 @@ struct IndexParts {
     body: Box<IndexBody>,
     // Empty, with room for all.
     intervals: Vec<NodeId>,
-    // Those that the file has, with room for one more.
+    // The file's indexes, with room for one more.
     indexes: SmallVec<NodeId, 1>,
 }
 
@@ -96,14 +96,14 @@ impl Graph {
         self.insert(parents, body)
     }
 
-    /// Makes an index of a file that has no records and of which no rows were ever adopted, under 1
-    /// to 8 different inner nodes, with at most `most_bounds` strictly rising bounds above 0. The
+    /// Makes an index of a file that has no records and of which no rows were ever adopted, under 1 to
+    /// 8 different inner nodes, with at most `most_bounds` strictly increasing bounds above 0. The
     /// index is born first and then, in order, its intervals: one that begins at key 0, and one at
     /// each bound.
     ///
-    /// Refused, in this order, with `WornOut`, `NoSuchNode`, `BadParents` (also where the file is
-    /// none or has seven indexes), `FileInUse` (it has records, or rows of it were ever adopted),
-    /// `BadKeys` (the bounds), `TooManyNodes` and `NoMemory`.
+    /// Refused, in this order, with `WornOut`, `NoSuchNode`, `BadParents` (also if `file` is no file
+    /// or has seven indexes), `FileInUse` (it has records, or rows of it were ever adopted), `BadKeys`
+    /// (the bounds), `TooManyNodes` and `NoMemory`.
     pub fn add_index(
         &mut self,
         parents: &[NodeId],
@@ -118,8 +118,8 @@ impl Graph {
         self.add_index_unrefused(parents, file, bounds)
     }
 
-    /// As `add_index`, also where rows of the file were adopted, where nothing stands against the index
-    /// but memory. The file stays one of which rows were adopted. The only refusal is `NoMemory`.
+    /// As `add_index`, also for a file of which rows were adopted, which stays one. No refusal but
+    /// `NoMemory` may apply, and that is the only one answered.
     pub fn add_index_unrefused(
         &mut self,
         parents: &[NodeId],
@@ -162,11 +162,12 @@ impl Graph {
         Ok(index)
     }
 
-    /// Makes a record of a file, with a key for each of the file's indexes, in order of their
-    /// making. Its parents are the file and then, for each index, the interval that holds the key.
+    /// Makes a record of a file, with a key for each of the file's indexes, in the order in which they
+    /// were made. Its parents are the file and then, for each index, the interval that contains the
+    /// key.
     ///
-    /// Refused, in this order, with `WornOut`, `NoSuchNode`, `BadParents` (no file), `BadKeys` (not
-    /// a key for each index), `TooManyNodes` and `NoMemory`.
+    /// Refused, in this order, with `WornOut`, `NoSuchNode`, `BadParents` (no file), `BadKeys` (not a
+    /// key for each index), `TooManyNodes` and `NoMemory`.
     pub fn add_record(&mut self, file: NodeId, keys: &[u64]) -> Result<NodeId, Refusal>
         ensures made { IfOk result (λ n. IsBorn (graph_of self.old) (graph_of self.new) n (Rec keys.now) (record_parents (graph_of self.old) file keys.now)) }
         ensures refuses { Refuses (record_refusal (graph_of self.old) file keys.now) result }
@@ -177,8 +178,8 @@ impl Graph {
         self.add_record_under(file, keys, parents.as_slice())
     }
 
-    /// As `add_record`, where nothing stands against the record but memory, and its parents are
-    /// known. The only refusal is `NoMemory`.
+    /// As `add_record`, with these parents. No refusal but `NoMemory` may apply, and that is the only
+    /// one answered.
     pub fn add_record_under(
         &mut self,
         file: NodeId,
@@ -205,8 +206,8 @@ impl Graph {
         Ok(NodeId { key, birth })
     }
 
-    /// As `add_record`, and the file is one of which rows were adopted from then on, so that `add_index`
-    /// refuses an index of it. Refused as `add_record` is.
+    /// As `add_record`, and marks the file as one of which rows were adopted, so that `add_index`
+    /// refuses an index of it. Refused as `add_record`.
     pub fn adopt_record(&mut self, file: NodeId, keys: &[u64]) -> Result<NodeId, Refusal>
         ensures made { IfOk result (λ n. IsAdopted (graph_of self.old) (graph_of self.new) n file keys.now) }
         ensures refuses { Refuses (record_refusal (graph_of self.old) file keys.now) result }
@@ -219,7 +220,8 @@ impl Graph {
     }
 
     /// The parents of a record of this file with these keys: the file and then, for each index, the
-    /// interval that holds the key. It takes no memory. Inlined, since the list would else be copied.
+    /// interval that contains the key. Allocates no memory. Inlined, since the list would otherwise be
+    /// copied.
     #[inline(always)]
     pub fn record_parents(&self, file: NodeId, keys: &[u64]) -> ArrayVec<NodeId, 8>
         requires file { is_file_shape (shape_of (graph_of self.now) file) ≡ true }

@@ -1,4 +1,4 @@
-//! Inner nodes, files and indexes get other parents.
+//! Moving inner nodes, files and indexes.
 
 ghost use Rattle.std.specs.Prelude.{◌≡◌, ◌⊎◌, IfErr, IfOk, None, OnErr, OnOk, Some, true};
 ghost use Rattle.std.specs.List.{list_all};
@@ -19,11 +19,11 @@ use indexmap::IndexSet;
 use std::alloc::AllocError;
 
 impl Graph {
-    /// Gives an inner node, a file or an index other parents: living, different inner nodes, at
-    /// most 8, and at least one for a file or an index. Without parents an inner node is a root.
+    /// Gives an inner node, a file or an index other parents: living, different inner nodes, at most
+    /// 8, and at least one for a file or an index. Without parents an inner node is a root.
     ///
     /// Refused with `Cycle`, naming the first new parent that is the node or has a path to it, and
-    /// with `NoMemory`, also where the search for such a path had too little.
+    /// with `NoMemory`, also if the search for such a path lacks memory.
     pub fn set_parents(&mut self, n: NodeId, parents: &[NodeId]) -> Result<(), Refusal>
         requires node { is_movable_shape (shape_of (graph_of self.old) n) ≡ true }
         requires parents { AreInnerParents (graph_of self.old) (least_parents (shape_of (graph_of self.old) n)) parents.now }
@@ -42,7 +42,7 @@ impl Graph {
         Ok(())
     }
 
-    /// Whether none of the new parents is the node or has a path to it.
+    /// Tests that no new parent is the node or has a path to it.
     fn check_cycles(&self, n: NodeId, parents: &[NodeId]) -> Result<(), Refusal>
         requires { list_all (is_live (graph_of self.now)) parents.now ≡ true }
         ensures clear { OnOk result (first_cycle (graph_of self.now) n parents.now ≡ None) }
@@ -58,8 +58,8 @@ impl Graph {
         Ok(())
     }
 
-    /// Whether the node is the target or has a path to it. The set of nodes found is the queue of
-    /// the search too, so that each node above is visited once.
+    /// Whether the node is the target or has a path to it. The set of found nodes is also the queue of
+    /// the search, so that each node above is visited once.
     fn climbs(&self, from: NodeId, target: NodeId) -> Result<bool, AllocError>
         requires { is_live (graph_of self.now) from ≡ true }
         ensures { IfOk result (λ b. b ≡ is_at_or_below (node_count (graph_of self.now)) (graph_of self.now) target from) }

@@ -1,4 +1,4 @@
-//! Where a node stands: one look-up for all that a lock needs of it.
+//! A node's kind and parents: one look-up for all that a lock needs of it.
 
 ghost use Rattle.std.specs.Prelude.{◌≡◌, IfSome};
 ghost use Rattle.std.specs.Option.{option_map};
@@ -12,7 +12,7 @@ use crate::store::find;
 use gl_modes::NodeId;
 
 impl Graph {
-    /// The kind of the node and its parents, by one look-up; `None` where the id names none.
+    /// The kind and the parents of the node, by one look-up; `None` if the id names none.
     #[inline]
     pub fn kind_and_parents(&self, n: NodeId) -> Option<(Kind, &[NodeId])>
         ensures kind { option_map (λ p. p.0) result ≡ kind_in (shape_of (graph_of self.now) n) }
