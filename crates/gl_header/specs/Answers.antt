@@ -1,4 +1,4 @@
--- What `ask` and `try_ask` answer, and what they leave.
+-- What `ask` and `try_ask` answer and change.
 use Rattle.std.specs.Prelude.{◌≡◌, ◌≢◌, ◌<◌, ℕ, List, false, if◌then◌else◌}
 use Rattle.gl_modes.specs.declared.mode.Mode.{Mode}
 use Rattle.gl_modes.specs.declared.mode.Mode.TheVariants.{NL}
@@ -10,7 +10,7 @@ use Rattle.gl_header.specs.declared.header.Asked.TheVariants.{Granted, Waiting}
 use Rattle.gl_header.specs.declared.header.Try.{Try}
 use Rattle.gl_header.specs.declared.header.Try.TheVariants.{Granted as Tried, WouldBlock}
 
--- a slot that does not wait here may ask for a lock
+-- a slot that does not wait here may request a lock
 pub record MayAsk (q : List Waiter) (t : ℕ) (m : Mode) : Type 0 where
   pub below : t < most_slots
   pub not_waiting : is_among_waiters t q ≡ false

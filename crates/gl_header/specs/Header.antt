@@ -64,7 +64,7 @@ Fits g t m = (u : ℕ) → u ≢ t → are_compatible m (g u) ≡ true
 abbrev pub group_of : ℕ → Members → Mode
 group_of most g = fold (λ m u. supremum m (g u)) NL (range_with_len 0 most)
 
--- the wait is of t
+-- the wait is t's
 abbrev pub is_waiter : ℕ → Waiter → Bool
 is_waiter t w = w.0 == t
 
@@ -85,41 +85,41 @@ mode_in (Some w) = Some w.1
 abbrev pub wanted_by : List Waiter → ℕ → Option Mode
 wanted_by q t = mode_in (find (is_waiter t) q)
 
--- both wait, and u stands ahead of t
+-- both wait, and u is ahead of t
 abbrev pub is_ahead : List Waiter → ℕ → ℕ → Bool
 is_ahead q t u = is_among_waiters t q && is_among_waiters u (before_first (is_waiter t) q)
 
--- there is none
+-- the list is empty
 abbrev pub is_empty : {A : Type 0} → List A → Bool
 is_empty [] = true
 is_empty (x ∷ xs) = false
 
--- granted at once: a member where the mode fits, a newcomer where it fits and nobody waits
+-- granted at once: a member if the mode fits, a newcomer if it fits and nobody waits
 abbrev pub enters : ℕ → Members → List Waiter → ℕ → Mode → Bool
 enters most g q t m = fits most g t m && (holds g t || is_empty q)
 
--- the queue with one more wait: a member's behind the waiting members and ahead of all others, a newcomer's last
+-- the queue with one more wait: a member's after the waiting members and ahead of all others, a newcomer's last
 abbrev pub placed : Members → List Waiter → ℕ → Mode → List Waiter
 placed g q t m =
     if holds g t
     then filter (λ w. holds g w.0) q ++ (t, m) ∷ filter (λ w. not (holds g w.0)) q
     else q ++ (t, m) ∷ []
 
--- the longest front of the queue whose waiters fit, each after those before it were granted
+-- the longest front of the queue whose waiters fit, each after those before it are granted
 abbrev pub front : ℕ → Members → List Waiter → List Waiter
 front most g [] = []
 front most g (w ∷ q) = if fits most g w.0 w.1 then w ∷ front most (with_mode g w.0 w.1) q else []
 
--- the members once these waiters are granted
+-- the members after these waiters are granted
 abbrev pub after_grants : Members → List Waiter → Members
 after_grants g [] = g
 after_grants g (w ∷ ws) = after_grants (with_mode g w.0 w.1) ws
 
--- the members once the front is granted
+-- the members after the front is granted
 abbrev pub pumped_members : ℕ → Members → List Waiter → Members
 pumped_members most g q = after_grants g (front most g q)
 
--- the queue once the front is granted
+-- the queue after the front is granted
 abbrev pub pumped_queue : ℕ → Members → List Waiter → List Waiter
 pumped_queue most g q = drop (length (front most g q)) q
 

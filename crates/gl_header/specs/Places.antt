@@ -1,4 +1,4 @@
--- Inside the crate: what stands at the keys of nodes, in place or in a box.
+-- What is stored at the keys of nodes, in place or in a box. For the crate.
 use Rattle.std.specs.Prelude.{◌≡◌, ℕ, ◌+◌, ◌==◌, Bool, false, true, cond, List, [], ◌∷◌, length, Option, Some, None, slice_index_or}
 use Rattle.std.specs.Global.{Global}
 use Rattle.std.specs.declared.boxed.Box.{Box}
@@ -17,18 +17,18 @@ use Rattle.gl_header.specs.declared.places.Seen.TheVariants.{Nobody, One, Shared
 use Rattle.gl_header.specs.declared.headers.Headers.TheInside.{Inside}
 use Rattle.gl_header.specs.declared.headers.Prepared.TheInside.{Inside as InsidePrepared}
 
--- the birth of the node that stands in a place, with its header
+-- the birth and the header of the node at a place
 abbrev pub stands : Place → Option (ℕ × HeaderState)
 stands Free = None
 stands (Held t m b) = Some (b, held_by_one t m)
 stands (Shared x) = Some (x.value.birth, x.value.header)
 
--- its header has a box
+-- its header is in a box
 abbrev pub is_boxed : Place → Bool
 is_boxed (Shared x) = true
 is_boxed p = false
 
--- the node of this key with its header, ahead of others
+-- the node of this key with its header, before the others
 abbrev pub entered : ℕ → Option (ℕ × HeaderState) → Entries → Entries
 entered k None es = es
 entered k (Some s) es = (record { key = k; birth = s.0 }, s.1) ∷ es
@@ -46,35 +46,35 @@ entries_in ps = entries_from 0 ps
 abbrev pub place_at : List Place → ℕ → Place
 place_at ps k = slice_index_or ps k Free
 
--- the header that stands there, else one that nobody uses
+-- the header there, else an unused one
 abbrev pub header_of : Option (ℕ × HeaderState) → HeaderState
 header_of None = unused_header
 header_of (Some s) = s.1
 
--- who holds the node of a place, and who waits for it
+-- the members of a place's node, and its queue
 abbrev pub members_by : Place → Members
 members_by p = members_of (header_of (stands p))
 
 abbrev pub queue_by : Place → List Waiter
 queue_by p = (header_of (stands p)).queue
 
--- the header of the node of this birth, where it stands there
+-- the header of the node of this birth, if it is there
 abbrev pub header_in : ℕ → Option (ℕ × HeaderState) → Option HeaderState
 header_in b None = None
 header_in b (Some s) = cond (b == s.0) (Some s.1) None
 
--- what is seen of a node, as its header
+-- the holders and waiters of a node, as its header
 abbrev pub seen_header : Seen → Option HeaderState
 seen_header Nobody = None
 seen_header (One t m) = Some (held_by_one t m)
 seen_header (SharedSeen h) = Some h.now
 
--- a place has no header, or one that is lawful and needed
+-- a place has no header, or a lawful one with a holder or a waiter
 pub record IsPlace (p : Place) : Type 0 where
   pub lawful : (s : ℕ × HeaderState) → stands p ≡ Some s → IsLawfulHeader s.1
   pub used : (s : ℕ × HeaderState) → stands p ≡ Some s → is_unused s.1 ≡ false
 
--- so has each
+-- each of these is such a place
 pub record ArePlaces (ps : List Place) : Type 0 where
   pub each : (k : ℕ) → IsPlace (place_at ps k)
 
@@ -82,33 +82,33 @@ pub record ArePlaces (ps : List Place) : Type 0 where
 pub record IsOf (b : ℕ) (p : Place) : Type 0 where
   pub birth : (s : ℕ × HeaderState) → stands p ≡ Some s → s.0 ≡ b
 
--- it is lawful, and has the node of this birth, or none
+-- a lawful place that has the node of this birth, or none
 pub record IsPlaceFor (b : ℕ) (p : Place) : Type 0 where
   pub lawful : IsPlace p
   pub own : IsOf b p
 
--- another node does not come
+-- no other node is put there
 pub record KeepsBirth (p p' : Place) : Type 0 where
   pub kept : (b : ℕ) → IsOf b p → IsOf b p'
 
--- what comes of a place is lawful, and no other node has come
+-- the later place is lawful, and no other node was put there
 pub record IsPlaceAfter (p p' : Place) : Type 0 where
   pub lawful : IsPlace p'
   pub birth : KeepsBirth p p'
 
--- nobody holds or waits by this header
+-- the box's header is lawful and unused
 pub record IsIdle (x : Box SharedBox Global) : Type 0 where
   pub lawful : IsLawfulHeader x.value.header
   pub unused : is_unused x.value.header ≡ true
 
--- by this header t alone holds, in the mode m, and nobody waits
+-- by the box's header t alone holds, in the mode m, and nobody waits
 pub record IsHeldBox (b t : ℕ) (m : Mode) (x : Box SharedBox Global) : Type 0 where
   pub birth : x.value.birth ≡ b
   pub lawful : IsLawfulHeader x.value.header
   pub members : members_of x.value.header ≡ with_mode nobody t m
   pub queue : x.value.header.queue ≡ []
 
--- the place p' has what an ask of t for m leaves of p, for the node of this birth
+-- p' is the place p after a request of t for m, for the node of this birth
 pub record IsAskedPlace (p : Place) (b t : ℕ) (m : Mode) (p' : Place) : Type 0 where
   pub header : HeaderState
   pub there : stands p' ≡ Some (b, header)
@@ -116,7 +116,7 @@ pub record IsAskedPlace (p : Place) (b t : ℕ) (m : Mode) (p' : Place) : Type 0
   pub members : members_of header ≡ asked_members (header_of (stands p)) t m
   pub queue : header.queue ≡ asked_queue (header_of (stands p)) t m
 
--- the place has what is left of these members and this queue, once the front is granted
+-- the place has these members and this queue, after the front is granted
 pub record IsPumped (g : Members) (q : List Waiter) (p : Place) : Type 0 where
   pub members : members_by p ≡ pumped_members slot_limit g q
   pub queue : queue_by p ≡ pumped_queue slot_limit g q

@@ -1,4 +1,4 @@
--- Inside the crate: the law in words that compute over the queue, and what holds of a header's fields.
+-- The law as tests over the queue, and what holds of a header's fields. For the crate.
 use Rattle.gl_slots.specs.Limit.{most_slots}
 use Rattle.std.specs.Prelude.{◌≡◌, Bool, true, cond, ◌&&◌, not, List, [], ◌∷◌, ltb}
 use Rattle.std.specs.List.{list_all}
@@ -17,7 +17,7 @@ use Rattle.gl_header.specs.Groups.{Grouped, IsGroup, held_by}
 use Rattle.gl_header.specs.State.{HeaderState, slot_limit}
 use Rattle.gl_header.specs.declared.header.Header.TheInside.{Inside}
 
--- no slot stands twice
+-- no slot waits twice
 abbrev pub is_distinct : List Waiter → Bool
 is_distinct [] = true
 is_distinct (e ∷ es) = not (is_among_waiters e.0 es) && is_distinct es
@@ -30,7 +30,7 @@ is_entry e = ltb e.0 most_slots && not (same_mode e.1 NL)
 abbrev pub all_new : Members → List Waiter → Bool
 all_new g q = list_all (λ w. not (holds g w.0)) q
 
--- members who wait stand ahead of all newcomers
+-- members wait ahead of all newcomers
 abbrev pub is_ordered : Members → List Waiter → Bool
 is_ordered g [] = true
 is_ordered g (w ∷ ws) = cond (holds g w.0) (is_ordered g ws) (all_new g ws)
@@ -44,7 +44,7 @@ abbrev pub is_stuck : Members → List Waiter → Bool
 is_stuck g [] = true
 is_stuck g (w ∷ ws) = not (fits slot_limit g w.0 w.1)
 
--- all of the law but that nobody at the front can be granted
+-- the law, except that the first waiter may be one that fits
 pub record IsOrderly (g : Members) (q : List Waiter) : Type 0 where
   pub within : IsWithin slot_limit g
   pub compatible : IsCompatible g
@@ -58,7 +58,7 @@ pub record IsLawful (g : Members) (q : List Waiter) : Type 0 where
   pub orderly : IsOrderly g q
   pub stuck : is_stuck g q ≡ true
 
--- a member behind the members who wait and ahead of all others, a newcomer last
+-- the queue with one more: a member after the waiting members and ahead of all others, a newcomer last
 abbrev pub placed_in : Members → List Waiter → Waiter → List Waiter
 placed_in g [] e = e ∷ []
 placed_in g (w ∷ ws) e = cond (holds g e.0 && not (holds g w.0)) (e ∷ w ∷ ws) (w ∷ placed_in g ws e)

@@ -23,7 +23,7 @@ use Rattle.gl_header.specs.Header.{
 use Rattle.gl_header.specs.Groups.{Grants, Alone, Grouped, HoldsTwoModes, is_listed, members_in, mode_of_all, no_group}
 unfoldable pub use Rattle.gl_slots.specs.Slots.{slot_limit}
 
--- who holds, and the waiters from the front on
+-- the holders, and the waiters from the front on
 pub record HeaderState : Type 0 where
   pub granted : Grants
   pub queue : List Waiter
@@ -36,15 +36,15 @@ unused_header = record { granted = Grouped no_group; queue = [] }
 abbrev pub held_by_one : ℕ → Mode → HeaderState
 held_by_one t m = record { granted = Alone t m; queue = [] }
 
--- who holds what
+-- the mode that each slot holds
 abbrev pub members_of : HeaderState → Members
 members_of h = members_in h.granted
 
--- the wanted mode: the held one raised by the asked one
+-- the wanted mode: the supremum of the held and the requested one
 abbrev pub wanted : HeaderState → ℕ → Mode → Mode
 wanted h t m = supremum (members_of h t) m
 
--- an ask is granted at once
+-- a request is granted at once
 abbrev pub is_granted : HeaderState → ℕ → Mode → Bool
 is_granted h t m = enters slot_limit (members_of h) h.queue t (wanted h t m)
 
@@ -60,9 +60,9 @@ is_unused h = nobody_holds slot_limit (members_of h) && is_empty h.queue
 pub record IsLawfulHeader (h : HeaderState) : Type 0 where
   -- what different slots hold is compatible
   pub compatible : IsCompatible (members_of h)
-  -- so beside IS one mode at most is held
+  -- so besides IS at most one mode is held
   pub two_modes : HoldsTwoModes (members_of h)
-  -- each member stands among those that hold, and nobody else does
+  -- exactly the members are listed as holders
   pub listed : (t : ℕ) → is_listed h.granted t ≡ holds (members_of h) t
   -- slots are below the limit
   pub members_below : IsWithin most_slots (members_of h)
@@ -71,7 +71,7 @@ pub record IsLawfulHeader (h : HeaderState) : Type 0 where
   pub one_wait : (t : ℕ) (m : Mode) → wanted_by h.queue t ≡ Some m → filter (is_waiter t) h.queue ≡ (t, m) ∷ []
   -- a wanted mode is a lock, and the held mode or greater
   pub wanted_rises : (t : ℕ) (m : Mode) → wanted_by h.queue t ≡ Some m → (m ≢ NL) × (is_at_least m (members_of h t) ≡ true)
-  -- members who wait stand ahead of all newcomers
+  -- members wait ahead of all newcomers
   pub holders_first : (t u : ℕ) → holds (members_of h) t ≡ true → is_ahead h.queue t u ≡ true → holds (members_of h) u ≡ true
   -- the first waiter does not fit
   pub front_waits : front slot_limit (members_of h) h.queue ≡ []

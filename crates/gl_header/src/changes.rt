@@ -1,4 +1,4 @@
-//! Changes of the group and the queue of one header.
+//! Changing the group and the queue of one header.
 
 ghost use Rattle.std.specs.Prelude.{◌≡◌, ◌≤◌, [], OnErr, OnOk, drop, length};
 ghost use Rattle.gl_header.specs.Entries.{without};
@@ -15,17 +15,16 @@ use gl_slots::{SLOTS, Slot};
 use smallvec::SmallVec;
 use std::alloc::AllocError;
 
-/// How many waiters a queue keeps without an allocation.
+/// How many waiters a queue stores without an allocation.
 const INLINE: usize = 4;
 
-/// A queue, which takes no memory while it is short.
+/// A queue, which allocates no memory while it is short.
 pub(crate) type Queue = SmallVec<Entry, INLINE>;
 
-/// Whom a release granted, in the queue's order, each with the mode that it holds now.
+/// The slots that a release granted, in the queue's order, each with the mode that it now holds.
 pub type GrantList = ArrayVec<(Slot, Mode), SLOTS>;
 
-/// Puts the wait of a slot that holds the mode `held` into its place: a member's behind the waiting
-/// members, a newcomer's last.
+/// Queues a slot that holds the mode `held`: a member after the waiting members, a newcomer last.
 #[tactic(auto, using(crate::proofs::Steps::placed_steps))]
 pub(crate) fn enqueue(
     group: &Group,
@@ -48,7 +47,7 @@ pub(crate) fn enqueue(
     Ok(())
 }
 
-/// Takes out the entry of `slot`.
+/// Removes the slot's entry.
 #[tactic(auto, using(crate::proofs::Steps::list_steps))]
 pub(crate) fn take_out(queue: &mut Queue, slot: Slot)
     ensures { queue.new.items ≡ without queue.old.items slot }
@@ -58,7 +57,7 @@ pub(crate) fn take_out(queue: &mut Queue, slot: Slot)
     }
 }
 
-/// Takes out the first waiters, and moves up the others once.
+/// Removes the first `count` waiters, and moves up the others once.
 fn take_front(queue: &mut Queue, count: usize)
     requires { count ≤ length queue.old.items }
     ensures { queue.new.items ≡ drop count queue.old.items }
@@ -68,8 +67,8 @@ fn take_front(queue: &mut Queue, count: usize)
     }
 }
 
-/// Grants from the front of the queue, and stops at the first waiter that does not fit. The list is
-/// filled anew with those who were granted, in the queue's order.
+/// Grants from the front of the queue, and stops at the first waiter that is incompatible. `granted`
+/// is cleared, and then lists the granted slots in the queue's order.
 #[inline]
 pub(crate) fn pump(group: &mut Group, queue: &mut Queue, granted: &mut GrantList)
     requires group { IsGroup group.old }
@@ -81,11 +80,11 @@ pub(crate) fn pump(group: &mut Group, queue: &mut Queue, granted: &mut GrantList
 {
     granted.clear();
     if !queue.is_empty() {
-        grant_front(group, queue, granted); // Mostly nobody waits.
+        grant_front(group, queue, granted); // Usually nobody waits.
     }
 }
 
-/// As `pump`, into an empty list.
+/// As `pump`, with an empty list.
 #[inline(never)]
 fn grant_front(group: &mut Group, queue: &mut Queue, granted: &mut GrantList)
     requires group { IsGroup group.old }

@@ -34,14 +34,14 @@ pub(crate) fn mode_in(entries: &[Entry], slot: Slot) -> Option<Mode>
     None
 }
 
-// Where the first entry of `slot` stands, as a place alone.
+// The place of the slot's first entry, alone.
 fn first_of(entries: &[Entry], slot: Slot) -> Option<usize>
     ensures { result ≡ position (is_waiter slot) entries.now }
 {
     entries.iter().position(|entry| entry.0 == slot)
 }
 
-/// Where the first entry of `slot` stands, and what a removal there makes of the list.
+/// The place of the slot's first entry, and what its removal leaves of the list.
 pub(crate) fn place_of(entries: &[Entry], slot: Slot) -> Option<usize>
     ensures { MatchOption result (is_among_waiters slot entries.now ≡ false) (IsPlaceOf entries.now slot) }
 {
@@ -59,7 +59,7 @@ pub(crate) fn waiting_members(group: &Group, queue: &[Entry]) -> usize
         .count()
 }
 
-/// The slots that stand ahead of this one in a queue; none where it does not stand there.
+/// The slots ahead of this one in a queue; none if it is not there.
 pub(crate) fn ahead_of(queue: &[Entry], slot: Slot) -> Slots
     requires { list_all is_entry queue.now ≡ true }
     ensures { (u : ℕ) → has_slot result u ≡ is_ahead queue.now slot u }

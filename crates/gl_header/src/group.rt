@@ -1,4 +1,4 @@
-//! The granted group of one node: who holds it, by modes.
+//! The granted group of one node: its holders by mode.
 
 ghost use Rattle.gl_slots.specs.Limit.{most_slots};
 ghost use Rattle.std.specs.Prelude.{◌≡◌, ◌≢◌, ℕ, ◌<◌, ◌↔◌, ◌&&◌, IsTrue, not, true};
@@ -12,20 +12,20 @@ ghost use Rattle.gl_header.specs.State.{nobody_holds, slot_limit};
 use gl_modes::{Mode, compatible, sup};
 use gl_slots::{Slot, Slots};
 
-/// Who holds one node. What different slots hold is compatible, so beside `IS` at most one mode is
-/// held, and two sets of slots say it all.
+/// The holders of one node. Different slots hold compatible modes, so besides `IS` at most one mode is
+/// held, and two sets of slots are enough.
 #[derive(Clone, Copy, PartialEq, Eq, Debug)]
 pub struct Group {
-    /// The mode beside `IS` that is held, `NL` where there is none.
+    /// The mode that is held besides `IS`; `NL` if there is none.
     mode: Mode,
-    /// Who holds it.
+    /// The slots that hold it.
     holders: Slots,
-    /// Who holds `IS`.
+    /// The slots that hold `IS`.
     intents: Slots,
 }
 
 impl Group {
-    /// Nobody holds.
+    /// A group without holders.
     pub(crate) fn new() -> Self
         ensures group { IsGroup result }
         ensures nobody { result ≡ no_group }
@@ -37,7 +37,7 @@ impl Group {
         }
     }
 
-    /// A slot holds this mode, and nobody else holds.
+    /// A group with this slot as its only holder, in this mode.
     pub(crate) fn of(slot: Slot, mode: Mode) -> Self
         requires below { slot < most_slots }
         requires lock { mode ≢ NL }
@@ -49,7 +49,7 @@ impl Group {
         group
     }
 
-    /// The mode that a slot holds, `NL` where it holds none.
+    /// The mode that a slot holds; `NL` if it holds none.
     pub(crate) fn mode_of(&self, slot: Slot) -> Mode
         ensures { result ≡ held_by self.now slot }
     {
@@ -70,7 +70,7 @@ impl Group {
         self.mode_of(slot) != Mode::NL
     }
 
-    /// Whether nobody holds.
+    /// Whether there is no holder.
     #[inline]
     pub(crate) fn is_empty(&self) -> bool
         requires { IsGroup self.now }
@@ -79,7 +79,7 @@ impl Group {
         self.mode == Mode::NL && self.intents.is_empty()
     }
 
-    /// The supremum of what is held.
+    /// The supremum of the held modes.
     pub(crate) fn supremum(&self) -> Mode
         ensures { result ≡ group_mode self.now }
     {
@@ -90,7 +90,7 @@ impl Group {
         }
     }
 
-    /// Whether `mode` is compatible with what every slot but this one holds.
+    /// Whether `mode` is compatible with what every other slot holds.
     #[inline]
     pub(crate) fn fits_others(&self, slot: Slot, mode: Mode) -> bool
         requires { IsGroup self.now }
@@ -100,7 +100,7 @@ impl Group {
             && goes_beside(&self.intents, Mode::IS, slot, mode)
     }
 
-    /// The slots that hold a mode with which `mode` does not go.
+    /// The slots that hold a mode incompatible with `mode`.
     pub(crate) fn opposed(&self, mode: Mode) -> Slots
         requires { IsGroup self.now }
         ensures { (u : ℕ) → has_slot result u ≡ not (are_compatible mode (held_by self.now u)) }
@@ -108,7 +108,7 @@ impl Group {
         opposed_in(self.holders, self.mode, mode).union(opposed_in(self.intents, Mode::IS, mode))
     }
 
-    /// Gives `slot` the mode in place of what it held. It takes no memory.
+    /// Gives `slot` the mode in place of what it held. Allocates no memory.
     #[inline]
     pub(crate) fn hold(&mut self, slot: Slot, held: Mode, mode: Mode)
         requires group { IsGroup self.old }
@@ -128,7 +128,7 @@ impl Group {
         }
     }
 
-    /// Takes away what `slot` holds, if anything.
+    /// Releases what `slot` holds, if anything.
     #[inline]
     fn leave(&mut self, slot: Slot, held: Mode)
         requires group { IsGroup self.old }
@@ -137,11 +137,11 @@ impl Group {
         ensures held { held_by self.new ≡ with_mode (held_by self.old) slot NL }
     {
         if held != Mode::NL {
-            self.release(slot); // Whoever asks first holds nothing.
+            self.release(slot); // A newcomer holds nothing.
         }
     }
 
-    /// Takes away what `slot` holds.
+    /// Releases what `slot` holds.
     pub(crate) fn release(&mut self, slot: Slot)
         requires { IsGroup self.old }
         ensures group { IsGroup self.new }
@@ -149,7 +149,7 @@ impl Group {
     {
         if self.intents.contains(slot) {
             self.intents.remove(slot);
-            return; // Who holds the mode stays.
+            return; // The other set stays.
         }
         self.holders.remove(slot);
         if self.holders.is_empty() {
@@ -158,7 +158,7 @@ impl Group {
     }
 }
 
-/// Whether `mode` goes with `held`, or nobody but `slot` is in the set of those that hold it.
+/// Whether `mode` is compatible with `held`, or the set has no slot but this one.
 #[inline]
 fn goes_beside(set: &Slots, held: Mode, slot: Slot, mode: Mode) -> bool
     ensures { IsTrue result ↔ GoesBeside set.now held slot mode }
@@ -166,7 +166,7 @@ fn goes_beside(set: &Slots, held: Mode, slot: Slot, mode: Mode) -> bool
     compatible(mode, held) || set.without(slot).is_empty()
 }
 
-/// The set where `mode` does not go with `held`, else no slot.
+/// The set, if `mode` is incompatible with `held`; else no slot.
 fn opposed_in(set: Slots, held: Mode, mode: Mode) -> Slots
     ensures { (u : ℕ) → has_slot result u ≡ (has_slot set u && not (are_compatible mode held)) }
 {

@@ -53,18 +53,17 @@ pub enum Asked {
 pub enum Try {
     /// The slot now holds this mode.
     Granted(Mode),
-    /// Nothing has changed, since the slot would have to wait.
+    /// The slot would have to wait. Nothing has changed.
     WouldBlock,
 }
 
-/// Who holds one node, in which modes, and who waits for it. Transactions are slots from 0 to 127.
+/// The holders of one node with their modes, and its queue. Transactions are slots below `SLOTS`.
 ///
-/// A member's request is a conversion: it passes everybody who waits where its mode fits beside the
-/// other members, and else waits ahead of all newcomers. After each change the front of the queue is
-/// granted, up to the first waiter that does not fit.
+/// A member's request is a conversion: it passes the queue if its mode is compatible with the other
+/// members' modes, and otherwise waits ahead of all newcomers. After each change, waiters are granted
+/// from the front, up to the first that is incompatible.
 ///
-/// A grant takes no memory, and costs the same however many hold the node; memory is taken by waits
-/// alone.
+/// A grant allocates no memory, and costs the same for any number of holders; only waits allocate.
 #[derive(Drop)]
 pub struct Header {
     granted: Group,
@@ -84,7 +83,7 @@ impl Model for Header {
 }
 
 impl Header {
-    /// A header without members and waiters. It takes no memory.
+    /// A header without members and waiters. Allocates no memory.
     pub fn new(alloc: Global) -> Self
         ensures { result ≡ unused_header }
     {
@@ -94,16 +93,16 @@ impl Header {
         }
     }
 
-    /// The law of every header: what different slots hold is compatible, so that at most two modes
-    /// are held; each waiter wants more than it holds and stands in its place; the first waiter does
-    /// not fit; and the group mode is the supremum of what is held.
+    /// The law of every header: different slots hold compatible modes, so at most two modes are held;
+    /// each waiter wants at least the mode that it holds, and members wait ahead of newcomers; the
+    /// first waiter cannot be granted; and the group mode is the supremum of the held modes.
     pub fn law(&self)
         ensures lawful { IsLawfulHeader self.now }
     {
         let _ = &self.granted;
     }
 
-    /// The group mode: the supremum of the members' modes, `NL` where nobody holds the node.
+    /// The group mode: the supremum of the members' modes; `NL` if nobody holds the node.
     pub fn group(&self) -> Mode
         ensures kept { result ≡ mode_of_all self.now.granted }
         ensures supremum { result ≡ group_of slot_limit (members_of self.now) }
@@ -111,35 +110,35 @@ impl Header {
         self.granted.supremum()
     }
 
-    /// The waiters from the front on, each with the mode that it waits for.
+    /// The waiters from the front on, each with its wanted mode.
     pub fn queue(&self) -> &[(Slot, Mode)]
         ensures { result.now ≡ self.now.queue }
     {
         self.queue.as_slice()
     }
 
-    /// The mode that a slot holds, `NL` where it holds none.
+    /// The mode that a slot holds; `NL` if it holds none.
     pub fn mode_of(&self, slot: Slot) -> Mode
         ensures { result ≡ members_of self.now slot }
     {
         self.granted.mode_of(slot)
     }
 
-    /// The slots that hold a mode with which `mode` does not go.
+    /// The slots that hold a mode incompatible with `mode`.
     pub fn opposed(&self, mode: Mode) -> Slots
         ensures { (u : ℕ) → has_slot result u ≡ not (are_compatible mode (members_of self.now u)) }
     {
         self.granted.opposed(mode)
     }
 
-    /// The mode that a slot waits for, `None` where it does not wait.
+    /// The mode that a slot waits for; `None` if it does not wait.
     pub fn wanted_by(&self, slot: Slot) -> Option<Mode>
         ensures { result ≡ wanted_by self.now.queue slot }
     {
         mode_in(&self.queue, slot)
     }
 
-    /// Whether nobody holds and nobody waits, so that the header may go.
+    /// Whether there is no holder and no waiter, so that the header can be freed.
     #[inline]
     pub fn is_empty(&self) -> bool
         ensures { result ≡ is_unused self.now }
@@ -147,7 +146,7 @@ impl Header {
         self.granted.is_empty() && self.queue.is_empty()
     }
 
-    /// Whether both slots wait, and `other` stands ahead of `slot`.
+    /// Whether both slots wait, and `other` is ahead of `slot`.
     pub fn ahead(&self, slot: Slot, other: Slot) -> bool
         ensures { result ≡ is_ahead self.now.queue slot other }
     {
@@ -157,8 +156,8 @@ impl Header {
         }
     }
 
-    /// The slots for which a slot waits that waits here for `wanted`: those that hold a mode with which
-    /// it does not go, and those that stand ahead of the slot.
+    /// The slots for which `slot` waits, if it waits here for `wanted`: the holders of incompatible
+    /// modes, and the waiters ahead of it.
     pub fn waits_for(&self, slot: Slot, wanted: Mode) -> Slots
         ensures { (u : ℕ) → has_slot result u ≡
             (not (slot == u) && (not (are_compatible wanted (members_of self.now u)) || is_ahead self.now.queue slot u)) }
@@ -167,8 +166,8 @@ impl Header {
         opposed.union(ahead_of(&self.queue, slot)).without(slot)
     }
 
-    /// Whether `ask` would grant at once: a mode that fits beside the other members, where the slot
-    /// is a member or nobody waits.
+    /// Whether `ask` would grant at once: the wanted mode is compatible with the other members' modes,
+    /// and the slot is a member or nobody waits.
     pub fn would_grant(&self, slot: Slot, mode: Mode) -> bool
         ensures { result ≡ is_granted self.now slot mode }
     {
@@ -185,10 +184,10 @@ impl Header {
         (held != Mode::NL || self.queue.is_empty()) && self.granted.fits_others(slot, wanted)
     }
 
-    /// Asks for a mode: it is granted at once, or the slot waits in its place. What is granted, now
-    /// or later, is the supremum of the held and the asked mode.
+    /// Requests a mode: it is granted at once, or the slot waits in the queue. What is granted, now or
+    /// later, is the supremum of the held and the requested mode.
     ///
-    /// The only refusal is `NoMemory`; who is granted at once never meets it.
+    /// The only refusal is `NoMemory`; a request that is granted at once is never refused.
     pub fn ask(&mut self, slot: Slot, mode: Mode) -> Result<Asked, Refusal>
         requires may { MayAsk self.old.queue slot mode }
         ensures answer { IfOk result (λ answer. answer ≡ asked self.old slot mode) }
@@ -205,8 +204,8 @@ impl Header {
         }
     }
 
-    /// As `ask`, where the slot holds the mode `held`, with its one refusal in the shape that takes no
-    /// room in the answer.
+    /// As `ask`, if the slot holds the mode `held`. The type of its one refusal takes no space in the
+    /// answer.
     pub(crate) fn enter_or_wait(
         &mut self,
         slot: Slot,
@@ -231,7 +230,7 @@ impl Header {
         Ok(Asked::Waiting)
     }
 
-    /// Gives a slot this mode, where nobody holds and nobody waits. It takes no memory.
+    /// Gives a slot this mode in a header without holders and waiters. Allocates no memory.
     pub(crate) fn hold_first(&mut self, slot: Slot, mode: Mode)
         requires below { slot < most_slots }
         requires lock { mode ≢ Mode.NL }
@@ -243,7 +242,7 @@ impl Header {
         self.granted = Group::of(slot, mode);
     }
 
-    /// Asks for a mode that is granted at once, or not at all. It takes no memory.
+    /// Requests a mode that is granted at once or not at all. Allocates no memory.
     pub fn try_ask(&mut self, slot: Slot, mode: Mode) -> Try
         requires may { MayAsk self.old.queue slot mode }
         ensures answer { result ≡ tried self.old slot mode }
@@ -261,10 +260,10 @@ impl Header {
         Try::Granted(wanted)
     }
 
-    /// Takes a slot's grant away, and grants from the front of the queue. The list is filled anew
-    /// with those whom it granted, in the queue's order.
+    /// Releases a slot's grant, and grants from the front of the queue. `granted` is cleared, and then
+    /// lists the granted slots in the queue's order.
     ///
-    /// The cost is that of the waiters who are granted, and of moving up the others where any is.
+    /// Costs a step for each granted waiter and, if there is one, moving up the others.
     #[inline(never)]
     pub fn drop_grant(&mut self, slot: Slot, granted: &mut GrantList)
         requires holds { holds (members_of self.old) slot ≡ true }
@@ -278,8 +277,8 @@ impl Header {
         pump(&mut self.granted, &mut self.queue, granted);
     }
 
-    /// Takes a slot's wait away, and grants from the front of the queue. The list is filled anew with
-    /// those whom it granted, in the queue's order.
+    /// Removes a slot's wait, and grants from the front of the queue. `granted` is cleared, and then
+    /// lists the granted slots in the queue's order.
     pub fn drop_wait(&mut self, slot: Slot, granted: &mut GrantList)
         requires { is_among_waiters slot self.old.queue ≡ true }
         ensures granted { granted.new.items ≡ front slot_limit (members_of self.old) (without_waiter slot self.old.queue) }
@@ -291,8 +290,8 @@ impl Header {
         pump(&mut self.granted, &mut self.queue, granted);
     }
 
-    /// Takes a slot's wait away where the front of the queue that is left cannot be granted, and
-    /// grants nobody.
+    /// Removes a slot's wait, and grants nobody. No waiter at the front of the remaining queue may be
+    /// grantable.
     pub fn dismiss(&mut self, slot: Slot)
         requires waits { is_among_waiters slot self.old.queue ≡ true }
         requires front_waits { front slot_limit (members_of self.old) (without_waiter slot self.old.queue) ≡ [] }

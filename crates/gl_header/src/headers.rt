@@ -1,4 +1,4 @@
-//! The headers of all nodes: one for each node that somebody holds or waits for, and no other.
+//! The headers of all nodes: one for each node with a holder or a waiter, and no other.
 
 ghost use Rattle.gl_slots.specs.Limit.{most_slots};
 ghost use Rattle.std.specs.Prelude.{
@@ -76,21 +76,20 @@ use std::alloc::{AllocError, Global};
 use std::marker::Model;
 use std::mem;
 
-/// How many boxes wait for a node at most: to free one takes as long as to release its node.
+/// The most spare boxes: freeing one takes as long as releasing its node.
 const SPARE: usize = 1024;
 
-/// A header for each node that somebody holds or waits for. It is found by the node's key, with no
-/// hash: so a key that nobody locks costs 16 bytes, and two nodes of one key are not locked at one
-/// time.
+/// A header for each node with a holder or a waiter. It is found by the node's key, without a hash: an
+/// unlocked key costs 16 bytes, and two nodes with the same key are never locked at the same time.
 ///
-/// A node with one holder and no queue has its header in place. The second to ask takes a box that an
-/// earlier node left, where one waits.
+/// A node with one holder and no queue has its header in place. The second requester takes a spare
+/// box, if there is one.
 #[derive(Drop)]
 pub struct Headers {
     alloc: Global,
-    /// By key the header of the node that somebody holds or waits for.
+    /// By key, the header of the node that has a holder or a waiter.
     places: Vec<Place>,
-    /// Boxes whose header nobody uses.
+    /// Boxes with unused headers.
     spare: Vec<Box<Shared>>,
 }
 
@@ -106,7 +105,7 @@ impl Model for Headers {
     ghost invariant = { AreKept };
 }
 
-/// The header of a node that is not yet there: the one grant that it comes to have.
+/// The header of a node that does not exist yet: the one grant that it will have.
 #[derive(Drop)]
 pub struct Prepared {
     slot: Slot,
@@ -126,7 +125,7 @@ impl Model for Prepared {
 }
 
 impl Headers {
-    /// Nobody holds a node or waits for one.
+    /// Headers of no node.
     pub fn new(alloc: Global) -> Result<Self, AllocError>
         ensures { IfOk result (λ headers. headers.entries ≡ []) }
     {
@@ -137,8 +136,8 @@ impl Headers {
         })
     }
 
-    /// The law of all headers: each is lawful, somebody holds or waits by each, no node has two, and
-    /// of each key one node at most has one.
+    /// The law of all headers: each is lawful and has a holder or a waiter, no node has two, and at
+    /// most one node of each key has one.
     pub fn law(&self)
         ensures headers { AreHeaders self.now.entries }
         ensures distinct { AreDistinct self.now.entries }
@@ -147,7 +146,7 @@ impl Headers {
         let _ = self.places.len();
     }
 
-    /// Whether nobody holds or waits for a node with this key.
+    /// Whether no node with this key has a holder or a waiter.
     pub fn is_free(&self, key: usize) -> bool
         ensures { IsTrue result ↔ IsFreeKey self.now.entries key }
     {
@@ -157,7 +156,7 @@ impl Headers {
         }
     }
 
-    /// What is seen of a node.
+    /// The holders and waiters of a node.
     fn seen(&self, node: NodeId) -> Seen<'_>
         ensures is { seen_header result ≡ header_at self.now.entries node }
         ensures lawful { (header : HeaderState) → header_at self.now.entries node ≡ Some header → IsLawfulHeader header }
@@ -175,7 +174,7 @@ impl Headers {
         matches!(self.seen(node), Seen::Nobody)
     }
 
-    /// The header of a node that several hold or somebody waits for. `None` says that nobody waits.
+    /// The header of a node with several holders or a waiter. `None` means that nobody waits.
     pub fn shared(&self, node: NodeId) -> Option<&Header>
         ensures some { IfSome result (λ header. header_at self.now.entries node ≡ Some header.now) }
         ensures none { IfNone result (queue_of self.now.entries node ≡ []) }
@@ -217,11 +216,11 @@ impl Headers {
         match self.seen(node) {
             Seen::Nobody => Slots::empty(),
             Seen::One(holder, _) => only(holder),
-            Seen::Shared(header) => header.opposed(Mode::X), // With X nothing goes.
+            Seen::Shared(header) => header.opposed(Mode::X), // No mode is compatible with X.
         }
     }
 
-    /// Who waits for a node, in the queue's order, with the wanted modes.
+    /// The waiters of a node in the queue's order, each with its wanted mode.
     pub fn queue(&self, node: NodeId) -> &[(Slot, Mode)]
         ensures { result.now ≡ queue_of self.now.entries node }
     {
@@ -231,8 +230,8 @@ impl Headers {
         }
     }
 
-    /// Whom a slot waits for that waits on this node for this mode: who holds the node in a mode that
-    /// does not go with it, and who stands ahead in the queue.
+    /// The slots for which `slot` waits, if it waits on this node for `wanted`: the holders of
+    /// incompatible modes, and the waiters ahead of it.
     pub fn waits_for(&self, slot: Slot, node: NodeId, wanted: Mode) -> Slots
         requires { slot < most_slots }
         ensures { (u : ℕ) → has_slot result u ≡ (not (slot == u)
@@ -245,7 +244,7 @@ impl Headers {
         }
     }
 
-    /// Whether `ask` would grant at once, where the slot holds the node in the mode `held`.
+    /// Whether `ask` would grant at once, if the slot holds the node in the mode `held`.
     pub fn would_grant(&self, slot: Slot, node: NodeId, held: Mode, mode: Mode) -> bool
         requires held { held ≡ held_of self.now.entries slot node }
         ensures { result ≡ is_granted_at self.now.entries slot node mode }
@@ -257,9 +256,9 @@ impl Headers {
         }
     }
 
-    /// Asks for a mode, where the slot holds the node in the mode `held`: it is granted at once, or the
-    /// slot waits in its place. The only refusal is `NoMemory`; a member that is granted at once never
-    /// meets it.
+    /// Requests a mode, if the slot holds the node in the mode `held`: it is granted at once, or the
+    /// slot waits in the queue. The only refusal is `NoMemory`; a member's request that is granted at
+    /// once is never refused.
     pub fn ask(
         &mut self,
         slot: Slot,
@@ -288,8 +287,8 @@ impl Headers {
         Ok(asked)
     }
 
-    /// Takes a grant away, and grants from the front of the node's queue. The list is filled anew with
-    /// those whom it granted, in the queue's order. It takes no memory.
+    /// Releases a grant, and grants from the front of the node's queue. `granted` is cleared, and then
+    /// lists the granted slots in the queue's order. Allocates no memory.
     #[inline(always)]
     pub fn drop_grant(&mut self, slot: Slot, node: NodeId, granted: &mut GrantList)
         requires holds { holds (members_at self.old.entries node) slot ≡ true }
@@ -305,8 +304,8 @@ impl Headers {
         drop_grant_at(place, &mut self.spare, slot, granted);
     }
 
-    /// Takes a wait away, and grants from the front of the node's queue. The list is filled anew with
-    /// those whom it granted, in the queue's order. It takes no memory.
+    /// Removes a wait, and grants from the front of the node's queue. `granted` is cleared, and then
+    /// lists the granted slots in the queue's order. Allocates no memory.
     pub fn drop_wait(&mut self, slot: Slot, node: NodeId, granted: &mut GrantList)
         requires { is_among_waiters slot (queue_of self.old.entries node) ≡ true }
         ensures granted { granted.new.items ≡ front slot_limit (members_at self.old.entries node) (without_waiter slot (queue_of self.old.entries node)) }
@@ -320,8 +319,8 @@ impl Headers {
         drop_wait_at(place, &mut self.spare, slot, granted);
     }
 
-    /// Takes a wait away and grants nobody, where nobody at the front of what is left can be granted.
-    /// It takes no memory.
+    /// Removes a wait, and grants nobody. No waiter at the front of the remaining queue may be
+    /// grantable. Allocates no memory.
     pub fn dismiss(&mut self, slot: Slot, node: NodeId)
         requires waits { is_among_waiters slot (queue_of self.old.entries node) ≡ true }
         requires front_waits { front slot_limit (members_at self.old.entries node) (without_waiter slot (queue_of self.old.entries node)) ≡ [] }
@@ -332,8 +331,8 @@ impl Headers {
         dismiss_at(&mut self.places[node.key], &mut self.spare, slot);
     }
 
-    /// Takes all grants and waits of a node away. Answers its header where several held the node or
-    /// somebody waited; `None` says that nobody waited.
+    /// Removes all grants and waits of a node. Returns its header if several held the node or somebody
+    /// waited; `None` means that nobody waited.
     pub fn take(&mut self, node: NodeId) -> Option<Header>
         ensures held { held_of self.new.entries ≡ with_members (held_of self.old.entries) node (λ _. NL) }
         ensures queue { queue_of self.new.entries ≡ with_waiters (queue_of self.old.entries) node [] }
@@ -350,8 +349,8 @@ impl Headers {
         }
     }
 
-    /// Makes room for a node with this key, and a header with one grant, by which a slot comes to hold
-    /// it. The only refusal is `NoMemory`, and what is held stays as it is.
+    /// Makes room for a node with this key, and prepares a header in which this slot holds it. Locks
+    /// stay as they are. The only refusal is `NoMemory`.
     pub fn prepare(&mut self, key: usize, slot: Slot, mode: Mode) -> Result<Prepared, Refusal>
         requires below { slot < most_slots }
         requires lock { mode ≢ Mode.NL }
@@ -367,7 +366,7 @@ impl Headers {
         Ok(Prepared { slot, mode })
     }
 
-    /// Gives a node the header that was prepared. It takes no memory.
+    /// Gives a node its prepared header. Allocates no memory.
     pub fn put(&mut self, node: NodeId, prepared: Prepared)
         requires room { node.key < self.old.room }
         requires free { IsFreeKey self.old.entries node.key }

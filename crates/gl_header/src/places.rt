@@ -1,4 +1,4 @@
-//! One place: what stands at the key of a node, and the boxes that wait for a node.
+//! One place: what is stored at a node's key; and the spare boxes.
 
 ghost use Rattle.gl_slots.specs.Limit.{most_slots};
 ghost use Rattle.std.specs.Prelude.{◌≡◌, ◌≢◌, ◌<◌, ◌≤◌, ℕ, [], IfOk, IsOk, OnErr, OnOk, false, length, true};
@@ -45,15 +45,15 @@ use gl_slots::Slot;
 use std::alloc::{AllocError, Global};
 use std::mem;
 
-/// What stands at the key of a node, in 16 bytes.
+/// What is stored at a node's key, in 16 bytes.
 #[derive(Drop)]
 pub(crate) enum Place {
-    /// Nobody holds or waits for a node with this key.
+    /// No node with this key has a holder or a waiter.
     Free,
     /// One slot holds the node of this birth, and nobody waits.
     Held { slot: Slot, mode: Mode, birth: u64 },
-    /// Several hold the node or somebody waits, or did since it was last free: a node that has now
-    /// one and now two holders keeps its box.
+    /// The node has several holders or a waiter, or had them since it was last free: a node with now
+    /// one holder and now two keeps its box.
     Shared(Box<Shared>),
 }
 
@@ -66,18 +66,18 @@ pub(crate) struct Shared {
     pub(crate) header: Header,
 }
 
-/// What is seen of a node.
+/// The holders and waiters of a node.
 #[derive(Clone, Copy)]
 pub(crate) enum Seen<'a> {
     /// Nobody holds it, and nobody waits.
     Nobody,
     /// This slot alone holds it, in this mode, and nobody waits.
     One(Slot, Mode),
-    /// The header says who holds it, and who waits.
+    /// The header has them.
     Shared(&'a Header),
 }
 
-/// What a place says of the node of this birth.
+/// What a place stores of the node of this birth.
 pub(crate) fn seen_in(place: &Place, birth: u64) -> Seen<'_>
     ensures { seen_header result ≡ header_in birth (stands place.now) }
 {
@@ -92,7 +92,7 @@ pub(crate) fn seen_in(place: &Place, birth: u64) -> Seen<'_>
     }
 }
 
-/// Makes places up to that of a key. It takes memory before it changes anything.
+/// Makes places up to that of a key. Allocates before it changes anything.
 #[inline]
 pub(crate) fn grow(places: &mut Vec<Place>, key: usize) -> Result<(), AllocError>
     ensures kept { (k : ℕ) → place_at places.new.items k ≡ place_at places.old.items k }
@@ -102,12 +102,12 @@ pub(crate) fn grow(places: &mut Vec<Place>, key: usize) -> Result<(), AllocError
     ensures there { key < length places.old.items → IsOk result }
 {
     if key < places.len() {
-        return Ok(()); // As mostly.
+        return Ok(()); // The usual case.
     }
     add_places(places, key)
 }
 
-/// Makes places up to that of a key, which has none yet, and as many more as there is room for then.
+/// Makes places up to that of a key without one, and as many more as the new room allows.
 #[cold]
 #[inline(never)]
 fn add_places(places: &mut Vec<Place>, key: usize) -> Result<(), AllocError>
@@ -125,7 +125,7 @@ fn add_places(places: &mut Vec<Place>, key: usize) -> Result<(), AllocError>
     Ok(())
 }
 
-/// A box whose header nobody uses yet, for a node of this birth: one that waits, or else a new one.
+/// A box with an unused header for a node of this birth: a spare one, or else a new one.
 fn take_box(
     alloc: Global,
     spare: &mut Vec<Box<Shared>>,
@@ -148,7 +148,7 @@ fn take_box(
     }
 }
 
-/// A box for a node of this birth that one slot holds in this mode, and nobody waits for.
+/// A box for a node of this birth that one slot holds in this mode, without waiters.
 #[inline(never)]
 fn share(
     alloc: Global,
@@ -168,9 +168,9 @@ fn share(
     Ok(here)
 }
 
-/// Asks at a place that has the node of this birth, or none, where the slot holds the mode `held`: a first
-/// holder and its conversions stand there in place, a second slot takes a box. Where there is no memory,
-/// the place stays as it is.
+/// Requests a mode at a place that has the node of this birth or none, if the slot holds the mode
+/// `held`. A first holder and its conversions are stored in place; a second slot needs a box. If
+/// memory is lacking, the place stays as it is.
 pub(crate) fn ask_at(
     place: &mut Place,
     alloc: Global,
@@ -217,7 +217,7 @@ pub(crate) fn ask_at(
     }
 }
 
-/// Takes a grant away at a place, and grants from the front of the queue there. It takes no memory.
+/// Releases a grant at a place, and grants from the front of the queue there. Allocates no memory.
 #[inline]
 pub(crate) fn drop_grant_at(
     place: &mut Place,
@@ -246,7 +246,7 @@ pub(crate) fn drop_grant_at(
     }
 }
 
-/// Takes a wait away at a place, and grants from the front of the queue there. It takes no memory.
+/// Removes a wait at a place, and grants from the front of the queue there. Allocates no memory.
 pub(crate) fn drop_wait_at(
     place: &mut Place,
     spare: &mut Vec<Box<Shared>>,
@@ -269,7 +269,7 @@ pub(crate) fn drop_wait_at(
     }
 }
 
-/// Takes a wait away at a place where nobody at the front of what is left can be granted.
+/// Removes a wait at a place, if no waiter at the front of the remaining queue can be granted.
 pub(crate) fn dismiss_at(place: &mut Place, spare: &mut Vec<Box<Shared>>, slot: Slot)
     requires spare { All IsIdle spare.old.items }
     requires waits { is_among_waiters slot (queue_by place.old) ≡ true }
@@ -288,7 +288,7 @@ pub(crate) fn dismiss_at(place: &mut Place, spare: &mut Vec<Box<Shared>>, slot: 
     }
 }
 
-/// Frees a place by whose box nobody holds or waits any more.
+/// Frees a place whose box has no holder and no waiter any more.
 #[inline]
 fn sweep(place: &mut Place, spare: &mut Vec<Box<Shared>>)
     requires spare { All IsIdle spare.old.items }
@@ -307,8 +307,8 @@ fn sweep(place: &mut Place, spare: &mut Vec<Box<Shared>>)
     }
 }
 
-/// Takes a box out of its place. It waits for another node where there is room for it, so that this
-/// takes no memory.
+/// Removes a box from its place. It becomes a spare if there is room for it, so that this allocates no
+/// memory.
 fn set_aside(place: &mut Place, spare: &mut Vec<Box<Shared>>)
     requires spare { All IsIdle spare.old.items }
     requires idle { (x : Box SharedBox Global) → place.old ≡ SharedPlace x → IsIdle x }
