@@ -1,4 +1,4 @@
--- What a board says.
+-- What a snapshot shows.
 use Rattle.std.specs.Prelude.{◌≡◌, ℕ, Bool, false, List, get_or, replicate, slice_index}
 use Rattle.gl_slots.specs.declared.slots.Slots.{Slots}
 use Rattle.gl_slots.specs.Limit.{most_slots}
@@ -17,7 +17,7 @@ board_edge b s u = has_bit (get_or b.rows s no_bits) u
 abbrev pub ShowsNobody : Board → Type 0
 ShowsNobody b = (s u : ℕ) → board_edge b s u ≡ false
 
--- nobody lives
+-- the snapshot without transactions
 abbrev pub idle_board : ℕ → Board
 idle_board epoch = record { epoch = epoch; ages = replicate most_slots 0; rows = replicate most_slots no_bits }
 

@@ -1,16 +1,16 @@
-//! Whoever can say how old transactions are, and since when their work wants to be done.
+//! A source of the ages of transactions, and of what their work counts as its begin.
 
 use gl_slots::SLOTS;
 
-/// How old transactions are, told slot by slot, and since which number of begins the work of each wants
-/// to be done: since its own begin, or an earlier one where it has begun again.
+/// The age and the `since` of each slot's transaction. `since` is the age, or for work that begins
+/// again that of an earlier begin.
 pub trait Ages {
     ghost use Rattle.std.specs.Prelude.{◌≡◌, ℕ, ◌<◌};
 
     /// The age in a slot. The youngest has the greatest.
     ghost age_of: { Self → ℕ → ℕ };
 
-    /// The number since which the work in a slot wants to be done. The latest has the greatest.
+    /// The `since` in a slot. The latest has the greatest.
     ghost since_of: { Self → ℕ → ℕ };
 
     /// The age of the transaction in `slot`.
@@ -18,13 +18,13 @@ pub trait Ages {
         requires { slot < SLOTS }
         ensures { result ≡ age_of self.now slot };
 
-    /// The number since which the work in `slot` wants to be done.
+    /// The `since` of the transaction in `slot`.
     fn since(&self, slot: usize) -> u64
         requires { slot < SLOTS }
         ensures { result ≡ since_of self.now slot };
 }
 
-/// Ages by slot, of work that wants to be done since its own begin.
+/// Ages by slot; each `since` is the age.
 impl Ages for [u64; SLOTS] {
     ghost use Rattle.std.specs.Prelude.{slice_index};
 

@@ -1,4 +1,4 @@
-//! Who is deadlocked with a slot.
+//! The slots that are deadlocked with a slot.
 
 ghost use Rattle.std.specs.Prelude.{ℕ, ◌<◌, ◌↔◌, IsTrue};
 ghost use Rattle.gl_slots.specs.Slots.{has_bit, has_slot};
@@ -10,8 +10,8 @@ use crate::reach::{columns, reached_from};
 use crate::waits_for::WaitsFor;
 use gl_slots::{Bits, SLOTS, Slot, Slots};
 
-/// The slots on a cycle with `slot`: those that it reaches by one or more steps and that reach it.
-/// A slot that waits for itself is on a cycle with itself.
+/// The slots on a cycle with `slot`: those that it reaches by one or more waits and that reach it. A
+/// slot that waits for itself is on a cycle with itself.
 pub fn on_cycle(board: &Board, slot: usize) -> Bits
     requires { slot < SLOTS }
     ensures { (u : ℕ) → IsTrue (has_bit result u) ↔ IsOnCycleOf (board_edge board.now) slot u }
@@ -19,10 +19,10 @@ pub fn on_cycle(board: &Board, slot: usize) -> Bits
     on_cycle_in(board, slot).bits()
 }
 
-/// The slots on a cycle with `slot`, as `on_cycle` answers them, of whoever can say who waits for whom.
+/// As `on_cycle`, for any source of waits.
 ///
-/// Where `slot` is on no cycle this reads its row and each row that it reaches once, and no other;
-/// where it is on one, these rows are read once more, slot by slot, into an array of columns.
+/// Reads the row of `slot` and of each slot that it reaches once, and no other. If `slot` is on a
+/// cycle, these rows are read once more, slot by slot, into an array of columns.
 pub fn on_cycle_in<T: WaitsFor>(waits: &T, slot: usize) -> Slots
     requires { slot < SLOTS }
     ensures { (u : ℕ) → IsTrue (has_slot result u) ↔ IsOnCycleOf (T.edge waits.now) slot u }
@@ -35,7 +35,7 @@ pub fn on_cycle_in<T: WaitsFor>(waits: &T, slot: usize) -> Slots
     }
 }
 
-/// Who reaches `slot` by the waits of the slots in `within` alone, whose rows are read once each.
+/// The slots that reach `slot` by the waits of those in `within` alone, whose rows are read once each.
 fn reaching<T: WaitsFor>(waits: &T, within: Slots, slot: usize) -> Slots
     requires { slot < SLOTS }
     ensures { (u : ℕ) → IsTrue (has_slot result u)

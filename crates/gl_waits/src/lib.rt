@@ -1,6 +1,5 @@
-//! Boards: who waits for whom at one moment, in one value that can be read without a lock. A board
-//! shows who is deadlocked, and whose wait has to be given up. So does whoever can say slot by slot who
-//! waits for whom, without a board.
+//! Waits-for snapshots: who waits for whom at one moment, in one value that can be read without a
+//! latch. Deadlocks and victims are found in a snapshot, or in any other source of waits by slot.
 #![tactic(auto)]
 
 mod ages;

@@ -1,4 +1,4 @@
-//! Who is deadlocked at all.
+//! All deadlocked slots.
 
 ghost use Rattle.std.specs.Prelude.{◌≡◌, ℕ, ◌<◌, ◌↔◌, ◌&&◌, ◌||◌, IsTrue, true, false, get_or, length};
 ghost use Rattle.gl_slots.specs.Slots.{HasNoSlot, has_bit, has_slot, no_slots};
@@ -9,10 +9,10 @@ use crate::board::Board;
 use crate::reach::empty_rows;
 use gl_slots::{Bits, SLOTS, Slot, Slots};
 
-/// The slots that are on a cycle with some slot, so those whose `on_cycle` is not empty.
+/// The slots that are on a cycle with some slot: those whose `on_cycle` is not empty.
 ///
-/// Reads each row once where nobody waits; else it takes a row operation for each slot and each
-/// slot that waits, whoever they wait for (Warshall 1962).
+/// Reads each row once if nobody waits. Otherwise it needs a row operation for each pair of a slot and
+/// a waiting slot, whatever they wait for.
 pub fn suspects(board: &Board) -> Bits
     ensures { (s : ℕ) → IsTrue (has_bit result s) ↔ IsOnCycle (board_edge board.now) s }
 {
@@ -23,7 +23,7 @@ pub fn suspects(board: &Board) -> Bits
     }
 }
 
-/// The rows of a board, as sets.
+/// The rows of a snapshot, as sets.
 fn rows_in(board: &Board) -> [Slots; SLOTS]
     ensures { (s u : ℕ) → row_edge result s u ≡ board_edge board.now s u }
 {
@@ -34,7 +34,7 @@ fn rows_in(board: &Board) -> [Slots; SLOTS]
     rows
 }
 
-/// By slot, what it reaches by one or more steps.
+/// By slot, what it reaches by one or more waits.
 fn reaches_of_all(rows: &[Slots; SLOTS]) -> [Slots; SLOTS]
     ensures { (s u : ℕ) → IsTrue (row_edge result s u) ↔ Reaches (row_edge rows.now) s u }
 {
@@ -64,7 +64,7 @@ fn pass_through(reaches: &mut [Slots; SLOTS], middle: usize)
     }
 }
 
-/// The slots whose row has themselves.
+/// The slots that are in their own row.
 fn diagonal(rows: &[Slots; SLOTS]) -> Slots
     ensures { (s : ℕ) → has_slot result s ≡ row_edge rows.now s s }
 {

@@ -1,4 +1,4 @@
-//! Whose wait is given up.
+//! The choice of a victim.
 
 ghost use Rattle.std.specs.Prelude.{◌≡◌, ℕ, ◌<◌, ◌↔◌, IsNone, IfSome, IsTrue, true};
 ghost use Rattle.std.specs.Option.{ForSome, option_map_or};
@@ -20,8 +20,8 @@ pub fn youngest(board: &Board, set: Bits) -> Option<usize>
     latest_of(&board.ages, Slots::from_bits(set))
 }
 
-/// The latest of a set of slots: the one whose work wants to be done since the greatest number, of
-/// several such the youngest, of equal ages the lowest. `None` for the empty set.
+/// The latest of a set of slots: the one with the greatest `since`, of several such the youngest, of
+/// equal ages the lowest. `None` for the empty set.
 pub fn latest_of<A: Ages>(ages: &A, set: Slots) -> Option<usize>
     ensures none { IsNone result ↔ HasNoSlot set }
     ensures some { IfSome result (IsLowestLatest (λ u. IsTrue (has_slot set u)) (A.since_of ages.now) (A.age_of ages.now)) }

@@ -1,4 +1,4 @@
-//! Whom a deadlock takes.
+//! The candidates for victims.
 
 ghost use Rattle.std.specs.Prelude.{ℕ, ◌<◌, ◌↔◌, IsNone, IfSome};
 ghost use Rattle.gl_waits.specs.Waits.{IsLowestLatest, IsOnNoCycle};
@@ -11,17 +11,17 @@ use crate::victim::latest_of;
 use crate::waits_for::WaitsFor;
 use gl_slots::SLOTS;
 
-/// Among whom the latest is chosen, so that a slot gets off its cycles: all that are on a cycle with
-/// it, where more than one choice may be needed; or those alone whose choice is enough, so that one
-/// always is. The slot itself is one of both.
+/// The candidates of which the latest is condemned, until a slot is on no cycle: all that are on a
+/// cycle with it, of which more than one may be needed; or only those of which one is always enough.
+/// The slot itself is a candidate by both.
 #[derive(Clone, Copy, PartialEq, Eq, Debug)]
 pub enum Victims {
     Youngest,
     Fewest,
 }
 
-/// Whose waits are to be given up next for `slot`, by a choice of victims: the latest candidate, as
-/// `latest_of` chooses; `None` where `slot` is on no cycle.
+/// The next victim for `slot`, by a choice of candidates: the latest of them, as `latest_of` chooses;
+/// `None` if `slot` is on no cycle.
 pub fn victim_for<T: WaitsFor, A: Ages>(
     waits: &T,
     ages: &A,

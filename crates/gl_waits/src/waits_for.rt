@@ -1,10 +1,10 @@
-//! Whoever can say who waits for whom.
+//! A source of waits.
 
 use crate::board::Board;
 use gl_slots::{SLOTS, Slots};
 
-/// Who waits for whom, told slot by slot. By the contract of `row`, whom a slot waits for is below
-/// `SLOTS` too.
+/// Who waits for whom, slot by slot. By the contract of `row`, a slot waits only for slots below
+/// `SLOTS`.
 pub trait WaitsFor {
     ghost use Rattle.std.specs.Prelude.{◌≡◌, ℕ, ◌<◌, Bool};
     ghost use Rattle.gl_slots.specs.Slots.{has_slot};
