@@ -1,9 +1,9 @@
--- Modes: which go together, their order, their suprema, their spellings.
+-- Modes: their compatibility, order, suprema and spellings.
 use Rattle.std.specs.Prelude.{ℕ, Bool, true, false, List, codes}
 use Rattle.gl_modes.specs.declared.mode.Mode.{Mode}
 use Rattle.gl_modes.specs.declared.mode.Mode.TheVariants.{NL, IS, IX, S, SIX, X}
 
--- the table of compatibility of Gray, Lorie, Putzolu and Traiger (1976), row by row, with a row for no lock
+-- the table of compatibility, row by row, with a row for no lock
 abbrev pub are_compatible : Mode → Mode → Bool
 are_compatible NL _ = true
 are_compatible IS X = false
@@ -65,7 +65,7 @@ same_mode SIX SIX = true
 same_mode X X = true
 same_mode _ _ = false
 
--- how a mode is spelt
+-- the spelling of a mode
 abbrev pub mode_text : Mode → List ℕ
 mode_text NL = codes "NL"
 mode_text IS = codes "IS"

@@ -27,7 +27,7 @@ use Rattle.gl_modes.specs.declared.refusal.Refusal.TheVariants.{
   HasChildren,
 }
 
--- the number of a refusal, by which scripts tell it
+-- the number of a refusal, as scripts print it
 abbrev pub refusal_number : Refusal → ℕ
 refusal_number NoMemory = 1
 refusal_number NoSuchNode = 2

@@ -8,8 +8,8 @@ ghost use Rattle.gl_modes.specs.Laws.{
   SupremumIsTested,
 };
 
-/// Compatibility is symmetric, the modes are ordered, `sup` is the least mode above both, one test
-/// against a supremum is a test against both, and no two modes are spelt alike.
+/// Compatibility is symmetric, the modes are ordered, `sup` is the least mode that is both or greater,
+/// one test against a supremum is a test against both, and no two modes have the same spelling.
 pub fn mode_laws()
     ensures symmetric { CompatibilityIsSymmetric }
     ensures ordered { ModesAreOrdered }

@@ -1,7 +1,4 @@
-//! Lock modes, the names of nodes, and the reasons why a call is refused.
-//!
-//! The modes are those of Gray, Lorie, Putzolu and Traiger (1976), with the compatibility of their
-//! table and the order in which a lock can be raised.
+//! Lock modes, the ids of nodes, and the reasons why a call is refused.
 #![tactic(auto)]
 
 mod laws;

@@ -1,4 +1,4 @@
-//! The six modes, which go together, and the least mode above two.
+//! The six modes, their compatibility and their suprema.
 
 ghost use Rattle.std.specs.Prelude.{◌≡◌, ◌≢◌, IfNone, IfSome};
 ghost use Rattle.gl_modes.specs.Modes.{are_compatible, is_at_least, mode_text, supremum};

@@ -1,7 +1,7 @@
-//! The names of nodes.
+//! The ids of nodes.
 
-/// A node's name: the key under which it is kept, and its birth, which no other node ever has. So
-/// the name of a node that is gone names nothing, also where its key is used again.
+/// A node's id: its key, and its birth, which no other node ever has. So the id of a removed node
+/// names nothing, even if its key is reused.
 #[derive(Clone, Copy, PartialEq, Eq, Hash, Debug, Default)]
 pub struct NodeId {
     pub key: usize,

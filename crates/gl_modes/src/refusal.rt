@@ -5,23 +5,23 @@ ghost use Rattle.gl_modes.specs.Refusals.{refusal_name, refusal_number};
 
 use crate::node::NodeId;
 
-/// Why a call is refused. A refused call leaves everything as it was; where several reasons hold,
-/// each call says which one it answers.
+/// Why a call is refused. A refused call changes nothing. If several refusals apply, each call says
+/// which one it answers.
 #[derive(Clone, Copy, PartialEq, Eq, Debug)]
 pub enum Refusal {
-    /// The allocator refused a growth.
+    /// An allocation failed.
     NoMemory,
     /// A given id names no node.
     NoSuchNode,
-    /// The transaction's id names none that lives.
+    /// The transaction's id names no living transaction.
     NoSuchTxn,
     /// The transaction waits for a lock.
     TxnWaiting,
     /// The transaction was chosen as a victim, and can only abort.
     TxnCondemned,
-    /// No lock was asked, or other than shared or exclusive on a record.
+    /// No lock was requested, or on a record a mode other than `S` and `X`.
     BadMode,
-    /// The rule of the lock graph fails at this parent.
+    /// The rule of the graph fails at this parent.
     NeedParents { node: NodeId },
     /// The transaction does not hold the node.
     NotHeld,
@@ -29,28 +29,29 @@ pub enum Refusal {
     HeldChild { node: NodeId },
     /// The lock cannot be granted at once.
     WouldBlock,
-    /// As many transactions live as may.
+    /// No further transaction may live.
     TooManyTxns,
-    /// As many nodes live as may.
+    /// The limit of living nodes would be exceeded.
     TooManyNodes,
-    /// A node of the wrong kind for its place, one parent given twice, or too few or too many.
+    /// A node of the wrong kind for its place, a parent given twice, or too few or too many parents.
     BadParents,
-    /// A record is deleted, or a node moved, without the exclusive locks that this needs.
+    /// The transaction lacks an exclusive lock that the change needs.
     NeedExclusive,
     /// The transaction waits for nothing.
     NotWaiting,
     /// The name is in use.
     NameTaken,
-    /// An index cannot be added to a file that has records, nor can a file that has records or indexes be taken
-    /// away, nor an index of a file that has records.
+    /// An index cannot be made of a file with records, nor can a file with records or indexes be
+    /// dropped, nor an index of a file with records.
     FileInUse,
-    /// Bounds that do not rise from above 0, too many of them, or not one key for each index.
+    /// Bounds that do not strictly increase from above 0, too many bounds, or not one key for each
+    /// index.
     BadKeys,
-    /// A counter has come to its end.
+    /// A counter is used up.
     WornOut,
     /// The line is not one of the script language.
     BadLine,
-    /// This new parent is the node itself or lies below it.
+    /// This new parent is the node itself or below it.
     Cycle { node: NodeId },
     /// Some transaction holds the record or waits for it.
     RecordInUse,
@@ -90,7 +91,7 @@ impl Refusal {
         }
     }
 
-    /// The refusal's name, as a script's answer prints it.
+    /// The refusal's name, as scripts print it.
     pub fn name(self) -> &'static str
         ensures { result.now ≡ refusal_name self }
     {
