@@ -1,4 +1,4 @@
--- Sets of slots: which slots are in one.
+-- Sets of slots.
 use Rattle.std.specs.Prelude.{◌≡◌, ℕ, ◌<◌, ◌==◌, Bool, true, false, List}
 use Rattle.std.specs.List.{filter, range_with_len}
 use Rattle.gl_slots.specs.Limit.{most_slots, most_words}
@@ -6,7 +6,7 @@ use Rattle.gl_slots.specs.Bits.{in_bits, bits_below}
 use Rattle.gl_slots.specs.Words.{words_below}
 use Rattle.gl_slots.specs.declared.slots.Slots.{Slots}
 
--- the same as most_slots, kept from unfolding so that no proof walks over every slot
+-- the same as most_slots, not unfolded, so that no proof visits every slot
 unfoldable pub slot_limit : ℕ
 slot_limit = most_slots
 
@@ -32,7 +32,7 @@ pub record IsLowest (s : Slots) (k : ℕ) : Type 0 where
 abbrev pub slots_of : Slots → List ℕ
 slots_of s = filter (has_slot s) (range_with_len 0 slot_limit)
 
--- a number that falls as slots are taken out
+-- a number that decreases when slots are removed
 abbrev pub number_of : Slots → ℕ
 number_of s = s.bits
 
@@ -40,23 +40,23 @@ number_of s = s.bits
 abbrev pub has_none : Slots → Bool
 has_none s = number_of s == 0
 
--- a set of slots as boards show it
+-- a set of slots as snapshots show it
 abbrev pub Bits : Type 0
 Bits = ℕ
 
--- slot u is in the set that a board shows so
+-- slot u is in the set that a snapshot shows so
 abbrev pub has_bit : Bits → ℕ → Bool
 has_bit bits u = in_bits bits u
 
--- no slot is in the set that a board shows so
+-- no slot is in the set that a snapshot shows so
 abbrev pub HasNoBit : Bits → Type 0
 HasNoBit bits = (u : ℕ) → has_bit bits u ≡ false
 
--- how boards show the set without slots
+-- the empty set as snapshots show it
 abbrev pub no_bits : Bits
 no_bits = 0
 
--- how boards show the set of the slots that pass
+-- the set of the slots that pass, as snapshots show it
 unfoldable pub bits_of : (ℕ → Bool) → Bits
 bits_of member = bits_below most_slots member
 

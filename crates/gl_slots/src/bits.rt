@@ -39,7 +39,7 @@ pub(crate) fn above(bits: u128)
     let _bits = bits;
 }
 
-/// The bits as they are: they are those of the set that has them.
+/// The bits, unchanged: they are those of the set that has them.
 pub(crate) fn shown(bits: u128) -> u128
     ensures is { result ≡ bits_of (in_bits bits) }
     ensures shows { result ≡ bits }
@@ -47,7 +47,7 @@ pub(crate) fn shown(bits: u128) -> u128
     bits
 }
 
-/// Where the lowest bit stands.
+/// The place of the lowest bit.
 pub(crate) fn lowest(bits: u128) -> Slot
     requires { 0 < bits }
     ensures within { result < 128 }

@@ -1,5 +1,5 @@
-//! Slots, of which each living transaction has one, and sets of them. This crate alone knows how many slots there are,
-//! and how wide a set is: here 128, as the bits of one number.
+//! Slots, one for each living transaction, and sets of them. Only this crate knows how many slots
+//! there are, and how wide a set is: here 128, as the bits of one number.
 #![tactic(auto)]
 
 mod bits;
