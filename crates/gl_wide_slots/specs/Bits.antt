@@ -6,7 +6,7 @@ use Rattle.std.specs.Int.{bit_at}
 abbrev pub in_bits : ℕ → ℕ → Bool
 in_bits bits u = bit_at bits u == 1
 
--- the number of which bit u is set where u is below n and passes
+-- the number whose bit u is set if u is below n and passes
 abbrev pub bits_below : ℕ → (ℕ → Bool) → ℕ
 bits_below zero member = 0
 bits_below (suc n) member = cond (member 0) 1 0 + 2 * bits_below n (λ u. member (suc u))

@@ -5,6 +5,6 @@ use Rattle.std.specs.Prelude.{ℕ}
 abbrev pub most_slots : ℕ
 most_slots = 1024
 
--- how many words of 64 bits a set has
+-- the number of 64-bit words of a set
 abbrev pub most_words : ℕ
 most_words = 16

@@ -1,11 +1,11 @@
--- Sets of slots: which slots are in one.
+-- Sets of slots.
 use Rattle.std.specs.Prelude.{◌≡◌, ℕ, ◌<◌, ◌%◌, ◌^◌, ◌==◌, Bool, true, false, List, length, replicate}
 use Rattle.std.specs.List.{filter, range_with_len, list_all}
 use Rattle.gl_wide_slots.specs.Limit.{most_slots, most_words}
 use Rattle.gl_wide_slots.specs.Words.{in_words, words_below}
 use Rattle.gl_wide_slots.specs.declared.slots.Slots.{Slots}
 
--- the same as most_slots, kept from unfolding so that no proof walks over every slot
+-- the same as most_slots, not unfolded, so that no proof visits every slot
 unfoldable pub slot_limit : ℕ
 slot_limit = most_slots
 
@@ -31,7 +31,7 @@ pub record IsLowest (s : Slots) (k : ℕ) : Type 0 where
 abbrev pub slots_of : Slots → List ℕ
 slots_of s = filter (has_slot s) (range_with_len 0 slot_limit)
 
--- how many slots are in the set, which falls as slots are taken out
+-- how many slots are in the set, which decreases when slots are removed
 abbrev pub number_of : Slots → ℕ
 number_of s = length (slots_of s)
 
@@ -39,23 +39,23 @@ number_of s = length (slots_of s)
 abbrev pub has_none : Slots → Bool
 has_none s = list_all (λ w. w % 2 ^ 64 == 0) s.words
 
--- a set of slots as boards show it: the set itself
+-- a set of slots as snapshots show it: the set itself
 abbrev pub Bits : Type 0
 Bits = Slots
 
--- slot u is in the set that a board shows so
+-- slot u is in the set that a snapshot shows so
 abbrev pub has_bit : Bits → ℕ → Bool
 has_bit bits u = has_slot bits u
 
--- no slot is in the set that a board shows so
+-- no slot is in the set that a snapshot shows so
 abbrev pub HasNoBit : Bits → Type 0
 HasNoBit bits = HasNoSlot bits
 
--- how boards show the set without slots
+-- the empty set as snapshots show it
 abbrev pub no_bits : Bits
 no_bits = no_slots
 
--- how boards show the set of the slots that pass
+-- the set of the slots that pass, as snapshots show it
 unfoldable pub bits_of : (ℕ → Bool) → Bits
 bits_of member = record { words = words_below most_words member }
 

@@ -7,7 +7,7 @@ use Rattle.gl_wide_slots.specs.Bits.{in_bits, bits_below}
 abbrev pub in_words : List ℕ → ℕ → Bool
 in_words words u = in_bits (get_or words (u / 64) 0) (u % 64)
 
--- the n words of which bit u is set where u is below 64 n and passes
+-- the n words whose bit u is set if u is below 64 n and passes
 abbrev pub words_below : ℕ → (ℕ → Bool) → List ℕ
 words_below zero member = []
 words_below (suc n) member = bits_below 64 member ∷ words_below n (λ u. member (64 + u))

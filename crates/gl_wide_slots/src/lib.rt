@@ -1,5 +1,5 @@
-//! Slots, of which each living transaction has one, and sets of them. This crate alone knows how many slots there are,
-//! and how wide a set is: here 1,024, as the bits of words.
+//! Slots, one for each living transaction, and sets of them. Only this crate knows how many slots
+//! there are, and how wide a set is: here 1,024, as the bits of words.
 #![tactic(auto)]
 
 mod slots;

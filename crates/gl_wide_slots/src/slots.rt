@@ -1,4 +1,4 @@
-//! The set.
+//! Sets of slots.
 
 ghost use Rattle.std.specs.Prelude.{
   ◌≡◌,
@@ -34,22 +34,22 @@ ghost use Rattle.gl_wide_slots.specs.Words.{in_words};
 
 use crate::words::{above, add, clear, first, has, keep, put, turn, words_law};
 
-/// How many slots there are, so how many transactions live at once. A slot is a number below this.
+/// The number of slots: the most transactions that can live at once. Slots are the numbers below it.
 pub const SLOTS: usize = 1024;
 
-/// How many words of 64 bits a set has.
+/// The number of 64-bit words of a set.
 pub const WORDS: usize = SLOTS / 64;
 
 /// A slot.
 pub type Slot = u16;
 
-/// A set of slots as boards show it: the set itself.
+/// A set of slots as snapshots show it: the set itself.
 pub type Bits = Slots;
 
-/// How boards show the set without slots.
+/// The empty set as snapshots show it.
 pub const NO_BITS: Bits = Slots { words: [0; WORDS] };
 
-/// What a board shows, in words: bit `u % 64` of word `u / 64` stands for slot `u`.
+/// A set that a snapshot shows, in words: bit `u % 64` of word `u / 64` is slot `u`.
 pub fn to_words(bits: Bits) -> [u64; WORDS]
     ensures is { result ≡ words_of (has_bit bits) }
     ensures shows { (u : ℕ) → in_words result u ≡ has_bit bits u }
@@ -59,7 +59,7 @@ pub fn to_words(bits: Bits) -> [u64; WORDS]
     bits.words
 }
 
-/// What a board shows of the set of these words.
+/// The set of these words, as snapshots show it.
 pub fn from_words(words: [u64; WORDS]) -> Bits
     ensures is { result ≡ bits_of (in_words words) }
     ensures shows { (u : ℕ) → has_bit result u ≡ in_words words u }
@@ -75,7 +75,7 @@ pub struct Slots {
 }
 
 impl Slots {
-    /// The set without slots.
+    /// The empty set.
     pub fn empty() -> Self
         ensures none { HasNoSlot result }
         ensures is { result ≡ no_slots }
@@ -92,14 +92,14 @@ impl Slots {
         }
     }
 
-    /// Whether no slot is in the set.
+    /// Whether the set is empty.
     pub fn is_empty(&self) -> bool
         ensures { IsTrue result ↔ HasNoSlot self.now }
     {
         first(&self.words).is_none()
     }
 
-    /// Whether `slot` is in the set; none from `SLOTS` on is.
+    /// Whether `slot` is in the set; no slot from `SLOTS` on is.
     pub fn contains(&self, slot: Slot) -> bool
         ensures { result ≡ has_slot self.now slot }
     {
@@ -114,7 +114,7 @@ impl Slots {
         put(&mut self.words, slot);
     }
 
-    /// Takes `slot` out.
+    /// Removes `slot`.
     pub fn remove(&mut self, slot: Slot)
         ensures left { (u : ℕ) → has_slot self.new u ≡ (has_slot self.old u && not (u == slot)) }
         ensures fewer { has_slot self.old slot ≡ true → number_of self.new < number_of self.old }
@@ -122,7 +122,7 @@ impl Slots {
         clear(&mut self.words, slot);
     }
 
-    /// The slots of both sets.
+    /// The slots that are in either set.
     pub fn union(self, other: Self) -> Self
         ensures { (u : ℕ) → has_slot result u ≡ (has_slot self u || has_slot other u) }
     {
@@ -160,7 +160,7 @@ impl Slots {
         Slots { words }
     }
 
-    /// The lowest slot, `None` where there is none.
+    /// The lowest slot; `None` if the set is empty.
     pub fn lowest(&self) -> Option<Slot>
         ensures some { IfSome result (IsLowest self.now) }
         ensures none { IfNone result (HasNoSlot self.now) }
@@ -176,14 +176,14 @@ impl Slots {
         above(&self.words);
     }
 
-    /// The set that a board shows so.
+    /// The set that a snapshot shows so.
     pub fn from_bits(bits: Bits) -> Self
         ensures { (u : ℕ) → has_slot result u ≡ has_bit bits u }
     {
         bits
     }
 
-    /// The set as boards show it.
+    /// The set as snapshots show it.
     pub fn bits(self) -> Bits
         ensures is { result ≡ bits_of (has_slot self) }
         ensures shows { (u : ℕ) → has_bit result u ≡ has_slot self u }
@@ -192,8 +192,8 @@ impl Slots {
         self
     }
 
-    /// Takes the lowest slot out, and answers it: `None` where the set has none. A set gives its
-    /// slots from the lowest on.
+    /// Removes the lowest slot and returns it; `None` if the set is empty. Repeated calls return the
+    /// slots in increasing order.
     pub fn take_lowest(&mut self) -> Option<Slot>
         ensures some { IfSome result (IsLowest self.old) }
         ensures left { IfSome result (λ slot. (u : ℕ) → has_slot self.new u ≡ (has_slot self.old u && not (u == slot))) }
@@ -206,7 +206,7 @@ impl Slots {
         Some(lowest)
     }
 
-    /// The slots, from the lowest on.
+    /// The slots in increasing order.
     pub fn iter(self) -> Iter
         ensures { slots_of result.left ≡ slots_of self }
     {
@@ -214,7 +214,7 @@ impl Slots {
     }
 }
 
-/// The slots of a set, from the lowest on.
+/// The slots of a set in increasing order.
 #[derive(Clone, Debug, Drop)]
 pub struct Iter {
     left: Slots,

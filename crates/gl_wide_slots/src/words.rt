@@ -70,7 +70,7 @@ pub(crate) fn keep(words: &mut [u64; WORDS], others: &[u64; WORDS])
     }
 }
 
-/// Turns each bit.
+/// Flips each bit.
 pub(crate) fn turn(words: &mut [u64; WORDS])
     ensures turned { (w : ℕ) → w < most_words → get_or words.new w 0 ≡ bit_not w64 (get_or words.old w 0) }
     ensures fits { (w : ℕ) → w < most_words → get_or words.old w 0 < 2 ^ 64 }
@@ -98,7 +98,7 @@ pub(crate) fn words_law(words: &[u64; WORDS])
     }
 }
 
-/// Where the first word stands that has a bit.
+/// The place of the first word with a bit.
 pub(crate) fn first(words: &[u64; WORDS]) -> Option<usize>
     ensures some { IfSome result (IsFirstWord words.now) }
     ensures none { IfNone result ((w : ℕ) → get_or words.now w 0 ≡ 0) }
