@@ -12,13 +12,11 @@ use Rattle.gl_graph.specs.Graph.{Graph, is_child, parents_of}
 use Rattle.gl_lock_lists.specs.declared.list.Entry.{Entry}
 use Rattle.gl_lock_lists.specs.declared.list.LockList.{LockList}
 
--- The list of one transaction: the nodes that it holds or waits for, each with its mode and the count of its held children.
-
--- what is said of a node
+-- the node's entry, if it is listed
 abbrev pub entry_of : LockList → NodeId → Option Entry
 entry_of l n = lookup (same_node n) l.entries.entries
 
--- what is counted apart of a node that is not listed
+-- the separate count of a node that is not listed
 abbrev pub loose_of : LockList → NodeId → Option ℕ
 loose_of l n = lookup (same_node n) l.loose.entries
 
@@ -26,7 +24,7 @@ loose_of l n = lookup (same_node n) l.loose.entries
 abbrev pub is_listed : LockList → NodeId → Bool
 is_listed l n = is_some (entry_of l n)
 
--- the mode of a node, NL where nothing is said of it
+-- the mode of an entry; NL if there is none
 abbrev pub mode_in : Option Entry → Mode
 mode_in None = NL
 mode_in (Some e) = e.mode
@@ -35,7 +33,7 @@ mode_in (Some e) = e.mode
 abbrev pub mode_of : LockList → NodeId → Mode
 mode_of l n = mode_in (entry_of l n)
 
--- the count beside a node, or the one apart, or 0
+-- the count of an entry, or the separate one, or 0
 abbrev pub count_in : Option Entry → Option ℕ → ℕ
 count_in (Some e) o = e.children
 count_in None (Some k) = k
@@ -49,19 +47,19 @@ count_of l n = count_in (entry_of l n) (loose_of l n)
 abbrev pub unlisted : LockList → List NodeId → ℕ
 unlisted l ps = count_by (λ p. not (is_listed l p)) ps
 
--- room for one node more, and for the counts of nine nodes that are not listed
+-- room for one more node, and for the counts of nine nodes that are not listed
 abbrev pub HasRoom : LockList → Type 0
 HasRoom l = (0 < spare l.entries) × (9 ≤ spare l.loose)
 
--- Covered children as the list of one transaction tells them, and the marks that are set on them while they are released: a marked node is listed with mode NL.
+-- Covered children, and the marks that are set on them while they are released: a marked node is listed with mode NL.
 
--- a held child of n, of which no child is held, and not X, or X on every parent
+-- a held child of n without held children, and not in X, or with X on every parent
 abbrev pub covered_in : Graph → LockList → NodeId → NodeId → Bool
 covered_in g l n c =
     is_child g n c && not (same_mode (mode_of l c) NL) && (count_of l c == 0)
     && (not (same_mode (mode_of l c) X) || list_all (λ p. same_mode (mode_of l p) X) (parents_of g c))
 
--- no node listed at this place or further back is marked
+-- no node listed at this place or after it is marked
 abbrev pub NoneMarkedFrom : LockList → ℕ → Type 0
 NoneMarkedFrom l at = (i : ℕ) (n : NodeId) → at ≤ i → slice_get (keys l.entries) i ≡ Some n → same_mode (mode_of l n) NL ≡ false
 
@@ -70,7 +68,7 @@ pub record AreMarkedLast (g : Graph) (l : LockList) : Type 0 where
   pub childless : (c : NodeId) → is_listed l c ≡ true → mode_of l c ≡ NL → count_of l c ≡ 0
   pub counted : (c q : NodeId) → is_listed l c ≡ true → mode_of l c ≡ NL → count_by (same_node q) (parents_of g c) ≤ count_of l q
 
--- the marked node n is taken out, and each of its parents has one held child less
+-- the marked node n is removed, and each of its parents has one held child less
 pub record IsTakenOut (g : Graph) (l : LockList) (n : NodeId) (l' : LockList) : Type 0 where
   pub was : is_listed l n ≡ true
   pub was_marked : mode_of l n ≡ NL

@@ -1,4 +1,4 @@
-//! What one transaction holds and waits for, in the order in which it asked.
+//! The nodes that one transaction holds or waits for, in the order of its requests.
 #![tactic(auto)]
 
 mod list;

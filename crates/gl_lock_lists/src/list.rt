@@ -1,4 +1,4 @@
-//! The list of one transaction: what it holds and waits for.
+//! The list of one transaction: the nodes that it holds or waits for.
 
 ghost use Rattle.std.specs.Prelude.{◌≡◌, ℕ, ◌+◌, ◌<◌, ◌≤◌, ◌^◌, ◌&&◌, ◌||◌, not, true, false, length, OnOk, IfSome, IfNone, if◌then◌else◌};
 ghost use Rattle.std.specs.List.{count_by, list_all, list_any};
@@ -22,20 +22,19 @@ use gl_node_map::NodeMap;
 use indexmap::IndexMap;
 use std::alloc::{AllocError, Global};
 
-/// What a list says of a node that its transaction holds or waits for.
+/// The entry of a node that the transaction holds or waits for.
 #[derive(Clone, Copy)]
 pub struct Entry {
-    /// The mode in which the node is held: `NL` while it is waited for alone.
+    /// The mode in which the node is held: `NL` if it is only waited for.
     pub mode: Mode,
-    /// How many of its children the transaction holds.
+    /// How many of the node's children the transaction holds.
     pub children: u32,
 }
 
-/// The nodes that one transaction holds or waits for, each once.
+/// The nodes that one transaction holds or waits for, each once, with the number of its held children.
 ///
-/// Beside each stands how many of its children are held. A reader needs one parent only, so a child
-/// may be held of a node that is not listed: such nodes are counted apart, and are listed with their
-/// count as soon as they are asked for.
+/// A reader needs only one parent, so a node that is not listed may have held children. Such a node is
+/// counted separately, and is listed with its count when it is requested.
 #[derive(Drop)]
 pub struct LockList {
     entries: NodeMap<Entry>,
@@ -43,7 +42,8 @@ pub struct LockList {
     pub ghost apart: { IsApart entries.entries loose.entries } by { IsApart-prop entries.entries loose.entries },
 }
 
-/// Takes out what is counted apart of a node. Most lists count nothing apart, and are not looked into.
+/// Removes and returns the separate count of a node. Most lists have no separate counts, and are not
+/// searched.
 #[inline]
 fn take_loose(loose: &mut IndexMap<NodeId, u32>, n: NodeId) -> u32
     ensures value { result ≡ unwrap_or (lookup (same_node n) loose.old.entries) 0 }
@@ -56,7 +56,7 @@ fn take_loose(loose: &mut IndexMap<NodeId, u32>, n: NodeId) -> u32
     take_counted(loose, n)
 }
 
-/// As `take_loose`, where something is counted apart.
+/// As `take_loose`, if there are separate counts.
 #[inline(never)]
 fn take_counted(loose: &mut IndexMap<NodeId, u32>, n: NodeId) -> u32
     ensures value { result ≡ unwrap_or (lookup (same_node n) loose.old.entries) 0 }
@@ -66,7 +66,7 @@ fn take_counted(loose: &mut IndexMap<NodeId, u32>, n: NodeId) -> u32
     loose.swap_remove(&n).unwrap_or(0)
 }
 
-/// Counts one more of a node that is counted apart.
+/// Adds one to the separate count of a node.
 #[inline(never)]
 fn count_loose_up(loose: &mut IndexMap<NodeId, u32>, n: NodeId)
     requires room { 0 < spare loose.old }
@@ -82,7 +82,7 @@ impl LockList {
     ghost use Rattle.gl_lock_lists.specs.Lists.{AreMarkedLast, HasRoom, IsTakenOut, NoneMarkedFrom};
     ghost use Rattle.gl_lock_lists.specs.Lists.{covered_in, count_of, entry_of, is_listed, mode_of, unlisted};
 
-    /// A list of no nodes. It takes no memory.
+    /// An empty list. Allocates no memory.
     pub fn new(alloc: Global) -> Self
         ensures listed { (n : Node) → is_listed result n ≡ false }
         ensures counts { (n : Node) → count_of result n ≡ 0 }
@@ -93,14 +93,14 @@ impl LockList {
         }
     }
 
-    /// What is said of the node.
+    /// The node's entry, if it is listed.
     pub fn entry(&self, n: NodeId) -> Option<Entry>
         ensures { result ≡ entry_of self.now n }
     {
         self.entries.get(n).copied()
     }
 
-    /// The node at a place, with what is said of it.
+    /// The node at a place, with its entry.
     pub fn at(&self, place: usize) -> Option<(NodeId, Entry)>
         ensures { result ≡ slice_get self.now.entries.entries place }
     {
@@ -108,7 +108,7 @@ impl LockList {
         Some((*node, *entry))
     }
 
-    /// The mode in which the node is held, `NL` for none.
+    /// The mode in which the node is held; `NL` for none.
     #[inline]
     pub fn mode(&self, n: NodeId) -> Mode
         ensures { result ≡ mode_of self.now n }
@@ -126,7 +126,7 @@ impl LockList {
         !matches!(self.mode(n), Mode::NL)
     }
 
-    /// Makes room for one node more and for the counts of its parents.
+    /// Makes room for one more node and for the counts of its parents.
     #[inline]
     pub fn make_room(&mut self) -> Result<(), AllocError>
         ensures entries { self.new.entries.entries ≡ self.old.entries.entries }
@@ -152,7 +152,7 @@ impl LockList {
         self.entries.insert_new(n, Entry { mode, children });
     }
 
-    /// Writes the mode in which a listed node is held.
+    /// Sets the mode in which a listed node is held.
     pub fn set_mode(&mut self, n: NodeId, mode: Mode)
         requires { is_listed self.old n ≡ true }
         ensures listed { (q : Node) → is_listed self.new q ≡ is_listed self.old q }
@@ -166,7 +166,7 @@ impl LockList {
         }
     }
 
-    /// Takes a node out. What is held of its children is still counted.
+    /// Removes a node. Its held children are still counted.
     pub fn leave(&mut self, n: NodeId)
         requires room { 0 < count_of self.old n → 0 < spare self.old.loose }
         ensures listed { (q : Node) → is_listed self.new q ≡ (is_listed self.old q && not (same_node q n)) }
@@ -181,7 +181,7 @@ impl LockList {
         }
     }
 
-    /// Counts one held child more of each of these nodes.
+    /// Counts one more held child for each of these nodes.
     #[inline(always)]
     pub fn count_up(&mut self, parents: &[NodeId])
         requires room { unlisted self.old parents.now ≤ spare self.old.loose }
@@ -196,7 +196,7 @@ impl LockList {
         }
     }
 
-    /// Counts one held child more of a node.
+    /// Counts one more held child for a node.
     #[inline]
     fn count_one_up(&mut self, n: NodeId)
         requires room { is_listed self.old n ≡ false → 0 < spare self.old.loose }
@@ -213,7 +213,7 @@ impl LockList {
         }
     }
 
-    /// Counts one held child less of each of these nodes.
+    /// Counts one held child less for each of these nodes.
     pub fn count_down(&mut self, parents: &[NodeId])
         requires some { (q : Node) → count_by (same_node q) parents.now ≤ count_of self.old q }
         ensures listed { (q : Node) → is_listed self.new q ≡ is_listed self.old q }
@@ -227,7 +227,7 @@ impl LockList {
         }
     }
 
-    /// Counts one held child less of a node. A node that is not listed is forgotten at 0.
+    /// Counts one held child less for a node. A separate count is removed at 0.
     fn count_one_down(&mut self, n: NodeId)
         requires some { 0 < count_of self.old n }
         ensures listed { (q : Node) → is_listed self.new q ≡ is_listed self.old q }
@@ -246,7 +246,7 @@ impl LockList {
         }
     }
 
-    /// Takes everything out, and keeps the room.
+    /// Removes everything, and keeps the room.
     pub fn clear(&mut self)
         ensures listed { (n : Node) → is_listed self.new n ≡ false }
         ensures counts { (n : Node) → count_of self.new n ≡ 0 }
@@ -262,7 +262,7 @@ impl LockList {
 
     /// The held child of a node that was born first.
     ///
-    /// Goes over all that is listed: it only names the child that is in the way.
+    /// Scans the whole list: it only names the child that prevents a release.
     pub fn first_child(&self, graph: &Graph, node: NodeId) -> Option<NodeId>
         requires live { (c : Node) → not (same_mode (mode_of self.now c) NL) ≡ true → is_live (graph_of graph.now) c ≡ true }
         ensures { result ≡ find (λ c. is_child (graph_of graph.now) node c && not (same_mode (mode_of self.now c) NL)) (nodes (graph_of graph.now)) }
@@ -275,7 +275,7 @@ impl LockList {
         first
     }
 
-    /// A node, where it is a held child and was born before the one found so far; else that one.
+    /// The node, if it is a held child and was born before the one found so far; else that one.
     fn earlier_child(
         &self,
         graph: &Graph,
@@ -296,7 +296,7 @@ impl LockList {
 
     /// Whether some child of a node is held in `IX`, `SIX` or `X`.
     ///
-    /// Goes over all that is listed.
+    /// Scans the whole list.
     pub fn writes_below(&self, graph: &Graph, node: NodeId) -> bool
         requires live { (c : Node) → not (same_mode (mode_of self.now c) NL) ≡ true → is_live (graph_of graph.now) c ≡ true }
         ensures { result ≡ list_any (λ c. is_child (graph_of graph.now) node c && is_at_least (mode_of self.now c) IX) (nodes (graph_of graph.now)) }
@@ -324,7 +324,7 @@ impl LockList {
         self.entries.len()
     }
 
-    /// Marks the covered children of a node by the mode `NL`.
+    /// Marks the covered children of a node with the mode `NL`.
     pub fn mark_covered(&mut self, graph: &Graph, node: NodeId)
         requires counted { (c p : Node) → not (same_mode (mode_of self.old c) NL) ≡ true
             → list_any (same_node p) (parents_of (graph_of graph.now) c) ≡ true → 0 < count_of self.old p }
@@ -337,7 +337,7 @@ impl LockList {
         }
     }
 
-    /// Marks the node at a place where it is a covered child.
+    /// Marks the node at a place if it is a covered child.
     fn mark_one(&mut self, graph: &Graph, node: NodeId, at: usize)
         requires within { at < length (keys self.old.entries) }
         ensures marks { (n : Node) → slice_get (keys self.old.entries) at ≡ Some n → (q : Node)
@@ -354,7 +354,7 @@ impl LockList {
         }
     }
 
-    /// Whether the node, of which this is said, is a child that the lock on a node covers.
+    /// Whether the node with this entry is a child that the lock on `node` covers.
     fn covers(&self, graph: &Graph, node: NodeId, child: NodeId, entry: Entry) -> bool
         requires said { entry_of self.now child ≡ Some entry }
         ensures { result ≡ covered_in (graph_of graph.now) self.now node child }
@@ -372,8 +372,8 @@ impl LockList {
         parents.iter().all(|parent| self.mode(*parent) == Mode::X)
     }
 
-    /// Takes out the node at a place if it is marked; each of its parents has one held child less.
-    /// The nodes further back are not marked.
+    /// Removes the node at a place if it is marked, and counts one held child less for each of its
+    /// parents. No node after that place may be marked.
     pub fn take_marked(&mut self, graph: &Graph, at: usize) -> Option<NodeId>
         requires within { at < length (keys self.old.entries) }
         requires marked { AreMarkedLast (graph_of graph.now) self.old }
@@ -394,14 +394,14 @@ impl LockList {
     }
 }
 
-/// Whether the node is held of which this is said.
+/// Whether the node with this entry is held.
 fn is_held(entry: Entry) -> bool
     ensures { result ≡ not (same_mode entry.mode NL) }
 {
     !matches!(entry.mode, Mode::NL)
 }
 
-/// Whether the node is a parent of this one.
+/// Whether `node` is a parent of `child`.
 fn is_child(graph: &Graph, node: NodeId, child: NodeId) -> bool
     ensures { result ≡ is_child (graph_of graph.now) node child }
 {
