@@ -1,4 +1,4 @@
--- What a map of nodes ends as, once a `&mut` into it has ended.
+-- What a map of nodes is after a `&mut` into it has ended.
 use Rattle.std.specs.Prelude.{◌≡◌, ℕ, Option}
 use Rattle.std.specs.Borrow.{Fml, RattleType, MutBor, Lends, LendsSo}
 use Rattle.indexmap.specs.IndexMap.{WritesThrough, with_value_at}

@@ -1,4 +1,4 @@
--- What stands in the two forms of a map of nodes, and what holds of them. For the crate.
+-- The two forms of a map of nodes, and what holds of them. For the crate.
 use Rattle.std.specs.Prelude.{◌≡◌, ℕ, ◌-◌, ◌<◌, ◌≤◌, ◌++◌, ◌==◌, [], if◌then◌else◌, length, max, nat_lt, vec_capacity}
 use Rattle.std.specs.List.{IsDistinct}
 use Rattle.std.specs.Map.{keys_of}
@@ -8,23 +8,23 @@ use Rattle.gl_modes.specs.Nodes.{same_node}
 use Rattle.gl_node_map.specs.Rows.{Listed, short}
 use Rattle.gl_node_map.specs.declared.node_map.NodeMap.TheInside.{Inside}
 
--- how many rows fit without memory while they are scanned, and then in a map for which r were provided
+-- how many entries fit without memory while they are scanned, and then in a hash map for which r were reserved
 abbrev pub rows_that_fit : ℕ → ℕ → ℕ
 rows_that_fit capacity r = if nat_lt capacity short then capacity else max short r
 
 module _ {V : Type 0} (m : Inside V) where
-  -- how many more can be put in without memory
+  -- how many more can be inserted without memory
   abbrev pub room : ℕ
   room =
       if length m.map.entries == 0
       then rows_that_fit (vec_capacity m.rows) (spare m.map) - length m.rows.items
       else spare m.map
 
-  -- the rows, whichever form they have
+  -- the entries, in either form
   abbrev pub listed : Listed V
   listed = hash_map (m.rows.items ++ m.map.entries) tt room
 
-  -- few rows are scanned while the map is empty; while it is not there are no others, and those that are scanned have their room
+  -- few entries are scanned while the hash map is empty; while it is not, there are no others, and the room of those scanned stays
   pub record IsSound : Type 0 where
     pub distinct : IsDistinct same_node (keys_of m.rows.items)
     pub few : length m.rows.items ≤ short

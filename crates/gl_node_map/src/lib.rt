@@ -1,4 +1,4 @@
-//! Values under nodes, which are scanned while they are few.
+//! Values by node, which are scanned while they are few.
 #![tactic(auto)]
 
 mod node_map;

@@ -35,13 +35,13 @@ use indexmap::IndexMap;
 use std::alloc::{AllocError, Global};
 use std::marker::Model;
 
-/// How many rows are scanned. More are found by hash.
+/// The most entries that are scanned. More are found by hash.
 const SHORT: usize = 16;
 
-/// Values under nodes, in the order in which they were put in.
+/// Values by node, in the order in which they were inserted.
 ///
-/// While there are few, they are scanned from the end, without a hash. More than 16 stand in a map, until
-/// all are taken out. There a node is looked for where one was found last, before its hash is.
+/// Up to 16 are scanned from the end, without a hash. More are in a hash map, until all are removed. A
+/// look-up there first tries the places found last, and then the hash.
 #[derive(Drop)]
 pub struct NodeMap<V: Copy> {
     rows: Vec<(NodeId, V)>,
@@ -64,7 +64,7 @@ impl<V: Copy> Model for NodeMap<V> {
 }
 
 impl<V: Copy> NodeMap<V> {
-    /// A map of no nodes. It takes no memory.
+    /// An empty map. Allocates no memory.
     pub fn new(alloc: Global) -> Self
         ensures empty { IsEmpty result }
         ensures len { index_map_len result ≡ 0 }
@@ -158,7 +158,7 @@ impl<V: Copy> NodeMap<V> {
         }
     }
 
-    /// Keeps in mind where a node was found, where they stand in a map.
+    /// Notes where a node was found, if there is a hash map.
     #[inline]
     fn note(&mut self, place: usize)
         ensures { self.new ≡ self.old }
@@ -181,7 +181,7 @@ impl<V: Copy> NodeMap<V> {
         }
     }
 
-    /// Makes room for one node more.
+    /// Makes room for one more node.
     #[inline]
     pub fn reserve_one(&mut self) -> Result<(), AllocError>
         ensures entries { IsUnchanged self.old self.new }
@@ -198,7 +198,7 @@ impl<V: Copy> NodeMap<V> {
         }
     }
 
-    /// Puts a value last, under a node that has none. There must be room.
+    /// Inserts a value last, for a node that has none. There must be room.
     #[inline(always)]
     pub fn insert_new(&mut self, node: NodeId, value: V)
         requires new { get same_node self.old node ≡ None }
@@ -219,7 +219,7 @@ impl<V: Copy> NodeMap<V> {
         }
     }
 
-    /// Takes the node out, and gives its value. What was put in last takes its place.
+    /// Removes the node and returns its value. The last entry takes its place.
     pub fn swap_remove(&mut self, node: NodeId) -> Option<V>
         ensures value { result ≡ get same_node self.old node }
         ensures updates { Updates same_node self.old self.new node None }
@@ -237,8 +237,8 @@ impl<V: Copy> NodeMap<V> {
         }
     }
 
-    /// Takes everything out, and keeps the room. Of a map it writes no more than stands in it, and not all
-    /// its room.
+    /// Removes everything, and keeps the room. Of a hash map it writes only the entries, not all its
+    /// room.
     pub fn clear(&mut self)
         ensures empty { IsEmpty self.new }
         ensures len { index_map_len self.new ≡ 0 }

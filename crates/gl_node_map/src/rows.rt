@@ -1,5 +1,5 @@
-//! Few rows, which are scanned, and more, which stand in a map. What is done with a map stands apart, so
-//! that the ways over few rows are short.
+//! Few entries, which are scanned, and more, which are in a hash map. The functions over a hash map
+//! are separate, so that those over few entries are short.
 
 ghost use Rattle.std.specs.Prelude.{◌≡◌, ◌+◌, ◌<◌, ◌≤◌, [], IfNone, IsTrue, None, Some, if◌then◌else◌, is_some, length, vec_capacity, position};
 ghost use Rattle.std.specs.List.{IsDistinct};
@@ -10,7 +10,7 @@ ghost use Rattle.gl_modes.specs.Nodes.{same_node};
 use gl_modes::NodeId;
 use indexmap::IndexMap;
 
-/// Where the row of a node stands. The scan begins with what was put in last.
+/// The place of a node's entry. The scan begins with the last one.
 pub(crate) fn place_of<V: Copy>(rows: &[(NodeId, V)], node: NodeId) -> Option<usize>
     requires { IsDistinct same_node (keys_of rows.now) }
     ensures { result ≡ position (same_node node) (keys_of rows.now) }
@@ -23,8 +23,8 @@ pub(crate) fn place_of<V: Copy>(rows: &[(NodeId, V)], node: NodeId) -> Option<us
     None
 }
 
-/// Where two nodes stood in a map that were found last, or anywhere: it is a hint, and nothing is
-/// promised of it. Much of what a transaction asks for has the same parents.
+/// Where the last two nodes were found in a hash map, or any places: a hint, of which nothing is
+/// promised. Many requests of a transaction have the same parents.
 #[derive(Clone, Copy)]
 pub(crate) struct Recent {
     last: usize,
@@ -37,7 +37,7 @@ impl Recent {
         Recent { last: 0, before: 0 }
     }
 
-    /// A node was found at this place.
+    /// The hint after a node was found at this place.
     pub(crate) fn and(self, place: usize) -> Self {
         if place == self.last {
             return self;
@@ -49,7 +49,7 @@ impl Recent {
     }
 }
 
-/// Whether the row of a node stands at this place of a map.
+/// Whether a node's entry is at this place of a hash map.
 #[inline]
 fn stands_at<V: Copy>(map: &IndexMap<NodeId, V>, place: usize, node: NodeId) -> bool
     ensures there { IsTrue result → index_of same_node map.now node ≡ Some place }
@@ -58,7 +58,7 @@ fn stands_at<V: Copy>(map: &IndexMap<NodeId, V>, place: usize, node: NodeId) -> 
     place < map.len() && *map.get_index(place).unwrap().0 == node
 }
 
-/// Where the row of a node stands in a map: where one was found last, or else by its hash.
+/// The place of a node's entry in a hash map: one where a node was found last, or else by its hash.
 #[inline(never)]
 pub(crate) fn place_in<V: Copy>(
     map: &IndexMap<NodeId, V>,
@@ -77,8 +77,8 @@ pub(crate) fn place_in<V: Copy>(
     }
 }
 
-/// Where the row of a node stands in a map, by its hash. It stands apart, so that whoever finds it where one
-/// was found last saves no registers.
+/// The place of a node's entry in a hash map, by its hash. Separate, so that a look-up by the hint
+/// saves no registers.
 #[inline(never)]
 fn search<V: Copy>(map: &IndexMap<NodeId, V>, node: NodeId) -> Option<usize>
     ensures { result ≡ index_of same_node map.now node }
@@ -86,7 +86,7 @@ fn search<V: Copy>(map: &IndexMap<NodeId, V>, node: NodeId) -> Option<usize>
     map.get_index_of(&node)
 }
 
-/// Puts a value into a map that has room, last where its node is new.
+/// Inserts a value into a hash map that has room, last if its node is new.
 #[inline(never)]
 pub(crate) fn put<V: Copy>(map: &mut IndexMap<NodeId, V>, node: NodeId, value: V)
     requires { 0 < spare map.old }
@@ -98,8 +98,8 @@ pub(crate) fn put<V: Copy>(map: &mut IndexMap<NodeId, V>, node: NodeId, value: V
     map.insert(node, value).unwrap();
 }
 
-/// Takes the row of a node out of a map, and gives its value. What was put in last takes its place. It is
-/// looked for there first: what goes is mostly what came last.
+/// Removes a node's entry from a hash map and returns its value. The last entry takes its place. It is
+/// tried first: what is removed is mostly what was inserted last.
 #[inline(never)]
 pub(crate) fn take_out<V: Copy>(map: &mut IndexMap<NodeId, V>, node: NodeId) -> Option<V>
     ensures value { result ≡ get same_node map.old node }
@@ -119,7 +119,7 @@ pub(crate) fn take_out<V: Copy>(map: &mut IndexMap<NodeId, V>, node: NodeId) -> 
     }
 }
 
-/// The same by its hash.
+/// As `take_out`, by the hash.
 #[inline(never)]
 fn search_out<V: Copy>(map: &mut IndexMap<NodeId, V>, node: NodeId) -> Option<V>
     ensures value { result ≡ get same_node map.old node }
@@ -133,7 +133,7 @@ fn search_out<V: Copy>(map: &mut IndexMap<NodeId, V>, node: NodeId) -> Option<V>
     map.swap_remove(&node)
 }
 
-/// Moves all rows into the map, in their order.
+/// Moves all entries into the hash map, in their order.
 #[inline(never)]
 pub(crate) fn move_all<V: Copy>(rows: &mut Vec<(NodeId, V)>, map: &mut IndexMap<NodeId, V>)
     requires distinct { IsDistinct same_node (keys_of rows.old.items) }
