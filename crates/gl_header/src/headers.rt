@@ -216,7 +216,7 @@ impl Headers {
         match self.seen(node) {
             Seen::Nobody => Slots::empty(),
             Seen::One(holder, _) => only(holder),
-            Seen::Shared(header) => header.opposed(Mode::X), // No mode is compatible with X.
+            Seen::Shared(header) => header.opposed(Mode::X), // No lock is compatible with X.
         }
     }
 
