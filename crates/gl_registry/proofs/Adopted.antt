@@ -83,7 +83,7 @@ adopted_live g law n f keys g' born =
 pub node_is : {a b : NodeId} → answer.Node a ≡ answer.Node b → a ≡ b
 node_is e = cc
 
--- the node that adopt answers: it is new, it stands, and nobody has locks on it
+-- the node that adopt answers: it is new, it lives, and nobody has locks on it
 pub record IsAdoptedNode (s s' : State) (f n : NodeId) (keys : List ℕ) : Type 0 where
   pub graph : Graph
   pub born : IsAdopted s.graph graph n f keys

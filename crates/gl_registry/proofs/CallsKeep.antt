@@ -79,7 +79,7 @@ module _ (m m' : ManagerView) (v v' : RowsView) (law : IsLawful (state_of m)) (h
       by (Err r) h = refused_keeps m m' v v' r result told h holds
       by (Ok n) h = rekeyed_holds t n index key told result h
 
-  -- a file of rows is made, of which no record stands
+  -- a file of rows is made, which has no record
   file_keeps : (ps : Bor (List NodeId)) (result : Result NodeId Refusal) → MakesFile m v ps result m' v' → Kept
   file_keeps ps (Ok f) h =
       let s : State = state_of m in

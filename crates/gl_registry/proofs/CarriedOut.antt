@@ -1,4 +1,4 @@
--- Each call about rows is one step of its own command, records being adopted and forgotten before and behind. For Registry.apply.
+-- Each call about rows is one step of its own command, with records adopted and forgotten before and after it. For Registry.apply.
 use Rattle.std.specs.Prelude.{◌≡◌, ◌≢◌, ℕ, Bool, true, false, List, [], ◌∷◌, Option, Some, None, Result, Ok, Err, cond, map, unwrap_or}
 use Rattle.std.specs.List.{list_all}
 use Rattle.std.specs.Map.{lookup}
@@ -61,7 +61,7 @@ all_forget (n ∷ gone) = all_forget gone
 pub each_goes : (s s' : State) (ns ns' : Names) (rows : List Row) → LetsEachGo s ns rows s' ns' → Upkeep s s'
 each_goes s s' ns ns' rows lets = record { lines = map forgets lets.forgotten.0; run = lets.forgotten.1; kept = all_forget lets.forgotten.0 }
 
--- what a command keeps of deadlocks, by its answer
+-- what a command records of deadlocks, by its answer
 kept_by : (c : Command) (m m' : ManagerView) (a : Answer) → ((r : Refusal) → a ≢ answer.Refused r) → KeepsAccepted c m m'
     → KeptBy c (state_of m) m.table.deadlock a (state_of m') m'.table.deadlock
 kept_by c m m' answer.Done said keeps = keeps
@@ -75,7 +75,7 @@ kept_by c m m' (answer.Mode mode) said keeps = keeps
 kept_by c m m' (answer.Effect e) said keeps = keeps
 kept_by c m m' (answer.Refused r) said keeps = absurd (said r refl)
 
--- a command of the manager, behind which rows may be let go
+-- a command of the manager, after which rows may be let go
 done_amid : (m mid m' : ManagerView) (c : Command) (a : Answer) (told : Told) → ((r : Refusal) → a ≢ answer.Refused r) → Does m c (a, told) mid
     → Upkeep (state_of mid) (state_of m') → SameAccount mid m' → StepsAmid m c a told m'
 done_amid m mid m' c a told said does after account = record {
@@ -88,7 +88,7 @@ done_amid m mid m' c a told said does after account = record {
   deadlock = subst (λ d. KeptBy c (state_of m) m.table.deadlock a (state_of mid) d) (sym account.1) (kept_by c m mid a said does.completes.deadlock);
 }
 
--- alone
+-- the same, and no row is let go
 done_alone : (m m' : ManagerView) (c : Command) (a : Answer) (told : Told) → ((r : Refusal) → a ≢ answer.Refused r) → Does m c (a, told) m'
     → StepsAmid m c a told m'
 done_alone m m' c a told said does = done_amid m m' m' c a told said does (upkeep_none (state_of m') (state_of m') refl) (refl, refl)
@@ -101,7 +101,7 @@ lock_never locked.Victim r e = cc e
 
 -- A row's lock.
 
--- a row that is registered is named so
+-- a registered row has this node
 named_now : (v v' : RowsView) (slot : ℕ) (row : Row) (n : NodeId) → Registers v v' slot row n → named_or_none v' row ≡ n
 named_now v v' slot row n reg =
     ap (λ o. unwrap_or o no_node) (reg.names row ∙ ap (λ b. cond b (Some n) (lookup (same_row row) v.names)) (same_row-refl row))
@@ -127,7 +127,7 @@ module _ (m : ManagerView) (v : RowsView) (w : Wish) (m' : ManagerView) (v' : Ro
   abbrev Out : RowAnswer → Told → Type 0
   Out a told = CarriesOut m own (answer_in a) told m'
 
-  -- of the node by which the row is named behind it
+  -- on the node that the row has afterwards
   of_node : (n : NodeId) (x : Locked) (told : Told) → Registers v v' w.txn.slot w.row n → StepsAmid m (command.Lock w.txn n w.mode) (answer_of_lock x) told m'
       → CarriesOut m own (Some (answer_of_lock x)) told m'
   of_node n x told reg amid =
@@ -181,7 +181,7 @@ ok_never e = cc
 done_never : (r : Refusal) → answer.Done ≢ answer.Refused r
 done_never r e = cc e
 
--- the node that a call is of is that of its own command
+-- the node that a call uses is that of its own command
 same_node_for : (v : RowsView) (row : Row) (n : NodeId) → node_for v row ≡ Ok n → named_or_none v row ≡ n
 same_node_for v row n e = by (name_of v row) (has_rows v row.file) e
   where
@@ -222,7 +222,7 @@ module _ (m : ManagerView) (v : RowsView) (m' : ManagerView) (v' : RowsView) (t 
       by (Ok n) e (Err (row_no.Refused r)) h = inr (refl, (h.nobody_told, h.same_manager))
       by (Ok n) e (Err row_no.NotRows) h = absurd h
 
--- What ends a transaction or gives locks back.
+-- Calls that end a transaction or release locks.
 
 module _ (m : ManagerView) (v : RowsView) (m' : ManagerView) (v' : RowsView) (slot : ℕ) (told : Told) where
   asked_amid : (mid : ManagerView) (c : Command) (a : Answer) (list : Told) → ((r : Refusal) → a ≢ answer.Refused r) → Does m c (a, list) mid

@@ -1,4 +1,4 @@
--- A file of rows that is dropped is forgotten as one, and the law of names stays: no row of it is named, since no record of it stands.
+-- A dropped file is no file of rows any more, and the law of names stays: no row of it has a node, since it has no record.
 use Rattle.std.specs.Prelude.{◌≡◌, Bool, true, false, not, ◌&&◌, ◌||◌, Option, Some, None}
 use Rattle.std.specs.Map.{lookup}
 use Rattle.std.proofs.Common.{refl, sym, ap, ap₂, subst, ◌∙◌}
@@ -32,7 +32,7 @@ use Rattle.gl_registry.specs.declared.row.Row.{Row}
 use Rattle.gl_registry.proofs.Adopted.{accepted_of}
 use Rattle.gl_registry.proofs.Touched.{untouched_keeps}
 
--- rows keep their names
+-- rows keep their nodes
 pub left_names : (o : Option NodeId) (v v' : RowsView) → LeavesRows o v v' → v'.names ≡ v.names
 left_names None v v' same = ap (λ (x : RowsView). x.names) same
 left_names (Some n) v v' forgets = forgets.names
@@ -72,7 +72,7 @@ module _ (v : RegistryView) (law : IsLawful (state_of v.manager)) (s' : State) w
   abbrev s : State
   s = state_of v.manager
 
-  -- what was dropped lives no more
+  -- the dropped node does not live any more
   gone : (t : TxnId) (n : NodeId) (told : Told) → Step s (command.Drop t n) answer.Done told s' → is_live s'.graph n ≡ false
   gone t n told step =
       let acc = accepted_of s (command.Drop t n) answer.Done told s' refl (λ r e. cc) step in
@@ -85,7 +85,7 @@ module _ (v : RegistryView) (law : IsLawful (state_of v.manager)) (s' : State) w
       nothing true = refl
       nothing false = refl
 
-  -- the law of names behind a command that touches no row
+  -- the law of names after a command that touches no row
   pub left_hold : (c : Command) (a : Answer) (told : Told) (after : RowsView) → touches_rows v c ≡ false → Step s c a told s' → NamesHold v.rows s.graph
       → LeavesRows (dropped_by c a) v.rows after → NamesHold after s'.graph
   left_hold c a told after off step holds = by c a step (untouched_keeps v law s' c a told off step holds)

@@ -1,4 +1,4 @@
--- A node is dropped: the indexes of a file stay but for it, and a file and its keys that are a row before and after lie below the same nodes.
+-- A node is dropped: a file keeps its other indexes, and if a file and its keys are a row before and after, its parents are the same nodes.
 use Rattle.std.specs.Prelude.{◌≡◌, ℕ, suc, ◌<◌, ◌≤◌, Bool, true, false, not, ◌||◌, List, [], ◌∷◌, ◌++◌, length, Some, nat_le, if◌then◌else◌}
 use Rattle.std.specs.List.{filter, list_all, list_any}
 use Rattle.std.proofs.Common.{refl, sym, ap, subst, ◌∙◌, arith}
@@ -28,7 +28,7 @@ all_pass q p (x ∷ xs) all each =
     let t = and_both (q x) (list_all q xs) all in
     ap (λ b. if b then x ∷ filter p xs else filter p xs) (each x t.0) ∙ ap (λ ys. x ∷ ys) (all_pass q p xs t.1 each)
 
--- without one of its elements a list is no longer than it was, and shorter where that is there
+-- without an element a list is no longer than before, and shorter if it had the element
 not_longer : (n : NodeId) (xs : List NodeId) → length (filter (λ i. not (same_node n i)) xs) ≤ length xs
 not_longer n [] = omega arith
 not_longer n (x ∷ xs) =
@@ -72,7 +72,7 @@ module _ (m : Graph) (law : IsLawfulGraph m) (n : NodeId) (movable : is_movable_
       ap (λ o. interval left i (interval_place (bounds_in (shape_in o)) key)) (stays_left m n (live m law n movable free) i on other apart)
       ∙ (interval_stays m law n movable free i it.0 it.1 it.2 other (interval_place (bounds_in (shape_of m i)) key) (omega arith)).1
 
-  -- of a file that had kept its indexes since g, when this node was none of them
+  -- for a file that kept its indexes since g, if this node was none of them
   pub dropped_keeps : (g : Graph) (f : NodeId) → IsLawfulGraph g → KeepsIndexes g m f → is_index_of_shape f (shape_of g n) ≡ false → KeepsIndexes g left f
   dropped_keeps g f law' kept none = record {
     indexes = (
@@ -89,7 +89,7 @@ module _ (m : Graph) (law : IsLawfulGraph m) (n : NodeId) (movable : is_movable_
       other : (i : NodeId) → is_index_of_shape f (shape_of g i) ≡ true → same_node n i ≡ false
       other i h = not_true (same_node n i) (λ t. clash h (sym (ap (λ q. is_index_of_shape f (shape_of g q)) (same_node-equal n i t)) ∙ none))
 
-  -- whatever index goes
+  -- whichever index is dropped
   pub dropped_parents : (f : NodeId) (keys : List ℕ) → IsRow m f keys → IsRow left f keys → record_parents left f keys ≡ record_parents m f keys
   dropped_parents f keys row row' =
       split (is_index_of_shape f (shape_of m n))

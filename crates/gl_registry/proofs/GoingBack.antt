@@ -1,4 +1,4 @@
--- What a transaction that goes back leaves of the names of rows, and to others of their effective modes on rows. For Registry.release_since.
+-- After a transaction rolls back to a savepoint: the nodes of rows, and the effective modes of others on rows. For Registry.release_since.
 use Rattle.std.specs.Prelude.{◌≡◌, ℕ, true, false, List, [], ◌∷◌, Result, Ok, Err, get_or, map}
 use Rattle.std.proofs.Common.{refl, sym, ap, subst, ◌∙◌}
 use Rattle.gl_modes.specs.declared.node.NodeId.{NodeId}
@@ -33,7 +33,7 @@ use Rattle.gl_registry.proofs.Served.{Over, over_as, over_parents, over_same, ov
 abbrev unlocks : TxnId → List NodeId → List Command
 unlocks t ns = map (λ n. command.Unlock t n) ns
 
--- nodes that are unlocked leave the graph
+-- unlocking nodes leaves the graph as it is
 unlocked_graph : (t : TxnId) (ns : List NodeId) (rs : List Says) (s s' : State) → Run s (unlocks t ns) rs s' → s'.graph ≡ s.graph
 unlocked_graph t [] [] s s' run = ap (λ (z : State). z.graph) run
 unlocked_graph t [] (r ∷ rs) s s' run = absurd run
@@ -47,7 +47,7 @@ module _ (m mid : ManagerView) (t : TxnId) (mark k : ℕ) (told : Told) (law : I
   pub back_lawful : IsLawful (state_of mid)
   back_lawful = runs_keep_law (state_of m) (state_of mid) (unlocks t h.nodes) h.replies law h.run
 
-  -- what it leaves another
+  -- what another transaction keeps
   over_back : (u : TxnId) → lives (state_of m) u ≡ true → same_txn u t ≡ false → Over (state_of m) (state_of mid) u (is_granted u told)
   over_back u alive apart = record {
     law = back_lawful;
@@ -67,9 +67,9 @@ module _ (m m' : ManagerView) (v v' : RowsView) (law : IsLawful (state_of m)) (h
       (subst (NamesHoldIn (has_rows v) (name_of v)) (sym (back_graph m mid t mark k told law h.1)) holds) h.2.goes)
   back_keeps t mark (Err r) told h = refused_keeps m m' v v' r (Err r) told h.1 holds
 
--- What is left on rows to others.
+-- The effective modes of others on rows.
 
--- rows are let go behind it: a node that lives before and behind names the same row
+-- rows are then let go: a node that lives before and after has the same row
 back_stays : (m mid m' : ManagerView) (v v' : RowsView) (t : TxnId) (mark k : ℕ) (told : Told) → IsLawful (state_of m) → NamesHold v (state_of m).graph
     → KeepsKinds (state_of m).graph (state_of m').graph → TakesBack t mark k m told mid → LetsGoAsked mid v t.slot m' v'
     → KeepsNames (name_of v) (name_of v') (state_of m).graph (state_of m').graph

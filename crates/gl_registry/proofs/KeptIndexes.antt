@@ -1,4 +1,4 @@
--- The indexes of a file stay, with their intervals: changes of the graph keep them, a new index goes behind those that the file has.
+-- The indexes of a file stay, with their intervals: changes of the graph keep them, and a new index is added after those of the file.
 use Rattle.std.specs.Prelude.{◌≡◌, ℕ, ◌+◌, ◌||◌, true, List, [], ◌∷◌, ◌++◌, length, Some, is_some}
 use Rattle.std.specs.List.{list_all, list_any}
 use Rattle.std.proofs.Common.{refl, sym, ap, ap₂, ◌∙◌, arith}
@@ -23,7 +23,7 @@ use Rattle.gl_graph.proofs.RecordParents.{index_of_index}
 use Rattle.gl_graph.proofs.Removed.{indexes_left, removed_frames}
 use Rattle.gl_registry.specs.Promises.{IsRow}
 
--- the indexes of a file stay and are first among those that it has, and each key lies in the interval in which it lay
+-- the file keeps its indexes, first among those that it has, and each key keeps its interval
 pub record KeepsIndexes (g g' : Graph) (f : NodeId) : Type 0 where
   pub indexes : (more : List NodeId) × (indexes_of g' f ≡ indexes_of g f ++ more)
   pub intervals : (i : NodeId) (key : ℕ) → is_index_of_shape f (shape_of g i) ≡ true → interval_of g' i key ≡ interval_of g i key
@@ -31,7 +31,7 @@ pub record KeepsIndexes (g g' : Graph) (f : NodeId) : Type 0 where
 pub keeps_itself : (g : Graph) (f : NodeId) → KeepsIndexes g g f
 keeps_itself g f = record { indexes = ([], sym (append-nil (indexes_of g f))); intervals = λ i key h. refl }
 
--- each of these indexes is one still
+-- each of these is still an index
 pub index_still : (g m : Graph) (f : NodeId) → IsLawfulGraph g → KeepsIndexes g m f → (i : NodeId) → is_index_of_shape f (shape_of g i) ≡ true
     → is_index_of_shape f (shape_of m i) ≡ true
 index_still g m f law kept i h =
@@ -50,7 +50,7 @@ keeps_trans g m g' f law a b = record {
   intervals = λ i key h. b.intervals i key (index_still g m f law a i h) ∙ a.intervals i key h;
 }
 
--- what is no record looks as it did, and an interval is as it was
+-- a node that is no record keeps its shape, and an interval stays as it was
 pub record LooksSame (g g' : Graph) : Type 0 where
   pub shapes : (q : NodeId) → is_plain (shape_of g q) ≡ true → AreAlike (shape_of g' q) (shape_of g q)
   pub intervals : (q : NodeId) (place : ℕ) (node : Node) → node_at g q ≡ Some node → node.shape ≡ Interval place → node_at g' q ≡ Some node
@@ -85,14 +85,14 @@ born_keeps g law ns f = looks_keeps g (born_nodes g ns) law by f (new_indexes g 
       intervals = λ q place node e shape. old_same g law ns q (ap is_some e) ∙ e;
     }
 
--- of a file rows are adopted
+-- a file is marked as one of which rows were adopted
 pub marked_keeps : (g : Graph) (x f : NodeId) → KeepsIndexes g (marked g x) f
 marked_keeps g x f = record {
   indexes = ([], marked_indexes g x f ∙ sym (append-nil (indexes_of g f)));
   intervals = λ i key h. marked_interval_of g x i key;
 }
 
--- a record goes
+-- a record is removed
 pub removed_keeps : (g : Graph) → IsLawfulGraph g → (r : NodeId) → is_record_shape (shape_of g r) ≡ true → (f : NodeId) → KeepsIndexes g (without_node g r) f
 removed_keeps g law r rec f =
     stays_keeps g (without_node g r) law (frames_same g (without_node g r) (removed_frames g law r rec)) f (indexes_left g law r rec f)
@@ -104,7 +104,7 @@ changed_keeps g law n was is there key alike f =
     stays_keeps g (with_node g n.birth is) law (frames_same g (with_node g n.birth is) (changed_frames g n was is there key alike)) f
     (indexes_same g n was is there key alike f)
 
--- a file and its keys that are a row before and after lie below the same nodes
+-- a file and its keys that are a row before and after have the same parents
 module _ (g g' : Graph) (f : NodeId) (kept : KeepsIndexes g g' f) where
   same_intervals : (is : List NodeId) (keys : List ℕ) → list_all (λ i. is_index_of_shape f (shape_of g i)) is ≡ true
       → intervals_of g' is keys ≡ intervals_of g is keys

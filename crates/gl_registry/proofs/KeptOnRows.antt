@@ -1,5 +1,5 @@
--- What is left to a transaction of its effective modes on rows, by all its locks: where it keeps its locks, what stands its effective modes, and the nodes
--- that live on the rows that they name. For the laws of rows.
+-- The effective modes on rows that a transaction keeps, by all its locks: it keeps its locks and the effective modes on nodes that remain, and a node that
+-- lives before and after has the same row. For the laws of rows.
 use Rattle.std.specs.Prelude.{◌≡◌, ◌⊎◌, ◌||◌, ℕ, Bool, true, false, not, List, Option, Some, None}
 use Rattle.std.proofs.Common.{refl, sym, ap, ap₂, ◌∙◌, inl, inr, rules}
 use Rattle.gl_modes.proofs.Words.{clash, no as never, none_some, not_true, some_is, split}
@@ -24,7 +24,7 @@ use Rattle.gl_registry.proofs.NameChanges.{KeepsNames, record_live}
 use Rattle.gl_registry.proofs.NodeRows.{node_effect, or_off}
 use Rattle.gl_registry.proofs.RowEffects.{as_great, reads_at, writes_at}
 
--- an effective mode that is at least another one is what both make together
+-- an effective mode that is at least another is what both give together
 both_make : (e : Effect) (w r : Bool) → is_at_least_effect e (effect_of w r) ≡ true
     → effect_of (w || is_at_least_effect e effect.X) (r || is_at_least_effect e effect.S) ≡ e
 both_make effect.X true r h = refl
@@ -36,14 +36,14 @@ both_make effect.None true r h = absurd (never h)
 both_make effect.None false true h = absurd (never h)
 both_make effect.None false false h = refl
 
--- who holds nothing held nothing less
+-- a mode that is NL or less is NL
 none_less : (a b : Mode) → is_at_least a b ≡ true → a ≡ NL → b ≡ NL
 none_less a b h e = by b (sym (ap (λ m. is_at_least m b) e) ∙ h)
   where
     by : (b : Mode) → is_at_least NL b ≡ true → b ≡ NL
     by b h = search rules
 
--- what does not live is not held
+-- a node that does not live is not held
 held_dead : (s : State) → IsLawful s → (t : ℕ) (n : NodeId) → is_live s.graph n ≡ false → s.held t n ≡ NL
 held_dead s law t n dead = by (s.held t n) refl
   where
@@ -62,24 +62,24 @@ module _ (v : RegistryView) (is : IsRegistry v) (t : ℕ) (row : Row) (keys : Li
   abbrev effect_by : Option NodeId → Effect
   effect_by o = effect_of (writes_row st t row.file keys || of_node (writes_at st t) o) (reads_row st t row.file keys || of_node (reads_at st t) o)
 
-  -- of a row without a node it is that by locks further up
+  -- for a row without a node it is that by locks further up
   on_none : name_of v.rows row ≡ None → effect_on v t row keys ≡ row_effect st t row.file keys
   on_none e =
       ap effect_by e ∙ ap (λ w. effect_of w (reads_row st t row.file keys || false)) (or_off (writes_row st t row.file keys))
       ∙ ap (effect_of (writes_row st t row.file keys)) (or_off (reads_row st t row.file keys))
 
   module _ (n : NodeId) (named : name_of v.rows row ≡ Some n) where
-    -- of one with a node it is that on the node
+    -- for a row with a node it is that on the node
     on_node : effect_on v t row keys ≡ effective st t n
     on_node =
         ap effect_by named ∙ both_make (effective st t n) (writes_row st t row.file keys) (reads_row st t row.file keys)
         (node_effect v is.law is.names row keys own n named t).above
 
-    -- and where nothing is held on the node, that by locks further up
+    -- and if nothing is held on the node, that by locks further up
     on_free : st.held t n ≡ NL → effect_on v t row keys ≡ row_effect st t row.file keys
     on_free free = on_node ∙ (node_effect v is.law is.names row keys own n named t).alone free
 
-    -- which is never greater
+    -- that by locks further up is never greater
     on_above : is_at_least_effect (effect_on v t row keys) (row_effect st t row.file keys) ≡ true
     on_above =
         ap (λ e. is_at_least_effect e (row_effect st t row.file keys)) on_node ∙ (node_effect v is.law is.names row keys own n named t).above
@@ -87,7 +87,7 @@ module _ (v : RegistryView) (is : IsRegistry v) (t : ℕ) (row : Row) (keys : Li
     named_lives : is_live st.graph n ≡ true
     named_lives = record_live st.graph n (is.names.well.stands row n named).0
 
--- two registries: t keeps its locks, what stands its effective modes, a row its parents, and a node that lives before and after the row that it names
+-- two registries: t keeps its locks and its effective modes on nodes that remain, a row its parents, and a node that lives before and after its row
 module _ (v v' : RegistryView) (t : TxnId) (granted : Bool) (is : IsRegistry v) (is' : IsRegistry v')
     (over : KeepsOver (state_of v.manager) (state_of v'.manager) t granted) (parents : (f : NodeId) → SameParents (state_of v.manager) (state_of v'.manager) f)
     (names : KeepsNames (name_of v.rows) (name_of v'.rows) (state_of v.manager).graph (state_of v'.manager).graph) where
@@ -110,7 +110,7 @@ module _ (v v' : RegistryView) (t : TxnId) (granted : Bool) (is : IsRegistry v) 
     abbrev by_s' : Effect
     by_s' = row_effect s' t.slot row.file keys
 
-    -- a node by which the row is named lives
+    -- the row's node lives
     lives_before : (n : NodeId) → name_of v.rows row ≡ Some n → is_live s.graph n ≡ true
     lives_before n e = named_lives v is t.slot row keys own.own n e
 
@@ -123,7 +123,7 @@ module _ (v v' : RegistryView) (t : TxnId) (granted : Bool) (is : IsRegistry v) 
       before : name_of v.rows row ≡ Some node
       behind : name_of v'.rows row ≡ Some node
 
-    -- or a node that it had went, and one that it has came
+    -- or the node that it had was removed, and the one that it has is new
     record Changes : Type 0 where
       went : (n : NodeId) → name_of v.rows row ≡ Some n → is_live s'.graph n ≡ false
       came : (n : NodeId) → name_of v'.rows row ≡ Some n → is_live s.graph n ≡ false

@@ -1,4 +1,4 @@
--- What others cannot do to who reads or writes a row: its parents are the same nodes, on which effective modes stay.
+-- What others cannot change for a transaction that reads or writes a row: its parents are the same nodes, on which effective modes stay.
 use Rattle.std.specs.Prelude.{◌≡◌, ℕ, true, List}
 use Rattle.std.proofs.Common.{ap, ◌∙◌, subst}
 use Rattle.gl_modes.specs.declared.node.NodeId.{NodeId}
@@ -12,7 +12,7 @@ use Rattle.gl_registry.proofs.RowEffects.{OfEach, effect_under, row_parents_live
 use Rattle.gl_registry.proofs.RunsKeepIndexes.{run_keeps as run_keeps_indexes}
 use Rattle.gl_registry.specs.Promises.{IsRow, IsRowInBoth, OthersKeepRowEffects, row_effect}
 
--- in both a file and its keys that are a row lie below the same nodes
+-- a file and its keys that are a row in both have the same parents
 abbrev pub SameParents : State → State → NodeId → Type 0
 SameParents s s' f = (keys : List ℕ) → IsRow s.graph f keys → IsRow s'.graph f keys → record_parents s'.graph f keys ≡ record_parents s.graph f keys
 

@@ -45,7 +45,7 @@ same_row-sym p q = split (same_row p q) (λ e. e ∙ sym (one_row p q e)) (λ e.
     one_row : (a b : Row) → same_row a b ≡ true → same_row b a ≡ true
     one_row a b h = subst (λ (x : Row). same_row b x ≡ true) (sym (same_row-equal a b h)) (same_row-refl b)
 
--- the name that was found goes, once its node is forgotten
+-- a row loses the node that was found, after it is forgotten
 pub gone_at : (s s' : State) (ns ns' : Names) (row key : Row) (n : NodeId) → lookup (same_row row) ns ≡ Some n
     → lookup_key (same_row row) ns ≡ Some key → ForgetsLiving s n (Ok tt) s'
     → Renames ns ns' key None → LetsGo s ns row (Ok tt) s' ns'
@@ -57,12 +57,12 @@ gone_at s s' ns ns' row key n named found forgotten out =
 abbrev pub Stuck : State → NodeId → Type 0
 Stuck s n = is_some (refusal_of s (command.Forget n)) ≡ true
 
--- what becomes of a name that was let go once: it stays where its node lives, which then cannot be forgotten
+-- a node after its row was let go: the row keeps it if it lives, and then it cannot be forgotten
 pub record Settled (s : State) (was now : Option NodeId) : Type 0 where
   pub is : now ≡ living s.graph was
   pub stuck : (n : NodeId) → now ≡ Some n → Stuck s n
 
--- a refused forget leaves the state, and is refused by a test
+-- a refused forget changes nothing, and is refused by a test
 pub refused_stuck : (s s' : State) (n : NodeId) (r : Refusal) → Step s (command.Forget n) (answer.Refused r) [] s' → (s' ≡ s) × Stuck s n
 refused_stuck s s' n r (inr want) = absurd (never want.0)
 refused_stuck s s' n r (inl goes) = by (refusal_of s (command.Forget n)) refl goes
@@ -116,7 +116,7 @@ module _ (s s' : State) (law : IsLawful s) (m : NodeId) (free : refusal_of s (co
       (λ dead. let gone : now ≡ None = h.is ∙ ap (λ b. if b then Some n else None) dead in
       record { is = gone ∙ ap (λ b. if b then Some n else None) (sym (dead_stays n dead)); stuck = λ k e. absurd (none_some (sym gone ∙ e)) })
 
--- a name is let go from one that a row had at first, or that was let go before
+-- a row is let go with the node that it had at first, or was let go before
 pub origin : (s : State) (was now : Option NodeId) (n : NodeId) → now ≡ Some n → (now ≡ was) ⊎ (now ≡ living s.graph was) → was ≡ Some n
 origin s was now n e (inl same) = sym same ∙ e
 origin s None now n e (inr is) = absurd (none_some (sym is ∙ e))
@@ -128,7 +128,7 @@ none_living : (g : Graph) (was : Option NodeId) → (None ≡ was) ⊎ (None ≡
 none_living g was (inl e) = ap (living g) e
 none_living g was (inr e) = e
 
--- a row is let go: what becomes of the names that were let go before, and of its own
+-- a row is let go: its node, and the nodes of the rows let go before
 pub record RowGoes (s s' : State) (ns ns' : Names) (row : Row) : Type 0 where
   pub others : (q : Row) → same_row row q ≡ false → lookup (same_row q) ns' ≡ lookup (same_row q) ns
   pub settled : (was now : Option NodeId) → Settled s was now → Settled s' was now
@@ -151,7 +151,7 @@ module _ (s s' : State) (law : IsLawful s) (ns ns' : Names) (row : Row) where
   renamed_own : Renames ns ns' row None → lookup (same_row row) ns' ≡ None
   renamed_own renames = renames row ∙ ap (λ b. cond b None (lookup (same_row row) ns)) (same_row-refl row)
 
-  -- its node is gone
+  -- its node is forgotten
   gone_own : (n : NodeId) → lookup (same_row row) ns ≡ Some n → Renames ns ns' row None → is_live s'.graph n ≡ false → (was : Option NodeId)
       → (lookup (same_row row) ns ≡ was) ⊎ (lookup (same_row row) ns ≡ living s.graph was) → Settled s' was (lookup (same_row row) ns')
   gone_own n named renames dead was from =
@@ -196,7 +196,7 @@ module _ (s s' : State) (law : IsLawful s) (ns ns' : Names) (row : Row) where
             run = ([], is, tt);
           }
 
--- a node lives where the graph knows its kind
+-- a node lives if the graph has a kind for it
 pub live_kind : (o : Option Node) → is_some (kind_in (shape_in o)) ≡ is_some o
 live_kind None = refl
 live_kind (Some x) = by x.shape
@@ -264,7 +264,7 @@ module _ (s₀ s s' : State) (ns₀ ns ns' : Names) (done : List Row) (row : Row
       other : (q : Row) → same_row row q ≡ false → same_row q row ≡ false
       other q apart = split (same_row q row) (λ e. absurd (clash (ap (same_row row) (same_row-equal q row e) ∙ same_row-refl row) apart)) (λ e. e)
 
-  -- the name that it loses is the one that it had at first
+  -- the node that it loses is the one that it had at first
   its_own : (q : Row) (n : NodeId) → is_among (row ∷ []) q ≡ true → lookup (same_row q) ns ≡ Some n → (is_among (done ++ row ∷ []) q ≡ true)
       × (lookup (same_row q) ns₀ ≡ Some n)
   its_own q n among e = (

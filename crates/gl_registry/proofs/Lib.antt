@@ -13,10 +13,10 @@ mod SlotSets
 mod Touched
 pub mod Dropped
 mod Forgets
--- what they are to those who wait: their own commands, among records that come and go
+-- what they are for waiters: their own commands, among adopted and forgotten records
 pub mod Upkeep
 pub mod CarriedOut
--- indexes stay
+-- indexes are kept
 pub mod KeptIndexes
 pub mod DroppedIndexes
 pub mod RunsKeepIndexes
@@ -26,7 +26,7 @@ pub mod StandingRows
 pub mod KeptRows
 pub mod StandingIndexes
 pub mod NodeRows
--- what others leave of them, whatever a registry serves
+-- what others keep of them, whatever a registry serves
 mod NamesStay
 mod KeptOnRows
 mod Served

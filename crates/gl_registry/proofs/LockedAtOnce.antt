@@ -1,4 +1,4 @@
--- A record that was adopted is locked at once, and one that nobody held can be forgotten behind it.
+-- An adopted record is locked at once, and a record that nobody held can be forgotten after that.
 use Rattle.std.specs.Prelude.{◌≡◌, ◌&&◌, ◌==◌, ◌+◌, ◌<◌, ◌≤◌, ◌∷◌, ℕ, Bool, true, false, [], List, None, if◌then◌else◌}
 use Rattle.std.specs.List.{list_all, range_with_len}
 use Rattle.std.proofs.Common.{refl, sym, ap, subst, ◌∙◌, arith}

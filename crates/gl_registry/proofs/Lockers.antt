@@ -1,4 +1,4 @@
--- Whoever a lock is given to lives, so it has one of the slots.
+-- A transaction that is given a lock lives, so it has one of the slots.
 use Rattle.std.specs.Prelude.{◌≡◌, ◌≢◌, ◌<◌, ◌≤◌, true, [], Ok}
 use Rattle.std.proofs.Common.{refl, sym, ap, ◌∙◌, arith}
 use Rattle.gl_graph.proofs.Unrefused.{not_refused}
@@ -49,6 +49,6 @@ adopter_lives m m' t f keys mode n h =
     let same : lives h.mid t ≡ lives (state_of m) t = ap (λ (x : State). lives x t) (acc.2 ∙ ap accepted_once acc.1.4) in
     sym same ∙ step_lives h.mid t n mode (answer.Granted mode) [] (state_of m') (λ r e. cc) h.locks
 
--- who lives has one of the slots
+-- a living transaction has one of the slots
 pub slot_inside : (s : State) → IsLawful s → s.most ≤ most_slots → (t : TxnId) → lives s t ≡ true → t.slot < most_slots
 slot_inside s law few t alive = let below = law.slots_below t.slot (txn_there t.age (s.txns t.slot) alive) in omega (arith, below, few)

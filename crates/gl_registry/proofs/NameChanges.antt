@@ -1,5 +1,5 @@
--- How names and the records of a graph change under the calls: they become fewer, or one more, or those of files of rows stay. The law of names
--- is kept by each. For NamesKept, NamesMade and Touched, which show that each call is a row of such changes.
+-- How the nodes of rows and the records of a graph change under the calls: they become fewer, or one more, or those of files of rows stay. The law of names is
+-- kept by each. For NamesKept, NamesMade and Touched, which show that each call is a row of such changes.
 use Rattle.std.specs.Prelude.{◌≡◌, ◌⊎◌, Bool, true, false, List, Option, Some, None, cond, is_some}
 use Rattle.std.specs.List.{list_any}
 use Rattle.std.proofs.Common.{refl, sym, ap, subst, ◌∙◌, ⊎_elim}
@@ -21,27 +21,27 @@ shape_live (Some x) h = refl
 pub record_live : (g : Graph) (r : NodeId) → is_record_shape (shape_of g r) ≡ true → is_live g r ≡ true
 record_live g r h = shape_live (node_at g r) h
 
--- the row has this name, or none, and all other rows have theirs
+-- the row has this node, or none, and all other rows keep theirs
 abbrev pub RenamesTo : Naming → Naming → Row → Option NodeId → Type 0
 RenamesTo name name' row o = (q : Row) → name' q ≡ cond (same_row row q) o (name q)
 
--- the node is a record in both graphs, of one file
+-- the node is a record of the same file in both graphs
 pub record IsStill (g g' : Graph) (r : NodeId) : Type 0 where
   pub was : is_record_shape (shape_of g r) ≡ true
   pub rec : is_record_shape (shape_of g' r) ≡ true
   pub file : first_parent g' r ≡ first_parent g r
 
--- no record came; a name that is left is of a record that is left; and a record that is left keeps its name
+-- no record is new; a node that a row keeps is a record that remains; and a record that remains keeps its row
 pub record Fewer (name name' : Naming) (g g' : Graph) : Type 0 where
   pub records : (r : NodeId) → is_record_shape (shape_of g' r) ≡ true → IsStill g g' r
   pub names : (q : Row) (r : NodeId) → name' q ≡ Some r → (name q ≡ Some r) × (is_record_shape (shape_of g' r) ≡ true)
   pub left : (q : Row) (r : NodeId) → name q ≡ Some r → is_record_shape (shape_of g' r) ≡ true → name' q ≡ Some r
 
--- the nodes that stand go on to, as records of their files
+-- living nodes remain records of their files, or remain none
 abbrev pub StandOn : Graph → Graph → Type 0
 StandOn g g' = (k : NodeId) → is_live g k ≡ true → (is_record_shape (shape_of g' k) ≡ is_record_shape (shape_of g k)) × (first_parent g' k ≡ first_parent g k)
 
--- one record came, of this file
+-- one record is new, of this file
 pub record Comes (g g' : Graph) (n f : NodeId) : Type 0 where
   pub on : StandOn g g'
   pub live : (k : NodeId) → is_live g k ≡ true → is_live g' k ≡ true
@@ -50,19 +50,19 @@ pub record Comes (g g' : Graph) (n f : NodeId) : Type 0 where
   pub file : first_parent g' n ≡ f
   pub alone : (k : NodeId) → is_record_shape (shape_of g' k) ≡ true → (k ≡ n) ⊎ (is_live g k ≡ true)
 
--- records of these files stay, and none of them came
+-- records of these files stay, and none is new
 pub record SameRecords (has : NodeId → Bool) (g g' : Graph) : Type 0 where
   pub on : (r : NodeId) → is_record_shape (shape_of g r) ≡ true → has (first_parent g r) ≡ true
       → (is_record_shape (shape_of g' r) ≡ true) × (first_parent g' r ≡ first_parent g r)
   pub back : (r : NodeId) → is_record_shape (shape_of g' r) ≡ true → has (first_parent g' r) ≡ true
       → (is_record_shape (shape_of g r) ≡ true) × (first_parent g' r ≡ first_parent g r)
 
--- a node that lives before and after names the same row, if any
+-- a node that lives before and after has the same row, if any
 pub record KeepsNames (name name' : Naming) (g g' : Graph) : Type 0 where
   pub on : (q : Row) (n : NodeId) → name q ≡ Some n → is_live g' n ≡ true → name' q ≡ Some n
   pub back : (q : Row) (n : NodeId) → name' q ≡ Some n → is_live g n ≡ true → name q ≡ Some n
 
--- Names become fewer.
+-- Fewer rows have nodes.
 
 pub fewer_well : (name name' : Naming) (g g' : Graph) → Fewer name name' g g' → NameWell name g → NameWell name' g'
 fewer_well name name' g g' fewer well = record {
@@ -79,7 +79,7 @@ fewer_holds has name name' g g' fewer is = record {
       let named = is.all r was.was (ap has (sym was.file) ∙ file) in (named.0, fewer.left named.0 r named.1 rec);
 }
 
--- A row without a name gets a new record's.
+-- A row without a node gets a new record.
 
 module _ (name name' : Naming) (g g' : Graph) (row : Row) (n : NodeId) (comes : Comes g g' n row.file) (renames : RenamesTo name name' row (Some n)) where
   own : (q : Row) → same_row row q ≡ true → {k : NodeId} → name' q ≡ Some k → Some n ≡ Some k
@@ -153,7 +153,7 @@ same_holds has name g g' same is = record {
   all = λ r rec file. let was = same.back r rec file in is.all r was.0 (ap has (sym was.1) ∙ file);
 }
 
--- Nodes that stand keep their names.
+-- Nodes that remain keep their rows.
 
 module _ (name name' : Naming) (g g' : Graph) where
   pub same_names : ((q : Row) → name' q ≡ name q) → KeepsNames name name' g g'
@@ -165,7 +165,7 @@ module _ (name name' : Naming) (g g' : Graph) where
     back = λ q n e live. (fewer.names q n e).0;
   }
 
-  -- a row gets the name of a new node, and its old one goes
+  -- a row gets a new node, and its old one is removed
   pub other_names : (row : Row) (x : NodeId) → RenamesTo name name' row (Some x) → is_live g x ≡ false
       → ((n : NodeId) → name row ≡ Some n → is_live g' n ≡ false) → KeepsNames name name' g g'
   other_names row x renames new gone = record {
@@ -183,7 +183,7 @@ module _ (name name' : Naming) (g g' : Graph) where
       elsewhere : (q : Row) → same_row row q ≡ false → name' q ≡ name q
       elsewhere q apart = renames q ∙ ap (λ b. cond b (Some x) (name q)) apart
 
--- The same names by other means, and the same files.
+-- Equal nodes for each row, and equal files.
 
 pub renamed : (has : NodeId → Bool) (name name' : Naming) (g : Graph) → ((q : Row) → name' q ≡ name q) → NamesHoldIn has name g → NamesHoldIn has name' g
 renamed has name name' g same is = fewer_holds has name name' g g (record {
@@ -195,7 +195,7 @@ renamed has name name' g same is = fewer_holds has name name' g g (record {
 pub refiled : (v v' : RowsView) (name : Naming) (g : Graph) → v'.files ≡ v.files → NamesHoldIn (has_rows v) name g → NamesHoldIn (has_rows v') name g
 refiled v v' name g same is = subst (λ (fs : List NodeId). NamesHoldIn (λ f. list_any (same_node f) fs) name g) (sym same) is
 
--- Where no row is named and no file has rows.
+-- No row has a node, and no file has rows.
 
 pub none_hold : (v : RowsView) (g : Graph) → ((f : NodeId) → has_rows v f ≡ false) → ((row : Row) → name_of v row ≡ None) → NamesHold v g
 none_hold v g fileless none = record {

@@ -1,4 +1,4 @@
--- The law of names is kept by the calls that give locks back.
+-- The law of names is kept by the calls that release locks.
 use Rattle.std.specs.Prelude.{◌≡◌, ℕ, zero, suc, Bool, true, false, List, [], ◌∷◌, Option, Some, None, Result, Ok, Err, get_or, map, is_some, if◌then◌else◌}
 use Rattle.std.specs.List.{list_any}
 use Rattle.std.specs.Map.{lookup}
@@ -50,7 +50,7 @@ pub stays_keep : (m m' : ManagerView) (v v' : RowsView) → m' ≡ m → v' ≡ 
 stays_keep m m' v v' manager rows holds =
     subst (λ (x : RowsView). NamesHold x (state_of m').graph) (sym rows) (subst (λ (x : ManagerView). NamesHold v (state_of x).graph) (sym manager) holds)
 
--- Commands about locks leave the graph.
+-- Commands about locks leave the graph as it is.
 
 -- it is one of these
 abbrev pub is_of_locks : Command → Bool
@@ -85,7 +85,7 @@ pub step_graph : (s : State) (c : Command) (a : Answer) (told : Told) (s' : Stat
 step_graph s c a told s' of step =
     each_step (λ (x : State). x.graph ≡ s.graph) s c a told s' refl (λ next h. h) (λ free next acc. accepted_graph s c a told next of acc) step
 
--- Nodes are forgotten one after the other: what lives stood as it does, and what does not is among them.
+-- Nodes are forgotten one after the other: a living node is as it was before, and one that no longer lives is among them.
 
 pub record Leaves (s s' : State) (gone : List NodeId) : Type 0 where
   pub law : IsLawful s'
@@ -135,7 +135,7 @@ living_some g (Some k) n e = split (is_live g k)
     (λ live. let same : k ≡ n = some_is (sym (ap (λ b. if b then Some k else None) live) ∙ e) in (ap Some same, ap (is_live g) (sym same) ∙ live))
     (λ dead. absurd (none_some (sym (ap (λ b. if b then Some k else None) dead) ∙ e)))
 
--- rows are let go: names and records become fewer
+-- rows are let go: fewer rows have nodes, and there are fewer records
 pub each_fewer : (s s' : State) (ns ns' : Names) (rows : List Row) → IsLawful s → NameWell (named ns) s.graph → LetsEachGo s ns rows s' ns'
     → Fewer (named ns) (named ns') s.graph s'.graph
 each_fewer s s' ns ns' rows law well lets = record {
@@ -206,7 +206,7 @@ pub refused_keeps : {A R : Type 0} (m m' : ManagerView) (v v' : RowsView) (r : R
     → NamesHold v (state_of m).graph → NamesHold v' (state_of m').graph
 refused_keeps m m' v v' r result told is holds = stays_keep m m' v v' is.same_manager is.same_rows holds
 
--- Each call that gives locks back.
+-- Each call that releases locks.
 
 module _ (m m' : ManagerView) (v v' : RowsView) (law : IsLawful (state_of m)) (holds : NamesHold v (state_of m).graph) where
   -- a command of the manager that is refused

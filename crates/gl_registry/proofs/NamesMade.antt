@@ -1,4 +1,4 @@
--- The law of names is kept where a row gets a node.
+-- The law of names is kept when a row gets a node.
 use Rattle.std.specs.Prelude.{◌≡◌, ◌≢◌, ◌+◌, ◌==◌, ◌⊎◌, ℕ, true, false, List, [], ◌∷◌, Option, Some, None, Result, Ok, Err, cond, is_some, if◌then◌else◌}
 use Rattle.std.specs.Map.{lookup}
 use Rattle.std.proofs.Common.{refl, sym, ap, subst, ◌∙◌, inl, inr, ⊎_elim}
@@ -125,7 +125,7 @@ module _ (m m' : ManagerView) (law : IsLawful (state_of m)) (w : Wish) (n : Node
   locked_comes = subst (λ g. Comes (state_of m).graph g n w.row.file) (sym same_mid)
       (adopted_node_comes (state_of m) h.mid law w.row.file n w.keys.now is_adopted)
 
--- A named record that was forgotten once another had come: it went, and then the other came.
+-- A row's record is forgotten after another is made: as if it was forgotten first, and then the other made.
 
 module _ (g g₂ g' : Graph) (law : IsLawfulGraph g) (old n f : NodeId) (rec : is_record_shape (shape_of g old) ≡ true) (comes : Comes g g₂ n f)
     (dead : is_live g' old ≡ false) (same : (k : NodeId) → is_live g' k ≡ true → node_at g' k ≡ node_at g₂ k)
@@ -139,7 +139,7 @@ module _ (g g₂ g' : Graph) (law : IsLawfulGraph g) (old n f : NodeId) (rec : i
   still : (k : NodeId) → is_live g₂ k ≡ true → k ≢ old → is_live g' k ≡ true
   still k live other = split (is_live g' k) (λ e. e) (λ e. absurd (other (lost k live e)))
 
-  -- what is left was there
+  -- a remaining record was there before
   was : (k : NodeId) → is_live left k ≡ true → is_live g k ≡ true
   was k live = was_live g law old rec k live
 
@@ -177,7 +177,7 @@ module _ (g g₂ g' : Graph) (law : IsLawfulGraph g) (old n f : NodeId) (rec : i
       left_live : (k : NodeId) → is_live g k ≡ true → k ≢ old → is_live left k ≡ true
       left_live k here other = split (is_live left k) (λ e. e) (λ e. absurd (other (gone_is g law old rec k here e)))
 
-  -- and the row by which it was named has no name
+  -- and its row has no node
   module _ (name : Naming) (well : NameWell name g) (row : Row) (named : name row ≡ Some old) where
     abbrev pub without : Naming
     without q = if same_row row q then None else name q
@@ -218,7 +218,7 @@ forgotten s s' law n step =
 -- The law of names is kept by a row's lock.
 
 module _ (m m' : ManagerView) (v v' : RowsView) (law : IsLawful (state_of m)) (holds : NamesHold v (state_of m).graph) (w : Wish) where
-  -- a row without a name gets a node
+  -- a row without a node gets one
   adopts_keep : lookup (same_row w.row) v.names ≡ None → has_rows v w.row.file ≡ true → (x : RowLocked) (told : Told)
       → AdoptsLocked m w.txn w.row.file w.keys w.mode x.node m' → NamesNew v w x told v' → NamesHold v' (state_of m').graph
   adopts_keep unnamed of_rows x told adopts new =

@@ -1,4 +1,4 @@
--- A node that lives before and behind a call about rows names the same row.
+-- A node that lives before and after a call about rows has the same row.
 use Rattle.std.specs.Prelude.{◌≡◌, ℕ, true, false, List, [], ◌∷◌, Option, Some, None, Result, Ok, Err, cond, get_or}
 use Rattle.std.specs.Map.{lookup}
 use Rattle.std.proofs.Common.{sym, ap, subst, refl, ◌∙◌, inl, inr}
@@ -49,14 +49,14 @@ module _ (m m' : ManagerView) (v v' : RowsView) (law : IsLawful (state_of m)) (h
   abbrev Stay : Type 0
   Stay = KeepsNames (name_of v) (name_of v') g g'
 
-  -- the same names
+  -- each row has the same node
   same_stay : v'.names ≡ v.names → Stay
   same_stay same = same_names (name_of v) (name_of v') g g' (λ q. ap (λ ns. lookup (same_row q) ns) same)
 
   rows_stay : v' ≡ v → Stay
   rows_stay same = same_stay (ap (λ (x : RowsView). x.names) same)
 
-  -- rows are let go, behind a command about locks
+  -- rows are let go, after a command about locks
   go_stay : (mid : State) (c : Command) (a : Answer) (told : Told) (rows : List Row) → is_of_locks c ≡ true → Step (state_of m) c a told mid
       → LetsEachGo mid v.names rows (state_of m') v'.names → Stay
   go_stay mid c a told rows of step goes =

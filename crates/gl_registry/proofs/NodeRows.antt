@@ -1,4 +1,4 @@
--- No row of a registry is written by one and read by another, by whatever locks.
+-- No row of a registry can be written by one transaction and read by another, by any locks.
 use Rattle.std.specs.Prelude.{◌≡◌, ◌≢◌, ◌||◌, ℕ, Bool, true, false, List, Option, Some, None}
 use Rattle.std.proofs.Common.{refl, sym, ap, subst, ◌∙◌}
 use Rattle.gl_modes.proofs.Words.{or_elim}
@@ -21,7 +21,7 @@ pub or_off : (b : Bool) → (b || false) ≡ b
 or_off true = refl
 or_off false = refl
 
--- who writes has X, and who reads S at least
+-- a writer has X, and a reader at least S
 writes_x : (w r : Bool) → w ≡ true → is_at_least_effect (effect_of w r) effect.X ≡ true
 writes_x w r e = ap (λ b. is_at_least_effect (effect_of b r) effect.X) e
 
@@ -35,7 +35,7 @@ module _ (v : RegistryView) (law : IsLawful (state_of v.manager)) (holds : Names
   s = state_of v.manager
 
   module _ (n : NodeId) (named : name_of v.rows row ≡ Some n) where
-    -- its node has its row's effective modes at least
+    -- its node has at least its row's effective modes
     pub node_effect : (t : ℕ) → HasRowEffect s t n row.file keys
     node_effect t =
         let stands = holds.well.stands row n named in

@@ -1,4 +1,4 @@
--- Effective modes on a row, by those on its parents; no row is written by one and read by another.
+-- Effective modes on a row, by those on its parents; no row can be written by one transaction and read by another.
 use Rattle.std.specs.Prelude.{◌≡◌, ℕ, Bool, true, false, List}
 use Rattle.std.specs.List.{list_all, list_any}
 use Rattle.std.proofs.Common.{refl, ap, ◌∙◌, rules}
@@ -82,7 +82,7 @@ pub row_parents_live : (g : Graph) → IsLawfulGraph g → (f : NodeId) (keys : 
     → OfEach (record_parents g f keys) (λ p. is_live g p ≡ true)
 row_parents_live g law f keys row p on = plain_live g p (record_parent_plain g law f p keys row.file on)
 
--- who reads reads by some lock
+-- a read is by some lock
 pub read_by : (s : State) (t : ℕ) (n : NodeId) → reads_at s t n ≡ true → ReadOn s.graph (s.held t) n
 read_by s t n h = by (eff_x (node_count s.graph) s.graph (s.held t) n) (eff_s (node_count s.graph) s.graph (s.held t) n) refl refl h
   where
@@ -92,7 +92,7 @@ read_by s t n h = by (eff_x (node_count s.graph) s.graph (s.held t) n) (eff_s (n
     by false true e f k = eff_s_route s.graph (s.held t) (node_count s.graph) n f
     by false false e f k = absurd (no k)
 
--- they would conflict on one of its parents
+-- they would conflict on one of the row's parents
 pub no_row_conflict : NoRowConflict
 no_row_conflict s t u f keys law ne writes reads =
     let meet = any_all (reads_at s u) (writes_at s t) (record_parents s.graph f keys) reads writes in

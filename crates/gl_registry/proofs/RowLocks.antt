@@ -1,4 +1,4 @@
--- The ways of a row's lock, put together.
+-- The cases of a row's lock, put together.
 use Rattle.std.specs.Prelude.{◌≡◌, ◌↔◌, IsTrue, false, true, None, Some, Option, Result, Ok, Err, List, [], cond}
 use Rattle.std.specs.Map.{lookup}
 use Rattle.std.proofs.Common.{refl, sym, ap, subst, ◌∙◌, inl, inr}
@@ -30,12 +30,12 @@ module _ (m : ManagerView) (files : List NodeId) (w : Wish) (told : Told) (m' : 
   no_memory manager none same asked asked' asks =
       inl (record { answer_is = refl; nobody_told = none; same_manager = manager; same_rows = same_view files ns ns' asked asked' same asks })
 
-  -- by the name that was found
+  -- by the node that was found
   by_name : (o : Option NodeId) → lookup (same_row w.row) ns ≡ o → (result : Result RowLocked RowRefusal) (v v' : RowsView) → LocksBy o m v w result told m' v'
       → LocksBy (lookup (same_row w.row) ns) m v w result told m' v'
   by_name o e result v v' h = subst (λ x. LocksBy x m v w result told m' v') (sym e) h
 
-  -- the node by which the row is named
+  -- the row's node
   module _ (n : NodeId) (named : lookup (same_row w.row) ns ≡ Some n) where
     same_name : ns' ≡ ns → Renames ns ns' w.row (Some n)
     same_name same q =
@@ -82,7 +82,7 @@ module _ (m : ManagerView) (files : List NodeId) (w : Wish) (told : Told) (m' : 
           record { refuses = refuses; nobody_told = none; same_manager = manager; same_rows = same_view files ns ns' asked asked' same asks },
         )))
 
-  -- the row has no name
+  -- the row has no node
   module _ (bare : lookup (same_row w.row) ns ≡ None) where
     pub not_rows : has_rows (with_asked files ns []) w.row.file ≡ false → m' ≡ m → told ≡ [] → ns' ≡ ns → LocksSo (Err row_no.NotRows)
     not_rows none_there manager none same asked asked' asks =

@@ -1,4 +1,4 @@
--- Each step keeps the indexes of a file and their intervals, and so does each run, where no index that the file has is dropped.
+-- Each step keeps the indexes of a file and their intervals, and so does each run that drops no index of the file.
 use Rattle.std.specs.Prelude.{◌≡◌, ◌≢◌, ℕ, suc, Bool, true, false, List, [], ◌∷◌, None}
 use Rattle.std.specs.List.{list_any}
 use Rattle.std.proofs.Common.{refl, sym, ap, ◌∙◌, subst, arith}
@@ -33,7 +33,7 @@ use Rattle.gl_registry.specs.Promises.{IsRow, drops_index_of}
 use Rattle.gl_registry.proofs.DroppedIndexes.{dropped_keeps, dropped_parents}
 use Rattle.gl_registry.proofs.KeptIndexes.{KeepsIndexes, born_keeps, changed_keeps, keeps_itself, keeps_trans, marked_keeps, removed_keeps, same_parents}
 
--- so it is of each file
+-- the same for each file
 abbrev pub KeepsAll : Graph → Graph → Type 0
 KeepsAll g g' = (f : NodeId) → KeepsIndexes g g' f
 
@@ -58,7 +58,7 @@ moves_keeps s law t n was is g' m = subst (KeepsAll s.graph) m.graph (changed_ke
 another : (t : ℕ) → t ≢ suc t
 another t e = absurd (omega arith)
 
--- a wait that settles leaves the graph, as another slot sees it
+-- settling a wait leaves the graph as it is, for another slot
 pub wait_graph : (s s' : State) → IsLawful s → (t : ℕ) (n : NodeId) (m : Mode) → WaitSettles s.detect s.victims (enqueued s t n m) t s' → s'.graph ≡ s.graph
 wait_graph s s' law t n m settles =
     let queued = enqueued_follows s t (suc t) n m (another t) (lawful_waits s law (suc t)) in
@@ -69,7 +69,7 @@ abbrev pub is_drop : Command → Bool
 is_drop (command.Drop t n) = true
 is_drop c = false
 
--- each command that is accepted, but a drop
+-- each accepted command except a drop
 pub accepted_keeps : (s : State) → IsLawful s → (c : Command) (a : Answer) (told : Told) (s' : State) → is_drop c ≡ false → refusal_of s c ≡ None
     → Accepts s c a told s' → KeepsAll s.graph s'.graph
 accepted_keeps s law (command.Inner ps) a told s' stays free acc = one_keeps s.graph s'.graph law.graph acc.1
@@ -111,7 +111,7 @@ accepted_keeps s law (command.Effective t n) a told s' stays free acc = absurd a
 accepted_keeps s law (command.IndexBy t ps f bs) a told s' stays free acc = index_keeps s.graph s'.graph law.graph acc.1
 accepted_keeps s law (command.Drop t n) a told s' stays free acc = absurd (no (sym stays))
 
--- of one file, whose indexes were kept since g: also a drop, where what goes was none of them
+-- for one file, whose indexes were kept since g: also a drop, if the dropped node was none of them
 accepted_since : (g : Graph) (f : NodeId) → IsLawfulGraph g → (s : State) → IsLawful s → KeepsIndexes g s.graph f → (c : Command) (a : Answer) (told : Told)
     (s' : State) → drops_index_of g f c ≡ false → refusal_of s c ≡ None → Accepts s c a told s' → KeepsIndexes g s'.graph f
 accepted_since g f law' s law kept (command.Drop t n) a told s' stays free acc =
@@ -140,7 +140,7 @@ pub run_keeps : (cs : List Command) (rs : List (Answer × Told)) (s s' : State) 
     → Run s cs rs s' → KeepsIndexes s.graph s'.graph f
 run_keeps cs rs s s' f law stays run = run_since s.graph f law.graph cs rs s s' law (keeps_itself s.graph f) stays run
 
--- a row in the states before and after one step lies below the same nodes, whatever the command
+-- a row before and after one step has the same parents, whatever the command
 pub step_parents : (s s' : State) (c : Command) (a : Answer) (told : Told) → IsLawful s → Step s c a told s' → (f : NodeId) (keys : List ℕ)
     → IsRow s.graph f keys → IsRow s'.graph f keys → record_parents s'.graph f keys ≡ record_parents s.graph f keys
 step_parents s s' c a told law step f keys =

@@ -1,4 +1,4 @@
--- What a registry serves leaves the effective modes on rows of those whom it does not name.
+-- What a registry serves keeps the effective modes on rows of transactions that it does not name.
 use Rattle.std.specs.Prelude.{◌≡◌, ◌||◌, ℕ, zero, suc, Bool, true, false, List, [], ◌∷◌, Option, Some, None, Result, Ok, Err, OnErr, map}
 use Rattle.std.specs.List.{list_all, list_any}
 use Rattle.std.specs.Map.{lookup}
@@ -44,7 +44,7 @@ use Rattle.gl_registry.proofs.NamesStay.{call_stays}
 use Rattle.gl_registry.proofs.NodeRows.{or_off}
 use Rattle.gl_registry.proofs.RunsKeepIndexes.{KeepsAll, is_drop, run_keeps as run_keeps_indexes, step_parents}
 
--- what commands leave that do not name t and drop nothing: the law of a state, what they keep of t's, and indexes
+-- what commands keep that do not name t and drop nothing: the law of a state, what t keeps, and indexes
 pub record Over (s s' : State) (t : TxnId) (granted : Bool) : Type 0 where
   pub law : IsLawful s'
   pub keeps : KeepsOver s s' t granted
@@ -60,7 +60,7 @@ over_then s mid s' t g h law a b = record {
   indexes = λ f. keeps_trans s.graph mid.graph s'.graph f law.graph (a.indexes f) (b.indexes f);
 }
 
--- where nothing is dropped no index is
+-- if nothing is dropped, no index is
 no_index_dropped : (g : Graph) (f : NodeId) (cs : List Command) → list_any is_drop cs ≡ false → list_any (drops_index_of g f) cs ≡ false
 no_index_dropped g f [] stay = refl
 no_index_dropped g f (c ∷ cs) stay =
@@ -90,11 +90,11 @@ over_step s s' c a told t law step alive apart stays =
 pub over_same : (s s' : State) (t : TxnId) → IsLawful s → s' ≡ s → lives s t ≡ true → Over s s' t false
 over_same s s' t law same alive = over_run s s' [] [] t law same alive refl refl
 
--- rows lie where they lay
+-- rows keep their parents
 pub over_parents : (s s' : State) (t : TxnId) (granted : Bool) → Over s s' t granted → (f : NodeId) → SameParents s s' f
 over_parents s s' t granted over f = same_parents s.graph s'.graph f (over.indexes f)
 
--- a path's steps, of which the last one alone tells anybody
+-- a path's steps, of which only the last one tells anybody
 over_path : (k : ℕ) (u : TxnId) (ask : Ask) (m : ManagerView) (last : Ask) (r : Says) (m' : ManagerView) (t : TxnId) → IsLawful (state_of m)
     → IsPath k u ask m last r m' → lives (state_of m) t ≡ true → same_txn t u ≡ false → Over (state_of m) (state_of m') t (is_granted t r.1)
 over_path zero u ask m last r m' t law path alive apart =
@@ -106,7 +106,7 @@ over_path (suc k) u ask m last r m' t law path alive apart =
     over_then (state_of m) (state_of mid) (state_of m') t false (is_granted t r.1) law first
     (over_path k u ask mid last r m' t first.law path.5 first.keeps.alive apart)
 
--- the same rows behind
+-- the same rows afterwards
 pub same_rows : (v v' : RegistryView) (t : TxnId) (granted : Bool) → IsRegistry v → Over (state_of v.manager) (state_of v'.manager) t granted
     → NamesHold v.rows (state_of v'.manager).graph → v'.rows ≡ v.rows → KeepsOnRows v v' t granted
 same_rows v v' t granted is over holds rows =
@@ -200,7 +200,7 @@ over_upkeep s s' t law h alive =
     (over_run s s' (map (λ (l : Line). l.0) h.lines) (map (λ (l : Line). l.1) h.lines) t law h.run alive (unnamed_all t h.lines h.kept)
     (no_drop_all h.lines h.kept))
 
--- what carries out a command
+-- a call that carries out a command
 module _ (m : ManagerView) (c : Command) (told : Told) (m' : ManagerView) (t : TxnId) (law : IsLawful (state_of m)) (alive : lives (state_of m) t ≡ true)
     (apart : names t c ≡ false) (stays : is_drop c ≡ false) where
   abbrev Out : Type 0

@@ -28,7 +28,7 @@ module _ {H : Type 0} where
   room_at (s ∷ ss) zero new room set e = subst (λ (x : IndexSet Row H). 0 < spare x) (some_is e) room
   room_at (s ∷ ss) (suc i) new room set e = room_at ss i new room set e
 
-  -- the set of a slot is another
+  -- the set of a slot is replaced
   pub is_in_set : (sets : Sets H) (i : ℕ) (new : IndexSet Row H) → i < length sets → (u : ℕ) (q : Row)
       → is_in (slice_set sets i new) u q ≡ (if u == i then list_any (same_row q) new.keys else is_in sets u q)
   is_in_set sets i new less u q =
@@ -40,7 +40,7 @@ module _ {H : Type 0} where
       (λ e. ap (list_any (same_row q)) (get_or-set_other (rows_of sets) i u new.keys [] (λ same. clash (number_same u i same) e))
       ∙ sym (ap (λ b. if b then list_any (same_row q) new.keys else is_in sets u q) e))
 
-  -- a row more is in it
+  -- it has one more row
   pub is_in_put : (sets : Sets H) (i : ℕ) (d new : IndexSet Row H) → i < length sets → (row : Row)
       → ((q : Row) → list_any (same_row q) new.keys ≡ cond (same_row row q) true (list_any (same_row q) (get_or sets i d).keys))
       → (u : ℕ) (q : Row) → is_in (slice_set sets i new) u q ≡ (is_in sets u q || ((u == i) && same_row row q))
@@ -66,7 +66,7 @@ module _ {H : Type 0} where
       or_false true = refl
       or_false false = refl
 
-  -- a row is no more in it
+  -- it no longer has a row
   pub is_in_taken : (sets : Sets H) (i : ℕ) (d new : IndexSet Row H) → i < length sets → (row : Row)
       → ((q : Row) → list_any (same_row q) new.keys ≡ cond (same_row row q) false (list_any (same_row q) (get_or sets i d).keys))
       → (u : ℕ) (q : Row) → is_in (slice_set sets i new) u q ≡ (is_in sets u q && not ((u == i) && same_row row q))
@@ -92,7 +92,7 @@ module _ {H : Type 0} where
       and_true true = refl
       and_true false = refl
 
-  -- no row is in it any more
+  -- it has no row any more
   pub is_in_cleared : (sets : Sets H) (i : ℕ) (new : IndexSet Row H) → i < length sets → new.keys ≡ [] → (u : ℕ) (q : Row)
       → is_in (slice_set sets i new) u q ≡ (is_in sets u q && not (u == i))
   is_in_cleared sets i new less empty u q =

@@ -1,4 +1,5 @@
--- What others cannot do to who holds a file or intervals of its indexes, whatever they drop and make: an index that stands keeps its file and its intervals.
+-- What others cannot change for a holder of a file or of intervals of its indexes, whatever they drop and make: an index that remains keeps its file and its
+-- intervals.
 use Rattle.std.specs.Prelude.{◌≡◌, ℕ, true, false, not, ◌||◌, List, [], ◌∷◌, None, is_some}
 use Rattle.std.specs.List.{list_all, list_any}
 use Rattle.std.proofs.Common.{refl, sym, ap, ap₂, subst, ◌∙◌, arith}
@@ -35,7 +36,7 @@ use Rattle.gl_registry.proofs.KeptIndexes.{index_still}
 use Rattle.gl_registry.proofs.RowEffects.{OfEach, effect_under, under_more, under_same}
 use Rattle.gl_registry.proofs.RunsKeepIndexes.{accepted_keeps}
 
--- an index that stands is one of the same file, and each key lies in the interval in which it lay
+-- an index that remains is one of the same file, and each key keeps its interval
 pub record StandsOn (g g' : Graph) (f i : NodeId) : Type 0 where
   pub index : is_index_of_shape f (shape_of g' i) ≡ true
   pub intervals : (key : ℕ) → interval_of g' i key ≡ interval_of g i key
@@ -50,7 +51,7 @@ index_live g f i h = plain_live g i (index_plain (shape_of g i) (index_of_index 
 stand_itself : (g : Graph) → AllStand g g
 stand_itself g f i h on = record { index = h; intervals = λ key. refl }
 
--- a node goes with its intervals
+-- a node is removed with its intervals
 module _ (g : Graph) (law : IsLawfulGraph g) (n : NodeId) (movable : is_movable_shape (shape_of g n) ≡ true) (free : is_in_use g n ≡ false) where
   left_stand : AllStand g (without_branch g n)
   left_stand f i h on =
@@ -75,7 +76,7 @@ step_stand s s' c a told law step =
     each_step (λ x. AllStand s.graph x.graph) s c a told s' (stand_itself s.graph) (λ next kept. kept)
     (λ free next acc. accepted_stand s law c a told next free acc) step
 
--- what stands behind a run stood all along it, since no birth is given twice
+-- a node that lives before and after a run lived all along, since no birth is given twice
 run_stand : (cs : List Command) (rs : List (Answer × Told)) (s s' : State) (t : TxnId) → IsLawful s → Run s cs rs s' → lives s t ≡ true
     → list_any (names t) cs ≡ false → AllStand s.graph s'.graph
 run_stand [] [] s s' t law run alive apart = subst (λ (x : State). AllStand s.graph x.graph) (sym run) (stand_itself s.graph)

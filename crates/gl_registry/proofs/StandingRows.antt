@@ -1,4 +1,4 @@
--- A record that stands has the effective modes of its row, its own locks aside.
+-- A record has the effective modes of its row, its own locks aside.
 use Rattle.std.specs.Prelude.{◌≡◌, ◌∷◌, ◌&&◌, ◌||◌, ℕ, zero, suc, true, List, not}
 use Rattle.std.specs.List.{list_all, list_any}
 use Rattle.std.proofs.Common.{sym, ap, ◌∙◌}
@@ -47,7 +47,7 @@ module _ (s : State) (law : IsLawful s) (t : ℕ) (r : NodeId) (rec : is_record_
   each_live : OfEach ps (λ p. is_live g p ≡ true)
   each_live = row_parents_live g law.graph f keys (record { file = its_file g law.graph r rec; a_key_each = its_keys g law.graph r rec })
 
-  -- who writes the row writes the record, and who reads it reads the record
+  -- writing the row is writing the record, and reading it reading the record
   writes : writes_row s t f keys ≡ true → EffX s t r
   writes w =
       let all = all_more (writes_at s t) (eff_x (node_count g) g h) ps (λ p on. x_there s t p) w in
@@ -64,7 +64,7 @@ module _ (s : State) (law : IsLawful s) (t : ℕ) (r : NodeId) (rec : is_record_
   above = greater_effect _ _ _ _ writes reads
 
   module _ (none : h r ≡ NL) where
-    -- nothing else writes the record, and nothing else reads it
+    -- nothing else writes or reads the record
     writes_row_too : (k : ℕ) → eff_x k g h r ≡ true → writes_row s t f keys ≡ true
     writes_row_too zero x = absurd (no (sym (ap (λ m. same_mode m X) none) ∙ x))
     writes_row_too (suc k) x =

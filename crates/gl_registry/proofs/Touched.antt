@@ -1,4 +1,4 @@
--- Commands that touch no row leave the records of files of rows. For Registry.serve.
+-- Commands that touch no row leave the records of files of rows as they are. For Registry.serve.
 use Rattle.std.specs.Prelude.{◌≡◌, ◌&&◌, ◌||◌, ◌==◌, ℕ, zero, suc, Bool, true, false, not, List, [], ◌∷◌, Option, None, Some, is_some, if◌then◌else◌}
 use Rattle.std.proofs.Common.{refl, rules, sym, ap, subst, ◌∙◌}
 use denote.Bor.{Bor}
@@ -54,7 +54,7 @@ rekey_rec s t r i key free =
     (is_record_shape (shape_of s.graph r) && is_index_of_shape (first_parent s.graph r) (shape_of s.graph i))) _) _ t5.1 in
     (and_both (is_record_shape (shape_of s.graph r)) (is_index_of_shape (first_parent s.graph r) (shape_of s.graph i)) (not_false _ (test_fails _ _ t6.0))).0
 
--- a record that has other keys is one still, of the same file
+-- a record with other keys is still one of the same file
 module _ (g : Graph) (law : IsLawfulGraph g) (r i : NodeId) (key : ℕ) (rec : is_record_shape (shape_of g r) ≡ true) where
   abbrev ps : List NodeId
   ps = rekeyed_parents g r i key
@@ -157,7 +157,7 @@ module _ (has : NodeId → Bool) where
       subst (Same g) (sym born.after) (born_same g law (ns g law n.key ps f bs born.interval_keys)
       (λ k x e rec of. clash rec (no_record_born g law n.key ps f bs born.interval_keys k x e)))
 
-  -- a record of another file goes
+  -- a record of another file is removed
   gone_same : (g : Graph) → IsLawfulGraph g → (r : NodeId) → is_record_shape (shape_of g r) ≡ true → has (first_parent g r) ≡ false → Same g (without_node g r)
   gone_same g law r rec other = record {
     on = λ q q_rec of.
@@ -169,7 +169,7 @@ module _ (has : NodeId → Bool) where
         (sym (ap (λ o. is_record_shape (shape_in o)) at) ∙ q_rec, ap (λ o. first_in (parents_in o)) at);
   }
 
-  -- a node goes with its intervals
+  -- a node is removed with its intervals
   branch_same : (g : Graph) → IsLawfulGraph g → (n : NodeId) → is_movable_shape (shape_of g n) ≡ true → is_in_use g n ≡ false → Same g (without_branch g n)
   branch_same g law n movable free = record {
     on = λ q rec of.
@@ -208,7 +208,7 @@ module _ (has : NodeId → Bool) where
         (sym (ap (λ o. is_record_shape (shape_in o)) at) ∙ q_rec, ap (λ o. first_in (parents_in o)) at);
   })
 
--- what moves is no record
+-- a moved node is no record
 movable_plain : (o : Option Shape) → is_movable_shape o ≡ true → is_record_shape o ≡ false
 movable_plain o h = search rules
 
@@ -225,7 +225,7 @@ move_plain s t n ps free =
     let bad = or_no (not (is_movable_shape (shape_of s.graph n))) (bad_parents s.graph (least_parents (shape_of s.graph n)) ps.now) (test_fails _ _ t6.0) in
     movable_plain (shape_of s.graph n) (not_false _ bad.0)
 
--- each command that is accepted and touches no row
+-- each accepted command that touches no row
 module _ (v : RegistryView) (law : IsLawful (state_of v.manager)) where
   abbrev s : State
   s = state_of v.manager

@@ -1,4 +1,4 @@
--- What records that are adopted and forgotten leave: all but the graph and the count. For the calls about rows, and for whoever guards a registry.
+-- Adopting and forgetting records changes only the graph and the counts. For the calls about rows, and for guards of a registry.
 use Rattle.std.specs.Prelude.{◌≡◌, ◌⊎◌, ◌+◌, ◌<◌, ◌++◌, true, List, [], ◌∷◌, Option, Some, None, map}
 use Rattle.std.specs.List.{list_all}
 use Rattle.std.proofs.Common.{refl, sym, ap, subst, ◌∙◌, arith, inl, inr}
@@ -42,7 +42,7 @@ upkeep_then s mid s' a b = record {
   kept = all_then a.lines b.lines a.kept b.kept;
 }
 
--- all but the graph and the count of accepted commands is as it was; and those too, or more are counted
+-- all but the graph and the count of accepted commands stays, and that count stays or grows
 pub record LeavesAll (s s' : State) : Type 0 where
   pub is : s' ≡ record s { graph = s'.graph; accepted = s'.accepted }
   pub same_or_later : (s' ≡ s) ⊎ (s.accepted < s'.accepted)
