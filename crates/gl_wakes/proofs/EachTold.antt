@@ -1,4 +1,4 @@
--- What a step tells is nothing, all notices of the way to some state, or all but the caller's.
+-- A step tells nothing, or all notices on the path to some state, or all but the caller's.
 use Rattle.std.specs.Prelude.{◌≡◌, ℕ, true, [], Option, Some, None}
 use Rattle.std.proofs.Common.{sym, subst, ⊎_elim}
 use Rattle.gl_modes.specs.declared.refusal.Refusal.{Refusal}

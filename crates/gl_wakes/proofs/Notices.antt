@@ -33,7 +33,7 @@ set_apart (b ∷ boxes) zero (suc k) x apart = refl
 set_apart (b ∷ boxes) (suc i) zero x apart = refl
 set_apart (b ∷ boxes) (suc i) (suc k) x apart = set_apart boxes i k x (λ is. apart (ap suc is))
 
--- past the end nothing is set
+-- beyond the end nothing is set
 pub set_past : (boxes : List Slot) (i : ℕ) (x : Slot) → length boxes ≤ i → slice_set boxes i x ≡ boxes
 set_past [] zero x past = refl
 set_past [] (suc i) x past = refl
@@ -57,7 +57,7 @@ at_take k j (suc i) (x ∷ xs) d r less = at_take (x.0.slot + 1) j i xs d r.1 (o
 pub slot_below : (j i : ℕ) (told : List (TxnId × Notice)) (d : TxnId × Notice) → RisingTo 0 told j → i < length told → (slice_index_or told i d).0.slot < j
 slot_below j i told d r less = at_take 0 j i told d r less
 
--- boxes below the first told slot are as before
+-- boxes below the first told slot stay
 kept_below : (k j : ℕ) (told : List (TxnId × Notice)) (boxes : List Slot) (slot : ℕ) → RisingTo k told j → slot < k
     → box_at (fold put_in boxes told) slot ≡ box_at boxes slot
 kept_below k j [] boxes slot r less = refl
@@ -85,7 +85,7 @@ each_stands k j (x ∷ xs) boxes r fits =
 pub delivers : (j : ℕ) (told : List (TxnId × Notice)) (boxes : List Slot) → RisingTo 0 told j → j ≤ length boxes → Delivers boxes told (fold put_in boxes told)
 delivers j told boxes r fits = record { stands = each_stands 0 j told boxes r fits; others = λ slot apart. others_kept told boxes slot apart }
 
--- where nobody is told, all boxes stay
+-- if nobody is told, all boxes stay
 pub delivers_none : (told : List (TxnId × Notice)) (boxes : List Slot) → told ≡ [] → Delivers boxes told boxes
 delivers_none told boxes none =
     subst (λ (l : List (TxnId × Notice)). Delivers boxes l boxes) (sym none)

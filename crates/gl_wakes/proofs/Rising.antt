@@ -1,4 +1,4 @@
--- What is told stands by rising slot.
+-- A command's notices are ordered by slot.
 use Rattle.gl_slots.specs.Limit.{most_slots}
 use Rattle.std.specs.Prelude.{◌≡◌, ℕ, zero, suc, ◌+◌, ◌<◌, ◌≤◌, Bool, true, false, not, ◌==◌, List, [], ◌∷◌, Option, Some, None, if◌then◌else◌}
 use Rattle.std.specs.List.{cons_option, filter, filter_map, range_with_len}
@@ -14,7 +14,7 @@ use Rattle.gl_wakes.specs.Notices.{RisingTo}
 use Rattle.gl_wakes.proofs.EachTold.{each_told}
 use Rattle.gl_wakes.proofs.Notices.{rising_on}
 
--- a row that begins further on
+-- a list that begins at a later slot
 sooner : (i k j : ℕ) (xs : List (TxnId × Notice)) → RisingTo k xs j → i ≤ k → RisingTo i xs j
 sooner i k j [] r le = le_trans le r
 sooner i k j (x ∷ xs) r le = (le_trans le r.0, r.1)
@@ -23,7 +23,7 @@ sooner i k j (x ∷ xs) r le = (le_trans le r.0, r.1)
 abbrev Names : (ℕ → Option (TxnId × Notice)) → Type 0
 Names f = (u : ℕ) (x : TxnId × Notice) → f u ≡ Some x → x.0.slot ≡ u
 
--- one more, or none, before those of the slots further on
+-- one more, or none, before those of later slots
 before : (lo j : ℕ) (o : Option (TxnId × Notice)) (rest : List (TxnId × Notice)) → lo < j → RisingTo (lo + 1) rest j
     → ((x : TxnId × Notice) → o ≡ Some x → x.0.slot ≡ lo) → RisingTo lo (cons_option o rest) j
 before lo j None rest inside up is = sooner lo (lo + 1) j rest up (omega arith)
@@ -58,7 +58,7 @@ told_rises s s' few =
     (λ u x e. named u (age_of s u) (told_from s' u (status_of s u)) x e) s.most 0)
     (omega (arith, few))
 
--- whatever the command is, who is told stands by rising slot
+-- whatever the command is, its notices are ordered by slot
 pub step_rises : (s : State) (c : Command) (a : Answer) (list : List (TxnId × Notice)) (s' : State) → s.most ≤ most_slots → Step s c a list s'
     → RisingTo 0 list most_slots
 step_rises s c a list s' few step =

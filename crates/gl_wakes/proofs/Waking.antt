@@ -1,4 +1,4 @@
--- Whoever has to be woken is named, or told.
+-- Each slot that must be woken is named, or told.
 use Rattle.gl_slots.specs.Limit.{most_slots}
 use Rattle.std.specs.Prelude.{◌≡◌, ℕ, ◌<◌, Bool, true, false, ◌||◌, ◌==◌}
 use Rattle.std.specs.List.{list_any}
@@ -55,7 +55,7 @@ names_its_slot (command.Forget r) t h = h
 names_its_slot (command.Drop u n) t h = h
 names_its_slot (command.IndexBy u ps f bs) t h = h
 
--- a set of the slots that are told, and of the one that is named, has everybody whose wait was ended
+-- a set of the slots that are told, and of the one that is named, has each slot whose wait ended
 pub wakes_ended : (c : Command) (told : Told) (slots : Slots)
     → ((u : ℕ) → u < most_slots → has_slot slots u ≡ (names_slot c u || list_any (λ x. x.0.slot == u) told))
     → WakesEnded c told slots
@@ -66,7 +66,7 @@ wakes_ended c told slots is s s' a step law t n below was gone =
     (λ x h. turned t.slot x.0.slot (slot_of t x.0 h)) so) ∙ or-true (names_slot c t.slot))
     (λ so. ap (λ b. b || list_any (λ x. x.0.slot == t.slot) told) (names_its_slot c t so))
 
--- whoever is told has its slot in the set of those
+-- a told transaction has its slot in the set
 pub told_wakes : (list : Told) (slots : Slots) (t : TxnId) → ((u : ℕ) → u < most_slots → has_slot slots u ≡ (false || list_any (λ x. x.0.slot == u) list))
     → t.slot < most_slots → is_told t list ≡ true → has_slot slots t.slot ≡ true
 told_wakes list slots t is below so =
@@ -80,7 +80,7 @@ wakes_told c told told' slots same wakes = subst (λ (l : Told). WakesEnded c l 
 pub ended_none : (s : State) (slots : Slots) → HasEnded s s slots
 ended_none s slots law t n below was gone = absurd (cc (was, gone))
 
--- with one step more, whose wait either ended
+-- with one more step: a wait that either one ended
 pub ended_more : (s mid s' : State) (c : Command) (a : Answer) (told : Told) (before more both : Slots)
     → ((u : ℕ) → has_slot both u ≡ (has_slot before u || has_slot more u)) → (IsLawful s → IsLawful mid) → HasEnded s mid before
     → WakesEnded c told more → Step mid c a told s' → HasEnded s s' both
