@@ -1,4 +1,4 @@
--- The exchange that adds a board keeps the rule.
+-- The exchange that adds a snapshot keeps the rule.
 use Rattle.std.proofs.Common.{◌≡◌, ℕ, ◌+◌, ◌-◌, ◌<◌, ◌==◌, Bool, true, false, List, [], ◌∷◌, ◌++◌, length, refl, ap, sym, subst, arith, inl}
 use Rattle.std.proofs.Common.{length-append, None}
 use Rattle.std.proofs.lemmas.List.{append-nil}
@@ -45,7 +45,7 @@ adds_goes log v e old len some pre false is =
       rw is tt,
     )
 
--- whatever the book is, the exchange adds the board to all that was seen, or finds that there are others
+-- whatever the book is, the exchange adds the snapshot to all that was seen, or finds that there are others
 pub adds_moves : (v : List Board) (e : Board) (old : ℕ) → old + 1 ≡ length v
     → Moves IsKept shown moved 0 (v, (no_nib, None)) (λ n. either (n == old) (old + 1) n) (Adds (step 0 old (old + 1) e) (v, (no_nib, None)))
 adds_moves v e old len cs log kept pre away =

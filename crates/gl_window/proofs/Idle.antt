@@ -1,4 +1,4 @@
--- A table where nobody waits, and its board: for when watchers need not be told.
+-- A table in which nobody waits, and its snapshot: for when watchers need not be told.
 use Rattle.std.specs.Prelude.{◌≡◌, ◌||◌, ℕ, Bool, true, false, Option, Some, None}
 use Rattle.std.proofs.Common.{refl, sym, ap, ◌∙◌}
 use mathlib.Core.Bool.{true≢false}
@@ -21,7 +21,7 @@ use Rattle.gl_window.specs.declared.telling.Telling.{Telling}
 use Rattle.gl_window.specs.declared.telling.Telling.TheVariants.{Always, WhileWaiting}
 use Rattle.gl_window.proofs.RealBoards.{edges_are}
 
--- whoever waits waits for somebody, so a board without steps is one of a table where nobody waits
+-- each waiter waits for somebody, so a snapshot without waits is one of a table in which nobody waits
 pub nobody_shown : (m : ManagerView) → IsLawfulManager m → ShowsNobody (board_of (state_of m)) → NobodyWaits (state_of m)
 nobody_shown m law none t = by (status_of s t) refl
   where
@@ -36,7 +36,7 @@ nobody_shown m law none t = by (status_of s t) refl
         let one = waits_for_one s law.lawful t n w e in
         absurd (true≢false (sym one.1 ∙ ap (λ (edge : ℕ → ℕ → Bool). edge t one.0) (sym (edges_are s law.lawful law.few)) ∙ none t one.0))
 
--- where watchers are not told
+-- if watchers are not told
 pub not_due : (t : Telling) (waited : Bool) → is_due t waited ≡ false → (t ≡ WhileWaiting) × (waited ≡ false)
 not_due Always waited e = absurd (cc e)
 not_due WhileWaiting waited e = (refl, e)
@@ -46,7 +46,7 @@ pub neither : (a b : Bool) → (a || b) ≡ false → (a ≡ false) × (b ≡ fa
 neither false b e = (refl, e)
 neither true b e = absurd (true≢false e)
 
--- a step keeps that nobody waits, where a lock that is left waiting is noted
+-- if nobody waits, a step keeps that, unless it answers that a lock waits
 pub nobody_on : (s s' : State) (waited waits : Bool) (c : Command) (a : Answer) (told : Told) → waits ≡ leaves_waiting a → (waited ≡ false → NobodyWaits s)
     → Step s c a told s' → (waited || waits) ≡ false → NobodyWaits s'
 nobody_on s s' waited waits c a told is_so quiet step e =

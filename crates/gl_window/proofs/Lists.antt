@@ -1,4 +1,4 @@
--- Lists of boards and one more.
+-- Lists of snapshots and one more.
 use Rattle.std.proofs.Common.{◌≡◌, ℕ, ◌+◌, ◌≤◌, Bool, true, false, MatchBool, List, [], ◌∷◌, ◌++◌, length, refl, sym, ap, ◌∙◌, subst, arith, zero-le}
 use Rattle.std.proofs.Common.{le_refl, le_trans, length-append, ◌⊎◌, ⊎_elim}
 use mathlib.Core.List.{IsPrefix}
@@ -19,11 +19,11 @@ last_of : (e : ℕ) (front : List Board) (b : Board) → last_epoch e (front ++ 
 last_of e [] b = refl
 last_of e (x ∷ xs) b = last_of x.epoch xs b
 
--- the epoch of the board with which a list ends
+-- the epoch of the last snapshot of a list
 pub last_ends : (list : List Board) (b : Board) → Ends list b → last_epoch 0 list ≡ b.epoch
 last_ends list b h = ap (last_epoch 0) h.1 ∙ last_of 0 h.0 b
 
--- a lawful list and one more board
+-- a lawful list and one more snapshot
 pub lawful_more : (detect : Detect) (first : Board) (list : List Board) (last y : Board) → IsLawful detect first list → Ends list last → last.epoch ≤ y.epoch
     → Fine detect y → IsLawful detect first (list ++ y ∷ [])
 lawful_more detect first list last y law ends le fine = record {
@@ -36,7 +36,7 @@ lawful_more detect first list last y law ends le fine = record {
 pub lawful_one : (detect : Detect) (first : Board) → Fine detect first → IsLawful detect first (first ∷ [])
 lawful_one detect first fine = record { begins = ([], refl); rising = (zero-le, tt); fine = (fine, tt) }
 
--- a list goes no further back than a beginning of it
+-- a list's last epoch is no less than that of a prefix
 rising_up : (e : ℕ) (ys : List Board) → Rising e ys → e ≤ last_epoch e ys
 rising_up e [] r = le_refl e
 rising_up e (y ∷ ys) r = le_trans r.0 (rising_up y.epoch ys r.1)
@@ -51,7 +51,7 @@ prefix_up e (x ∷ xs) (y ∷ ys) p r =
 pub later_up : (detect : Detect) (first : Board) (xs ys : List Board) → IsPrefix xs ys → IsLawful detect first ys → last_epoch 0 xs ≤ last_epoch 0 ys
 later_up detect first xs ys p law = prefix_up 0 xs ys p law.rising
 
--- a list that is one board longer
+-- a list that is one snapshot longer
 one_longer : (xs rest front : List Board) (b : Board) → length rest ≡ 1 → xs ++ rest ≡ front ++ b ∷ [] → xs ++ rest ≡ xs ++ b ∷ []
 one_longer [] (r ∷ []) [] b one is = is
 one_longer [] (r ∷ []) (f ∷ []) b one is = absurd (cc is)
@@ -61,13 +61,13 @@ one_longer [] [] front b one is = absurd (omega arith)
 one_longer (x ∷ xs) rest [] b one is = absurd (omega (arith, ap length is, length-append xs rest))
 one_longer (x ∷ xs) rest (f ∷ front) b one is = ap (λ (l : List Board). x ∷ l) (one_longer xs rest front b one (cc is))
 
--- a list that another begins, and that is one board longer, which is its last
+-- a list that is one snapshot longer than a prefix of it, which is its last
 pub follows : (xs ys : List Board) (b : Board) → IsPrefix xs ys → length ys ≡ length xs + 1 → Ends ys b → ys ≡ xs ++ b ∷ []
 follows xs ys b p len ends =
     let one : length p.0 ≡ 1 = omega (arith, ap length p.1, length-append xs p.0) in
     sym p.1 ∙ one_longer xs p.0 ends.0 b one (p.1 ∙ ends.1)
 
--- the longer of two lists, one of which is one board longer
+-- the longer of two lists, one of which is one snapshot longer
 pub follows_either : (xs ys both : List Board) (b : Board) → IsPrefix xs both → IsPrefix ys both → (both ≡ xs) ⊎ (both ≡ ys) → length ys ≡ length xs + 1
     → Ends ys b → both ≡ xs ++ b ∷ []
 follows_either xs ys both b p q either len ends = ⊎_elim
@@ -75,13 +75,13 @@ follows_either xs ys both b p q either len ends = ⊎_elim
     (λ (t : both ≡ ys). t ∙ follows xs ys b (subst (IsPrefix xs) t p) len ends)
     either
 
--- after a board of epoch n was put behind the list, or was not
+-- after a snapshot of epoch n was added to the list, or was not
 pub told_epoch : (told : Bool) (list after : List Board) (board : Board) (n : ℕ) → MatchBool told (after ≡ list ++ board ∷ []) (after ≡ list)
     → last_epoch 0 list ≤ n → board.epoch ≡ n → last_epoch 0 after ≤ n
 told_epoch true list after board n is le epoch = subst (λ (e : ℕ). e ≤ n) (sym (last_ends after board (list, is) ∙ epoch)) (le_refl n)
 told_epoch false list after board n is le epoch = subst (λ (l : List Board). last_epoch 0 l ≤ n) (sym is) le
 
--- two beginnings of one list that are as long
+-- two prefixes of one list with the same length
 pub same_length : (xs ys both : List Board) → IsPrefix xs both → IsPrefix ys both → length ys ≡ length xs → ys ≡ xs
 same_length xs ys both p q len = prefix_whole ys xs (prefix_shorter ys xs both q p (omega (arith, len))) (omega (arith, len))
 
@@ -95,7 +95,7 @@ told_lawful true detect first list after board n is le epoch fine law = subst (I
 })
 told_lawful false detect first list after board n is le epoch fine law = subst (IsLawful detect first) (sym is) law
 
--- the same in the words of a table that has its name
+-- the same, in the terms of a table
 pub lawful_here : (detect d : Detect) (first b : Board) (list : List Board) → list ≡ b ∷ [] → b ≡ first → d ≡ detect → Fine d b → IsLawful detect first list
 lawful_here detect d first b list is same at fine =
     subst (λ (l : List Board). IsLawful detect first l) (sym is)
@@ -106,6 +106,6 @@ fine_end : (detect : Detect) (front : List Board) (b : Board) → AllFine detect
 fine_end detect [] b all = all.0
 fine_end detect (x ∷ xs) b all = fine_end detect xs b all.1
 
--- the last of a list of fine boards
+-- the last of a list of fine snapshots
 pub fine_last : (detect : Detect) (list : List Board) (b : Board) → Ends list b → AllFine detect list → Fine detect b
 fine_last detect list b ends all = fine_end detect ends.0 b (subst (AllFine detect) ends.1 all)

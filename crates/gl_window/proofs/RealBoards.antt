@@ -1,4 +1,4 @@
--- The board of every manager is fine: its steps are the waits of the state.
+-- The snapshot of every manager is fine: its waits are the waits of the state.
 use Rattle.gl_slots.specs.Limit.{most_slots}
 use Rattle.std.specs.Prelude.{◌≡◌, ℕ, ◌<◌, ◌≤◌, Bool, true, false, not, ◌&&◌, is_some}
 use Rattle.std.proofs.Common.{refl, sym, ap, subst, ◌∙◌, arith}
@@ -26,7 +26,7 @@ use Rattle.gl_catalog.specs.Manager.{IsLawfulManager, ManagerView, state_of}
 use Rattle.gl_window.specs.Boards.{Fine, ShowsWaits}
 
 module _ (s : State) (law : IsLawful s) (few : s.most ≤ most_slots) where
-  -- who waits lives, and so does who is waited for
+  -- a waiter lives, and so does the transaction for which it waits
   waiter_lives : (x y : ℕ) → waits_for s x y ≡ true → is_some (s.txns x) ≡ true
   waiter_lives x y h = txn_there (s.txns x) _ (step_is s x y h).2.waits
 
@@ -40,20 +40,20 @@ module _ (s : State) (law : IsLawful s) (few : s.most ≤ most_slots) where
       (λ k. clash (ap (are_compatible st.1) (nl_is (s.held y n) k) ∙ NL-compatible st.1) (not-true _ b)))
       (λ b. txn_there (s.txns y) _ (waits_there s o y n (ahead_second (s.queue n) x y (sym (ahead_is (s.queue n) x y) ∙ b))).1)
 
-  -- so both are seated
+  -- so both slots are below the limit
   low : (x y : ℕ) → waits_for s x y ≡ true → (x < most_slots) × (y < most_slots)
   low x y h =
       let o = lawful_orderly s law in
       let a = o.below x (waiter_lives x y h) in let b = o.below y (awaited_lives x y h) in (omega (arith, a, few), omega (arith, b, few))
 
-  -- the steps of the board are the waits
+  -- the waits in the snapshot are those of the state
   edges : (x y : ℕ) → board_edge (board_of s) x y ≡ waits_for s x y
   edges x y = shown_rows-edge most_slots (waits_for s) low x y
 
   pub edges_are : board_edge (board_of s) ≡ waits_for s
   edges_are = fun_ext (λ x. fun_ext (λ y. edges x y))
 
-  -- the board shows the age of each slot that it has
+  -- the snapshot shows the age of each slot that it has
   age_shown : (x : ℕ) → x < most_slots → age_in (board_of s) x ≡ age_of s x
   age_shown x inside = get_or-map-range_with_len (age_of s) 0 most_slots x x 0 inside (omega arith)
 
@@ -79,6 +79,6 @@ module _ (s : State) (law : IsLawful s) (few : s.most ≤ most_slots) where
     calm = λ is x. subst (λ (e : ℕ → ℕ → Bool). IsOnNoCycle e x) (sym edges_are) (calm is x);
   }
 
--- the board of a lawful manager
+-- the snapshot of a lawful manager
 pub fine_board : (m : ManagerView) → IsLawfulManager m → Fine m.table.detect (board_of (state_of m))
 fine_board m law = fine_state (state_of m) law.lawful law.few law.no_cycle

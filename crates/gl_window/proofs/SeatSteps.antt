@@ -31,7 +31,7 @@ sitting_more : (n : ℕ) (l : List Sitter) (v : Sitter) → sitting n (l ++ v �
 sitting_more n [] v = omega arith
 sitting_more n (x ∷ xs) v = let r = sitting_more n xs v in omega arith
 
--- whoever comes has no seat
+-- a new token has no seat
 pub enters : (slots : ℕ) (v : ℕ → Sitter) → ((r : ℕ) → (v r).has ≡ None) → Enters Seated slots 0 (λ r w. w ≡ v r)
 enters slots v free s r _ _ =
     let x : ℕ = get_or s.words 0 0 in (
@@ -156,7 +156,7 @@ leaves slots id k me low has = subst (λ (b : ℕ). Allows Seated slots id me 0 
           refl,
         )
 
--- what a test of a bit says
+-- what a test of a bit means
 tested : (b p : ℕ) → b < 2 → 0 < p → ((b * p ≡ 0) → b ≡ 0) × ((b * p ≢ 0) → b ≡ 1)
 tested zero p small above = ((λ _. refl), λ no. absurd (no (omega arith)))
 tested (suc zero) p small above = ((λ is. absurd (omega arith)), λ _. refl)

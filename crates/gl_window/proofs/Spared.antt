@@ -1,4 +1,4 @@
--- Commands that leave who waits for whom, where nobody is told. For watchers who are told where waits may have changed.
+-- Commands that change no wait if nobody is told. For watchers that are told only if waits may have changed.
 use Rattle.gl_slots.specs.Limit.{most_slots}
 use Rattle.std.specs.Prelude.{◌≡◌, ℕ, ◌+◌, ◌≤◌, ◌==◌, ◌||◌, ◌&&◌, not, Bool, true, false, [], ◌∷◌, min}
 use Rattle.std.specs.Prelude.{Option, Some, None, if◌then◌else◌, is_some}
@@ -54,7 +54,7 @@ live_own : (x : Option Txn) (st : Status) → status_in x ≡ Some st → live_b
 live_own None st e = absurd (none_some e)
 live_own (Some x) st e = number_same x.age x.age refl
 
--- where nobody is told, who waits waits on, but whom the command names to take its wait back
+-- if nobody is told, each waiter waits on, except one whose wait the command cancels by name
 waits_still : (s s' : State) (c : Command) (a : Answer) (told : Told) → IsLawful s → Step s c a told s' → told ≡ []
     → (u : ℕ) (q : NodeId) → ends_wait_of (record { slot = u; age = age_of s u }) c ≡ false → is_waiting_at s u q ≡ true → is_waiting_at s' u q ≡ true
 waits_still s s' c a told law step none u q unnamed at =
@@ -179,7 +179,7 @@ module _ (set : Slots) (s : State) (law : IsLawful s) (few : s.most ≤ most_slo
       by (Some r) e unchanged = same unchanged.same
       by None e goes = answered e (query_answer s c) goes
 
--- a command that is known to leave all waits does
+-- a command that is known to change no wait changes none
 pub waits_left : (set : Slots) (s s' : State) (c : Command) (a : Answer) (told : Told) → IsLawful s → s.most ≤ most_slots → HasParties s set
     → Step s c a told s' → leaves_waits set c a told ≡ true → Spares set s s'
 waits_left set s s' c a told law few has step known = by (has_none set) refl known

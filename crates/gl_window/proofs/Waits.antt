@@ -1,4 +1,4 @@
--- Changes that leave who waits for whom, so that a board of the waits before shows those behind: grants to and releases of who is no party to a wait.
+-- Changes that keep all waits, so that a snapshot of the waits before shows those after: grants to and releases of a transaction that is no party to a wait.
 use Rattle.gl_slots.specs.Limit.{most_slots}
 use Rattle.std.specs.Prelude.{◌≡◌, ◌⊎◌, ℕ, zero, suc, ◌+◌, ◌≤◌, ◌<◌, ◌==◌, ◌||◌, ◌&&◌, not, Bool, true, false, List, [], ◌∷◌, drop, length}
 use Rattle.std.specs.Prelude.{Option, Some, None, if◌then◌else◌, is_some}
@@ -46,7 +46,7 @@ use Rattle.gl_steps.specs.declared.command.Answer.{Answer}
 use Rattle.gl_window.proofs.RealBoards.{awaited_lives}
 use Rattle.gl_window.specs.Boards.{EndsWithWaits, HasParties, ShowsWaits}
 
--- the waits of two states are the same, and so are the ages of who waits and of whom it waits for
+-- the waits of two states are the same, and so are the ages of each waiter and of the transaction for which it waits
 pub record SameWaits (s s' : State) : Type 0 where
   pub waits : (t u : ℕ) → waits_for s' t u ≡ waits_for s t u
   pub ages : (t u : ℕ) → waits_for s t u ≡ true → (age_of s' t ≡ age_of s t) × (age_of s' u ≡ age_of s u)
@@ -57,7 +57,7 @@ same_trans s mid s' a b = record {
   ages = λ t u h. let x = a.ages t u h in let y = b.ages t u (a.waits t u ∙ h) in (y.0 ∙ x.0, y.1 ∙ x.1);
 }
 
--- so a board that shows the waits of one shows those of the other
+-- so a snapshot that shows the waits of one shows those of the other
 shows_still : (s s' : State) → SameWaits s s' → (b : Board) → ShowsWaits s b → ShowsWaits s' b
 shows_still s s' same b shows = record {
   waits = λ t u. shows.waits t u ∙ sym (same.waits t u);
@@ -69,7 +69,7 @@ shows_still s s' same b shows = record {
 pub ends_still : (s s' : State) → SameWaits s s' → (list : List Board) → EndsWithWaits s list → EndsWithWaits s' list
 ends_still s s' same list ends = (ends.0, ends.1, shows_still s s' same ends.0 ends.2)
 
--- who does not wait waits for nobody
+-- a transaction that does not wait waits for nobody
 idle_edge : (s : State) (t u : ℕ) → is_wait (status_of s t) ≡ false → waits_for s t u ≡ false
 idle_edge s t u idle = idle_no_step s t (λ n m e. true≢false (sym (ap is_wait e) ∙ idle)) u
 
@@ -79,7 +79,7 @@ nobody_same s s' none after = record {
   ages = λ t u h. clash h (idle_edge s t u (none t));
 }
 
--- a state with the same waits, whose parties are in the set still
+-- a state with the same waits, whose parties are still in the set
 pub record Spares (set : Slots) (s s' : State) : Type 0 where
   pub same : SameWaits s s'
   pub parties : HasParties s' set
@@ -87,7 +87,7 @@ pub record Spares (set : Slots) (s s' : State) : Type 0 where
 pub spares_then : (set : Slots) (s mid s' : State) → Spares set s mid → Spares set mid s' → Spares set s s'
 spares_then set s mid s' a b = record { same = same_trans s mid s' a.same b.same; parties = b.parties }
 
--- where nobody is a party to a wait, nobody waits
+-- if nobody is a party to a wait, nobody waits
 pub none_waits : (s : State) (set : Slots) → HasParties s set → has_none set ≡ true → NobodyWaits s
 none_waits s set has none t = (has t (test-none set none t)).0
 
@@ -97,7 +97,7 @@ nobody_spared set s s' none after = record {
   parties = λ t out. (after t, λ u n at. clash (ap is_wait (waiting_is (status_of s' u) n at).1) (after u));
 }
 
--- the step is as it was where the wait is the same, and what is held and the queue at its node
+-- whom a slot waits for stays the same if its wait does, and the grants and the queue at its node
 same_blocks : (s s' : State) (x y : ℕ) (o : Option Status)
     → ((q : NodeId) (w : Mode) → o ≡ Some (Waiting q w) → (s'.held y q ≡ s.held y q) × (s'.queue q ≡ s.queue q)) → blocks s' x y o ≡ blocks s x y o
 same_blocks s s' x y None at = refl
@@ -111,7 +111,7 @@ same_edge : (s s' : State) (x y : ℕ) → status_of s' x ≡ status_of s x
     → waits_for s' x y ≡ waits_for s x y
 same_edge s s' x y st at = ap (λ b. not (x == y) && b) (ap (blocks s' x y) st ∙ same_blocks s s' x y (status_of s x) at)
 
--- Grants where nobody waits.
+-- Grants on nodes without waiters.
 
 none_among : (x : ℕ) (q : List Waiter) → is_empty q ≡ true → is_among_waiters x q ≡ false
 none_among x [] e = refl
@@ -122,7 +122,7 @@ and_no true = refl
 and_no false = refl
 
 module _ (s : State) (law : IsLawful s) where
-  -- who waits does so elsewhere
+  -- a waiter waits on another node
   elsewhere : (x : ℕ) (q n : NodeId) (m : Mode) → status_of s x ≡ Some (Waiting q m) → is_empty (s.queue n) ≡ true → same_node q n ≡ false
   elsewhere x q n m st none =
       split (same_node q n)
@@ -132,7 +132,7 @@ module _ (s : State) (law : IsLawful s) where
       (none_among x (s.queue n) none))
       (λ e. e)
 
-  -- so what is held there is as it was
+  -- so the grants there stay
   held_there : (t : ℕ) (n : NodeId) (m : Mode) → is_empty (s.queue n) ≡ true → (x y : ℕ) (q : NodeId) (w : Mode) → status_of s x ≡ Some (Waiting q w)
       → (with_grant s t n m).held y q ≡ s.held y q
   held_there t n m none x y q w st =
@@ -152,7 +152,7 @@ module _ (s : State) (law : IsLawful s) where
     );
   }
 
-  -- who is no party to a wait is granted nodes alone for which nobody waits, since it stands behind a queue
+  -- a transaction that is no party to a wait is granted only nodes without waiters, since it would queue after these
   pub enters_alone : (set : Slots) (t : ℕ) (n : NodeId) (m : Mode) → HasParties s set → has_slot set t ≡ false → enters_at s t n m ≡ true
       → is_empty (s.queue n) ≡ true
   enters_alone set t n m has out enters = by (s.queue n) (λ u h. law.waits_are u n h)
@@ -174,7 +174,7 @@ module _ (s : State) (law : IsLawful s) where
       by [] live = refl
       by (w ∷ q) live = absurd (not_born s.graph law.graph n later (live w.0 (or_left _ _ (number_same w.0 w.0 refl))))
 
--- what is made of the graph, and the count of commands, are no waits
+-- a change of the graph and of the count of commands changes no wait
 pub regraphed : (set : Slots) (s z : State) (g : Graph) → Spares set s z → Spares set s (with_graph z g)
 regraphed set s z g spares = record { same = record { waits = spares.same.waits; ages = spares.same.ages }; parties = spares.parties }
 
@@ -241,7 +241,7 @@ module _ (set : Slots) (s : State) (law : IsLawful s) (few : s.most ≤ most_slo
 
 -- Releases of a transaction that is no party to a wait, by which nobody is granted.
 
--- a state with less of t, from which nodes grant: who waits there waits on
+-- a state after releases of t, which may grant: a waiter there waits on
 pub record Releases (s : State) (t : ℕ) (b : State) (chosen : NodeId → Bool) : Type 0 where
   pub others : (u : ℕ) (q : NodeId) → (u == t) ≡ false → b.held u q ≡ s.held u q
   pub own : (q : NodeId) → (b.held t q ≡ NL) ⊎ (b.held t q ≡ s.held t q)
@@ -259,7 +259,7 @@ module _ (set : Slots) (s : State) (law : IsLawful s) (has : HasParties s set) (
   idle : is_wait (status_of s t) ≡ false
   idle = (has t out).0
 
-  -- nobody waits for who holds no node for which somebody waits, and stands in no queue
+  -- nobody waits for a transaction that holds no node with a waiter, and is in no queue
   free : (x : ℕ) → waits_for s x t ≡ false
   free x =
       split (waits_for s x t)
@@ -339,7 +339,7 @@ module _ (set : Slots) (s : State) (law : IsLawful s) (has : HasParties s set) (
       same_age : (x : ℕ) → (x == t) ≡ false → age_of after x ≡ age_of s x
       same_age x apart = ap age_in (txn_now x ∙ r.txns x apart)
 
-  -- who is no party to a wait is none after it
+  -- a transaction that is no party to a wait before is none afterwards
   no_party : (v : ℕ) → has_slot set v ≡ false → (is_wait (status_of after v) ≡ false)
       × ((u : ℕ) (q : NodeId) → is_waiting_at after u q ≡ true → holds (members after q) v ≡ false)
   no_party v other = (
@@ -425,7 +425,7 @@ module _ (s : State) (t : ℕ) (n : NodeId) (m : Mode) (next : State) (a : Answe
   pub enters_now : Locks s t n m next → enters_at s t n m ≡ true
   enters_now locks = split (enters_at s t n m) (λ e. e) (λ e. absurd (not_settled s.detect (locks.waits e)))
 
--- What a node gives back of t is a release.
+-- What t loses on a node is a release.
 pub unlock_releases : (s : State) (t : ℕ) (n : NodeId) → is_wait (status_of s t) ≡ false
     → ((u : ℕ) (q : NodeId) → is_waiting_at s u q ≡ true → is_waiting_at (unlocked s t n) u q ≡ true) → Releases s t (with_grant s t n NL) (same_node n)
 unlock_releases s t n idle still = record {

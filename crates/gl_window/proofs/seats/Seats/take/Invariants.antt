@@ -2,7 +2,7 @@ use Rattle.std.specs.Prelude.{◌≡◌, ◌<◌, ℕ, None}
 use Rattle.std.specs.Int.{bit_at}
 use Rattle.gl_window.proofs.seats.Seats.take.Given as goal
 
--- it has no seat yet, and found each so far taken
+-- it has no seat yet, and has found each so far taken
 abbrev pub invariant-loop-number : goal.invariant-loop-number
 invariant-loop-number l = record {
   same : l.token.table_id ≡ l.self.table.shared.table_id;
