@@ -1,4 +1,4 @@
--- A record is made of a file, which is still one. For adopted records.
+-- A record is made of a file, which stays a file. For adopted records.
 use Rattle.std.specs.Prelude.{◌≡◌, ◌∷◌, [], ℕ, List, None, Ok, Option, Some, true}
 use Rattle.std.proofs.Common.{ap, refl, ◌∙◌}
 use Rattle.gl_modes.specs.declared.node.NodeId.{NodeId}

@@ -1,4 +1,4 @@
--- What is kept beside the graph, read off the node that an id names.
+-- What is stored beside the graph, read from the node that an id names.
 use Rattle.std.specs.Prelude.{◌≡◌, ℕ, ◌+◌, ◌<◌, ◌≤◌, Bool, true, false, ◌==◌, ◌||◌, nat_lt, nat_le, List, [], ◌∷◌, length, Option, Some, None}
 use Rattle.std.specs.Prelude.{if◌then◌else◌, cond, slice_get, count_by, ◌&&◌}
 use Rattle.std.specs.List.{list_any}
@@ -87,7 +87,7 @@ module _ (limits : Limits) (s : Slab Stored) (births : ℕ) (v : View) (sound : 
   pub index_not_missed : named s n ≡ None → is_index_shape (shape_of (graph_of v) n) ≡ true → ⊥
   index_not_missed e h = no (sym (ap is_index_shape (shape_missed e)) ∙ h)
 
-  -- an index keeps its intervals at their places
+  -- an index stores its intervals at their places
   pub record KeepsIntervals (is : List NodeId) (bounds : List ℕ) : Type 0 where
     pub count : length is ≡ length bounds + 1
     pub each : (place : ℕ) → place ≤ length bounds → slice_get is place ≡ Some (interval (graph_of v) n place)
@@ -110,7 +110,7 @@ module _ (limits : Limits) (s : Slab Stored) (births : ℕ) (v : View) (sound : 
       → KeepsIntervals (intervals_in_body x.body) (bounds_in (Some (shape_in_body x.body)))
   intervals_found x e h = index_beside x (shape_in_body x.body) refl e h
 
--- where a file is stored
+-- the place of a stored file
 pub record FileSlot (s : Slab Stored) (n : NodeId) : Type 0 where
   pub stored : Stored
   pub there : get s n.key ≡ Some stored
@@ -127,7 +127,7 @@ file_slot limits s births sound n h =
     let shape = file_shape limits s births (seen limits s births) sound refl n x e h in
     record { stored = x; there = slot.0; born = slot.1; adopted = shape.0; shape = shape.1 })
 
--- what is no index has no intervals
+-- a node that is no index has no intervals
 pub no_intervals : (b : Body) → is_index_shape (Some (shape_in_body b)) ≡ false → intervals_in_body b ≡ []
 no_intervals (body.Inner children above) h = refl
 no_intervals (body.File kept above) h = refl
@@ -139,7 +139,7 @@ no_intervals (body.TwoKeys keys above) h = refl
 no_intervals (body.ThreeKeys keys above) h = refl
 no_intervals (body.ManyKeys keys above) h = refl
 
--- a test passes somewhere exactly where it is not counted 0 times
+-- a test passes somewhere exactly if it is not counted 0 times
 pub any_counted : {A : Type 0} (p : A → Bool) (xs : List A) → nat_lt 0 (count_by p xs) ≡ list_any p xs
 any_counted p [] = refl
 any_counted p (x ∷ xs) =

@@ -1,4 +1,4 @@
--- Nodes are born: the old ones are as they were, and the law of the graph is kept.
+-- Nodes are born: the old ones stay as they were, and the law of the graph is kept.
 use Rattle.std.specs.Prelude.{◌≡◌, ◌≢◌, ◌⊎◌, ℕ, zero, suc, ◌+◌, ◌-◌, ◌<◌, ◌≤◌, ◌^◌, true, false, List, [], ◌∷◌, ◌++◌, length, Option, Some, None}
 use Rattle.std.specs.Prelude.{is_some, if◌then◌else◌}
 use Rattle.std.specs.List.{list_any, filter_map, range_with_len}

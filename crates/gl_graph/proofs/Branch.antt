@@ -1,4 +1,4 @@
--- A node goes with its children: what is left, and that it is lawful. For those above who read a graph after a drop.
+-- A node is removed with its children: what remains, and that it is lawful. For crates that read a graph after a drop.
 use Rattle.std.specs.Prelude.{◌≡◌, ◌≢◌, ℕ, zero, suc, ◌+◌, ◌-◌, ◌<◌, ◌≤◌, Bool, true, false, not, ◌&&◌, ◌||◌, ◌==◌, nat_lt, nat_le, List, [], ◌∷◌, ◌++◌, length}
 use Rattle.std.specs.Prelude.{Option, Some, None, is_some, if◌then◌else◌, cond, count_by}
 use Rattle.std.specs.List.{cons_option, filter, filter_map, list_all, list_any, range_with_len}
@@ -31,7 +31,7 @@ use Rattle.gl_graph.proofs.Unrefused.{or_no}
 use Rattle.gl_graph.proofs.Counts.{count_cons, count_same, nodes_live}
 use Rattle.gl_graph.specs.View.{record_count}
 
--- of an interval
+-- the shape of an interval
 abbrev pub is_interval_shape : Option Shape → Bool
 is_interval_shape o = is_some (place_in o)
 
@@ -88,7 +88,7 @@ movable_no_record (Some (Index f bs)) h = refl
 movable_no_record (Some (Interval place)) h = refl
 movable_no_record (Some (Rec keys)) h = absurd (no h)
 
--- what can be a parent of a record is a file or an interval
+-- a parent of a record is a file or an interval
 abbrev file_or_interval : Option Shape → Bool
 file_or_interval o = is_file_shape o || is_interval_shape o
 
@@ -102,7 +102,7 @@ filter_whole q p (x ∷ xs) all each =
     let t = and_both (q x) (list_all q xs) all in
     ap (λ b. if b then x ∷ filter p xs else filter p xs) (each x t.0) ∙ ap (λ ys. x ∷ ys) (filter_whole q p xs t.1 each)
 
--- one filter and then another, and the other way round
+-- two filters, in either order
 filter_twice : (q a b a' b' : NodeId → Bool) (xs : List NodeId) → list_all q xs ≡ true
     → ((x : NodeId) → q x ≡ true → (a x && b x) ≡ (a' x && b' x)) → filter b (filter a xs) ≡ filter b' (filter a' xs)
 filter_twice q a b a' b' [] all each = refl
@@ -118,7 +118,7 @@ filter_twice q a b a' b' (x ∷ xs) all each =
         (λ e. ap (λ b. filter d (if b then y ∷ filter c ys else filter c ys)) e
         ∙ sym (ap (λ b. if b && d y then y ∷ filter d (filter c ys) else filter d (filter c ys)) e))
 
--- what is counted passes the filter
+-- each counted item passes the filter
 count_filtered : (q keep p : NodeId → Bool) (xs : List NodeId) → list_all q xs ≡ true → ((x : NodeId) → q x ≡ true → p x ≡ true → keep x ≡ true)
     → count_by p (filter keep xs) ≡ count_by p xs
 count_filtered q keep p [] all each = refl
@@ -143,7 +143,7 @@ map_full h a (suc n) full =
     by (Some x) e rest = ap suc rest
 
 module _ (g : Graph) (n : NodeId) where
-  -- what has this birth goes
+  -- the node with this birth is removed
   abbrev pub gone : ℕ → Bool
   gone b = (b == n.birth) || list_any (same_node n) (parents_in (g.at b))
 
@@ -159,7 +159,7 @@ module _ (g : Graph) (n : NodeId) where
   pub left_same : (q : NodeId) → gone q.birth ≡ false → node_at left q ≡ node_at g q
   left_same q e = ap (with_key q.key) (at_beside q.birth e)
 
-  -- what is left was there
+  -- a remaining node was there before
   pub left_birth : (q : NodeId) (x : Node) → node_at left q ≡ Some x → gone q.birth ≡ false
   left_birth q x e = not_true (gone q.birth) (λ t. none_some (sym (ap (with_key q.key) (at_gone q.birth t)) ∙ e))
 
@@ -174,7 +174,7 @@ module _ (g : Graph) (n : NodeId) where
       let x = live_node (node_at left q) (child_live left q p h) in
       ap (λ o. list_any (same_node p) (parents_in o)) (left_was q x.0 x.1 ∙ sym x.1) ∙ h
 
-  -- a node that is left is what it was
+  -- a remaining node is as it was
   pub left_is : (q : NodeId) → is_live left q ≡ true → node_at left q ≡ node_at g q
   left_is q h = let x = live_node (node_at left q) h in left_same q (left_birth q x.0 x.1)
 
@@ -191,7 +191,7 @@ module _ (g : Graph) (n : NodeId) where
       (λ b. split (gone b) (λ e. inr (ap (id_of b) (at_gone b e))) (λ e. inl (ap (id_of b) (at_beside b e)))) (range_with_len 1 g.births)
 
   module _ (live : is_live g n ≡ true) where
-    -- of living nodes the node goes, and its children
+    -- of the living nodes, the node and its children are removed
     pub gone_is : (q : NodeId) → is_live g q ≡ true → gone q.birth ≡ (same_node n q || is_child g n q)
     gone_is q h =
         let x = live_node (node_at g q) h in
@@ -203,7 +203,7 @@ module _ (g : Graph) (n : NodeId) where
             split (same_node n q) (λ t. number_same q.birth n.birth (ap (λ m. m.birth) (sym (same_node-equal n q t))) ∙ sym t)
             (λ t. number_other q.birth n.birth (λ e. no (sym t ∙ same_node-from_equal n q (sym (one_birth g q n h live e)))) ∙ sym t)
 
-    -- what is neither the node nor a child of it stays
+    -- a node that is neither this one nor a child of it stays
     pub stays_left : (q : NodeId) → is_live g q ≡ true → same_node n q ≡ false → is_child g n q ≡ false → node_at left q ≡ node_at g q
     stays_left q h other apart = left_same q (gone_is q h ∙ ap₂ (λ a b. a || b) other apart)
 
@@ -216,7 +216,7 @@ module _ (g : Graph) (n : NodeId) where
         (λ t. ap is_some (left_same q (gone_is q h ∙ t)) ∙ h ∙ sym (ap₂ (λ a b. a && not b) h t)))
         (λ h. not_true (is_live left q) (λ k. no (sym h ∙ left_was_live q k)) ∙ sym (ap (λ a. a && not (same_node n q || is_child g n q)) h))
 
-    -- the nodes that are left, in order of birth
+    -- the remaining nodes, in order of birth
     pub nodes_left : nodes left ≡ filter (λ q. not (same_node n q || is_child g n q)) (nodes g)
     nodes_left =
         ap (λ (h : ℕ → Option NodeId). filter_map h (range_with_len 1 g.births)) (fun_ext each)
@@ -237,7 +237,7 @@ module _ (g : Graph) (n : NodeId) where
         each : (b : ℕ) → id_of b (left.at b) ≡ kept (λ q. not (same_node n q || is_child g n q)) (id_of b (g.at b))
         each b = by b (g.at b) refl
 
-  -- without children the node goes alone
+  -- without children the node is removed alone
   pub alone_is : ((q : NodeId) → is_child g n q ≡ false) → without_branch g n ≡ without_node g n
   alone_is none =
       let same : left.at ≡ (without_node g n).at = fun_ext (λ b. ap (λ x. if (b == n.birth) || x then None else g.at b) (by b (g.at b) refl)
@@ -322,7 +322,7 @@ module _ (g : Graph) (law : IsLawfulGraph g) (n f : NodeId) (bs : List ℕ) (sha
           (λ none. absurd (no none))
       by (Rec keys) ps i h l = absurd (no i)
 
--- what can be given other parents goes with its children, where nothing stands against it
+-- a movable node is removed with its children, if it is not in use
 module _ (g : Graph) (law : IsLawfulGraph g) (n : NodeId) (movable : is_movable_shape (shape_of g n) ≡ true) (free : is_in_use g n ≡ false) where
   pub live : is_live g n ≡ true
   live = movable_live g n movable
@@ -359,7 +359,7 @@ module _ (g : Graph) (law : IsLawfulGraph g) (n : NodeId) (movable : is_movable_
   pub children_are : (q : NodeId) → is_child g n q ≡ true → (is_index_shape (shape_of g n) ≡ true) × (is_interval_shape (shape_of g q) ≡ true)
   children_are q c = child_of (shape_of g n) refl q c
 
-  -- each is the interval of a place, and each interval is a child
+  -- each is the interval at a place, and each interval is a child
   pub child_at : (q : NodeId) → is_child g n q ≡ true → (place : ℕ) × (interval_at g n place ≡ Some q)
   child_at q c = let kinds = children_are q c in by (shape_of g n) refl kinds.0 kinds.1
     where
@@ -396,14 +396,14 @@ module _ (g : Graph) (law : IsLawfulGraph g) (n : NodeId) (movable : is_movable_
       by (Some (Interval place')) s h = absurd (none_some h)
       by (Some (Rec keys)) s h = absurd (none_some h)
 
-  -- what is no index has no children
+  -- a node that is no index has no children
   pub no_children : is_index_shape (shape_of g n) ≡ false → (q : NodeId) → is_child g n q ≡ false
   no_children h q = not_true (is_child g n q) (λ c. no (sym h ∙ (children_are q c).0))
 
   pub no_branch : is_index_shape (shape_of g n) ≡ false → without_branch g n ≡ without_node g n
   no_branch h = alone_is g n (no_children h)
 
-  -- what is no interval stays, unless it is the node
+  -- a node that is no interval stays, unless it is the node
   other_stays : (q : NodeId) → is_live g q ≡ true → is_interval_shape (shape_of g q) ≡ false → same_node n q ≡ false → node_at (left g n) q ≡ node_at g q
   other_stays q h kind other =
       stays_left g n live q h other (not_true (is_child g n q) (λ c. no (sym kind ∙ (children_are q c).1)))
@@ -480,7 +480,7 @@ module _ (g : Graph) (law : IsLawfulGraph g) (n : NodeId) (movable : is_movable_
           whole true = refl
           whole false = refl
 
-  -- of another file they are as they were
+  -- another file keeps its indexes
   pub other_indexes : (f : NodeId) → is_index_of_shape f (shape_of g n) ≡ false → indexes_of (left g n) f ≡ indexes_of g f
   other_indexes f other =
       indexes_left f
@@ -503,7 +503,7 @@ module _ (g : Graph) (law : IsLawfulGraph g) (n : NodeId) (movable : is_movable_
             (ap key_or_zero (at_beside g n (interval g i place).birth (gone_is g n live (interval g i place) h ∙ ap₂ (λ a b. a || b) not_n no_child))) refl,
       )
 
-  -- where a child of it is a parent of a record, it is an index of the file of the record
+  -- if a child of it is a parent of a record, it is an index of the file of the record
   index_above : (f p : NodeId) (is : List NodeId) (keys : List ℕ) → list_all (λ i. is_index_of_shape f (shape_of g i)) is ≡ true
       → list_any (same_node p) (intervals_of g is keys) ≡ true → is_child g n p ≡ true → is_index_of_shape f (shape_of g n) ≡ true
   index_above f p [] keys h k c = absurd (no k)
@@ -542,7 +542,7 @@ module _ (g : Graph) (law : IsLawfulGraph g) (n : NodeId) (movable : is_movable_
           (λ there. clash (index_above k.0 p (indexes_of g k.0) keys
           (all_filter (λ i. is_index_of_shape k.0 (shape_of g i)) (nodes g)) there c) (no_index k.0 q rec child))
 
-  -- what is left of a list of parents
+  -- the remaining parents of a list
   pub inner_left : (ps : List NodeId) → are_inner g ps ≡ true → list_any (same_node n) ps ≡ false → are_inner (left g n) ps ≡ true
   inner_left [] h k = refl
   inner_left (p ∷ ps) h k =
@@ -578,7 +578,7 @@ module _ (g : Graph) (law : IsLawfulGraph g) (n : NodeId) (movable : is_movable_
       ∙ (interval_stays i index.0 index.1 index.2 not_n (interval_place (bounds_in (shape_of g i)) key) (omega arith)).1)
       (intervals_left f is keys t.1 other)
 
-  -- what its kind asks of a node that is left
+  -- what its kind requires of a remaining node
   shape_asks : (sh : Shape) (ps : List NodeId) (q : NodeId) (node : Node) → node_at (left g n) q ≡ Some node → node.shape ≡ sh → node.parents ≡ ps
       → list_any (same_node n) ps ≡ false → HasShape g q sh ps → HasShape (left g n) q sh ps
   shape_asks Inner ps q node e es ep k h = parents_left 0 ps h k
@@ -627,7 +627,7 @@ module _ (g : Graph) (law : IsLawfulGraph g) (n : NodeId) (movable : is_movable_
         },
       )
 
-  -- what is left is lawful
+  -- the remaining graph is lawful
   pub left_lawful : IsLawfulGraph (left g n)
   left_lawful = record {
     well_formed = λ q node e.
@@ -662,7 +662,7 @@ module _ (g : Graph) (law : IsLawfulGraph g) (n : NodeId) (movable : is_movable_
           let other : same_node n p ≡ false = not_true _ (λ t. no (sym stays.1 ∙ ap (λ m. is_child g m q) (same_node-equal n p t) ∙ c)) in
           ap is_some (stays_left g n live p alive other (not_true (is_child g n p) (λ t. apart_from q p c t))) ∙ alive
 
-  -- the births that go are the node's own and those of its intervals, right behind it
+  -- the removed births are the node's own and those of its intervals, right after it
   abbrev span : ℕ
   span = interval_count (shape_of g n)
 
@@ -770,7 +770,7 @@ module _ (g : Graph) (law : IsLawfulGraph g) (n : NodeId) (movable : is_movable_
       named b None h = h
       named b (Some x) h = refl
 
-  -- no record goes
+  -- no record is removed
   pub records_left : (f : NodeId) → record_count (left g n) f ≡ record_count g f
   records_left f =
       count_same (is_live (left g n)) (is_record_of g f) (is_record_of (left g n) f) (nodes (left g n)) (nodes_live (left g n))

@@ -16,7 +16,7 @@ use Rattle.gl_graph.proofs.Look.{found_at, finds, misses, there_is}
 use Rattle.gl_graph.proofs.KindRules.{is_plain, Frames, well_formed_kept, AreAlike, one_shape}
 use Rattle.gl_graph.proofs.Routes.{acyclic_moved}
 
--- the shape is the same but for a file's mark, or a record's keys are others
+-- the shape is the same except for a file's mark, or a record's keys
 pub record IsAlike (was is : Shape) : Type 0 where
   pub plain : is_plain (Some was) ≡ true → AreAlike (Some is) (Some was)
   pub index : (f : NodeId) → is_index_of_shape f (Some is) ≡ is_index_of_shape f (Some was)

@@ -1,4 +1,4 @@
--- Inner nodes keep how many children they have: what each change of a slot makes of that number.
+-- Inner nodes store the number of their children: how each change of a slot changes that number.
 use Rattle.std.specs.Prelude.{◌≡◌, ℕ, ◌+◌, ◌-◌, ◌<◌, ◌≤◌, ◌^◌, Bool, true, false, ◌==◌, ◌||◌, nat_lt, List, [], ◌∷◌, length}
 use Rattle.std.specs.Prelude.{Option, Some, None, is_some, if◌then◌else◌, slice_get}
 use Rattle.std.specs.List.{list_any}
@@ -29,7 +29,7 @@ use Rattle.gl_graph.proofs.Recount.{recounted_keeps, recounted_count, recounted_
 use Rattle.gl_graph.proofs.RouteLengths.{listed}
 use Rattle.gl_graph.proofs.Slots.{stored_of, node_there}
 
--- what stands was an inner node with as many children
+-- a remaining inner node was one with as many children
 abbrev pub WasInner : Slab Stored → ℕ → Stored → Type 0
 WasInner s k y = (x : Stored) × (get s k ≡ Some x) × (x.birth ≡ y.birth) × (shape_in_body x.body ≡ Inner) × (children_in_body y.body ≡ children_in_body x.body)
 
@@ -136,7 +136,7 @@ module _ (limits : Limits) (s : Slab Stored) (births : ℕ) (sound : AreSound li
       by (Interval place) a b c p o i = apart_index (shape_of g n) i p
       by (Rec keys) a b c p o i = apart (shape_of g n) i p
 
-  -- what names no node has no children
+  -- an id that names no node has no children
   pub dead_count : (n : NodeId) → is_live g n ≡ false → child_count s n ≡ 0
   dead_count n dead =
       same_count (is_child_slot n) refl [] s.slots (λ k. by k (get s k) refl)
@@ -179,7 +179,7 @@ module _ (limits : Limits) (s : Slab Stored) (births : ℕ) (sound : AreSound li
           some_at (is_child g n) (nodes g) (record { key = k; birth = x.birth })
           (listed g sound.lawful (record { key = k; birth = x.birth }) (child_live g (record { key = k; birth = x.birth }) n c)) c
 
-  -- different inner nodes are stored apart
+  -- different inner nodes are stored under different keys
   module _ (ps : List NodeId) (inner : are_inner g ps ≡ true) (distinct : are_distinct ps ≡ true) where
     inner_at : (place : ℕ) (n : NodeId) → slice_get ps place ≡ Some n → is_inner_shape (shape_of g n) ≡ true
     inner_at place n at = all_at (λ q. is_inner_shape (shape_of g q)) ps n (listed_at ps place n at) inner
@@ -209,7 +209,7 @@ module _ (limits : Limits) (s : Slab Stored) (births : ℕ) (sound : AreSound li
         keep n.key x e (ap (λ z. shape_in_body z.body) (sym same) ∙ y.3) ∙ ap (λ b. want (record { key = n.key; birth = b })) birth in
         subst Such (sym count) (such n (listed_at ps place n at))
 
--- an inner node whose slot is seen as before is one
+-- an inner node whose slot shows the same is one
 pub inner_after : (limits : Limits) (old new : Slab Stored) (births births' : ℕ) (sound : AreSound limits old births) (sound' : AreSound limits new births')
     (p : NodeId) → is_inner_shape (shape_of (graph_of (seen limits old births)) p) ≡ true
     → ((x : Stored) → get old p.key ≡ Some x → shape_in_body x.body ≡ Inner → (y : Stored) × (get new p.key ≡ Some y) × (y.birth ≡ x.birth)
@@ -226,7 +226,7 @@ all_inner_after h h' [] each all = refl
 all_inner_after h h' (p ∷ ps) each all =
     let t = and_both (is_inner_shape (shape_of h p)) (are_inner h ps) all in both _ _ (each p t.0) (all_inner_after h h' ps each t.1)
 
--- the number, where each parent in a list has a child more or less
+-- the number, if each parent in a list has one child more or less
 pub one_more : (b : Bool) (k : ℕ) → (if b then k + 1 else k) ≡ k + ones b
 one_more true k = refl
 one_more false k = omega arith
@@ -242,7 +242,7 @@ stored_parents limits s births sound n x there born =
     let is_n : record { key = n.key; birth = x.birth } ≡ n = node_is (record { key = n.key; birth = x.birth }) n refl born in
     ap (parents_of (graph_of (seen limits s births))) (sym is_n) ∙ ap parents_in (node_there limits s births sound.apart n.key x there)
 
--- the parents of what can be given others: different inner nodes, and not itself
+-- the parents of a movable node: different inner nodes, and not itself
 module _ (g : Graph) (law : IsLawfulGraph g) (n : NodeId) (movable : is_movable_shape (shape_of g n) ≡ true) where
   pub its_inner_parents : (are_inner g (parents_of g n) ≡ true) × (are_distinct (parents_of g n) ≡ true)
   its_inner_parents = by (node_at g n) refl
@@ -261,7 +261,7 @@ module _ (g : Graph) (law : IsLawfulGraph g) (n : NodeId) (movable : is_movable_
   pub not_its_own : list_any (same_node n) (parents_of g n) ≡ false
   not_its_own = not_true _ (λ t. law.acyclic n n [] (t, refl))
 
--- nodes went, and each of these has a child less
+-- nodes were removed, and each of these has one child less
 module _ (limits : Limits) (old mid : Slab Stored) (births : ℕ) (sound' : AreSound limits mid births) (keep : KeepChildren old (child_count old))
     (ps : List NodeId) (inner : are_inner (graph_of (seen limits mid births)) ps ≡ true) (distinct : are_distinct ps ≡ true)
     (was : (k : ℕ) (y : Stored) → get mid k ≡ Some y → shape_in_body y.body ≡ Inner → WasInner old k y)
@@ -298,7 +298,7 @@ module _ (limits : Limits) (old mid : Slab Stored) (births : ℕ) (sound' : AreS
     pub down_graph : graph_of (seen limits new births) ≡ graph_of (seen limits mid births)
     down_graph = recounted_graph (λ children. children - 1) mid new ps re (are_named limits mid births sound' ps inner distinct) limits births sound'
 
--- a node came, and each of these has a child more
+-- a node was added, and each of these has one child more
 module _ (limits : Limits) (mid : Slab Stored) (births : ℕ) (sound' : AreSound limits mid births) (want : NodeId → ℕ) (keep : KeepChildren mid want)
     (ps : List NodeId) (inner : are_inner (graph_of (seen limits mid births)) ps ≡ true) (distinct : are_distinct ps ≡ true)
     (counts : (n : NodeId) → is_inner_shape (shape_of (graph_of (seen limits mid births)) n) ≡ true
@@ -335,7 +335,7 @@ module _ (limits : Limits) (mid : Slab Stored) (births : ℕ) (sound' : AreSound
     pub up_graph : graph_of (seen limits new births) ≡ graph_of (seen limits mid births)
     up_graph = recounted_graph (λ children. children + 1) mid new ps re (are_named limits mid births sound' ps inner distinct) limits births sound'
 
--- one slot is written that is of no inner node, and then the body of another: no inner node has more children or less
+-- a slot is written that has no inner node, and then the body of another node: no inner node has more or fewer children
 module _ (limits : Limits) (old mid new : Slab Stored) (births births' : ℕ) (sound : AreSound limits old births) (sound' : AreSound limits new births')
     (keep : KeepChildren old (child_count old)) (key : ℕ) (o : Option Stored) (u : Updates old mid key o) (key' : ℕ) (f : Stored) (b : Body)
     (above : parents_in_body b ≡ parents_in_body f.body) (there : get mid key' ≡ Some f) (u' : Updates mid new key' (Some (record f { body = b })))

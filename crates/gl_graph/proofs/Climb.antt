@@ -1,4 +1,4 @@
--- A search upwards, without climbing past some nodes, finds exactly the nodes to which a route leads.
+-- A search up the graph that stops at some nodes finds exactly the nodes to which a route leads.
 use Rattle.std.specs.Prelude.{◌≡◌, ◌⊎◌, ℕ, ◌+◌, ◌<◌, ◌≤◌, Bool, true, false, ◌||◌, List, [], ◌∷◌, ◌++◌, length, take, None, if◌then◌else◌, slice_get}
 use Rattle.std.specs.Prelude.{Option, Some}
 use Rattle.std.specs.List.{list_any}
@@ -25,7 +25,7 @@ use Rattle.gl_graph.proofs.Unrefused.{or_no}
 abbrev pub among : NodeId → List NodeId → Bool
 among q xs = list_any (same_node q) xs
 
--- one is added where it is missing
+-- one is added if it is missing
 abbrev added : List NodeId → NodeId → List NodeId
 added xs y = if among y xs then xs else xs ++ y ∷ []
 
@@ -50,7 +50,7 @@ pub with_all-keeps : (q : NodeId) (xs ys : List NodeId) → among q xs ≡ true 
 with_all-keeps q xs [] h = h
 with_all-keeps q xs (y ∷ ys) h = with_all-keeps q (added xs y) ys (added_keeps q xs y h)
 
--- each one comes in
+-- each one is added
 pub with_all-adds : (q : NodeId) (xs ys : List NodeId) → among q ys ≡ true → among q (with_all xs ys) ≡ true
 with_all-adds q xs [] h = absurd (no h)
 with_all-adds q xs (y ∷ ys) h =
@@ -58,7 +58,7 @@ with_all-adds q xs (y ∷ ys) h =
     (λ here. with_all-keeps q (added xs y) ys (ap (λ z. among z (added xs y)) (same_node-equal q y here) ∙ added_comes xs y))
     (λ there. with_all-adds q (added xs y) ys there)
 
--- nothing else does
+-- and nothing else
 pub with_all-from : (q : NodeId) (xs ys : List NodeId) → among q (with_all xs ys) ≡ true → (among q xs ≡ true) ⊎ (among q ys ≡ true)
 with_all-from q xs [] h = inl h
 with_all-from q xs (y ∷ ys) h =
@@ -95,7 +95,7 @@ pub item_among : (found : List NodeId) (i : ℕ) (n : NodeId) → slice_get foun
 item_among found i n item = list_any_at (same_node n) found i n (slice_get_within found i n item)
     (ap (same_node n) (get_or_from_slice_get found i n n item) ∙ same_node-refl n)
 
--- among the first i + 1, whatever is added behind, are the first i and the next one
+-- among the first i + 1, whatever is added after them, are the first i and the next one
 pub first_more : {C : Type 0} (found more : List NodeId) (i : ℕ) (n q : NodeId) → slice_get found i ≡ Some n
     → among q (take (i + 1) (with_all found more)) ≡ true → (among q (take i found) ≡ true → C) → (q ≡ n → C) → C
 first_more found more i n q item h was is =
@@ -107,7 +107,7 @@ first_more found more i n q item h was is =
     was (λ same. is (same_node-equal q n same))
 
 module _ (g : Graph) (stops : NodeId → Bool) where
-  -- a route from n to a node that is sought, past no node that stops it
+  -- a route from n to a wanted node, past no node that stops it
   pub record Leads (sought : NodeId → Bool) (n : NodeId) : Type 0 where
     pub end : NodeId
     pub way : List NodeId
@@ -119,13 +119,13 @@ module _ (g : Graph) (stops : NodeId → Bool) where
   abbrev pub next_of : NodeId → List NodeId
   next_of n = if stops n then [] else parents_of g n
 
-  -- the search so far: whatever is sought, what leads on from a node that is found leads on from the first, and from the first i nodes found it climbed
+  -- the search so far: from a found node a wanted one is reached only if it is from the first, and the first i found nodes were searched
   pub record IsClimb (from : NodeId) (found : List NodeId) (i : ℕ) : Type 0 where
     pub starts : among from found ≡ true
     pub leads : (sought : NodeId → Bool) (q : NodeId) → among q found ≡ true → Leads sought q → Leads sought from
     pub climbed : (q p : NodeId) → among q (take i found) ≡ true → among p (next_of q) ≡ true → among p found ≡ true
 
-  -- what leads on from a node to which the search climbs from n leads on from n
+  -- what is reached from a node to which the search climbs from n is reached from n
   leads_up : (sought : NodeId → Bool) (n q : NodeId) → among q (next_of n) ≡ true → Leads sought q → Leads sought n
   leads_up sought n q h l =
       split (stops n) (λ s. absurd (no (sym (ap (λ b. among q (if b then [] else parents_of g n)) s) ∙ h)))
@@ -151,13 +151,13 @@ module _ (g : Graph) (stops : NodeId → Bool) where
             (λ is. with_all-adds p found (next_of n) (ap (λ x. among p (next_of x)) (sym is) ∙ k));
       })
 
-  -- the next one found, which does not stop the search, is met where it is sought
+  -- the next node found, which does not stop the search, is met if it is wanted
   pub climb_meets : (sought : NodeId → Bool) (from : NodeId) (found : List NodeId) (i : ℕ) (n : NodeId) → among n found ≡ true → IsClimb from found i
       → stops n ≡ false → sought n ≡ true → Leads sought from
   climb_meets sought from found i n there s on it =
       s.leads sought n there (record { end = n; way = []; route = refl; free = ap (λ b. b || false) on; meets = it })
 
-  -- where nothing is left to look at, each route that is not stopped ends at a node that is found
+  -- if nothing is left to search, each route that is not stopped ends at a found node
   pub climb_ends : (from : NodeId) (found : List NodeId) (i : ℕ) → slice_get found i ≡ None → IsClimb from found i
       → (q m : NodeId) (way : List NodeId) → among q found ≡ true → IsRoute g q way m → list_any stops (q ∷ way) ≡ false
       → (among m (take i found) ≡ true) × (stops m ≡ false)
@@ -178,7 +178,7 @@ pub never_stops : (way : List NodeId) → list_any never way ≡ false
 never_stops [] = refl
 never_stops (n ∷ way) = never_stops way
 
--- where nothing is left to look at, the test of the found ones is the test of routes
+-- if nothing is left to search, the test of the found nodes is the test of routes
 pub finds_routes : (g : Graph) (law : IsLawfulGraph g) (from target : NodeId) (found : List NodeId) (i : ℕ) → is_live g from ≡ true
     → slice_get found i ≡ None → IsClimb g never from found i
     → among target found ≡ is_at_or_below (node_count g) g target from

@@ -95,7 +95,7 @@ module _ (g : Graph) (law : IsLawfulGraph g) (ns : List Node) where
       ∙ ap (λ k. k + count_by (is_record_of grown f) (new_ids (g.births + 1) ns))
       (count_same (is_live g) (is_record_of g f) (is_record_of grown f) (nodes g) (nodes_live g) (record_same f))
 
-  -- where no record is born, a file has those it had
+  -- if no record is born, a file has those it had
   module _ (none : (k : ℕ) (node : Node) → place_in ns k ≡ Some node → is_record_shape (Some node.shape) ≡ false) where
     not_among : (f : NodeId) (ms : List Node) (k b : ℕ) → g.births + 1 + k ≡ b → ((j : ℕ) → place_in ms j ≡ place_in ns (k + j))
         → count_by (is_record_of grown f) (new_ids b ms) ≡ 0
@@ -117,7 +117,7 @@ module _ (g : Graph) (law : IsLawfulGraph g) (ns : List Node) where
         let new = not_among f ns 0 (g.births + 1) (omega arith) (λ j. let same : j ≡ 0 + j = omega arith in ap (place_in ns) same) in
         omega arith
 
--- what names no node has no records and no indexes
+-- an id that names no node has no records and no indexes
 module _ (g : Graph) (law : IsLawfulGraph g) (f : NodeId) (dead : is_live g f ≡ false) where
   pub dead_records : record_count g f ≡ 0
   dead_records =

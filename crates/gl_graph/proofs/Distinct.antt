@@ -13,7 +13,7 @@ use Rattle.gl_graph.specs.Lawful.{IsLawfulGraph, are_distinct}
 use Rattle.gl_graph.proofs.Unrefused.{or_no}
 use Rattle.gl_graph.proofs.RouteLengths.{listed}
 
--- what a listing gives has the birth that was asked for
+-- an item of a listing has the requested birth
 module _ (h : ℕ → Option NodeId) (born : (b : ℕ) (x : NodeId) → h b ≡ Some x → x.birth ≡ b) where
   not_below : (q : NodeId) (a n : ℕ) → q.birth < a → list_any (same_node q) (filter_map h (range_with_len a n)) ≡ false
   not_below q a zero low = refl

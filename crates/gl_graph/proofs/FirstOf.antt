@@ -1,10 +1,10 @@
--- The first refusal of one test, and of two lists of tests, one behind the other.
+-- The first refusal of one test, and of two lists of tests, one after the other.
 use Rattle.std.specs.Prelude.{◌≡◌, List, [], ◌∷◌, ◌++◌, Option, Some, None}
 use Rattle.std.proofs.Common.{refl}
 use Rattle.gl_modes.specs.declared.refusal.Refusal.{Refusal}
 use Rattle.gl_graph.specs.Refusals.{first_refusal}
 
--- where the first list passes, the second decides
+-- if the first list passes, the second decides
 pub passed_then : (xs ys : List (Option Refusal)) → first_refusal xs ≡ None → first_refusal (xs ++ ys) ≡ first_refusal ys
 passed_then [] ys h = refl
 passed_then (None ∷ xs) ys h = passed_then xs ys h
@@ -16,7 +16,7 @@ refused_first [] ys r h = absurd (cc)
 refused_first (None ∷ xs) ys r h = refused_first xs ys r h
 refused_first (Some x ∷ xs) ys r h = h
 
--- where all pass, the first list does
+-- if all pass, the first list does
 pub passes_first : (xs ys : List (Option Refusal)) → first_refusal (xs ++ ys) ≡ None → first_refusal xs ≡ None
 passes_first [] ys h = refl
 passes_first (None ∷ xs) ys h = passes_first xs ys h

@@ -1,4 +1,4 @@
--- Nodes are taken out of a slab, one after the other.
+-- Nodes are removed from a slab, one after the other.
 use Rattle.std.specs.Prelude.{◌≡◌, ℕ, ◌+◌, true, ◌==◌, List, Some, None, is_some, slice_get}
 use Rattle.std.proofs.Common.{refl, sym, ap, ◌∙◌, arith}
 use Rattle.gl_modes.proofs.Words.{split, some_is, no, number_same, same_number, other_number}
@@ -9,13 +9,13 @@ use Rattle.gl_graph.specs.Grown.{AreStored, AreGone}
 
 module _ (old mid : Slab Stored) (ids : List NodeId) (count : ℕ) (n : NodeId) (stored : AreStored old ids) (gone : AreGone old mid ids count)
     (at : slice_get ids count ≡ Some n) where
-  -- the next one still stands
+  -- the next one is still there
   pub next_there : is_some (get mid n.key) ≡ true
   next_there =
       ap is_some (gone.stays n.key (λ place m low there same. let one = stored.apart place count m n there at same in absurd (omega arith)))
       ∙ stored.there count n at
 
-  -- and is taken out too
+  -- and is removed too
   module _ (new : Slab Stored) (u : Updates mid new n.key None) (len : slab_len new + 1 ≡ slab_len mid) where
     pub gone_more : AreGone old new ids (count + 1)
     gone_more = record {

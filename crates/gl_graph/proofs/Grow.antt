@@ -111,7 +111,7 @@ module _ (old now next : Slab Stored) (births : ℕ) (ns : List Node) (grown : I
     keys_apart = ap are_apart (keys_more ns (node_of key (vertex_of x))) ∙ apart_more (keys_of ns) key grown.keys_apart unlisted;
   }
 
--- one interval more
+-- one more interval
 pub intervals_more : (index : NodeId) (from : ℕ) (keys : List ℕ) (key c : ℕ) → from + length keys ≡ c
     → interval_nodes index from (keys ++ key ∷ []) ≡ interval_nodes index from keys ++ record { key = key; shape = Interval c; parents = index ∷ [] } ∷ []
 intervals_more index from [] key c e = let same : from ≡ c = omega arith in λ i. record { key = key; shape = Interval (same i); parents = index ∷ [] } ∷ []

@@ -1,4 +1,4 @@
--- What stands against a drop, read off what is kept beside the graph.
+-- What is in use, read from what is stored beside the graph.
 use Rattle.std.specs.Prelude.{◌≡◌, ℕ, true, false, ◌||◌, nat_lt, List, length, Some}
 use Rattle.std.proofs.Common.{refl, sym, ap, ap₂, ◌∙◌, subst}
 use Rattle.gl_modes.specs.declared.node.NodeId.{NodeId}

@@ -1,4 +1,4 @@
--- What is kept beside the graph still agrees with it after a change.
+-- What is stored beside the graph still agrees with it after a change.
 use Rattle.std.specs.Prelude.{◌≡◌, ℕ, ◌+◌, ◌≤◌, true, false, ◌==◌, ◌&&◌, List, [], ◌∷◌, length, Some, None, is_some, cond, count_by}
 use Rattle.std.proofs.Common.{refl, sym, ap, ap₂, ◌∙◌, subst, arith}
 use Rattle.gl_modes.proofs.Words.{split, some_is, same_number, other_number}
@@ -19,14 +19,14 @@ use Rattle.gl_graph.proofs.NewNodes.{one_indexes}
 use Rattle.gl_graph.proofs.Counts.{count_cons, count_grown, records_grown, dead_records, dead_indexes}
 use Rattle.gl_graph.proofs.Slots.{at_slot, node_there, inserted, inserted_apart, inserted_free}
 
--- an index that stays has its intervals where they were
+-- an index that stays has its intervals at the same places
 pub intervals_same : (g g' : Graph) (law : IsLawfulGraph g) → Frames g g' → (n f : NodeId) (bs : List ℕ) → shape_of g n ≡ Some (Index f bs)
     → (place : ℕ) → place ≤ length bs → interval g' n place ≡ interval g n place
 intervals_same g g' law same n f bs e place low =
     let node = index_node g law n f bs e in
     interval_kept g g' law same n place _ (node.intervals place low) refl
 
--- what is kept beside a node that stays
+-- what is stored beside a node that stays
 pub beside_kept : (g g' : Graph) (law : IsLawfulGraph g) → Frames g g' → (n : NodeId) (x : Vertex) (sh : Shape) → shape_of g n ≡ Some sh
     → (is_file_shape (Some sh) ≡ true → (indexes_of g' n ≡ indexes_of g n) × (record_count g' n ≡ record_count g n)) → KeepsBeside g n x sh
     → KeepsBeside g' n x sh
@@ -36,7 +36,7 @@ beside_kept g g' law same n x (Index f bs) e file k = (k.0, λ place low. k.1 pl
 beside_kept g g' law same n x (Interval place) e file k = tt
 beside_kept g g' law same n x (Rec keys) e file k = tt
 
--- births never go past the count
+-- births are never above the count
 pub born_within : (limits : Limits) (s : Slab Stored) (births : ℕ) → AreSound limits s births → AreBornWithin s births
 born_within limits s births sound k x e = (sound.lawful.born x.birth (ap is_some (at_slot s sound.apart k x e))).1
 

@@ -1,4 +1,4 @@
--- The interval of a key is the one that holds it.
+-- The interval of a key is the one that contains it.
 use Rattle.std.specs.Prelude.{◌≡◌, ℕ, zero, suc, ◌+◌, ◌<◌, ◌≤◌, ◌⊎◌, true, nat_le, List, [], ◌∷◌, ◌&&◌, length, Option, Some, None, slice_index_or}
 use Rattle.std.specs.Prelude.{if◌then◌else◌}
 use Rattle.std.proofs.Common.{refl, sym, ap, subst, arith, rules, add-one, ⊎_elim, ◌∙◌}
@@ -61,7 +61,7 @@ begins_by : (bs : List ℕ) (key k : ℕ) → IsPlace bs key k → beginning bs 
 begins_by bs key zero p = omega arith
 begins_by bs key (suc k) p = p.before k (omega arith)
 
--- that place is where the key is held
+-- the interval at that place contains the key
 place_holds : (bs : List ℕ) (key k : ℕ) → IsPlace bs key k → HoldsKey bs k key
 place_holds bs key k p = record {
   begun = begins_by bs key k p;
@@ -71,12 +71,12 @@ place_holds bs key k p = record {
 same_or_less : (i j : ℕ) → i ≤ j → (i < j) ⊎ (i ≡ j)
 same_or_less i j h = search rules
 
--- rising numbers, one not before another
+-- increasing numbers, one not before another
 not_below : (xs : List ℕ) (i j : ℕ) → IsRising xs → i ≤ j → j < length xs → slice_index_or xs i 0 ≤ slice_index_or xs j 0
 not_below xs i j rising le low = ⊎_elim (λ h. let r = rising_at xs i j rising h low in omega arith)
     (λ e. let same = ap (λ k. slice_index_or xs k 0) e in omega arith) (same_or_less i j le)
 
--- and there alone
+-- and no other interval does
 held_there : (bs : List ℕ) (key k : ℕ) → IsRising (0 ∷ bs) → k ≤ length bs → HoldsKey bs k key → IsPlace bs key k
 held_there bs key k rising low holds = record {
   within = low;
@@ -123,7 +123,7 @@ module _ (g : Graph) (law : IsLawfulGraph g) (index : NodeId) (shape : is_index_
 pub keys_have_intervals : KeysHaveIntervals
 keys_have_intervals g law index key shape = (interval_place (bounds_in (shape_of g index)) key, has_interval g law index shape key)
 
--- where an index has an interval of this place
+-- if an index has an interval at this place
 record HasInterval (g : Graph) (index n : NodeId) (place : ℕ) : Type 0 where
   pub shape : is_index_shape (shape_of g index) ≡ true
   pub low : place ≤ length (bounds_in (shape_of g index))

@@ -1,4 +1,4 @@
--- What the kinds ask is kept where files, indexes, intervals and inner nodes are as they were: one lemma for each kind.
+-- What the kinds require is kept if files, indexes, intervals and inner nodes stay as they were: one lemma for each kind.
 use Rattle.std.specs.Prelude.{◌≡◌, ℕ, ◌≤◌, Bool, true, false, nat_le, List, [], ◌∷◌, length, Option, Some, None}
 use Rattle.std.specs.List.{list_all, list_any}
 use Rattle.std.proofs.lemmas.List.Sums.{count_by-le-length}
@@ -49,7 +49,7 @@ index_of f (Some (Index file bounds)) h = (file, bounds, refl)
 index_of f (Some (Interval place)) h = absurd (no h)
 index_of f (Some (Rec keys)) h = absurd (no h)
 
--- one shape, or files of which the one may have a mark that the other has not
+-- the same shape, or files of which one may have a mark that the other does not have
 pub record AreAlike (o' o : Option Shape) : Type 0 where
   pub inner : is_inner_shape o' ≡ is_inner_shape o
   pub file : is_file_shape o' ≡ is_file_shape o
@@ -59,7 +59,7 @@ pub record AreAlike (o' o : Option Shape) : Type 0 where
 pub one_shape : (o' o : Option Shape) → o' ≡ o → AreAlike o' o
 one_shape o' o e = record { inner = ap is_inner_shape e; file = ap is_file_shape e; index = ap is_index_shape e; bounds = ap bounds_in e }
 
--- what the kinds of the nodes that were there read is as it was
+-- what the kinds of the old nodes read stays as it was
 pub record Frames (g g' : Graph) : Type 0 where
   pub shapes : (q : NodeId) → is_plain (shape_of g q) ≡ true → AreAlike (shape_of g' q) (shape_of g q)
   pub intervals : (q : NodeId) (place : ℕ) (node : Node) → node_at g q ≡ Some node → node.shape ≡ Interval place → node_at g' q ≡ Some node
@@ -67,14 +67,14 @@ pub record Frames (g g' : Graph) : Type 0 where
   pub bounds : g'.most_bounds ≡ g.most_bounds
 
 module _ (g : Graph) (law : IsLawfulGraph g) where
-  -- what a node of each kind is
+  -- the requirements of each kind
   pub index_node : (n f : NodeId) (bs : List ℕ) → shape_of g n ≡ Some (Index f bs) → IsIndexNode g n f bs
   index_node n f bs e =
       let there = shaped_node g n (Index f bs) e in
       let well = law.well_formed n there.0 there.1 in
       (subst (λ sh. HasShape g n sh there.0.parents) there.2 well).1
 
-  -- the interval of an index in which a key lies
+  -- the interval of an index that contains a key
   pub interval_is : (f i : NodeId) (k : ℕ) → is_index_of_shape f (shape_of g i) ≡ true
       → node_at g (interval_of g i k) ≡ Some
       (record { key = (interval_of g i k).key; shape = Interval (interval_place (bounds_in (shape_of g i)) k); parents = i ∷ [] })
@@ -162,7 +162,7 @@ module _ (g g' : Graph) (law : IsLawfulGraph g) (same : Frames g g') where
       ap (λ xs. f ∷ xs) (ap (λ is. intervals_of g' is keys) e
       ∙ intervals_kept f (indexes_of g f) keys (all_filter (λ i. is_index_of_shape f (shape_of g i)) (nodes g)))
 
-  -- what its kind asks of a node is kept
+  -- what its kind requires of a node is kept
   pub shape_kept : (sh : Shape) (ps : List NodeId) (n : NodeId) (node : Node) → node_at g n ≡ Some node → node.shape ≡ sh → node.parents ≡ ps
       → HasShape g n sh ps → HasShape g' n sh ps
   shape_kept Inner ps n node e es ep h = parents_kept 0 ps h

@@ -1,4 +1,4 @@
--- A node goes: the nodes that are left, and how many they are.
+-- A node is removed: the remaining nodes, and their number.
 use Rattle.std.specs.Prelude.{◌≡◌, ◌≢◌, ℕ, suc, ◌+◌, ◌-◌, ◌≤◌, Bool, true, ◌&&◌, List, ◌∷◌, ◌++◌, length, Option, Some, None, cond, count_by}
 use Rattle.std.specs.List.{cons_option, filter_map, list_any, range_with_len}
 use Rattle.std.proofs.lemmas.List.Elements.{filter_map-append}

@@ -1,4 +1,4 @@
--- Looking nodes up: what a test says, what a node's place in the graph says.
+-- Looking up nodes: what a test means, and a node's place in the graph.
 use Rattle.std.specs.Prelude.{◌≡◌, ◌≢◌, ℕ, Bool, true, ◌==◌, List, [], ◌∷◌, Option, Some, None, is_some, if◌then◌else◌}
 use Rattle.std.specs.List.{list_all, list_any, filter}
 use Rattle.std.proofs.Common.{refl, sym, ap, ◌∙◌}
@@ -54,7 +54,7 @@ shaped_node g n shape h =
 pub found_at : (g : Graph) (q : NodeId) (node : Node) → node_at g q ≡ Some node → (g.at q.birth ≡ Some node) × (node.key ≡ q.key)
 found_at g q node e = found q.key (g.at q.birth) node e
 
--- two living nodes of one birth are one
+-- two living nodes with the same birth are the same
 pub one_birth : (g : Graph) (m n : NodeId) → is_live g m ≡ true → is_live g n ≡ true → m.birth ≡ n.birth → m ≡ n
 one_birth g m n h k e =
     let a = live_node (node_at g m) h in

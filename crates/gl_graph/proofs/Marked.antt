@@ -1,4 +1,4 @@
--- Of a file rows were adopted: all else in the graph is as it was, and the graph is lawful. For those above who read a graph after `mark_adopted`.
+-- A file is marked as one of which rows were adopted: all else in the graph stays, and the graph is lawful. For crates that read a graph after `mark_adopted`.
 use Rattle.std.specs.Prelude.{◌≡◌, ℕ, ◌+◌, ◌≤◌, Bool, true, false, ◌==◌, ◌&&◌, List, [], ◌∷◌, length, Option, Some, None, is_some, nat_le, if◌then◌else◌}
 use Rattle.std.specs.List.{filter, filter_map, list_any, range_with_len}
 use Rattle.std.proofs.Math.Path.{fun_ext}
@@ -35,7 +35,7 @@ with_key_marked key (Some n) = by (n.key == key)
     by true = refl
     by false = refl
 
--- a shape with the mark asks of a node what the shape without it asks
+-- a shape with the mark requires of a node what the shape without it requires
 shape_marked : (g : Graph) (n : NodeId) (sh : Shape) (ps : List NodeId) → HasShape g n sh ps → HasShape g n (marked_shape sh) ps
 shape_marked g n Inner ps h = h
 shape_marked g n (File adopted) ps h = h
@@ -44,7 +44,7 @@ shape_marked g n (Interval place) ps h = h
 shape_marked g n (Rec keys) ps h = h
 
 module _ (g : Graph) (f : NodeId) where
-  -- what is blind to the mark reads of each birth what it read
+  -- a function that ignores the mark reads of each birth what it read before
   read : {A : Type 0} (see : Option Node → A) → IsBlind see → (b : ℕ) → see ((marked g f).at b) ≡ see (g.at b)
   read see blind b = by (b == f.birth)
     where
@@ -63,7 +63,7 @@ module _ (g : Graph) (f : NodeId) where
       by None = refl
       by (Some x) = blind x.shape
 
-  -- each node has the mark or has it not
+  -- each node has the mark or does not
   node_after : (n : NodeId) (P : Option Node → Type 0) → P (node_at g n) → P (marked_node (node_at g n)) → P (node_at (marked g f) n)
   node_after n P was is = by (n.birth == f.birth)
     where

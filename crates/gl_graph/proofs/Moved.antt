@@ -1,4 +1,4 @@
--- The law of the graph is kept where an inner node, a file or an index moves, and where a record gets another key.
+-- The law of the graph is kept when an inner node, a file or an index moves, and when a record gets another key.
 use Rattle.std.specs.Prelude.{◌≡◌, ℕ, zero, suc, ◌≤◌, Bool, true, false, not, ◌==◌, List, [], ◌∷◌, length, Option, Some, if◌then◌else◌}
 use Rattle.std.specs.List.{list_all, list_any}
 use Rattle.std.proofs.Math.Path.{fun_ext}
@@ -33,7 +33,7 @@ below_found g n (suc k) p [] few r = or_left _ _ (same_node-from_equal n p (sym 
 below_found g n (suc k) p (q ∷ way) few r =
     or_right (same_node n p) _ (some_at (is_at_or_below k g n) (parents_of g p) q r.0 (below_found g n k q way (omega arith) r.1))
 
--- where some pass one is found
+-- if some pass, one is found
 pub any_found : (q : NodeId → Bool) (ps : List NodeId) → list_any q ps ≡ true → (p : NodeId) × (list_any (same_node p) ps ≡ true) × (q p ≡ true)
 any_found q [] h = absurd (no h)
 any_found q (x ∷ xs) h =
@@ -120,7 +120,7 @@ module _ (g : Graph) (law : IsLawfulGraph g) (n : NodeId) (was : Node) (there : 
       (λ p way h r. no (sym (ap not (below_complete g law n p way (all_at (is_live g) ps p h live) r))
       ∙ all_at (λ q. not (is_at_or_below (node_count g) g n q)) ps p h clear)))
 
-  -- no route leads to a record from what is none
+  -- no route leads to a record from a node that is none
   pub record_end : (p : NodeId) (way : List NodeId) → is_record_shape (shape_of g n) ≡ true → is_plain (shape_of g p) ≡ true → IsRoute g p way n → ⊥
   record_end p [] rec plain r = rec_not_plain (shape_of g n) rec (ap (λ q. is_plain (shape_of g q)) (sym r) ∙ plain)
   record_end p (q ∷ way) rec plain r = record_end q way rec (parent_plain g law p q r.0) r.1

@@ -61,7 +61,7 @@ module _ (g : Graph) (law : IsLawfulGraph g) (key : ℕ) (ps : List NodeId) (fil
   pub no_interval_index : (f : NodeId) (k : ℕ) (node : Node) → place_in (interval_nodes id 0 keys) k ≡ Some node → is_index_of_shape f (Some node.shape) ≡ false
   no_interval_index f k node e = ap (λ x. is_index_of_shape f (Some x.shape)) (interval_node id 0 keys k k node (omega arith) e)
 
-  -- other files have the indexes that they had
+  -- other files keep their indexes
   pub others : (f : NodeId) → same_node f file ≡ false → indexes_of grown f ≡ indexes_of g f
   others f other = indexes_kept g law ns f by
     where
@@ -111,7 +111,7 @@ module _ (g : Graph) (law : IsLawfulGraph g) (key : ℕ) (ps : List NodeId) (fil
   no_record_born zero node e = ap (λ x. is_record_shape (Some x.shape)) (sym (some_is e))
   no_record_born (suc k) node e = ap (λ x. is_record_shape (Some x.shape)) (interval_node id 0 keys k k node (omega arith) e)
 
-  -- an interval stands where its index says
+  -- an interval is at the place that its index gives
   pub interval_there : (k : ℕ) (node : Node) → place_in (interval_nodes id 0 keys) k ≡ Some node → interval grown id k ≡ new_id g law ns node (suc k)
   interval_there k node e =
       let birth : g.births + 1 + 1 + k ≡ g.births + 1 + suc k = omega arith in

@@ -44,7 +44,7 @@ module _ (g : Graph) (law : IsLawfulGraph g) where
       (λ same. absurd (no (sym (ap is_file_shape (ap (shape_of g) (same_node-equal n _ same) ∙ ap shape_in (interval_is g law f i key t.0))) ∙ k)))
       (λ other. ap (λ b. b || list_any (same_node n) (intervals_of g is keys)) other ∙ no_file_among f n is keys t.1 k)
 
-  -- of the parents of a record only the file is one
+  -- of a record's parents only the file is a file
   pub file_among : (f n : NodeId) (keys : List ℕ) → is_file_shape (shape_of g n) ≡ true → list_any (same_node n) (record_parents g f keys) ≡ same_node n f
   file_among f n keys h =
       ap (λ b. same_node n f || b) (no_file_among f n (indexes_of g f) keys (all_filter (λ i. is_index_of_shape f (shape_of g i)) (nodes g)) h)
@@ -63,7 +63,7 @@ record_shape (Some (Index file bounds)) h = absurd (no h)
 record_shape (Some (Interval place)) h = absurd (no h)
 record_shape (Some (Rec keys)) h = (keys, refl)
 
--- a record that lives: its file is its first parent
+-- a living record: its file is its first parent
 module _ (g : Graph) (law : IsLawfulGraph g) (r : NodeId) (rec : is_record_shape (shape_of g r) ≡ true) where
   of_file : (is_file_shape (shape_of g (first_parent g r)) ≡ true) × (length (keys_in (shape_of g r)) ≡ length (indexes_of g (first_parent g r)))
       × (parents_of g r ≡ record_parents g (first_parent g r) (keys_in (shape_of g r)))

@@ -1,4 +1,4 @@
--- Inner nodes keep another number of children: nothing else changes.
+-- Inner nodes store another number of children: nothing else changes.
 use Rattle.std.specs.Prelude.{◌≡◌, ◌≢◌, ◌⊎◌, ℕ, zero, suc, ◌+◌, ◌≤◌, Bool, true, false, ◌==◌, List, [], ◌∷◌, length, Option, Some, None, is_some}
 use Rattle.std.specs.Prelude.{if◌then◌else◌, cond, count_by, slice_get, slice_index_or}
 use Rattle.std.specs.List.{list_any}
@@ -116,7 +116,7 @@ module _ (p : Option Stored → Bool) (none : p None ≡ false) where
   slot_found [] h = absurd (no h)
   slot_found (x ∷ xs) h = or_elim (p x) (list_any p xs) h (λ here. (0, here)) (λ there. let f = slot_found xs there in (suc f.0, f.1))
 
--- what a slot has with another number of children
+-- a slot with another number of children
 recounted_vertex : (x : Stored) (count : ℕ) → vertex_of (record x { body = body_with_children x.body count }) ≡ vertex_of x
 recounted_vertex x count = by x.body
   where
@@ -142,7 +142,7 @@ children_written (body.TwoKeys keys above) count e = cc
 children_written (body.ThreeKeys keys above) count e = cc
 children_written (body.ManyKeys keys above) count e = cc
 
--- where a key is listed
+-- the place of a listed key
 is_listed : (ids : List NodeId) (key : ℕ)
     → ((place : ℕ) × (n : NodeId) × (slice_get ids place ≡ Some n) × (n.key ≡ key)) ⊎ ((place : ℕ) (n : NodeId) → slice_get ids place ≡ Some n → n.key ≢ key)
 is_listed [] key = inr (λ place n e. absurd (none_some e))
@@ -191,7 +191,7 @@ module _ (fresh : ℕ → ℕ) (mid new : Slab Stored) (ids : List NodeId) (re :
       (λ none. inr (none, re.stays k (λ place n low e. none place n e))) (is_listed ids k)
 
   module _ (named : AreNamed mid ids) where
-    -- what stands stood, and is seen as it was
+    -- a node that is there was there before, and shows the same
     pub stood_before : (k : ℕ) (y : Stored) → get new k ≡ Some y → (x : Stored) × (get mid k ≡ Some x) × (vertex_of y ≡ vertex_of x)
         × (shape_in_body y.body ≡ Inner
         → children_in_body y.body ≡ (if list_any (same_node (record { key = k; birth = x.birth })) ids then fresh (children_in_body x.body)
@@ -223,7 +223,7 @@ module _ (fresh : ℕ → ℕ) (mid new : Slab Stored) (ids : List NodeId) (re :
               let f = place_of ids (record { key = k; birth = y.birth }) t in g.0 f.0 (record { key = k; birth = y.birth }) f.1 refl))),
         )) (slot_after k)
 
-    -- what stood stands
+    -- a node that was there is still there
     pub stands_after : (k : ℕ) (x : Stored) → get mid k ≡ Some x → (y : Stored) × (get new k ≡ Some y) × (vertex_of y ≡ vertex_of x)
     stands_after k x e =
         ⊎_elim

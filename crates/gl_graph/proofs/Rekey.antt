@@ -1,4 +1,4 @@
--- One key of a record is written at the place of its index, and its interval behind it.
+-- One key of a record is written at the place of its index, and its interval at the next place.
 use Rattle.std.specs.Prelude.{◌≡◌, ◌≢◌, ℕ, zero, suc, ◌+◌, ◌^◌, ◌<◌, Bool, true, false, not, nat_lt, ◌&&◌, ◌||◌, List, [], ◌∷◌, length, Option, Some}
 use Rattle.std.specs.Prelude.{None, is_some, if◌then◌else◌, slice_index_or, slice_set, position}
 use Rattle.std.specs.List.{list_any, position_or_len}
@@ -39,7 +39,7 @@ keys_untouched (j ∷ is) [] i key e none = refl
 keys_untouched (j ∷ is) (k ∷ ks) i key e none =
     ap₂ (λ b xs. (if b then key else k) ∷ xs) (none 0 i (omega arith)) (keys_untouched is ks i key (omega arith) (λ m d low. none (suc m) d (omega arith)))
 
--- where only this place has the index, its key alone changes
+-- if only this place has the index, its key alone changes
 pub keys_set : (is : List NodeId) (ks : List ℕ) (i : NodeId) (key place : ℕ) → length ks ≡ length is → place < length is
     → ((d : NodeId) → same_node (slice_index_or is place d) i ≡ true)
     → ((k : ℕ) (d : NodeId) → k < length is → k ≢ place → same_node (slice_index_or is k d) i ≡ false) → keys_with is ks i key ≡ slice_set ks place key
@@ -194,7 +194,7 @@ module _ (limits : Limits) (old new : Slab Stored) (births : ℕ) (sound : AreSo
         (subst (KeepsBeside (changed limits old new births sound r was x slot.1 slot.2 refl) (record { key = r.key; birth = x.birth }) (vertex_of x))
         (sym shape_is) tt)
 
--- what passes a test is found by it
+-- an item that passes a test is found by it
 first_within : {A : Type 0} (p : A → Bool) (xs : List A) → list_any p xs ≡ true → position_or_len p xs < length xs
 first_within p [] h = absurd (no h)
 first_within p (x ∷ xs) h =

@@ -1,4 +1,4 @@
--- A record goes: the law of the graph is kept.
+-- A record is removed: the law of the graph is kept.
 use Rattle.std.specs.Prelude.{◌≡◌, ◌≢◌, ℕ, ◌≤◌, true, false, ◌==◌, List, length, Option, Some, None, is_some, if◌then◌else◌}
 use Rattle.std.specs.List.{list_any, filter_map, range_with_len}
 use Rattle.std.proofs.Math.Path.{fun_ext}

@@ -1,4 +1,4 @@
--- Bounds that rise one after the other rise.
+-- Bounds that increase one after the other increase.
 use Rattle.std.specs.Prelude.{◌≡◌, ℕ, ◌<◌, ◌≤◌, Bool, true, false, ◌&&◌, nat_lt, List, [], ◌∷◌, drop, length, slice_index_or, ◌+◌}
 use Rattle.std.specs.List.{list_all}
 use Rattle.std.proofs.Common.{refl, sym, ap, ap₂, ◌∙◌, arith}

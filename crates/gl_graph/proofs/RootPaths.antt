@@ -1,4 +1,4 @@
--- Root paths: each node has one, and they grow and shrink by a step.
+-- Paths to the root: each node has one, and they grow and shrink by a step.
 use Rattle.std.specs.Prelude.{◌≡◌, ◌⊎◌, ℕ, zero, suc, List, [], ◌∷◌, length}
 use Rattle.std.specs.List.{list_any}
 use Rattle.std.proofs.Common.{refl, ap, ◌∙◌, arith, inl, inr, ⊎_elim}
@@ -11,7 +11,7 @@ use Rattle.gl_graph.specs.Routes.{IsRoute}
 use Rattle.gl_graph.specs.Laws.{NodesHaveRootPaths, RootPathsGrow, RootPathsShrink}
 use Rattle.gl_graph.proofs.RouteLengths.{live_end, route_short}
 
--- a way up to a node without parents, or of k steps
+-- a route up to a node without parents, or of k steps
 record GoesUp (g : Graph) (k : ℕ) (n : NodeId) : Type 0 where
   pub end : NodeId
   pub way : List NodeId

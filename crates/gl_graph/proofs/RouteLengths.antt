@@ -1,4 +1,4 @@
--- A route has fewer steps than the graph has nodes, since it meets none of them twice.
+-- A route has fewer steps than the graph has nodes, since it meets no node twice.
 use Rattle.std.specs.Prelude.{◌≡◌, ℕ, zero, suc, ◌+◌, ◌<◌, ◌≤◌, Bool, true, false, ◌||◌, ◌==◌, List, [], ◌∷◌, ◌++◌, length, Option, Some, None}
 use Rattle.std.specs.Prelude.{is_some, if◌then◌else◌}
 use Rattle.std.specs.List.{cons_option, list_any, range_with_len, filter_map, AllByRecursion, IsDistinct}

@@ -1,4 +1,4 @@
--- No cycle comes in: with parents taken away, with nodes beside, and with one node's parents changed.
+-- No cycle appears: after parents are removed, nodes added, or one node's parents changed.
 use Rattle.std.specs.Prelude.{◌≡◌, ◌≢◌, ◌⊎◌, true, false, List, [], ◌∷◌, ◌++◌}
 use Rattle.std.proofs.Common.{sym, ap, ◌∙◌, subst, inl, inr, ⊎_elim}
 use Rattle.gl_modes.proofs.NodeLemmas.{same_node-equal, same_node-other}
@@ -21,7 +21,7 @@ route_fewer g g' less a b (p ∷ way) r = (less p a r.0, route_fewer g g' less p
 pub acyclic_fewer : (g g' : Graph) → ((p n : NodeId) → is_child g' p n ≡ true → is_child g p n ≡ true) → IsAcyclic g → IsAcyclic g'
 acyclic_fewer g g' less a n p way r = a n p way (route_fewer g g' less n n (p ∷ way) r)
 
--- nodes beside: the parents of the old ones are as they were, and above a new one at most one more is new
+-- nodes are added: old ones keep their parents, and above a new one there is at most one new node more
 module _ (g g' : Graph) (live : (p n : NodeId) → is_child g p n ≡ true → is_live g p ≡ true)
     (old : (p n : NodeId) → is_live g n ≡ true → is_child g' p n ≡ true → is_child g p n ≡ true)
     (new : (p n : NodeId) → is_live g n ≡ false → is_child g' p n ≡ true → (is_live g p ≡ true)
@@ -43,7 +43,7 @@ module _ (g g' : Graph) (live : (p n : NodeId) → is_child g p n ≡ true → i
       above [] r' up h = no (sym h ∙ ap (is_live g) (sym r'.1) ∙ up p (subst (λ x. is_child g' p x ≡ true) (sym r'.1) r'.0))
       above (q ∷ way') r' up h = no (sym h ∙ stays_old q n way' (up q r'.1.0) r'.1.1)
 
--- one node gets other parents, none of which reaches it: a route is an old one, or it goes over the node
+-- one node gets other parents, none of which reaches it: a route is an old one, or passes the node
 record GoesOver (g g' : Graph) (n a b : NodeId) : Type 0 where
   parent : NodeId
   given : is_child g' parent n ≡ true

@@ -1,4 +1,4 @@
--- What is written of a node beside its parents leaves them, and other parents leave what stands beside them.
+-- A write beside a node's parents keeps them, and other parents keep what is stored beside them.
 use Rattle.std.specs.Prelude.{◌≡◌, ℕ, true, Some}
 use Rattle.std.proofs.Common.{refl}
 use Rattle.gl_modes.proofs.Words.{no}

@@ -1,4 +1,4 @@
--- The graph that is seen in a slab of nodes, and what one changed slot makes of it.
+-- The graph of a slab of nodes, and how one changed slot changes it.
 use Rattle.std.specs.Prelude.{◌≡◌, ◌≢◌, ℕ, zero, suc, ◌+◌, true, ◌==◌, List, [], ◌∷◌, map, Option, Some, None, if◌then◌else◌, slice_index_or}
 use Rattle.std.proofs.Math.Path.{fun_ext}
 use Rattle.std.proofs.Common.{refl, sym, ap, ◌∙◌, arith}
@@ -33,7 +33,7 @@ born_found from (Some y ∷ xs) apart (suc k) c x f e =
     (λ t. ap (λ b. if b then Some (node_of from (vertex_of y)) else born_at (from + 1) (map see xs) x.birth) t
     ∙ born_found (from + 1) xs (λ i j a b p q r. let t = apart (suc i) (suc j) a b p q r in omega arith) k c x (omega arith) e)
 
--- where a node was found
+-- the place where a node was found
 record IsFound (from : ℕ) (xs : List (Option Stored)) (birth : ℕ) (node : Node) : Type 0 where
   pub place : ℕ
   pub stored : Stored
@@ -101,7 +101,7 @@ module _ (limits : Limits) (s : Slab Stored) (births : ℕ) (apart : AreBornApar
       let f = slot_at s n.birth node e in
       misses n.key (at_birth s n.birth) node e (λ k. other f.stored (ap (get s) (sym k ∙ ap (λ x. x.key) f.is) ∙ f.there) f.born))
 
-  -- a look under the key finds the node that the id names
+  -- a look-up by the key finds the node that the id names
   pub node_named : (n : NodeId) → node_at graph n ≡ seen_in n.key (named s n)
   node_named n =
       cases_of (get s n.key)
@@ -116,7 +116,7 @@ module _ (limits : Limits) (s : Slab Stored) (births : ℕ) (apart : AreBornApar
   pub node_there : (k : ℕ) (x : Stored) → get s k ≡ Some x → node_at graph (record { key = k; birth = x.birth }) ≡ Some (node_of k (vertex_of x))
   node_there k x e = finds k (at_birth s x.birth) (node_of k (vertex_of x)) (at_slot s apart k x e) refl
 
-  -- a living node stands under its key
+  -- a living node is stored under its key
   pub stored_of : (n : NodeId) → is_live graph n ≡ true → (x : Stored) × (get s n.key ≡ Some x) × (x.birth ≡ n.birth)
   stored_of n h =
       let node = live_node (node_at graph n) h in
@@ -161,7 +161,7 @@ module _ (old new : Slab Stored) (key : ℕ) (slot : Option Stored) (apart : Are
         let ne : f.key ≢ key = λ k. none f.stored (sym u.changed ∙ ap (get new) (sym k) ∙ f.there) f.born in
         absurd (ne (apart f.key key f.stored x (sym (u.others f.key ne) ∙ f.there) e f.born)))
 
--- a node comes under a key that was free
+-- a node is added under a free key
 module _ (limits : Limits) (old new : Slab Stored) (births key : ℕ) (x : Stored) (apart : AreBornApart old) (within : AreBornWithin old births)
     (free : get old key ≡ None) (u : Updates old new key (Some x)) (next : x.birth ≡ births + 1) where
   insert_fresh : (y : Stored) → Some x ≡ Some y → (k : ℕ) (z : Stored) → k ≢ key → get old k ≡ Some z → z.birth ≢ y.birth
@@ -235,7 +235,7 @@ module _ (limits : Limits) (old new : Slab Stored) (births key : ℕ) (was x : S
       (λ t. ap (λ z. if z then Some (node_of key (vertex_of x)) else at_birth old b) t)) in
       written ∙ (λ i. record { at = same i; births = births; most = limits.most; most_bounds = limits.most_bounds })
 
--- a node goes
+-- a node is removed
 module _ (limits : Limits) (old new : Slab Stored) (births : ℕ) (n : NodeId) (was : Stored) (apart : AreBornApart old)
     (there : get old n.key ≡ Some was) (birth : was.birth ≡ n.birth) (u : Updates old new n.key None) where
   pub removed_apart : AreBornApart new

@@ -1,4 +1,4 @@
--- A node goes with its children: what is kept beside the graph agrees with what is left.
+-- A node is removed with its children: what is stored beside the graph agrees with what remains.
 use Rattle.std.specs.Prelude.{◌≡◌, ◌≢◌, ℕ, ◌+◌, ◌-◌, ◌≤◌, Bool, true, false, ◌==◌, ◌||◌, not, List, length, Option, Some, None, is_some}
 use Rattle.std.specs.Prelude.{if◌then◌else◌, slice_get}
 use Rattle.std.specs.List.{filter, list_any}
@@ -43,7 +43,7 @@ use Rattle.gl_graph.proofs.Branch.{left_lawful, count_left}
 use Rattle.gl_graph.proofs.Branch.{other_indexes, indexes_left, records_left, interval_stays, children_are, child_interval, interval_child}
 use Rattle.gl_graph.proofs.Unrefused.{or_no}
 
--- what is left of a slot
+-- a slot after the removal
 abbrev pub left_in : Graph → NodeId → Option Stored → Option Stored
 left_in g n None = None
 left_in g n (Some x) = if gone g n x.birth then None else Some x
@@ -54,7 +54,7 @@ module _ (limits : Limits) (old new : Slab Stored) (births : ℕ) (sound : AreSo
   abbrev g : Graph
   g = graph_of (seen limits old births)
 
-  -- what stands was there, and its birth does not go
+  -- a remaining node was there, and its birth is not removed
   pub stood : (k : ℕ) (x : Stored) → get new k ≡ Some x → (get old k ≡ Some x) × (gone g n x.birth ≡ false)
   stood k x e = by (get old k) refl
     where
@@ -95,7 +95,7 @@ module _ (limits : Limits) (old new : Slab Stored) (births : ℕ) (sound : AreSo
   pub branch_counted : slab_len new + (1 + interval_count (shape_of g n)) ≡ slab_len old → slab_len new ≡ node_count (left g n)
   branch_counted len = let all = count_left g sound.lawful n movable free in let was = sound.counted in omega arith
 
-  -- a node that stands agrees as before, but for a file of which an index goes
+  -- a remaining node agrees as before, except a file whose index is removed
   pub branch_agrees : (k : ℕ) (y : Stored) → get new k ≡ Some y → is_index_of_shape (record { key = k; birth = y.birth }) (shape_of g n) ≡ false
       → AgreesAt (left g n) k (vertex_of y)
   branch_agrees k y e other =
@@ -115,7 +115,7 @@ module _ (limits : Limits) (old new : Slab Stored) (births : ℕ) (sound : AreSo
       by id not_its (Interval place) s h apart = tt
       by id not_its (Rec keys) s h apart = tt
 
-  -- where no index goes, all agrees
+  -- if no index is removed, all agrees
   pub branch_sound : is_index_shape (shape_of g n) ≡ false → slab_len new + 1 ≡ slab_len old → AreSound limits new births
   branch_sound no_index len = record {
     lawful = subst IsLawfulGraph (sym branch_graph) (left_lawful g sound.lawful n movable free);
@@ -141,7 +141,7 @@ module _ (limits : Limits) (old new : Slab Stored) (births : ℕ) (sound : AreSo
       not_of (Some (Interval place)) h f = refl
       not_of (Some (Rec keys)) h f = refl
 
--- what is no index goes alone
+-- a node that is no index is removed alone
 module _ (limits : Limits) (old new : Slab Stored) (births : ℕ) (sound : AreSound limits old births) (n : NodeId)
     (movable : is_movable_shape (shape_of (graph_of (seen limits old births)) n) ≡ true) (free : is_in_use (graph_of (seen limits old births)) n ≡ false) where
   abbrev h : Graph
@@ -180,7 +180,7 @@ module _ (limits : Limits) (old new : Slab Stored) (births : ℕ) (sound : AreSo
     pub lone_sound : slab_len new + 1 ≡ slab_len old → AreSound limits new births
     lone_sound len = branch_sound limits old new births sound n movable free lone no_index len
 
--- a file that lists an index no more
+-- a file that no longer lists an index
 unlisted : (b : Body) (n : NodeId) (adopted : Bool) → shape_in_body b ≡ File adopted → (shape_in_body (body_without_index b n) ≡ File adopted)
     × (indexes_in_body (body_without_index b n) ≡ filter (λ listed. not (same_node listed n)) (indexes_in_body b))
     × (records_in_body (body_without_index b n) ≡ records_in_body b)
@@ -194,7 +194,7 @@ unlisted (body.TwoKeys keys above) n adopted e = cc
 unlisted (body.ThreeKeys keys above) n adopted e = cc
 unlisted (body.ManyKeys keys above) n adopted e = cc
 
--- an index goes with its intervals, and its file lists it no more
+-- an index is removed with its intervals, and its file no longer lists it
 module _ (limits : Limits) (old mid : Slab Stored) (births : ℕ) (sound : AreSound limits old births) (n : NodeId)
     (index : is_index_shape (shape_of (graph_of (seen limits old births)) n) ≡ true) (free : is_in_use (graph_of (seen limits old births)) n ≡ false)
     (x : Stored) (there : get old n.key ≡ Some x) (f : NodeId) (bs : List ℕ) (shape : shape_in_body x.body ≡ Index f bs)
@@ -392,7 +392,7 @@ module _ (limits : Limits) (old mid : Slab Stored) (births : ℕ) (sound : AreSo
             ∙ same_node-differ (record { key = k; birth = y.birth }) f (λ same. ne (ap (λ m. m.key) same)))));
       }
 
-      -- the parents of the index have a child less each
+      -- the parents of the index have one child less each
       module _ (keep : KeepChildren old (child_count old)) where
         abbrev pub parents : List NodeId
         parents = parents_in_body x.body

@@ -1,4 +1,4 @@
--- A node is written with other parents, or as a record with other keys: what is kept beside the graph still agrees.
+-- A node is written with other parents, or as a record with other keys: what is stored beside the graph still agrees.
 use Rattle.std.specs.Prelude.{◌≡◌, ℕ, true, ◌==◌, ◌&&◌, length, Some, count_by}
 use Rattle.std.specs.List.{list_any}
 use Rattle.std.proofs.Common.{refl, sym, ap, ◌∙◌, subst}
@@ -46,7 +46,7 @@ module _ (limits : Limits) (old new : Slab Stored) (births : ℕ) (sound : AreSo
           (λ e. ap (λ o. is_record_shape (shape_in o) && list_any (same_node f) (parents_in o))
           (at_other g n (node_of n.key (vertex_of was)) (node_of n.key (vertex_of x)) node_was refl q (same_node-other q n e))))
 
-      -- what was kept beside a node agrees
+      -- what was stored beside a node agrees
       pub still_kept : (k : ℕ) (y : Stored) → get old k ≡ Some y → AgreesAt changed k (vertex_of y)
       still_kept k y e =
           let shape : shape_of g (record { key = k; birth = y.birth }) ≡ Some (shape_in_body y.body) =

@@ -1,4 +1,4 @@
--- Inner nodes keep how many children they have, where files and records change.
+-- Inner nodes store the number of their children, when files and records change.
 use Rattle.std.specs.Prelude.{◌≡◌, ◌≢◌, ℕ, ◌+◌, ◌-◌, ◌<◌, ◌≤◌, ◌^◌, ◌==◌, if◌then◌else◌, length, Bool, true, false, List, [], Some, None, slice_set}
 use Rattle.std.proofs.Common.{refl, sym, ap, ◌∙◌, arith}
 use Rattle.gl_modes.proofs.Words.{split, none_some, some_is, not_true, same_number, other_number}
@@ -73,7 +73,7 @@ module _ (limits : Limits) (old new : Slab Stored) (births : ℕ) (sound : AreSo
       (λ is. no_inner_file (body_adopted slot.stored.body) true (adopted_file slot.stored.body slot.adopted slot.shape) is)
       (λ n h h'. refl)
 
--- a record comes, and its file counts it
+-- a record is added, and its file counts it
 module _ (limits : Limits) (old mid new : Slab Stored) (births key : ℕ) (x : Stored) (sound : AreSound limits old births)
     (sound' : AreSound limits new (births + 1)) (keep : KeepChildren old (child_count old)) (free : get old key ≡ None)
     (u : Updates old mid key (Some x)) (f : NodeId) (keys : List ℕ)
@@ -100,7 +100,7 @@ module _ (limits : Limits) (old mid new : Slab Stored) (births key : ℕ) (x : S
       (λ n h h'. record_slot limits new (births + 1) sound' key x (written.others key apart ∙ u.changed) keys shape n h'
       ∙ sym (ap (is_child_slot n) free))
 
--- a record goes, and its file counts it no more
+-- a record is removed, and its file no longer counts it
 module _ (limits : Limits) (old mid new : Slab Stored) (births key : ℕ) (x : Stored) (sound : AreSound limits old births)
     (sound' : AreSound limits new births) (keep : KeepChildren old (child_count old)) (there : get old key ≡ Some x)
     (u : Updates old mid key None) (f : NodeId) (keys : List ℕ)
@@ -144,7 +144,7 @@ module _ (limits : Limits) (old new : Slab Stored) (births key : ℕ) (x x' : St
       (λ n h h'. record_slot limits new births sound' key x' u.changed keys' shape' n h'
       ∙ sym (ap (is_child_slot n) there ∙ record_slot limits old births sound key x there keys shape n h))
 
--- where a record is stored
+-- the place of a stored record
 pub stored_record : (limits : Limits) (s : Slab Stored) (births : ℕ) (sound : AreSound limits s births) (r : NodeId)
     → is_record_shape (shape_of (graph_of (seen limits s births)) r) ≡ true
     → (x : Stored) × (get s r.key ≡ Some x) × (keys : List ℕ) × (shape_in_body x.body ≡ Rec keys)
@@ -159,7 +159,7 @@ stored_record limits s births sound r rec =
           ∙ ap (shape_of (graph_of (seen limits s births))) is_r ∙ keys.1),
     )
 
--- with another key it is one
+-- with another key it is still a record
 pub record_with_key : (x : Stored) (keys : List ℕ) → shape_in_body x.body ≡ Rec keys → (place key : ℕ) (interval : NodeId)
     → (keys' : List ℕ) × (shape_in_body (body_rekeyed x.body place key interval) ≡ Rec keys')
 record_with_key x keys e place key interval = by x.body e
@@ -186,7 +186,7 @@ plain_children (body.TwoKeys keys above) p e = cc
 plain_children (body.ThreeKeys keys above) p e = cc
 plain_children (body.ManyKeys keys above) p e = cc
 
--- an inner node or a file comes, and its parents have a child more each
+-- an inner node or a file is added, and its parents have one child more each
 module _ (limits : Limits) (old mid : Slab Stored) (births key : ℕ) (x : Stored) (sound : AreSound limits old births)
     (sound' : AreSound limits mid (births + 1)) (keep : KeepChildren old (child_count old)) (free : get old key ≡ None)
     (u : Updates old mid key (Some x)) (next : x.birth ≡ births + 1) (plain : IsPlainBody x.body) (ps : List NodeId) (parents : parents_in_body x.body ≡ ps)
@@ -236,7 +236,7 @@ module _ (limits : Limits) (old mid : Slab Stored) (births key : ℕ) (x : Store
     pub born_graph : graph_of (seen limits new (births + 1)) ≡ graph_of (seen limits mid (births + 1))
     born_graph = up_graph limits mid (births + 1) sound' (child_count old) keep_born ps inner_born distinct counts_born new re
 
--- a node gets other parents: the old ones have a child less each, and then the new ones a child more
+-- a node gets other parents: the old ones have one child less each, and then the new ones one child more
 module _ (limits : Limits) (old mid : Slab Stored) (births : ℕ) (sound : AreSound limits old births) (sound' : AreSound limits mid births)
     (keep : KeepChildren old (child_count old)) (n : NodeId) (movable : is_movable_shape (shape_of (graph_of (seen limits old births)) n) ≡ true)
     (fresh : Vec NodeId Global)

@@ -1,4 +1,4 @@
--- A node goes with its children, and its parents have a child less each.
+-- A node is removed with its children, and its parents have one child less each.
 use Rattle.std.specs.Prelude.{◌≡◌, ℕ, ◌+◌, ◌-◌, ◌≤◌, true, false, ◌==◌, List, length, Some, None}
 use Rattle.std.specs.List.{list_any}
 use Rattle.std.proofs.Common.{refl, sym, ap, ◌∙◌, arith}

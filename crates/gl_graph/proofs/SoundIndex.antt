@@ -1,4 +1,4 @@
--- An index is born with its intervals: what is kept beside the graph agrees.
+-- An index is born with its intervals: what is stored beside the graph agrees.
 use Rattle.std.specs.Prelude.{◌≡◌, ◌≢◌, ℕ, zero, suc, ◌+◌, ◌<◌, ◌≤◌, ◌^◌, true, not, ◌==◌, List, [], ◌∷◌, ◌++◌, length, Option, Some, None, slice_get}
 use Rattle.std.specs.Prelude.{Vec, Bool}
 use Rattle.std.specs.List.{list_any}
@@ -190,7 +190,7 @@ module _ (limits : Limits) (old mid grown : Slab Stored) (births key : ℕ) (x :
       ))
       (sound.agree k y e)
 
-  -- so does what has come
+  -- so do the added nodes
   pub grown_agrees : (k : ℕ) (y : Stored) → k ≢ file.key → k ≢ key → get grown k ≡ Some y → AgreesAt after k (vertex_of y)
   grown_agrees k y ne other e =
       ⊎_elim (λ (was : get mid k ≡ Some y). old_agrees k y ne (sym (u.others k other) ∙ was))
@@ -298,7 +298,7 @@ module _ (limits : Limits) (old mid grown : Slab Stored) (births key : ℕ) (x :
     pub index_made : IsIndexBorn g (graph_of (seen limits fourth total)) id ps file bounds
     index_made = record { interval_keys = keys; intervals = born.many; keys_apart = apart_keys; keys_free = free_keys; birth = refl; after = index_graph }
 
-    -- the parents of the index have a child more each
+    -- the parents of the index have one child more each
     module _ (keep : KeepChildren old (child_count old)) where
       fourth_was : (k : ℕ) (y : Stored) → get fourth k ≡ Some y → shape_in_body y.body ≡ Inner → WasInner old k y
       fourth_was k y e is =

@@ -1,4 +1,4 @@
--- Of a file rows were adopted: what is kept beside the graph still agrees.
+-- A file is marked as one of which rows were adopted: what is stored beside the graph still agrees.
 use Rattle.std.specs.Prelude.{◌≡◌, ℕ, Bool, true, Some, is_some}
 use Rattle.std.proofs.Common.{refl, sym, ap, ◌∙◌, subst}
 use Rattle.gl_modes.specs.declared.node.NodeId.{NodeId}
@@ -29,7 +29,7 @@ adopted_shape (body.TwoKeys keys above) = refl
 adopted_shape (body.ThreeKeys keys above) = refl
 adopted_shape (body.ManyKeys keys above) = refl
 
--- what is kept beside a node does not depend on the mark
+-- what is stored beside a node does not depend on the mark
 same_beside : (g : Graph) (n : NodeId) (was : Stored) (b : Body) → KeepsBeside g n (vertex_of (record was { body = b })) (shape_in_body b)
     → KeepsBeside g n (vertex_of (record was { body = body_adopted b })) (shape_in_body (body_adopted b))
 same_beside g n was (body.Inner children above) k = k

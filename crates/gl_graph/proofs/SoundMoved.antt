@@ -1,4 +1,4 @@
--- An inner node, a file or an index gets other parents: what is kept beside the graph still agrees.
+-- An inner node, a file or an index gets other parents: what is stored beside the graph still agrees.
 use Rattle.std.specs.Prelude.{◌≡◌, ℕ, true, false, ◌&&◌, List, [], ◌∷◌, Option, Some, None, is_some}
 use Rattle.std.specs.List.{list_all}
 use Rattle.std.proofs.Common.{refl, sym, ap, ◌∙◌, subst}
@@ -30,7 +30,7 @@ pub inner_live : (g : Graph) (ps : List NodeId) → are_inner g ps ≡ true → 
 inner_live g [] h = refl
 inner_live g (p ∷ ps) h = let t = and_both _ (are_inner g ps) h in both _ _ (plain_live g p (inner_plain _ t.0)) (inner_live g ps t.1)
 
--- what is kept beside a node does not depend on its parents
+-- what is stored beside a node does not depend on its parents
 same_beside : (g : Graph) (n : NodeId) (was : Stored) (fresh : Vec NodeId Global) (b : Body)
     → KeepsBeside g n (vertex_of (record was { body = b })) (shape_in_body b)
     → KeepsBeside g n (vertex_of (record was { body = body_with_parents b fresh })) (shape_in_body (body_with_parents b fresh))

@@ -1,4 +1,4 @@
--- A record is born: what is kept beside the graph agrees again once its file counts it.
+-- A record is born: what is stored beside the graph agrees again after its file counts it.
 use Rattle.std.specs.Prelude.{◌≡◌, ◌≢◌, ℕ, ◌+◌, ◌≤◌, true, false, ◌==◌, ◌&&◌, List, [], ◌∷◌, length, Some, None, is_some, cond, count_by, Bool}
 use Rattle.std.specs.List.{list_any}
 use Rattle.std.proofs.Common.{refl, sym, ap, ap₂, ◌∙◌, subst, arith}
@@ -24,7 +24,7 @@ use Rattle.gl_graph.proofs.Slots.{node_there, inserted_apart, inserted_free, wri
 use Rattle.gl_graph.proofs.Beside.{FileSlot, file_slot}
 use Rattle.gl_graph.proofs.Kept.{born_within, after, there, counted, old_kept}
 
--- a file with another count of records is seen as before, and keeps all else
+-- a file with another count of records is the same in the graph, and keeps all else
 module _ (x : Stored) (adopted : Bool) (file : shape_in_body x.body ≡ File adopted) (records : ℕ) where
   abbrev pub recounted : Stored
   recounted = record x { body = body_with_records x.body records }
@@ -64,7 +64,7 @@ module _ (x : Stored) (adopted : Bool) (file : shape_in_body x.body ≡ File ado
   recounted_agrees h n indexes count =
       subst (KeepsBeside h n (vertex_of recounted)) (sym recounted_shape) ((by_body x.body file).1 ∙ indexes, count_written x.body file ∙ count)
 
--- all agrees but one file's count of records
+-- all agrees except one file's count of records
 pub record IsSoundBut (limits : Limits) (s : Slab Stored) (births : ℕ) (key : ℕ) (f : Stored) : Type 0 where
   pub lawful : IsLawfulGraph (graph_of (seen limits s births))
   pub apart : AreBornApart s

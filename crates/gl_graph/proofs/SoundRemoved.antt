@@ -1,4 +1,4 @@
--- A record is taken out, and its file counts one less.
+-- A record is removed, and its file counts one less.
 use Rattle.std.specs.Prelude.{◌≡◌, ℕ, ◌+◌, true, false, Option, Some, None, is_some, cond}
 use Rattle.std.proofs.Common.{sym, ap, ◌∙◌, subst, arith, rules}
 use Rattle.gl_modes.proofs.NodeLemmas.{same_node-refl, same_node-differ}

@@ -1,4 +1,4 @@
--- What it says of the graph that no test finds a reason to refuse.
+-- What the graph is like if no test finds a reason to refuse.
 use Rattle.std.specs.Prelude.{◌≡◌, ℕ, ◌+◌, ◌<◌, ◌≤◌, ◌^◌, Bool, true, false, not, ◌||◌, ◌==◌, nat_lt, nat_le, List, [], ◌∷◌, length, Option, Some}
 use Rattle.std.specs.Prelude.{None, Result, Ok, Err, ◌++◌, if◌then◌else◌, ◌-◌}
 use Rattle.std.specs.List.{list_all}
@@ -139,7 +139,7 @@ reindex_unrefused g ps f bs e =
       room = enough_room g (2 + length bs) r.0;
     }
 
--- where an index can be made, it can be made again
+-- if an index can be made, one can be made also with adopted rows
 pub index_again : (g : Graph) (ps : List NodeId) (f : NodeId) (bs : List ℕ) → index_refusal g ps f bs ≡ None → reindex_refusal g ps f bs ≡ None
 index_again g ps f bs e =
     let a = not_refused (worn_births g) _ e in

@@ -7,7 +7,7 @@ use Rattle.gl_graph.specs.View.{graph_of}
 use Rattle.gl_graph.proofs.Unrefused.{verdict_ok}
 use Rattle.gl_graph.proofs.graph.Graph.check_index.Goals as goal
 
--- behind a test that finds nothing, what two tests find is what all find
+-- after a test that finds nothing, the refusal of two tests is that of all
 refused_in_two : (w a b : Option Refusal) (rest : List (Option Refusal)) (r : Refusal) → w ≡ None
     → Err r ≡ verdict (first_refusal (a ∷ b ∷ [])) → first_refusal (w ∷ a ∷ b ∷ rest) ≡ Some r
 refused_in_two None None None rest r w e = absurd (cc)
@@ -15,7 +15,7 @@ refused_in_two None None (Some x) rest r w e = cc
 refused_in_two None (Some x) b rest r w e = cc
 refused_in_two (Some y) a b rest r w e = absurd (cc)
 
--- behind four tests that find nothing, the others decide
+-- after four tests that find nothing, the others decide
 passed_four : (w a b d : Option Refusal) (rest : List (Option Refusal)) → w ≡ None → first_refusal (a ∷ b ∷ []) ≡ None → d ≡ None
     → first_refusal (w ∷ a ∷ b ∷ d ∷ rest) ≡ first_refusal rest
 passed_four None None None None rest w e d = refl

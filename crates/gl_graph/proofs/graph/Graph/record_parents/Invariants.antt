@@ -4,7 +4,7 @@ use Rattle.gl_graph.specs.Graph.{intervals_of, record_parents}
 use Rattle.gl_graph.specs.View.{graph_of}
 use Rattle.gl_graph.proofs.graph.Graph.record_parents.Given as goal
 
--- what is there, and the intervals of the indexes that are left, are the parents
+-- the parents so far, and the intervals of the indexes that are left, are the parents
 abbrev pub invariant-loop-place : goal.invariant-loop-place
 invariant-loop-place l = record {
   so_far : l.parents.items ++ intervals_of (graph_of l.self) (drop l.place l.index-items) (drop l.place l.keys) ≡ record_parents
