@@ -1,4 +1,4 @@
--- Who stands ahead of whom, read from the front.
+-- Which waiters are ahead of which, read from the front.
 use Rattle.gl_slots.specs.Limit.{most_slots}
 use Rattle.std.proofs.Common.{◌≡◌, ℕ, zero, suc, ◌<◌, true, false, ◌&&◌, not, List, [], ◌∷◌, length, take, get_or, ap, ap₂, arith}
 use Rattle.std.specs.List.{list_all, prefix_len}
@@ -6,7 +6,7 @@ use Rattle.std.proofs.lemmas.Bool.Decides.{nat_tests}
 use Rattle.gl_header.specs.Header.{Waiter, is_waiter, is_ahead, is_among_waiters}
 use Rattle.gl_header.specs.Sound.{is_entry}
 
--- the first wait of t stands at i
+-- the first wait of t is at i
 pub ahead-first : (q : List Waiter) (t u i : ℕ) (d : Waiter) → i < length q → (get_or q i d).0 ≡ t → is_among_waiters t (take i q) ≡ false
     → is_ahead q t u ≡ is_among_waiters u (take i q)
 ahead-first q t u i d low at none =

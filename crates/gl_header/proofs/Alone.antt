@@ -1,4 +1,4 @@
--- A node that one slot holds and nobody waits for: its law, and what an ask there answers. For the places and the headers.
+-- A node that one slot holds and nobody waits for: its law, and the answer to a request there. For the places and the headers.
 use Rattle.gl_slots.specs.Limit.{most_slots}
 use Rattle.std.proofs.Common.{◌≡◌, ◌≢◌, ◌∙◌, ℕ, ◌<◌, Bool, true, false, ◌&&◌, ◌||◌, not, [], refl, sym, ap, inl, inr, ⊎_elim, arith}
 use Rattle.std.specs.Prelude.{◌==◌, if◌then◌else◌}
@@ -22,7 +22,7 @@ use Rattle.gl_header.proofs.Lawful.{lawful-of}
 use Rattle.gl_header.proofs.Ranges.{equal_tests}
 use Rattle.gl_header.proofs.Unused.{unused-nobody, unused-true}
 
--- what is held where t alone holds, in the mode m
+-- the grants if t alone holds, in the mode m
 
 pub alone-here : (t : ℕ) (m : Mode) → with_mode nobody t m t ≡ m
 alone-here t m = ap (λ b. if b then m else NL) (number_same t t refl)
@@ -85,7 +85,7 @@ module _ (t : ℕ) (m : Mode) (l : IsLawfulHeader (held_by_one t m)) where
   pub alone-below : t < most_slots
   alone-below = ⊎_elim (λ lt. lt) (λ le. absurd (alone-lock (sym (alone-here t m) ∙ l.members_below t le))) (cases_lt t most_slots)
 
--- an ask where nobody holds
+-- a request if nobody holds
 
 module _ (t : ℕ) (m : Mode) where
   pub free-answer : Granted m ≡ asked unused_header t m
@@ -103,7 +103,7 @@ module _ (t : ℕ) (m : Mode) where
       ap (λ (g : Members). if enters slot_limit g [] t (supremum (g t) m) then [] else placed g [] t (supremum (g t) m)) unused-nobody
       ∙ ap (λ b. if b then [] else placed nobody [] t m) (nobody-enters slot_limit t m))
 
--- an ask of the one holder
+-- a request of the one holder
 
 module _ (t : ℕ) (m x : Mode) where
   pub own-wanted : supremum m x ≡ wanted (held_by_one t m) t x
@@ -126,7 +126,7 @@ module _ (t : ℕ) (m x : Mode) where
   pub own-queue : [] ≡ asked_queue (held_by_one t m) t x
   own-queue = sym (ap (λ b. if b then [] else placed (with_mode nobody t m) [] t (wanted (held_by_one t m) t x)) own-granted)
 
--- an ask of another slot is granted where the mode goes with the holder's
+-- a request of another slot is granted if the mode is compatible with the holder's
 pub other-granted : (t : ℕ) (m : Mode) (s : ℕ) (x : Mode) → t < most_slots → s ≢ t → are_compatible x m ≡ is_granted (held_by_one t m) s x
 other-granted t m s x below ne =
     sym (ap (λ (k : Mode). fits slot_limit (with_mode nobody t m) s (supremum k x) && (not (same_mode k NL) || true)) (alone-there t m s ne)

@@ -1,4 +1,4 @@
--- What an ask, a drop and a dismissal leave.
+-- The results of a request, a drop and a dismissal.
 use Rattle.gl_slots.specs.Limit.{most_slots}
 use Rattle.std.proofs.Common.{◌≡◌, ℕ, ◌<◌, Bool, true, false, ◌||◌, List, refl, ap, ◌∙◌}
 use Rattle.std.specs.Prelude.{◌≢◌, if◌then◌else◌}

@@ -24,22 +24,22 @@ use Rattle.gl_header.proofs.ByKey.{changed-put, found, in-place, none_but, place
 use Rattle.gl_header.proofs.Changed.{IsAsked, IsChanged, asked-is, asked-used, has_holder, has_waiter, held-changed, queue-changed}
 use Rattle.gl_header.proofs.Unused.{unused-nobody, unused-true}
 
--- what is seen of the fields is what their view says
+-- the fields show what their view shows
 pub entries_are : {v w : HeadersState} → v ≡ w → v.entries ≡ w.entries
 entries_are e = ap (λ (v : HeadersState). v.entries) e
 
--- a header that stands with its birth is found by it
+-- a header that is stored with its birth is found by it
 pub own_header : (b : ℕ) (h : HeaderState) → header_in b (Some (b, h)) ≡ Some h
 own_header b h = ap (λ t. cond t (Some h) None) (number_same b b refl)
 
--- in a place that has the node of this birth or none, the header of that node is the one that stands there
+-- in a place that has the node of this birth or none, the header of that node is the one stored there
 pub own-header : (b : ℕ) (p : Place) → IsOf b p → header_or_new (header_in b (stands p)) ≡ header_of (stands p)
 own-header b p own = cases_of (stands p)
     (λ none. ap (λ s. header_or_new (header_in b s)) none ∙ sym (ap header_of none))
     (λ s some. ap (λ x. header_or_new (header_in b x)) some
     ∙ (ap (λ t. header_or_new (cond t (Some s.1) None)) (number_same b s.0 (sym (own.birth s some))) ∙ sym (ap header_of some)))
 
--- a header that nobody uses says what a new one says
+-- an unused header shows what a new one shows
 pub idle-is : (h : HeaderState) → IsLawfulHeader h → is_unused h ≡ true → (members_of h ≡ members_of unused_header) × (h.queue ≡ [])
 idle-is h l u = (fun_ext (unused-true h l u).0 ∙ sym unused-nobody, (unused-true h l u).1)
 
@@ -50,7 +50,7 @@ free-place = record { lawful = λ s e. absurd (none_some e); used = λ s e. absu
 pub free-of : (b : ℕ) → IsOf b Free
 free-of b = record { birth = λ s e. absurd (none_some e) }
 
--- a place where this header stands, with the birth
+-- a place with this header and this birth
 pub place-is : (p : Place) (b : ℕ) (h : HeaderState) → stands p ≡ Some (b, h) → IsLawfulHeader h → is_unused h ≡ false → IsPlace p
 place-is p b h is l u = record {
   lawful = λ s e. subst (λ (x : ℕ × HeaderState). IsLawfulHeader x.1) (some_is (sym is ∙ e)) l;
@@ -60,11 +60,11 @@ place-is p b h is l u = record {
 pub of-is : (p : Place) (b : ℕ) (h : HeaderState) → stands p ≡ Some (b, h) → IsOf b p
 of-is p b h is = record { birth = λ s e. sym (ap (λ (x : ℕ × HeaderState). x.0) (some_is (sym is ∙ e))) }
 
--- the place of a key within the places is what stands there
+-- the place of a key below the number of places is the one stored there
 pub at_index : (ps : List Place) (k : ℕ) (x : Place) → k < length ps → x ≡ slice_index_or ps k x → place_at ps k ≡ x
 at_index ps k x lt is = get_or_default ps k Free x lt ∙ sym is
 
--- what stands in the place of a node, and in no other
+-- what is stored at the place of a node, and at no other
 pub record IsAt (ps : List Place) (es : Entries) (n : NodeId) (p : Place) : Type 0 where
   pub within : n.key < length ps
   pub place : IsPlace p
@@ -76,7 +76,7 @@ module _ (ps : List Place) (a : ArePlaces ps) (es : Entries) (same : entries_in 
   pub found_in : header_at es n ≡ header_in n.birth (stands (place_at ps n.key))
   found_in = ap (λ hs. header_at hs n) (sym same) ∙ found ps n
 
-  -- of the key one node at most has a header
+  -- at most one node of the key has a header
   pub alone_by_key : (h : HeaderState) → header_at es n ≡ Some h → HasItsKey es n
   alone_by_key h has = record {
     others = λ q ne k. ap (λ hs. header_at hs q) (sym same) ∙ (found ps q ∙ (ap (λ j. header_in q.birth (stands (place_at ps j))) k
@@ -87,7 +87,7 @@ module _ (ps : List Place) (a : ArePlaces ps) (es : Entries) (same : entries_in 
   pub lawful-at : (h : HeaderState) → header_at es n ≡ Some h → IsLawfulHeader h
   lawful-at h has = (a.each n.key).lawful (n.birth, h) (in-place n.birth (stands (place_at ps n.key)) h (sym found_in ∙ has))
 
-  -- where the node has a header, it stands at the node's place
+  -- if the node has a header, it is at the node's place
 
   module _ (h : HeaderState) (has : header_at es n ≡ Some h) where
     there : stands (place_at ps n.key) ≡ Some (n.birth, h)
@@ -109,7 +109,7 @@ module _ (ps : List Place) (a : ArePlaces ps) (es : Entries) (same : entries_in 
       header = ap (λ p. header_of (stands p)) (sym at) ∙ (ap header_of there ∙ sym (ap header_or_new has));
     }
 
-  -- so stands the node that somebody holds, or waits for
+  -- so is a node with a holder or a waiter
 
   pub held_place : (t : ℕ) → holds (members_at es n) t ≡ true → n.key < length ps
   held_place t h = let has = has_holder es n t h in has_place has.0 has.1
@@ -123,7 +123,7 @@ module _ (ps : List Place) (a : ArePlaces ps) (es : Entries) (same : entries_in 
   pub awaited_at : (t : ℕ) → is_among_waiters t (queue_of es n) ≡ true → (x : Place) → x ≡ slice_index_or ps n.key x → IsAt ps es n x
   awaited_at t h = let has = has_waiter es n t h in is_at has.0 has.1
 
-  -- where nobody holds or waits for another node of the key
+  -- if no other node of the key has a holder or a waiter
 
   module _ (alone : HasItsKey es n) where
     own_alone : IsOf n.birth (place_at ps n.key)
@@ -146,7 +146,7 @@ module _ (ps : List Place) (a : ArePlaces ps) (es : Entries) (same : entries_in 
           ∙ (sym (own-header n.birth (place_at ps n.key) own_alone) ∙ sym (ap header_or_new found_in));
     }
 
-  -- Something else comes to stand at the place of the node.
+  -- The place of the node changes.
 
   module _ (lt : n.key < length ps) (before : IsOf n.birth (place_at ps n.key)) (x : Place) (is : IsPlace x) (own : IsOf n.birth x) where
     pub write-places : ArePlaces (slice_set ps n.key x)
@@ -164,7 +164,7 @@ module _ (ps : List Place) (a : ArePlaces ps) (es : Entries) (same : entries_in 
     write-queue ws e = queue-changed es (entries_in (slice_set ps n.key x)) n (header_in n.birth (stands x)) ws write-changed
         (ap (λ (h : HeaderState). h.queue) (own-header n.birth x own) ∙ e)
 
-  -- what an ask leaves comes to stand there
+  -- the place gets the result of a request
   module _ (p : Place) (i : IsAt ps es n p) (t : ℕ) (m : Mode) (lock : m ≢ NL) (x : Place) (asked : IsAskedPlace p n.birth t m x) where
     asked_place : IsPlace x
     asked_place = place-is x n.birth asked.header asked.there asked.lawful
@@ -199,13 +199,13 @@ module _ (ps : List Place) (a : ArePlaces ps) (es : Entries) (same : entries_in 
   pub free-own : (b : ℕ) → IsFreeKey es k → IsOf b (place_at ps k)
   free-own b free = record { birth = λ s some. absurd (none_some (sym (free_standing free) ∙ some)) }
 
--- a place where nothing stands is free
+-- a place without a node is free
 pub nothing-free : (p : Place) → stands p ≡ None → p ≡ Free
 nothing-free Free e = refl
 nothing-free (Held t m b) e = absurd (none_some (sym e))
 nothing-free (Shared x) e = absurd (none_some (sym e))
 
--- who has no box has no queue
+-- a header without a box has no queue
 pub no_box-no_queue : (p : Place) → ((x : Box SharedBox Global) → p ≡ Shared x → ⊥) → queue_by p ≡ []
 no_box-no_queue Free none = refl
 no_box-no_queue (Held t m b) none = refl

@@ -18,7 +18,7 @@ use Rattle.gl_header.specs.declared.places.Place.{Place}
 use Rattle.gl_header.specs.declared.places.Place.TheVariants.{Free}
 use Rattle.gl_header.proofs.Changed.{IsChanged}
 
--- what stands in a place: a birth, and a header
+-- what is stored at a place: a birth and a header
 abbrev pub Standing : Type 0
 Standing = Option (ℕ × HeaderState)
 
@@ -26,11 +26,11 @@ Standing = Option (ℕ × HeaderState)
 other_key : (n m : NodeId) → n.key ≢ m.key → same_node n m ≡ false
 other_key n m ne = same_node-differ n m (λ e. ne (ap (λ (x : NodeId). x.key) e))
 
--- nodes of one key are told apart by their births
+-- nodes with the same key differ in their births
 same_key : (n m : NodeId) → n.key ≡ m.key → same_node n m ≡ (n.birth == m.birth)
 same_key n m e = ap (λ b. b && (n.birth == m.birth)) (number_same n.key m.key e)
 
--- a look-up among entries with one more in front
+-- a look-up among entries with one more at the front
 
 look-past : (n : NodeId) (k : ℕ) (s : Standing) (es : Entries) → n.key ≢ k → header_at (entered k s es) n ≡ header_at es n
 look-past n k None es ne = refl
@@ -47,7 +47,7 @@ none-below from [] n lt = refl
 none-below from (p ∷ ps) n lt =
     look-past n from (stands p) (entries_from (from + 1) ps) (λ e. absurd (omega arith)) ∙ none-below (from + 1) ps n (omega arith)
 
--- a look-up finds what stands at the place of the node's key
+-- a look-up finds what is stored at the place of the node's key
 found-from : (from : ℕ) (ps : List Place) (n : NodeId) (k : ℕ) → n.key ≡ from + k
     → header_at (entries_from from ps) n ≡ header_in n.birth (stands (place_at ps k))
 found-from from [] n k e = refl
@@ -59,9 +59,9 @@ found-from from (p ∷ ps) n (suc k) e =
 pub found : (ps : List Place) (n : NodeId) → header_at (entries_in ps) n ≡ header_in n.birth (stands (place_at ps n.key))
 found ps n = found-from 0 ps n n.key (omega arith)
 
--- no node stands twice
+-- no node is there twice
 
--- nobody among the entries is n
+-- no entry is n's
 abbrev IsAway : NodeId → Entries → Type 0
 IsAway n es = AllByRecursion (λ m. same_node n m ≡ false) (keys_of es)
 
@@ -88,7 +88,7 @@ distinct-from from (p ∷ ps) =
 pub distinct : (ps : List Place) → AreDistinct (entries_in ps)
 distinct ps = distinct-from 0 ps
 
--- the header that is found in a place stands there, with the birth
+-- the header that is found at a place is stored there, with the birth
 pub in-place : (b : ℕ) (s : Standing) (h : HeaderState) → header_in b s ≡ Some h → s ≡ Some (b, h)
 in-place b None h e = absurd (none_some e)
 in-place b (Some s) h e = split (b == s.0)
@@ -98,7 +98,7 @@ in-place b (Some s) h e = split (b == s.0)
     pair : s.0 ≡ b → s.1 ≡ h → s ≡ (b, h)
     pair x y = λ i. (x i, y i)
 
--- the header that a look-up finds stands at the node's place
+-- the header that a look-up finds is at the node's place
 pub standing : (ps : List Place) (n : NodeId) (h : HeaderState) → header_at (entries_in ps) n ≡ Some h → stands (place_at ps n.key) ≡ Some (n.birth, h)
 standing ps n h e = in-place n.birth (stands (place_at ps n.key)) h (sym (found ps n) ∙ e)
 
@@ -128,7 +128,7 @@ places-put ps ps' k x put a is = record {
       (λ ne. subst IsPlace (sym (put.others j ne)) (a.each j)) (cases_eq j k);
 }
 
--- another node of the key has no header in a place of n
+-- another node of the key has no header at a place of n
 pub none_but : (n : NodeId) (p : Place) → IsOf n.birth p → (q : NodeId) → same_node n q ≡ false → q.key ≡ n.key → header_in q.birth (stands p) ≡ None
 none_but n p own q ne k = cases_of (stands p)
     (λ none. ap (header_in q.birth) none)
@@ -150,7 +150,7 @@ changed-put ps ps' n x put before after = record { at = λ q. found ps' q ∙ by
         ∙ (sym (ap (λ j. header_in q.birth (stands (place_at ps j))) k) ∙ sym (found ps q))))))
         (λ ne. ap (λ p. header_in q.birth (stands p)) (put.others q.key ne) ∙ sym (found ps q)) (cases_eq q.key n.key)
 
--- what is said of the places is said of others with the same at each key
+-- the same holds of other places with the same contents at each key
 pub places-same : (ps ps' : List Place) → ((k : ℕ) → place_at ps' k ≡ place_at ps k) → ArePlaces ps → ArePlaces ps'
 places-same ps ps' same a = record { each = λ k. subst IsPlace (sym (same k)) (a.each k) }
 
@@ -170,12 +170,12 @@ empty_places step none (y ∷ ys) f g folds =
     at here later zero = here
     at here later (suc k) = later k
 
--- empty places behind others say nothing more
+-- empty places after others add nothing
 entries-more : (ps ys : List Place) → ((k : ℕ) → entries_from k ys ≡ []) → (k : ℕ) → entries_from k (ps ++ ys) ≡ entries_from k ps
 entries-more [] ys none k = none k
 entries-more (p ∷ ps) ys none k = ap (entered k (stands p)) (entries-more ps ys none (k + 1))
 
--- places after which empty ones come: what stood stays
+-- empty places are added at the end: the old ones stay
 module _ {F : Type 0} (step : F → Place → F → Type 0) (none : (f : F) (x : Place) (g : F) → step f x g → x ≡ Free) (ps qs : List Place) (n : ℕ)
     (long : length ps ≤ n) (f : F) (more : AppendsResults step (take n ps) qs f) where
   grown : qs ≡ ps ++ more.0

@@ -1,4 +1,4 @@
--- What a change of one node's header does to all of them. For the headers, and for the crates above.
+-- How a change of one node's header changes all headers. For the headers, and for the crates above.
 use Rattle.std.proofs.Common.{◌≡◌, ◌≢◌, ℕ, Bool, true, false, ◌&&◌, not, cond, List, [], ◌∷◌, ◌++◌, ◌∙◌, refl, sym, ap, arith}
 use Rattle.std.proofs.Math.Path.{fun_ext}
 use Rattle.std.proofs.lemmas.Bool.Decides.{nat_tests}
@@ -25,7 +25,7 @@ use Rattle.gl_header.proofs.Unused.{unused-nobody, unused-true}
 pub record IsChanged (hs hs' : Entries) (n : NodeId) (o : Option HeaderState) : Type 0 where
   pub at : (q : NodeId) → header_at hs' q ≡ cond (same_node n q) o (header_at hs q)
 
--- what is held after a change, and who waits
+-- the grants and the queues after a change
 
 pub held-changed : (hs hs' : Entries) (n : NodeId) (o : Option HeaderState) (ms : Members) → IsChanged hs hs' n o → members_of (header_or_new o) ≡ ms
     → held_of hs' ≡ with_members (held_of hs) n ms
@@ -46,7 +46,7 @@ queue-changed hs hs' n o ws c e =
     by q true = e
     by q false = refl
 
--- what a node had, given to it again, changes nothing
+-- writing a node's own header again changes nothing
 
 pub with_members-same : (held : ℕ → NodeId → Mode) (n : NodeId) (ms : Members) → ((u : ℕ) → ms u ≡ held u n) → with_members held n ms ≡ held
 with_members-same held n ms e = fun_ext (λ u. fun_ext (λ q. by u q (same_node q n) refl))
@@ -62,7 +62,7 @@ with_waiters-same queue n ws e = fun_ext (λ q. by q (same_node q n) refl)
     by q true k = e ∙ ap queue (sym (same_node-equal q n k))
     by q false k = refl
 
--- who holds a node or waits for it stands in a header of the node
+-- a holder or waiter of a node is in a header of the node
 pub has_header : (hs : Entries) (n : NodeId) (test : HeaderState → Bool) → test unused_header ≡ false → test (header_or_new (header_at hs n)) ≡ true
     → (h : HeaderState) × (header_at hs n ≡ Some h)
 has_header hs n test un is =
@@ -74,14 +74,14 @@ has_holder hs n t = has_header hs n (λ h. holds (members_of h) t) (ap (λ (g : 
 pub has_waiter : (hs : Entries) (n : NodeId) (t : ℕ) → is_among_waiters t (queue_of hs n) ≡ true → (h : HeaderState) × (header_at hs n ≡ Some h)
 has_waiter hs n t = has_header hs n (λ h. is_among_waiters t h.queue) refl
 
--- What an ask leaves.
+-- The result of a request.
 
--- w is what an ask of t for m leaves of the header h
+-- w is the header h after a request of t for m
 pub record IsAsked (h : HeaderState) (t : ℕ) (m : Mode) (w : HeaderState) : Type 0 where
   pub members : members_of w ≡ asked_members h t m
   pub queue : w.queue ≡ asked_queue h t m
 
--- what is said of a header is said of its equal
+-- what holds of a header holds of its equal
 pub asked-is : (h k : HeaderState) (t : ℕ) (m : Mode) (w : HeaderState) → h ≡ k → members_of w ≡ asked_members h t m → w.queue ≡ asked_queue h t m
     → IsAsked k t m w
 asked-is h k t m w same e f = record {
@@ -105,7 +105,7 @@ placed-not_empty g q t m = by (holds g t)
     by true = one _ _
     by false = one q []
 
--- a header is needed after an ask: the slot holds or waits
+-- a header is used after a request: the slot holds or waits
 pub asked-used : (h : HeaderState) (t : ℕ) (m : Mode) (w : HeaderState) → m ≢ NL → IsLawfulHeader w → IsAsked h t m w → is_unused w ≡ false
 asked-used h t m w ne l a =
     not_true (is_unused w) (λ u. let none = unused-true w l u in split (is_granted h t m) (λ g. granted g (none.0 t)) (λ g. waits g none.1))
@@ -127,7 +127,7 @@ asked-used h t m w ne l a =
         let no : is_empty (placed (members_of h) h.queue t (wanted h t m)) ≡ true = ap is_empty (sym now ∙ e) in
         cc
 
--- what is held and who waits, where the header of n is as an ask leaves it
+-- the grants and the queues, if the header of n is as after a request
 module _ (hs hs' : Entries) (n : NodeId) (t : ℕ) (m : Mode) (w : HeaderState) (c : IsChanged hs hs' n (Some w))
     (a : IsAsked (header_or_new (header_at hs n)) t m w) where
   abbrev h : HeaderState
@@ -155,6 +155,6 @@ module _ (hs hs' : Entries) (n : NodeId) (t : ℕ) (m : Mode) (w : HeaderState) 
 pub nobody-group : (most : ℕ) → NL ≡ group_of most (λ _. NL)
 nobody-group most = group_of-unique most (λ _. NL) NL (λ u h. refl) (λ u. refl) (λ x all. all 0)
 
--- whoever comes is granted
+-- any requester is granted
 pub nobody-enters : (most t : ℕ) (m : Mode) → enters most (λ _. NL) [] t m ≡ true
 nobody-enters most t m = ap (λ b. b && true) (fits-from_all most (λ _. NL) t m (λ u ne. NL-compatible m))

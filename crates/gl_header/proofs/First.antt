@@ -1,4 +1,4 @@
--- The first grant of a header that nobody uses: every mode fits. For the group and the header.
+-- The first grant of an unused header: every mode fits. For the group and the header.
 use Rattle.std.proofs.Common.{◌≡◌, ◌∙◌, ℕ, true, false, ◌&&◌, sym, ap, ap₂}
 use Rattle.std.proofs.Math.Path.{fun_ext}
 use Rattle.gl_modes.specs.declared.mode.Mode.{Mode}
@@ -10,7 +10,7 @@ use Rattle.gl_header.specs.State.{HeaderState, IsLawfulHeader, is_granted, is_un
 use Rattle.gl_header.proofs.Fits.{fits-from_all}
 use Rattle.gl_header.proofs.Unused.{unused-true}
 
--- every mode fits where nobody holds
+-- every mode fits if nobody holds
 pub fits-nobody : (t : ℕ) (m : Mode) → fits slot_limit nobody t m ≡ true
 fits-nobody t m = fits-from_all slot_limit nobody t m (λ u ne. NL-compatible m)
 

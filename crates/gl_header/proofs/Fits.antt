@@ -1,4 +1,4 @@
--- What fits, below any limit under which all members lie.
+-- What fits, for any limit below which all members are.
 use Rattle.gl_slots.specs.Limit.{most_slots}
 use Rattle.std.proofs.Common.{◌≡◌, ℕ, ◌<◌, ◌≤◌, Bool, true, ◌&&◌, ◌||◌, List, refl, sym, ap, ap₂, ◌∙◌, ⊎_elim, arith}
 use Rattle.std.specs.Prelude.{◌==◌, ◌≢◌}
@@ -27,11 +27,11 @@ pub slot_limit-is : slot_limit ≡ most_slots
 unfolding slot_limit
 slot_limit-is = refl
 
--- a greater limit serves too
+-- the same with a greater limit
 pub within-more : (a b : ℕ) (g : Members) → a ≤ b → IsWithin a g → IsWithin b g
 within-more a b g le w u h = w u (omega arith)
 
--- one member more or changed, below the limit
+-- one more member or a changed one, below the limit
 pub within-with_mode : (most : ℕ) (g : Members) (t : ℕ) (m : Mode) → t < most → IsWithin most g → IsWithin most (with_mode g t m)
 within-with_mode most g t m lt w u le = grind (arith, nat_tests, w u)
 
@@ -52,7 +52,7 @@ fits-all most g t m w h u ne =
 pub fits-from_all : (most : ℕ) (g : Members) (t : ℕ) (m : Mode) → Fits g t m → fits most g t m ≡ true
 fits-from_all most g t m f = range-from_each _ 0 most (λ u l k. test-other u t _ (f u))
 
--- two limits under which all members lie give one test
+-- two limits above all members give the same test
 pub fits-limits : (a b : ℕ) (g : Members) (t : ℕ) (m : Mode) → IsWithin a g → IsWithin b g → fits a g t m ≡ fits b g t m
 fits-limits a b g t m w v =
     equal_tests _ _ (λ h. fits-from_all b g t m (fits-all a g t m w h)) (λ h. fits-from_all a g t m (fits-all b g t m v h))
@@ -60,7 +60,7 @@ fits-limits a b g t m w v =
 pub enters-limits : (a b : ℕ) (g : Members) (q : List Waiter) (t : ℕ) (m : Mode) → IsWithin a g → IsWithin b g → enters a g q t m ≡ enters b g q t m
 enters-limits a b g q t m w v = ap (λ x. x && (holds g t || is_empty q)) (fits-limits a b g t m w v)
 
--- a limit of at most so many slots and the limit of slots
+-- a limit of at most so many slots, and the limit of slots
 pub within-limit : (most : ℕ) (g : Members) → most ≤ most_slots → IsWithin most g → IsWithin slot_limit g
 within-limit most g le w = within-more most slot_limit g (rw slot_limit-is le) w
 
@@ -71,7 +71,7 @@ pub enters-limit : (most : ℕ) (g : Members) (q : List Waiter) (t : ℕ) (m : M
     → enters most g q t m ≡ enters slot_limit g q t m
 enters-limit most g q t m le w = enters-limits most slot_limit g q t m w (within-limit most g le w)
 
--- a mode that fits is granted: what is held stays compatible
+-- a mode that fits is granted: the grants stay compatible
 pub compatible-with_mode : (g : Members) (t : ℕ) (m : Mode) → IsCompatible g → Fits g t m → IsCompatible (with_mode g t m)
 compatible-with_mode g t m all fit u v ne =
     ⊎_elim

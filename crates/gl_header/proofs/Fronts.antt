@@ -1,4 +1,4 @@
--- What granting from a front leaves.
+-- The members and the queue after granting from the front.
 use Rattle.gl_slots.specs.Limit.{most_slots}
 use Rattle.std.proofs.Common.{◌≡◌, ℕ, ◌<◌, ◌≤◌, Bool, true, false, List, [], ◌∷◌, ◌++◌, length, drop, refl, ap, ap₂, arith}
 use Rattle.std.specs.Prelude.{if◌then◌else◌}
@@ -17,7 +17,7 @@ below-first most w q b = b w.0 (grind (arith, nat_tests))
 pub below-rest : (most : ℕ) (w : Waiter) (q : List Waiter) → AreBelow most (w ∷ q) → AreBelow most q
 below-rest most w q b t h = b t (grind arith)
 
--- the queue is its front and what stays, in the same order
+-- the queue is its front and the rest, in the same order
 pub front-and_rest : (most : ℕ) (g : Members) (q : List Waiter) → front most g q ++ pumped_queue most g q ≡ q
 front-and_rest most g [] = refl
 front-and_rest most g (w ∷ q) = by (fits most g w.0 w.1) (front-and_rest most (with_mode g w.0 w.1) q)
@@ -27,7 +27,7 @@ front-and_rest most g (w ∷ q) = by (fits most g w.0 w.1) (front-and_rest most 
     by true e = ap (λ r. w ∷ r) e
     by false e = refl
 
--- once the front is granted, the first waiter who is left does not fit
+-- after the front is granted, the first remaining waiter does not fit
 pub front-after_front : (most : ℕ) (g : Members) (q : List Waiter) → front most (pumped_members most g q) (pumped_queue most g q) ≡ []
 front-after_front most g [] = refl
 front-after_front most g (w ∷ q) = by (fits most g w.0 w.1) refl (front-after_front most (with_mode g w.0 w.1) q)
@@ -39,7 +39,7 @@ front-after_front most g (w ∷ q) = by (fits most g w.0 w.1) refl (front-after_
     by true e h = h
     by false e h = ap (λ b. if b then w ∷ front most (with_mode g w.0 w.1) q else []) e
 
--- what is held stays compatible
+-- the grants stay compatible
 pub pumped-compatible : (most : ℕ) (g : Members) (q : List Waiter) → AreBelow most q → IsWithin most g → IsCompatible g → IsCompatible (pumped_members most g q)
 pumped-compatible most g [] b w all = all
 pumped-compatible most g (v ∷ q) b w all =
@@ -58,7 +58,7 @@ granted-within most g [] b w = w
 granted-within most g (v ∷ ws) b w =
     granted-within most (with_mode g v.0 v.1) ws (below-rest most v ws b) (within-with_mode most g v.0 v.1 (below-first most v ws b) w)
 
--- who is granted waited
+-- a granted slot waited
 pub front-waited : (most : ℕ) (g : Members) (q : List Waiter) (t : ℕ) → is_among_waiters t (front most g q) ≡ true → is_among_waiters t q ≡ true
 front-waited most g [] t h = h
 front-waited most g (w ∷ q) t h =
@@ -66,7 +66,7 @@ front-waited most g (w ∷ q) t h =
     (λ e. let f = front-waited most (with_mode g w.0 w.1) q t in grind arith)
     (λ e. grind arith)
 
--- two limits under which all members and waiters lie give one front
+-- two limits above all members and waiters give the same front
 pub front-limits : (a b : ℕ) (g : Members) (q : List Waiter) → IsWithin a g → IsWithin b g → AreBelow a q → AreBelow b q → front a g q ≡ front b g q
 front-limits a b g [] w v x y = refl
 front-limits a b g (e ∷ q) w v x y =

@@ -62,13 +62,13 @@ pub group_of-least : (most : ℕ) (g : Members) (n : Mode) → ((u : ℕ) → is
 unfolding raised
 group_of-least most g n all = raised-least g (range_with_len 0 most) NL n (at_least-NL n) all
 
--- so a mode that is the least of these is the group mode
+-- so the least mode of these is the group mode
 pub group_of-unique : (most : ℕ) (g : Members) (n : Mode) → IsWithin most g → ((u : ℕ) → is_at_least n (g u) ≡ true)
     → ((x : Mode) → ((u : ℕ) → is_at_least x (g u) ≡ true) → is_at_least x n ≡ true) → n ≡ group_of most g
 group_of-unique most g n w above least =
     at_least-antisymmetric n (group_of most g) (group_of-least most g n above) (least (group_of most g) (group_of-above most g w))
 
--- two limits under which all members lie give one group mode
+-- two limits above all members give the same group mode
 pub group_of-limits : (a b : ℕ) (g : Members) → IsWithin a g → IsWithin b g → group_of a g ≡ group_of b g
 group_of-limits a b g w v = group_of-unique b g (group_of a g) v (group_of-above a g w) (group_of-least a g)
 

@@ -1,4 +1,4 @@
--- A granted group, in the words of members: its parts, what fits beside it, its supremum, and what a grant leaves.
+-- A granted group, in terms of members: its parts, what fits beside it, its supremum, and the result of a grant.
 use Rattle.gl_slots.specs.Limit.{most_slots}
 use Rattle.std.proofs.Common.{◌≡◌, ◌≢◌, ℕ, ◌<◌, ◌≤◌, Bool, true, false, cond, ◌&&◌, ◌||◌, not, refl, sym, ap, ap₂, ◌∙◌, arith}
 use Rattle.std.specs.Prelude.{◌==◌}
@@ -36,7 +36,7 @@ pub other-mode : (g : Group) (u : ℕ) → has_slot g.holders u ≡ false → ha
 other-mode g u h k =
     ap₂ (λ a b. cond a g.mode (cond b IS NL)) h k
 
--- who holds IS is no holder of the group's mode
+-- a holder of IS is no holder of the group's mode
 pub apart-other : (g : Group) (u : ℕ) → IsGroup g → has_slot g.intents u ≡ true → has_slot g.holders u ≡ false
 apart-other g u k h = not_true (has_slot g.holders u) (λ e. clash h (k.apart u e))
 
@@ -48,7 +48,7 @@ by_part g u a b c =
     (λ h. a h (holder-mode g u h))
     (λ h. split (has_slot g.intents u) (λ k. b k (intent-mode g u h k)) (λ k. c (other-mode g u h k)))
 
--- who holds nothing stands in neither set
+-- a slot that holds nothing is in neither set
 pub no-holder : (g : Group) (u : ℕ) → IsGroup g → held_by g u ≡ NL → has_slot g.holders u ≡ false
 no-holder g u k n =
     not_true (has_slot g.holders u) (λ h. clash h (k.free (sym (holder-mode g u h) ∙ n) u))
@@ -64,11 +64,11 @@ pub within-group : (g : Group) → IsGroup g → IsWithin slot_limit (held_by g)
 within-group g k = within-more most_slots slot_limit (held_by g) (rw slot_limit-is (omega arith))
     (λ u le. other-mode g u (k.holders_below u le) (k.intents_below u le))
 
--- beside IS one mode at most is held
+-- besides IS at most one mode is held
 pub two-modes : (g : Group) → HoldsTwoModes (held_by g)
 two-modes g = (g.mode, λ t. by_part g t (λ h e. inr (inr e)) (λ h e. inr (inl e)) (λ e. inl e))
 
--- the two sets have each member and nobody else
+-- the two sets have exactly the members
 pub listed : (g : Group) → IsGroup g → (t : ℕ) → (has_slot g.holders t || has_slot g.intents t) ≡ holds (held_by g) t
 listed g k t =
     split (has_slot g.holders t)
@@ -106,7 +106,7 @@ nobody-from_both g k is none =
     range-from_each (λ t. not (holds (held_by g) t)) 0 slot_limit
     (λ u l m. ap (λ x. not (not (same_mode x NL))) (other-mode g u (k.free is u) (none u)))
 
--- the supremum of what is held
+-- the supremum of the held modes
 
 at_least-IS : (m : Mode) → same_mode m NL ≡ false → is_at_least m IS ≡ true
 at_least-IS m h = split (same_mode m NL) (λ e. absurd (clash e h))
@@ -150,7 +150,7 @@ group_mode-is g k =
     (λ e. ap (λ b. cond b g.mode (supremum g.mode IS)) e ∙ supremum-main g k (test-none g.intents e))
     (λ e. ap (λ b. cond b g.mode (supremum g.mode IS)) e ∙ supremum-both g k (λ none. clash (none-test g.intents none) e))
 
--- a grant to one who holds nothing: r is the group before it, old what was held before that slot's release
+-- a grant to a slot that holds nothing: r is the group before it, old the grants before that slot's release
 
 -- j is the set i with s
 abbrev pub IsWithSlot : Slots → ℕ → Slots → Type 0
@@ -199,7 +199,7 @@ module _ (old : Members) (r : Group) (s : ℕ) (k : IsGroup r) (e : held_by r �
       (λ t. ap (λ b. cond (has_slot r.holders u) r.mode (cond b IS NL)) (at-other _ _ u s (w u) t)
       ∙ (ap (λ (g : Members). g u) e ∙ (there old s NL u t ∙ sym (there old s IS u t)))))
 
-  -- another mode is granted, which all that is held but IS is
+  -- another mode is granted, which is that of all grants other than IS
 
   pub main-group : (m : Mode) (j : Slots) → same_mode m IS ≡ false → m ≢ NL → IsWithSlot r.holders s j
       → IsGroup (record { mode = m; holders = j; intents = r.intents })
@@ -278,7 +278,7 @@ released-group g s h i k wh wi some = record {
   intents_below = λ u le. left-none _ _ _ (wi u) (k.intents_below u le);
 }
 
--- who holds the group's mode still, holds what it held
+-- a remaining holder of the group's mode holds what it held
 pub released-held : (g : Group) (s : ℕ) (m : Mode) (h i : Slots) → IsWithoutSlot g.holders s h → IsWithoutSlot g.intents s i
     → ((u : ℕ) → has_slot h u ≡ true → m ≡ g.mode) → held_by (record { mode = m; holders = h; intents = i }) ≡ with_mode (held_by g) s NL
 released-held g s m h i wh wi same = fun_ext (λ u.
@@ -303,7 +303,7 @@ absent-without i s none u = split (u == s)
     stays : (a t : Bool) → t ≡ false → a ≡ (a && not t)
     stays a t h = grind arith
 
--- IS is released: who holds the group's mode stays
+-- IS is released: holders of the group's mode stay
 pub released-intent : (g : Group) (s : ℕ) (i : Slots) → IsGroup g → IsWithoutSlot g.intents s i
     → IsGroup (record { mode = g.mode; holders = g.holders; intents = i })
 released-intent g s i k w = record {

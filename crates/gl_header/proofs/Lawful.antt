@@ -61,7 +61,7 @@ new-not_held : (g : Members) (q : List Waiter) (t : ℕ) → all_new g q ≡ tru
 new-not_held g [] t n h = cc
 new-not_held g (w ∷ q) t n h = grind (arith, nat_tests, new-not_held g q t)
 
--- who stands ahead of t in a queue that begins with w
+-- the waiters ahead of t in a queue that begins with w
 record IsAheadIn (w : Waiter) (q : List Waiter) (t u : ℕ) : Type 0 where
   other : (w.0 == t) ≡ false
   waits : is_among_waiters t q ≡ true
@@ -93,7 +93,7 @@ holders-first g (w ∷ q) t u o h a =
 limit-within : (g : Members) → IsWithin slot_limit g → IsWithin most_slots g
 limit-within g w u le = w u (rw slot_limit-is le)
 
--- what holds of all that is granted
+-- what holds of all grants
 pub record AreGrants (g : Grants) : Type 0 where
   pub two_modes : HoldsTwoModes (members_in g)
   pub listed : (t : ℕ) → is_listed g t ≡ holds (members_in g) t

@@ -16,7 +16,7 @@ use Rattle.gl_header.proofs.Fits.{fits-all, fits-from_all, within-with_mode, com
 use Rattle.gl_header.proofs.Queues.{all-without, distinct-without}
 use Rattle.gl_header.proofs.Placing.{all-placed_in, distinct-placed_in, ordered-placed_in}
 
--- a change of one who does not wait moves no border between members and newcomers
+-- a change of a slot that does not wait moves no border between members and newcomers
 
 pub ordered-with_mode : (g : Members) (q : List Waiter) (s : ℕ) (m : Mode) → is_among_waiters s q ≡ false
     → (is_ordered (with_mode g s m) q ≡ is_ordered g q) × (all_new (with_mode g s m) q ≡ all_new g q)
@@ -30,7 +30,7 @@ rise-with_mode g (w ∷ ws) s m h = grind (arith, nat_tests, rise-with_mode g ws
 below-limit : (s : ℕ) → s < most_slots → s < slot_limit
 below-limit s b = rw slot_limit-is b
 
--- a mode that fits is granted to one who does not wait
+-- a mode that fits is granted to a slot that does not wait
 pub orderly-with_mode : (g : Members) (q : List Waiter) (s : ℕ) (m : Mode) → IsOrderly g q → is_among_waiters s q ≡ false
     → fits slot_limit g s m ≡ true → s < most_slots → IsOrderly (with_mode g s m) q
 orderly-with_mode g q s m o h f b = record {
@@ -42,7 +42,7 @@ orderly-with_mode g q s m o h f b = record {
   rise = rise-with_mode g q s m h ∙ o.rise;
 }
 
--- a member is gone
+-- a member is removed
 pub orderly-member_gone : (g : Members) (q : List Waiter) (s : ℕ) → IsOrderly g q → is_among_waiters s q ≡ false → s < most_slots
     → IsOrderly (with_mode g s NL) q
 orderly-member_gone g q s o h b =
@@ -80,7 +80,7 @@ orderly-front g w ws o f =
     } in
     orderly-with_mode g ws w.0 w.1 rest (grind arith) f (grind (arith, nat_tests))
 
--- a raised member makes no room for a waiter
+-- a member with a greater mode makes no waiter fit
 
 lesser-fits : (x m a : Mode) → is_at_least m a ≡ true → are_compatible x m ≡ true → are_compatible x a ≡ true
 lesser-fits x m a h f = compatible-symmetric x a ∙ lesser-compatible m a x h (compatible-symmetric m x ∙ f)
@@ -129,7 +129,7 @@ pub stuck-placed_in : (g : Members) (q : List Waiter) (e : Waiter) → is_stuck 
 stuck-placed_in g [] e k f = grind arith
 stuck-placed_in g (w ∷ ws) e k f = grind arith
 
--- a waiter is gone
+-- a waiter is removed
 
 ordered-waiter_gone : (g : Members) (q : List Waiter) (s : ℕ) → is_ordered g q ≡ true → is_ordered g (without q s) ≡ true
 ordered-waiter_gone g [] s o = refl

@@ -1,4 +1,4 @@
--- Where a wait is put.
+-- The place of a new wait in the queue.
 use Rattle.std.proofs.Common.{◌≡◌, ℕ, ◌+◌, ◌≤◌, Bool, true, false, cond, ◌&&◌, ◌||◌, not, List, [], ◌∷◌, ◌++◌, length, refl, sym, ap, ◌∙◌, arith, suc}
 use Rattle.std.specs.Prelude.{◌==◌, if◌then◌else◌}
 use Rattle.std.specs.List.{filter, insert, list_all, prefix_len}
@@ -43,7 +43,7 @@ pub ordered-placed_in : (g : Members) (q : List Waiter) (e : Waiter) → is_orde
 ordered-placed_in g [] e o = grind arith
 ordered-placed_in g (w ∷ ws) e o = grind (arith, ordered-placed_in g ws e, all-placed_in (λ x. not (holds g x.0)) g ws e)
 
--- the same, as the model says it
+-- the same, as the model defines it
 
 split-placed : (g : Members) (q : List Waiter) (e : Waiter) → holds g e.0 ≡ true → is_ordered g q ≡ true
     → placed_in g q e ≡ filter (λ w. holds g w.0) q ++ e ∷ filter (λ w. not (holds g w.0)) q

@@ -1,4 +1,4 @@
--- What granting from the front does, one waiter after the other.
+-- Granting from the front, one waiter after the other.
 use Rattle.std.proofs.Common.{◌≡◌, ◌≤◌, Bool, true, false, not, List, [], ◌∷◌, length, drop, refl, ap, arith}
 use Rattle.std.specs.Prelude.{if◌then◌else◌}
 use Rattle.gl_modes.proofs.Words.{split}
@@ -24,7 +24,7 @@ pub front-granted : (g : Members) (w : Waiter) (ws : List Waiter) → fits slot_
     ∷ front slot_limit (with_mode g w.0 w.1) ws
 front-granted g w ws f = ap (λ b. if b then w ∷ front slot_limit (with_mode g w.0 w.1) ws else []) f
 
--- nobody is granted where the first waiter does not fit
+-- nobody is granted if the first waiter does not fit
 pub front-refused : (g : Members) (w : Waiter) (ws : List Waiter) → fits slot_limit g w.0 w.1 ≡ false → front slot_limit g (w ∷ ws) ≡ []
 front-refused g w ws f = ap (λ b. if b then w ∷ front slot_limit (with_mode g w.0 w.1) ws else []) f
 
@@ -43,7 +43,7 @@ front-stuck g (w ∷ q) k =
     taken ws true h e = cc
     taken ws false h e = cc
 
--- who is granted stands at the front
+-- a granted waiter is at the front
 pub front-length : (g : Members) (q : List Waiter) → length (front slot_limit g q) ≤ length q
 front-length g [] = omega arith
 front-length g (w ∷ ws) =
@@ -52,7 +52,7 @@ front-length g (w ∷ ws) =
     (λ e. rw (front-granted g w ws e) (omega arith))
     (λ e. rw (front-refused g w ws e) (omega arith))
 
--- what is held in the end, with the front waiter granted first
+-- the grants in the end, with the front waiter granted first
 pub pumped-step : (g : Members) (w : Waiter) (ws : List Waiter) → fits slot_limit g w.0 w.1 ≡ true
     → pumped_members slot_limit g (w ∷ ws) ≡ pumped_members slot_limit (with_mode g w.0 w.1) ws
 pumped-step g w ws f = ap (after_grants g) (front-granted g w ws f)

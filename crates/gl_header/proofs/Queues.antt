@@ -1,4 +1,4 @@
--- What a removal leaves of a queue, and where entries stand in it.
+-- A queue after a removal, and the places of entries in it.
 use Rattle.gl_slots.specs.Limit.{most_slots}
 use Rattle.std.proofs.Common.{◌≡◌, ℕ, ◌+◌, ◌<◌, ◌≤◌, Bool, true, false, cond, ◌&&◌, not, Option, Some, None, MatchOption, List, [], ◌∷◌, length}
 use Rattle.std.proofs.Common.{position, refl, sym, subst, ◌∙◌, arith, suc, ltb, map}
@@ -51,7 +51,7 @@ without-queue (w ∷ q) s d =
     (λ e. let h : is_among_waiters s q ≡ false = grind (arith, nat_tests) in let k = none-filtered q s h in grind arith)
     (λ e. grind arith)
 
--- what the place of a slot's first entry is good for
+-- what the place of a slot's first entry implies
 
 first-within : (es : List Waiter) (s : ℕ) → is_among_waiters s es ≡ ltb (position_or_len (is_waiter s) es) (length es)
 first-within [] s = refl

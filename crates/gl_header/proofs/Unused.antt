@@ -1,4 +1,4 @@
--- A header that nobody uses, both ways.
+-- An unused header, both ways.
 use Rattle.gl_slots.specs.Limit.{most_slots}
 use Rattle.std.proofs.Common.{◌≡◌, ℕ, Bool, true, false, ◌&&◌, not, cond, List, [], ◌∷◌, ◌∙◌, refl, ap, ap₂, arith}
 use Rattle.std.proofs.Math.Path.{fun_ext}
@@ -60,7 +60,7 @@ unused-false h u =
 pub no_group-nobody : held_by no_group ≡ nobody
 no_group-nobody = fun_ext (λ t. ap₂ (λ a b. cond a NL (cond b IS NL)) (no_slots-none t) (no_slots-none t))
 
--- nobody holds an unused header
+-- an unused header has no holder
 pub unused-nobody : members_of unused_header ≡ (λ _. NL)
 unused-nobody = no_group-nobody
 

@@ -1,11 +1,11 @@
--- Who waits, by the queue and by the wanted mode.
+-- Waiters, by the queue and by the wanted mode.
 use Rattle.std.proofs.Common.{◌≡◌, ℕ, true, false, Some, None, List, [], ◌∷◌, refl, arith}
 use Rattle.std.specs.Prelude.{◌==◌}
 use Rattle.gl_modes.proofs.Words.{split}
 use Rattle.gl_modes.specs.declared.mode.Mode.{Mode}
 use Rattle.gl_header.specs.Header.{Waiter, is_among_waiters, wanted_by}
 
--- a slot waits exactly where it wants a mode
+-- a slot waits exactly if it wants a mode
 
 pub wanted-none : (q : List Waiter) (t : ℕ) → wanted_by q t ≡ None → is_among_waiters t q ≡ false
 wanted-none [] t h = refl

@@ -5,7 +5,7 @@ use Rattle.gl_header.specs.Sound.{IsOrderly}
 use Rattle.gl_header.specs.State.{slot_limit}
 use Rattle.gl_header.proofs.changes.grant_front.Given as goal
 
--- what a pump of the members of now and of the waiters behind those granted still does is the rest of what it does from the start
+-- granting on from the current members and the waiters after those granted is the rest of granting from the start
 abbrev pub invariant-loop-slot : goal.invariant-loop-slot
 invariant-loop-slot l = record {
   counted : length l.granted.items ≡ l.slot-index;

@@ -33,7 +33,7 @@ returns-in-Free-clause-stands c = record {
   queue = free-queue c.args.slot c.args.mode ∙ ap (λ p. asked_queue (header_of (stands p)) c.args.slot c.args.mode) (sym c.in-Free.is);
 }
 
--- the one holder asks
+-- the one holder requests a mode
 
 is : (c : After-sup) → c.args.place.now ≡ Held c.args.slot c.in-Held.own c.in-Held.birth
 is c = c.in-Held.is ∙ ap (λ t. Held t c.in-Held.own c.in-Held.birth) c.if-holder-slot.true
@@ -69,7 +69,7 @@ returns-in-Held-clause-stands c = let p = (goal.at.returns-in-Held-clause-stands
   queue = own-queue c.args.slot c.in-Held.own c.args.mode ∙ ap (λ x. asked_queue (header_of (stands x)) c.args.slot c.args.mode) (sym (is p));
 }
 
--- another slot asks
+-- another slot requests a mode
 
 pub share-requires-clause-below : goal.share-requires-clause-below
 share-requires-clause-below c = alone-below c.in-Held.holder c.in-Held.own

@@ -3,7 +3,7 @@ use Rattle.std.proofs.lemmas.List.Elements.{All-push, All-same}
 use Rattle.gl_header.specs.Places.{IsIdle}
 use Rattle.gl_header.proofs.places.set_aside.Goals as goal
 
--- nobody uses the header of the box that waits
+-- the header of the spare box is unused
 
 pub returns-then-len-capacity-clause-spare : goal.returns-then-len-capacity-clause-spare
 returns-then-len-capacity-clause-spare c =

@@ -5,7 +5,7 @@ use Rattle.gl_header.specs.declared.places.Shared.{Shared}
 use Rattle.gl_header.proofs.AtPlace.{idle-is}
 use Rattle.gl_header.proofs.places.sweep.Goals as goal
 
--- a header that nobody uses has no members, as a free place has none
+-- an unused header has no members, as a free place has none
 
 pub returns-then-is_empty-clause-members : goal.returns-then-is_empty-clause-members
 returns-then-is_empty-clause-members c =

@@ -13,7 +13,7 @@ use Rattle.gl_header.specs.Groups.{held_by}
 use Rattle.gl_header.specs.Header.{Members, holds, with_mode}
 use Rattle.gl_header.proofs.group.Group.leave.Goals as goal
 
--- who holds nothing leaves all as they are
+-- a slot that holds nothing leaves all as they are
 unheld-without : (g : Members) (t : ℕ) → holds g t ≡ false → g ≡ with_mode g t NL
 unheld-without g t none = fun_ext (λ u. by u (u == t) refl)
   where
@@ -24,7 +24,7 @@ unheld-without g t none = fun_ext (λ u. by u (u == t) refl)
     by u true e = ap g (equal u e) ∙ (same_mode-equal (g t) NL (not-false _ none) ∙ sym (ap (λ x. if x then NL else g u) e))
     by u false e = sym (ap (λ x. if x then NL else g u) e)
 
--- none is no lock
+-- a mode that equals NL is NL by `same_mode`
 none-held : (m : Mode) → not (sameb the_type m NL) ≡ false → not (same_mode m NL) ≡ false
 none-held NL h = refl
 none-held IS h = cc

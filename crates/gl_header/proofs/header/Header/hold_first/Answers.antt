@@ -9,7 +9,7 @@ use Rattle.gl_header.proofs.First.{first-free, first-granted, first-nobody, firs
 use Rattle.gl_header.proofs.Unused.{unused-true}
 use Rattle.gl_header.proofs.header.Header.hold_first.Goals as goal
 
--- nobody used the header
+-- the header was unused
 module _ (c : goal.After-self-1) where
   law : IsLawfulHeader (state_of c.self.inside)
   law = lawful c.self.inside.granted c.self.inside.queue.items c.self.invariant.group c.self.invariant.lawful

@@ -16,7 +16,7 @@ returns-in_default-clause-member c = λ member granted.
     clash (c.in_default.ensures.there (held_place c.self.inside.places.items c.self.invariant.places c.args.self.now.entries (entries_are c.self.view_is)
     c.args.node c.args.slot member)) refl
 
--- the places, once there is one for the node
+-- the places, after there is one for the node
 
 grown : (c : After-index_mut-place) → ArePlaces c.grow.new.places.items
 grown c = places-same _ _ c.grow.ensures.kept c.self.invariant.places

@@ -8,7 +8,7 @@ use Rattle.gl_header.proofs.Changed.{with_members-same}
 use Rattle.gl_header.proofs.headers.Headers.dismiss.Goals.{After-index_mut}
 use Rattle.gl_header.proofs.headers.Headers.dismiss.Goals as goal
 
--- the node has a header, which stands at its place
+-- the node has a header, which is at its place
 
 pub index_mut-requires : goal.index_mut-requires
 index_mut-requires c =

@@ -6,7 +6,7 @@ use Rattle.gl_header.proofs.AtPlace.{IsAt, entries_are, held_at, held_place, wri
 use Rattle.gl_header.proofs.headers.Headers.drop_grant.Goals.{After-index_mut-place}
 use Rattle.gl_header.proofs.headers.Headers.drop_grant.Goals as goal
 
--- the node has a header, which stands at its place
+-- the node has a header, which is at its place
 
 pub index_mut-place-requires : goal.index_mut-place-requires
 index_mut-place-requires c =

@@ -5,7 +5,7 @@ use Rattle.gl_header.proofs.AtPlace.{IsAt, awaited_at, awaited_place, entries_ar
 use Rattle.gl_header.proofs.headers.Headers.drop_wait.Goals.{After-index_mut-place}
 use Rattle.gl_header.proofs.headers.Headers.drop_wait.Goals as goal
 
--- the node has a header, which stands at its place
+-- the node has a header, which is at its place
 
 pub index_mut-place-requires : goal.index_mut-place-requires
 index_mut-place-requires c =

@@ -11,7 +11,7 @@ use Rattle.gl_header.proofs.Unused.{unused-nobody}
 use Rattle.gl_header.proofs.headers.Headers.take.Goals.{in-Shared, in_default}
 use Rattle.gl_header.proofs.headers.Headers.take.Goals as goal
 
--- the node has a header, which stands at its place
+-- the node has a header, which is at its place
 
 pub index_mut-requires : goal.index_mut-requires
 index_mut-requires c =
