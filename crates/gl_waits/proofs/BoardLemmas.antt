@@ -1,4 +1,4 @@
--- Rows of a board.
+-- Rows of a snapshot.
 use Rattle.std.proofs.Common.{◌≡◌, ◌≢◌, ℕ, ◌<◌, ◌≤◌, ⊎_elim, Bool, true, false, List, length, get_or, map, replicate, set, sym, ap, ◌∙◌, arith}
 use Rattle.std.specs.List.{range_with_len}
 use Rattle.std.proofs.lemmas.Bool.{cases_lt, false_from_ne_true}
@@ -26,7 +26,7 @@ row_edge-replicate n = empty_rows (replicate n no_slots)
     (λ s u low. let e = length-replicate {A = Slots} n no_slots in let inside : s < n = omega arith in
     empty_row (replicate n no_slots) s u (get_or-replicate n s no_slots no_slots inside))
 
--- a row that is read, whatever a read past the end would give
+-- a row that is read, whatever a read beyond the end would give
 pub row_edge-read : (rows : List Slots) (i u : ℕ) (d : Slots) → i < length rows → has_slot (get_or rows i d) u ≡ row_edge rows i u
 row_edge-read rows i u d inside = ap (λ set. has_slot set u) (get_or_default rows i d no_slots inside)
 
@@ -40,7 +40,7 @@ row_edge-set_same rows i u row inside = ap (λ n. has_slot n u) (get_or-set_same
 pub row_edge-set_other : (rows : List Slots) (i s u : ℕ) (row : Slots) → s ≢ i → row_edge (set rows i row) s u ≡ row_edge rows s u
 row_edge-set_other rows i s u row ne = ap (λ n. has_slot n u) (get_or-set_other rows i s row no_slots ne)
 
--- the rows that a relation of slots makes, for each slot below n, have its steps
+-- the rows that a relation of slots makes, for each slot below n, have its waits
 module _ (n : ℕ) (edge : ℕ → ℕ → Bool) (low : (s u : ℕ) → edge s u ≡ true → (s < n) × (u < most_slots)) where
   rows : List Bits
   rows = map (λ t. bits_of (edge t)) (range_with_len 0 n)

@@ -1,4 +1,4 @@
--- The latest of the slots that were taken out of a set so far, from the lowest on.
+-- The latest of the slots that were tried so far, from the lowest on.
 use Rattle.std.proofs.Common.{◌≡◌, ◌≢◌, ◌⊎◌, ⊎_elim, inl, inr, ℕ, ◌<◌, ◌≤◌, ◌↔◌, true, false, not, ◌&&◌, ◌==◌, Option, Some, None}
 use Rattle.std.proofs.Common.{IsNone, IsTrue, IfSome, refl, sym, ◌∙◌, subst, arith}
 use Rattle.std.specs.Option.{option_map_or}
@@ -10,7 +10,7 @@ use Rattle.gl_slots.specs.Slots.{HasNoSlot, IsLowest, has_slot}
 use Rattle.gl_waits.specs.Waits.{IsLowestLatest, is_earlier}
 use Rattle.gl_waits.proofs.Earlier.{earlier-itself, earlier-not_back, earlier-over, latest-from, not_later}
 
--- v was taken; of those taken none is later, and none as late is below it; nor is any that is left
+-- v was tried; of those tried none is later, and none as late is below it; nor is any that is left
 pub record IsBestTaken (set left : Slots) (since age : ℕ → ℕ) (v : ℕ) : Type 0 where
   pub low : v < most_slots
   pub member : has_slot set v ≡ true
@@ -18,12 +18,12 @@ pub record IsBestTaken (set left : Slots) (since age : ℕ → ℕ) (v : ℕ) : 
   pub first : (u : ℕ) → has_slot set u ≡ true → has_slot left u ≡ false → is_earlier since age u v ≡ false → v ≤ u
   pub before : (u : ℕ) → has_slot left u ≡ true → v < u
 
--- what is chosen of those taken
+-- the chosen slot of those tried
 abbrev pub IsChosen : Slots → Slots → (ℕ → ℕ) → (ℕ → ℕ) → Option ℕ → Type 0
 IsChosen set left since age None = (u : ℕ) → has_slot set u ≡ has_slot left u
 IsChosen set left since age (Some v) = IsBestTaken set left since age v
 
--- one more slot is taken, the lowest that is left
+-- one more slot is tried, the lowest that is left
 module _ (set left left' : Slots) (since age : ℕ → ℕ) (slot : ℕ) (lowest : IsLowest left slot)
     (within : (u : ℕ) → has_slot left u ≡ true → has_slot set u ≡ true)
     (taken : (u : ℕ) → has_slot left' u ≡ (has_slot left u && not (u == slot))) where
@@ -43,7 +43,7 @@ module _ (set left left' : Slots) (since age : ℕ → ℕ) (slot : ℕ) (lowest
   itself : (u : ℕ) → u ≡ slot → is_earlier since age slot u ≡ false
   itself u is = subst (λ x. is_earlier since age slot x ≡ false) (sym is) (earlier-itself since age slot)
 
-  -- where it is the first, or later than the one that was chosen, it is chosen
+  -- if it is the first, or later than the chosen one, it is chosen
   pub chosen-later : (chosen : Option ℕ) → IsChosen set left since age chosen
       → option_map_or (λ other. is_earlier since age other slot) chosen true ≡ true → IsChosen set left' since age (Some slot)
   chosen-later None same later = record {
@@ -64,7 +64,7 @@ module _ (set left left' : Slots) (since age : ℕ → ℕ) (slot : ℕ) (lowest
       over : (u : ℕ) → has_slot set u ≡ true → has_slot left u ≡ false → is_earlier since age u slot ≡ true
       over u h out = earlier-over since age u v slot (best.greatest u h out) later
 
-  -- else the one that was chosen stays so
+  -- else the chosen one stays
   pub chosen-stays : (chosen : Option ℕ) → IsChosen set left since age chosen
       → option_map_or (λ other. is_earlier since age other slot) chosen true ≡ false → IsChosen set left' since age chosen
   chosen-stays None same older = cc older
@@ -76,11 +76,11 @@ module _ (set left left' : Slots) (since age : ℕ → ℕ) (slot : ℕ) (lowest
     before = λ u h. best.before u (still u h).0;
   }
 
-  -- what is left is of the set
+  -- the slots left are of the set
   pub still-within : (u : ℕ) → has_slot left' u ≡ true → has_slot set u ≡ true
   still-within u h = within u (still u h).0
 
--- where none is left, what is chosen is the latest of the set, and none is chosen from the empty set alone
+-- if none is left, the chosen slot is the latest of the set, and none is chosen only from the empty set
 module _ (set left : Slots) (since age : ℕ → ℕ) (over : HasNoSlot left) where
   pub chosen-none : (chosen : Option ℕ) → IsChosen set left since age chosen → IsNone chosen ↔ HasNoSlot set
   chosen-none None same = ((λ h u. same u ∙ over u), (λ e. refl))

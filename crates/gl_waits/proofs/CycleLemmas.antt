@@ -1,4 +1,4 @@
--- Cycles: what a set of slots that was read from a board says of them, and cycles of a relation that changed.
+-- Cycles: what a set of slots computed from a snapshot means, and cycles of a relation that changed.
 use Rattle.std.proofs.Common.{◌≡◌, ◌≢◌, ◌⊎◌, ℕ, ◌↔◌, Bool, true, false, List, [], ◌∷◌, IsTrue, subst, ⊎_elim, inl, inr}
 use Rattle.std.proofs.lemmas.Bool.{and_from, cases_eq, false_from_ne_true}
 use Rattle.gl_waits.specs.Waits.{IsWalk, Reaches, IsOnCycleOf, IsOnCycle, IsOnNoCycle, IsYoungest, IsLowestYoungest, waits_of}
@@ -27,7 +27,7 @@ module _ (edge : ℕ → ℕ → Bool) (member : ℕ → Bool) (exact : (s : ℕ
   pub no_cycle-no_suspect : ((t : ℕ) → IsOnNoCycle edge t) → (u : ℕ) → member u ≡ false
   no_cycle-no_suspect none s = false_from_ne_true (member s) (λ h. let on = (exact s).0 h in none s on.0 on.1)
 
--- with more steps a cycle stays, so with fewer none appears
+-- with more waits a cycle stays, so with fewer none appears
 pub cycle-more : (edge more : ℕ → ℕ → Bool) → ((x y : ℕ) → edge x y ≡ true → more x y ≡ true) → (t v : ℕ) → IsOnCycleOf edge t v → IsOnCycleOf more t v
 cycle-more edge more sub t v on = record { there = reaches_more edge more sub t v on.there; back = reaches_more edge more sub v t on.back }
 
@@ -39,11 +39,11 @@ less-no_cycle edge less sub none t = fewer-no_cycle edge less sub t (none t)
 
 -- the members are what a slot reaches
 module _ (edge : ℕ → ℕ → Bool) (member : ℕ → Bool) (slot : ℕ) (reached : (v : ℕ) → IsTrue (member v) ↔ Reaches edge slot v) where
-  -- no step leaves them
+  -- no wait leads out of them
   pub reached-closed : (x y : ℕ) → member x ≡ true → edge x y ≡ true → member y ≡ true
   reached-closed x y m e = (reached y).1 (reaches_join edge slot x y ((reached x).0 m) ([], e))
 
-  -- a slot is on a cycle with it where it is a member that reaches it by the members' steps
+  -- a slot is on a cycle with it if it is a member that reaches it by the members' waits
   pub meets-cycle : (u : ℕ) → member u ≡ true → Reaches (waits_of member edge) u slot → IsOnCycleOf edge slot u
   meets-cycle u h r = record { there = (reached u).0 h; back = reaches_of member edge u slot r }
 
@@ -52,9 +52,9 @@ module _ (edge : ℕ → ℕ → Bool) (member : ℕ → Bool) (slot : ℕ) (rea
       let inside = (reached u).1 on.there in
       (inside, reaches_among edge (waits_of member edge) member reached-closed (λ x y m e. and_from (member x) (edge x y) m e) u slot inside on.back)
 
--- a relation that has new steps from t or to t alone
+-- a relation that has new waits only from t or to t
 module _ (edge new : ℕ → ℕ → Bool) (t : ℕ) (others : (x y : ℕ) → new x y ≡ true → x ≢ t → y ≢ t → edge x y ≡ true) where
-  -- a walk that does not pass t is one of before
+  -- a path that does not pass t is one of the earlier relation
   past : (a u : ℕ) (way : List ℕ) → a ≢ t → u ≢ t → IsWalk new a way u → IsWalk edge a way u ⊎ (Reaches new a t × Reaches new t u)
   past a u [] na nu h = inl (others a u h na nu)
   past a u (v ∷ way) na nu h =
@@ -63,7 +63,7 @@ module _ (edge new : ℕ → ℕ → Bool) (t : ℕ) (others : (x y : ℕ) → n
       (λ nv. ⊎_elim (λ w. inl (others a v h.0 na nv, w)) (λ r. inr ((v ∷ r.0.0, (h.0, r.0.1)), r.1)) (past v u way nv nu h.1))
       (cases_eq v t)
 
-  -- where there was no cycle, and t is on none now, there is none now
+  -- if there was no cycle before, and t is on none now, there is none now
   pub at_one-no_cycle : ((x : ℕ) → IsOnNoCycle edge x) → IsOnNoCycle new t → (x : ℕ) → IsOnNoCycle new x
   at_one-no_cycle none free x v on =
       ⊎_elim

@@ -1,38 +1,38 @@
--- The order in which transactions keep their turn: by the begin since which their work wants to be done, and of one such by age.
+-- The order in which transactions keep their turn: by since, and then by age.
 use Rattle.std.proofs.Common.{◌≡◌, ◌≢◌, ℕ, ◌≤◌, Bool, true, false, nat_lt, refl, arith}
 use Rattle.std.proofs.lemmas.Bool.Decides.{nat_tests}
 use Rattle.gl_waits.specs.Waits.{IsLatest, IsYoungest, is_earlier}
 
 module _ (since age : ℕ → ℕ) where
-  -- nobody is earlier than itself
+  -- no slot is earlier than itself
   pub earlier-itself : (u : ℕ) → is_earlier since age u u ≡ false
   earlier-itself u = grind (arith, nat_tests)
 
-  -- who is earlier is not later
+  -- an earlier slot is not later
   pub earlier-not_back : (u v : ℕ) → is_earlier since age u v ≡ true → is_earlier since age v u ≡ false
   earlier-not_back u v h = grind (arith, nat_tests)
 
-  -- who is not later than one that is earlier than w is earlier than w
+  -- a slot that is not later than one that is earlier than w is earlier than w
   pub earlier-over : (u v w : ℕ) → is_earlier since age v u ≡ false → is_earlier since age v w ≡ true → is_earlier since age u w ≡ true
   earlier-over u v w h k = grind (arith, nat_tests)
 
-  -- where neither is earlier, the ages are equal
+  -- if neither is earlier, the ages are equal
   pub neither_earlier : (u v : ℕ) → is_earlier since age u v ≡ false → is_earlier since age v u ≡ false → age u ≡ age v
   neither_earlier u v h k = grind (arith, nat_tests)
 
-  -- who is not later has no greater number, and where it has no less it has no greater age
+  -- a slot that is not later has no greater since, and with no less a since no greater age
   pub not_later-since : (u v : ℕ) → is_earlier since age v u ≡ false → since u ≤ since v
   not_later-since u v h = grind (arith, nat_tests)
 
   pub not_later-age : (u v : ℕ) → is_earlier since age v u ≡ false → since v ≤ since u → age u ≤ age v
   not_later-age u v h le = grind (arith, nat_tests)
 
-  -- with no greater number and age one is not later
+  -- with no greater since and age a slot is not later
   pub not_later : (u v : ℕ) → since u ≤ since v → age u ≤ age v → is_earlier since age v u ≡ false
   not_later u v le few = grind (arith, nat_tests)
 
   module _ (member : ℕ → Type 0) where
-    -- the latest is a member that no member is later than
+    -- the latest is a member, and no member is later than it
     pub latest-from : (v : ℕ) → member v → ((u : ℕ) → member u → is_earlier since age v u ≡ false) → IsLatest member since age v
     latest-from v is none = record {
       is_member = record { is_member = is; greatest = λ u m. not_later-since u v (none u m) };
@@ -50,7 +50,7 @@ module _ (since age : ℕ → ℕ) where
             let also : IsYoungest member since u = record { is_member = m; greatest = most } in
             not_later u v (best.is_member.greatest u m) (best.greatest u also)
 
-    -- so each other member is earlier, where ages differ
+    -- so each other member is earlier, if ages differ
     pub latest-others_earlier : (v : ℕ) → IsLatest member since age v → (u : ℕ) → member u → age u ≢ age v → is_earlier since age u v ≡ true
     latest-others_earlier v best u m ne = by (is_earlier since age u v) refl
       where

@@ -1,4 +1,4 @@
--- Walks: joined, read backwards, and in a relation with more steps.
+-- Paths of waits: joined, read backwards, and in a relation with more waits.
 use Rattle.std.proofs.Common.{◌≡◌, ℕ, Bool, true, false, List, [], ◌∷◌, ◌++◌, refl}
 use Rattle.std.proofs.lemmas.Bool.{and_from, and_parts}
 use Rattle.gl_waits.specs.Waits.{IsWalk, Reaches, IsOnCycle, IsOnNoCycle, waits_of}
@@ -7,11 +7,11 @@ walk_join : (edge : ℕ → ℕ → Bool) (a b c : ℕ) (way more : List ℕ) �
 walk_join edge a b c [] more h k = (h, k)
 walk_join edge a b c (v ∷ way) more h k = (h.0, walk_join edge v b c way more h.1 k)
 
--- what reaches a slot that reaches a third reaches the third
+-- a slot that reaches a second that reaches a third reaches the third
 pub reaches_join : (edge : ℕ → ℕ → Bool) (a b c : ℕ) → Reaches edge a b → Reaches edge b c → Reaches edge a c
 reaches_join edge a b c h k = (h.0 ++ b ∷ k.0, walk_join edge a b c h.0 k.0 h.1 k.1)
 
--- a set that has what one step from a reaches, and what one step from a member reaches, has all that a reaches
+-- a set that has what one wait from a reaches, and what one wait from a member reaches, has all that a reaches
 walk_inside : (edge : ℕ → ℕ → Bool) (member : ℕ → Bool) → ((x y : ℕ) → member x ≡ true → edge x y ≡ true → member y ≡ true)
     → (a u : ℕ) (way : List ℕ) → ((y : ℕ) → edge a y ≡ true → member y ≡ true) → IsWalk edge a way u → member u ≡ true
 walk_inside edge member closed a u [] first h = first u h
@@ -21,7 +21,7 @@ pub reaches_inside : (edge : ℕ → ℕ → Bool) (member : ℕ → Bool) → (
     → ((y : ℕ) → edge a y ≡ true → member y ≡ true) → Reaches edge a u → member u ≡ true
 reaches_inside edge member closed a u first r = walk_inside edge member closed a u r.0 first r.1
 
--- where each step from a member is one of another relation, and no step leaves the members, so is each walk from a member
+-- if each wait from a member is one of another relation, and none leads out of the members, so is each path from a member
 pub reaches_among : (edge more : ℕ → ℕ → Bool) (member : ℕ → Bool) → ((x y : ℕ) → member x ≡ true → edge x y ≡ true → member y ≡ true)
     → ((x y : ℕ) → member x ≡ true → edge x y ≡ true → more x y ≡ true) → (a u : ℕ) → member a ≡ true → Reaches edge a u → Reaches more a u
 reaches_among edge more member closed sub a u inside r = (r.0, by a r.0 inside r.1)
@@ -49,7 +49,7 @@ reaches_of_more member member' edge edge' members steps = reaches_more (waits_of
     each : (x y : ℕ) → waits_of member edge x y ≡ true → waits_of member' edge' x y ≡ true
     each x y h = let both = and_parts (member x) (edge x y) h in and_from (member' x) (edge' x y) (members x both.0) (steps x y both.1)
 
--- where each step from a member is one of another relation, read backwards, and no step leaves the members, a walk is one backwards
+-- if each wait from a member is one of another relation, read backwards, and none leads out of the members, a path is one backwards
 pub reaches_back : (edge back : ℕ → ℕ → Bool) (member : ℕ → Bool) → ((x y : ℕ) → member x ≡ true → edge x y ≡ true → member y ≡ true)
     → ((x y : ℕ) → member x ≡ true → edge x y ≡ true → back y x ≡ true) → (a u : ℕ) → member a ≡ true → Reaches edge a u → Reaches back u a
 reaches_back edge back member closed turned a u inside r = by a r.0 inside r.1
@@ -58,7 +58,7 @@ reaches_back edge back member closed turned a u inside r = by a r.0 inside r.1
     by x [] m h = ([], turned x u m h)
     by x (v ∷ way) m h = reaches_join back u v x (by v way (closed x v m h.0) h.1) ([], turned x v m h.0)
 
--- t is on a cycle exactly where it reaches itself
+-- t is on a cycle exactly if it reaches itself
 pub on_cycle-reaches : (edge : ℕ → ℕ → Bool) (t : ℕ) → IsOnCycle edge t → Reaches edge t t
 on_cycle-reaches edge t on = reaches_join edge t on.0 t on.1.there on.1.back
 
@@ -68,7 +68,7 @@ reaches-on_cycle edge t r = (t, record { there = r; back = r })
 pub no_cycle-reaches : (edge : ℕ → ℕ → Bool) (t : ℕ) → IsOnNoCycle edge t → Reaches edge t t → ⊥
 no_cycle-reaches edge t none r = none t (record { there = r; back = r })
 
--- a slot from which no step leads is on no cycle
+-- a slot that waits for nobody is on no cycle
 pub no_step-no_cycle : (edge : ℕ → ℕ → Bool) (t : ℕ) → ((u : ℕ) → edge t u ≡ false) → IsOnNoCycle edge t
 no_step-no_cycle edge t none v on = by on.there.0 on.there.1
   where

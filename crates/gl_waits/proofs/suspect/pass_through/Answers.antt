@@ -10,7 +10,7 @@ use Rattle.gl_waits.proofs.BoardLemmas.{row_edge-inside, row_edge-read}
 use Rattle.gl_waits.proofs.suspect.pass_through.Goals as goal
 use Rattle.gl_waits.proofs.suspect.pass_through.Goals.{then-contains, else-contains}
 
--- the rows below i have what lies beyond the middle, where they have the middle
+-- the rows below i have what the middle reaches, if they have the middle
 abbrev IsPassed : List Slots → List Slots → ℕ → Slots → ℕ → Type 0
 IsPassed before now middle beyond i = (s u : ℕ) → row_edge now s u ≡ (row_edge before s u || (nat_lt s i && (row_edge before s middle && has_slot beyond u)))
 
@@ -35,7 +35,7 @@ passed_row before now after middle beyond i passed others this s u =
     (λ ne. others s u ne ∙ same_row _ _ _ s i ne (passed s u))
     (cases_eq s i)
 
--- the row has the middle, and what lies beyond is added
+-- the row has the middle, and what the middle reaches is added
 passed_write : (before now after : List Slots) (middle : ℕ) (beyond row d : Slots) (i : ℕ) → IsPassed before now middle beyond i
     → has_slot (get_or now i d) middle ≡ true → i < length now
     → ((u : ℕ) → has_slot row u ≡ (has_slot (get_or now i d) u || has_slot beyond u)) → after ≡ set now i row → IsPassed before after middle beyond (i + 1)
@@ -45,7 +45,7 @@ passed_write before now after middle beyond row d i passed has inside grown is =
     (λ u. ap (λ xs. row_edge xs i u) is ∙ ap (λ n. has_slot n u) (get_or-set_same now i row no_slots inside) ∙ grown u
     ∙ ap₂ (λ a b. a || (b && has_slot beyond u)) (row_edge-read now i u d inside) (sym has ∙ row_edge-read now i middle d inside))
 
--- the row has it not, and stays
+-- the row does not have it, and stays
 passed_skip : (before now after : List Slots) (middle : ℕ) (beyond d : Slots) (i : ℕ) → IsPassed before now middle beyond i
     → has_slot (get_or now i d) middle ≡ false → i < length now → after ≡ now → IsPassed before after middle beyond (i + 1)
 passed_skip before now after middle beyond d i passed has inside is =

@@ -3,7 +3,7 @@ use Rattle.gl_slots.specs.Slots.{has_slot, number_of}
 use Rattle.gl_waits.proofs.Chosen.{IsChosen}
 use Rattle.gl_waits.proofs.victim.latest_of.Given as goal
 
--- of those taken the latest is chosen, and those left are of the set
+-- the latest of those tried is chosen, and those left are of the set
 abbrev pub invariant-loop-slot : goal.invariant-loop-slot
 invariant-loop-slot g l = IsChosen l.fn.set l.left (g.A.Ages.since_of l.ages) (g.A.Ages.age_of l.ages) l.chosen
     × ((u : ℕ) → has_slot l.left u ≡ true → has_slot l.fn.set u ≡ true)
