@@ -24,7 +24,7 @@ not-false false h = refl
 pub same_mode-refl : (a : Mode) → same_mode a a ≡ true
 same_mode-refl a = every-true (λ x. same_mode x x) refl a
 
--- two modes of which each is at least the other are one
+-- two modes of which each is at least the other are the same
 pub at_least-antisymmetric : (a b : Mode) → is_at_least a b ≡ true → is_at_least b a ≡ true → a ≡ b
 at_least-antisymmetric a b h k =
     same_mode-equal a b (implied _ _ (implied _ _ (every2-true (λ x y. implies (is_at_least x y) (implies (is_at_least y x) (same_mode x y))) refl a b) h) k)
@@ -53,7 +53,7 @@ pub supremum-tested_left : (a b m : Mode) → are_compatible (supremum a b) m �
 supremum-tested_left a b m =
     same-equal _ _ (every3-true (λ x y z. same (are_compatible (supremum x y) z) (are_compatible x z && are_compatible y z)) refl a b m)
 
--- what a mode goes with, a lesser one goes with
+-- a lesser mode is compatible with whatever a mode is compatible with
 pub lesser-compatible : (a b m : Mode) → is_at_least a b ≡ true → are_compatible a m ≡ true → are_compatible b m ≡ true
 lesser-compatible a b m h =
     implied _ _ (implied _ _ (every3-true (λ x y z. implies (is_at_least x y) (implies (are_compatible x z) (are_compatible y z))) refl a b m) h)
@@ -74,7 +74,7 @@ supremum-above a b = every2-true (λ x y. is_at_least (supremum x y) x) refl a b
 pub supremum-above_right : (a b : Mode) → is_at_least (supremum a b) b ≡ true
 supremum-above_right a b = every2-true (λ x y. is_at_least (supremum x y) y) refl a b
 
--- a is at least b exactly where their supremum is a
+-- a is at least b exactly if their supremum is a
 pub supremum-covers : (a b : Mode) → same_mode (supremum a b) a ≡ is_at_least a b
 supremum-covers a b = same-equal _ _ (every2-true (λ x y. same (same_mode (supremum x y) x) (is_at_least x y)) refl a b)
 

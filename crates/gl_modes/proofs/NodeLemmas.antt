@@ -1,4 +1,4 @@
--- Names of nodes: `same_node` is equality, both ways. For the proofs of every crate above.
+-- Ids of nodes: `same_node` is equality, both ways. For the proofs of every crate above.
 use Rattle.std.proofs.Common.{◌≡◌, ◌≢◌, Bool, true, false, refl, subst, arith}
 use Rattle.std.proofs.lemmas.Bool.Decides.{nat_tests}
 use Rattle.gl_modes.specs.declared.node.NodeId.{NodeId}

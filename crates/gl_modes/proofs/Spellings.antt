@@ -1,4 +1,4 @@
--- No two modes are spelt alike.
+-- No two modes have the same spelling.
 use Rattle.std.proofs.Common.{◌≡◌, ℕ, List, true, refl, subst}
 use Rattle.std.specs.Str.{bytes_eq}
 use Rattle.std.proofs.lemmas.Cmp.{nat_list_eq_equiv}

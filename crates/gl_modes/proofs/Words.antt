@@ -1,4 +1,4 @@
--- Words on tests, options and numbers. For the proofs of every crate above.
+-- Lemmas on tests, options and numbers. For the proofs of every crate above.
 use Rattle.std.specs.Prelude.{◌≡◌, ◌≢◌, ℕ, Bool, true, false, ◌&&◌, ◌||◌, ◌==◌, Option, Some, None}
 use Rattle.std.proofs.Common.{refl, sym, ap, ap₂, ◌∙◌, arith}
 use Rattle.std.proofs.lemmas.Bool.Decides.{nat_tests}
