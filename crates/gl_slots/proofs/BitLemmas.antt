@@ -33,7 +33,7 @@ in_bits-and a b u =
     let y = bit_at-lt b u in
     grind (arith, nat_tests)
 
--- sets with the same slots are one number
+-- sets with the same slots are the same number
 pub same_slots : (a b : ℕ) → ((u : ℕ) → in_bits a u ≡ in_bits b u) → a ≡ b
 same_slots a b same = same_from_bits a b each
   where
@@ -58,7 +58,7 @@ same_slots_below n a b small_a small_b same = same_from_bits_below n a b small_a
 pub no_bit-zero : (set : ℕ) → ((u : ℕ) → in_bits set u ≡ false) → set ≡ 0
 no_bit-zero set none = same_slots set 0 (λ u. none u ∙ sym (in_bits-zero u))
 
--- one slot more, one slot less
+-- one more slot, one slot less
 
 more : (set after k u : ℕ) → bit_at after k ≡ 1 → (u ≢ k → bit_at after u ≡ bit_at set u) → in_bits after u ≡ (in_bits set u || (u == k))
 more set after k u same other = grind (arith, nat_tests)
@@ -87,7 +87,7 @@ in_bits-clear set k small low u = less set cleared k u (bit_at_clear_same w128 s
         let none = bit_at_above set 128 u small above in
         least _ _ _ both none
 
--- to take a slot out of a set makes a lesser number
+-- removing a slot from a set makes a lesser number
 pub clear-lt : (set k : ℕ) → k < 128 → in_bits set k ≡ true → bit_and set (bit_not w128 (1 * 2 ^ k % 2 ^ 128)) < set
 clear-lt set k low has = by _ (and_le_l set _) (bit_at_clear_same w128 set k low)
   where
@@ -111,7 +111,7 @@ in_bits-test set k low = ap (λ p. not (bit_and set p == 0)) (one_shl k 128 low)
     by (suc zero) p small above = let ne : 1 * p ≢ 0 = omega arith in grind (arith, nat_tests)
     by (suc (suc b)) p small above = absurd (omega arith)
 
--- `set & (set - 1)`, where k is the lowest slot of the set
+-- `set & (set - 1)`, if k is the lowest slot of the set
 module _ (set k : ℕ) (has : in_bits set k ≡ true) (none : (u : ℕ) → u < k → in_bits set u ≡ false) where
   high : ℕ
   high = set / 2 ^ suc k

@@ -1,4 +1,4 @@
--- Sets with the same slots are one, and the list of a set's slots.
+-- Sets with the same slots are equal, and the list of a set's slots.
 use Rattle.std.proofs.Common.{◌≡◌, ◌≢◌, ℕ, zero, suc, ◌+◌, ◌^◌, ◌<◌, ◌≤◌, Bool, true, false, not, ◌&&◌, ◌==◌, [], ◌∷◌, refl, sym, ap, ◌∙◌, ⊎_elim, arith}
 use Rattle.std.specs.List.{filter, range_with_len}
 use Rattle.std.proofs.lemmas.Bool.{cases_eq, cases_lt}
@@ -9,7 +9,7 @@ use Rattle.gl_slots.specs.Bits.{in_bits, bits_below}
 use Rattle.gl_slots.specs.Slots.{HasNoSlot, IsLowest, bits_of, has_bit, has_none, has_slot, no_bits, no_slots, slot_limit, slots_of}
 use Rattle.gl_slots.proofs.BitLemmas.{in_bits-zero, in_bits-above, in_bits-bits_below, bits_below-lt, same_slots as same_numbers}
 
--- sets with the same slots are one
+-- sets with the same slots are equal
 pub same_sets : (a b : Slots) → ((u : ℕ) → has_slot a u ≡ has_slot b u) → a ≡ b
 same_sets a b same = ap (λ n. record { bits = n }) (same_numbers a.bits b.bits same)
 
@@ -25,7 +25,7 @@ test-none s e u = ap (λ n. in_bits n u) (is-zero s.bits e) ∙ in_bits-zero u
     is-zero : (n : ℕ) → (n == 0) ≡ true → n ≡ 0
     is-zero n e = grind (arith, nat_tests)
 
--- no slot is in the set without slots
+-- no slot is in the empty set
 pub no_slots-none : HasNoSlot no_slots
 no_slots-none u = in_bits-zero u
 
@@ -34,7 +34,7 @@ pub slot_limit-is : slot_limit ≡ most_slots
 unfolding slot_limit
 slot_limit-is = refl
 
--- ranges that are filtered
+-- filtered ranges
 
 none-filtered : (p : ℕ → Bool) (a n : ℕ) → ((u : ℕ) → p u ≡ false) → filter p (range_with_len a n) ≡ []
 none-filtered p a zero none = refl
@@ -85,7 +85,7 @@ slots_of-lowest s t k l left =
     let high : k < slot_limit = rw slot_limit-is l.within in
     first-filtered (has_slot s) (has_slot t) 0 slot_limit k (omega arith) (omega arith) l.member l.none_below left
 
--- what boards show
+-- what snapshots show
 
 pub no_bits-none : (u : ℕ) → has_bit no_bits u ≡ false
 no_bits-none u = in_bits-zero u
@@ -108,7 +108,7 @@ bits_of-same p q same = same_numbers (bits_of p) (bits_of q)
     (λ above. bits_of-above p u above ∙ sym (bits_of-above q u above))
     (cases_lt u most_slots))
 
--- where none passes, the set without slots is shown
+-- if none passes, the empty set is shown
 pub bits_of-none : (p : ℕ → Bool) → ((u : ℕ) → u < most_slots → p u ≡ false) → bits_of p ≡ no_bits
 bits_of-none p none = same_numbers (bits_of p) no_bits
     (λ u. ⊎_elim

@@ -36,7 +36,7 @@ use Rattle.gl_slots.specs.Slots.{bits_of, has_bit, words_of}
 use Rattle.gl_slots.proofs.BitLemmas.{in_bits-zero, in_bits-above, in_bits-bits_below, bits_below-lt, same_slots_below}
 use Rattle.gl_slots.proofs.SlotLemmas.{bits_of-is, bits_of-same}
 
--- a number that is put together of two words has the bits of both
+-- a number made of two words has the bits of both
 pub in_words-two : (ws : List ℕ) (low high u : ℕ) → length ws ≡ 2 → get_or ws 0 0 ≡ low → get_or ws 1 0 ≡ high → low < 2 ^ 64 → high < 2 ^ 64
     → in_words ws u ≡ in_bits (high * 2 ^ 64 + low) u
 in_words-two ws low high u two is_low is_high fits_low fits_high = ⊎_elim first (λ le. ⊎_elim (second le) past (cases_lt u 128)) (cases_lt u 64)
