@@ -66,7 +66,7 @@ in_bits-and a b u =
     let y = bit_at-lt b u in
     grind (arith, nat_tests)
 
--- numbers with the same bits are one
+-- numbers with the same bits are equal
 pub same_slots_below : (n a b : ℕ) → a < 2 ^ n → b < 2 ^ n → ((u : ℕ) → u < n → in_bits a u ≡ in_bits b u) → a ≡ b
 same_slots_below n a b small_a small_b same = same_from_bits_below n a b small_a small_b each
   where
@@ -77,7 +77,7 @@ same_slots_below n a b small_a small_b same = same_from_bits_below n a b small_a
         let y = bit_at-lt b u in
         grind (arith, nat_tests)
 
--- one slot more, one slot less
+-- one more slot, one slot less
 
 more : (set after k u : ℕ) → bit_at after k ≡ 1 → (u ≢ k → bit_at after u ≡ bit_at set u) → in_bits after u ≡ (in_bits set u || (u == k))
 more set after k u same other = grind (arith, nat_tests)

@@ -25,7 +25,7 @@ pub slot_limit-is : slot_limit ≡ most_slots
 unfolding slot_limit
 slot_limit-is = refl
 
--- ranges that are filtered
+-- filtered ranges
 
 none-filtered : (p : ℕ → Bool) (a n : ℕ) → ((u : ℕ) → p u ≡ false) → filter p (range_with_len a n) ≡ []
 none-filtered p a zero none = refl
@@ -76,7 +76,7 @@ slots_of-lowest s t k l left =
     let high : k < slot_limit = rw slot_limit-is l.within in
     first-filtered (has_slot s) (has_slot t) 0 slot_limit k (omega arith) (omega arith) l.member l.none_below left
 
--- how long they are
+-- their lengths
 
 no_longer-filtered : (p q : ℕ → Bool) (a n : ℕ) → ((u : ℕ) → q u ≡ true → p u ≡ true)
     → length (filter q (range_with_len a n)) ≤ length (filter p (range_with_len a n))
@@ -126,18 +126,18 @@ fewer s t k low has left =
     let high : k < slot_limit = rw slot_limit-is low in
     shorter-filtered (has_slot s) (has_slot t) 0 slot_limit k (omega arith) (omega arith) has left
 
--- the test of a set without slots
+-- the test of the empty set
 pub none-test : (s : Slots) → HasNoSlot s → has_none s ≡ true
 none-test s none = none-idle s.words none
 
 pub test-none : (s : Slots) → has_none s ≡ true → HasNoSlot s
 test-none s e = idle-none s.words e
 
--- the set without slots has none
+-- the empty set has no slot
 pub no_slots-none : HasNoSlot no_slots
 no_slots-none u = in_words-zeros most_words u
 
--- what boards show
+-- what snapshots show
 
 abbrev set_of : List ℕ → Slots
 set_of words = record { words = words }
@@ -160,7 +160,7 @@ pub bits_of-same : (p q : ℕ → Bool) → ((u : ℕ) → u < most_slots → p 
 unfolding bits_of
 bits_of-same p q same = ap set_of (words_below-same most_words p q (λ u low. same u (omega arith)))
 
--- where none passes, the set without slots is shown
+-- if none passes, the empty set is shown
 pub bits_of-none : (p : ℕ → Bool) → ((u : ℕ) → u < most_slots → p u ≡ false) → bits_of p ≡ no_bits
 unfolding bits_of
 bits_of-none p none = ap set_of (words_below-none most_words p (λ u low. none u (omega arith)))

@@ -82,7 +82,7 @@ in_words-or a b c each u = ap (λ n. in_bits n (u % 64)) (each (u / 64)) ∙ in_
 pub in_words-and : (a b c : List ℕ) → ((w : ℕ) → get_or c w 0 ≡ bit_and (get_or a w 0) (get_or b w 0)) → (u : ℕ) → in_words c u ≡ (in_words a u && in_words b u)
 in_words-and a b c each u = ap (λ n. in_bits n (u % 64)) (each (u / 64)) ∙ in_bits-and (get_or a (u / 64) 0) (get_or b (u / 64) 0) (u % 64)
 
--- slots of one word are one where their bits are
+-- slots of the same word are equal if their bits are
 same-slot : (u k : ℕ) → u / 64 ≡ k / 64 → (u % 64 == k % 64) ≡ (u == k)
 same-slot u k e = let a = div-add-mod' u 64 in let b = div-add-mod' k 64 in grind (arith, nat_tests)
 
@@ -123,7 +123,7 @@ in_words-clear ws k low = changed (λ a b. a && not b) (λ b. plain b) ws k _ lo
     plain : (b : Bool) → (b && not false) ≡ b
     plain b = grind arith
 
--- past the words there is no bit
+-- beyond the words there is no bit
 pub in_words-past : (ws : List ℕ) (u : ℕ) → length ws ≤ u / 64 → in_words ws u ≡ false
 in_words-past ws u past = in_words-none ws u (get_or_past ws (u / 64) 0 past)
 
@@ -144,7 +144,7 @@ absent ws k none u = ⊎_elim (λ is. at (in_words ws u) (ap (in_words ws) is �
 pub in_words-all : (n u : ℕ) → u / 64 < n → in_words (replicate n (2 ^ 64 - 1)) u ≡ true
 in_words-all n u low = ap (λ m. in_bits m (u % 64)) (get_or-replicate n (u / 64) (2 ^ 64 - 1) 0 low) ∙ in_bits-ones 64 (u % 64) (mod-lt u (omega arith))
 
--- where bit b of word w stands
+-- the place of bit b of word w
 at_place : (ws : List ℕ) (w b : ℕ) → b < 64 → in_words ws (w * 64 + b) ≡ in_bits (get_or ws w 0) b
 at_place ws w b low =
     let d : (w * 64 + b) / 64 ≡ w = omega arith in
@@ -222,7 +222,7 @@ none-word n e v low = let z : n % 2 ^ 64 ≡ 0 = zero_from (n % 2 ^ 64) e in sym
 abbrev pub is_idle : ℕ → Bool
 is_idle w = w % 2 ^ 64 == 0
 
--- words are all idle where no bit is set
+-- all words are 0 if no bit is set
 pub idle-none : (ws : List ℕ) → list_all is_idle ws ≡ true → (u : ℕ) → in_words ws u ≡ false
 idle-none ws all u =
     ⊎_elim
@@ -313,7 +313,7 @@ words_below-same (suc n) p q same =
     (bits_below-is 64 (bits_below 64 p) q (bits_below-lt 64 p) (λ u low. in_bits-bits_below 64 p u low ∙ same u (omega arith)))
     (words_below-same n (λ u. p (64 + u)) (λ u. q (64 + u)) (λ u low. same (64 + u) (omega arith)))
 
--- where none passes, the words are 0
+-- if none passes, the words are 0
 pub words_below-none : (n : ℕ) (p : ℕ → Bool) → ((u : ℕ) → u < n * 64 → p u ≡ false) → words_below n p ≡ replicate n 0
 words_below-none zero p none = refl
 words_below-none (suc n) p none =

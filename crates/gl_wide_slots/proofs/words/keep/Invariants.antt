@@ -1,7 +1,7 @@
 use Rattle.std.proofs.Common.{◌≡◌, ℕ, ◌<◌, ◌≤◌, get_or, bit_and}
 use Rattle.gl_wide_slots.proofs.words.keep.Given as goal
 
--- the words before are written, those from here on are as they were
+-- the words before are written, those from here on stay
 abbrev pub invariant-loop-place : goal.invariant-loop-place
 invariant-loop-place l = record {
   written : (w : ℕ) → w < l.place → get_or l.words w 0 ≡ bit_and (get_or l.fn.words w 0) (get_or l.others w 0);
