@@ -1,4 +1,4 @@
--- The first of the listed nodes that pass a test, the marking of covered children, and who is held to write. For lists.
+-- The first of the listed nodes that pass a test, the marking of covered children, and nodes held to write. For lists.
 use Rattle.gl_graph.proofs.Look.{found_at, live_node}
 use Rattle.gl_graph.proofs.Moved.{any_found}
 use Rattle.gl_graph.proofs.RouteLengths.{listed}
@@ -29,11 +29,11 @@ use Rattle.std.specs.Prelude.{zero, ℕ, ◌&&◌, ◌++◌, ◌+◌, ◌<◌, �
 
 -- Modes.
 
--- who holds to write holds
+-- a node held to write is held
 pub write_held : (m : Mode) → is_at_least m IX ≡ true → not (same_mode m NL) ≡ true
 write_held m h = search rules
 
--- who does not hold holds NL
+-- a node that is not held is held in NL
 pub nl_is : (a : Mode) → not (same_mode a NL) ≡ false → a ≡ NL
 nl_is a h = search rules
 
@@ -91,7 +91,7 @@ module _ (p : NodeId → Bool) (ns : List NodeId) (n : NodeId) (first : Option N
         );
       }
 
--- whichever it is
+-- in either case
 pub first_more : (p : NodeId → Bool) (ns : List NodeId) (n : NodeId) (first after : Option NodeId) → IsFirst p ns first
     → after ≡ (if p n && option_map_or (λ o. nat_lt n.birth o.birth) first true then Some n else first) → IsFirst p (ns ++ n ∷ []) after
 first_more p ns n first after is e = subst (IsFirst p (ns ++ n ∷ [])) (sym e) (split (p n)
@@ -119,7 +119,7 @@ find_born p at k (suc n) f b lo hi here passes before =
     skip (Some c) e h rest = ap (λ o. find p (cons_option o (filter_map at (range_with_len (k + 1) n)))) e
         ∙ ap (λ x. cond x (Some c) (find p (filter_map at (range_with_len (k + 1) n)))) (h c e) ∙ rest
 
--- and where none passes none is found
+-- and if none passes, none is found
 find_none : (p : NodeId → Bool) (at : ℕ → Option NodeId) (k n : ℕ) → ((j : ℕ) (c : NodeId) → at j ≡ Some c → p c ≡ false)
     → find p (filter_map at (range_with_len k n)) ≡ None
 find_none p at k zero h = refl
@@ -134,7 +134,7 @@ id_birth : (b : ℕ) (o : Option Node) (c : NodeId) → id_of b o ≡ Some c →
 id_birth b None c e = absurd (cc)
 id_birth b (Some x) c e = let is : record { key = x.key; birth = b } ≡ c = cc in sym (ap (λ z. z.birth) is)
 
--- where the nodes seen are all that pass, the first of them is the first in the graph
+-- if the nodes seen are all that pass, the first of them is the first in the graph
 pub first_found : (g : Graph) → IsLawfulGraph g → (p : NodeId → Bool) (seen : List NodeId) (first : Option NodeId)
     → ((c : NodeId) → p c ≡ true → (list_any (same_node c) seen ≡ true) × (is_live g c ≡ true)) → IsFirst p seen first
     → first ≡ find p (nodes g)
@@ -148,7 +148,7 @@ first_found g law p seen (Some f) all is =
     (ap (id_of f.birth) at.0 ∙ ap (λ k. Some (record { key = k; birth = f.birth })) at.1) (is.some f refl).0
     (λ j c lt e. split (p c) (λ h. let le = (is.some f refl).1 c (all c h).0 h in let b = id_birth j (g.at j) c e in absurd (omega arith)) (λ h. h)))
 
--- what is held is listed
+-- a held node is listed
 pub held_listed : (l : LockList) (n : NodeId) → not (same_mode (mode_of l n) NL) ≡ true → list_any (same_node n) (keys l.entries) ≡ true
 held_listed l n h = sym (is_some-lookup (same_node n) l.entries.entries) ∙ by (entry_of l n) refl h
   where
@@ -183,7 +183,7 @@ held_in a true c d h = refl
 held_in true false c d h = h
 held_in false false c d h = h
 
--- of the covered children of n those among these are marked, and all else is as it was
+-- those covered children of n that are among these are marked, and all else stays
 abbrev pub HasMarked : Graph → NodeId → LockList → LockList → List NodeId → Type 0
 HasMarked g n was l ks = (q : NodeId) → mode_of l q ≡ (if covered_in g was n q && list_any (same_node q) ks then NL else mode_of was q)
 
@@ -192,7 +192,7 @@ module _ (g : Graph) (n : NodeId) (was : LockList) (counted : (c p : NodeId) →
   stays : (l : LockList) (ks : List NodeId) → HasMarked g n was l ks → (q : NodeId) → covered_in g was n q ≡ false → mode_of l q ≡ mode_of was q
   stays l ks h q out = h q ∙ ap (λ b. if b && list_any (same_node q) ks then NL else mode_of was q) out
 
-  -- whether a node that is not marked is covered, the marks do not change
+  -- the marks do not change whether an unmarked node is covered
   still_covered : (l : LockList) (ks : List NodeId) → HasMarked g n was l ks → ((q : NodeId) → count_of l q ≡ count_of was q) → (c : NodeId)
       → mode_of l c ≡ mode_of was c → covered_in g l n c ≡ covered_in g was n c
   still_covered l ks h counts c same = split (not (same_mode (mode_of was c) NL)) held free
@@ -286,7 +286,7 @@ module _ (g : Graph) (n : NodeId) (was : LockList) (counted : (c p : NodeId) →
       h q ∙ ap₂ (λ a b. if a && b then NL else mode_of was q) e seen ∙ sym (ap (λ b. if b then NL else mode_of was q) e))
       (λ e. stays l (take at (keys was.entries)) h q e ∙ sym (ap (λ b. if b then NL else mode_of was q) e))
 
--- Whether some child is held to write, asked of what is listed.
+-- Whether some child is held to write, found among the listed nodes.
 
 -- one that is listed and passes is found
 pub one_found : (f : NodeId → Bool) (q : NodeId) (xs : List NodeId) → f q ≡ true → list_any (same_node q) xs ≡ true → list_any f xs ≡ true
@@ -294,14 +294,14 @@ one_found f q [] h k = k
 one_found f q (x ∷ xs) h k = or_elim _ _ k (λ here. or_left _ _ (ap f (sym (same_node-equal q x here)) ∙ h))
     (λ there. or_right (f x) _ (one_found f q xs h there))
 
--- where all that pass a test stand in both of two lists, some pass it in one where some do in the other
+-- if all that pass a test are in both of two lists, some pass it in one if some do in the other
 any_alike : (p : NodeId → Bool) (xs ys : List NodeId) → ((c : NodeId) → p c ≡ true → list_any (same_node c) xs ≡ true)
     → ((c : NodeId) → p c ≡ true → list_any (same_node c) ys ≡ true) → list_any p xs ≡ list_any p ys
 any_alike p xs ys in_xs in_ys = split (list_any p ys)
     (λ e. let f = any_found p ys e in one_found p f.0 xs f.2 (in_xs f.0 f.2) ∙ sym e)
     (λ e. not_true _ (λ h. let f = any_found p xs h in clash (one_found p f.0 ys f.2 (in_ys f.0 f.2)) e) ∙ sym e)
 
--- all that is held is listed, and lives
+-- all held nodes are listed, and live
 pub writes_listed : (g : Graph) → IsLawfulGraph g → (l : LockList) (n : NodeId) → ((c : NodeId) → not (same_mode (mode_of l c) NL) ≡ true → is_live g c ≡ true)
     → list_any (λ c. is_child g n c && is_at_least (mode_of l c) IX) (keys l.entries) ≡ list_any (λ c. is_child g n c && is_at_least (mode_of l c) IX) (nodes g)
 writes_listed g law l n live = any_alike (λ c. is_child g n c && is_at_least (mode_of l c) IX) (keys l.entries) (nodes g) (λ c h. held_listed l c (held c h))

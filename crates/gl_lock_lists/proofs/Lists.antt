@@ -29,7 +29,7 @@ use Rattle.std.proofs.lemmas.List.{length-set}
 abbrev pub IsWritten : {X : Type 0} → NodeId → List (NodeId × X) → List (NodeId × X) → Option X → Type 0
 IsWritten n es fs o = (q : NodeId) → lookup (same_node q) fs ≡ cond (same_node n q) o (lookup (same_node q) es)
 
--- a list that stays is as if what it has at n had been written there
+-- an unchanged list is as if its entry at n had been written there
 pub IsWritten-same : {X : Type 0} (n : NodeId) (es : List (NodeId × X)) → IsWritten n es es (lookup (same_node n) es)
 IsWritten-same n es = λ q. by q (same_node n q) refl
   where
@@ -37,7 +37,7 @@ IsWritten-same n es = λ q. by q (same_node n q) refl
     by q true h = ap (λ x. lookup (same_node x) es) (sym (same_node-equal n q h))
     by q false h = refl
 
--- two writes at one node leave the second
+-- of two writes at one node the second remains
 pub IsWritten-twice : {X : Type 0} (n : NodeId) (es fs gs : List (NodeId × X)) (o w : Option X) → IsWritten n es fs o → IsWritten n fs gs w
     → IsWritten n es gs w
 IsWritten-twice {X = X} n es fs gs o w a b = λ q. b q ∙ ap (cond (same_node n q) w) (a q) ∙ by (same_node n q) (lookup (same_node q) es)
@@ -70,8 +70,8 @@ at_each C n es fs ls ms o k w v here stays q = by (same_node q n) refl
     by false h =
         rw (written_apart n es fs o w q h, written_apart n ls ms k v q h) (stays (lookup (same_node q) es) (lookup (same_node q) ls))
 
--- What a change keeps or makes of the entry x and the loose count y of one node, as `at_each` takes it:
--- b says whether it is the node of the change, and x' and y' are what it has now.
+-- What a change keeps or makes of the entry x and the separate count y of one node, as `at_each` needs it: b says whether it is the node of the change, and x'
+-- and y' are what it has now.
 
 abbrev pub SameListed : Bool → Option Entry → Option ℕ → Option Entry → Option ℕ → Type 0
 SameListed b x y x' y' = is_some x' ≡ is_some x
@@ -82,11 +82,11 @@ SameCount b x y x' y' = count_in x' y' ≡ count_in x y
 abbrev pub SameMode : Bool → Option Entry → Option ℕ → Option Entry → Option ℕ → Type 0
 SameMode b x y x' y' = mode_in x' ≡ mode_in x
 
--- a node that was not both listed and counted apart still is not
+-- a node that was not both listed and counted separately still is not
 abbrev pub StaysApart : Bool → Option Entry → Option ℕ → Option Entry → Option ℕ → Type 0
 StaysApart b x y x' y' = (is_some x ≡ true → y ≡ None) → is_some x' ≡ true → y' ≡ None
 
--- only the node of the change is taken out
+-- only the node of the change is removed
 abbrev pub IsTakenOut : Bool → Option Entry → Option ℕ → Option Entry → Option ℕ → Type 0
 IsTakenOut b x y x' y' = is_some x' ≡ (is_some x && not b)
 
@@ -97,7 +97,7 @@ pub IsTakenOut-apart : (x : Option Entry) (y : Option ℕ) → IsTakenOut false 
 IsTakenOut-apart (Some x) y = refl
 IsTakenOut-apart None y = refl
 
--- what is counted of a node that is not listed
+-- the separate count of a node that is not listed
 pub count_in-unlisted : (x : Option Entry) (y : Option ℕ) → is_some x ≡ false → count_in x y ≡ unwrap_or y 0
 count_in-unlisted (Some x) y h = cc
 count_in-unlisted None (Some k) h = refl
@@ -107,7 +107,7 @@ count_in-unlisted None None h = refl
 abbrev pub CountsDown : Bool → Option Entry → Option ℕ → Option Entry → Option ℕ → Type 0
 CountsDown b x y x' y' = count_in x' y' + (if b then 1 else 0) ≡ count_in x y
 
--- the last child that is counted of a node that is not listed
+-- the last counted child of a node that is not listed
 pub CountsDown-last : (x : Option Entry) (y : Option ℕ) (k : ℕ) → None ≡ x → Some k ≡ y → 0 < count_in x y → k - 1 ≡ 0 → CountsDown true x y x None
 CountsDown-last (Some e) y k h i some last = cc
 CountsDown-last None None k h i some last = cc
@@ -139,7 +139,7 @@ module _ (covered : NodeId → Bool) (child n q : NodeId) (m : Mode) (same : n �
       by true = refl
       by false = refl
 
--- what is held is not marked
+-- a held node is not marked
 pub held_not : (m : Mode) → not (same_mode m NL) ≡ true → same_mode m NL ≡ false
 held_not m h = by (same_mode m NL) h
   where
@@ -147,7 +147,7 @@ held_not m h = by (same_mode m NL) h
     by true e = sym e
     by false e = refl
 
--- where a test fails at a place and further back, it fails from that place on
+-- if a test fails at a place and after it, it fails from that place on
 pub first_or_later : {A : Type 0} (es : List (NodeId × A)) (at : ℕ) (p : NodeId × A) → Some p ≡ slice_get es at → (test : NodeId → Bool) → test p.0 ≡ false
     → ((i : ℕ) (n : NodeId) → at + 1 ≤ i → slice_get (map (λ e. e.0) es) i ≡ Some n → test n ≡ false) → (i : ℕ) (n : NodeId) → at ≤ i
     → slice_get (map (λ e. e.0) es) i ≡ Some n → test n ≡ false
@@ -155,7 +155,7 @@ first_or_later es at p is test here later i n le found = split (nat_lt at i)
     (λ e. let lt : at < i = grind (arith, nat_tests) in later i n (omega arith) found)
     (λ e. let same : i ≡ at = grind (arith, nat_tests) in ap test (key_at es at p n is (ap (slice_get (map (λ x. x.0) es)) (sym same) ∙ found)) ∙ here)
 
--- an item that passes stands no earlier than the first that passes
+-- an item that passes is no earlier than the first that passes
 pub first_place : {K : Type 0} (t : K → Bool) (xs : List K) (at : ℕ) (n : K) → slice_get xs at ≡ Some n → t n ≡ true → position_or_len t xs ≤ at
 first_place t [] at n is h = absurd (cc)
 first_place t (x ∷ xs) zero n is h =
@@ -169,7 +169,7 @@ first_place t (x ∷ xs) (suc at) n is h =
     (λ e. let more : cond (not (t x)) (1 + position_or_len t xs) 0 ≡ 1 + position_or_len t xs = ap (λ b. cond (not b) (1 + position_or_len t xs) 0) e in
     omega (arith, more, rest))
 
--- what is left once the last item was moved to an earlier place
+-- the list after the last item is moved to an earlier place
 module _ {K : Type 0} (ys : List K) (p at : ℕ) (d n : K) (le : p ≤ at) (here : slice_get ys at ≡ Some n) where
   within : at < length ys
   within = slice_get_within ys at n here
@@ -201,7 +201,7 @@ module _ {K : Type 0} (ys : List K) (p at : ℕ) (d n : K) (le : p ≤ at) (here
       is : m ≡ get_or (slice_set ys p last) i d
       is = sym (get_or_from_slice_get (swap_remove ys p d) i m d found) ∙ get_or-take (length ys - 1) (slice_set ys p last) i d short
 
--- where an item that passes stands, the first that passes is taken out
+-- the first item that passes is removed
 taken_first : {K : Type 0} (t : K → Bool) (ks : List K) (at : ℕ) (n : K) → slice_get ks at ≡ Some n → t n ≡ true → (p : ℕ) × (d : K) × (p ≤ at)
     × (swap_remove_by t ks ≡ swap_remove ks p d)
 taken_first t [] at n is h = absurd (cc)
@@ -218,7 +218,7 @@ listed_at [] i m is = absurd (cc)
 listed_at (k ∷ ks) zero m is = or_left (same_node m k) (list_any (same_node m) ks) (same_node-from_equal m k (sym (some_is is)))
 listed_at (k ∷ ks) (suc i) m is = or_right (same_node m k) (list_any (same_node m) ks) (listed_at ks i m is)
 
--- the node at a place is taken out, and the last one takes a place no further back
+-- the node at a place is removed, and the last one is moved to a place no later than its own
 module _ (ks rest : List NodeId) (at : ℕ) (n : NodeId) (is : rest ≡ swap_remove_by (same_node n) ks) (here : slice_get ks at ≡ Some n) where
   taken : (p : ℕ) × (d : NodeId) × (p ≤ at) × (swap_remove_by (same_node n) ks ≡ swap_remove ks p d)
   taken = taken_first (same_node n) ks at n here (same_node-refl n)
@@ -237,7 +237,7 @@ module _ (ks rest : List NodeId) (at : ℕ) (n : NodeId) (is : rest ≡ swap_rem
       let was = moved_later ks taken.0 at taken.1 n taken.2 here i m low (ap (λ l. slice_get l i) (sym (is ∙ taken.3)) ∙ found) other in
       same m other ∙ later was.0 m was.1 was.2
 
--- a node that is among them stands at a place
+-- a node that is among them has a place
 pub place_of_listed : (ks : List NodeId) (n : NodeId) → list_any (same_node n) ks ≡ true → (i : ℕ) × (slice_get ks i ≡ Some n)
 place_of_listed [] n h = absurd (cc)
 place_of_listed (k ∷ ks) n h = split (same_node n k) (λ e. (0, ap Some (sym (same_node-equal n k e))))
@@ -249,7 +249,7 @@ place_from ks zero n h = let at = place_of_listed ks n h in (at.0, omega arith, 
 place_from [] (suc mark) n h = absurd (cc)
 place_from (k ∷ ks) (suc mark) n h = let rest = place_from ks mark n h in let low : mark ≤ rest.0 = rest.1 in (suc rest.0, omega (arith, low), rest.2)
 
--- a node that stands behind another where each stands once is another
+-- a node after another is a different one, if no node is listed twice
 later_differs : (k : NodeId) (ks : List NodeId) (at : ℕ) (n : NodeId) → AllByRecursion (λ y. same_node k y ≡ false) ks → slice_get ks at ≡ Some n
     → same_node k n ≡ false
 later_differs k [] at n h here = absurd (cc)
@@ -268,7 +268,7 @@ once_at (k ∷ ks) (suc at) n once here =
     (same_node-sym n k ∙ later_differs k ks at n (IsDistinct-head same_node k ks once) here) in
     omega (arith, more, rest)
 
--- and it does not stand before it
+-- and it is not before it
 pub none_before : (ks : List NodeId) (at : ℕ) (n : NodeId) → IsDistinct same_node ks → slice_get ks at ≡ Some n → list_any (same_node n) (take at ks) ≡ false
 none_before [] at n once here = absurd (cc)
 none_before (k ∷ ks) zero n once here = refl
@@ -276,7 +276,7 @@ none_before (k ∷ ks) (suc at) n once here =
     ap₂ (λ a b. a || b) (same_node-sym n k ∙ later_differs k ks at n (IsDistinct-head same_node k ks once) here)
     (none_before ks at n (IsDistinct-tail same_node k ks once) here)
 
--- the first that passes is taken out of its place
+-- the first that passes is removed from its place
 taken_there : {K : Type 0} (t : K → Bool) (ks : List K) (at : ℕ) → position_or_len t ks ≡ at → at < length ks
     → (d : K) × (swap_remove_by t ks ≡ swap_remove ks at d)
 taken_there t [] at first lt = absurd (omega arith)
@@ -286,7 +286,7 @@ taken_there t (x ∷ xs) at first lt = (
       ∙ ap (λ b. option_map_or (λ i. swap_remove (x ∷ xs) i x) (cond b (Some at) None) (x ∷ xs)) (lt-ltb at (length (x ∷ xs)) lt),
 )
 
--- a node is taken out where each stands once
+-- a node is removed from a list that has no node twice
 module _ (ks rest : List NodeId) (n : NodeId) (is : rest ≡ swap_remove_by (same_node n) ks) where
   -- those before it stay
   pub stay_before : IsDistinct same_node ks → (at : ℕ) → slice_get ks at ≡ Some n → take at rest ≡ take at ks
@@ -305,7 +305,7 @@ module _ (ks rest : List NodeId) (n : NodeId) (is : rest ≡ swap_remove_by (sam
       let shorter : length rest ≡ length ks - 1 = ap length (is ∙ there.3) ∙ moved_length ks there.0 at.0 there.1 n there.2 at.1 in
       omega (arith, lt, shorter)
 
--- what is still listed was not taken out
+-- a node that is still listed was not removed
 pub not_taken : (a b : Bool) → (a && not b) ≡ true → b ≡ false
 not_taken a false h = refl
 not_taken true true h = sym h
