@@ -1,4 +1,4 @@
--- What a scan of rows finds, and what is left of rows once one is put in or taken out. For both forms of a map of nodes.
+-- What a scan of entries finds, and the entries after one is inserted or removed. For both forms of a map of nodes.
 use Rattle.std.proofs.Common.{◌≡◌, ◌+◌, ◌-◌, ◌<◌, ◌∙◌, ◌∷◌, ◌++◌, [], ℕ, suc, zero, ap, arith, Bool, cond, false, get_or, IfSome, length, List, None}
 use Rattle.std.proofs.Common.{Option, position, refl, slice_get, slice_set, Some, subst, sym, take, take_at, take-append-drop, drop, true}
 use Rattle.std.proofs.lemmas.List.{append-nil, drop_more, length_push, map_push, nil_from_length, take_more}
@@ -23,7 +23,7 @@ use Rattle.gl_modes.proofs.NodeLemmas.{same_node-equal, same_node-refl, same_nod
 pub node_equivalence : IsEquivalence same_node
 node_equivalence = record { refl = same_node-refl; symm = same_node-sym; congr = λ a b c h. ap (λ x. same_node x c) (same_node-equal a b h) }
 
--- nothing stands after the rows
+-- there is nothing after the entries
 pub nothing_after : {X : Type 0} (xs ys : List X) → length ys ≡ 0 → xs ++ ys ≡ xs
 nothing_after xs ys h = ap (λ l. xs ++ l) (nil_from_length ys h) ∙ append-nil xs
 
@@ -33,17 +33,17 @@ module _ {V : Type 0} where
   all_other n [] h = tt
   all_other n (e ∷ es) h = (same_node-sym n e.0 ∙ h 0 e (omega arith), all_other n es (λ i d lt. h (suc i) d (omega arith)))
 
-  -- where no row has the node, it is not found
+  -- if no entry has the node, it is not found
   pub no_place : (n : NodeId) (es : List (NodeId × V)) → ((i : ℕ) (d : NodeId × V) → i < length es → same_node (get_or es i d).0 n ≡ false)
       → position (same_node n) (keys_of es) ≡ None
   no_place n es h = index-absent (same_node n) es (all_other n es h)
 
-  -- a row stands where its node is found
+  -- an entry is at the place where its node is found
   pub place_of_row : (es : List (NodeId × V)) → IsDistinct same_node (keys_of es) → (i : ℕ) (p : NodeId × V) → slice_get es i ≡ Some p
       → position (same_node p.0) (keys_of es) ≡ Some i
   place_of_row es distinct i p at = index-first (same_node p.0) es i (own_first same_node node_equivalence es i p.0 p.1 distinct at)
 
-  -- a row that has the node is where the node is found
+  -- the entry that has the node is where the node is found
   pub place_found : (es : List (NodeId × V)) → IsDistinct same_node (keys_of es) → (n : NodeId) (i : ℕ) (d : NodeId × V) → i < length es
       → same_node (get_or es i d).0 n ≡ true → position (same_node n) (keys_of es) ≡ Some i
   place_found es distinct n i d lt h =
@@ -54,13 +54,13 @@ module _ {V : Type 0} where
   abbrev pub Writes : NodeId → List (NodeId × V) → List (NodeId × V) → Option V → Type 0
   Writes n es fs o = Updates same_node (hash_map {S = Unit {0}} es tt 0) (hash_map {S = Unit {0}} fs tt 0) n o
 
-  -- what is left once the row at a place is taken out and the last one takes its place
+  -- the entries after the one at a place is removed and the last one takes its place
   pub row_out : (es : List (NodeId × V)) → IsDistinct same_node (keys_of es) → (i : ℕ) (p : NodeId × V) → slice_get es i ≡ Some p
       → (fs : List (NodeId × V)) → fs ≡ swap_remove es i p → Out same_node node_equivalence (same_node p.0) es fs p
   row_out es distinct i p at fs after =
       swap_out same_node node_equivalence (same_node p.0) (node_equivalence.congr p.0) es i p (place_of_row es distinct i p at) at distinct fs after
 
-  -- where no row has the node, all stays
+  -- if no entry has the node, all stays
   pub none_taken : (n : NodeId) (es : List (NodeId × V)) → position (same_node n) (keys_of es) ≡ None → Writes n es es None
   none_taken n es none = none_out same_node node_equivalence (same_node n) (node_equivalence.congr n) es es none refl
 
@@ -77,7 +77,7 @@ module _ {V : Type 0} where
       by true rest none = cc
       by false rest none = rest none
 
-  -- what a row that is put last does
+  -- an entry that is inserted last
   pub put_last : (n : NodeId) (v : V) (es : List (NodeId × V)) → lookup (same_node n) es ≡ None → Writes n es (es ++ (n, v) ∷ []) (Some v)
   unfolding KeepsOthers
   put_last n v es none = (
@@ -100,11 +100,11 @@ module _ {V : Type 0} where
       subst (IsDistinct same_node) (sym (map_push (λ e. e.0) es (n, v)))
       (IsDistinct-push node_equivalence (keys_of es) n distinct (sym (is_some-lookup (same_node n) es) ∙ ap is_some none))
 
-  -- the same of lists that are equal to these
+  -- the same for equal lists
   pub writes_as : (n : NodeId) (es fs es' fs' : List (NodeId × V)) (o : Option V) → es' ≡ es → fs' ≡ fs → Writes n es fs o → Writes n es' fs' o
   writes_as n es fs es' fs' o same now w = subst (λ l. Writes n l fs' o) (sym same) (subst (λ l. Writes n es l o) (sym now) w)
 
-  -- the rows before a place, and the one there
+  -- the entries before a place, and the one there
   pub put_next : (rows es : List (NodeId × V)) (i : ℕ) (d : NodeId × V) → i < length rows → IsDistinct same_node (keys_of rows) → es ≡ take i rows
       → insert_entry same_node es (get_or rows i d).0 (get_or rows i d).1 ≡ take (i + 1) rows
   put_next rows es i d lt distinct is =
@@ -115,7 +115,7 @@ module _ {V : Type 0} where
       ap (λ l. insert_entry same_node l row.0 row.1) is
       ∙ insert_entry-new same_node (hash_map {S = Unit {0}} (take i rows) tt 0) row.0 row.1 none ∙ sym (take_more rows i d lt)
 
-  -- a value that is written in a row is written at its place
+  -- a value that is written in an entry is written at its place
   pub row_set : (es : List (NodeId × V)) (i : ℕ) (p : NodeId × V) (w : V) → slice_get es i ≡ Some p → slice_set es i (p.0, w) ≡ set_value_at es i w
   row_set [] i p w at = refl
   row_set (e ∷ es) zero p w at = let same : e ≡ p = cc in ap (λ k. (k, w) ∷ es) (ap (λ x. x.0) (sym same))
@@ -127,7 +127,7 @@ module _ {V : Type 0} where
   other_at n (e ∷ es) zero p h at = let same : e ≡ p = cc in ap (λ x. same_node n x.0) (sym same) ∙ h.0
   other_at n (e ∷ es) (suc i) p h at = other_at n es i p h.1 at
 
-  -- what is written at the place of a row is written at its node
+  -- what is written at the place of an entry is written at its node
   pub set_there : (es : List (NodeId × V)) → IsDistinct same_node (keys_of es) → (i : ℕ) (p : NodeId × V) (w : V) → slice_get es i ≡ Some p
       → set_value_at es i w ≡ set_value (same_node p.0) es w
   unfolding IsDistinct
@@ -140,7 +140,7 @@ module _ {V : Type 0} where
       let other : same_node p.0 e.0 ≡ false = same_node-sym p.0 e.0 ∙ other_at e.0 es i p distinct.0 at in
       ap (λ l. e ∷ l) (set_there es distinct.1 i p w at) ∙ sym (ap (λ b. cond b ((e.0, w) ∷ es) (e ∷ set_value (same_node p.0) es w)) other)
 
-  -- where no row has the node, nothing is written
+  -- if no entry has the node, nothing is written
   pub set_nowhere : (t : NodeId → Bool) (es : List (NodeId × V)) (w : V) → lookup t es ≡ None → set_value t es w ≡ es
   set_nowhere t [] w none = refl
   set_nowhere t (e ∷ es) w none = by (t e.0) (set_nowhere t es w) none
@@ -150,7 +150,7 @@ module _ {V : Type 0} where
       by true rest none = absurd (cc)
       by false rest none = ap (λ l. e ∷ l) (rest none)
 
-  -- the row where a node is found
+  -- the entry at the place where a node is found
   pub row_at : (n : NodeId) (es : List (NodeId × V)) (i : ℕ) → position (same_node n) (keys_of es) ≡ Some i → (v : V) × (slice_get es i ≡ Some (n, v))
   row_at n es i at = by (slice_get es i) refl
     where

@@ -2,7 +2,7 @@ use Rattle.std.proofs.Common.{◌+◌, ◌≡◌, ◌≤◌, take}
 use Rattle.indexmap.specs.IndexMap.{spare}
 use Rattle.gl_node_map.proofs.rows.move_all.Given as goal
 
--- the rows so far stand in the map
+-- the entries so far are in the hash map
 abbrev pub invariant-loop-row : goal.invariant-loop-row
 invariant-loop-row g l = record {
   moved : l.map.entries ≡ take l.row-index l.fn.rows.items;

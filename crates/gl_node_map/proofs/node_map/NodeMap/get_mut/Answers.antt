@@ -9,7 +9,7 @@ use Rattle.gl_node_map.specs.Rows.{Listed}
 use Rattle.gl_node_map.proofs.RowLemmas.{node_equivalence, row_at, set_nowhere, set_there}
 use Rattle.gl_node_map.proofs.node_map.NodeMap.get_mut.Goals as goal
 
--- what is written through the value where a node was found, is written under the node
+-- what is written through the value at the place of a node is written under the node
 lend : {V : Type 0} (m m' : Listed V) → m' ≡ m → IsUnique same_node m → (n : NodeId) (place : ℕ) → index_of same_node m n ≡ Some place → (w : V)
     → WritesThrough same_node (same_node n) m w (with_value_at m' place w)
 lend {V} m m' same unique n place index w =

@@ -9,7 +9,7 @@ use Rattle.gl_node_map.proofs.RowLemmas.{nothing_after, put_last, put_last-disti
 use Rattle.gl_node_map.proofs.node_map.NodeMap.insert_new.Given.{Over}
 use Rattle.gl_node_map.proofs.node_map.NodeMap.insert_new.Goals as goal
 
--- the row is put last in the map
+-- the entry is inserted last in the hash map
 module _ (g : Over) (c : goal.After-put g) where
   none_scanned : c.self.inside.rows.items ≡ []
   none_scanned = let some : 0 < length c.self.inside.map.entries = search rules in c.self.invariant.apart some
@@ -34,7 +34,7 @@ pub returns-then-not-is_empty-clause-len : goal.returns-then-not-is_empty-clause
 returns-then-not-is_empty-clause-len g c =
     ap length (returns-then-not-is_empty-clause-entries g c) ∙ length_push c.args.self.now.entries (c.args.node, c.args.value)
 
--- the row is put last among those that are scanned
+-- the entry is inserted last among those that are scanned
 module _ (g : Over) (c : goal.After-push_reserved g) where
   were_scanned : c.args.self.now.entries ≡ c.self.inside.rows.items
   were_scanned =
@@ -69,7 +69,7 @@ returns-then-len-lt-SHORT-clause-updates g c =
 pub returns-then-len-lt-SHORT-clause-unique : goal.returns-then-len-lt-SHORT-clause-unique
 returns-then-len-lt-SHORT-clause-unique g c = subst (λ es. IsDistinct same_node (keys_of es)) (sym (are_scanned g c)) (still_distinct g c)
 
--- all rows are moved, and the row is put last in the map
+-- all entries are moved, and the new one is inserted last in the hash map
 module _ (g : Over) (c : goal.After-put-else-len-lt-SHORT g) where
   were_moved : c.args.self.now.entries ≡ c.move_all.new.map.entries
   were_moved =

@@ -15,7 +15,7 @@ use Rattle.gl_node_map.proofs.RowLemmas.{nothing_after, row_set}
 use Rattle.gl_node_map.proofs.node_map.NodeMap.value_mut.Given.{Over}
 use Rattle.gl_node_map.proofs.node_map.NodeMap.value_mut.Goals as goal
 
--- the rows before the value is lent, and the one that is lent of
+-- the entries before the value is lent, and the one that is lent of
 module _ (g : Over) (c : goal.After-self-then-is_empty-1 g) where
   abbrev rows : List (NodeId × g.row.V.Denot)
   rows = c.self.inside.rows.items
