@@ -1,6 +1,6 @@
 #!/usr/bin/env bash
-# below.sh CRATE: prints the crate and all of the repository that it stands on, a line each, lowest first, as crates.txt has
-# them.
+# below.sh CRATE: prints the crate and all crates of the repository that it depends on, a line each, lowest first, as
+# crates.txt has them.
 set -uo pipefail
 [ $# -eq 1 ] || { sed -n '2,3s/^# //p' "$0" >&2; exit 2; }
 cd "$(dirname "$0")/.." || exit 2

@@ -66,7 +66,7 @@ class Runs:
         parent_of = parents()
         works = {pid: work_of(words_of(pid)) for pid in parent_of}
         for pid, work in works.items():
-            # What a run of the prover starts itself is counted with that run.
+            # Processes that a run of the prover starts are counted with that run.
             if not work or works.get(parent_of[pid]) or not is_below(pid, top, parent_of):
                 continue
             fields = text_of(f"/proc/{pid}/stat").rpartition(b")")[2].split()

@@ -1,9 +1,9 @@
 #!/usr/bin/env bash
-# build.sh [--look] PROGRAM: proves a program of this repository with all that it stands on, side by side where
-# that can be, and leaves it as crates/PROGRAM/out/PROGRAM. Does nothing where it is there and no source is newer;
-# where another build of it is under way, that one is awaited. Tells on standard error how far it is. The
-# proof is the one of `rt ci`, on a copy of these crates without wrong bodies, and is kept for `rt ci`.
-# With --look it builds nothing, and ends with status 1 where there is something to build.
+# build.sh [--look] PROGRAM: proves a program of this repository with all crates that it depends on, in parallel if
+# possible, and leaves it as crates/PROGRAM/out/PROGRAM. Does nothing if it is there and no source is newer. If
+# another build of it runs, waits for that one. Reports its progress on standard error. The proof is that of
+# `rt ci`, on a copy of these crates without mutants, and is kept for `rt ci`.
+# With --look it builds nothing, and ends with status 1 if there is something to build.
 set -uo pipefail
 looks=
 if [ "${1:-}" = --look ]; then
@@ -21,8 +21,8 @@ is_old() {
     [ -n "$(find "$here/crates.txt" "$here/crates" -name out -prune -o -type f -newer "$out/built" -print -quit)" ]
 }
 
-# Adds to `crates` those of this repository that a crate stands on, each after those that it uses, and the
-# crate itself last.
+# Adds to `crates` the crates of this repository that a crate depends on, each after those that it uses, and the crate
+# itself last.
 crates=()
 add() {
   local crate uses
@@ -36,7 +36,7 @@ add() {
   crates+=("$1")
 }
 
-# copy: the crates that the program stands on, as a repository of their own in $work/copy.
+# copy: copies the crates that the program depends on to a repository of their own in $work/copy.
 copy() {
   local crate
   mkdir -p "$work/copy/.git" "$work/copy/crates" && cp "$here/HANDLES" "$work/copy/" || return
@@ -47,7 +47,7 @@ copy() {
   done
 }
 
-# Reads what rt prints, and tells of each crate as it is proved.
+# Reads what rt prints, and reports each crate when it is proved.
 tell() {
   local line count=0
   while IFS= read -r line; do
@@ -76,7 +76,7 @@ touch "$work/mark"
 add "$name"
 copy || exit 1
 echo "$name: building: ${#crates[@]} crates are proved, which takes some twenty minutes on four cores the first time" >&2
-# Few crates can be proved side by side here, so rt is left to give one several processors.
+# Few crates can be proved in parallel here, so rt may give one crate several processors.
 (cd "$work/copy" && CI='' rt ci </dev/null 2>&1 9>&-) | tee "$work/log" | tell
 if [ "${PIPESTATUS[0]}" -ne 0 ]; then
   cat "$work/log" >&2

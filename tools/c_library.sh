@@ -1,12 +1,12 @@
 #!/usr/bin/env bash
-# c_library.sh [--look | --headers | --beside LOG] [--slots N]: builds the library for C where it is not there or older than its sources,
-# and prints what a program over include/burlapslate.h is linked with: what is written in C (c/), the proved library, and
-# the toolchain's calls for memory. `rt` is to be found by PATH. With --look it builds nothing, and ends with status 1
-# where there is something to prove. With --headers it builds nothing, and prints the folder in which the headers of the
-# library stand once it is built. N is how many transactions can live at once: 128, or 1024. The library for 1024 is
-# proved in out/slots-1024, over gl_wide_slots, and stands there with its headers. With --beside it goes beside an `rt ci`
-# that writes this log: it proves the library for 128 as soon as what that stands on is there, and leaves it where it
-# belongs once a line 'rt ci ended with status N' stands there. CC names another compiler than cc.
+# c_library.sh [--look | --headers | --beside LOG] [--slots N]: builds the library for C if it is missing or older than
+# its sources, and prints what a program over include/burlapslate.h is linked with: the part written in C (c/), the
+# proved library, and the toolchain's allocation functions. `rt` must be on the PATH. With --look it builds nothing, and
+# ends with status 1 if there is something to prove. With --headers it builds nothing, and prints the folder that has the
+# library's headers after it is built. N is how many transactions can live at once: 128, or 1024. The library for 1024
+# is proved in out/slots-1024, over gl_wide_slots, and is left there with its headers. With --beside it runs during an
+# `rt ci` that writes this log: it proves the library for 128 as soon as the crates that it depends on are proved, and
+# puts it in its place after the log has a line 'rt ci ended with status N'. CC names another compiler than cc.
 set -uo pipefail
 top=$(cd "$(dirname "$0")/.." && pwd) || exit 2
 
@@ -44,7 +44,7 @@ written=$built/c/out/libburlapslate_c.a
 rt=$(command -v rt) || { echo "c_library.sh: rt is not found" >&2; exit 2; }
 kit=$(dirname "$(dirname "$(readlink -f "$rt")")")
 
-# What gl_c stands on, in this repository and of the toolchain.
+# The crates that gl_c depends on, in this repository and of the toolchain.
 read -r -a named < <(sed -n 's/^gl_c staticlib: *//p' "$top/crates.txt")
 sources=("${named[@]}")
 [ "$slots" = 128 ] || sources=("${named[@]/#gl_slots/gl_wide_slots}")
@@ -59,8 +59,8 @@ is_newer() {
   return 1
 }
 
-# build_in FOLDER LIBRARY WORD..: proves and builds gl_c, whose sources stand in the folder, over the libraries that the
-# words hand it. It is handed what `rt check` hands, so that nothing is proved again which `rt check` has kept of it.
+# build_in FOLDER LIBRARY WORD..: proves and builds gl_c from the sources in the folder, over the libraries that the
+# words name. The options are those of `rt check`, so that nothing is proved again that `rt check` has kept.
 build_in() {
   cd "$1" && mkdir -p out || return 1
   "$kit/bin/rattle" build --crate-name gl_c src/lib.rt --crate-type staticlib \
@@ -69,8 +69,8 @@ build_in() {
     --links gl_c= --incremental out/incremental --toolchain "$kit/toolchain" --backend llvm --jobs 2 -o "$2"
 }
 
-# build_over_kept: as `rt lib`, over the proved libraries that `rt ci` has left, which `rt lib` proves again; of gl_c
-# `rt ci` keeps none.
+# build_over_kept: as `rt lib`, over the proved libraries that `rt ci` has left, which `rt lib` would prove again; `rt
+# ci` keeps none of gl_c.
 build_over_kept() {
   local crate rlib with=()
   for crate in "${named[@]}"; do
@@ -82,14 +82,14 @@ build_over_kept() {
   build_in "$top/crates/gl_c" "$library" "${with[@]}"
 }
 
-# has_ended: whether the `rt ci` of the log has ended, and has put back what stood in the place of its libraries; or the
-# log is gone, as behind a test run that has failed.
+# has_ended: whether the `rt ci` of the log has ended, and has restored what was in the place of its libraries; or the
+# log is gone, as after a failed test run.
 has_ended() {
   [ ! -e "$log" ] || grep -q '^rt ci ended with status ' "$log"
 }
 
-# build_beside FOLDER: the same beside an `rt ci`, in the folder. Links keep the libraries there, since that run puts back
-# at its end what stood in their place. Fails where a library does not come.
+# build_beside FOLDER: the same during an `rt ci`, in the folder. Links keep the libraries there, since that run
+# restores at its end what was in their place. Fails if a library is not made.
 build_beside() {
   local crate rlib with=()
   cp -r "$top/crates/gl_c/"{src,specs,proofs} "$1" || return 1
@@ -108,8 +108,8 @@ build_beside() {
   build_in "$1" "$1/libgl_c.a" "${with[@]}"
 }
 
-# put_beside: builds so, and once that run has ended puts the library in its place. Where it comes to nothing the library
-# is built behind that run, as ever.
+# put_beside: builds so, and puts the library in its place after that run has ended. If it fails, the library is built
+# after that run, as usual.
 put_beside() {
   local work
   if work=$(mktemp -d "$top/.git/library.XXXXXX") && (build_beside "$work"); then
@@ -125,19 +125,19 @@ is_old() {
   [ ! -e "$library" ] || is_newer "$library" gl_c "${sources[@]}"
 }
 
-# is_c_old: whether what is written in C is not compiled, or older than its sources and the headers.
+# is_c_old: whether the part written in C is not compiled, or older than its sources and the headers.
 is_c_old() {
   [ ! -e "$written" ] || [ -n "$(find "$top"/c/*.c "$top"/include/*.h "$top/tools/c_library.sh" -newer "$written" -print -quit)" ]
 }
 
-# build_c: compiles what is written in C, so that it can be part of a shared library too. A malloc that is cleared is not
-# to become a calloc: the allocator is malloc, realloc and free. The archive comes to its place whole, since others may
-# build it at the same time.
+# build_c: compiles the part written in C, so that it can be part of a shared library too. A malloc that is cleared must
+# not become a calloc: the allocator is malloc, realloc and free. The archive is put in its place whole, since others
+# may build it at the same time.
 build_c() {
   local work source status=0
   work=$(mktemp -d) || return
   for source in "$top"/c/*.c; do
-    # shellcheck disable=SC2086 # CC may have words behind the name.
+    # shellcheck disable=SC2086 # CC may have words after the name.
     ${CC:-cc} -std=c99 -D_POSIX_C_SOURCE=200809L -pthread -O2 -fPIC -fno-builtin-malloc -Wall -Wextra -I"$built/include" -c \
       -o "$work/$(basename "$source" .c).o" "$source" || status=1
   done
@@ -147,7 +147,7 @@ build_c() {
   return "$status"
 }
 
-# build_wide: the library for more slots, in a copy of the crates.
+# build_wide: builds the library for more slots, in a copy of the crates.
 build_wide() {
   "$top/tools/wide_sources.sh" "$built" && cd "$built/crates/gl_c" && rt lib
 }
@@ -166,7 +166,7 @@ if is_old || [ -n "$log" ]; then
   else
     (build_wide) >&2 || exit 1
   fi
-  # What tools/package.sh says of it.
+  # The sums that tools/package.sh quotes.
   echo "crates $sum library $(sha256sum <"$library" | cut -d ' ' -f 1)" >"${library%/*}/built_from" || exit 1
 fi
 [ "$slots" = 128 ] || "$top/tools/headers.sh" "$slots" "$built/include" || exit 1

@@ -1,14 +1,16 @@
 #!/usr/bin/env bash
-# growths.sh plays|script|crews LIBRARY: runs a program with each of its growths refused in turn, by the
-# library that tools/refuse_growth.c makes. Says at which growth something is not as it must be, and ends
-# with status 1 there.
+# growths.sh plays|script|crews LIBRARY: runs a program with each of its allocations refused in turn, by the
+# library that tools/refuse_growth.c makes. Reports the allocation at which something is wrong, and ends with
+# status 1 there.
 #
-# plays: the program `test_growths` prints the same as with no growth refused.
-# script: `gltool --listings --schema --savepoints` answers tools/every_form.script. Either it finds no memory, or bad words where its
-#   words were not read, before it has read anything; or one line is answered with want of memory, and all
-#   others as in the script without that line. A growth that reading the words can do without changes nothing.
-# crews: `gltool` runs a small crew by each way of detection. It ends in time, and counts every command of
-#   its sessions (threads that could not be started among them), or says in one line that it did not.
+# plays: the program `test_growths` prints the same as with no allocation refused.
+#
+# script: `gltool --listings --schema --savepoints` answers tools/every_form.script. Either it reports no memory, or bad
+# words if its words were not read, before it has read anything; or one line is answered with `NoMemory`, and all others
+# as in the script without that line. An allocation that reading the words does not need changes nothing.
+#
+# crews: `gltool` runs a small crew with each way of detection. It ends in time, and counts every command of its
+# sessions (threads that could not be started among them), or reports in one line that it did not.
 #
 # Both programs must be built.
 set -uo pipefail
@@ -18,19 +20,18 @@ library=$2
 work=$(mktemp -d) || exit 2
 trap 'rm -rf "$work"' EXIT
 
-# with_growth N PROGRAM WORD..: runs the program, for a minute at most, with its Nth growth refused, none
-# for 0.
+# with_growth N PROGRAM WORD..: runs the program, for at most a minute, with its Nth allocation refused, none for 0.
 with_growth() {
   timeout 60 env LD_PRELOAD="$library" GROWTH_REFUSED="$1" GROWTH_COUNT="$work/count" "${@:2}"
 }
 
-# fail WHY: names the growth, with what is wrong about it.
+# fail WHY: reports the allocation, with what is wrong about it.
 fail() {
   echo "growths: growth $n of $growths: $1"
   exit 1
 }
 
-# growths_of WHAT: how many growths the last run had, which must be some.
+# growths_of WHAT: counts the allocations of the last run; there must be some.
 growths_of() {
   growths=$(od -An -t u8 "$work/count" | tr -d ' ')
   [ "${growths:-0}" -gt 0 ] || { echo "growths: no growth was counted in $1" >&2; exit 2; }
@@ -60,20 +61,20 @@ without() {
   awk -v n="$1" '/^#/ || /^$/ || ++line != n' "$script"
 }
 
-# refused_line REPORT: which answer is the one of want of memory; nothing where there is not one. Lines of
-# those who are told, and rows of listings, stand below an answer.
+# refused_line REPORT: which answer is `NoMemory`; nothing if there is not exactly one. Lines of notices, and rows of
+# listings, are below an answer.
 refused_line() {
   awk '/^(told|holder|waiter|lock|blocker|txn|victim|stuck) / { next } { ++line } /^no 1 NoMemory$/ { found = line; ++count } END { if (count == 1) print found }' "$1"
 }
 
-# Nothing may have been read or written but the fault.
+# Nothing may have been read, or written except the fault.
 ended_early() {
   echo "gltool: $1" | cmp -s - "$work/fault" || fail "on standard error: $(cat "$work/fault")"
   [ ! -s "$work/came" ] || fail "something was written before: $(head -n 1 "$work/came")"
   cmp -s "$script" "$work/left" || fail "something was read before"
 }
 
-# One line is answered with want of memory, and the others as in the script without it.
+# One line is answered with `NoMemory`, and the others as in the script without it.
 one_line_refused() {
   local line
   line=$(refused_line "$work/came")
@@ -100,7 +101,7 @@ refuse_in_script() {
   done
 }
 
-# Every command of the crew was counted, with a settle of the watcher each where it asked for some.
+# Every command of the crew was counted, and each settle of the watcher, if it made some.
 counted() {
   local count
   count=$(sed -n 's/^accepted \([0-9]*\)$/\1/p' "$work/came")
@@ -109,13 +110,13 @@ counted() {
   [ ! -s "$work/fault" ] || fail "on standard error: $(cat "$work/fault")"
 }
 
-# Nothing was written but why the crew did not do its rounds.
+# Nothing was written except why the crew did not do its rounds.
 stopped() {
   echo "gltool: $1" | cmp -s - "$work/fault" || fail "on standard error: $(cat "$work/fault")"
   [ ! -s "$work/came" ] || fail "written all the same: $(head -n 1 "$work/came")"
 }
 
-# crew N DETECT: a crew of 4 sessions and 3 rounds.
+# crew N DETECT: runs a crew of 4 sessions and 3 rounds.
 crew() {
   with_growth "$1" "$program" --crew 4 --rounds 3 --detect "$2" >"$work/came" 2>"$work/fault" </dev/null
 }

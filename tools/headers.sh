@@ -1,5 +1,5 @@
 #!/usr/bin/env bash
-# headers.sh N FOLDER: puts the headers of a library for N slots into a folder, which it makes.
+# headers.sh N FOLDER: writes the headers of a library for N slots to a folder, which it makes.
 set -uo pipefail
 top=$(cd "$(dirname "$0")/.." && pwd) || exit 2
 [ $# -eq 2 ] || { sed -n '2s/^# //p' "$0" >&2; exit 2; }

@@ -1,10 +1,10 @@
 #!/usr/bin/env bash
-# install.sh [--shared] [--slots N] PREFIX: puts the library for C below a folder: PREFIX/include has the headers,
-# PREFIX/lib one archive with all that a program is linked with, what `pkg-config --cflags --libs burlapslate` reads, and
-# what `find_package(burlapslate)` of CMake reads; PREFIX/share/burlapslate has the suppressions for race detectors.
-# With --shared the shared library stands beside the archive, and a linker then takes it first. N is how many
-# transactions can live at once: 128, or 1024. It builds the library first where it is missing or old
-# (tools/c_library.sh). DESTDIR is put before PREFIX for the copies, and left out of what they say; LIBDIR names another
+# install.sh [--shared] [--slots N] PREFIX: installs the library for C below a folder: PREFIX/include has the headers,
+# PREFIX/lib one archive with all that a program is linked with, and what `pkg-config --cflags --libs burlapslate` and
+# `find_package(burlapslate)` of CMake read; PREFIX/share/burlapslate has the suppressions for race detectors.
+# With --shared it installs the shared library beside the archive, and a linker then prefers it. N is how many
+# transactions can live at once: 128, or 1024. If the library is missing or old, it is built first
+# (tools/c_library.sh). DESTDIR is put before PREFIX for the copies, but does not appear in them; LIBDIR names another
 # folder below PREFIX than lib. AR, LD, OBJCOPY and CC name other tools than ar, ld, objcopy and cc.
 set -uo pipefail
 top=$(cd "$(dirname "$0")/.." && pwd) || exit 2
@@ -41,14 +41,14 @@ fi
 mapfile -t libraries < <("$top/tools/c_library.sh" --slots "$slots" 2>"$work/log")
 [ "${#libraries[@]}" -eq 3 ] || { cat "$work/log" >&2; exit 1; }
 
-# number NAME: what the header defines under this name.
+# number NAME: the number that the header defines under this name.
 number() {
   sed -n "s/^#define BS_VERSION_$1 //p" "$top/include/burlapslate.h"
 }
 major=$(number MAJOR) minor=$(number MINOR)
 version=$major.$minor.$(number PATCH)
 soname=libburlapslate.so.$major
-# While the first number is 0, the second says whether a program fits.
+# While the major number is 0, the minor number decides whether a program fits.
 node=BURLAPSLATE_$major
 [ "$major" -gt 0 ] || node+=.$minor
 [ "$slots" = 128 ] || node+=_SLOTS_$slots
@@ -61,10 +61,10 @@ elif [ "${prefix#/}" = "$prefix" ]; then
   exit 2
 fi
 to=${DESTDIR:-}$prefix
-# (as sed takes it in the place of a name)
+# (escaped for sed's replacement)
 said=$(printf '%s' "$prefix" | sed 's/[&,\\]/\\&/g')
 
-# fill NAME FOLDER: writes the file of this name in packaging/, with what it leaves open, to the folder.
+# fill NAME FOLDER: writes the template of this name in packaging/ to the folder, filled in.
 fill() {
   local up
   up=$(realpath -sm --relative-to="/$libdir" /) || return
@@ -73,8 +73,8 @@ fill() {
     "$top/packaging/$1.in" >"$2/$1"
 }
 
-# join: makes one object of what is written in C, the proved library and the toolchain's calls for memory, in which the
-# names of C alone are global, so that it can stand beside another library of this toolchain.
+# join: makes one object of the part written in C, the proved library and the toolchain's allocation functions. Only the
+# names of C are global in it, so that a program can use another library of this toolchain too.
 join() {
   ${LD:-ld} -r -o "$work/joined.o" --whole-archive "${libraries[@]}" &&
     ${OBJCOPY:-objcopy} --wildcard --keep-global-symbol='bs_*' --remove-section=.llvm_addrsig \

@@ -1,8 +1,8 @@
 #!/usr/bin/env bash
-# launch.sh PROGRAM [--proved] WORD..: runs a program of this repository with the words and the standard input
-# that it is given, and ends with its exit status. Where the proved program is not there, or a source is newer,
-# it begins to build it behind itself, and meanwhile answers by the program as it is before any proof, which is
-# slower to start; standard output and status are the same. With --proved it waits for the proof.
+# launch.sh PROGRAM [--proved] WORD..: runs a program of this repository with these words and its own standard input,
+# and ends with its exit status. If the proved program is missing, or a source is newer, it starts to build it in the
+# background, and meanwhile runs the program as it is before any proof, which is slower to start; standard output and
+# status are the same. With --proved it waits for the proof.
 set -uo pipefail
 [ $# -ge 1 ] || { sed -n '2,5s/^# //p' "$0" >&2; exit 2; }
 name=$1
@@ -10,8 +10,8 @@ shift
 here=$(cd "$(dirname "$0")/.." && pwd) || exit 1
 out=$here/crates/$name/out
 
-# build_behind: has the program built behind this answer, in a session of its own, whose number stands in building.sid
-# for as long as it lasts.
+# build_behind: builds the program in the background, in a session of its own, whose number is in building.sid while it
+# lasts.
 build_behind() {
   mkdir -p "$out" || return
   # shellcheck disable=SC2016 # The words are those of the shell that is started.
@@ -19,8 +19,8 @@ build_behind() {
     </dev/null >/dev/null 2>"$out/building.log"
 }
 
-# answer_unproved WORD..: what the program before any proof answers is in $work/answer, what it says of faults in
-# $work/faults. Fails where it came to no end.
+# answer_unproved WORD..: runs the program before any proof, with its answer in $work/answer and its faults in
+# $work/faults. Fails if it did not end.
 answer_unproved() {
   cat >"$work/input"
   (cd "$here/crates/$name" && rt try -- "$@" <"$work/input" >"$work/answer" 2>"$work/said")

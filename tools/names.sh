@@ -1,7 +1,7 @@
 #!/usr/bin/env bash
-# names.sh [--list]: counts the public names of the library for C: the functions, types and macros that burlapslate.h and
-# burlapslate_shared.h declare, and their lines. Fields, enumerations with their values, and guards are not counted.
-# Prints both counts, or with --list the names. Ends with status 1 where there are more than 148 names or 1,500 lines.
+# names.sh [--list]: counts the public names of the library for C: the functions, types and macros that burlapslate.h
+# and burlapslate_shared.h declare, and their lines. Fields, enumerations with their values, and guards are not counted.
+# Prints both counts, or with --list the names. Ends with status 1 if there are more than 148 names or 1,500 lines.
 set -uo pipefail
 top=$(cd "$(dirname "$0")/.." && pwd) || exit 2
 headers=("$top"/include/burlapslate{,_shared}.h)

@@ -1,10 +1,10 @@
 #!/usr/bin/env bash
-# package.sh [OUT]: packs the library for C as it is built, into the folder OUT, which is out/ of the repository where
-# none is named: burlapslate-VERSION-linux-x86_64.tar.gz, which may be unpacked anywhere, and two Debian packages of the
-# same, libburlapslate0 with the shared library and libburlapslate-dev with the rest. Each has a file PROOF, which says
-# what was seen of the proof. Prints the path of each package. It builds the library first where it is missing or old
-# (tools/c_library.sh). Where there is no dpkg-deb it says so, and ends with status 77: the archive alone is made.
-# SOURCE_DATE_EPOCH is the time that the files bear, which is else that of the last commit.
+# package.sh [OUT]: packs the library for C as it is built, into the folder OUT, by default out/ of the repository:
+# burlapslate-VERSION-linux-x86_64.tar.gz, which may be unpacked anywhere, and two Debian packages of the same,
+# libburlapslate0 with the shared library and libburlapslate-dev with the rest. Each has a file PROOF, which says
+# what was seen of the proof. Prints the path of each package. If the library is missing or old, it is built first
+# (tools/c_library.sh). Without dpkg-deb it makes the archive alone, says so, and ends with status 77.
+# SOURCE_DATE_EPOCH is the time that the files bear, by default that of the last commit.
 set -uo pipefail
 top=$(cd "$(dirname "$0")/.." && pwd) || exit 2
 [ $# -le 1 ] || { sed -n '2,8s/^# //p' "$0" >&2; exit 2; }
@@ -15,7 +15,7 @@ trap 'rm -rf "$work"' EXIT
 export SOURCE_DATE_EPOCH=${SOURCE_DATE_EPOCH:-$(git -C "$top" log -1 --format=%ct 2>/dev/null || date +%s)}
 umask 022
 
-# The crates of this repository in the library, and the file of what the last test run said of them.
+# The library's crates in this repository, and the file with the last test run's verdicts on them.
 mapfile -t crates < <(sed -n 's/^gl_c staticlib: *//p' "$top/crates.txt" | tr ' ' '\n' |
   while read -r crate; do [ ! -d "$top/crates/$crate" ] || echo "$crate"; done)
 crates+=(gl_c)
@@ -81,13 +81,13 @@ What is proved and what is trusted stands in README.md.
 END_OF_FILE
 }
 
-# papers FOLDER: the documents, and the examples in C, without the scripts that run them in the repository alone.
+# papers FOLDER: copies the documents, and the examples in C, without the scripts that run them only in the repository.
 papers() {
   mkdir -p "$1" && cp "$top/README.md" "$top/CHANGELOG.md" "$work/PROOF" "$1/" && cp -r "$top/docs" "$1/" || return
   (cd "$top" && tar --exclude=out --exclude=run.sh -cf - examples/*/) | tar -C "$1" -xf -
 }
 
-# pack_archive: the archive of what stands below $work/$name. What pkg-config reads finds its folder by itself.
+# pack_archive: makes the archive of what is below $work/$name. The file for pkg-config finds its folder by itself.
 pack_archive() {
   # shellcheck disable=SC2016 # pkg-config reads the dollar.
   sed -i 's,^prefix=.*,prefix=${pcfiledir}/../..,' "$work/$name/lib/pkgconfig/burlapslate.pc" &&
@@ -96,11 +96,11 @@ pack_archive() {
       -cf - "$name" | gzip -n >"$out/$name.tar.gz" && echo "$out/$name.tar.gz"
 }
 
-# debian NAME CONTROL: the Debian package of what stands below $work/NAME.
+# debian NAME CONTROL: makes the Debian package of what is below $work/NAME.
 debian() {
   local size libc
   size=$(du -sk "$work/$1" | cut -f 1)
-  # The newest version of the C library that the shared library asks for.
+  # The newest version of the C library that the shared library needs.
   libc=$(objdump -T "$work/$name/lib/libburlapslate.so" | sed -n 's/.*[( ]GLIBC_\([0-9.]*\).*/\1/p' | sort -V | tail -n 1)
   mkdir -p "$work/$1/DEBIAN" && chmod -R u=rwX,go=rX "$work/$1" || return
   sed "s,@VERSION@,$version,; s,@MAJOR@,$major,; s,@SIZE@,$size,; s,@LIBC@,${libc:?}," \
@@ -112,7 +112,7 @@ debian() {
   echo "$out/$1_${version}_amd64.deb"
 }
 
-# pack_debian: both Debian packages.
+# pack_debian: makes both Debian packages.
 pack_debian() {
   local dev=$work/libburlapslate-dev/usr shared=$work/libburlapslate$major libdir=lib/x86_64-linux-gnu
   DESTDIR=$work/libburlapslate-dev LIBDIR=$libdir "$top/tools/install.sh" --shared /usr || return
@@ -122,7 +122,7 @@ pack_debian() {
     cmp "$dev/$libdir/libburlapslate.a" "$work/$name/lib/libburlapslate.a" &&
     cp "$work/PROOF" "$shared/usr/share/doc/libburlapslate$major/" &&
     papers "$dev/share/doc/libburlapslate-dev" || return
-  # Programs of another second number are not to run with it while the first is 0.
+  # While the major number is 0, programs of another minor number must not run with it.
   echo "libburlapslate $major libburlapslate$major (>= $fits), libburlapslate$major (<< $other)" >"$shared/DEBIAN/shlibs"
   echo "activate-noawait ldconfig" >"$shared/DEBIAN/triggers"
   debian "libburlapslate$major" libburlapslate && debian libburlapslate-dev libburlapslate-dev

@@ -1,11 +1,11 @@
 #!/usr/bin/env bash
-# pages.sh: prints the words of each page, or of pages that share a limit, with the limit. Ends with status 1 if there are
-# more. Whoever adds a section takes one away.
+# pages.sh: prints the number of words of each page, or of pages that share a limit, with the limit. Ends with status 1
+# if there are more. If you add a section, remove one.
 set -uo pipefail
 cd "$(dirname "$0")/.." || exit 2
 
 status=0
-# limit MOST PAGE..: these pages have so many words at most.
+# limit MOST PAGE..: checks that these pages have at most so many words.
 limit() {
   local most=$1 words
   words=$(cat "${@:2}" | wc -w) || exit 2

@@ -1,12 +1,11 @@
 #!/usr/bin/env bash
-# pieces.sh FILE.md SOURCE..: looks whether each piece of C that a text shows, between a line ```c and a line
-# ```, stands in one of these sources, line by line and with nothing in between; it may stand further to the
-# right there, all of it by as much. Prints how many pieces it found. Ends with status 1 at the first piece
-# that stands nowhere, and where there is no piece.
+# pieces.sh FILE.md SOURCE..: checks that each piece of C in a text, between a line ```c and a line ```, is in one of
+# these sources, line by line and with nothing in between; it may be indented there, all lines alike. Prints how many
+# pieces it found. Ends with status 1 at the first piece that is in no source, and if there is no piece.
 set -uo pipefail
 [ "$#" -ge 2 ] || { echo "usage: tools/pieces.sh FILE.md SOURCE.." >&2; exit 2; }
 exec awk '
-  # Whether the piece stands in a source from this line on, to the right by what its first line is.
+  # Whether the piece is in a source from this line on, indented as its first line is.
   function stands_at(file, from,    indent, i, line) {
     indent = substr(source[file, from], 1, length(source[file, from]) - length(piece[1]))
     if (indent !~ /^ *$/) return 0

@@ -1,10 +1,10 @@
 #!/usr/bin/env bash
-# prove.sh FOLDER: `rt ci` at the top of the repository, with its status, its output and its last line. Beside it goes a
-# run over the longest chain of crates that stand on each other, in a copy in FOLDER without wrong bodies. `rt ci` over all
-# gives one processor to each proof where RT_JOBS is set, and two of four have nothing to do while the chain is proved.
-# The run over the chain gives each proof the processors that are idle; of the crates of tests it has the one that takes
-# longest, which the other would begin last. What passes there is kept by the toolchain, and the other run takes it. It
-# writes FOLDER/chain.log. Where nothing can be kept, or where the toolchain takes no names of crates, it ends at once or
+# prove.sh FOLDER: runs `rt ci` at the top of the repository, with its status, its output and its last line.
+# In parallel it runs `rt ci` over the longest chain of crates that depend on each other, in a copy in FOLDER without
+# mutants. If RT_JOBS is set, `rt ci` over all gives one processor to each proof, and two of four are idle while the
+# chain is proved. The run over the chain gives each proof the idle processors; of the crates of tests it has the one
+# that takes longest, which the other would begin last. The toolchain keeps what this run proves, and the other run uses
+# it. It writes FOLDER/chain.log. If nothing can be kept, or the toolchain takes no names of crates, it ends at once or
 # in vain, and `rt ci` proves all itself.
 set -uo pipefail
 [ $# -eq 1 ] || { sed -n '2s/^# //p' "$0" >&2; exit 2; }
@@ -21,8 +21,8 @@ chain() {
 
 chain &
 chained=$!
-# So it has begun the chain. The other run waits for each of its crates, and looks once a second whether that is there: by
-# then the next one is begun. Meanwhile it proves all others.
+# By then it has begun the chain. The other run waits for each crate of the chain, and checks once a second whether it
+# is there: by then the next one is begun. Meanwhile it proves all others.
 sleep 5
 export RT_JOBS=${RT_JOBS:-$(tools/jobs.sh)}
 nice -n 5 rt ci

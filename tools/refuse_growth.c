@@ -1,18 +1,18 @@
 /*
- * Refuses one growth of a program: loaded before the C library, by LD_PRELOAD, it answers one call for
- * memory with want of memory, and every other one as the C library does.
+ * Refuses one allocation of a program: loaded before the C library, by LD_PRELOAD, it fails one call for
+ * memory, and answers every other one as the C library does.
  *
- *   GROWTH_REFUSED  which growth is refused, counted from 1; 0 or unset: none
- *   GROWTH_COUNT    a file, which always has the number of growths so far, as one 8-byte number of this
+ *   GROWTH_REFUSED  which allocation is refused, counted from 1; 0 or unset: none
+ *   GROWTH_COUNT    a file, which always has the number of allocations so far, as one 8-byte number of this
  *                   machine; unset: none
  *
- * The number is written as it changes: a program of threads may end by _exit, which runs nothing behind it.
+ * The number is written when it changes: a program with threads may end by _exit, which runs nothing after it.
  *
- * A growth is a call of malloc, calloc, posix_memalign or aligned_alloc, and one of realloc that asks for
- * memory: realloc to size 0 only frees. What is asked for before main is counted too, but for what the
- * start of the process itself takes before this file is ready.
+ * An allocation is a call of malloc, calloc, posix_memalign or aligned_alloc, and one of realloc that
+ * requests memory: realloc to size 0 only frees. Allocations before main are counted too, except those of
+ * the start of the process itself before this file is ready.
  *
- * The calls go on to glibc's own names. A search for them by dlsym could itself ask for memory.
+ * The calls are passed to glibc's own names. A search for them by dlsym could itself allocate.
  */
 #include <errno.h>
 #include <fcntl.h>
@@ -30,11 +30,11 @@ extern void *__libc_memalign(size_t alignment, size_t size);
 
 typedef _Atomic uint64_t counter;
 
-static counter own; /* Where no file is named. */
+static counter own; /* If no file is named. */
 static counter *growths = &own; /* Written once, before main, as is the next one. */
 static uint64_t refused;
 
-/* The number in a file, which stays the program's own where that cannot be: its reader then finds none. */
+/* The number in a file, or the program's own if the file cannot be used: its reader then finds none. */
 static counter *number_in(const char *name)
 {
     int file = open(name, O_RDWR | O_CREAT | O_TRUNC, 0644);
@@ -58,7 +58,7 @@ __attribute__((constructor)) static void begin(void)
     atomic_store(growths, 0);
 }
 
-/* Counts a growth, and says whether it is the one that is refused. */
+/* Counts an allocation, and says whether it is the one that is refused. */
 static int is_refused(void)
 {
     return atomic_fetch_add(growths, 1) + 1 == refused;

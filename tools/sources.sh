@@ -1,5 +1,5 @@
 #!/usr/bin/env bash
-# sources.sh FOLDER: prints the sum (sha256) of the sources in a folder of the repository, as `crates` or `c`: of the
+# sources.sh FOLDER: prints the sum (sha256) of the sources in a folder of the repository, such as `crates` or `c`: of the
 # list of its files in the order of their bytes, each with its own sum, without what is built (out/).
 set -uo pipefail
 [ $# -eq 1 ] || { sed -n '2,3s/^# //p' "$0" >&2; exit 2; }

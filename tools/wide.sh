@@ -1,17 +1,16 @@
 #!/usr/bin/env bash
-# wide.sh: proves the library for 1,024 slots, over gl_wide_slots in the place of gl_slots (tools/c_library.sh), and runs
+# wide.sh: proves the library for 1,024 slots, over gl_wide_slots in place of gl_slots (tools/c_library.sh), and runs
 # over it the stories, a crowd of a thousand threads and the engine. The last line is 'wide.sh: N passed'. Ends with
-# status 1 at the first that does not pass, with what it said. It takes as long as the proof of the library; run it before
-# a release.
-# wide.sh [--in FOLDER] CRATE..: proves crates so, in a copy in FOLDER, or else in a folder that it takes away again. In
-# FOLDER stays what was proved, so that a second run there is short. Prints a line for each crate that is proved. Ends at
-# the first that is not with what was open, and status 1.
+# status 1 at the first failure, with its output. It takes as long as the proof of the library; run it before a release.
+# wide.sh [--in FOLDER] CRATE..: proves crates so, in a copy in FOLDER, or else in a temporary folder. What is proved in
+# FOLDER is kept, so that a second run there is short. Prints a line for each crate that is proved. Ends with status 1 at
+# the first that is not, with what was open.
 set -uo pipefail
 top=$(cd "$(dirname "$0")/.." && pwd) || exit 2
 work=$(mktemp -d) || exit 2
 trap 'rm -rf "$work"' EXIT
 
-# passes WHAT WORD..: runs a command that must end well, and counts it.
+# passes WHAT WORD..: runs a command that must succeed, and counts it.
 passed=0
 passes() {
   "${@:2}" >"$work/log" 2>&1 || { cat "$work/log"; echo "wide.sh: $1: failed"; exit 1; }

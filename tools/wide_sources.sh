@@ -1,7 +1,7 @@
 #!/usr/bin/env bash
-# wide_sources.sh FOLDER: copies the crates to a folder, with gl_wide_slots in the place of gl_slots, for 1,024 slots. The
-# folder is empty, or one of an earlier run: then what was proved there stays. Ends with status 2 where it has other files.
-# What was proved here of crates that stand on no slots is taken along.
+# wide_sources.sh FOLDER: copies the crates to a folder, with gl_wide_slots in place of gl_slots, for 1,024 slots. The
+# folder must be empty, or of an earlier run: then what was proved there stays. Ends with status 2 if it has other files.
+# What was proved here of crates that do not depend on slots is copied too.
 set -uo pipefail
 top=$(cd "$(dirname "$0")/.." && pwd) || exit 2
 [ $# -eq 1 ] || { sed -n '2,4s/^# //p' "$0" >&2; exit 2; }
@@ -21,7 +21,7 @@ copy() {
   [ ! -e "$top/HANDLES" ] || cp "$top/HANDLES" "$to/HANDLES"
 }
 
-# take_along: what stands on no slots is the same there.
+# take_along: copies what was proved of crates that do not depend on slots, which are the same there.
 take_along() {
   local crate
   for crate in "$to"/crates/*/; do

@@ -23,10 +23,10 @@ at a time at most until the log ends, where there is memory for them too. If `rt
 import hashlib, itertools, os, queue, re, resource, shutil, subprocess, sys, tempfile, threading, time
 
 TOP = os.path.dirname(os.path.dirname(os.path.abspath(__file__)))
-# As many edits at most stand in one copy: more save little, and fewer end sooner side by side.
+# The most edits in one copy: more save little, and fewer end sooner in parallel.
 TOGETHER = 8
 TURNS = 10
-# As many proofs at most run beside those of `rt ci`, which leaves so many processors idle for half of its time.
+# The most proofs that run during an `rt ci`, which leaves so many processors idle for half of its time.
 BESIDE = 2
 
 
@@ -74,7 +74,7 @@ class Edit:
                 return
             constant = re.match(r"(?:pub(?:\([a-z]+\))? )?const (\w+):", old.strip())
             self.functions += citing(crate, constant.group(1)) if constant else [function_at(file, text, text.index(old))]
-        # (what is no function has no name to check by: the whole crate is)
+        # (an edit outside all functions has no name to check by: the whole crate is checked)
         self.functions = [] if None in self.functions else sorted(set(self.functions))
 
     def apply(self, folder):
@@ -276,7 +276,7 @@ def attempt(edit):
         callers = callers_of(edit.crate, edit.functions) if edit.functions else []
         for functions in [edit.functions, callers, []] if edit.functions else [[]]:
             said, last = verdicts(edit.crate, folder, functions)
-            # (a name that is not the prover's is none of a function: then the whole crate is checked)
+            # (a name that the prover does not know is no function's: then the whole crate is checked)
             if not said and not functions:
                 return "bad", f"no verdict on {', '.join(functions) or 'the crate'}: {last}"
             refused = next((name for name, is_proved in said if not is_proved), None)
