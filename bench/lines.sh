@@ -3,19 +3,18 @@
 #
 #     bench/lines.sh [PROGRAM]
 #
-# The program is ./gltool where none is given. Each line of the answer has the number of lines, the
-# seconds of processor time that the best of three runs took, and the lines a second:
+# The program is ./gltool by default. Each line of the answer has the number of lines, the seconds of processor time of
+# the best of three runs, and the lines a second:
 #
 # - begin: `begin` of a name that is in use, refused by the names alone. Aim: 4 million a second.
 # - locks: `begin`, `lock`, `try`, `commit` of one transaction after the other. Aim: 3 million a second.
 # - bad: lines that are no commands. Aim: 20 million a second.
-# - 60 of 60, 60 of 60000, 60000 of 60000: a million queries for so many of so many declared names, the
-#   time for declaring them taken off. Aim: a line costs no more where many names are declared than where
-#   few are. All three take the same number of instructions a line; what the last takes longer is the
-#   time until names and nodes come, which no longer fit into the caches.
+# - 60 of 60, 60 of 60000, 60000 of 60000: a million queries for so many of so many declared names, without the time for
+#   declaring them. Aim: a line costs no more with many declared names than with few. All three need the same number of
+#   instructions a line; the last takes longer because names and nodes no longer fit into the caches.
 #
-# On one core of an Intel Xeon at 2.5 GHz that other work shares, at best: 14.9, 4.8, 31, 9.8, 10.2 and
-# 2.7 million. Minutes later the same program may do half of that, so compare two programs by turns.
+# On one core of an Intel Xeon at 2.5 GHz that other work shares, at best: 14.9, 4.8, 31, 9.8, 10.2 and 2.7 million.
+# Minutes later the same program may do half of that, so compare two programs by turns.
 set -eu
 cd "$(dirname "$0")/.."
 program=${1:-./gltool}

@@ -1,14 +1,14 @@
 #!/usr/bin/env bash
-# passed.sh: how often a writer is passed by others while it waits, among 127 readers who come and go. Run from anywhere:
+# passed.sh: how often others pass a waiting writer, among 127 readers that lock and release a node. Run from anywhere:
 #
 #     bench/passed.sh [TURNS]
 #
-# The readers lock a node to read, each in a thread of its own, and let it go again, without end. The writer locks it to
-# write TURNS times (200 where none is given), each time once the readers were granted it 127 times more. It prints of
-# ours and of Berkeley DB how many grants to readers were counted from when the writer asked until it was granted: as a
-# mean, in the 99th turn of a hundred, and at most. Those that held the node when the writer asked may be among them, so
-# up to 127 can be counted where nobody passes; and those that were granted it before the writer's call had begun, where
-# its thread had lost the processor. CC names another compiler than cc.
+# The readers lock a node to read, each in a thread of its own, and release it again, without end. The writer locks it
+# to write TURNS times (200 by default), each time after the readers were granted it 127 times more. For ours and for
+# Berkeley DB it prints how many grants to readers were counted from the writer's request to its grant: as a mean, in
+# the 99th turn of a hundred, and at most. Those that held the node at the request may be among them, so up to 127 can
+# be counted if nobody passes; and so may those that were granted it before the writer's call had begun, if its thread
+# had lost the processor. CC names another compiler than cc.
 
 # shellcheck source-path=SCRIPTDIR source=frame/frame.sh
 . "$(dirname "$0")/frame/frame.sh" || exit 2

@@ -3,60 +3,59 @@
 #
 #     bench/race.sh [ROUNDS]
 #
-# It prints a line for each piece of work: nanoseconds by ours, by theirs and their ratio, and where
-# valgrind's callgrind is at hand the same of instructions. A ratio is ours by theirs. Where Berkeley DB is
-# not at hand a line says so, and ours stands alone. CC names another compiler than cc. It ends with status 1
-# where an answer of either side is not as it should be: each is looked at, also in what is measured.
+# It prints a line for each piece of work: nanoseconds by ours, by theirs and their ratio, and the same for instructions
+# if valgrind's callgrind is installed. A ratio is ours by theirs. Without Berkeley DB a line says so, and only ours is
+# printed. CC names another compiler than cc. It ends with status 1 if an answer of either side is not as it should be:
+# each is checked, also in what is measured.
 #
-# Nanoseconds are of a round, of nine turns of ROUNDS rounds (50000 where none is given; fewer of what is
-# long) the best, and where there are threads the median; the sides play by turns. Instructions are of a
-# round too, the difference between two runs that differ in their rounds alone; of the commit, of that call
-# alone. Those of all threads are counted. Callgrind counts an instruction that repeats itself once for each
-# time, so the C library is told to clear and copy without them.
+# Nanoseconds are of a round: the best of nine turns of ROUNDS rounds (50000 by default; fewer of long work), and with
+# threads the median; the sides run by turns. Instructions are of a round too: the difference between two runs that
+# differ only in their rounds; for the commit, of that call alone. Those of all threads are counted. Callgrind counts an
+# instruction that repeats itself once for each repetition, so the C library is told to clear and copy without them.
 #
-# Theirs is an environment with DB_INIT_LOCK, DB_PRIVATE and DB_CREATE, one partition, and names in the form
-# of its own page locks, which is the fastest that was found; it looks for deadlocks when a lock waits, as
-# ours does. It has DB_THREAD only where that is said, and where its callers wait, which takes two threads.
-# Where there is a choice it is measured with a locker that is kept for all transactions and with one for
-# each, and its lesser number is printed, of nanoseconds and of instructions each.
+# Theirs is an environment with DB_INIT_LOCK, DB_PRIVATE and DB_CREATE, one partition, and names in the form of its own
+# page locks, which is the fastest that was found; it looks for deadlocks when a lock waits, as ours does. It has
+# DB_THREAD only if a line says so, or if its callers wait, which needs two threads. If there is a choice, it is
+# measured with a locker that is kept for all transactions and with one for each, and its lesser number is printed, of
+# nanoseconds and of instructions each.
 #
-# - A short transaction is begin, intentions on a data base, an area and a file, a lock on a record, and
-#   commit: IX and X where it writes, IS and S where it reads. Each lock is a call; in one line the four are
-#   one call, bs_lock_path and lock_vec. The others hold IX on all but the record. 128 transactions can live
-#   with ours, so 127 others are the most; with SLOTS=1024 also 1,000 others are tried.
-# - A wait and its grant: one holds a node in X, another asks for it and waits, and the first's commit grants
-#   it. A call of theirs that waits blocks its thread, so its round takes two: the lock goes to and fro, and
-#   a release and the next ask are one lock_vec. No call of ours blocks, so its round is three calls in one
-#   thread, begin, lock and commit; the time of that line compares it with a switch of threads. In another
-#   line ours has two threads as well, with a mutex, and a condition variable each, which is the same work;
-#   its time is mostly the switch.
-# - A deadlock of two: both hold a node in X and ask for the other's. The younger falls and aborts, and the
-#   older is granted and commits. Ours is in one thread, and in another line in two as theirs; both then meet
-#   at a barrier twice a round, on either side.
-# - The commit is that of 1,000 records in X and three nodes in IX. Taking them is not measured. Back to a savepoint is
-#   the release of the records alone. Theirs has none.
-# - The lines of bs_table are calls of include/burlapslate_shared.h: a short transaction in one thread, alone and
-#   beside a thread that looks at boards all the time, whose instructions are not counted; a wait and its grant
-#   between two threads, where a commit and the next ask are one bs_table_run; 1, 4 and 16 threads; and 4 and 16 with
-#   all of it in one bs_table_run, and in one lock_vec of theirs the four locks. Theirs has DB_THREAD in all.
-# - The four threads do short transactions on records of their own; a round is one transaction of any of
-#   them. Ours has one mutex, held round each call. Theirs is measured likewise, without DB_THREAD, and with
-#   DB_THREAD and no mutex, with one partition and with as many as it takes by itself.
-# - Behind all that come the threads of bench/threads.sh on records of their own and on one for all, by calls and in
-#   lists: transactions and commands a second, and how long one takes.
+# - A short transaction is begin, intentions on a database, an area and a file, a lock on a record, and commit: IX and X
+#   to write, IS and S to read. Each lock is a call; in one line the four are one call, bs_lock_path and lock_vec. The
+#   others hold IX on all but the record. 128 transactions can live with ours, so 127 others are the most; with
+#   SLOTS=1024 also 1,000 others are tried.
+# - A wait and its grant: one transaction holds a node in X, another requests it and waits, and the first one's commit
+#   grants it. Their call that waits blocks its thread, so their round needs two: they hand the lock to and fro, and a
+#   release and the next request are one lock_vec. No call of ours blocks, so our round is three calls in one thread,
+#   begin, lock and commit; the time of that line compares it with a switch of threads. In another line ours has two
+#   threads as well, with a mutex, and a condition variable each, which is the same work; its time is mostly the switch.
+# - A deadlock of two: both hold a node in X and request the other's. The younger is chosen as victim and aborts, and
+#   the older is granted and commits. Ours is in one thread, and in another line in two as theirs; both then meet at a
+#   barrier twice a round, on either side.
+# - The commit is that of 1,000 records in X and three nodes in IX. Acquiring them is not measured. A rollback to a
+#   savepoint is the release of the records alone. Theirs has none.
+# - The lines of bs_table are calls of include/burlapslate_shared.h: a short transaction in one thread, alone and beside
+#   a thread that reads snapshots all the time, whose instructions are not counted; a wait and its grant between two
+#   threads, in which a commit and the next request are one bs_table_run; 1, 4 and 16 threads; and 4 and 16 with all of
+#   it in one bs_table_run, and with the four locks in one lock_vec of theirs. Theirs has DB_THREAD in all.
+# - The four threads do short transactions on records of their own; a round is one transaction of any of them. Ours has
+#   one mutex, held during each call. Theirs is measured likewise, without DB_THREAD, and with DB_THREAD and no mutex,
+#   with one partition and with its default number.
+# - Last are the threads of bench/threads.sh on records of their own and on one for all, by calls and in lists:
+#   transactions and commands a second, and how long one takes.
 
 # shellcheck source-path=SCRIPTDIR source=frame/frame.sh
 . "$(dirname "$0")/frame/frame.sh" || exit 2
 rounds=${1:-50000}
 
-# build: the program, with the side of Berkeley DB where a program over it can be linked.
+# build: builds the program, with the side of Berkeley DB if a program over it can be linked.
 build() {
   local sources=("$top"/bench/race/{main,ours,table}.c)
   ! has_db || sources+=(-DHAVE_DB "$top/bench/race/theirs.c" -ldb)
   compile race "${sources[@]}"
 }
 
-# count WORD WAY: the instructions of a round; of the commit, and of one thread with a table, of what is measured in it.
+# count WORD WAY: the instructions of a round; for the commit, and for one thread with a table, those of the measured
+# part.
 count() {
   local few=1000 many=3000 measured=()
   case $1 in
@@ -68,7 +67,7 @@ count() {
   each "$few" "$many" "${measured[@]}" "$work/race" play "$1" "$2"
 }
 
-# least WORD WAYS: the instructions of a round by theirs, in the way that takes fewest; "-" for no ways.
+# least WORD WAYS: the instructions of a round by theirs, in the way that needs fewest; "-" for no ways.
 least() {
   local way count best=-
   for ((way = 0; way < $2; way++)); do
@@ -78,7 +77,7 @@ least() {
   echo "$best"
 }
 
-# ratio OURS THEIRS: with two decimals; "-" where there is none.
+# ratio OURS THEIRS: with two decimals; "-" if there is none.
 ratio() {
   case "$1$2" in
     *-*) echo - ;;

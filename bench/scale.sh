@@ -1,25 +1,25 @@
 #!/usr/bin/env bash
-# scale.sh: what a record costs where there are few and where there are many, through the library for C, and through
-# the lock subsystem of Berkeley DB the same locks.
+# scale.sh: what a record costs among few and among many, through the library for C, and the same locks through the lock
+# subsystem of Berkeley DB.
 #
 #     bench/scale.sh [MOST]
 #
 # It prints a line for each step, order and side, with a column for 10000, 100000, 1000000 records and so on up to MOST
-# (1000000 where none is given): the instructions for a record, where valgrind's callgrind is at hand, and its
-# nanoseconds. Berkeley DB keeps nothing of a record that nobody locks, so it has no insert and no delete. Where it is
-# not at hand a line says so, and ours stands alone. CC names another compiler than cc. A record that is adopted, by
-# its name or by its row's number, stands only while it is locked.
+# (1000000 by default): the instructions for a record, if valgrind's callgrind is installed, and its nanoseconds.
+# Berkeley DB stores nothing of an unlocked record, so it has no insert and no delete. Without it a line says so, and
+# only ours is printed. CC names another compiler than cc. A record that is adopted, by its node or by its row's number,
+# exists only while it is locked.
 #
-# - A record has one index, and lies with all others in one interval. Each step goes over all records, by rising key or
+# - A record has one index, and is with all others in one interval. Each step visits all records, by increasing key or
 #   at random, a hundred in a transaction, with intentions on four nodes above; or all in one transaction.
-# - Behind that come the threads of bench/threads.sh on rows of 10,000, by nodes and by numbers.
+# - Last are the threads of bench/threads.sh on rows of 10,000, by nodes and by numbers.
 
 # shellcheck source-path=SCRIPTDIR source=frame/frame.sh
 . "$(dirname "$0")/frame/frame.sh" || exit 2
 most=${1:-1000000}
 patience=3000
 
-# build: the program, with the side of Berkeley DB where a program over it can be linked.
+# build: builds the program, with the side of Berkeley DB if a program over it can be linked.
 build() {
   local sources=("$top"/bench/scale/{main,ours}.c -g)
   sides=(ours)

@@ -3,11 +3,10 @@
 #     awk -v kind=KIND -v names=N -v asked=M -f bench/script.awk
 #
 # - begin: the same `begin` over and over; all but the first are refused, the name being in use.
-# - locks: rounds of `lock`, `try` and `commit` behind a `begin`, as a transaction that writes one file.
+# - locks: rounds of `lock`, `try` and `commit` after a `begin`, as a transaction that writes one file.
 # - bad: lines that are no commands, each for another reason.
 # - none: N nodes are declared, and no more.
-# - names: N nodes are declared, and then a million queries ask for M of them, spread over all, in an
-#   order that hops about.
+# - names: N nodes are declared, and then a million queries ask for M of them, spread over all, in a scattered order.
 
 function say(line) {
   print line

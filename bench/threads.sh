@@ -4,41 +4,40 @@
 #
 #     bench/threads.sh [SECONDS [WORD..]]
 #
-# It prints of each piece of work, for each number of threads, a line for ours and one for Berkeley DB: transactions a
+# For each piece of work and each number of threads it prints a line for ours and one for Berkeley DB: transactions a
 # second, how many times that of one thread these are, commands a second, the nanoseconds of a transaction at the median
 # and at the 99th of a hundred, and the victims of a thousand transactions. WORD names a piece of work (own, own-list,
-# hot, hot-list, nodes, nodes-list, numbers, numbers-list); all where none is given. CC names another compiler than cc.
-# It ends with status 1 where an answer of either side is not as it should be: each is looked at. Where Berkeley DB is
-# not at hand a line says so, and ours stands alone.
+# hot, hot-list, nodes, nodes-list, numbers, numbers-list); all by default. CC names another compiler than cc. It ends
+# with status 1 if an answer of either side is not as it should be: each is checked. Without Berkeley DB a line says so,
+# and only ours is printed.
 #
-# A turn takes SECONDS (0.3 where none is given) from when the first thread begins, and ends when each thread has ended
-# the transaction in which it is. Each figure is the median of five turns; the sides play by turns. A transaction's time
-# is from the end of the one before to its own end, in buckets of a sixteenth. The threads do nothing but their
-# transactions: no engine works between the calls. So the table is always wanted, and what threads win is the least
-# there can be.
+# A turn takes SECONDS (0.3 by default) from the begin of the first thread, and ends when each thread has ended its
+# current transaction. Each figure is the median of five turns; the sides run by turns. A transaction's time is from the
+# end of the one before to its own end, in buckets of a sixteenth. The threads do nothing but their transactions: no
+# engine works between the calls. So the table is always in use, and what threads gain is the least that is possible.
 #
-# - Own: begin, IX on a data base, an area and a file, X on a record of the thread's own, commit.
-# - Hot: the same, and the record is one for all threads, who wait for each other.
-# - By nodes: four rows of 10,000, drawn at random, each read (S) or written (X) by a die. A row is a node below a file
+# - Own: begin, IX on a database, an area and a file, X on a record of the thread's own, commit.
+# - Hot: the same with one record for all threads, which wait for each other.
+# - By nodes: four rows of 10,000, drawn at random, each read (S) or written (X) at random. A row is a node below a file
 #   and below the one interval of its index; each is locked by bs_table_lock_path. Under its lock the row is read, and
-#   written where that is drawn. Who falls for a deadlock takes back what it wrote, aborts, and begins the same
-#   transaction again, whose time runs on. At the end each write must be there.
-# - By numbers: the same by bs_table_lock_row. A lock of the interval by its path comes before, and of one who writes
-#   that of the file.
+#   written if that is drawn. A victim of a deadlock undoes its writes, aborts, and begins the same transaction again,
+#   whose time runs on. At the end each write must be there.
+# - By numbers: the same by bs_table_lock_row, after a lock of the interval by its path, and for a writer one of the
+#   file.
 # - By calls each command is a call. In lists a short transaction is one bs_table_run. Of the others the begin and the
-#   first path are one; by numbers what is above a row and the row are one, with the begin where it is the first. The
-#   commit stands alone, since an engine reads its rows before.
-# - Berkeley DB's records have an intention on the file and on a page of a hundred rows above them; a begin is counted
-#   with it too, as a command. In lists a row's three locks, or the four of a short transaction, are one lock_vec. It
-#   has DB_THREAD, a locker for each thread, DB_LOCK_YOUNGEST, and one partition or as many as it takes: the way that
-#   makes more transactions is printed.
+#   first path are one; by numbers, what is above a row and the row are one, with the begin if it is the first. The
+#   commit is alone, since an engine reads its rows before.
+# - Berkeley DB's records have an intention on the file and on a page of a hundred rows above them; with it a begin is
+#   counted as a command too. In lists a row's three locks, or the four of a short transaction, are one lock_vec. It has
+#   DB_THREAD, a locker for each thread, DB_LOCK_YOUNGEST, and one partition or its default number: the one that makes
+#   more transactions is printed.
 
 # shellcheck source-path=SCRIPTDIR source=frame/frame.sh
 . "$(dirname "$0")/frame/frame.sh" || exit 2
 seconds=${1:-0.3}
 named=("${@:2}")
 
-# build: the program, with the side of Berkeley DB where a program over it can be linked.
+# build: builds the program, with the side of Berkeley DB if a program over it can be linked.
 build() {
   local sources=("$top"/bench/threads/{main,ours}.c)
   ! has_db || sources+=(-DHAVE_DB "$top/bench/threads/theirs.c" -ldb)

@@ -1,10 +1,10 @@
 # shellcheck shell=bash
-# What the scripts of this folder share that measure programs in C over the library for C. Each reads it first:
+# Shared by the scripts of this folder that measure programs in C over the library for C. Each reads it first:
 #
 #     . "$(dirname "$0")/frame/frame.sh"
 #
-# It makes a folder $work that goes with the script, and builds the library where that is not there; where there is no C
-# compiler, or no library, it says so and ends the script. CC names another compiler than cc. SLOTS=1024 takes the library
+# It makes a folder $work that is removed when the script ends, and builds the library if that is missing; without a C
+# compiler, or a library, it says so and ends the script. CC names another compiler than cc. SLOTS=1024 uses the library
 # for so many transactions, in place of that for 128.
 set -uo pipefail
 top=$(cd "$(dirname "${BASH_SOURCE[0]}")/../.." && pwd) || exit 2
@@ -21,14 +21,14 @@ headers=$("$top/tools/c_library.sh" --headers --slots "$slots") || exit 2
 mapfile -t libraries < <("$top/tools/c_library.sh" --slots "$slots" 2>"$work/log")
 [ "${#libraries[@]}" -eq 3 ] || { cat "$work/log" >&2; exit 1; }
 
-# compile PROGRAM WORD..: $work/PROGRAM, from sources and with options.
+# compile PROGRAM WORD..: compiles $work/PROGRAM, from sources and with options.
 compile() {
-  # shellcheck disable=SC2086 # CC may have words behind the name.
+  # shellcheck disable=SC2086 # CC may have words after the name.
   $compiler -std=c99 -D_DEFAULT_SOURCE -Wall -Wextra -Werror -O2 -I"$headers" -I"$top/bench/frame" \
     -o "$work/$1" "${@:2}" "$top/bench/frame/frame.c" "${libraries[@]}" -pthread
 }
 
-# has_db: whether a program over Berkeley DB can be linked; it says so where it cannot.
+# has_db: whether a program over Berkeley DB can be linked; it says so if not.
 has_db() {
   printf '#include <db.h>\nint main(void) { return db_env_create(0, 0); }\n' >"$work/db.c"
   # shellcheck disable=SC2086 # The same.
@@ -42,8 +42,9 @@ has_callgrind() {
   command -v valgrind >/dev/null
 }
 
-# instructions WORD..: of one whole run of a program, or of what callgrind's options ahead of it say. Callgrind counts
-# an instruction that repeats itself once for each time, so the C library is told to clear and copy without them.
+# instructions WORD..: of one whole run of a program, or of the part that callgrind's options before it select.
+# Callgrind counts an instruction that repeats itself once for each repetition, so the C library is told to clear and
+# copy without them.
 instructions() {
   GLIBC_TUNABLES=glibc.cpu.x86_rep_stosb_threshold=1000000:glibc.cpu.x86_rep_movsb_threshold=1000000 \
     timeout "${patience:-300}" valgrind --tool=callgrind --callgrind-out-file=/dev/null "$@" >"$work/log" 2>&1 ||
@@ -51,8 +52,8 @@ instructions() {
   sed -n 's/.*Collected : //p' "$work/log"
 }
 
-# each FEW MANY WORD..: the instructions of a round: the difference between two runs that differ in their rounds alone,
-# which are the program's last word, by the difference of these.
+# each FEW MANY WORD..: the instructions of a round: the difference between two runs that differ only in their rounds,
+# which are the program's last word, divided by the difference of these.
 each() {
   local few=$1 many=$2 less more
   shift 2
