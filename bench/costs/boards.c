@@ -1,5 +1,5 @@
 /*
- * Boards of all slots, and what is read of them. Every answer is compared with what it should be.
+ * Snapshots of all slots, and what is read of them. Every answer is compared with what it should be.
  */
 #include "costs.h"
 
@@ -33,7 +33,7 @@ static bs_slots row_of(enum shapes shape, size_t slot) {
   }
 }
 
-/* The younger the higher the slot. Answers the slots on a cycle: all, or none. */
+/* The higher the slot, the younger. Answers the slots on a cycle: all, or none. */
 static bs_slots lay(enum shapes shape) {
   size_t slot;
   memset(&all, 0xff, sizeof all);
@@ -60,7 +60,7 @@ static MEASURED void measured_suspects(bs_slots wanted, long rounds) {
   while (rounds-- > 0) finds(bs_suspects(&board), wanted);
 }
 
-/* Who is on a cycle with the first slot. */
+/* The slots on a cycle with the first slot. */
 uint64_t cycles(size_t number, long rounds) {
   bs_slots wanted = lay((enum shapes)number);
   uint64_t start = now();
@@ -68,7 +68,7 @@ uint64_t cycles(size_t number, long rounds) {
   return now() - start;
 }
 
-/* The youngest of these, of a board that has a cycle. */
+/* The youngest of these, in a snapshot that has a cycle. */
 uint64_t victims(size_t number, long rounds) {
   uint64_t start;
   lay((enum shapes)number);
@@ -77,7 +77,7 @@ uint64_t victims(size_t number, long rounds) {
   return now() - start;
 }
 
-/* Who is on any cycle. */
+/* The slots on any cycle. */
 uint64_t suspects(size_t number, long rounds) {
   bs_slots wanted = lay((enum shapes)number);
   uint64_t start = now();

@@ -8,14 +8,14 @@
 
 #include "burlapslate_shared.h"
 
-/* Who else lives. */
+/* The other living transactions. */
 enum crowd {
   ON_THE_WAY, /* so many that hold the nodes above the record in IX */
   ELSEWHERE,  /* so many, of which half hold a root of their own each, and half wait for it */
-  QUEUED      /* so many that wait for one root, and one who holds it */
+  QUEUED      /* so many that wait for one root, and its holder */
 };
 
-/* By whose calls a scene is made: a manager's, or a table's. */
+/* The calls by which a scene is made: a manager's, or a table's. */
 struct door {
   void (*open)(void);
   bs_reply (*serve)(bs_command command);
@@ -62,22 +62,22 @@ static inline void tells(bs_reply reply, size_t count) {
 /* A lock that must wait. */
 static inline void waits(bs_reply reply) { WANT(reply.status == BS_WAITING && told.count == 0); }
 
-/* A piece plays so many rounds, and answers the nanoseconds of what is measured in them. Which one of several it is
- * says its number. */
+/* A piece runs so many rounds, and answers the nanoseconds of the measured part. Its number says which one of several
+ * it is. */
 typedef uint64_t piece(size_t number, long rounds);
 
 /* A round is seven commands: begin, IX on a root, a file, an index and an interval, X on a record of the interval,
  * commit. It is made by calls of the manager; by calls of the table; by a list of the seven; and by so many threads. */
 piece rounds_by_manager, rounds_by_calls, rounds_by_lists, rounds_in_threads;
 
-/* One call of the table: the board; a question; a look of a watcher. */
+/* One call of the table: the snapshot; a question; a look of a watcher. */
 piece boards, questions, looks;
 
 /* A lock that waits with the commit that grants it; an insert with the delete of its record; a commit that grants so
  * many of 127; and one that grants none of 63. */
 piece waits_and_grants, inserts_and_deletes, releases, vain_releases;
 
-/* What is read of a board of the shape that has this number. */
+/* What is read of a snapshot of the shape that has this number. */
 enum shapes { IDLE, CHAIN, RING, QUEUE, CLOSED_QUEUE };
 piece cycles, victims, suspects;
 

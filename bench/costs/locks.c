@@ -1,17 +1,17 @@
 /*
  * Waits with their grants, inserts with their deletes, and releases, each on a manager of its own. Every answer and
- * every list of notices is looked at, as a caller has to.
+ * every list of notices is checked, as a caller must.
  */
 #include "costs.h"
 
-/* How many can wait for one: all who may live but that one. */
+/* How many can wait for one transaction: all that may live but that one. */
 enum { WAITERS = BS_SLOTS - 1, INDEXES = 3 };
 
 /* ------------------------------------------------------------------------------------------------
  * Waits.
  */
 
-/* Each asks in turn for what the one before it holds, which then commits. Answers who has it at the end. */
+/* Each in turn requests what the one before it holds, which then commits. Answers the holder at the end. */
 static bs_txn hand_over(bs_node root, bs_txn holder, const bs_txn *waiters, size_t count) {
   size_t i;
   for (i = 0; i < count; i++) {
@@ -32,7 +32,7 @@ static void begin_all(bs_txn waiters[WAITERS]) {
   for (i = 0; i < WAITERS; i++) waiters[i] = begun();
 }
 
-/* Those who wait are begun beforehand, each in a slot that has had a lock before. */
+/* The waiters are begun beforehand, each in a slot that has had a lock before. */
 uint64_t waits_and_grants(size_t number, long rounds) {
   bs_txn waiters[WAITERS], holder;
   uint64_t start, taken = 0;
@@ -95,8 +95,8 @@ uint64_t inserts_and_deletes(size_t number, long rounds) {
  * Releases.
  */
 
-/* One holds a root in SIX and all others in IS; these convert, the first `writers` to IX, which go together, and the
- * others to S, which stays behind them. Answers the one, and with it the first who converts. */
+/* One holds a root in SIX and all others in IS; these convert, the first `writers` to IX, which is compatible with
+ * itself, and the others to S, which waits after them. Answers the one, and with it the first that converts. */
 static bs_txn lay_conversions(size_t writers, bs_txn *first) {
   bs_txn holder = begun(), others[WAITERS];
   bs_node root = new_root();
@@ -130,7 +130,7 @@ uint64_t releases(size_t number, long rounds) {
   return taken;
 }
 
-/* IX was granted to so many, of whom the first commits; none of the others, who want S, is granted by it. */
+/* IX was granted to so many, of which the first commits; none of the others, which want S, is granted by it. */
 uint64_t vain_releases(size_t number, long rounds) {
   uint64_t taken = 0;
   while (rounds-- > 0) {

@@ -5,7 +5,7 @@
  *   costs lines GROUP         for each piece of the group its word, a few rounds and many for a count of instructions,
  *                             and its title, parted by tabs
  *   costs times GROUP ROUNDS  for each piece its word, and the nanoseconds of a round
- *   costs play WORD ROUNDS    plays so many rounds, for a count of instructions
+ *   costs play WORD ROUNDS    runs so many rounds, for a count of instructions
  */
 #include "costs.h"
 
@@ -20,7 +20,7 @@ struct line {
   piece *piece;
   size_t number;
   struct scene scene;
-  long share; /* of the rounds that are asked for, one in so many is played */
+  long share; /* one in so many of the requested rounds is run */
   enum turns turn;
 };
 

@@ -1,6 +1,6 @@
 /*
- * Rounds, and the calls of the table that change nothing. Every answer and every list of notices is looked at, as a
- * caller has to.
+ * Rounds, and the calls of the table that change nothing. Every answer and every list of notices is checked, as a
+ * caller must.
  */
 #include "costs.h"
 

@@ -1,6 +1,6 @@
 /*
- * The scene: the ways of the rounds, and the others beside them. It is made by commands, so that a manager and a table
- * get the same.
+ * The scene: the paths of the rounds, and the others beside them. It is made by commands, so that a manager and a
+ * table get the same.
  */
 #include "costs.h"
 
@@ -47,7 +47,7 @@ static bs_reply interval_by_table(bs_node index, size_t place) {
   return interval;
 }
 
-/* A lock that waits is left waiting: nobody sleeps. */
+/* A lock that waits is left waiting: no thread sleeps. */
 static bs_reply served_by_table(bs_command c) {
   bs_table_run(table, &c, 1);
   return c.reply;
@@ -72,7 +72,7 @@ static void lock_above(const struct door *door, bs_txn txn, const struct way *wa
   for (i = 0; i < ABOVE; i++) lock(door, txn, way->above[i], BS_IX);
 }
 
-/* Makes the nodes of a way, and holds none of them. The index has two intervals. */
+/* Makes the nodes of a path, and holds none of them. The index has two intervals. */
 static void make_way(const struct door *door, struct way *way) {
   static const uint64_t bound = 100, key = 50;
   bs_node *above = way->above;
@@ -88,7 +88,7 @@ static void make_way(const struct door *door, struct way *way) {
   DONE(door->serve(bs_do(BS_DO_COMMIT, txn)));
 }
 
-/* One who holds a new root, and so many who wait for it. */
+/* One transaction that holds a new root, and so many that wait for it. */
 static void queue_up(const struct door *door, size_t waiters) {
   bs_node root = made(door, (bs_command){ .kind = BS_DO_ADD_INNER });
   lock(door, begun_by(door), root, BS_X);

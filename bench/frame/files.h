@@ -14,7 +14,7 @@ static bs_manager m = BS_NO_MANAGER_HERE;
 static bs_notices told;
 static bs_node db, file, below, row_file, row_below;
 
-/* An index of a file, of one interval, which it answers. */
+/* Makes an index of a file, of one interval, which it answers. */
 static bs_node interval_of(bs_node of) {
   bs_node index = DONE(bs_add_index(&m, &db, 1, of, NULL, 0)).node;
   return DONE(bs_interval_of(&m, index, 0)).node;

@@ -1,6 +1,6 @@
 /*
- * What the programs of this folder share: how an answer that is not as it should be ends one, the clock, turns, and
- * threads.
+ * Shared by the programs of this folder: how an answer that is not as it should be ends a program, the clock, turns,
+ * and threads.
  */
 #ifndef FRAME_H
 #define FRAME_H
@@ -8,16 +8,16 @@
 #include <stddef.h>
 #include <stdint.h>
 
-/* How many threads can be together. */
+/* The most threads at once. */
 enum { MOST_TOGETHER = 64 };
 
-/* How many turns are timed, and which of them counts, from the shortest on. What else the machine does only adds to
- * the time of one thread, so that its best turn counts; several have lucky turns, in which they come one after the
+/* How many turns are timed, and which of them counts, from the shortest on. Other work of the machine only adds to
+ * the time of one thread, so its best turn counts; several threads have lucky turns, in which they run one after the
  * other. */
 enum turns { BEST = 0, TURNS = 9, MEDIAN = TURNS / 2 };
 
-/* A function that callgrind sees. A count takes what is in those whose names begin with `measured`, where it does not
- * take all. */
+/* A function that callgrind sees. If a count is not of everything, it is of the functions whose names begin with
+ * `measured`. */
 #define MEASURED __attribute__((noinline))
 
 /* Ends the program with status 1. */
@@ -31,11 +31,11 @@ uint64_t now(void);
 /* The time of a round in the turn that counts, of so many rounds each turn. */
 double of_round(uint64_t times[TURNS], enum turns turn, long rounds);
 
-/* Runs a body in so many threads, each with its number, and answers the time from when all have come to the
- * start until all have ended. */
+/* Runs a body in so many threads, each with its number, and answers the time from when all are at the start until all
+ * have ended. */
 uint64_t together(size_t count, void (*body)(size_t number));
 
-/* Waits until two threads have come here. */
+/* Waits until two threads are here. */
 void meet(void);
 
 #endif

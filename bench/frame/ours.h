@@ -1,5 +1,5 @@
 /*
- * What is done with an answer of the library that must be BS_DONE.
+ * The check of an answer of the library that must be BS_DONE.
  */
 #ifndef OURS_H
 #define OURS_H

@@ -1,6 +1,6 @@
 /*
- * What a manager, a table, a record, a lock and a row take of memory. It is run by bench/memory.sh, which links this
- * program's malloc, realloc and free ahead of the C library's (--wrap). They count what malloc_usable_size says, and
+ * The memory of a manager, a table, a record, a lock and a row. It is run by bench/memory.sh, which links this
+ * program's malloc, realloc and free before the C library's (--wrap). They count what malloc_usable_size says, and
  * eight bytes for each block.
  */
 #include "files.h"
@@ -50,7 +50,7 @@ static void row(const char *what, size_t bytes) {
   printf("%-66s%9zu\n", what, bytes);
 }
 
-/* Of each of so many, rounded to the nearest. */
+/* The share of each of so many, rounded to the nearest. */
 static size_t each(size_t bytes, size_t count) {
   return (bytes + count / 2) / count;
 }
@@ -59,7 +59,7 @@ static void set_up(void) {
   make_files(4 * RECORDS);
 }
 
-/* What an empty manager takes, for so many transactions. */
+/* The memory of an empty manager, for so many transactions. */
 static size_t empty_manager(uint32_t most) {
   bs_options options = { 0 };
   size_t before = taken, with;
@@ -82,8 +82,8 @@ static size_t empty_table(void) {
   return with;
 }
 
-/* Records of a file come, with one key for all of its indexes, of each of which this is the interval: a hundred in a
- * transaction, so that no list is large before the locks are taken. */
+/* Inserts records of a file, with one key for all of its indexes, of each of which this is the interval: a hundred in
+ * a transaction, so that no list is large before the locks are acquired. */
 static size_t records_come(bs_node of, const bs_node *intervals, size_t indexes) {
   size_t before = taken, i;
   uint64_t key = 0;
@@ -99,7 +99,7 @@ static size_t records_come(bs_node of, const bs_node *intervals, size_t indexes)
   return taken - before;
 }
 
-/* The same of a file with three indexes. */
+/* The same for a file with three indexes. */
 static size_t wide_records_come(void) {
   bs_node wide = DONE(bs_add_file(&m, &db, 1)).node, intervals[MOST_INDEXES];
   size_t i;
@@ -112,7 +112,7 @@ static void lock_from(bs_txn t, size_t from, size_t count) {
   for (at = from; at < from + count; at++) DONE(bs_lock(&m, t, records[at], BS_X, &told));
 }
 
-/* Locks all records in X by so many transactions: what that takes, and what stays behind their commits. */
+/* Locks all records in X by so many transactions: the memory for that, and what remains after their commits. */
 static void lock_all(size_t by, size_t *with, size_t *behind) {
   bs_txn t[PER_TRANSACTION];
   size_t before = taken, i;

@@ -1,8 +1,8 @@
 /*
- * passed ours|theirs TURNS: prints how many grants to readers were counted from when the writer asked until it was
- * granted, parted by tabs: as a mean of so many turns, in the 99th of a hundred from the fewest on, and at most. A
- * reader counts its grant while it holds it. So of those that hold when the writer asks some may be counted as granted
- * behind it, and none is forgotten. A writer that loses the processor before its call has begun is passed too.
+ * passed ours|theirs TURNS: prints how many grants to readers were counted from the writer's request to its grant,
+ * parted by tabs: as a mean of so many turns, in the 99th of a hundred from the fewest on, and at most. A reader
+ * counts its grant while it holds it. So some of the holders at the request may be counted as granted after it, and
+ * none is missed. A writer that loses the processor before its call has begun is passed too.
  */
 #include "passed.h"
 
@@ -28,7 +28,7 @@ static void *reader(void *number) {
   return NULL;
 }
 
-/* Behind the writer some readers hold the node again before it asks. */
+/* After the writer some readers hold the node again before it requests it. */
 static void let_readers_in(void) {
   unsigned long before = atomic_load(&grants);
   while (atomic_load(&grants) < before + READERS) sched_yield();

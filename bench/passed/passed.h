@@ -1,5 +1,5 @@
 /*
- * How often a writer is passed that waits among readers who come and go.
+ * How often a waiting writer is passed by readers that lock and release.
  */
 #ifndef PASSED_H
 #define PASSED_H
@@ -9,8 +9,8 @@
 /* As many readers as can live beside the writer. */
 enum { READERS = 127 };
 
-/* What a side does in one thread: begins and takes the node, as a reader or as the writer, which may sleep; and ends.
- * Each thread has a number, the writer READERS. */
+/* What a side does in one thread: begins and acquires the node, as a reader or as the writer, which may sleep; and
+ * ends. Each thread has a number, the writer READERS. */
 struct side {
   void (*set_up)(void);
   void (*take)(size_t number);

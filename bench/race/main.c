@@ -2,11 +2,11 @@
  * A race of the lock manager of this repository and the lock subsystem of Berkeley DB: the same work through
  * both. It is run by bench/race.sh.
  *
- *   race lines                 for each line of the table its word, in how many ways Berkeley DB plays it,
+ *   race lines                 for each line of the table its word, in how many ways Berkeley DB runs it,
  *                              and its title, parted by tabs
  *   race times ROUNDS          for each line its word, and the nanoseconds of a round by ours and by theirs;
- *                              "-" for a side that does not play
- *   race play WORD WAY ROUNDS  plays so many rounds, for a count of instructions: by `ours`, or by theirs in
+ *                              "-" for a side that does not run
+ *   race play WORD WAY ROUNDS  runs so many rounds, for a count of instructions: by `ours`, or by theirs in
  *                              the way of this number, from 0 on
  */
 #include "race.h"
@@ -32,7 +32,7 @@ struct line {
   const char *title;
   size_t others;
   size_t records;
-  long share; /* of the rounds that are asked for, one in so many is played */
+  long share; /* one in so many of the requested rounds is run */
   enum turns turn;
   play *ours;
   play *theirs;
@@ -127,7 +127,7 @@ static uint64_t theirs_played(const struct line *line, size_t way, long rounds) 
 #endif
 }
 
-/* The sides play by turns, so that what else the machine does meets both. */
+/* The sides run by turns, so that other work of the machine affects both. */
 static void time_line(const struct line *line, long asked) {
   long rounds = asked / line->share < 2 * MOST_CREW ? 2 * MOST_CREW : asked / line->share;
   size_t turn, way, ways = line->theirs == NULL ? 0 : line->way_count;

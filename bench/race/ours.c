@@ -1,13 +1,13 @@
 /*
- * The plays through the lock manager of this repository. Every answer and every list of notices is looked
- * at, as a caller has to.
+ * The scenarios through the lock manager of this repository. Every answer and every list of notices is checked, as a
+ * caller must.
  */
 #include "race.h"
 #include "ours.h"
 
 #include <pthread.h>
 
-/* Who calls: a thread with a transaction. All but `notices` is looked at under the latch only. */
+/* A caller: a thread with a transaction. All but `notices` is read under the latch only. */
 struct session {
   bs_txn txn;
   uint32_t told; /* the kind of the notice that ended its wait; 0: there was none yet */
@@ -21,7 +21,7 @@ static bs_node records[MOST_RECORDS];
 static bs_node other_root;
 static size_t record_count;
 
-/* The mutex that a program holds round each call, where it has threads. */
+/* The mutex that a program holds during each call, if it has threads. */
 static pthread_mutex_t latch = PTHREAD_MUTEX_INITIALIZER;
 static struct session sessions[CREW];
 static struct session *by_slot[BS_SLOTS];
@@ -222,7 +222,7 @@ static void begin(struct session *me) {
   by_slot[me->txn.slot] = me;
 }
 
-/* Wakes whom a call told something. */
+/* Wakes the transactions that a call told something. */
 static void wake(const bs_notices *told) {
   size_t i;
   for (i = 0; i < told->count; i++) {
@@ -237,7 +237,7 @@ static void commit(struct session *me) {
   wake(&me->notices);
 }
 
-/* Asks for X on a node and sleeps while it waits: whether it was granted, and else it is the victim. */
+/* Requests X on a node and sleeps while it waits. Answers whether it was granted; otherwise it is the victim. */
 static bool lock_or_fall(struct session *me, bs_node node) {
   bs_reply reply = bs_lock(&manager, me->txn, node, BS_X, &me->notices);
   wake(&me->notices);

@@ -1,5 +1,5 @@
 /*
- * The plays through a shared table of this repository: every answer is looked at.
+ * The scenarios through a shared table of this repository: every answer is checked.
  */
 #include "race.h"
 #include "ours.h"
@@ -36,7 +36,7 @@ static void close_table(void) {
 
 enum { ALL = INNER_NODES + 3 };
 
-/* All of it in one hold of the latch: a list that is made in each round. */
+/* All of it in one critical section: a list that is made in each round. */
 static void fill_list(bs_command *list, size_t number) {
   size_t i;
   list[0] = bs_do(BS_DO_BEGIN, bs_begun());
@@ -82,7 +82,7 @@ static bool goes_on(void) {
   return on;
 }
 
-/* Asks whether it is over only once in 1,000 looks, so that it does little but look. */
+/* Checks whether it is over only once in 1,000 looks, so that it does little but look. */
 static void *look_on(void *arg) {
   bs_watcher *watcher = arg;
   bs_board *board = calloc(1, sizeof *board);

@@ -1,7 +1,7 @@
 /*
- * The plays through the lock subsystem of Berkeley DB 5.3, by its public calls. It is used the way that was
- * found to be its fastest: an environment of this process alone, one partition, and names in the form of its
- * own access methods (DB_LOCK_ILOCK), which it hashes in fewer steps than others.
+ * The scenarios through the lock subsystem of Berkeley DB 5.3, by its public calls. It is used in the way that was
+ * found to be its fastest: an environment of this process alone, one partition, and names in the form of its own
+ * access methods (DB_LOCK_ILOCK), which it hashes in fewer steps than others.
  */
 #include "race.h"
 
@@ -172,8 +172,8 @@ uint64_t theirs_commit(long rounds) {
  * Waits and deadlocks. A call that waits blocks its thread, so these take two.
  */
 
-/* Releases and asks in one call. With one partition the call holds the latch from the release until it waits,
- * so the other thread, to whom the lock goes, cannot give it back before: each round waits once. */
+/* Releases and requests in one call. With one partition the call holds the latch from the release until it waits, so
+ * the other thread, which is granted the lock, cannot give it back before: each round waits once. */
 static void hand_over(u_int32_t locker) {
   DB_LOCKREQ requests[2];
   requests[0].op = DB_LOCK_PUT_ALL;

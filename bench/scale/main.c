@@ -1,7 +1,7 @@
 /*
- * scale WAY SIDE RECORDS: goes through all steps of a side, over so many records, in order or at random, and
- * prints a line for each: its function, its title, and the nanoseconds for a record. Ends with status 1 at the
- * first answer that is not as it should be.
+ * scale WAY SIDE RECORDS: runs all steps of a side, over so many records, in order or at random, and prints a line
+ * for each: its function, its title, and the nanoseconds for a record. Ends with status 1 at the first answer that
+ * is not as it should be.
  */
 #include "scale.h"
 

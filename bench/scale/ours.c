@@ -25,7 +25,7 @@ static void commit(bs_txn t) {
   DONE(bs_commit(&m, t, &told));
 }
 
-/* Goes over all records, a hundred in a transaction. */
+/* Visits all records, a hundred in a transaction. */
 #define IN_TRANSACTIONS(work, at, t, what)                                        \
   do {                                                                            \
     bs_txn t = begin();                                                           \
@@ -72,7 +72,7 @@ static __attribute__((noinline)) void step_delete(const struct work *work) {
   });
 }
 
-/* Goes over all records, a hundred in a transaction, by the places `from` up to `to`. */
+/* Visits all records, a hundred in a transaction, by the places `from` up to `to`. */
 #define BY_TRANSACTIONS(work, from, to, t, begun, what)                                                 \
   do {                                                                                                  \
     uint32_t from, to;                                                                                  \
@@ -83,7 +83,7 @@ static __attribute__((noinline)) void step_delete(const struct work *work) {
     }                                                                                                   \
   } while (0)
 
-/* Records that stand only while they are locked. */
+/* Records that exist only while they are locked. */
 static __attribute__((noinline)) void step_adopt(const struct work *work) {
   uint32_t at;
   BY_TRANSACTIONS(work, from, to, t, begin(), {

@@ -6,13 +6,13 @@
 
 enum { PER_TRANSACTION = 100 };
 
-/* The records, in the order in which each step goes over them. */
+/* The records, in the order in which each step visits them. */
 struct work {
   uint32_t records;
   const uint32_t *order;
 };
 
-/* A step over all records; null where a side has nothing to do. */
+/* A step over all records; null if a side has nothing to do. */
 struct step {
   const char *title;
   void (*run)(const struct work *work);

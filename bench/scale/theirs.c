@@ -1,6 +1,6 @@
 /*
- * The steps through the lock subsystem of Berkeley DB 5.3, which keeps nothing of a record that nobody locks:
- * there is nothing to insert and nothing to delete.
+ * The steps through the lock subsystem of Berkeley DB 5.3, which stores nothing of an unlocked record: there is
+ * nothing to insert and nothing to delete.
  */
 #include "scale.h"
 

@@ -3,13 +3,13 @@
  * bench/threads.sh.
  *
  *   threads lines                             for each line its word and its title, parted by a tab
- *   threads times SECONDS WORD                plays a line with each number of threads by both sides, by turns, each
+ *   threads times SECONDS WORD                runs a line with each number of threads by both sides, by turns, each
  *                                             turn as long as this, and prints for each number and side a row
- *   threads play SECONDS WORD SIDE THREADS    plays one turn by `ours`, `one` or `many`, and prints its row
+ *   threads play SECONDS WORD SIDE THREADS    runs one turn by `ours`, `one` or `many`, and prints its row
  *
  * A row is the threads, the side, transactions and commands a second, nanoseconds of a transaction at the median and at
  * the 99th of a hundred, and the victims of a thousand transactions, parted by tabs. `one` and `many` are Berkeley DB
- * with one partition and with as many as it takes.
+ * with one partition and with its default number.
  */
 #include "threads.h"
 
@@ -96,7 +96,7 @@ static double time_in(size_t bucket) {
   return bucket < 32 ? (double)bucket : ((double)(bucket % 16) + 16.5) * width;
 }
 
-/* The time that so many of a hundred transactions take at most. */
+/* The time within which so many of a hundred transactions are done. */
 static double time_at(size_t threads, uint64_t transactions, uint64_t hundredths) {
   uint64_t rank = (transactions * hundredths + 99) / 100, passed = 0;
   size_t bucket, i;
@@ -111,7 +111,7 @@ static double time_at(size_t threads, uint64_t transactions, uint64_t hundredths
  * A turn.
  */
 
-/* Small random numbers, by Marsaglia's xorshift. */
+/* Small random numbers (xorshift). */
 static uint64_t roll(uint64_t *dice) {
   *dice ^= *dice << 13;
   *dice ^= *dice >> 7;
@@ -135,14 +135,14 @@ static void note(struct worker *worker, const struct touch *touches, uint64_t ti
   worker->transactions++;
 }
 
-/* When the turn is over: so long behind the begin of the thread that was the first. */
+/* When the turn is over: so long after the begin of the first thread. */
 static uint64_t end_of_turn(uint64_t begun) {
   uint64_t end = 0;
   __atomic_compare_exchange_n(&turn_end, &end, begun + turn_length, false, __ATOMIC_RELAXED, __ATOMIC_RELAXED);
   return end == 0 ? begun + turn_length : end;
 }
 
-/* Makes transactions until the turn is over. Each begins where the one before ended. */
+/* Makes transactions until the turn is over. Each begins when the one before ended. */
 static void work(size_t number) {
   struct worker *worker = &workers[number];
   struct touch touches[TOUCHES];
@@ -174,7 +174,7 @@ static void want_rows(const struct scene *scene, size_t threads) {
   WANT(scene->work == OWN || scene->work == HOT || written == left);
 }
 
-/* The figures of a turn that took so long. */
+/* The figures of a turn of this length. */
 static struct turn figures_of(size_t threads, uint64_t taken) {
   uint64_t transactions = 0, commands = 0, victims = 0;
   double seconds = (double)taken / 1e9;
@@ -220,7 +220,7 @@ static int by_size(const void *a, const void *b) {
   return (*first > *second) - (*first < *second);
 }
 
-/* Of each figure the median of all turns. */
+/* The median of each figure over all turns. */
 static struct turn middle_of(const struct turn turns[REPEATS]) {
   struct turn middle;
   double sorted[REPEATS];
@@ -238,7 +238,7 @@ static void print_turn(size_t threads, const char *side, const struct turn *turn
          turn->of[MEDIAN_TIME], turn->of[LATE_TIME], turn->of[VICTIMS]);
 }
 
-/* The sides play by turns, so that what else the machine does meets all. Of Berkeley DB's two ways the faster is
+/* The sides run by turns, so that other work of the machine affects all. The faster of Berkeley DB's two ways is
  * printed. */
 static void time_line(const struct line *line, size_t threads, double seconds) {
   struct turn turns[SIDES][REPEATS], middles[SIDES];

@@ -1,5 +1,5 @@
 /*
- * The works through a shared table of this repository: every answer is looked at.
+ * The works through a shared table of this repository: every answer is checked.
  */
 #include "threads.h"
 #include "ours.h"
@@ -17,7 +17,7 @@ static bs_node rows[ROWS];
  * The scene.
  */
 
-/* All of a short transaction in one hold of the latch: a list that is made again and again. */
+/* All of a short transaction in one critical section: a list that is made again and again. */
 static void fill_list(bs_command *list, bs_node record) {
   size_t i;
   list[0] = bs_do(BS_DO_BEGIN, bs_begun());
@@ -93,7 +93,7 @@ static bool short_by_calls(struct worker *worker, const struct touch *touches) {
   return true;
 }
 
-/* Of a list that is made and stops at its lock of a record, which waits: awaits that, and makes the rest. */
+/* For a list that is made and stops at its lock of a record, which waits: awaits that, and makes the rest. */
 static void make_rest(const bs_command *list) {
   bs_command rest[2];
   const bs_reply *waits = &list[SHORT - 2].reply;
@@ -120,7 +120,7 @@ static bool short_in_list(struct worker *worker, const struct touch *touches) {
  * Rows that are read and written.
  */
 
-/* Ends a transaction that fell behind so many rows. */
+/* Ends a transaction that was chosen as victim after so many rows. */
 static bool fallen(struct worker *worker, bs_txn txn, const struct touch *touches, size_t count) {
   undo_rows(touches, count);
   DONE(bs_table_abort(table, txn, NULL));
@@ -134,7 +134,7 @@ static bool committed(struct worker *worker, bs_txn txn) {
   return true;
 }
 
-/* Whether a lock was granted; else its asker has fallen. */
+/* Whether a lock was granted; otherwise its requester was chosen as victim. */
 static bool is_granted(bs_reply reply) {
   if (reply.status != BS_VICTIM) DONE(reply);
   return reply.status == BS_DONE;
@@ -164,8 +164,9 @@ static bool nodes_by_calls(struct worker *worker, const struct touch *touches) {
   return committed(worker, txn);
 }
 
-/* Makes a list of a transaction to its end, and answers whether that did not fall: what waits is awaited, and the list
- * goes on from there. Where its first command begins the transaction, all others are of that, and it is written. */
+/* Makes a list of a transaction to its end, and answers whether that was not chosen as victim: a wait is awaited, and
+ * the list continues from there. If its first command begins the transaction, all others are of that one, and it is
+ * written. */
 static bool run_through(struct worker *worker, bs_command *list, size_t count, bs_txn *txn) {
   size_t done = 0, i;
   for (;;) {
@@ -197,7 +198,7 @@ static bool nodes_in_lists(struct worker *worker, const struct touch *touches) {
   return committed(worker, txn);
 }
 
-/* What is above a row comes by paths: who reads needs one way to it, who writes all. */
+/* What is above a row is locked by paths: a reader needs one path to it, a writer all. */
 static bool lock_number(struct worker *worker, bs_txn txn, const struct touch *touch) {
   bs_mode above = intention_of(touch);
   uint64_t row = touch->row;

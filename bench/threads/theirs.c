@@ -8,11 +8,11 @@
 #include <stdlib.h>
 #include <string.h>
 
-/* Rows lie on pages of so many, and a row is locked with three requests: its file, its page, itself. */
+/* Rows are on pages of so many, and a row is locked with three requests: its file, its page, itself. */
 enum { ON_A_PAGE = 100, PAGES = ROWS / ON_A_PAGE, REQUESTS = 3 };
 
-/* Where the names of what lies above begin: the path of short transactions, of which the last is the rows' file; the
- * pages; and the records, of each thread its own or of each row. */
+/* Where the names of the objects above begin: the path of short transactions, of which the last is the rows' file;
+ * the pages; and the records, of each thread its own or of each row. */
 enum {
   FILE_NAME = INNER_NODES - 1,
   FIRST_PAGE = INNER_NODES,
@@ -79,7 +79,7 @@ static void put_all(u_int32_t locker) {
   done(env->lock_vec(env, locker, 0, &request, 1, NULL));
 }
 
-/* Whether a lock was granted; else its asker has fallen. */
+/* Whether a lock was granted; otherwise its requester was chosen as victim. */
 static bool is_granted(int answer) {
   if (answer != DB_LOCK_DEADLOCK) done(answer);
   return answer == 0;

@@ -1,5 +1,5 @@
 /*
- * What threads do with a shared table and with Berkeley DB's lock subsystem: what the two sides share.
+ * Shared by the two sides: what threads do with a shared table and with Berkeley DB's lock subsystem.
  */
 #ifndef THREADS_H
 #define THREADS_H
@@ -9,7 +9,7 @@
 #include <stdbool.h>
 
 enum {
-  INNER_NODES = 3,           /* a data base, an area, a file: the path to the record of a short transaction */
+  INNER_NODES = 3,           /* a database, an area, a file: the path to the record of a short transaction */
   SHORT = INNER_NODES + 3,   /* the commands of a short transaction */
   ROWS = 10000,              /* the rows of a mix */
   TOUCHES = 4,               /* how many rows its transaction reads or writes */
@@ -20,18 +20,18 @@ enum {
 enum works {
   OWN,    /* short transactions, each thread on a record of its own */
   HOT,    /* the same, all on one record */
-  NODES,  /* rows that are read and written, each with a node that stays */
-  NUMBERS /* the same by the rows' numbers; with Berkeley DB it is one work with that before */
+  NODES,  /* rows that are read and written, each with a permanent node */
+  NUMBERS /* the same by the rows' numbers; with Berkeley DB it is the same work as the one before */
 };
 
-/* What a turn is played in. */
+/* The settings of a turn. */
 struct scene {
   enum works work;
-  bool in_lists;       /* several commands in one call, where that can be */
-  bool is_partitioned; /* Berkeley DB has as many partitions as it takes when it is not told; else one */
+  bool in_lists;       /* several commands in one call, if possible */
+  bool is_partitioned; /* Berkeley DB has its default number of partitions; else one */
 };
 
-/* A row that is to be read or written. */
+/* A row to read or write. */
 struct touch {
   uint32_t row;
   bool writes;
@@ -42,13 +42,13 @@ struct worker {
   size_t number;
   uint64_t dice;
   uint64_t transactions, commands;
-  uint64_t victims; /* how many tries of transactions fell, and began again */
+  uint64_t victims; /* how many tries of transactions were victims, and began again */
   uint64_t writes;  /* of rows, by transactions that committed */
   uint64_t times[BUCKETS];
 } __attribute__((aligned(128)));
 
-/* Makes one short transaction; or tries one of a mix, and answers whether it came to its commit: else it fell, has
- * taken back what it wrote, and aborted. */
+/* Makes one short transaction; or tries one of a mix, and answers whether it committed: otherwise it was chosen as
+ * victim, has undone its writes, and has aborted. */
 typedef bool try_one(struct worker *worker, const struct touch *touches);
 
 /* A side: makes a scene, says how a transaction is made in it, and ends it. */
@@ -63,7 +63,7 @@ extern const struct side ours, theirs;
 /* What an engine does with a row under its lock. */
 void touch_row(const struct touch *touch);
 
-/* Takes back what was written to the first so many of the rows that a transaction touched. */
+/* Undoes the writes to the first so many of the rows that a transaction touched. */
 void undo_rows(const struct touch *touches, size_t count);
 
 #endif

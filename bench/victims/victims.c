@@ -1,6 +1,6 @@
 /*
- * What the choice of victims does in a random mix, and what the block costs that closes a large cycle.
- * Every answer is looked at, as a caller has to.
+ * What the choice of victims does in a random mix, and what the block costs that closes a large cycle. Every answer
+ * is checked, as a caller must.
  */
 #include "ours.h"
 
@@ -32,7 +32,7 @@ struct locker {
   bs_txn txn;
   bool waits;
   uint64_t since; /* the first begin of its work */
-  long falls;     /* how often that fell since then */
+  long falls;     /* how often it was chosen as victim since then */
 };
 
 struct mix {
@@ -40,11 +40,11 @@ struct mix {
   bs_node nodes[NODES];
   struct locker lockers[BS_SLOTS]; /* by slot */
   uint64_t state;
-  bool keeps_turns; /* work that fell begins again with its first number */
+  bool keeps_turns; /* a victim's work begins again with its first number */
   long deadlocks, victims, worst, aborts, commits, most_falls;
 };
 
-/* The next of a row of numbers that looks like chance (Marsaglia's xorshift). */
+/* The next random number (xorshift). */
 static uint32_t chance(struct mix *x, uint32_t below) {
   x->state ^= x->state << 13;
   x->state ^= x->state >> 7;
@@ -52,7 +52,7 @@ static uint32_t chance(struct mix *x, uint32_t below) {
   return (uint32_t)((x->state >> 16) % below);
 }
 
-/* Ends waits as told, and answers how many fell. Who fell is still to be aborted. */
+/* Ends waits as told, and answers the number of victims. These must still be aborted. */
 static long take_notices(struct mix *x, bool fell[BS_SLOTS]) {
   long victims = 0;
   size_t i;
@@ -178,7 +178,7 @@ static void waits(struct cycle *c, bs_txn txn, bs_node node) {
   WANT(told.count == 0);
 }
 
-/* Each holds a node, and waits for that of the next; the last is to ask for that of the first. */
+/* Each holds a node, and waits for that of the next; the last will request that of the first. */
 static void lay_ring(struct cycle *c) {
   bs_txn txns[BS_SLOTS];
   bs_node nodes[BS_SLOTS];
@@ -193,7 +193,7 @@ static void lay_ring(struct cycle *c) {
   c->node = nodes[0];
 }
 
-/* The first holds a node for which all others queue; it is to ask for what the last of them holds. */
+/* The first holds a node for which all others queue; it will request what the last of them holds. */
 static void lay_queue(struct cycle *c) {
   bs_node queued = made_root(&c->manager);
   bs_txn txn;
@@ -233,7 +233,7 @@ static uint64_t close_cycle(enum shape shape, uint32_t choice) {
   return taken;
 }
 
-/* The choices play by turns. */
+/* The choices run by turns. */
 static void time_all(void) {
   uint64_t times[BS_FEWEST + 1][TURNS];
   enum shape shape;
