@@ -28,10 +28,11 @@ use std::marker::Model;
 /// A manager with files of rows, whose records are made, removed and rekeyed by the calls about rows
 /// alone.
 ///
-/// A row gets its node from the call that locks it, and loses it when nobody holds it or waits for it
-/// any more. The registry owns the manager, lends it for reading and serves every command. So each
-/// row's node is a living record of the row's file, no two rows have the same node, and each record of
-/// a file of rows is the node of one of its rows.
+/// A row gets its node from the call that locks it. It loses the node by a later call about rows or a
+/// rollback to a savepoint, if nobody holds the node or waits for it any more. The registry owns the
+/// manager, lends it for reading and serves every command. So each row's node is a living record of
+/// the row's file, no two rows have the same node, and each record of a file of rows is the node of
+/// one of its rows.
 #[derive(Drop)]
 pub struct Registry {
     manager: Manager,
