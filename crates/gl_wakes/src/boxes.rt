@@ -59,8 +59,8 @@ impl Boxes {
 
     /// The verdict on the transaction's request for this node, if there is one. The first that
     /// applies: refused with `NoSuchTxn` if the transaction does not live; none yet if it waits on the
-    /// node; the notice in its slot's box, where a grant counts only if the transaction holds the node
-    /// in a mode that covers the requested one; else refused with `NotWaiting`.
+    /// node; the notice in its slot's box (a grant only if it is for this node, and the transaction
+    /// holds a mode there that covers the requested one); else refused with `NotWaiting`.
     pub fn verdict(
         &self,
         manager: &Manager,
