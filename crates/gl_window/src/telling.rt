@@ -30,8 +30,8 @@ pub fn is_due(telling: Telling, waited: bool) -> bool
     }
 }
 
-/// Whether a transaction may wait on a snapshot that is told. With `Always` nobody needs the answer,
-/// so the snapshot is not read.
+/// Whether a snapshot that is told may show a wait. With `Always` nobody needs the answer, so the
+/// snapshot is not read.
 pub fn may_show_waits(telling: Telling, board: &Board) -> bool
     ensures none { result ≡ false → ShowsNobody board.now }
     ensures some { telling ≡ WhileWaiting → ShowsNobody board.now → result ≡ false }
