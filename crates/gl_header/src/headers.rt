@@ -125,7 +125,7 @@ impl Model for Prepared {
 }
 
 impl Headers {
-    /// Headers of no node.
+    /// Headers without any node.
     pub fn new(alloc: Global) -> Result<Self, AllocError>
         ensures { IfOk result (λ headers. headers.entries ≡ []) }
     {
