@@ -1,4 +1,4 @@
-//! A source of the ages of transactions, and of what their work counts as its begin.
+//! A source of transactions' ages and of their `since`.
 
 use gl_slots::SLOTS;
 
