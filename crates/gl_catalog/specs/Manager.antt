@@ -18,7 +18,7 @@ pub record ManagerView : Type 0 where
 abbrev pub state_of : ManagerView → State
 state_of m = counting m.accepted (table_state m.table)
 
--- what holds of every manager: a lawful state with headers and lists that agree and name no node twice, no conflict, at block no cycle, and no slot past a board's
+-- what holds of every manager: a lawful state, headers and lists that agree and name no node twice, no conflict, at block no cycle, and slots within a board
 pub record IsLawfulManager (m : ManagerView) : Type 0 where
   pub lawful : IsLawful (state_of m)
   pub headers : AreHeaders m.table.headers
