@@ -53,7 +53,7 @@ suits b rec h = ap (λ r. where_true (same_mode (asked_if b) NL || (r && not (sa
     by true = refl
     by false = refl
 
--- a member enters where it fits
+-- a member is granted at once if its mode fits
 member_enters : (a b c : Bool) → b ≡ true → (a && (b || c)) ≡ a
 member_enters true b c h = or_left b c h
 member_enters false b c h = refl
@@ -106,7 +106,7 @@ module _ (s : State) (t : TxnId) (n : NodeId) (passed : first_refusal (worn s �
         (member_enters (fits s.most (members s n) t.slot (wanted s t.slot n m)) (holds (members s n) t.slot) (is_empty (s.queue n)) node_tests.1)
         ∙ sym (passed_then (worn s ∷ escalate_asks s t n) (escalation_blocks s t.slot n ∷ []) passed)
 
-    -- and never for want of memory
+    -- and never for lack of memory
     pub tried_err : (asked : Mode) → asked ≡ m → (r : Refusal) → Refuses {T = Mode} (first_refusal (try_tests s t n asked)) (Err r)
         → (first_refusal (try_tests s t n asked) ≡ None → holds (members s n) t.slot ≡ true → IsOk {T = Mode} (Err r))
         → CallSteps s (command.Escalate t n) rose (Err r) s

@@ -100,7 +100,7 @@ abbrev pub Goes : State → Command → Option Refusal → Answer → Told → S
 Goes s c (Some r) a told' s' = Unchanged s a told' s' (answer.Refused r)
 Goes s c None a told' s' = Answers s c (query_answer s c) a told' s'
 
--- one step: the command is refused or carried out, or lacks memory if it may
+-- one step: the command is refused or carried out, or lacks memory if that is permitted
 abbrev pub Step : State → Command → Answer → Told → State → Type 0
 Step s c a told' s' =
     Goes s c (refusal_of s c) a told' s'

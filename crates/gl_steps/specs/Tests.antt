@@ -1,4 +1,4 @@
--- Why a command is refused: the tests of each in their order, and when memory may be lacking.
+-- Why a command is refused: the tests of each in their order, and when lack of memory is permitted.
 use Rattle.std.specs.Prelude.{ℕ, Bool, true, false, not, ◌&&◌, ◌||◌, ◌==◌, List, [], ◌∷◌, ◌++◌, length, Option, Some, is_none}
 use Rattle.gl_model.specs.declared.txn.TxnId.{TxnId}
 use Rattle.gl_steps.specs.declared.command.Command.{Command}
@@ -107,7 +107,7 @@ is_cycle o = false
 abbrev pub newcomer : State → TxnId → NodeId → Bool
 newcomer s t n = not (holds (members s n) t.slot)
 
--- the commands that may lack memory: those that make something or search the graph, and a lock of a newcomer or one that waits
+-- the commands that may lack memory: those that make something or search the graph, and a lock by a newcomer or one that waits
 abbrev pub lists_memory : State → Command → Bool
 lists_memory s (command.Inner ps) = true
 lists_memory s (command.File ps) = true
@@ -123,6 +123,6 @@ lists_memory s (command.Adopt f keys) = true
 lists_memory s (command.IndexBy t ps f bs) = true
 lists_memory s c = false
 
--- lack of memory is a permitted reason if there is no other; for a move also in place of a closed cycle, since the search for it may lack memory
+-- lack of memory is a permitted reason if there is no other; for a move also in place of a closed cycle, since the search for it may run out
 abbrev pub may_want_memory : State → Command → Bool
 may_want_memory s c = lists_memory s c && (is_none (refusal_of s c) || is_cycle (refusal_of s c))
