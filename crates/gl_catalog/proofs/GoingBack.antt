@@ -141,7 +141,7 @@ unlocks_follow (n ∷ ns) s s' t u apart well h =
 
 module _ (t : TxnId) (ns : List NodeId) (s s' : State) (law : IsLawful s) (alive : lives s t ≡ true) (h : Unlocks s t.slot ns s') (list : Told)
     (is : list ≡ told s s') where
-  -- another keeps what is its own, but for a grant that it is told of
+  -- another keeps what is its own, except a grant that it is told of
   pub unlocks_keep : (u : TxnId) → lives s u ≡ true → same_txn u t ≡ false → Keeps s s' u list false
   unlocks_keep u also other =
       let follows = unlocks_follow ns s s' t.slot u.slot (differ s u t also alive other) (lawful_waits s law u.slot) h in

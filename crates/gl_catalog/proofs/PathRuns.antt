@@ -1,4 +1,4 @@
--- Paths put together from their asks, and what their tests decide. For Manager.lock_path_telling.
+-- Paths put together from their requests, and what their tests decide. For Manager.lock_path_telling.
 use Rattle.std.specs.Prelude.{◌≡◌, ℕ, zero, suc, Bool, true, false, ◌&&◌, ◌||◌, ◌==◌, [], ◌∷◌, length, Some, None, is_none, Result, Ok, Err}
 use Rattle.std.proofs.Common.{refl, sym, ap, ◌∙◌, inl, inr, subst, arith}
 use Rattle.gl_modes.proofs.Words.{and_both, no as never, same_number}

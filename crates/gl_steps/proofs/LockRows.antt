@@ -121,7 +121,7 @@ row_lowest_slot : Rows AtBlock 64 (
     ∷ begins (txn 5 65) ∷ [])
 row_lowest_slot = computed refl
 
--- a try does not wait, and a wait can be given up
+-- a try does not wait, and a wait can be cancelled
 row_try_and_cancel : Rows AtBlock 2 (
     roots db ∷ begins a ∷ begins b
     ∷ locks a S db

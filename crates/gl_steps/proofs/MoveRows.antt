@@ -68,7 +68,7 @@ row_no_cycle : Rows AtBlock 1 (
     ∷ refuses (command.Unlock a x) (no.HeldChild y) ∷ [])
 row_no_cycle = computed refl
 
--- a move asks IX on each new parent
+-- a move needs IX on each new parent
 row_new_parent : Rows AtBlock 2 (places ++
     begins a ∷ begins b ∷ locks_all a IX (db ∷ x ∷ [])
     ++ locks a X f1

@@ -76,7 +76,7 @@ refuses c r = says c (answer.Refused r)
 abbrev pub tells : Command → TxnId → Notice → Line
 tells c t n = (c, answer.Done, (t, n) ∷ [])
 
--- granted what was asked
+-- granted what was requested
 abbrev pub locks : TxnId → Mode → NodeId → Line
 locks t m n = says (command.Lock t n m) (answer.Granted m)
 

@@ -60,7 +60,7 @@ row_index_again : Rows AtBlock 1 (prelude ++
     ∷ done (command.Drop a again) ∷ [])
 row_index_again = computed refl
 
--- it asks IX on each parent
+-- it needs IX on each parent
 row_index_needs_parents : Rows AtBlock 1 (indexed ++
     roots (id 6)
     ∷ begins z

@@ -110,9 +110,9 @@ module _ (s : State) (law : IsLawful s) (t : ℕ) (n : NodeId) (m : Mode) (activ
     ages_differ = law.ages_differ;
   }
 
--- The law but for the fronts of some nodes: what each command leaves before those nodes grant.
+-- The law except the fronts of some nodes: what each command leaves before those nodes grant.
 
--- `front_waits` is asked of the nodes not chosen
+-- `front_waits` is needed of the nodes not chosen
 pub record IsLawfulBut (chosen : NodeId → Bool) (s : State) : Type 0 where
   pub graph : IsLawfulGraph s.graph
   pub grants_live : (t : ℕ) (n : NodeId) → holds (members s n) t ≡ true → (is_some (s.txns t) ≡ true) × (is_live s.graph n ≡ true)

@@ -111,7 +111,7 @@ without_wait-less s law t st quiet =
     out-less s law t s.held (restatus st (s.txns t)) (is_waiting_at s t) (λ u q ne. refl) (inr (λ q. refl, λ h. restatus_some st (s.txns t) ∙ h))
     (restatus_quiet st quiet (s.txns t)) (λ h. (sym (restatus_some st (s.txns t)) ∙ h, restatus_age st (s.txns t))) (λ q no. (no, refl))
 
--- a wait given up, whether by its transaction or by the manager
+-- a wait that ends, by its transaction or by the manager
 pub without_wait-lawful : (s : State) → IsLawful s → (t : ℕ) (st : Status) → IsQuiet st → IsLawful (pumped (without_wait s t st) (is_waiting_at s t))
 without_wait-lawful s law t st quiet =
     pumped-lawful (without_wait s t st) (is_waiting_at s t)

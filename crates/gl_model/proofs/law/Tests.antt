@@ -42,7 +42,7 @@ record_modes : (a m : Mode) → (same_mode a S || same_mode a X) ≡ true → (s
     → (same_mode (supremum a m) S || same_mode (supremum a m) X) ≡ true
 record_modes a m h k = search rules
 
--- the wanted mode fits the kind, as the held and the asked one do
+-- the wanted mode fits the kind, as the held and the requested one do
 pub mode_fits : (s : State) → IsLawful s → (t : ℕ) (n : NodeId) (m : Mode) → bad_mode s n m ≡ None → (same_mode m NL ≡ false)
     × ModeFitsKind s n (wanted s t n m)
 mode_fits s law t n m h =

@@ -51,7 +51,7 @@ module _ (s : State) (o : IsOrderly s) (t : ℕ) (n : NodeId) (st : Status) (qui
           clash (ap (is_among_waiters u) (granted_here b n) ∙ k) (ap₂ (λ f x. is_among_waiters u (granted_at b f x)) (sym (waits_only s t n waits)) (sym here)
           ∙ was.1)
 
--- Once a wait is given up, and its node granted from its front, the state is as orderly as it was.
+-- After a wait has ended, and its node granted from its front, the state is as orderly as it was.
 
 -- if the same slots are taken, and each holder held or waited before, all states in between are orderly
 pub orderly_on_way : (s now : State) → IsOrderly s → IsOnWay s now → now.most ≡ s.most → ((u : ℕ) → is_some (now.txns u) ≡ is_some (s.txns u))

@@ -112,7 +112,7 @@ way_begins s law = record {
 pub way_releases : (s now : State) (t : ℕ) (n : NodeId) → IsOnWay s now → IsOnWay s (unlocked now t n)
 way_releases s now t n way = way_pumped s (with_grant now t n NL) (way_with_grant s now way t n NL) (same_node n)
 
--- or by a wait that is given up, with another status
+-- or by a wait that ends, with another status
 pub way_gives_up : (s now : State) (t : ℕ) (n : NodeId) (m : Mode) (st : Status) → ((q : NodeId) (w : Mode) → Some st ≡ Some (Waiting q w) → ⊥)
     → status_of now t ≡ Some (Waiting n m) → IsOnWay s now → IsOnWay s (pumped (without_wait now t st) (is_waiting_at now t))
 way_gives_up s now t n m st quiet waits way = way_pumped s (without_wait now t st) (way_without_wait s now way t st quiet) (is_waiting_at now t)

@@ -1,4 +1,4 @@
--- What the calls on the locks make of a table, and what tests an ask passes. For the calls that release, and the locks that test.
+-- What the calls on the locks make of a table, and what tests a request passes. For the calls that release, and the locks that test.
 use Rattle.gl_table.proofs.Words.{[], ⊎_elim, ◌&&◌, ◌<◌, ◌==◌, ◌∙◌, ◌∷◌, ◌≡◌, Active, ap, arith, bad_mode, Bool, cases_lt, clash, commit_tests, state_at}
 use Rattle.gl_table.proofs.Words.{condemned, Deadlock, Detect, false, first_refusal, front_at, get_or, grant_notice, HasNoCycle, held_child, held_children}
 use Rattle.gl_table.proofs.Words.{holds, if◌then◌else◌, is_among_waiters, is_child, is_live, is_some, is_wait, IsDeadlock, IsLawful, IsOnWay, IsOrderly}
@@ -155,7 +155,7 @@ module _ (c : Victims) (t : ℕ) (d : Detect) (v : Victims) (b : ℕ) where
   pub keeping_also : (x x' : State) (e e' : Deadlock) → SettlesKeeping c x t e x' e' → SettlesKeeping c (over x) t e (over x') e'
   keeping_also x x' e e' h = (h.0, keeping_on h.0 x x' e e' h.1)
 
--- The tests of an ask: what refuses it, and what is left to be tested once some have passed. For the locks that test.
+-- The tests of a request: what refuses it, and what remains to be tested once some have passed. For the locks that test.
 
 -- an active transaction has an entry
 active_seated : (seats : List (Option Seat)) (t : ℕ) → status_in (txns_of seats t) ≡ Some Active → t < length seats

@@ -19,7 +19,7 @@ use Rattle.gl_model.proofs.law.Lock.{granted-lawful, granted-no_cycle, locks-law
 use Rattle.gl_model.proofs.telling.Fronts.{enters-most}
 use Rattle.gl_model.proofs.telling.Lists.{told_but_same, told_nothing}
 
--- The tests of an ask, and what a grant makes of a table.
+-- The tests of a request, and what a grant makes of a table.
 
 module _ (i : Inside) (v : TableView) (view : view_of i ≡ v) (t : TxnId) (n : NodeId) (m : Mode) where
   -- the locks meet the tests of the table
@@ -45,7 +45,7 @@ module _ (s : State) (t : TxnId) (n : NodeId) (m : Mode) where
   pub try_refused : (r : Refusal) → first_refusal (lock_tests s t n m) ≡ Some r → first_refusal (try_tests s t n m) ≡ Some r
   try_refused r h = refused_first (lock_tests s t n m) (would_block s t.slot n m ∷ []) r h
 
-  -- and so does an ask that would wait
+  -- and so does a request that would wait
   pub try_decides : first_refusal (lock_tests s t n m) ≡ None → (b : Bool) → enters_at s t.slot n m ≡ b
       → first_refusal (try_tests s t n m) ≡ (if b then None else Some no.WouldBlock)
   try_decides h b e = passed_then (lock_tests s t n m) (would_block s t.slot n m ∷ []) h ∙ blocked s t.slot n m b e

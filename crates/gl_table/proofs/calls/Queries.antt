@@ -1,4 +1,4 @@
--- What is asked of a table: its lists and headers say what its state says. For queries and tests.
+-- Queries of a table: its lists and headers say what its state says. For queries and tests.
 use Rattle.gl_table.proofs.Words.{[], ◌&&◌, ◌+◌, ◌<◌, ◌||◌, ◌∙◌, ◌∷◌, ◌≡◌, ◌≤◌, add-one, answered, ap, ap₂, AreHeaders, AreRowsOf, arith, board_of, Bool, both}
 use Rattle.gl_table.proofs.Words.{by_list, child_held, clash, cond, count_by, drop, drop-cons, Entry, entry_at, Err, false, find, first_not_ix, first_of_all}
 use Rattle.gl_table.proofs.Words.{first_refusal, get_or, Graph, group_of, group_of-limit, header_at, header_or_new, HeaderState, held_by, held_child}
@@ -96,7 +96,7 @@ past_end [] t h = refl
 past_end (l ∷ ls) zero h = absurd (omega arith)
 past_end (l ∷ ls) (suc t) h = past_end ls t (omega arith)
 
--- What is asked of a table: what its lists and headers say is what its state says.
+-- Queries of a table: what its lists and headers say is what its state says.
 
 -- a node without header is idle, and no other is
 pub idle-seen : (i : Inside) → IsSound i → AreHeaders i.locks.ledger.headers.entries → (n : NodeId) (o : Option HeaderState)

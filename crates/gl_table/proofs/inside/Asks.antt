@@ -1,4 +1,4 @@
--- What an ask that is granted leaves, also of a node that nobody held, and that a node has its key alone. For asks and new records.
+-- What a request that is granted leaves, also of a node that nobody held, and that a node has its key alone. For requests and new records.
 use Rattle.gl_slots.specs.Limit.{most_slots}
 use Rattle.gl_table.proofs.Words.{[], ◌&&◌, ◌+◌, ◌<◌, ◌==◌, ◌^◌, ◌||◌, ◌∙◌, ◌∷◌, ◌≡◌, ◌≢◌, ◌≤◌, Active, Agrees, and-false, ap, ap₂, AreHeaders, AreSound}
 use Rattle.gl_table.proofs.Words.{arith, Asked, Bool, cases_of, children_that, clash, count_by, count_by-le-length, count_of, counted_by, CountsHeld, enters}
@@ -132,7 +132,7 @@ is_ready g l l' t n m held now may enters held_is made = record {
     may_now : MayAct g l' t
     may_now = room-may_ask g l l' t (not (held && now)) made may
 
--- what the header of a node says of an ask is what the state says
+-- what the header of a node says of a request is what the state says
 pub says_is : (g : View) (l : Ledger) (t : ℕ) (n : NodeId) (m : Mode) → MayAct g l t → is_granted_at l.headers.entries t n m ≡ enters_at (state_in g l) t n m
 says_is g l t n m may = sym (enters-most (state_in g l) may.orderly may.exact.sound.few t n (wanted (state_in g l) t n m))
 
@@ -161,7 +161,7 @@ module _ {g : View} {l : Ledger} (l' : Ledger) {t : ℕ} (may : MayAct g l t) (r
       is_ready g l l' t n m held now may at is (only_room (not (held && now))
       (λ e. room (ap (λ b. held && b) (says_is g l t n m may ∙ at) ∙ not-true (held && now) e)))
 
--- What an ask that is granted leaves.
+-- What a request that is granted leaves.
 
 -- other members of one node, of which one alone is changed, are one grant
 pub with_members-grant : (held : ℕ → NodeId → Mode) (t : ℕ) (n : NodeId) (m : Mode)
@@ -237,13 +237,13 @@ pub grant-counts : (s : State) (ls ls' : List LockList) (t : ℕ) (n : NodeId) (
     → CountsGrant s ls ls' t n → (u : ℕ) → CountsHeld s ls u → CountsHeld (with_grant s t n m) ls' u
 grant-counts s ls ls' t n m law live lock more u counts p = grind (arith, nat_tests, more u p, counts p, children-new s t n m lock u law live p)
 
--- the answer to an ask that enters
+-- the answer to a request that is granted at once
 pub answer-granted : (enters : Bool) (a : Asked) (m w : Mode) → enters ≡ true → a ≡ (if enters then asked.Granted m else asked.Waiting) → a ≡ asked.Granted w
     → w ≡ m
 answer-granted enters a m w now answer is = let e : asked.Granted w ≡ asked.Granted m = sym is ∙ answer
     ∙ ap (λ k. if k then asked.Granted m else asked.Waiting) now in cc
 
--- an ask that was granted enters, and one that waits does not
+-- a request that was granted enters, and one that waits does not
 pub answer-enters : (enters : Bool) (a : Asked) (m w : Mode) → a ≡ (if enters then asked.Granted m else asked.Waiting) → a ≡ asked.Granted w → enters ≡ true
 answer-enters enters a m w h1 h2 = grind (arith, nat_tests)
 
@@ -258,7 +258,7 @@ pub record IsGranted (g : View) (l l' : Ledger) (t : ℕ) (n : NodeId) (m w : Mo
   pub agree : (u : ℕ) → Agrees (state_in g l') l'.lists.items u
   pub count : (u : ℕ) → CountsHeld (state_in g l') l'.lists.items u
 
--- room was made, the headers were asked, and the list was written
+-- room was made, the headers were called, and the list was written
 module _ {g : View} {l r : Ledger} (l' : Ledger) {t : ℕ} {n : NodeId} {m : Mode} {old : Bool} (ready : IsReady g l r t n m old true) (a : Asked)
     (w : Mode) where
   abbrev want : Mode

@@ -198,7 +198,7 @@ module _ {s now : State} {t : ℕ} {ls : List LockList} {was told : Told} (is : 
   leaving_out = in_no_queue now is.orderly t (ap (λ x. is_wait (status_in x)) is.txn ∙ quiet)
 
   module _ (n : NodeId) (holding : holds (members now n) t ≡ true) where
-    -- t holds what it held, but for n
+    -- t holds what it held, except n
     pub held_after : (q : NodeId) → (unlocked now t n).held t q ≡ (if same_node q n then NL else now.held t q)
     held_after = unlocked_own now t n leaving_out
 

@@ -1,4 +1,4 @@
--- What an ask that waits leaves. For asks.
+-- What a request that waits leaves. For requests.
 use Rattle.gl_slots.specs.Limit.{most_slots}
 use Rattle.gl_table.proofs.Words.{◌&&◌, ◌+◌, ◌<◌, ◌==◌, ◌||◌, ◌∙◌, ◌≡◌, ◌≤◌, Agrees, and_both, ap, ap₂, AreSound, arith, Bool, count_of, counted_by}
 use Rattle.gl_table.proofs.Words.{CountsHeld, enqueued, enters, Entries, false, fun_ext, held_of, holds, if◌then◌else◌, is_among_waiters, is_listed, is_wait}
@@ -78,7 +78,7 @@ pub record IsEnqueued (g : View) (l l' : Ledger) (t : ℕ) (n : NodeId) (m : Mod
   pub agree : (u : ℕ) → Agrees (state_in g l') l'.lists.items u
   pub count : (u : ℕ) → CountsHeld (state_in g l') l'.lists.items u
 
--- room was made, the headers were asked, the node was listed, and the status was written
+-- room was made, the headers were called, the node was listed, and the status was written
 module _ (g : View) (l r l' : Ledger) (t : ℕ) (n : NodeId) (m w : Mode) (held : Bool) (ready : IsReady g l r t n m held false) (hs : Entries)
     (seats : List (Option Seat)) where
   abbrev want : Mode

@@ -74,7 +74,7 @@ module _ (s : State) (o : IsOrderly s) (n : NodeId) (f : Waiter → Bool) where
       ∙ split (is_among_waiters u (s.queue n)) (λ k. if-true _ k)
       (λ k. if-false _ k ∙ freed_other n (s.txns u) (not_true _ (λ w. clash (stands_there s o u n w) k))))
 
--- the waits on n that fail the test are over, but for those of pending slots; nothing is granted
+-- the waits on n that fail the test have ended, except those of pending slots; nothing is granted
 pub record IsTurning (l l' : Ledger) (n : NodeId) (s : State) (f : Waiter → Bool) (pending : ℕ → Bool) (told told' : Told) : Type 0 where
   pub held : held_of l'.headers.entries ≡ s.held
   pub here : queue_of l'.headers.entries n ≡ filter (λ w. f w || pending w.0) (s.queue n)

@@ -18,7 +18,7 @@ use Rattle.gl_model.proofs.telling.Fronts.{front_stands, stands_only, stands_the
 use Rattle.gl_model.proofs.telling.GivenUp.{way_withdrawn}
 use Rattle.gl_model.proofs.telling.Ways.{granted_stands, left_stands, without_wait_other, without_wait_own}
 
--- One wait is given up: the lists agree with what is left.
+-- One wait ends: the lists agree with what is left.
 
 -- the list of t has n only if t holds it; all else that the lists say is as it was
 pub record Unlists (ls ls' : List LockList) (t : ℕ) (n : NodeId) : Type 0 where

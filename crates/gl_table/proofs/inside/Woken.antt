@@ -165,7 +165,7 @@ ends_one {b} t age x age_is len txns lists by_slot notices = record {
     at_own : {A : Type 0} (u : ℕ) (f : ℕ → A) (y : A) → (if u == t then f t else y) ≡ (if u == t then f u else y)
     at_own u f y = grind (arith, nat_tests, same_number u t)
 
--- Waits are given up on a node that their owners do not hold: the lists agree with the state that is left.
+-- Waits end on a node that their transactions do not hold: the lists agree with the state that is left.
 module _ (s after : State) (n : NodeId) (who : ℕ → Bool) (bare : (u : ℕ) → who u ≡ true → s.held u n ≡ NL)
     (held : (u : ℕ) (q : NodeId) → after.held u q ≡ s.held u q)
     (queue : (u : ℕ) (q : NodeId) → is_among_waiters u (after.queue q) ≡ (if who u && same_node q n then false else is_among_waiters u (s.queue q)))

@@ -83,7 +83,7 @@ converts c =
     ∙ sym (ap (λ b. b && not (same_mode ((table_state c.self.inside.table).held c.args.t.slot c.args.n) NL)) (alive c))
     ∙ ap (λ (v : ManagerView). holds_already (state_of v) c.args.t c.args.n) c.self.view_is
 
--- the requester might ask
+-- the requester passed the tests
 may : (c : After-count_lock) → MayLock (state_of (view_of c.self.inside)) c.args.t c.args.n c.args.mode
 may c =
     (may_lock (state_of (view_of c.self.inside)) c.args.t c.args.n c.args.mode None [] (goes _ c.in_ok-held.ensures.refuses.refuses)).0

@@ -65,7 +65,7 @@ ask-requires-clause-held c =
     c.requires.can.held_is ∙ (c.requires.act.exact.agree c.args.slot).modes c.args.node
     ∙ ap (λ (x : Ledger). held_of x.headers.entries c.args.slot c.args.node) (sym c.make_room_to_ask.ensures.rest)
 
--- no more is asked than is held
+-- no more is requested than is held
 
 pub returns-then-covers-clause-asked : goal.returns-then-covers-clause-asked
 returns-then-covers-clause-asked c =

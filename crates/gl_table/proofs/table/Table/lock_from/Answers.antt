@@ -10,7 +10,7 @@ use Rattle.gl_model.proofs.law.Lock.{MayLock}
 use Rattle.gl_table.proofs.table.Table.lock_from.Goals.{In_ok-held, In_err-granted, In-Granted, In-Waiting}
 use Rattle.gl_table.proofs.table.Table.lock_from.Goals as goal
 
--- the tests of the ask passed, and this is the mode held
+-- the tests of the request passed, and this is the mode held
 checked : (c : In_ok-held) → (first_refusal (lock_tests (state_of c.args.self.now) c.args.t c.args.n c.args.mode) ≡ None)
     × (c.in_ok-held.held ≡ (state_of c.args.self.now).held c.args.t.slot c.args.n)
 checked c = (
