@@ -112,11 +112,11 @@ abbrev pub IsWay : State → TxnId → Ask → List NodeId → Type 0
 IsWay s t ask [] = Unit {0}
 IsWay s t ask (p ∷ ps) = ClimbsUp s t ask (p, intention ask.1) × IsWay s t (p, intention ask.1) ps
 
--- so are the nodes that a path keeps, if a command can still be counted
+-- the nodes that a path keeps are such nodes, if a command can still be counted
 abbrev pub KeepsWay : State → TxnId → Ask → List NodeId → Type 0
 KeepsWay s t ask above = worn s ≡ None → IsWay s t ask above
 
--- and, to write, those below the last
+-- and so are, to write, those below the last
 abbrev pub KeepsBelow : State → TxnId → Ask → List NodeId → Type 0
 KeepsBelow s t ask above = (below : List NodeId) (last : NodeId) → above ≡ below ++ last ∷ [] → is_write ask.1 ≡ true → KeepsWay s t ask below
 

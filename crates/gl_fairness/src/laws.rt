@@ -6,11 +6,11 @@ ghost use Rattle.gl_fairness.specs.Turns.{EmptyIsKnown, FallsBehindALiving, Fall
 ghost use Rattle.gl_fairness.specs.Turns.{FirstNeverFalls, NoMoreComeBefore, RunsKeepKnown};
 ghost use Rattle.gl_fairness.specs.Waiting.{FirstComeFirstServed, NobodyComesBetween};
 
-/// No new transaction gets before a waiter: each that is before it after a step was before it
-/// already, and is the same transaction; the same over a run along which the wait lasts. To be
-/// before a wait is to hold the node or to be ahead in its queue, so no transaction that requested
-/// later as a newcomer, or began later, holds the node before the wait has ended. Those that held
-/// the node when the wait began may raise their mode meanwhile: how often, `passed_at_most` says.
+/// No step puts a new transaction before a waiter: each that is before it after the step was before
+/// it already, and is the same transaction; nor does a run along which the wait lasts. To be before
+/// a wait is to hold the node or to be ahead in its queue, so no transaction that requested later as
+/// a newcomer, or began later, holds the node before the wait has ended. Those that held the node
+/// when the wait began may raise their mode meanwhile: how often, `passed_at_most` says.
 pub fn first_come_first_served()
     ensures step { FirstComeFirstServed }
     ensures run { NobodyComesBetween }
