@@ -30,7 +30,8 @@ pub fn others_keep_below()
     ensures plain { OthersKeepBelow }
 {}
 
-/// Adopt and forget add and remove only records that nobody holds or waits for, and change nothing else.
+/// Adopt and forget add and remove only records that nobody holds or waits for, and change nothing
+/// else.
 pub fn rows_come_and_go()
     ensures { RowsComeAndGo }
 {}
