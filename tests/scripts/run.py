@@ -38,7 +38,7 @@ TOP = HERE.parent.parent
 
 # The most bytes that a script may have.
 LONGEST = 16_777_216
-# The sizes of pieces beside that of a whole script.
+# The sizes of pieces besides that of a whole script.
 PIECES = (1, 7, 255, 256, 257)
 # Numbers of errors.
 EINTR, EIO = 4, 5
@@ -192,8 +192,8 @@ def scripts_of(path):
 
 # ----------------------------------------------------------------------------------------------------------------------
 # Examples of the documents. One that begins with `inner` or `granular` is whole. One that begins with `begin` continues
-# the first example of its page, and any other the last whole one. Its words are those of which its section has said
-# 'With the word `WORD`', or that the line above it names.
+# the first example of its page, and any other the last whole one. Its words are those that its section names by 'With
+# the word `WORD`', or that the line above it names.
 
 
 def blocks_of(path):

@@ -54,7 +54,7 @@ module _ (s : State) (t : TxnId) (f : NodeId) (keys : List ℕ) (m : Mode) where
       behind : Option Refusal → List (Option Refusal)
       behind o = o ∷ no_record_mode m ∷ rule_refusal (s.held t.slot) (record_parents s.graph f keys) m ∷ []
 
-  -- what may be adopted and locked, where there is memory
+  -- what may be adopted and locked, if memory suffices
   pub record MayAdopt : Type 0 where
     pub counts : s.accepted ≤ max_count - 2
     pub named : no_txn s t ≡ None

@@ -1,4 +1,4 @@
--- What an answer, and the list beside it, say of the call that was made.
+-- What an answer and its list say of the call that was made.
 use denote.Bor.{Bor}
 use Rattle.std.specs.Prelude.{◌≡◌, ℕ, ◌+◌, ◌&&◌, ◌||◌, true, List, [], Option, Some, None, is_none, Result, Ok, Err, IfOk, OnErr, OnOk}
 use Rattle.std.proofs.Common.{ap, ap₂, arith, inl, refl, subst, sym, ◌∙◌}
@@ -36,7 +36,7 @@ pub quiet : {A : Type 0} (answers : A → Answer) (s s' : State) (c c' : Command
 quiet answers s s' c c' (Ok x) a list step same empty is = coe 0 1 (i. Step s (sym is i) (sym same i) (sym empty i) s') step
 quiet answers s s' c c' (Err r) a list step same empty is = coe 0 1 (i. Step s (sym is i) (sym same i) (sym empty i) s') step
 
--- a call that is a step and tells somebody fills the list, which stays empty where the call is refused
+-- a call that is a step and tells others fills the list, which stays empty if the call is refused
 pub fills : {A : Type 0} (answers : A → Answer) (s s' : State) (c c' : Command) (result : Result A Refusal) (a : Answer) (list before : Notices)
     → CallSteps s c (λ x. (answers x, list.items)) result s' → a ≡ (said (λ x. (answers x, [])) result).0
     → OnErr result (list ≡ before) → before.items ≡ [] → c' ≡ c → Step s c' a list.items s'
@@ -47,7 +47,7 @@ fills answers s s' c c' (Err r) a list before step same kept empty is = coe 0 1 
 -- what a call completes, with its answer
 module _ {A : Type 0} (answers : A → Answer) (v v' : ManagerView) (c c' : Command) (list : Told) (result : Result A Refusal) (completes : IfOk result
     (λ x. Completes c v (answers x, list) v')) (err : OnErr result (v' ≡ v)) where
-  -- where the count stays, the call was refused
+  -- if the count stays, the call was refused
   pub uncounted : v'.accepted ≡ v.accepted → v' ≡ v
   uncounted = by result completes err
     where
@@ -78,7 +78,7 @@ module _ {A : Type 0} (answers : A → Answer) (v v' : ManagerView) (c c' : Comm
           coe 0 1 (i. v'.counters ≡ counted (state_of v) c' (sym e i) (sym empty i) (state_of v') v.counters)
           (ap (λ w. w.counters) was ∙ sym (refusal_counted (state_of v) (state_of v') c' r v.counters))
 
-  -- by a list that it filled, and that stays empty where it is refused
+  -- by a list that it filled, and that stays empty if it is refused
   pub list_counts : (a : Answer) (before after : Notices) → OnErr result (after ≡ before) → before.items ≡ [] → after.items ≡ list
       → a ≡ (said (λ x. (answers x, [])) result).0 → c' ≡ c
       → v'.counters ≡ counted (state_of v) c' a list (state_of v') v.counters
@@ -135,7 +135,7 @@ pub keeps_asked : {A : Type 0} (answers : A → Answer) (v : ManagerView) (c c' 
 keeps_asked answers v c c' (Ok x) a goes same is = coe 0 1 (i. KeepsDeadlock (sym is i) v (sym same i) v) (goes x)
 keeps_asked answers v c c' (Err r) a goes same is = coe 0 1 (i. KeepsDeadlock (sym is i) v (sym same i) v) refl
 
--- what a lock comes to is no refusal
+-- the outcome of a lock is no refusal
 pub keeps_locked : (c : Command) (v v' : ManagerView) (x : Locked) → KeepsAccepted c v v' → KeepsDeadlock c v (answer_of_lock x) v'
 keeps_locked c v v' (locked.Granted m) h = h
 keeps_locked c v v' locked.Waiting h = h
@@ -160,7 +160,7 @@ module _ {A : Type 0} (says : A → Says) (c : Command) (s : State) where
           inl (subst (λ o. Goes s c o (says x).0 (says x).1 s) (sym e) (subst (λ q. Answers s c q (says x).0 (says x).1 s) (sym value)
           (record { answer_is = refl; nobody_told = quiet; same = refl })))
 
-  -- or is refused, maybe for want of memory
+  -- or is refused, maybe for lack of memory
   pub asked_step : (v : A) (result : Result A Refusal) → Refuses (refusal_of s c) result → IfOk result (λ x. x ≡ v) → query_answer s c ≡ Some (says v).0
       → (says v).1 ≡ [] → lists_memory s c ≡ true → CallSteps s c says result s
   asked_step v result refuses ok value quiet lists = by (refusal_of s c) refl result refuses ok
@@ -173,11 +173,11 @@ module _ {A : Type 0} (says : A → Says) (c : Command) (s : State) where
           (record { answer_is = refl; nobody_told = quiet; same = refl }))))
       by None e (Err r) is ok' = memory_step says c s r (ap₂ (λ l o. l && (is_none o || is_cycle o)) lists e) is
 
--- a call that is a step, and keeps and counts what its command is to, carries it out
+-- a call that is a step, and records and counts as its command must, carries it out
 module _ {A : Type 0} (answers : A → Answer) (v v' : ManagerView) (c c' : Command) (result : Result A Refusal) (a : Answer)
     (same : a ≡ (said (λ x. (answers x, [])) result).0) (is : c' ≡ c) (err : OnErr result (v' ≡ v))
     (keeps : (x : A) → KeepsAccepted c v v' → KeepsDeadlock c v (answers x) v') where
-  -- where it tells nobody
+  -- if it tells nobody
   pub carries_quietly : (told : Notices) → told.items ≡ [] → CallSteps (state_of v) c (λ x. (answers x, [])) result (state_of v')
       → IfOk result (λ x. Completes c v (answers x, []) v') → IsCarriedOut v c' a told.items v'
   carries_quietly told empty step completes = record {
@@ -187,7 +187,7 @@ module _ {A : Type 0} (answers : A → Answer) (v v' : ManagerView) (c c' : Comm
     same = uncounted answers v v' c c' [] result completes err;
   }
 
-  -- where it fills a list
+  -- if it fills a list
   pub carries_telling : (told before : Notices) → OnErr result (told ≡ before) → before.items ≡ []
       → CallSteps (state_of v) c (λ x. (answers x, told.items)) result (state_of v') → IfOk result (λ x. Completes c v (answers x, told.items) v')
       → IsCarriedOut v c' a told.items v'

@@ -25,11 +25,11 @@ module _ {A : Type 0} (says : A → Says) (c : Command) where
   pub refused_step : (s : State) (r : Refusal) → refusal_of s c ≡ Some r → CallSteps s c says (Err r) s
   refused_step s r e = inl (subst (λ o. Goes s c o (answer.Refused r) [] s) (sym e) (record { answer_is = refl; nobody_told = refl; same = refl }))
 
-  -- want of memory, where it is allowed
+  -- lack of memory, if it is permitted
   pub memory_step : (s : State) (r : Refusal) → may_want_memory s c ≡ true → r ≡ refusal.NoMemory → CallSteps s c says (Err r) s
   memory_step s r may e = inr (may, record { answer_is = ap answer.Refused e; nobody_told = refl; same = refl })
 
-  -- a command that goes, and is counted
+  -- a command that succeeds, and is counted
   pub accepted_step : (s : State) (x : A) (next s' : State) → refusal_of s c ≡ None → query_answer s c ≡ None
       → Accepts s c (says x).0 (says x).1 next → s' ≡ accepted_once next → CallSteps s c says (Ok x) s'
   accepted_step s x next s' free none acc is =
@@ -49,7 +49,7 @@ module _ {A : Type 0} (says : A → Says) (c : Command) where
     rest_decides : Ok tt ≡ verdict (worn (counting k s)) → refusal_of (counting k s) c ≡ first_refusal tests
     rest_decides room = ap first_refusal are ∙ ap (λ o. first_refusal (o ∷ tests)) (verdict_ok _ tt room)
 
-    -- the table refuses, and never for want of memory
+    -- the table refuses, and never for lack of memory
     pub err_step : (r : Refusal) → Ok tt ≡ verdict (worn (counting k s)) → RefusesOnly {A = A} (first_refusal tests) (Err r)
         → CallSteps (counting k s) c says (Err r) (counting k s)
     err_step r room refuses = by (first_refusal tests) refl refuses
@@ -58,7 +58,7 @@ module _ {A : Type 0} (says : A → Says) (c : Command) where
         by None e is = absurd (no is)
         by (Some x) e is = refused_step (counting k s) r (rest_decides room ∙ e ∙ cc)
 
-    -- the table refuses, maybe for want of memory
+    -- the table refuses, maybe for lack of memory
     pub err_or_memory_step : (r : Refusal) → Ok tt ≡ verdict (worn (counting k s))
         → (first_refusal tests ≡ None → lists_memory (counting k s) c ≡ true) → Refuses {T = A} (first_refusal tests) (Err r)
         → CallSteps (counting k s) c says (Err r) (counting k s)
@@ -68,7 +68,7 @@ module _ {A : Type 0} (says : A → Says) (c : Command) where
         by None e is = memory_step (counting k s) r (ap₂ (λ l o. l && (is_none o || is_cycle o)) (lists e) (rest_decides room ∙ e)) is
         by (Some x) e is = refused_step (counting k s) r (rest_decides room ∙ e ∙ cc)
 
-    -- the table goes
+    -- the table's call succeeds
     pub ok_step : (x : A) (s' : State) → Ok tt ≡ verdict (worn (counting k s)) → Refuses {T = A} (first_refusal tests) (Ok x)
         → query_answer (counting k s) c ≡ None
         → Accepts (counting k s) c (says x).0 (says x).1 (counting k s') → CallSteps (counting k s) c says (Ok x) (counting (k + 1) s')
@@ -78,7 +78,7 @@ module _ {A : Type 0} (says : A → Says) (c : Command) where
         by None e is = accepted_step (counting k s) x (counting k s') (counting (k + 1) s') (rest_decides room ∙ e) none acc refl
         by (Some y) e is = absurd (ok_err is)
 
-    -- the table goes, and never wants memory
+    -- the table's call succeeds, and never lacks memory
     pub ok_step_only : (x : A) (s' : State) → Ok tt ≡ verdict (worn (counting k s)) → RefusesOnly {A = A} (first_refusal tests) (Ok x)
         → query_answer (counting k s) c ≡ None
         → Accepts (counting k s) c (says x).0 (says x).1 (counting k s') → CallSteps (counting k s) c says (Ok x) (counting (k + 1) s')

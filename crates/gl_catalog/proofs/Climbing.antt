@@ -1,4 +1,5 @@
--- Climbs to the ask that comes first: each goes from a node to a parent of it, so that it has fewer steps than the graph has nodes. For Manager.lock_first.
+-- Climbs to the first request of a path: each step is from a node to a parent of it, so that a climb has fewer steps than the graph has nodes. For
+-- Manager.lock_first.
 use Rattle.std.specs.Prelude.{◌≡◌, Bool, true, false, ◌||◌, List, [], ◌∷◌, ◌++◌, length, Option, Some, None, is_some, if◌then◌else◌}
 use Rattle.std.specs.List.{AllByRecursion, list_any}
 use Rattle.std.proofs.Common.{refl, sym, ap, ◌∙◌, arith}
@@ -24,7 +25,7 @@ use Rattle.gl_model.specs.State.{State, intends_over, is_write}
 use Rattle.gl_catalog.specs.Paths.{Ask, ClimbsTo, intention, parent_missed, parent_wanted, path_tests}
 use Rattle.gl_steps.specs.Tests.{is_cycle}
 
--- a test that finds no parent missing, and no path that closes
+-- a test that finds no parent missing, and no cycle closed
 abbrev Plain : Option Refusal → Type 0
 Plain a = (parent_missed a ≡ None) × (is_cycle a ≡ false)
 
@@ -49,7 +50,7 @@ plain_condemned (Some Active) = (refl, refl)
 plain_condemned (Some (Waiting n m)) = (refl, refl)
 plain_condemned (Some Condemned) = (refl, refl)
 
--- the tests that speak of no parents
+-- the tests without those of parents
 pub plain_tests : (s : State) (t : TxnId) (n : NodeId) (m : Mode) → Plain (first_refusal (path_tests s t n m))
 plain_tests s t n m =
     first_plain (path_tests s t n m) (
@@ -75,7 +76,7 @@ alone : (a : Option Refusal) → first_refusal (a ∷ []) ≡ a
 alone None = refl
 alone (Some r) = refl
 
--- the parent that the rule of the graph misses is one of these
+-- the parent that the rule of the graph lacks is one of these
 not_ix_in : (held : NodeId → Mode) (ps : List NodeId) (p : NodeId) → parent_missed (first_not_ix held ps) ≡ Some p → list_any (same_node p) ps ≡ true
 not_ix_in held [] p h = absurd (none_some h)
 not_ix_in held (q ∷ ps) p h = by (not_ix_in held ps p) (is_at_least (held q) IX) h
@@ -98,18 +99,18 @@ rule_in held ps m p h = by (intends_over held ps m) (is_write m) h
     by false false h' = first_in_all ps p h'
 
 module _ (s : State) (t : TxnId) where
-  -- the rule of the graph for an ask
+  -- the rule of the graph for a request
   abbrev pub rule_of : Ask → Option Refusal
   rule_of ask = need_parents s t.slot ask.0 (wanted s t.slot ask.0 ask.1)
 
-  -- an ask that passes the tests that speak of no parents wants the one that the rule of the graph misses
+  -- a request that passes the tests without those of parents needs the parent that the rule of the graph lacks
   pub wanted_by_rule : (ask : Ask) → first_refusal (path_tests s t ask.0 ask.1) ≡ None → parent_wanted s t ask ≡ parent_missed (rule_of ask)
   wanted_by_rule ask e =
       let is : first_refusal (path_tests s t ask.0 ask.1 ++ rule_of ask ∷ []) ≡ rule_of ask =
       first_after (path_tests s t ask.0 ask.1) (rule_of ask ∷ []) e ∙ alone (rule_of ask) in
       ap parent_missed is
 
-  -- and one that does not wants none
+  -- and one that does not pass needs none
   pub passes : (ask : Ask) (p : NodeId) → parent_wanted s t ask ≡ Some p → first_refusal (path_tests s t ask.0 ask.1) ≡ None
   passes ask p h = cases_of (first_refusal (path_tests s t ask.0 ask.1)) (λ none. none) (λ q e. absurd (refused q e))
     where
@@ -118,12 +119,12 @@ module _ (s : State) (t : TxnId) where
           let is = first_stays (path_tests s t ask.0 ask.1) (rule_of ask ∷ []) q e in
           none_some (sym (plain_tests s t ask.0 ask.1).0 ∙ ap parent_missed (e ∙ sym is) ∙ h)
 
-  -- what an ask wants locked first is a parent of its node
+  -- what a request needs first is a parent of its node
   up : (ask : Ask) (p : NodeId) → parent_wanted s t ask ≡ Some p → list_any (same_node p) (parents_of s.graph ask.0) ≡ true
   up ask p h =
       rule_in (s.held t.slot) (parents_of s.graph ask.0) (wanted s t.slot ask.0 ask.1) p (sym (wanted_by_rule ask (passes ask p h)) ∙ h)
 
-  -- a climb is a way up in the graph
+  -- a climb is a route in the graph
   pub climb_route : (ask : Ask) (way : List NodeId) (top : Ask) → ClimbsTo s t ask way top → IsRoute s.graph ask.0 way top.0
   climb_route ask [] top h = sym (ap (λ (x : Ask). x.0) h)
   climb_route ask (p ∷ way) top h = (up ask p h.0, climb_route (p, intention ask.1) way top h.1)
@@ -146,12 +147,12 @@ module _ (s : State) (t : TxnId) where
   starts_live ask [] top p h w = child_lives ask p (ap (parent_wanted s t) (sym h) ∙ w)
   starts_live ask (q ∷ way) top p h w = child_lives ask q h.0
 
-  -- no climb leaves an ask that wants no parent
+  -- no climb leaves a request that needs no parent
   pub stays_at : (ask : Ask) (way : List NodeId) (top : Ask) → ClimbsTo s t ask way top → parent_wanted s t ask ≡ None → top ≡ ask
   stays_at ask [] top h none = h
   stays_at ask (p ∷ way) top h none = absurd (none_some (sym none ∙ h.0))
 
-  -- after as many steps as there are nodes no parent is wanted
+  -- after as many steps as there are nodes no parent is needed
   pub climb_ends : IsLawfulGraph s.graph → (ask : Ask) (way : List NodeId) (top : Ask) → ClimbsTo s t ask way top → length way ≡ node_count s.graph
       → parent_wanted s t top ≡ None
   climb_ends law ask way top h e =

@@ -32,7 +32,7 @@ use Rattle.gl_steps.proofs.IdleSettle.{settles_idle}
 use Rattle.gl_steps.proofs.NotRefused.{txn_lives}
 use Rattle.gl_catalog.proofs.RunsOn.{step_leaves_others}
 
--- a step that was counted, and kept what it is to keep of deadlocks, completes its command
+-- a step that was counted, and recorded deadlocks as it must, completes its command
 pub completed : (v v' : ManagerView) → IsLawfulManager v → (c : Command) (r : Says) → Step (state_of v) c r.0 r.1 (state_of v') → KeepsAccepted c v v'
     → v'.accepted ≡ v.accepted + 1
     → v'.counters ≡ counted (state_of v) c r.0 r.1 (state_of v') v.counters → Completes c v r v'
@@ -145,7 +145,7 @@ try_counted s s' t n m asked converts passed k is passes_is = λ i. record {
 
 module _ (s s' : State) (t : TxnId) (n : NodeId) (m : Mode) (told : Told) (converts passed : Bool) (k : Counters)
     (is : converts ≡ holds_already s t n) (passes_is : passed ≡ passes_at s t n s') where
-  -- a lock is not refused, whatever it came to
+  -- a lock is not refused, by any outcome
   pub lock_counts : (x : Locked) → lock_counted s' n converts passed (answer_of_lock x) told k ≡ counted s (command.Lock t n m) (answer_of_lock x) told s' k
   lock_counts (locked.Granted held) = λ i. record (lock_counted s' n (is i) (passes_is i) (answer.Granted held) told k) {
     escalations = sym
@@ -163,7 +163,7 @@ module _ (s s' : State) (t : TxnId) (n : NodeId) (m : Mode) (told : Told) (conve
     released_children = sym (rises_none k.released_children) i;
   }
 
--- who was not refused a lock lives
+-- a transaction that was not refused a lock lives
 pub lock_lives : (s : State) (t : TxnId) (n : NodeId) (m : Mode) (x : Mode × Locked) → Refuses (first_refusal (lock_tests s t n m)) (Ok x) → lives s t ≡ true
 lock_lives s t n m x refuses = txn_lives s t (not_refused (no_txn s t) _ (goes _ refuses)).0
   where
@@ -171,7 +171,7 @@ lock_lives s t n m x refuses = txn_lives s t (not_refused (no_txn s t) _ (goes _
     goes None h = refl
     goes (Some r) h = absurd (cc)
 
--- the counters with what a lock came to
+-- the counters with a lock's outcome
 abbrev pub with_lock : Bool → Bool → Counters → Answer → Counters
 with_lock converts passed k a =
     record k {
@@ -182,7 +182,7 @@ with_lock converts passed k a =
       victims = rises k.victims (one_if (condemns a));
     }
 
--- what a lock came to, and then its notices
+-- a lock's outcome, and then its notices
 module _ (s : State) (n : NodeId) (converts passed : Bool) (told : Told) (k : Counters) where
   noted : (a : Answer) → rises (rises k.victims (one_if (condemns a))) (count_by is_victim told) ≡ rises k.victims (count_by is_victim told + one_if
       (condemns a))

@@ -1,4 +1,4 @@
--- What counting a command comes to.
+-- What counting a command adds.
 use Rattle.gl_slots.specs.Limit.{most_slots}
 use Rattle.std.specs.Prelude.{◌≡◌, ℕ, zero, suc, ◌+◌, ◌-◌, ◌<◌, ◌≤◌, Bool, true, false, not, List, [], ◌∷◌, ◌++◌, cond, get_or, is_some, length, max}
 use Rattle.std.specs.Prelude.{take, Err, Option, Some, None}
@@ -34,14 +34,14 @@ use Rattle.gl_catalog.specs.Counters.{is_gone, is_grant, is_moved, is_victim, ri
 pub rises_none : (k : ℕ) → rises k 0 ≡ k
 rises_none k = omega arith
 
--- to rise twice is to rise by both
+-- two raises are one by both
 pub rises_twice : (k a b : ℕ) → rises (rises k a) b ≡ rises k (a + b)
 rises_twice k a b = omega arith
 
 pub max_none : (k : ℕ) → max k 0 ≡ k
 max_none k = omega arith
 
--- a notice more, where it counts and where it does not
+-- one more notice, if it counts and if it does not
 counts_yes : (p : TxnId × Notice → Bool) (k : ℕ) (xs : Told) (x : TxnId × Notice) → p x ≡ true
     → rises k (count_by p (xs ++ x ∷ [])) ≡ rises (rises k (count_by p xs)) 1
 counts_yes p k xs x is = ap (rises k) (sum_by_push (λ y. cond (p y) 1 0) xs x ∙ ap (λ b. count_by p xs + cond b 1 0) is) ∙ sym (rises_twice k (count_by p xs) 1)
@@ -91,7 +91,7 @@ waiting_more s k =
     sym (sum-map one (range_with_len 0 (k + 1))) ∙ sum_by-map-range_with_len_more (λ n. n) one 0 k k (omega arith)
     ∙ ap (λ n. n + one k) (sum-map one (range_with_len 0 k))
 
--- behind slots in which nobody waits the count stays
+-- past slots in which nobody waits the count stays
 none_above : (s : State) (k j : ℕ) → ((t : ℕ) → k ≤ t → is_wait (status_of s t) ≡ false) → waiting_below s (k + j) ≡ waiting_below s k
 none_above s k zero none =
     let e : k + zero ≡ k = omega arith in
@@ -104,7 +104,7 @@ none_above s k (suc j) none =
     let one : waiting_below s (k + j + 1) ≡ waiting_below s k = omega (arith, more, nobody, rest) in
     ap (waiting_below s) e ∙ one
 
--- a slot past the limit has nobody who waits
+-- no slot past the limit waits
 past_most : (s : State) → IsLawful s → (t : ℕ) → s.most ≤ t → is_wait (status_of s t) ≡ false
 past_most s law t past = by (s.txns t) refl
   where
@@ -112,7 +112,7 @@ past_most s law t past = by (s.txns t) refl
     by None e = refl
     by (Some x) e = let below = law.slots_below t (ap is_some e) in absurd (omega (arith, below, past))
 
--- a set of the slots of those who wait has as many as wait
+-- a set of the slots that wait has as many as wait
 pub waiting_slots : (s : State) (w : Slots) → IsLawful s → s.most ≤ most_slots → ((u : ℕ) → has_slot w u ≡ is_wait (status_of s u))
     → length (slots_of w) ≡ waiting_below s s.most
 waiting_slots s w law few is =

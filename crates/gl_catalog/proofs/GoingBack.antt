@@ -1,4 +1,4 @@
--- A transaction goes back to a savepoint: each node that it unlocks is a step, and what all these steps leave. For Manager.release_since_telling.
+-- A transaction rolls back to a savepoint: each node that it unlocks is a step, and what all these steps leave. For Manager.release_since_telling.
 use Rattle.std.specs.Prelude.{◌≡◌, ◌≢◌, ℕ, ◌+◌, ◌-◌, ◌≤◌, Bool, true, false, not, ◌&&◌, List, [], ◌∷◌, length, map, min, Option, Some, None}
 use Rattle.std.specs.Prelude.{get_or, if◌then◌else◌}
 use Rattle.std.specs.List.{All, find, list_any}
@@ -46,7 +46,7 @@ use Rattle.gl_catalog.specs.Savepoints.{TakesBack, back_tests, count_since, worn
 use Rattle.gl_catalog.proofs.Adopting.{counts_one}
 use Rattle.gl_catalog.proofs.Carried.{accepted_step}
 
--- where no child is held, none is found
+-- if no child is held, none is found
 childless : (s : State) (t : ℕ) (n : NodeId) → holds_child s t n ≡ false → held_child s t n ≡ None
 childless s t n h = ap child_held (none (nodes s.graph) h)
   where
@@ -57,7 +57,7 @@ childless s t n h = ap child_held (none (nodes s.graph) h)
     none [] h = refl
     none (c ∷ cs) h = let b = or_no (held c) (list_any held cs) h in ap (λ x. if x then Some c else find held cs) b.0 ∙ none cs b.1
 
--- who is active stays as it is while nodes grant
+-- an active transaction stays as it is while nodes grant
 awake_stays : (g : NodeId → List Waiter) (u : ℕ) (x : Option Txn) → status_in x ≡ Some Active → woken g u x ≡ x
 awake_stays g u x h = grind (arith, nat_tests, x)
 
@@ -141,7 +141,7 @@ unlocks_follow (n ∷ ns) s s' t u apart well h =
 
 module _ (t : TxnId) (ns : List NodeId) (s s' : State) (law : IsLawful s) (alive : lives s t ≡ true) (h : Unlocks s t.slot ns s') (list : Told)
     (is : list ≡ told s s') where
-  -- another keeps what is its own, but for a grant that it is told of
+  -- another keeps what is its own, except a grant that it is told of
   pub unlocks_keep : (u : TxnId) → lives s u ≡ true → same_txn u t ≡ false → Keeps s s' u list false
   unlocks_keep u also other =
       let follows = unlocks_follow ns s s' t.slot u.slot (differ s u t also alive other) (lawful_waits s law u.slot) h in
@@ -234,7 +234,7 @@ module _ (m : ManagerView) (t : TxnId) (mark : ℕ) (free : first_refusal (back_
       others = unlocks_leave t ns s (table_state m'.table) lawful may_go_back.acting.lives back.unlocks list tells m.accepted m'.accepted;
     }
 
--- Whoever goes back keeps what is another's, whatever runs before and behind it.
+-- A rollback keeps what is another's, with any run before and after it.
 module _ (m m' : ManagerView) (law : IsLawful (state_of m)) (t : TxnId) (mark k : ℕ) (list : Told) (h : TakesBack t mark k m list m') where
   pub back_keeps_over : (u : TxnId) → lives (state_of m) u ≡ true → same_txn u t ≡ false
       → KeepsOver (state_of m) (state_of m') u (list_any (is_grant_to u) list)

@@ -18,7 +18,7 @@ use Rattle.gl_steps.specs.Tests.{insert_tests, record_asks}
 use Rattle.gl_steps.proofs.NotRefused.{active_is, txn_lives}
 
 module _ (s : State) (t : TxnId) (f : NodeId) (keys : List ℕ) where
-  -- what is tested of the record behind the births and the one who asks
+  -- what is tested of the record, after the births and the transaction
   abbrev kinds : List (Option Refusal)
   kinds = some_no_node s.graph (f ∷ []) ∷ where_true (not (is_file_shape (shape_of s.graph f))) no.BadParents
       ∷ where_true (not (length keys == length (indexes_of s.graph f))) no.BadKeys ∷ []
@@ -36,7 +36,7 @@ module _ (s : State) (t : TxnId) (f : NodeId) (keys : List ℕ) where
   record_refused r h = refused_first (record_asks s t f keys)
       (first_not_ix (s.held t.slot) (record_parents s.graph f keys) ∷ too_many_nodes s.graph 1 ∷ []) r (test_refused _ r h)
 
--- who may insert the record, where there is memory
+-- the transaction may insert the record, if memory suffices
 pub record MayInsert (s : State) (t : TxnId) (f : NodeId) (keys : List ℕ) : Type 0 where
   pub acting : IsActing s t
   pub free : record_refusal s.graph f keys ≡ None
@@ -59,7 +59,7 @@ may_insert s t f keys h =
       writable = rule.0;
     }
 
--- a call that refuses only what its tests refuse, and goes, was refused by none
+-- a call that refuses only what its tests refuse, and succeeds, was refused by none
 pub goes_none : {A : Type 0} (o : Option Refusal) (x : A) → RefusesOnly o (Ok x) → o ≡ None
 goes_none None x h = refl
 goes_none (Some r) x h = absurd (cc)

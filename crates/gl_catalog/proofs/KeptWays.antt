@@ -1,4 +1,4 @@
--- The nodes above that a path keeps: what is climbed to from them, and what is put to them. For Manager.lock_path_telling.
+-- The nodes above that a path keeps: what is climbed to from them, and what is added to them. For Manager.lock_path_telling.
 use Rattle.std.specs.Prelude.{◌≡◌, ◌⊎◌, ◌-◌, suc, Bool, true, false, List, [], ◌∷◌, ◌++◌, length, slice_get, Some, if◌then◌else◌}
 use Rattle.std.proofs.Common.{refl, sym, ap, ◌∙◌, inl, inr, subst, arith}
 use Rattle.gl_modes.proofs.Words.{none_some, some_is}
@@ -16,7 +16,7 @@ intention_twice m = by (is_write m)
     by true = refl
     by false = refl
 
--- The ask behind one node more.
+-- The request after one more node.
 pub next_more : (ask : Ask) (ps : List NodeId) (p : NodeId) → next_ask ask (ps ++ p ∷ []) ≡ (p, intention (next_ask ask ps).1)
 next_more ask [] p = refl
 next_more ask (q ∷ ps) p = next_more (q, intention ask.1) ps p
@@ -36,7 +36,7 @@ next_by_last ask (q ∷ r ∷ ps) p h =
     let one : length (q ∷ r ∷ ps) - 1 ≡ suc (length (r ∷ ps) - 1) = omega arith in
     next_by_last (q, intention ask.1) (r ∷ ps) p (sym (ap (slice_get (q ∷ r ∷ ps)) one) ∙ h) ∙ ap (λ (m : Mode). (p, m)) (intention_twice ask.1)
 
--- one node more, or that one alone
+-- one more node, or that one alone
 abbrev pub Kept : List NodeId → NodeId → List NodeId → Type 0
 Kept ps p qs = (qs ≡ ps ++ p ∷ []) ⊎ (qs ≡ p ∷ [])
 
@@ -50,7 +50,7 @@ module _ (s : State) (t : TxnId) where
   climb_join a [] b more c h k = subst (λ (x : Ask). ClimbsTo s t x more c) h k
   climb_join a (p ∷ way) b more c h k = (h.0, climb_join (p, intention a.1) way b more c h.1 k)
 
-  -- the climb by them to the next ask
+  -- the climb by them to the next request
   pub way_climbs : (ask : Ask) (ps : List NodeId) → IsWay s t ask ps → (way : List NodeId) × ClimbsTo s t ask way (next_ask ask ps)
   way_climbs ask [] h = ([], refl)
   way_climbs ask (p ∷ ps) h =
@@ -72,7 +72,7 @@ module _ (s : State) (t : TxnId) where
       climb_join ask to.0 (next_ask ask ps) (p ∷ []) (p, intention (next_ask ask ps).1) to.1 (w, refl) in
       (up_by ask to.0 p (p, intention ask.1) (subst (λ (m : Mode). ClimbsTo s t ask (to.0 ++ p ∷ []) (p, m)) (next_mode ask ps) up), tt)
 
-  -- the parent that the next ask wants is kept too
+  -- the parent that the next request needs is kept too
   pub way_kept : (ask : Ask) (ps qs : List NodeId) (p : NodeId) → IsWay s t ask ps → parent_wanted s t (next_ask ask ps) ≡ Some p → Kept ps p qs
       → IsWay s t ask qs
   way_kept ask ps qs p h w (inl e) = subst (IsWay s t ask) (sym e) (way_more ask ps p h w)

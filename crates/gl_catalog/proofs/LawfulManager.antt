@@ -1,4 +1,4 @@
--- A lawful table makes a lawful manager, whatever is counted.
+-- A lawful table makes a lawful manager, with any counts.
 use Rattle.gl_slots.specs.Limit.{most_slots}
 use Rattle.std.specs.Prelude.{◌≡◌, ◌≤◌, ℕ}
 use Rattle.gl_model.specs.declared.answers.Detect.TheVariants.{AtBlock}

@@ -40,7 +40,7 @@ module _ {A : Type 0} (says : A → Says) (c : Command) {counts : Counters} (tab
       (subst (λ (x : TableView). CallSteps (counting k (table_state table)) c says (Err r) (counting k (table_state x))) (sym same)
       (err_step says c k (table_state table) tests are r (room free) refuses))
 
-  -- the same where memory may have been wanting
+  -- the same, maybe for lack of memory
   pub managed_err_or_memory : (r : Refusal) (table' : TableView) → Room
       → (first_refusal tests ≡ None → lists_memory (counting k (table_state table)) c ≡ true) → Refuses {T = A} (first_refusal tests) (Err r) → table' ≡ table
       → CallSteps (state_of v) c says (Err r) (counting k (table_state table'))
@@ -49,7 +49,7 @@ module _ {A : Type 0} (says : A → Says) (c : Command) {counts : Counters} (tab
       (subst (λ (x : TableView). CallSteps (counting k (table_state table)) c says (Err r) (counting k (table_state x))) (sym same)
       (err_or_memory_step says c k (table_state table) tests are r (room free) lists refuses))
 
-  -- the table went
+  -- the table's call succeeded
   pub managed_ok : (x : A) (table' : TableView) → Room → Refuses {T = A} (first_refusal tests) (Ok x) → query_answer (counting k (table_state table)) c ≡ None
       → Accepts (counting k (table_state table)) c (says x).0 (says x).1 (counting k (table_state table'))
       → CallSteps (state_of v) c says (Ok x) (counting (k + 1) (table_state table'))
@@ -57,7 +57,7 @@ module _ {A : Type 0} (says : A → Says) (c : Command) {counts : Counters} (tab
       subst (λ (w : ManagerView). CallSteps (state_of w) c says (Ok x) (counting (k + 1) (table_state table'))) is
       (ok_step says c k (table_state table) tests are x (table_state table') (room free) refuses none acc)
 
-  -- the same where memory is never wanting
+  -- the same of a call that never lacks memory
   pub managed_ok_only : (x : A) (table' : TableView) → Room → RefusesOnly {A = A} (first_refusal tests) (Ok x)
       → query_answer (counting k (table_state table)) c ≡ None
       → Accepts (counting k (table_state table)) c (says x).0 (says x).1 (counting k (table_state table'))

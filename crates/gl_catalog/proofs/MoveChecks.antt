@@ -18,7 +18,7 @@ use Rattle.gl_model.specs.declared.txn.TxnId.{TxnId}
 use Rattle.gl_steps.specs.Tests.{move_asks, rekey_tests, worn}
 use Rattle.gl_graph.proofs.FirstOf.{passed_then}
 
--- where the count and the one who asks pass, and these nodes live, the kinds decide, and then what follows
+-- if the count and the transaction pass, and these nodes live, the kinds decide, and then what follows
 then_kinds : (s : State) (t : TxnId) (ns : List NodeId) (bad : Bool) (rest : List (Option Refusal)) → Ok tt ≡ verdict (worn s)
     → Ok tt ≡ verdict (first_refusal (commit_tests s t)) → list_all (is_live s.graph) ns ≡ true
     → first_refusal (worn s ∷ commit_tests s t ++ some_no_node s.graph ns ∷ where_true bad no.BadParents ∷ rest) ≡ (if bad then Some no.BadParents
@@ -32,13 +32,13 @@ then_kinds s t ns bad rest counts active live =
     by true = refl
     by false = refl
 
--- one of the two is wanting
+-- one of the two is false
 not_both : (a b : Bool) → (not a || b) ≡ not (a && not b)
 not_both true true = refl
 not_both true false = refl
 not_both false b = refl
 
--- a list has members where its length is not 0
+-- a list has members if its length is not 0
 pub some_given-is : {A : Type 0} (xs : List A) → some_given xs ≡ not (length xs == 0)
 some_given-is [] = refl
 some_given-is (x ∷ xs) = grind (arith, nat_tests)
@@ -47,7 +47,7 @@ turned : (b : Bool) (x y : Option Refusal) → (if not b then x else y) ≡ (if 
 turned true x y = refl
 turned false x y = refl
 
--- what is left of the tests of a move, where the count and the one who asks pass, and the nodes live
+-- the remaining tests of a move, if the count and the transaction pass, and the nodes live
 pub move_kinds : (s : State) (t : TxnId) (n : NodeId) (ps : List NodeId) → Ok tt ≡ verdict (worn s)
     → Ok tt ≡ verdict (first_refusal (commit_tests s t)) → is_live s.graph n ≡ true → list_all (is_live s.graph) ps ≡ true
     → first_refusal (worn s ∷ move_asks s t n ps)

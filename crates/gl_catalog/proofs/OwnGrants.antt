@@ -36,7 +36,7 @@ pub record GrantsOwn (s s' : State) (t : TxnId) (n : NodeId) : Type 0 where
   pub more : is_at_least (s'.held t.slot n) (s.held t.slot n) ≡ true
   pub elsewhere : (q : NodeId) → same_node q n ≡ false → s'.held t.slot q ≡ s.held t.slot q
 
--- whoever was granted a lock, and lives, is active
+-- a transaction that was granted a lock, and lives, is active
 granted_active : (m : Mode) (x : Option Txn) (age : ℕ) → live_by age x ≡ true → grants (lock_answer m (status_in x)) ≡ true → status_in x ≡ Some Active
 granted_active m None age alive h = absurd (never alive)
 granted_active m (Some x) age alive h = by x.status h
@@ -121,7 +121,7 @@ module _ (s : State) (law : IsLawful s) (t : TxnId) (ask : Ask) (passed : refusa
     granted_own : GrantsOwn s next t ask.0
     granted_own = split (enters_at s t.slot ask.0 ask.1) at_once waits
 
--- so it is of each lock that is answered by a grant
+-- the same for each lock that is answered by a grant
 pub grants_own : (s : State) → IsLawful s → (t : TxnId) (ask : Ask) (r : Says) (s' : State) → Step s (lock_of t ask) r.0 r.1 s' → grants r.0 ≡ true
     → GrantsOwn s s' t ask.0
 grants_own s law t ask r s' (inl gone) grant = by (refusal_of s (lock_of t ask)) refl gone

@@ -1,4 +1,4 @@
--- When a raise passes somebody who waits. For locks, tries and escalations.
+-- When a raise passes a waiter. For locks, tries and escalations.
 use Rattle.std.specs.Prelude.{◌≡◌, ◌&&◌, ◌⊎◌, Bool, true, false, not, Option, Some, None, if◌then◌else◌}
 use Rattle.std.proofs.Common.{ap, inl, inr, refl, sym, ◌∙◌}
 use Rattle.gl_modes.proofs.ModeLemmas.{same_mode-refl}
@@ -22,7 +22,7 @@ use Rattle.gl_model.proofs.telling.Follows.{Follows, GrantedTo, SameGrants, lawf
 use Rattle.gl_steps.proofs.OtherChanges.{wait_settles_follows}
 use Rattle.gl_catalog.specs.Counters.{lock_passes, raise_passes}
 
--- by the mode that was read before, NL where the transaction did not live
+-- by the mode that was read before, NL if the transaction did not live
 pub read_passes : (s : State) (n : NodeId) (alive : Bool) (before after : Mode)
     → raise_passes s n (if alive then before else NL) after ≡ (alive && raise_passes s n before after)
 read_passes s n true before after = refl
@@ -46,7 +46,7 @@ unraised s n before after is = ap (raise_passes s n before) is
     never true b = refl
     never false b = refl
 
--- a lock came to a grant of what is held, or its transaction is not active
+-- a lock's outcome is a grant of the held mode, or its transaction is not active
 held_then : (held m : Mode) (o : Option Status) → locked.Granted m ≡ locked_as held o → m ≡ held
 held_then held m None h = cc
 held_then held m (Some Active) h = cc
@@ -57,7 +57,7 @@ module _ (s : State) (law : IsLawful s) (t : TxnId) (n : NodeId) (m : Mode) (may
   abbrev x : State
   x = enqueued s t.slot n (wanted s t.slot n m)
 
-  -- who is not active then holds what it held
+  -- a transaction that is then not active holds what it held
   kept : (status_of next t.slot ≡ Some Active → ⊥) → next.held t.slot n ≡ s.held t.slot n
   kept idle = split (enters_at s t.slot n m) (λ e. absurd (idle (ap (λ (y : State). status_of y t.slot) (locks.at_once e) ∙ may.active))) waits
     where
@@ -71,7 +71,7 @@ module _ (s : State) (law : IsLawful s) (t : TxnId) (n : NodeId) (m : Mode) (may
           by (inl same) = same n
           by (inr g) = absurd (idle g.is)
 
-  -- so what a lock came to says whether it passes somebody
+  -- so a lock's outcome says whether it passes a waiter
   pub lock_passes_is : (l : Locked) → l ≡ locked_as (next.held t.slot n) (status_of next t.slot)
       → lock_passes next n (s.held t.slot n) l ≡ raise_passes next n (s.held t.slot n) (next.held t.slot n)
   lock_passes_is (locked.Granted h) is = ap (raise_passes next n (s.held t.slot n)) (held_then (next.held t.slot n) h (status_of next t.slot) is)

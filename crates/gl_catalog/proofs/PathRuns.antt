@@ -1,4 +1,4 @@
--- Paths put together from their asks, and what their tests decide. For Manager.lock_path_telling.
+-- Paths put together from their requests, and what their tests decide. For Manager.lock_path_telling.
 use Rattle.std.specs.Prelude.{◌≡◌, ℕ, zero, suc, Bool, true, false, ◌&&◌, ◌||◌, ◌==◌, [], ◌∷◌, length, Some, None, is_none, Result, Ok, Err}
 use Rattle.std.proofs.Common.{refl, sym, ap, ◌∙◌, inl, inr, subst, arith}
 use Rattle.gl_modes.proofs.Words.{and_both, no as never, same_number}
@@ -22,21 +22,21 @@ use Rattle.gl_steps.specs.Step.{Goes, Step, answer_of_lock}
 use Rattle.gl_steps.specs.Tests.{is_cycle, lists_memory, may_want_memory, refusal_of}
 use Rattle.gl_catalog.proofs.Climbing.{first_stays, plain_tests, stays_at}
 
--- what a path was at its beginning, once it goes on from a later manager
+-- what a path was at its beginning, once it continues from a later manager
 abbrev pub LeadsTo : TxnId → Ask → ManagerView → ManagerView → Type 0
 LeadsTo t ask m₀ m = (k : ℕ) (last : Ask) (r : Says) (m' : ManagerView) → IsPath k t ask m last r m' → (j : ℕ) × IsPath j t ask m₀ last r m'
 
--- it begins where it is
+-- it begins here
 pub at_once : (t : TxnId) (ask : Ask) (m : ManagerView) → LeadsTo t ask m m
 at_once t ask m k last r m' path = (k, path)
 
--- it goes on behind a grant that told nobody
+-- it continues after a grant that told nobody
 pub one_on : (t : TxnId) (ask : Ask) (m₀ m m' : ManagerView) (told : Told) (x : Reached) → LeadsTo t ask m₀ m → AsksOnce t ask m told (Ok x) m'
     → goes_on ask.0 x.node (reaching told x) ≡ true → LeadsTo t ask m₀ m'
 one_on t ask m₀ m m' told x leads once on k last r m'' path =
     leads (suc k) last r m'' (once.0, reaching told x, m', once.1, ap (λ n. goes_on ask.0 n (reaching told x)) (sym once.2) ∙ on, path)
 
--- behind such an ask something was granted
+-- after such a request a lock was granted
 pub granted_so : (node asked : NodeId) (r : Says) → goes_on node asked r ≡ true → grants r.0 ≡ true
 granted_so node asked r h = (and_both (grants r.0) _ (and_both _ _ h).0).0
 
@@ -48,7 +48,7 @@ told_nobody node asked r h = none r.1 (and_both (grants r.0) _ (and_both _ _ h).
     none [] e = refl
     none (x ∷ told) e = let z : length (x ∷ told) ≡ 0 = same_number _ _ e in absurd (omega (arith, z))
 
--- it ends with an ask behind which it does not go on
+-- it ends with a request after which it does not continue
 pub ends : (t : TxnId) (ask : Ask) (m₀ m m' : ManagerView) (told : Told) (x : Reached) → LeadsTo t ask m₀ m → AsksOnce t ask m told (Ok x) m'
     → goes_on ask.0 x.node (reaching told x) ≡ false → LocksPath t ask m₀ told (Ok x) m'
 ends t ask m₀ m m' told x leads once off =

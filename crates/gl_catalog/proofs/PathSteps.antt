@@ -1,4 +1,4 @@
--- What a lock was answered says which parent it wanted, and the first ask of a path. For Manager.lock_first and Manager.lock_path_telling.
+-- A lock's answer says which parent it needed, and the first request of a path. For Manager.lock_first and Manager.lock_path_telling.
 use Rattle.std.specs.Prelude.{◌≡◌, ℕ, ◌+◌, Bool, true, false, ◌||◌, ◌==◌, List, [], ◌∷◌, ◌++◌, length, Option, Some, None, is_none, Ok, Err}
 use Rattle.std.proofs.Common.{refl, sym, ap, ◌∙◌, inl, inr, subst}
 use Rattle.gl_modes.proofs.Words.{and_both, cases_of, no as never, none_some}
@@ -36,12 +36,12 @@ not_refused locked.Victim r e = cc
 refused_is : (q r : Refusal) → answer.Refused r ≡ answer.Refused q → q ≡ r
 refused_is q r e = cc
 
--- a refusal for want of a parent is none of a path that closes
+-- a refusal for lack of a parent is no closed cycle
 no_cycle : (q : Refusal) (p : NodeId) → missing_parent q ≡ Some p → (is_none (Some q) || is_cycle (Some q)) ≡ false
 no_cycle (no.NeedParents n) p h = refl
 no_cycle q p h = absurd (none_some h)
 
--- where memory may be wanting no parent is
+-- if lack of memory is permitted, no parent is lacking
 memory_alone : (o : Option Refusal) → (is_none o || is_cycle o) ≡ true → parent_missed o ≡ None
 memory_alone None h = refl
 memory_alone (Some q) h = cases_of (missing_parent q) (λ none. none) (λ p e. absurd (never (sym (no_cycle q p e) ∙ h)))
@@ -50,7 +50,7 @@ module _ (s s' : State) (t : TxnId) (ask : Ask) (told : Told) where
   wanting_memory : may_want_memory s (lock_of t ask) ≡ true → parent_wanted s t ask ≡ None
   wanting_memory h = memory_alone (refusal_of s (lock_of t ask)) (and_both (lists_memory s (lock_of t ask)) _ h).1
 
-  -- a lock that is refused for want of a parent wants that one, and one that is refused otherwise wants none
+  -- a lock that is refused for lack of a parent needs that one, and one that is refused otherwise needs none
   pub refused_wants : (r : Refusal) → Step s (lock_of t ask) (answer.Refused r) told s' → parent_wanted s t ask ≡ missing_parent r
   refused_wants r (inl gone) = by (refusal_of s (lock_of t ask)) gone
     where
@@ -59,7 +59,7 @@ module _ (s s' : State) (t : TxnId) (ask : Ask) (told : Told) where
       by None went = absurd (not_refused _ r (sym went.1.1))
   refused_wants r (inr memory) = wanting_memory memory.0 ∙ ap missing_parent (refused_is no.NoMemory r memory.1.answer_is)
 
-  -- one that is not refused wants none
+  -- one that is not refused needs none
   pub locked_wants : (x : Locked) → Step s (lock_of t ask) (answer_of_lock x) told s' → parent_wanted s t ask ≡ None
   locked_wants x (inl gone) = by (refusal_of s (lock_of t ask)) gone
     where
@@ -68,12 +68,12 @@ module _ (s s' : State) (t : TxnId) (ask : Ask) (told : Told) where
       by None went = refl
   locked_wants x (inr memory) = absurd (not_refused x no.NoMemory memory.1.answer_is)
 
--- how many parents an ask wants locked first
+-- how many parents a request needs first
 abbrev pub wants : Option NodeId → ℕ
 wants None = 0
 wants (Some p) = 1
 
--- what the tests of the table say, where a command can be counted
+-- what the tests of the table say, if a command can be counted
 pub looked : (s : State) (t : TxnId) (ask : Ask) → worn s ≡ None → parent_wanted s t ask ≡ parent_missed (first_refusal (lock_tests s t ask.0 ask.1))
 looked s t ask counts = ap (λ o. parent_missed (first_refusal (o ∷ lock_tests s t ask.0 ask.1))) counts
 
@@ -85,7 +85,7 @@ pub one_up : (s : State) (t : TxnId) (ask : Ask) (k : ℕ) (top : Ask) (p : Node
     → ClimbsIn s t ask (k + 1) (p, intention top.1)
 one_up s t ask k top p h w = (h.0 ++ p ∷ [], climb_on s t ask h.0 top p h.1 w, length-more h.0 p ∙ ap (λ n. n + 1) h.2)
 
--- where no command can be counted, every lock is refused alike
+-- if no command can be counted, every lock is refused alike
 full_refusal : (s : State) (t : TxnId) (ask : Ask) (q : Refusal) → worn s ≡ Some q → refusal_of s (lock_of t ask) ≡ Some q
 full_refusal s t ask q e = ap (λ o. first_refusal (o ∷ lock_tests s t ask.0 ask.1)) e
 
@@ -103,7 +103,7 @@ refused_alike s s' t a b q r told e (inr memory) = absurd (none_some (sym (full_
     counts : (is_none (worn s) || is_cycle (worn s)) ≡ true
     counts = ap (λ o. is_none o || is_cycle o) (e ∙ sym (full_refusal s t a q e)) ∙ (and_both (lists_memory s (lock_of t a)) _ memory.0).1
 
--- and wants no parent
+-- and needs no parent
 pub full_wants : (s : State) (t : TxnId) (ask : Ask) (q : Refusal) → worn s ≡ Some q → parent_wanted s t ask ≡ None
 full_wants s t ask q e = ap parent_missed (full_refusal s t ask q e ∙ sym e) ∙ by (s.accepted == max_count)
   where
@@ -119,7 +119,7 @@ not_full s s' t ask x told step = cases_of (worn s) (λ none. none) (λ q e. abs
     full q e (inl gone) = not_refused x q (subst (λ o. Goes s (lock_of t ask) o (answer_of_lock x) told s') (full_refusal s t ask q e) gone).answer_is
     full q e (inr memory) = not_refused x no.NoMemory memory.1.answer_is
 
--- the ask that is next on a path with these nodes above, as lock_first makes it
+-- the next request of a path with these nodes above, as lock_first makes it
 module _ (m₀ m m' : ManagerView) (same : m ≡ m₀) (t : TxnId) (ask top : Ask) (above : List NodeId) (kept : KeepsWay (state_of m₀) t ask above)
     (is : top ≡ next_ask ask above) (told : Told) where
   abbrev s₀ : State
@@ -149,7 +149,7 @@ module _ (m₀ m m' : ManagerView) (same : m ≡ m₀) (t : TxnId) (ask top : As
         goes locked.Waiting = refl
         goes locked.Victim = refl
 
-    -- where it was granted, the nodes below are kept
+    -- if it was granted, the nodes below are kept
     pub kept_below : IsLawful s₀ → grants (answer_of_lock x) ≡ true → KeepsBelow (state_of m') t ask above
     kept_below law grant =
         below_kept s₀ (state_of m') law t ask above
@@ -173,6 +173,6 @@ module _ (m₀ m m' : ManagerView) (same : m ≡ m₀) (t : TxnId) (ask top : As
         (λ q e. refused_as err ask (record { climb = ([], refl); top = full_wants s₀ t ask q e })
         (refused_alike s₀ (state_of m') t top ask q r [] e step₀) list)
 
--- a call that makes the first ask is refused for want of no parent
+-- a call that makes the first request is never refused for lack of a parent
 pub none_missing : (t : TxnId) (ask : Ask) (m m' : ManagerView) (told : Told) (r : Refusal) → AsksOnce t ask m told (Err r) m' → missing_parent r ≡ None
 none_missing t ask m m' told r h = sym (refused_wants (state_of m) (state_of m') t h.0 [] r h.1.step) ∙ h.1.comes_first.top

@@ -35,7 +35,7 @@ use Rattle.gl_graph.proofs.FirstOf.{passed_then, passes_first, refused_first}
 use Rattle.gl_steps.proofs.NotRefused.{txn_lives}
 use Rattle.gl_model.proofs.law.Tests.{raised_intends}
 
--- what an escalation asks, by whether some child is held to write
+-- what an escalation requests, by whether some child is held to write
 abbrev asked_if : Bool → Mode
 asked_if b = if b then X else S
 
@@ -44,7 +44,7 @@ raised_reads : (a : Mode) (b : Bool) → is_at_least (supremum a (asked_if b)) S
 raised_reads a true = every-true (λ x. is_at_least (supremum x X) S) refl a
 raised_reads a false = every-true (λ x. is_at_least (supremum x S) S) refl a
 
--- the asked mode suits each node but a record
+-- the requested mode suits each node but a record
 suits : (b rec : Bool) → rec ≡ false → where_true
     (same_mode (asked_if b) NL || (rec && not (same_mode (asked_if b) S || same_mode (asked_if b) X))) no.BadMode ≡ None
 suits b rec h = ap (λ r. where_true (same_mode (asked_if b) NL || (r && not (same_mode (asked_if b) S || same_mode (asked_if b) X))) no.BadMode) h ∙ by b
@@ -53,12 +53,12 @@ suits b rec h = ap (λ r. where_true (same_mode (asked_if b) NL || (r && not (sa
     by true = refl
     by false = refl
 
--- a member enters where it fits
+-- a member is granted at once if its mode fits
 member_enters : (a b c : Bool) → b ≡ true → (a && (b || c)) ≡ a
 member_enters true b c h = or_left b c h
 member_enters false b c h = refl
 
--- what refuses the ask refuses the escalation
+-- what refuses the request refuses the escalation
 pub asks_err : (s : State) (t : TxnId) (n : NodeId) (r : Refusal) → Err r ≡ verdict (first_refusal (worn s ∷ escalate_asks s t n))
     → CallSteps s (command.Escalate t n) rose (Err r) s
 asks_err s t n r h = refused_step rose (command.Escalate t n) s r
@@ -83,7 +83,7 @@ module _ (s : State) (t : TxnId) (n : NodeId) (passed : first_refusal (worn s �
       let b = not_refused (not_held s t.slot n) [] a.1 in
       (test_fails _ _ a.0, not_false _ (test_fails _ _ b.0))
 
-  -- what the table says of the children gives the asked mode
+  -- what the table says of the children gives the requested mode
   pub asked_is : (b : Bool) → b ≡ (lives s t && writes) → asked_if b ≡ m
   asked_is b e = ap asked_if (e ∙ ap (λ l. l && writes) alive)
 
@@ -94,7 +94,7 @@ module _ (s : State) (t : TxnId) (n : NodeId) (passed : first_refusal (worn s �
         else (if is_write (wanted s t.slot n m) then first_not_ix (s.held t.slot) (parents_of s.graph n) else first_of_all (parents_of s.graph n)))
         (raised_intends s law t.slot n node_tests.1)
 
-    -- a try of the asked mode is refused exactly as the escalation is
+    -- a try of the requested mode is refused exactly as the escalation is
     tried_alike : first_refusal (try_tests s t n m) ≡ refusal_of s (command.Escalate t n)
     tried_alike =
         passed_then (active_on s t (n ∷ [])) (bad_mode s n m ∷ need_parents s t.slot n (wanted s t.slot n m) ∷ would_block s t.slot n m ∷ [])
@@ -106,7 +106,7 @@ module _ (s : State) (t : TxnId) (n : NodeId) (passed : first_refusal (worn s �
         (member_enters (fits s.most (members s n) t.slot (wanted s t.slot n m)) (holds (members s n) t.slot) (is_empty (s.queue n)) node_tests.1)
         ∙ sym (passed_then (worn s ∷ escalate_asks s t n) (escalation_blocks s t.slot n ∷ []) passed)
 
-    -- and never for want of memory
+    -- and never for lack of memory
     pub tried_err : (asked : Mode) → asked ≡ m → (r : Refusal) → Refuses {T = Mode} (first_refusal (try_tests s t n asked)) (Err r)
         → (first_refusal (try_tests s t n asked) ≡ None → holds (members s n) t.slot ≡ true → IsOk {T = Mode} (Err r))
         → CallSteps s (command.Escalate t n) rose (Err r) s

@@ -1,4 +1,4 @@
--- A record is given another key for one index: the parents that it then has, place by place, what its tests say, and what comes of it.
+-- A record is given another key for one index: the parents that it then has, place by place, what its tests say, and what it leaves.
 use Rattle.std.specs.Prelude.{◌≡◌, ℕ, zero, suc, ◌+◌, ◌<◌, Bool, true, false, not, ◌&&◌, List, [], ◌∷◌, ◌++◌, length, Ok, if◌then◌else◌}
 use Rattle.std.specs.Prelude.{get_or, take}
 use Rattle.std.proofs.Common.{refl, sym, ap, ap₂, ◌∙◌, arith}
@@ -25,7 +25,7 @@ use Rattle.gl_steps.specs.Tests.{refusal_of, worn}
 use Rattle.gl_catalog.proofs.Carried.{accepted_step}
 use Rattle.gl_steps.proofs.NotRefused.{active_is, txn_lives}
 
--- a key for each index, also where one has changed
+-- a key for each index, also if one has changed
 keys_counted : (is : List NodeId) (ks : List ℕ) (index : NodeId) (key : ℕ) → length ks ≡ length is → length (keys_with is ks index key) ≡ length is
 keys_counted [] ks index key each = each
 keys_counted (i ∷ is) [] index key each = each
@@ -94,7 +94,7 @@ module _ (g : Graph) where
           take_more (rekeyed_parents g r index key) (place + 1) d (omega arith)
           ∙ ap (λ n. take (place + 1) (rekeyed_parents g r index key) ++ n ∷ []) (rekeyed_at place d b low test)
 
--- who may give the record this key
+-- the transaction may give the record this key
 pub record MayReparent (s : State) (t : TxnId) (r index : NodeId) (key : ℕ) : Type 0 where
   pub acting : IsActing s t
   pub allowed : CanRekey s t.slot r index key

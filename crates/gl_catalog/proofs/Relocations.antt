@@ -1,4 +1,4 @@
--- A node is given other parents: what its tests say, and what comes of it.
+-- A node is given other parents: what its tests say, and what it leaves.
 use Rattle.std.specs.Prelude.{◌≡◌, ◌⊎◌, ℕ, ◌+◌, Bool, true, false, not, ◌&&◌, ◌||◌, List, [], ◌∷◌, Some, None, Ok, Err, is_none, if◌then◌else◌}
 use Rattle.std.proofs.Common.{refl, ap, ◌∙◌, inl, inr}
 use denote.Bor.{Bor}
@@ -23,12 +23,12 @@ use Rattle.gl_catalog.proofs.Carried.{accepted_step, memory_step, refused_step}
 use Rattle.gl_graph.proofs.FirstOf.{alone, passed_then, refused_first}
 use Rattle.gl_steps.proofs.NotRefused.{active_is, txn_lives}
 
--- who may give the node these parents, but for a path that would close
+-- the transaction may give the node these parents, if no cycle is closed
 pub record MayRegraft (s : State) (t : TxnId) (n : NodeId) (ps : List NodeId) : Type 0 where
   pub acting : IsActing s t
   pub allowed : CanMove s t.slot n ps
 
--- what refuses for a path that would close, refuses with a cycle
+-- what refuses for a closed cycle refuses with `Cycle`
 cycle_at_most : (g : Graph) (n : NodeId) (ps : List NodeId) → (is_none (first_cycle g n ps) || is_cycle (first_cycle g n ps)) ≡ true
 cycle_at_most g n [] = refl
 cycle_at_most g n (p ∷ ps) = by (is_at_or_below (node_count g) g n p) (cycle_at_most g n ps)
@@ -68,11 +68,11 @@ module _ (s : State) (t : TxnId) (n : NodeId) (ps : Bor (List NodeId)) where
           };
         }
 
-    -- only a path that would close is left to refuse
+    -- only a closed cycle can still refuse
     cycle_left : refusal_of s (command.Move t n ps) ≡ first_cycle s.graph n ps.now
     cycle_left = passed_then (worn s ∷ move_asks s t n ps.now) (first_cycle s.graph n ps.now ∷ []) (verdict_ok _ tt asks) ∙ alone (first_cycle s.graph n ps.now)
 
-    -- memory is wanting, or a path would close
+    -- memory is lacking, or a cycle would be closed
     pub relocate_fails : (r : Refusal) → (r ≡ no.NoMemory) ⊎ (first_cycle s.graph n ps.now ≡ Some r) → CallSteps s (command.Move t n ps) done (Err r) s
     relocate_fails r (inl memory) = memory_step done (command.Move t n ps) s r
         (ap (λ o. is_none o || is_cycle o) cycle_left ∙ cycle_at_most s.graph n ps.now) memory

@@ -1,4 +1,4 @@
--- Runs that go on by one step more.
+-- Runs that continue by one more step.
 use Rattle.std.specs.Prelude.{◌≡◌, ℕ, ◌+◌, ◌<◌, ◌≤◌, List, [], ◌∷◌, ◌++◌, length, slice_index_or, take}
 use Rattle.std.proofs.Common.{refl, sym, subst, ap, ◌∙◌}
 use Rattle.std.proofs.lemmas.List.{map-append, take_all, take_more}
@@ -22,7 +22,7 @@ run_snoc s mid s' [] (r ∷ rs) c a told run step = absurd run
 run_snoc s mid s' (d ∷ cs) [] c a told run step = absurd run
 run_snoc s mid s' (d ∷ cs) (r ∷ rs) c a told run step = (run.0, run.1, run_snoc run.0 mid s' cs rs c a told run.2 step)
 
--- the next command of a list, its reply behind the replies before
+-- the next command of a list, its reply after the replies before
 pub run_next : (s mid s' : State) (cs : List Command) (i : ℕ) (d : Command) (replies now : List Reply) (reply : Reply) → i < length cs
     → Run s (take i cs) (said_in replies) mid
     → Step mid (slice_index_or cs i d) reply.answer reply.told.items s' → now ≡ replies ++ reply ∷ [] → Run s (take (i + 1) cs) (said_in now) s'
@@ -32,7 +32,7 @@ run_next s mid s' cs i d replies now reply below run step is =
     coe 0 1 (k. Run s (sym commands k) (sym says k) s')
     (run_snoc s mid s' (take i cs) (said_in replies) (slice_index_or cs i d) reply.answer reply.told.items run step)
 
--- where no command is left, all ran
+-- if no command is left, all ran
 pub run_whole : (s s' : State) (cs : List Command) (i : ℕ) (rs : List (Answer × Told)) → length cs ≤ i → Run s (take i cs) rs s' → Run s cs rs s'
 run_whole s s' cs i rs past run = subst (λ (xs : List Command). Run s xs rs s') (take_all i cs past) run
 

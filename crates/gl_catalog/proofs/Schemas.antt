@@ -19,7 +19,7 @@ use Rattle.gl_catalog.specs.Manager.{ManagerView, state_of}
 use Rattle.gl_catalog.specs.Replies.{CallSteps, Notices, done}
 use Rattle.gl_catalog.proofs.Carried.{accepted_step}
 
--- where an index is to stand
+-- the tests of an index's place
 abbrev pub places : Graph → List NodeId → NodeId → List (Option Refusal)
 places g ps f = some_no_node g (ps ++ f ∷ []) ∷ where_true (bad_index_place g ps f) no.BadParents ∷ []
 

@@ -1,4 +1,4 @@
--- What a grant leaves of the way to a write: each node below the granted one wants the parent that it wanted. For Manager.lock_path_telling.
+-- What a grant leaves of a writer's path: each node below the granted one needs the parent that it needed. For Manager.lock_path_telling.
 use Rattle.std.specs.Prelude.{◌≡◌, Bool, true, false, not, ◌&&◌, ◌||◌, List, [], ◌∷◌, ◌++◌, Option, Some, None, if◌then◌else◌}
 use Rattle.std.specs.List.{list_all, list_any}
 use Rattle.std.proofs.Common.{refl, sym, ap, ◌∙◌, subst}
@@ -29,7 +29,7 @@ use Rattle.gl_catalog.proofs.KeptWays.{next_last}
 use Rattle.gl_steps.proofs.OneStep.{AllNone, all_none}
 use Rattle.gl_catalog.proofs.OwnGrants.{GrantsOwn}
 
--- To write, the rule of the graph misses the first parent that is not held to write.
+-- To write, the rule of the graph lacks the first parent that is not held to write.
 module _ (held : NodeId → Mode) where
   held_or_first : (ps : List NodeId) → (if list_all (λ p. is_at_least (held p) IX) ps then None else first_not_ix held ps) ≡ first_not_ix held ps
   held_or_first [] = refl
@@ -93,7 +93,7 @@ intends_write m write = ap (λ b. is_write (if b then IX else IS)) write
 still_write : (a m : Mode) → is_write m ≡ true → is_write (supremum a m) ≡ true
 still_write a m write = at_least-transitive (supremum a m) m IX (supremum-above_right a m) write
 
--- Ways in the graph.
+-- Routes in the graph.
 module _ (g : Graph) where
   route_join : (n : NodeId) (way : List NodeId) (m : NodeId) (more : List NodeId) (x : NodeId) → IsRoute g n way m → IsRoute g m more x
       → IsRoute g n (way ++ more) x
@@ -133,7 +133,7 @@ module _ (s s' : State) (law : IsLawful s) (t : TxnId) (x : NodeId) (own : Grant
         ),
       )
 
-  -- an ask to write for another node wants the parent that it wanted, where that is another too
+  -- a request to write for another node needs the parent that it needed, if that is another too
   wanted_still : (ask : Ask) (q : NodeId) → is_write ask.1 ≡ true → same_node ask.0 x ≡ false → same_node q x ≡ false → parent_wanted s t ask ≡ Some q
       → parent_wanted s' t ask ≡ Some q
   wanted_still ask q write other off h = wanted_by_rule s' t ask (tests_pass ask.0 ask.1 free) ∙ ap parent_missed now ∙ still
@@ -170,7 +170,7 @@ module _ (s s' : State) (law : IsLawful s) (t : TxnId) (x : NodeId) (own : Grant
         climb_still (p, intention a.1) way b q more (intends_write a.1 write) h.1 k,
       )
 
-  -- the way to the last
+  -- the route to the last
   route_up : (ask : Ask) (ps : List NodeId) → IsWay s t ask (ps ++ x ∷ []) → (q : NodeId) × (more : List NodeId) × IsRoute g ask.0 (q ∷ more) x
   route_up ask [] h = (h.0.0, h.0.1, climb_route s t ask (h.0.0 ∷ h.0.1) (x, intention ask.1) h.0.2)
   route_up ask (p ∷ ps) h =

@@ -1,4 +1,4 @@
--- A step adds nothing to the counters where the count of accepted commands stays.
+-- A step adds nothing to the counters if the count of accepted commands stays.
 use Rattle.std.specs.Prelude.{◌≡◌, [], max}
 use Rattle.gl_modes.specs.declared.refusal.Refusal.{Refusal}
 use Rattle.gl_model.specs.State.{State}

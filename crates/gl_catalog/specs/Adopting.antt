@@ -1,4 +1,4 @@
--- A row is adopted and locked in one call: why that is refused, and what it is.
+-- Adopting and locking a row in one call: its refusals and its effect.
 use Rattle.std.specs.Prelude.{◌≡◌, ℕ, ◌+◌, ◌-◌, not, ◌||◌, nat_lt, List, [], ◌∷◌, ◌++◌, Option}
 use denote.Bor.{Bor}
 use Rattle.gl_modes.specs.declared.mode.Mode.{Mode}
@@ -22,11 +22,11 @@ use Rattle.gl_steps.specs.Step.{Step}
 abbrev pub worn_twice : State → Option Refusal
 worn_twice s = where_true (nat_lt (max_count - 2) s.accepted) no.WornOut
 
--- a mode that a record does not take
+-- a mode in which no record is locked
 abbrev pub no_record_mode : Mode → Option Refusal
 no_record_mode m = where_true (not (same_mode m S || same_mode m X)) no.BadMode
 
--- why a row is not adopted and locked, want of memory aside: two commands cannot be counted; then the tests of the transaction, the record and the lock
+-- why a row is not adopted and locked, lack of memory aside: two commands cannot be counted; then the tests of the transaction, the record and the lock
 abbrev pub adopting_tests : State → TxnId → NodeId → List ℕ → Mode → List (Option Refusal)
 adopting_tests s t f keys m =
     worn_twice s ∷ commit_tests s t

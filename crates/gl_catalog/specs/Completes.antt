@@ -1,4 +1,4 @@
--- What a call of the manager does beside its step, where it is not refused.
+-- What a call of the manager does besides its step, if it is not refused.
 use Rattle.std.specs.Prelude.{◌≡◌, ◌+◌}
 use Rattle.gl_steps.specs.declared.command.Answer.{Answer}
 use Rattle.gl_steps.specs.declared.command.Command.{Command}
@@ -10,8 +10,7 @@ use Rattle.gl_catalog.specs.Replies.{Says}
 use Rattle.gl_steps.specs.Step.{Step}
 use Rattle.gl_model.specs.Tellings.{Told}
 
--- a command that was answered so is accepted once and counted, keeps of deadlocks what it is to keep, and leaves its caller, all others and those on
--- no cycle what it is to leave them
+-- a command with this answer is accepted once and counted, records deadlocks, and leaves its caller, all others and those on no cycle what it promises
 pub record Completes (c : Command) (m : ManagerView) (r : Says) (m' : ManagerView) : Type 0 where
   pub accepted : m'.accepted ≡ m.accepted + 1
   pub counters : m'.counters ≡ counted (state_of m) c r.0 r.1 (state_of m') m.counters
@@ -20,7 +19,7 @@ pub record Completes (c : Command) (m : ManagerView) (r : Says) (m' : ManagerVie
   pub others : StepLeavesOthers (state_of m) c r (state_of m')
   pub settles : SettlesIdle (state_of m) c r.0 r.1 (state_of m')
 
--- a command was answered so: it is a step, keeps of deadlocks what it is to keep, and is counted; where none more was accepted, nothing changed
+-- a command had this answer: it is a step, records deadlocks as it must, and is counted; if no more were accepted, nothing changed
 pub record IsCarriedOut (m : ManagerView) (c : Command) (a : Answer) (told : Told) (m' : ManagerView) : Type 0 where
   pub step : Step (state_of m) c a told (state_of m')
   pub deadlock : KeepsDeadlock c m a m'

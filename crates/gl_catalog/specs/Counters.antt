@@ -1,4 +1,4 @@
--- What a manager counts: what each command adds to its counters (own).
+-- What a manager counts: what each command adds to its counters.
 use Rattle.std.specs.Prelude.{ℕ, ◌+◌, ◌-◌, Bool, true, false, not, ◌&&◌, length, max, min, if◌then◌else◌}
 use Rattle.std.specs.List.{count_by}
 use Rattle.gl_modes.specs.declared.mode.Mode.{Mode}
@@ -20,7 +20,7 @@ use Rattle.gl_steps.specs.declared.command.Command.{Command}
 use Rattle.gl_steps.specs.declared.command.Command.TheVariants as command
 use Rattle.gl_catalog.specs.declared.counters.Counters.{Counters}
 
--- a manager that was just made has counted nothing
+-- the counters of a new manager
 abbrev pub no_counts : Counters
 no_counts =
     record {
@@ -38,11 +38,11 @@ no_counts =
       longest_queue = 0;
     }
 
--- a count that rises by so many, or by as many as there is room for: it stops at the greatest count
+-- a count raised by so many, up to the greatest count
 abbrev pub rises : ℕ → ℕ → ℕ
 rises k n = k + min n (max_count - k)
 
--- one, or none
+-- one if true, else none
 abbrev pub one_if : Bool → ℕ
 one_if true = 1
 one_if false = 0
@@ -52,12 +52,12 @@ abbrev pub grants : Answer → Bool
 grants (answer.Granted m) = true
 grants a = false
 
--- the answer leaves its asker waiting
+-- the answer leaves its requester waiting
 abbrev pub waits : Answer → Bool
 waits answer.Waiting = true
 waits a = false
 
--- the answer condemns its asker
+-- the answer condemns its requester
 abbrev pub condemns : Answer → Bool
 condemns answer.Victim = true
 condemns a = false
@@ -67,30 +67,30 @@ abbrev pub refuses : Answer → Bool
 refuses (answer.Refused r) = true
 refuses a = false
 
--- t lives, and holds n
+-- t lives and holds n
 abbrev pub holds_already : State → TxnId → NodeId → Bool
 holds_already s t n = lives s t && holds (members s n) t.slot
 
--- a lock or a try of a node that its transaction holds already, which asks for another mode there
+-- a request by lock or try for a node that its transaction already holds
 abbrev pub converts : State → Command → Bool
 converts s (command.Lock t n m) = holds_already s t n
 converts s (command.Try t n m) = holds_already s t n
 converts s c = false
 
--- where a node is held in one mode and then in another, and somebody waits for it behind that
+-- a node was held in one mode and then in another, and then a transaction waits for it
 abbrev pub raise_passes : State → NodeId → Mode → Mode → Bool
 raise_passes s n before after = not (same_mode before NL) && not (same_mode after before) && not (is_empty (s.queue n))
 
--- the same of a lock that came to this, by the mode in which the node was held before
+-- the same for a lock with this answer, by the mode held before
 abbrev pub lock_passes : State → NodeId → Mode → Locked → Bool
 lock_passes s n before (locked.Granted m) = raise_passes s n before m
 lock_passes s n before x = false
 
--- t lives, held n, and holds it in another mode behind a command that left the second state, in which somebody waits for n
+-- t lives, held n, and holds it in another mode after a command that left s', in which a transaction waits for n
 abbrev pub passes_at : State → TxnId → NodeId → State → Bool
 passes_at s t n s' = lives s t && raise_passes s' n (s.held t.slot n) (s'.held t.slot n)
 
--- a lock, a try or an escalation by which its transaction holds the node in another mode than before, while somebody still waits for it
+-- a lock, a try or an escalation that changes the mode of a held node for which a transaction still waits
 abbrev pub passes : State → Command → State → Bool
 passes s (command.Lock t n m) s' = passes_at s t n s'
 passes s (command.Try t n m) s' = passes_at s t n s'
@@ -112,7 +112,7 @@ abbrev pub is_grant : TxnId × Notice → Bool
 is_grant (t, notice.Granted n m) = true
 is_grant (t, x) = false
 
--- it tells of being condemned
+-- it tells of a condemnation
 abbrev pub is_victim : TxnId × Notice → Bool
 is_victim (t, notice.Victim) = true
 is_victim (t, x) = false
@@ -131,14 +131,13 @@ is_gone (t, x) = false
 abbrev pub waiting_in : State → ℕ
 waiting_in s = count_by (λ t. is_wait (status_of s t)) (slots s)
 
--- how long the queue is of the node that a lock asks for
+-- the length of the queue of the node that a lock requests
 abbrev pub queue_asked : Command → State → ℕ
 queue_asked (command.Lock t n m) s = length (s.queue n)
 queue_asked c s = 0
 
--- the law of a step: the counters after a command in state s that was answered a, told these and left s', where they were k before. A refusal adds
--- nothing. Notices of grants are of asks that waited, so granted does not count them; a victim is one who was told so or one whose own lock was
--- answered so.
+-- the law of a step: the counters after a command in state s that was answered a, told these and left s', if they were k before. A refusal adds nothing.
+-- Notices of grants are of requests that waited, so `granted` does not count them; a victim was told so by a notice or by the answer to its own lock.
 abbrev pub counted : State → Command → Answer → Told → State → Counters → Counters
 counted s c a told' s' k =
     record {
@@ -173,8 +172,7 @@ with_notices told' k =
       gone = rises k.gone (count_by is_gone told');
     }
 
--- the counters after a lock of n in which state s was left, that was answered a and told these; it converts where its transaction held n before, and
--- may pass somebody who waits
+-- the counters after a lock of n that left state s, was answered a and told these; it converts if its transaction held n before, and may pass a waiter
 abbrev pub lock_counted : State → NodeId → Bool → Bool → Answer → Told → Counters → Counters
 lock_counted s n converts' passes' a told' k =
     record k {

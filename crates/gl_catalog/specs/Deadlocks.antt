@@ -1,4 +1,4 @@
--- What a command keeps of deadlocks.
+-- What a command records of deadlocks.
 use Rattle.std.specs.Prelude.{◌≡◌}
 use Rattle.gl_model.specs.declared.deadlock.Deadlock.{Deadlock}
 use Rattle.gl_model.specs.Deadlocks.{LocksKeeping, SettlesKeeping}
@@ -9,7 +9,7 @@ use Rattle.gl_steps.specs.declared.command.Command.{Command}
 use Rattle.gl_steps.specs.declared.command.Command.TheVariants as command
 use Rattle.gl_catalog.specs.Manager.{ManagerView, state_of}
 
--- a command that is not refused: a lock and a settle keep the last deadlock that they end, every other what was kept before
+-- a command that is not refused: a lock and a settle record the last deadlock that they end; all else keeps the recorded one
 abbrev pub Keeps : State → Command → Deadlock → State → Deadlock → Type 0
 Keeps s (command.Lock t n m) d s' d' = LocksKeeping s t.slot n m d s' d'
 Keeps s (command.Settle t) d s' d' = SettlesKeeping s.victims s t.slot d s' d'
@@ -19,7 +19,7 @@ Keeps s c d s' d' = d' ≡ d
 abbrev pub KeepsAccepted : Command → ManagerView → ManagerView → Type 0
 KeepsAccepted c v v' = Keeps (state_of v) c v.table.deadlock (counting v.accepted (state_of v')) v'.table.deadlock
 
--- with its answer: a refused command keeps what was kept before
+-- the same by its answer: a refused command keeps the recorded deadlock
 abbrev pub KeptBy : Command → State → Deadlock → Answer → State → Deadlock → Type 0
 KeptBy c s d (answer.Refused r) s' d' = d' ≡ d
 KeptBy c s d a s' d' = Keeps s c d (counting s.accepted s') d'

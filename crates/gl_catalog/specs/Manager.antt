@@ -1,4 +1,4 @@
--- What a contract sees of a manager, the state of the model that it stands for, and what holds of every manager.
+-- What a contract sees of a manager, its state of the model, and what holds of every manager.
 use Rattle.gl_slots.specs.Limit.{most_slots}
 use Rattle.std.specs.Prelude.{◌≡◌, ◌≤◌, ℕ}
 use Rattle.gl_model.specs.declared.answers.Detect.TheVariants.{AtBlock}
@@ -8,19 +8,17 @@ use Rattle.gl_model.specs.State.{State, HasNoCycle, counting}
 use Rattle.gl_table.specs.Table.{ListsAgree, StandOnce, TableView, state_of as table_state}
 use Rattle.gl_catalog.specs.declared.counters.Counters.{Counters}
 
--- a manager: its table, how many commands were accepted, and what else is counted
+-- a manager: its table, how many commands were accepted, and counters
 pub record ManagerView : Type 0 where
   pub table : TableView
   pub accepted : ℕ
   pub counters : Counters
 
--- the state that it stands for
+-- its state of the model
 abbrev pub state_of : ManagerView → State
 state_of m = counting m.accepted (table_state m.table)
 
--- what holds of every manager: the state is lawful; a header stands exactly where somebody holds or waits, its group the supremum of the grants; the
--- lists agree; no node has two headers, or stands twice in a list; nobody conflicts; with detection at block nobody is on a cycle of waits; and no
--- slot is past those of a board
+-- what holds of every manager: a lawful state, headers and lists that agree and name no node twice, no conflict, at block no cycle, and slots within a board
 pub record IsLawfulManager (m : ManagerView) : Type 0 where
   pub lawful : IsLawful (state_of m)
   pub headers : AreHeaders m.table.headers

@@ -1,4 +1,4 @@
--- Paths: locks on a node with what the rule of the graph wants above it.
+-- Paths: locks on a node with those that the rule of the graph needs above it.
 use Rattle.std.specs.Prelude.{◌≡◌, ℕ, zero, suc, Bool, true, false, not, ◌&&◌, List, [], ◌∷◌, Option, Some, None, Result, IfOk, if◌then◌else◌, length}
 use Rattle.std.specs.Prelude.{◌==◌, ◌++◌}
 use Rattle.gl_modes.specs.declared.mode.Mode.{Mode}
@@ -23,69 +23,69 @@ use Rattle.gl_catalog.specs.Replies.{Says, asking, said}
 use Rattle.gl_steps.specs.Step.{Step}
 use Rattle.gl_steps.specs.Tests.{refusal_of, worn}
 
--- a node, and the mode asked for on it
+-- a node and the requested mode
 abbrev pub Ask : Type 0
 Ask = NodeId × Mode
 
--- the intention that a mode wants on parents (1976): IX to write, IS to read
+-- the intention that a mode needs on parents: IX to write, IS to read
 abbrev pub intention : Mode → Mode
 intention m = if is_write m then IX else IS
 
--- the lock that an ask is
+-- the lock command of a request
 abbrev pub lock_of : TxnId → Ask → Command
 lock_of t ask = command.Lock t ask.0 ask.1
 
--- the parent for want of which it is refused
+-- the parent for lack of which a lock is refused
 abbrev pub missing_parent : Refusal → Option NodeId
 missing_parent (no.NeedParents p) = Some p
 missing_parent r = None
 
--- the same where it may be refused
+-- the same for a lock that may be refused
 abbrev pub parent_missed : Option Refusal → Option NodeId
 parent_missed (Some r) = missing_parent r
 parent_missed None = None
 
--- the parent that an ask wants locked first: that for want of which its lock is refused
+-- the parent that a request needs first: the one for lack of which its lock is refused
 abbrev pub parent_wanted : State → TxnId → Ask → Option NodeId
 parent_wanted s t ask = parent_missed (refusal_of s (lock_of t ask))
 
--- from one ask up to another: each next one is the intention on the parent that the one before wants
+-- from one request up to another: each next one is the intention on the parent that the one before needs
 abbrev pub ClimbsTo : State → TxnId → Ask → List NodeId → Ask → Type 0
 ClimbsTo s t ask [] top = top ≡ ask
 ClimbsTo s t ask (p ∷ way) top = (parent_wanted s t ask ≡ Some p) × ClimbsTo s t (p, intention ask.1) way top
 
--- the ask that comes first on the way to another: the climb to it ends there, since it wants no parent
+-- the first request on the path to another: the climb to it ends there, since it needs no parent
 pub record ComesFirst (s : State) (t : TxnId) (ask first : Ask) : Type 0 where
   pub climb : (way : List NodeId) × ClimbsTo s t ask way first
   pub top : parent_wanted s t first ≡ None
 
--- one ask of a path: it comes first in the state that it finds, and is a step; refused, it changes nothing
+-- one request of a path: the first one in this state, and a step; refused, it changes nothing
 pub record AsksFirst (t : TxnId) (ask : Ask) (m : ManagerView) (first : Ask) (r : Says) (m' : ManagerView) : Type 0 where
   pub comes_first : ComesFirst (state_of m) t ask first
   pub step : Step (state_of m) (lock_of t first) r.0 r.1 (state_of m')
   pub completes : refuses r.0 ≡ false → Completes (lock_of t first) m r m'
   pub unchanged : refuses r.0 ≡ true → m' ≡ m
 
--- behind an ask a path to this node goes on: it was granted above the node, and nobody is to be told
+-- after a request a path to this node continues: it was granted above the node, and told nobody
 abbrev pub goes_on : NodeId → NodeId → Says → Bool
 goes_on node asked r = grants r.0 && (length r.1 == 0) && not (same_node asked node)
 
--- a path with so many asks behind which it goes on, and its last one
+-- a path with so many requests after which it continues, and its last one
 abbrev pub IsPath : ℕ → TxnId → Ask → ManagerView → Ask → Says → ManagerView → Type 0
 IsPath zero t ask m last r m' = AsksFirst t ask m last r m' × (goes_on ask.0 last.0 r ≡ false)
 IsPath (suc k) t ask m last r m' =
     (first : Ask) × (granted : Says) × (mid : ManagerView) × AsksFirst t ask m first granted mid × (goes_on ask.0 first.0 granted ≡ true)
     × IsPath k t ask mid last r m'
 
--- what the last ask of a path came to, and who is told
+-- the answer to a path's last request, and the notices
 abbrev pub reaching : Told → Reached → Says
 reaching told x = asking told x.locked
 
--- a call that makes the first ask of a path
+-- a call that makes the first request of a path
 abbrev pub AsksOnce : TxnId → Ask → ManagerView → Told → Result Reached Refusal → ManagerView → Type 0
 AsksOnce t ask m told result m' = (first : Ask) × AsksFirst t ask m first (said (reaching told) result) m' × IfOk result (λ x. x.node ≡ first.0)
 
--- a call that asks along a path, to its end
+-- a call that makes the requests of a path to its end
 abbrev pub LocksPath : TxnId → Ask → ManagerView → Told → Result Reached Refusal → ManagerView → Type 0
 LocksPath t ask m told result m' = (k : ℕ) × (last : Ask) × IsPath k t ask m last (said (reaching told) result) m' × IfOk result (λ x. x.node ≡ last.0)
 
@@ -98,28 +98,28 @@ pub record PathLeaves (s : State) (r : Says) (s' : State) (t : TxnId) : Type 0 w
 abbrev pub LeavesAllBut : TxnId → State → Says → State → Type 0
 LeavesAllBut t s r s' = (u : TxnId) → lives s u ≡ true → same_txn u t ≡ false → PathLeaves s r s' u
 
--- the ask that is next: for the last of the nodes above that a path keeps, or for its own node
+-- the next request: for the last of the nodes above that a path keeps, or for its own node
 abbrev pub next_ask : Ask → List NodeId → Ask
 next_ask ask [] = ask
 next_ask ask (p ∷ ps) = next_ask (p, intention ask.1) ps
 
--- from one ask up to another, by a step at least
+-- from one request up to another, in a step at least
 abbrev pub ClimbsUp : State → TxnId → Ask → Ask → Type 0
 ClimbsUp s t ask top = (p : NodeId) × (way : List NodeId) × ClimbsTo s t ask (p ∷ way) top
 
--- nodes above an ask, upwards: each is climbed up to from the one before
+-- nodes above a request, upwards: each is climbed up to from the one before
 abbrev pub IsWay : State → TxnId → Ask → List NodeId → Type 0
 IsWay s t ask [] = Unit {0}
 IsWay s t ask (p ∷ ps) = ClimbsUp s t ask (p, intention ask.1) × IsWay s t (p, intention ask.1) ps
 
--- so it is with the nodes that a path keeps, where a command can still be counted
+-- the nodes that a path keeps are such nodes, if a command can still be counted
 abbrev pub KeepsWay : State → TxnId → Ask → List NodeId → Type 0
 KeepsWay s t ask above = worn s ≡ None → IsWay s t ask above
 
--- and, on the way to write, with those below the last
+-- and so are, to write, those below the last
 abbrev pub KeepsBelow : State → TxnId → Ask → List NodeId → Type 0
 KeepsBelow s t ask above = (below : List NodeId) (last : NodeId) → above ≡ below ++ last ∷ [] → is_write ask.1 ≡ true → KeepsWay s t ask below
 
--- the tests of a lock that speak of no parents
+-- the tests of a lock without those of parents
 abbrev pub path_tests : State → TxnId → NodeId → Mode → List (Option Refusal)
 path_tests s t n m = worn s ∷ active_on s t (n ∷ []) ++ bad_mode s n m ∷ []

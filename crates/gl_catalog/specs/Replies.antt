@@ -1,4 +1,4 @@
--- What the calls of the manager answer, in the words of commands and replies.
+-- What the calls of the manager answer, as answers to commands.
 use Rattle.std.specs.Prelude.{List, [], Option, Some, None, Result, Ok, Err, map}
 use Rattle.arrayvec.specs.ArrayVec.{ArrayVec}
 use Rattle.gl_modes.specs.declared.mode.Mode.{Mode}
@@ -19,7 +19,7 @@ use Rattle.gl_steps.specs.declared.command.Escalated.{Escalated}
 use Rattle.gl_steps.specs.declared.command.Reply.{Reply}
 use Rattle.gl_steps.specs.Step.{Step, answer_of_lock}
 
--- an answer, and who is told what
+-- an answer and its notices
 abbrev pub Says : Type 0
 Says = Answer × Told
 
@@ -35,11 +35,11 @@ made n = (answer.Node n, [])
 abbrev pub began : TxnId → Says
 began t = (answer.Begun t, [])
 
--- it was done, and these are told
+-- the command was done, with these notices
 abbrev pub doing : Told → Unit {0} → Says
 doing told u = (answer.Done, told)
 
--- the same of a call that answers the list
+-- the same for a call that answers the list
 abbrev pub done : Notices → Says
 done told = doing told.items tt
 
@@ -47,27 +47,27 @@ done told = doing told.items tt
 abbrev pub took : Mode → Says
 took m = (answer.Granted m, [])
 
--- a lock was asked for, and these are told
+-- a lock was requested, with these notices
 abbrev pub asking : Told → Locked → Says
 asking told x = (answer_of_lock x, told)
 
--- an escalation was done, and these are told
+-- an escalation was done, with these notices
 abbrev pub rising : Told → Escalated → Says
 rising told x = (answer.Escalated x, told)
 
--- the same of a call that answers the list
+-- the same for a call that answers the list
 abbrev pub rose : Escalated × Notices → Says
 rose x = rising x.1.items x.0
 
--- a mode was asked after
+-- a mode was queried
 abbrev pub read_mode : Mode → Says
 read_mode m = (answer.Mode m, [])
 
--- an effective mode was asked after
+-- an effective mode was queried
 abbrev pub read_effect : Effect → Says
 read_effect e = (answer.Effect e, [])
 
--- what is said where a call may be refused
+-- the answer of a call that may be refused
 abbrev pub said : {A : Type 0} → (A → Says) → Result A Refusal → Says
 said says (Ok x) = says x
 said says (Err r) = (answer.Refused r, [])
@@ -76,11 +76,11 @@ said says (Err r) = (answer.Refused r, [])
 abbrev pub CallSteps : {A : Type 0} → State → Command → (A → Says) → Result A Refusal → State → Type 0
 CallSteps s c says result s' = Step s c (said says result).0 (said says result).1 s'
 
--- what is waited for, and the wanted mode
+-- the awaited node and the wanted mode
 abbrev pub wait_of : Option Status → Option (NodeId × Mode)
 wait_of (Some (Waiting n m)) = Some (n, m)
 wait_of o = None
 
--- what a list of replies says
+-- the answers and notices of a list of replies
 abbrev pub said_in : List Reply → List Says
 said_in replies = map (λ r. (r.answer, r.told.items)) replies

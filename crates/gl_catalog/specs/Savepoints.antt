@@ -1,4 +1,4 @@
--- A transaction goes back to a savepoint: what it has locked since is unlocked again (own).
+-- A transaction rolls back to a savepoint: what it has locked since is unlocked.
 use Rattle.std.specs.Prelude.{◌≡◌, ℕ, ◌-◌, nat_lt, List, [], ◌∷◌, ◌++◌, length, map, Option, None}
 use Rattle.std.specs.List.{All}
 use Rattle.gl_modes.specs.declared.node.NodeId.{NodeId}
@@ -18,20 +18,19 @@ use Rattle.gl_catalog.specs.Manager.{ManagerView, state_of}
 use Rattle.gl_catalog.specs.Paths.{LeavesAllBut}
 use Rattle.gl_catalog.specs.Replies.{Says, doing}
 
--- so many commands cannot be counted any more
+-- so many more commands cannot be counted
 abbrev pub worn_for : State → ℕ → Option Refusal
 worn_for s k = where_true (nat_lt (max_count - s.accepted) k) no.WornOut
 
--- how many locks a transaction has had since it had so many
+-- how many locks a transaction has from a mark on
 abbrev pub count_since : ManagerView → ℕ → ℕ → ℕ
 count_since m t mark = length (nodes_of m.table t) - mark
 
--- why one does not go back: it is not active, or a command cannot be counted for each lock since the mark
+-- why a rollback is refused: the transaction is not active, or a command cannot be counted for each lock since the mark
 abbrev pub back_tests : ManagerView → TxnId → ℕ → List (Option Refusal)
 back_tests m t mark = commit_tests (state_of m) t ++ worn_for (state_of m) (count_since m t.slot mark) ∷ []
 
--- t, against which no test stands, goes back to a mark and releases so many nodes: each by a command that unlocks it, and together they tell these; each
--- of them is counted, the last deadlock stays, and all others are left what a command of t leaves them
+-- t passes the tests and rolls back to a mark by so many unlocks, which together tell these; they are counted, and leave others what a command of t leaves them
 pub record TakesBack (t : TxnId) (mark k : ℕ) (m : ManagerView) (told' : Told) (m' : ManagerView) : Type 0 where
   pub tests : first_refusal (back_tests m t mark) ≡ None
   pub nodes : List NodeId

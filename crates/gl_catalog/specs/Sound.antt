@@ -1,4 +1,4 @@
--- What a contract sees of a manager's fields, and what holds of them always.
+-- What a contract sees of a manager's fields, and what always holds of them.
 use Rattle.gl_catalog.specs.declared.manager.Manager.TheInside.{Inside}
 use Rattle.gl_catalog.specs.Manager.{IsLawfulManager, ManagerView}
 

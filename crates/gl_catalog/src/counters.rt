@@ -1,4 +1,4 @@
-//! What a manager has been doing, in numbers.
+//! The counters of a manager.
 
 ghost use Rattle.std.specs.Prelude.{◌≡◌, max};
 ghost use Rattle.gl_catalog.specs.Counters.{condemns, grants, one_if, rises, waits, with_notice, with_notices};
@@ -6,44 +6,42 @@ ghost use Rattle.gl_steps.specs.Step.{answer_of_lock};
 
 use gl_table::{Locked, Notice, TxnId};
 
-/// What a manager has been doing since it was made, in commands that it accepted. Each is a count that
-/// stops at the greatest `u64`.
+/// What a manager has done since it was made, in accepted commands. Each count stops at the
+/// greatest `u64`.
 #[derive(Clone, Copy, PartialEq, Eq, Debug, Default)]
 pub struct Counters {
-    /// Asks, by lock or by try, that were answered with a mode.
+    /// Requests, by lock or by try, that were answered with a mode.
     pub granted: u64,
     /// Locks that were answered with a wait.
     pub waited: u64,
-    /// Asks, by lock or by try, of a node that the transaction held already, where they were not
-    /// refused.
+    /// Requests, by lock or by try, for a node that the transaction already held, if not refused.
     pub conversions: u64,
-    /// Asks of a node that the transaction held already, and escalations, that raised the mode in
-    /// which it holds the node while somebody still waits for the node: they passed whoever waits.
+    /// Requests for a node that the transaction already held, and escalations, that raised its mode
+    /// there while a transaction still waits for the node: they passed all its waiters.
     pub passed: u64,
     /// Waits that ended with a grant.
     pub granted_later: u64,
-    /// Transactions that were condemned to end a deadlock, whether they were told so or their own
-    /// lock was answered so.
+    /// Transactions condemned to end a deadlock, told so by a notice or by the answer to their own
+    /// lock.
     pub victims: u64,
-    /// Waits that ended since the node moved.
+    /// Waits that ended because the node moved.
     pub moved: u64,
-    /// Waits that ended since the node is gone.
+    /// Waits that ended because the node is gone.
     pub gone: u64,
     /// Escalations that were done.
     pub escalations: u64,
     /// Children that escalations released.
     pub released_children: u64,
-    /// The most transactions that waited at once. It is looked at whenever a lock is answered with a
-    /// wait.
+    /// The most transactions that waited at once, read whenever a lock is answered with a wait.
     pub most_waiting: u64,
-    /// The most transactions that waited for one node at once. It is looked at whenever a lock is
-    /// answered with a wait, on its node.
+    /// The most transactions that waited for one node at once, read for a lock's node whenever the
+    /// lock is answered with a wait.
     pub longest_queue: u64,
 }
 
 impl Counters {
-    /// With what one lock came to. `converts` says whether its transaction held the node already, and
-    /// `passes` whether it passed somebody who waits.
+    /// Adds a lock's answer. `converts` says whether its transaction already held the node, and
+    /// `passes` whether the lock passed a waiter.
     pub(crate) fn add_lock(&mut self, converts: bool, passes: bool, locked: Locked)
         ensures { self.new ≡ record self.old {
           granted = rises self.old.granted (one_if (grants (answer_of_lock locked)));
@@ -61,7 +59,7 @@ impl Counters {
         self.add_conversion(converts, passes);
     }
 
-    /// With one try that was granted.
+    /// Adds a try that was granted.
     pub(crate) fn add_grant(&mut self, converts: bool, passes: bool)
         ensures { self.new ≡ record self.old {
           granted = rises self.old.granted 1;
@@ -73,7 +71,7 @@ impl Counters {
         self.add_conversion(converts, passes);
     }
 
-    /// With an ask, if it was a conversion, and if it passed somebody who waits.
+    /// Adds a request to the conversions and to those that passed a waiter, if it was one.
     fn add_conversion(&mut self, converts: bool, passes: bool)
         ensures { self.new ≡ record self.old {
           conversions = rises self.old.conversions (one_if converts);
@@ -88,8 +86,7 @@ impl Counters {
         }
     }
 
-    /// With one escalation that released so many children. `passes` says whether it passed somebody who
-    /// waits.
+    /// Adds an escalation that released so many children. `passes` says whether it passed a waiter.
     pub(crate) fn add_escalation(&mut self, passes: bool, released: u32)
         ensures { self.new ≡ record self.old {
           passed = rises self.old.passed (one_if passes);
@@ -104,7 +101,7 @@ impl Counters {
         raise(&mut self.released_children, u64::from(released));
     }
 
-    /// With so many that were seen to wait at once, and so many for one node.
+    /// Adds how many were seen to wait at once, and how many for one node.
     pub(crate) fn add_waits(&mut self, waiting: u64, queued: u64)
         ensures { self.new ≡ record self.old { most_waiting = max self.old.most_waiting waiting; longest_queue = max self.old.longest_queue queued } }
     {
@@ -112,7 +109,7 @@ impl Counters {
         self.longest_queue = self.longest_queue.max(queued);
     }
 
-    /// With the notices of one command.
+    /// Adds the notices of one command.
     pub(crate) fn add_notices(&mut self, told: &[(TxnId, Notice)])
         ensures { self.new ≡ with_notices told.now self.old }
     {
@@ -121,7 +118,7 @@ impl Counters {
         }
     }
 
-    /// With one notice.
+    /// Adds one notice.
     fn add_notice(&mut self, notice: Notice)
         ensures { self.new ≡ with_notice notice self.old }
     {
@@ -134,7 +131,7 @@ impl Counters {
     }
 }
 
-/// Lets a count rise by so many, as far as there is room for.
+/// Raises a count by so many, up to the greatest `u64`.
 fn raise(count: &mut u64, more: u64)
     ensures { count.new ≡ rises count.old more }
 {

@@ -1,4 +1,4 @@
-//! The manager of locks: a table, the count of accepted commands, and what else is counted.
+//! The lock manager: a table, the count of accepted commands, and counters.
 
 ghost use Rattle.gl_slots.specs.Limit.{most_slots};
 ghost use Rattle.std.specs.Prelude.{◌≡◌, ◌≤◌, ◌^◌, ◌&&◌, ◌↔◌, [], IfErr, IfOk, IfSome, IsNone, None, Some, if◌then◌else◌};
@@ -35,8 +35,8 @@ mod schema;
 
 pub use paths::Reached;
 
-/// The lock manager of one thread: the table of locks, how many commands it has accepted, and what it
-/// has been doing.
+/// The lock manager of one thread: the table of locks, how many commands it has accepted, and
+/// counters.
 #[derive(Drop)]
 pub struct Manager {
     table: Table,
@@ -57,8 +57,8 @@ impl Model for Manager {
 }
 
 impl Manager {
-    /// A manager without nodes and transactions, for at most so many transactions at once. Of those in
-    /// a deadlock the youngest falls. The only refusal is `NoMemory`.
+    /// A manager without nodes and transactions, for at most `most` transactions at once, which
+    /// chooses victims by `Youngest`. The only refusal is `NoMemory`.
     pub fn new(alloc: Global, detect: Detect, most: usize) -> Result<Self, Refusal>
         requires some { 1 ≤ most }
         requires few { most ≤ most_slots }
@@ -70,7 +70,7 @@ impl Manager {
         Manager::choosing(alloc, detect, Victims::Youngest, most)
     }
 
-    /// As `new`, with a choice of whom a deadlock takes.
+    /// As `new`, with this choice of victims.
     pub fn choosing(
         alloc: Global,
         detect: Detect,
@@ -88,8 +88,8 @@ impl Manager {
         Ok(Manager::over(table))
     }
 
-    /// As `choosing`, with other limits: of the nodes that may live at once, at most 2^31, and of the
-    /// bounds of an index. They are 65,536 and 256 where none are chosen.
+    /// As `choosing`, with other limits: `nodes` may live at once, at most 2^31, and an index may
+    /// have `bounds` bounds. The defaults are 65,536 and 256.
     pub fn with_limits(
         alloc: Global,
         detect: Detect,
@@ -124,23 +124,22 @@ impl Manager {
         }
     }
 
-    /// The law of every manager, whatever commands it has carried out.
+    /// The law of every manager, after any commands.
     pub fn law(&self)
         ensures { IsLawfulManager self.now }
     {
         let _ = &self.accepted;
     }
 
-    /// How many commands were accepted: every command that changes something counts, where it was
-    /// not refused.
+    /// How many commands were accepted: those that are no query and were not refused.
     pub fn accepted(&self) -> u64
         ensures { result ≡ self.now.accepted }
     {
         self.accepted
     }
 
-    /// Who waits for whom at this moment; its epoch is the count of accepted commands. A board is three
-    /// kilobytes large, so it is made where the caller has it, and not inlined.
+    /// The waits-for snapshot of this moment; its epoch is the count of accepted commands. A board
+    /// has three kilobytes, so it is made where the caller keeps it, and not inlined.
     #[inline(never)]
     pub fn board(&self) -> Board
         ensures { result ≡ board_of (state_of self.now) }
@@ -148,22 +147,22 @@ impl Manager {
         self.table.board(self.accepted)
     }
 
-    /// How deadlocks are found.
+    /// How deadlocks are detected.
     pub fn detect(&self) -> Detect
         ensures { result ≡ self.now.table.detect }
     {
         self.table.detect()
     }
 
-    /// Whom a deadlock takes.
+    /// How victims are chosen.
     pub fn victims(&self) -> Victims
         ensures { result ≡ self.now.table.victims }
     {
         self.table.victims()
     }
 
-    /// The deadlock of which the last victim fell, as it was when that was condemned; `None` where
-    /// none ever was. It takes no memory.
+    /// The deadlock of the last victim, as it was when that was condemned; `None` if none ever was.
+    /// Allocates no memory.
     pub fn last_deadlock(&self) -> Option<&Deadlock>
         ensures some { IfSome result (λ deadlock. deadlock.now ≡ self.now.table.deadlock) }
         ensures none { IsNone result ↔ (self.now.table.deadlock.cycle.items ≡ []) }
@@ -178,8 +177,8 @@ impl Manager {
         self.table.graph()
     }
 
-    /// The node that a transaction waits for, and the wanted mode; `None` where it does not live or
-    /// does not wait. It takes no memory.
+    /// The node that a transaction waits for, and the wanted mode; `None` if it does not live or
+    /// does not wait. Allocates no memory.
     pub fn waiting(&self, t: TxnId) -> Option<(NodeId, Mode)>
         ensures { result ≡ (if lives (state_of self.now) t then wait_of (status_of (state_of self.now) t.slot) else None) }
     {
@@ -189,23 +188,23 @@ impl Manager {
         }
     }
 
-    /// The mode in which a transaction holds a node, `NL` for none; `None` where it does not live. It
-    /// takes no memory.
+    /// The mode in which a transaction holds a node, `NL` for none; `None` if it does not live.
+    /// Allocates no memory.
     pub fn mode_on(&self, t: TxnId, n: NodeId) -> Option<Mode>
         ensures { result ≡ (if lives (state_of self.now) t then Some ((state_of self.now).held t.slot n) else None) }
     {
         self.table.mode(t, n)
     }
 
-    /// Whether nobody holds the node and nobody waits for it. It takes no memory.
+    /// Whether no transaction holds the node or waits for it. Allocates no memory.
     pub fn is_idle(&self, n: NodeId) -> bool
         ensures { result ≡ is_idle (state_of self.now) n }
     {
         self.table.is_idle(n)
     }
 
-    /// How many children of a node a transaction holds; `None` where it does not live or does not
-    /// hold the node. It takes no memory.
+    /// How many children of a node a transaction holds; `None` if it does not live or does not hold
+    /// the node. Allocates no memory.
     pub fn children(&self, t: TxnId, n: NodeId) -> Option<u32>
         ensures { result ≡ (if lives (state_of self.now) t && holds (members (state_of self.now) n) t.slot
             then Some (held_children (state_of self.now) t.slot n) else None) }

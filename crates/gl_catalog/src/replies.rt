@@ -1,5 +1,5 @@
-//! The answers to commands, by what calls come to. The notices of a call go with the answer, in a list
-//! of their own.
+//! The answers to commands, made from what calls return. A call's notices are in a list of their
+//! own.
 
 ghost use Rattle.std.specs.Prelude.{◌≡◌, []};
 ghost use Rattle.gl_steps.specs.Step.{answer_of_lock};
@@ -9,7 +9,7 @@ use gl_modes::{Mode, NodeId, Refusal};
 use gl_steps::{Answer, Escalated};
 use gl_table::{Effect, Locked, TxnId};
 
-/// A node was asked for.
+/// The answer to a command that makes a node.
 pub fn node_answer(outcome: Result<NodeId, Refusal>) -> Answer
     ensures { result ≡ (said made outcome).0 }
 {
@@ -19,7 +19,7 @@ pub fn node_answer(outcome: Result<NodeId, Refusal>) -> Answer
     }
 }
 
-/// A transaction was asked for.
+/// The answer to a begin.
 pub(crate) fn begun_answer(outcome: Result<TxnId, Refusal>) -> Answer
     ensures { result ≡ (said began outcome).0 }
 {
@@ -29,7 +29,7 @@ pub(crate) fn begun_answer(outcome: Result<TxnId, Refusal>) -> Answer
     }
 }
 
-/// A lock was asked for, and not refused.
+/// The answer to a lock that was not refused.
 pub fn answer_of_lock(locked: Locked) -> Answer
     ensures { result ≡ answer_of_lock locked }
 {
@@ -40,7 +40,7 @@ pub fn answer_of_lock(locked: Locked) -> Answer
     }
 }
 
-/// A lock was asked for.
+/// The answer to a lock.
 pub(crate) fn lock_answer(outcome: Result<Locked, Refusal>) -> Answer
     ensures { result ≡ (said (asking []) outcome).0 }
 {
@@ -50,7 +50,7 @@ pub(crate) fn lock_answer(outcome: Result<Locked, Refusal>) -> Answer
     }
 }
 
-/// A lock was tried.
+/// The answer to a try.
 pub(crate) fn try_answer(outcome: Result<Mode, Refusal>) -> Answer
     ensures { result ≡ (said took outcome).0 }
 {
@@ -60,7 +60,7 @@ pub(crate) fn try_answer(outcome: Result<Mode, Refusal>) -> Answer
     }
 }
 
-/// Something was to be done.
+/// The answer to a command that is done or refused.
 pub fn done_answer(outcome: Result<(), Refusal>) -> Answer
     ensures { result ≡ (said (doing []) outcome).0 }
 {
@@ -70,7 +70,7 @@ pub fn done_answer(outcome: Result<(), Refusal>) -> Answer
     }
 }
 
-/// An escalation was asked for.
+/// The answer to an escalation.
 pub fn escalate_answer(outcome: Result<Escalated, Refusal>) -> Answer
     ensures { result ≡ (said (rising []) outcome).0 }
 {
@@ -80,7 +80,7 @@ pub fn escalate_answer(outcome: Result<Escalated, Refusal>) -> Answer
     }
 }
 
-/// A mode was asked after.
+/// The answer to a query for a mode.
 pub(crate) fn mode_answer(outcome: Result<Mode, Refusal>) -> Answer
     ensures { result ≡ (said read_mode outcome).0 }
 {
@@ -90,7 +90,7 @@ pub(crate) fn mode_answer(outcome: Result<Mode, Refusal>) -> Answer
     }
 }
 
-/// An effective mode was asked after.
+/// The answer to a query for an effective mode.
 pub(crate) fn effect_answer(outcome: Result<Effect, Refusal>) -> Answer
     ensures { result ≡ (said read_effect outcome).0 }
 {

@@ -11,15 +11,16 @@ use gl_modes::Refusal;
 use gl_steps::{Command, Reply};
 use std::alloc::Global;
 
-/// Carries out commands one after the other, and answers each. Room for all replies is made first,
-/// so that with `NoMemory`, the only refusal, nothing was carried out.
+/// Carries out commands one after the other, and answers each. Room for all replies is allocated
+/// first, so with `NoMemory`, the only refusal, nothing was carried out.
 ///
-/// To a transaction that lives before and that no command names, its effective mode on each record
-/// that stands before and after is left, or raised where a reply tells it of a grant. Where it reads a
-/// node, a record that stands before and after is below that node just where it was, with its keys.
-/// One that came there was adopted by a command of the list, as a record of a file of which rows were
-/// then adopted, and right behind that command nobody held it or waited for it. One that went was
-/// forgotten by one, and right before that command nobody held it or waited for it.
+/// A transaction that lives before and that no command names keeps its effective mode on each
+/// record that lives before and after, unless a reply tells it of a grant, which may raise it. If
+/// it reads a node, a record that lives before and after is below that node exactly if it was
+/// before, with its keys. A record that was added there was adopted by a command of the list, and
+/// its file is marked as one of adopted rows; right after that command no transaction held it or
+/// waited for it. A record that is gone from there was forgotten by a command, and right before it
+/// no transaction held it or waited for it.
 pub fn run_commands(
     alloc: Global,
     manager: &mut Manager,

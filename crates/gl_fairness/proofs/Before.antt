@@ -1,4 +1,4 @@
--- What each change of a state leaves of those who stand before a wait: nobody new, and nobody who holds less.
+-- What each change of a state leaves of those before a wait: nobody new, and nobody that holds less.
 use Rattle.gl_model.proofs.Words.{[], ⊎_elim, ◌&&◌, ◌==◌, ◌||◌, ◌∙◌, ◌∷◌, ◌≡◌, ◌≢◌, and_both, ap, at_least-refl, at_least-transitive, Bool, clash}
 use Rattle.gl_model.proofs.Words.{drop, enqueued, false, filter, granted_at, holds, if◌then◌else◌, is_ahead, is_among_waiters, is_at_least, is_waiter}
 use Rattle.gl_model.proofs.Words.{IsLawful, length, List, list_all, Mode, members, NL, NodeId, not, Option, or_elim, or_left, or_right}
@@ -12,11 +12,11 @@ use Rattle.gl_model.proofs.law.Strays.{all_of_some}
 use Rattle.gl_model.proofs.queues.Edits.{ahead_within, filtered_ahead, one_stays}
 use Rattle.gl_model.proofs.queues.Waiters.{ahead, ahead_across, ahead_after, ahead_first, ahead_is, ahead_second, among_append, among_by_filter, placed_case}
 
--- u holds n or stands ahead of t in its queue
+-- u holds n or is ahead of t in its queue
 abbrev pub before : State → ℕ → NodeId → ℕ → Bool
 before s t n u = holds (members s n) u || is_ahead (s.queue n) t u
 
--- nobody new stands before t on n, and who does holds no less
+-- nobody new is before t on n, and each that is holds no less
 pub record KeepsBefore (s s' : State) (t : ℕ) (n : NodeId) : Type 0 where
   pub stood : (u : ℕ) → u ≢ t → before s' t n u ≡ true → before s t n u ≡ true
   pub no_less : (u : ℕ) → u ≢ t → before s' t n u ≡ true → is_at_least (s'.held u n) (s.held u n) ≡ true
@@ -29,7 +29,7 @@ before_trans a b c t n f g = record {
   most = g.most ∙ f.most;
 }
 
--- where the grants and the queue of the node are as they were
+-- if the grants and the queue of the node are as they were
 pub before_same : (s s' : State) (t : ℕ) (n : NodeId) → ((u : ℕ) → s'.held u n ≡ s.held u n) → s'.queue n ≡ s.queue n → s'.most ≡ s.most → KeepsBefore s s' t n
 before_same s s' t n held queue most = record {
   stood = λ u ne h. ap (λ m. not (same_mode m NL) || is_ahead (s.queue n) t u) (sym (held u))
@@ -50,7 +50,7 @@ before_less s law held queue txns chosen less t n = record {
   most = refl;
 }
   where
-    -- who still waits keeps its grants
+    -- one that still waits keeps its grants
     ahead_no_less : (u : ℕ) → is_ahead (queue n) t u ≡ true → is_at_least (held u n) (s.held u n) ≡ true
     ahead_no_less u k =
         let was = less.waiters_same u n (ahead_second (queue n) t u (sym (ahead_is (queue n) t u) ∙ k)) in
@@ -86,7 +86,7 @@ before_pumped s chosen law t n m waits = record {
     behind = or_elim _ _ (sym (among_append t got left) ∙ ap (is_among_waiters t) (granted_rest s chosen law n)
         ∙ among_by_filter t (t, m) [] (s.queue n) (law.one_wait t n m was.0)) (λ k. clash k was.1) (λ k. k)
 
--- something is taken, and then nodes grant from their fronts
+-- grants or waits are removed, and then nodes grant from their fronts
 pub before_taken : (s : State) → IsLawful s → (held : ℕ → NodeId → Mode) (queue : NodeId → List Waiter) (txns : ℕ → Option Txn) (chosen : NodeId → Bool)
     → IsLess s held queue txns chosen → (t : ℕ) (n : NodeId) (m : Mode)
     → status_of (pumped (record s { held = held; queue = queue; txns = txns }) chosen) t ≡ Some (Waiting n m)
@@ -96,11 +96,11 @@ before_taken s law held queue txns chosen less t n m waits =
     before_trans s taken (pumped taken chosen) t n (before_less s law held queue txns chosen less t n)
     (before_pumped taken chosen (less-lawful s law held queue txns chosen less) t n m waits)
 
--- who waits stands in the queue
+-- a waiter is in the queue
 pub stands_in : (s : State) → IsLawful s → (t : ℕ) (n : NodeId) (m : Mode) → status_of s t ≡ Some (Waiting n m) → is_among_waiters t (s.queue n) ≡ true
 stands_in s law t n m waits = among_by_filter t (t, m) [] (s.queue n) (law.one_wait t n m waits)
 
--- one who holds the node, or another node, is granted more
+-- a holder of the node is granted more, or another node is granted
 pub before_granted : (s : State) (u : ℕ) (q : NodeId) (w : Mode) (t : ℕ) (n : NodeId) → (same_node n q ≡ true → holds (members s q) u ≡ true)
     → (same_node n q ≡ true → is_at_least w (s.held u q) ≡ true) → KeepsBefore s (with_grant s u q w) t n
 before_granted s u q w t n holder more = record {
@@ -132,7 +132,7 @@ before_enqueued s law u q w t n m other waits = record {
   most = refl;
 }
   where
-    -- a newcomer is placed last, and a holder stands before t in any case
+    -- a newcomer is placed last, and a holder is before t in any case
     placed_before : (v : ℕ) → v ≢ t → ahead (placed (members s q) (s.queue q) u w) t v ≡ true → is_among_waiters t (s.queue q) ≡ true
         → before s t q v ≡ true
     placed_before v ne k among = split (v == u)
@@ -144,7 +144,7 @@ before_enqueued s law u q w t n m other waits = record {
         ∙ placed_ahead (members s q) (s.queue q) u w t v (λ a b ha l. law.holders_first a b q ha (ahead_is (s.queue q) a b ∙ l)) (λ i. ne (sym i))
         (λ i. other (sym i)) (other_number v u e) k))
 
--- waits on a node are taken out, though not t's
+-- waits on a node are removed, though not t's
 pub before_filtered : (s : State) → IsLawful s → (ps : List NodeId) (t : ℕ) (n : NodeId) (m : Mode) → status_of s t ≡ Some (Waiting n m) → (u : ℕ)
     → is_ahead (filter (stays s ps) (s.queue n)) t u ≡ true → is_ahead (s.queue n) t u ≡ true
 before_filtered s law ps t n m waits u k =

@@ -1,4 +1,4 @@
--- Whoever waits waits for one who lives and stands before it, so its wait has ended when all of those have.
+-- Each waiter waits for one that lives and is before it, so its wait has ended when all of those have.
 use Rattle.std.specs.Prelude.{◌≡◌, ◌⊎◌, ℕ, Bool, true, false, not, ◌&&◌, ◌||◌, ◌==◌, List, [], ◌∷◌, Option, Some, None, if◌then◌else◌, is_some}
 use Rattle.std.specs.List.{filter, list_all, range_with_len}
 use Rattle.std.proofs.Common.{refl, sym, ap, arith, inl, inr, ⊎_elim, ◌∙◌}
@@ -28,7 +28,7 @@ use Rattle.gl_fairness.specs.Waiting.{WaitsThrough}
 use Rattle.gl_fairness.proofs.Before.{before, stands_in}
 use Rattle.gl_fairness.proofs.Served.{before_lives, nobody_comes_between}
 
--- Whom the wait at the front of a queue is for, and whom every other.
+-- For whom the wait at the front of a queue is, and for whom every other.
 
 -- what does not fit is blocked by some other
 blocker : (t : ℕ) (m : Mode) (g : ℕ → Mode) (us : List ℕ) → list_all (λ u. (u == t) || are_compatible m (g u)) us ≡ false → (u : ℕ)
@@ -43,7 +43,7 @@ blocker t m g (u ∷ us) h = split ((u == t) || are_compatible m (g u))
     by false true e f k = clash refl k
     by false false e f k = (u, ap not e, f)
 
--- who blocks holds
+-- one that blocks holds
 blocks_held : (m : Mode) (a : Mode) → are_compatible m a ≡ false → not (same_mode a NL) ≡ true
 blocks_held m a h = split (not (same_mode a NL)) (λ e. e) (λ e. clash (ap (are_compatible m) (nl_is a e) ∙ NL-compatible m) h)
 
@@ -52,12 +52,12 @@ first_unfit : (most : ℕ) (g : ℕ → Mode) (w : Waiter) (q : List Waiter) →
 first_unfit most g w q h = split (fits most g w.0 w.1)
     (λ e. no_cons (sym (ap (λ b. if b then w ∷ front most (with_mode g w.0 w.1) q else []) e) ∙ h)) (λ e. e)
 
--- the first wait of one who waits once is that one
+-- the first wait of a slot that waits once is that one
 first_own : (t : ℕ) (m : Mode) (w : Waiter) (q : List Waiter) → (w.0 == t) ≡ true → filter (is_waiter t) (w ∷ q) ≡ (t, m) ∷ [] → w ≡ (t, m)
 first_own t m w q e one =
     let all : w ∷ filter (is_waiter t) q ≡ (t, m) ∷ [] = sym (ap (λ b. if b then w ∷ filter (is_waiter t) q else filter (is_waiter t) q) e) ∙ one in cc
 
--- the first waiter stands ahead of the others
+-- the first waiter is ahead of the others
 first_ahead : (t : ℕ) (w : Waiter) (q : List Waiter) → (w.0 == t) ≡ false → is_among_waiters t (w ∷ q) ≡ true → ahead (w ∷ q) t w.0 ≡ true
 first_ahead t w q e among =
     let rest : is_among_waiters t q ≡ true = or_elim (w.0 == t) (is_among_waiters t q) among (λ h. clash h e) (λ h. h) in
@@ -96,7 +96,7 @@ waits_for_somebody s t n law waits = let w = waiting_is (status_of s t.slot) n (
 
 -- Runs along which a wait lasts.
 
--- such a run is a run, and at its end the wait lasts
+-- a run of this kind is a run, and at its end the wait lasts
 through_runs : (t : TxnId) (n : NodeId) (s : State) (cs : List Command) (rs : List (Answer × Told)) (s' : State) → WaitsThrough t n s cs rs s'
     → Run s cs rs s' × (waits_on s' t n ≡ true)
 through_runs t n s [] [] s' run = (run.1, ap (λ x. waits_on x t n) run.1 ∙ run.0)
@@ -124,7 +124,7 @@ lasts_or_ends s s' (c ∷ cs) (r ∷ rs) t n law run waits =
     (lasts_or_ends mid s' cs rs t n (steps_keep_law s mid c r.0 r.1 law run.1) run.2 e))
     (λ e. inr (mid, run.1, inl ((waits, e, ends_waits s mid c r.0 r.1 t n law run.1 waits e), run.2)))
 
--- who is there with an age lives by it
+-- one that is there with an age lives by it
 there_lives : (age : ℕ) (x : Option Txn) → is_some x ≡ true → age_in x ≡ age → live_by age x ≡ true
 there_lives age None h e = clash h refl
 there_lives age (Some x) h e = number_same x.age age e

@@ -1,4 +1,4 @@
--- Whoever falls falls behind one that comes before it.
+-- Each victim is condemned after one that comes before it.
 use Rattle.std.specs.Prelude.{◌≡◌, ◌≢◌, ◌⊎◌, ℕ, zero, suc, ◌+◌, Bool, true, ◌||◌, ◌==◌, List, [], Option, Some, None, if◌then◌else◌}
 use Rattle.std.specs.Prelude.{is_some, min}
 use Rattle.std.specs.List.{filter}
@@ -44,7 +44,7 @@ use Rattle.gl_fairness.proofs.Turns.{enqueued_turn}
 -- Of a state in which a victim is chosen.
 
 module _ (s : State) (law : IsLawful s) where
-  -- who is on a cycle lives
+  -- a slot on a cycle lives
   on_cycle_lives : (t u : ℕ) → IsOnCycleOf (waits_for s) t u → is_some (s.txns u) ≡ true
   on_cycle_lives t u on = txn_there (s.txns u) _ (wait_is (status_of s u) (cycle_waits s law u t on.back.0 on.back.1)).2
 
@@ -70,7 +70,7 @@ falls_behind_somebody s t v law victim =
 
 -- Nobody else is condemned.
 
--- who is condemned after a change was so before it
+-- one that is condemned after a change was so before it
 abbrev Calm : Option Txn → Option Txn → Type 0
 Calm x y = status_in y ≡ Some Condemned → status_in x ≡ Some Condemned
 
@@ -117,13 +117,13 @@ restatus_calm st other s u v h = split (v == u)
 abbrev Behind : State → ℕ → Type 0
 Behind s v = (u : ℕ) × (is_some (s.txns u) ≡ true) × (comes_before s u v ≡ true)
 
--- where all keep their turns it came before v already
+-- if all keep their turns it came before v already
 behind_before : (s x : State) (v : ℕ) → ((u : ℕ) → SameTurn (s.txns u) (x.txns u)) → Behind x v → Behind s v
 behind_before s x v same b =
     let su = (same b.0).since in let au = (same b.0).age in let sv = (same v).since in let av = (same v).age in
     let e : comes_before s b.0 v ≡ comes_before x b.0 v = cc in (b.0, sym (same b.0).there ∙ b.1, e ∙ b.2)
 
--- v is condemned in x only where it was before, or falls behind another
+-- v is condemned in x only if it was before, or after another that comes before it
 abbrev FallsWell : State → ℕ → State → Type 0
 FallsWell s v x = status_of x v ≡ Some Condemned → (status_of s v ≡ Some Condemned) ⊎ Behind s v
 

@@ -1,4 +1,4 @@
--- Whoever lives on is not passed, and whoever comes first never falls.
+-- One that lives on is not passed, and the first is never a victim.
 use Rattle.std.specs.Prelude.{◌≡◌, ℕ, ◌≤◌, Bool, true, false, ◌&&◌, cond, List, [], ◌∷◌, is_some}
 use Rattle.std.specs.List.{count_by, range_with_len}
 use Rattle.std.proofs.Common.{refl, sym, ap, arith, subst, ⊎_elim, ◌∙◌}
@@ -45,7 +45,7 @@ count_less p q (u ∷ us) sub =
     one true b h = subst (λ x. 1 ≤ cond x 1 0) (sym (h refl)) (omega arith)
     one false b h = omega arith
 
--- who comes before v after a step that begins none ahead of it, came before it already
+-- one that comes before v after a step, by which none begins for earlier work, came before it already
 module _ (s s' : State) (c : Command) (a : Answer) (told : Told) (v : ℕ) (law : IsLawful s) (known : AreKnown s)
     (ahead : begins_ahead (since_of s v) c ≡ false) (step : Step s c a told s') (stays : SameTxn s s' v) where
   own : SameTurn (s.txns v) (s'.txns v)

@@ -1,4 +1,4 @@
--- what one change leaves of those who stand before a wait
+-- what one change leaves of those before a wait
 mod Before
 -- each command, each step and each run
 mod Turns
@@ -6,6 +6,6 @@ mod Steps
 mod Served
 mod Passes
 mod Ends
--- who falls, and behind whom
+-- victims, and what comes before them
 mod Falls
 mod KeepsTurns

@@ -47,7 +47,7 @@ few_raises a = no_higher (raises_left a) 4 (every2-true (λ x y. nat_le (raises_
 
 -- Sums over slots.
 
--- where each slot has spent what it counts, all have
+-- if each slot has spent what it counts, all have
 spent : (p : ℕ → Bool) (f g : ℕ → ℕ) (us : List ℕ) → ((u : ℕ) → cond (p u) 1 0 + g u ≤ f u) → count_by p us + sum_by g us ≤ sum_by f us
 spent p f g [] each = omega arith
 spent p f g (u ∷ us) each =
@@ -55,7 +55,7 @@ spent p f g (u ∷ us) each =
     let c = count_cons p u us in let b = sum_by-cons g u us in let a = sum_by-cons f u us in
     omega arith
 
--- where each slot that counts has at most four
+-- if each slot that counts has at most four
 at_most_four : (p : ℕ → Bool) (f : ℕ → ℕ) (us : List ℕ) → ((u : ℕ) → f u ≤ 4) → sum_by (λ u. if p u then f u else 0) us ≤ 4 * count_by p us
 at_most_four p f [] each = omega arith
 at_most_four p f (u ∷ us) each =
@@ -86,7 +86,7 @@ module _ (s s' : State) (t : TxnId) (n : NodeId) (kept : KeepsBefore s s' t.slot
   abbrev granted_now : ℕ
   granted_now = cond (is_granted_past s s' t n u) 1 0
 
-  -- a grant past t is a raise of one who stands before it
+  -- a grant past t is a raise of one before it
   raised_before : is_granted_past s s' t n u ≡ true → (stands_before s' t n u ≡ true) × (raises_left (s'.held u n) < raises_left (s.held u n))
   raised_before e =
       let other = and_both _ _ e in let parts = and_both _ _ other.1 in
@@ -100,7 +100,7 @@ module _ (s s' : State) (t : TxnId) (n : NodeId) (kept : KeepsBefore s s' t.slot
       let one : granted_now ≡ 1 = ap (λ x. cond x 1 0) e in
       omega arith
 
-  -- and nobody who stands before t gets more raises
+  -- and none before t gets more raises
   quiet_spent : is_granted_past s s' t n u ≡ false → granted_now + left s' ≤ left s
   quiet_spent e =
       let none : granted_now ≡ 0 = ap (λ x. cond x 1 0) e in

@@ -23,7 +23,7 @@ use Rattle.gl_fairness.proofs.Turns.{one_turn}
 pub other_slot : (u t : ℕ) → not (u == t) ≡ true → u ≢ t
 other_slot u t h = grind (arith, nat_tests)
 
--- who holds or waits lives
+-- a holder or waiter lives
 pub before_lives : (s : State) → IsLawful s → (t : ℕ) (n : NodeId) (u : ℕ) → before s t n u ≡ true → is_some (s.txns u) ≡ true
 before_lives s law t n u h = or_elim _ _ h (λ k. (law.grants_live u n k).0)
     (λ k. let st = waiting_is (status_of s u) n (law.waits_are u n (ahead_second (s.queue n) t u (sym (ahead_is (s.queue n) t u) ∙ k))) in

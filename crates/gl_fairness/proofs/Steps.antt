@@ -1,4 +1,4 @@
--- Each command leaves those who stand before a wait that goes on: nobody new, and nobody who holds less.
+-- Each command leaves those before a wait that continues: nobody new, and nobody that holds less.
 use Rattle.std.specs.Prelude.{◌≡◌, ◌≢◌, ℕ, zero, suc, ◌+◌, ◌≤◌, Bool, true, false, List, [], ◌∷◌, None, Some, if◌then◌else◌}
 use Rattle.std.specs.List.{filter}
 use Rattle.std.proofs.Common.{refl, sym, ap, arith, subst, ◌∙◌}
@@ -42,7 +42,7 @@ use Rattle.gl_steps.proofs.NotRefused.{active_is, nodes_live}
 use Rattle.gl_steps.proofs.OneStep.{AllNone, all_none}
 use Rattle.gl_fairness.proofs.Before.{KeepsBefore, before_enqueued, before_filtered, before_granted, before_same, before_taken, before_trans, stands_in}
 
--- a wait that goes on while others are settled
+-- a wait that continues while others are settled
 settled_within_before : (c : Victims) (k : ℕ) (s s' : State) (u t : ℕ) (n : NodeId) (m : Mode) → IsLawful s → status_of s' t ≡ Some (Waiting n m)
     → SettledWithin c k s u s' → KeepsBefore s s' t n
 settled_within_before c zero s s' u t n m law waits h =
@@ -68,7 +68,7 @@ none_in : (t : ℕ) (q : List Waiter) → is_empty q ≡ true → is_among_waite
 none_in t [] h k = clash k refl
 none_in t (w ∷ q) h k = clash h refl
 
--- nodes go from the graph, though not the node of a wait that goes on
+-- nodes are removed from the graph, though not the node of a wait that continues
 before_departed : (s : State) (goes : NodeId → Bool) (g : Graph) (t : ℕ) (n : NodeId) (m : Mode) → status_of (departed s goes g) t ≡ Some (Waiting n m)
     → KeepsBefore s (departed s goes g) t n
 before_departed s goes g t n m waits =
@@ -92,7 +92,7 @@ module _ (s : State) (law : IsLawful s) (t : ℕ) (n : NodeId) (m : Mode) (waits
   in_queue : is_among_waiters t (s.queue n) ≡ true
   in_queue = stands_in s law t n m waits
 
-  -- who is granted at once where someone waits is a holder
+  -- one that is granted at once on a node with a waiter is a holder
   before_at_once : (u : ℕ) (q : NodeId) (w : Mode) → enters_at s u q w ≡ true → KeepsBefore s (granted s u q w) t n
   before_at_once u q w e = before_granted s u q (wanted s u q w) t n
       (λ same. or_elim _ _ (and_both _ _ e).1 (λ h. h) (λ h. absurd (none_in t (s.queue q) h
@@ -118,7 +118,7 @@ module _ (s : State) (law : IsLawful s) (t : TxnId) (n : NodeId) (m : Mode) (wai
   made_is : (made : State) → next ≡ made → (status_of made t.slot ≡ Some (Waiting n w) → KeepsBefore s made t.slot n) → Kept
   made_is made e f = subst (λ x. KeepsBefore s x t.slot n) (sym e) (f (ap (λ x. status_of x t.slot) (sym e) ∙ still))
 
-  -- who is active has another slot
+  -- an active transaction has another slot
   other_active : (u : TxnId) → waiting_test (status_of s u.slot) ≡ None → u.slot ≢ t.slot
   other_active u passed e = none_some (sym passed ∙ ap (λ v. waiting_test (status_of s v)) e ∙ ap waiting_test waits)
 

@@ -1,4 +1,4 @@
--- Over a step whoever lives on keeps its age and the begin since which its work wants to be done; who is new comes with the next age.
+-- Over a step each transaction that lives on keeps its age and its `since`; a new one has the next age.
 use Rattle.std.specs.Prelude.{◌≡◌, ◌⊎◌, ℕ, ◌+◌, ◌≤◌, Bool, true, false, min, nat_lt, ◌&&◌, ◌||◌, ◌==◌, List, Option, Some, None, if◌then◌else◌, is_some}
 use Rattle.std.specs.List.{filter}
 use Rattle.std.proofs.lemmas.Bool.Decides.{nat_tests}
@@ -25,18 +25,18 @@ use Rattle.gl_steps.proofs.EachStep.{each_step}
 use Rattle.gl_steps.proofs.LivesOn.{GoesOn, SameTurn, restatus_turn, turn_same, turn_trans, freed_among_on, freed_on, over_goes_on, pumped_goes_on}
 use Rattle.gl_steps.proofs.LivesOn.{settled_goes_on, unless_on, wait_settles_goes_on, woken_on}
 
--- by a step a transaction begins in a free slot, of the next age; unless it begins ahead of a number, it keeps behind that
+-- by a step a transaction begins in a free slot, with the next age; its `since` is not before a number unless it begins for work from before that
 pub record IsNew (begins : ℕ) (c : Command) (x y : Option Txn) : Type 0 where
   pub free : is_some x ≡ false
   pub age : age_in y ≡ begins + 1
   pub low : since_in y ≤ begins + 1
   pub behind : (bound : ℕ) → bound ≤ begins → begins_ahead bound c ≡ false → bound ≤ since_in y
 
--- whoever is there after a step was there before it, or begins by it
+-- each that is there after a step was there before it, or begins by it
 abbrev pub HasTurn : ℕ → Command → Option Txn → Option Txn → Type 0
 HasTurn begins c x y = is_some y ≡ true → SameTurn x y ⊎ IsNew begins c x y
 
--- who begins to wait keeps its turn
+-- one that begins to wait keeps its turn
 pub enqueued_turn : (s : State) (u : ℕ) (n : NodeId) (m : Mode) (v : ℕ) → SameTurn (s.txns v) ((enqueued s u n m).txns v)
 enqueued_turn s u n m v = by (v == u) refl
   where
@@ -44,7 +44,7 @@ enqueued_turn s u n m v = by (v == u) refl
     by true e = subst (λ w. SameTurn (s.txns v) (restatus (Waiting n m) (s.txns w))) (same_number v u e) (restatus_turn (Waiting n m) (s.txns v))
     by false e = turn_same (s.txns v) (s.txns v) refl
 
--- a number that is not ahead of another is behind it
+-- a number that is not less than another is at least it
 again_behind : (begins n bound : ℕ) → bound ≤ begins → nat_lt n bound ≡ false → bound ≤ min n (begins + 1)
 again_behind begins n bound few h = let more : bound ≤ n = grind (arith, nat_tests) in omega arith
 
@@ -129,7 +129,7 @@ step_turn s s' c a told v =
     each_step (λ x. HasTurn s.begins c (s.txns v) (x.txns v)) s c a told s' (λ k. inl (turn_same (s.txns v) (s.txns v) refl)) (λ next h. h)
     (λ free next acc. accepted s v a told next c acc)
 
--- so one who is there before and after a step is the same
+-- so one that is there before and after a step is the same
 pub one_turn : (s s' : State) (c : Command) (a : Answer) (told : Told) (v : ℕ) → Step s c a told s' → is_some (s.txns v) ≡ true → is_some (s'.txns v) ≡ true
     → SameTurn (s.txns v) (s'.txns v)
 one_turn s s' c a told v step was is = ⊎_elim (λ same. same) (λ new. clash was new.free) (step_turn s s' c a told v step is)

@@ -1,4 +1,4 @@
--- How often others are granted the node on which one waits, and how often that can be yet (own).
+-- How often others are granted a waiter's node, and how often they still can be.
 use Rattle.std.specs.Prelude.{◌≡◌, ℕ, ◌+◌, ◌*◌, ◌≤◌, ◌<◌, Bool, true, false, not, ◌&&◌, ◌==◌, List, ◌∷◌, if◌then◌else◌}
 use Rattle.std.specs.List.{count_by, sum_by}
 use Rattle.gl_modes.specs.declared.mode.Mode.{Mode}
@@ -16,7 +16,7 @@ use Rattle.gl_steps.specs.Promises.{waits_on}
 use Rattle.gl_steps.specs.Step.{Step}
 use Rattle.gl_fairness.specs.Waiting.{WaitsThrough, stands_before}
 
--- how many raises one who holds this mode can have: the longest way up to X, as NL, IS, IX, SIX, X from none
+-- how many raises a holder of this mode can have: the most up to X, as NL, IS, IX, SIX, X from none
 abbrev pub raises_left : Mode → ℕ
 raises_left NL = 4
 raises_left IS = 3
@@ -37,7 +37,7 @@ is_granted_past s s' t n u = not (u == t.slot) && (holds (members s' n) u && not
 abbrev pub passes : State → State → TxnId → NodeId → ℕ
 passes s s' t n = count_by (is_granted_past s s' t n) (slots s)
 
--- how often others can be granted n yet while t waits on it: the raises left to those who stand before t
+-- how often others can still be granted n while t waits on it: the raises left to those before t
 abbrev pub passes_left : State → TxnId → NodeId → ℕ
 passes_left s t n = sum_by (λ u. if stands_before s t n u then raises_left (s.held u n) else 0) (slots s)
 
@@ -46,14 +46,14 @@ abbrev pub passes_through : (t : TxnId) (n : NodeId) (s : State) (cs : List Comm
 passes_through t n s (c ∷ cs) (r ∷ rs) s' run = passes s run.1 t n + passes_through t n run.1 cs rs s' run.3
 passes_through t n s cs rs s' run = 0
 
--- each grant to another, over a step through which t waits on, is one of those that were left
+-- each grant to another, over a step after which t still waits, is one of those that were left
 abbrev pub PassesAreSpent : Type 0
 PassesAreSpent =
     (s s' : State) (c : Command) (a : Answer) (told : Told) (t : TxnId) (n : NodeId) → IsLawful s → Step s c a told s' → waits_on s t n ≡ true
     → waits_on s' t n ≡ true
     → passes s s' t n + passes_left s' t n ≤ passes_left s t n
 
--- so it is over a run, and at its beginning at most four are left to each who stands before t
+-- the same over a run, and at its beginning at most four are left to each that is before t
 abbrev pub PassedAtMost : Type 0
 PassedAtMost =
     (s s' : State) (cs : List Command) (rs : List (Answer × Told)) (t : TxnId) (n : NodeId) → IsLawful s → (run : WaitsThrough t n s cs rs s')

@@ -1,4 +1,4 @@
--- Who comes before whom where a victim is chosen: whoever keeps its turn is not passed, and whoever comes first never falls (own).
+-- The order in which victims are chosen: a transaction that keeps its turn is not passed, and the first is never a victim.
 use Rattle.std.specs.Prelude.{◌≡◌, ◌≢◌, ℕ, ◌≤◌, Bool, true, false, ◌&&◌, nat_lt, List, [], ◌∷◌, Some, is_some}
 use Rattle.std.specs.List.{count_by}
 use Rattle.gl_waits.specs.declared.victims.Victims.{Victims}
@@ -16,11 +16,11 @@ use Rattle.gl_steps.specs.declared.command.Command.TheVariants as command
 use Rattle.gl_steps.specs.Step.{Run, Step}
 use Rattle.gl_fairness.specs.Waiting.{SameTxn}
 
--- u's work wants to be done since earlier than v's, or since the same begin and u is older
+-- u comes before v: its `since` is earlier, or the same and u is older
 abbrev pub comes_before : State → ℕ → ℕ → Bool
 comes_before s u v = is_earlier (since_of s) (age_of s) u v
 
--- whoever else could have been chosen comes before the victim
+-- each other candidate comes before the victim
 abbrev pub FallsBehindOthers : Type 0
 FallsBehindOthers =
     (c : Victims) (s : State) (t v u : ℕ) → IsLawful s → IsVictim c s t v → IsCandidate c (waits_for s) t u → u ≢ v → comes_before s u v ≡ true
@@ -31,7 +31,7 @@ pub record StaysBefore (s : State) (t u v : ℕ) : Type 0 where
   pub lives : is_some (s.txns u) ≡ true
   pub before : comes_before s u v ≡ true
 
--- chosen of all on a cycle, a victim leaves one there that comes before it
+-- by `Youngest`, a victim leaves one on the cycle that comes before it
 abbrev pub FallsBehindSomebody : Type 0
 FallsBehindSomebody = (s : State) (t v : ℕ) → IsLawful s → IsVictim Youngest s t v → (u : ℕ) × StaysBefore s t u v
 
@@ -40,7 +40,7 @@ pub record Falls (s s' : State) (v : ℕ) : Type 0 where
   pub not_before : status_of s v ≢ Some Condemned
   pub after : status_of s' v ≡ Some Condemned
 
--- so over a step nobody falls but behind a living one that comes before it
+-- by `Youngest`, a living transaction comes before each that a step condemns
 abbrev pub FallsBehindALiving : Type 0
 FallsBehindALiving =
     (s s' : State) (c : Command) (a : Answer) (told : Told) (v : ℕ) → IsLawful s → s.victims ≡ Youngest → Step s c a told s' → Falls s s' v
@@ -50,24 +50,24 @@ FallsBehindALiving =
 abbrev pub count_before : State → ℕ → ℕ
 count_before s v = count_by (λ u. is_some (s.txns u) && comes_before s u v) (slots s)
 
--- nobody's work wants to be done since later than its own begin
+-- no `since` is above its transaction's age
 abbrev pub AreKnown : State → Type 0
 AreKnown s = (t : ℕ) → is_some (s.txns t) ≡ true → since_of s t ≤ age_of s t
 
--- which is so in the empty state
+-- the same in the empty state
 abbrev pub EmptyIsKnown : Type 0
 EmptyIsKnown = (detect : Detect) (victims : Victims) (most : ℕ) → AreKnown (choosing victims (empty_state detect most))
 
--- and stays so along a run
+-- and along a run
 abbrev pub RunsKeepKnown : Type 0
 RunsKeepKnown = (s s' : State) (cs : List Command) (rs : List (Answer × Told)) → AreKnown s → Run s cs rs s' → AreKnown s'
 
--- a transaction begins again whose work wants to be done since before this number
+-- a transaction begins again for work from before this number
 abbrev pub begins_ahead : ℕ → Command → Bool
 begins_ahead since (command.BeginAgain n) = nat_lt n since
 begins_ahead since c = false
 
--- over any step but such a one no more living transactions come before one that lives on
+-- over any other step no more living transactions come before one that lives on
 abbrev pub NoMoreComeBefore : Type 0
 NoMoreComeBefore =
     (s s' : State) (c : Command) (a : Answer) (told : Told) (v : ℕ) → IsLawful s → AreKnown s → begins_ahead (since_of s v) c ≡ false → Step s c a told s'
@@ -78,7 +78,7 @@ NoMoreComeBefore =
 abbrev pub ComesFirst : State → ℕ → Type 0
 ComesFirst s v = (u : ℕ) → is_some (s.txns u) ≡ true → comes_before s u v ≡ false
 
--- a run along which the transaction in slot v lives, and none begins again ahead of it
+-- a run along which the transaction in slot v lives, and none begins again for earlier work
 abbrev pub LivesThrough : ℕ → State → List Command → List (Answer × Told) → State → Type 0
 LivesThrough v s [] [] s' = (is_some (s.txns v) ≡ true) × (s' ≡ s)
 LivesThrough v s (c ∷ cs) (r ∷ rs) s' =
@@ -86,7 +86,7 @@ LivesThrough v s (c ∷ cs) (r ∷ rs) s' =
 LivesThrough v s [] (r ∷ rs) s' = ⊥
 LivesThrough v s (c ∷ cs) [] s' = ⊥
 
--- along such a run one that comes first does so all along, and never falls
+-- along such a run one that comes first stays first, and is never a victim
 abbrev pub FirstNeverFalls : Type 0
 FirstNeverFalls =
     (s s' : State) (cs : List Command) (rs : List (Answer × Told)) (v : ℕ) → IsLawful s → AreKnown s → s.victims ≡ Youngest → ComesFirst s v

@@ -1,4 +1,4 @@
-//! The laws of waiting: a wait ends once everybody before it has ended.
+//! The laws of waiting: a wait ends once each transaction before it has ended.
 #![tactic(auto)]
 
 pub mod laws;

@@ -22,26 +22,26 @@ use Rattle.gl_model.specs.declared.answers.Effect.TheVariants as effect
 
 -- The law of a state: what every command keeps.
 
--- records are held and wanted in S or X alone (own)
+-- records are held and wanted in S or X alone
 abbrev pub ModeFitsKind : State → NodeId → Mode → Type 0
 ModeFitsKind s n m = is_record_shape (shape_of s.graph n) ≡ true → (same_mode m S || same_mode m X) ≡ true
 
--- grants of different transactions on one node are compatible (1976)
+-- grants of different transactions on one node are compatible
 abbrev pub GrantsGoTogether : State → Type 0
 GrantsGoTogether s = (t u : ℕ) (n : NodeId) → t ≢ u → are_compatible (s.held t n) (s.held u n) ≡ true
 
--- every grant meets the rule of the graph (1976)
+-- every grant meets the rule of the graph
 abbrev pub GrantsIntend : State → Type 0
 GrantsIntend s = (t : ℕ) (n : NodeId) → holds (members s n) t ≡ true → intends s t n (s.held t n) ≡ true
 
 -- the law, a sentence a line:
 -- the graph is lawful; grants and waits are of living transactions on living nodes, in a mode that fits the kind
--- grants of different transactions on one node are compatible (1976)
--- every grant and every wait meets the rule of the graph (1976), a wait with its wanted mode, which is what its transaction holds there or greater
--- who waits stands in one queue, once, with its wanted mode, and nobody else stands in any
--- in each queue those that hold the node stand ahead of those that do not (Gray and Reuter)
--- no first waiter fits: what can be granted is granted (own)
--- slots are below the limit, ages from 1 to the count of begins, and no two alike
+-- grants of different transactions on one node are compatible
+-- every grant and every wait meets the rule of the graph, a wait with its wanted mode, which is the held mode or greater
+-- a waiter is in one queue, once, with its wanted mode, and nobody else is in any
+-- in each queue those that hold the node are ahead of those that do not
+-- no first waiter fits: what can be granted is granted
+-- slots are below the limit, ages from 1 to the count of begins, and no two equal
 pub record IsLawful (s : State) : Type 0 where
   pub graph : IsLawfulGraph s.graph
   pub grants_live : (t : ℕ) (n : NodeId) → holds (members s n) t ≡ true → (is_some (s.txns t) ≡ true) × (is_live s.graph n ≡ true)
@@ -61,21 +61,21 @@ pub record IsLawful (s : State) : Type 0 where
 
 -- Effective modes: explicit locks, and those implied by locks further up.
 
--- a mode that reads the node and all below it: S, SIX or X (1976)
+-- a mode that reads the node and all below it: S, SIX or X
 abbrev pub is_read : Mode → Bool
 is_read m = is_at_least m S
 
--- effective S over at most k steps up (1976, implicit locks): S, SIX or X on the node, or effective S on some parent
+-- effective S over at most k steps up: S, SIX or X on the node, or effective S on some parent
 abbrev pub eff_s : ℕ → Graph → (NodeId → Mode) → NodeId → Bool
 eff_s zero g held n = is_read (held n)
 eff_s (suc k) g held n = is_read (held n) || list_any (eff_s k g held) (parents_of g n)
 
--- effective X over at most k steps up (1976, implicit locks): X on the node, or effective X on every parent, and there is one
+-- effective X over at most k steps up: X on the node, or effective X on every parent, if there are any
 abbrev pub eff_x : ℕ → Graph → (NodeId → Mode) → NodeId → Bool
 eff_x zero g held n = same_mode (held n) X
 eff_x (suc k) g held n = same_mode (held n) X || (not (no_parents (parents_of g n)) && list_all (eff_x k g held) (parents_of g n))
 
--- effective S: as many steps as there are nodes are enough, since no path closes
+-- effective S: as many steps as there are nodes are enough, since the graph has no cycle
 abbrev pub EffS : State → ℕ → NodeId → Type 0
 EffS s t n = eff_s (node_count s.graph) s.graph (s.held t) n ≡ true
 
@@ -83,7 +83,7 @@ EffS s t n = eff_s (node_count s.graph) s.graph (s.held t) n ≡ true
 abbrev pub EffX : State → ℕ → NodeId → Type 0
 EffX s t n = eff_x (node_count s.graph) s.graph (s.held t) n ≡ true
 
--- the effective mode of one who holds these modes: X, else S, else none
+-- the effective mode of a holder of these modes: X, else S, else none
 abbrev pub effect_on : Graph → (NodeId → Mode) → NodeId → Effect
 effect_on g held n = if eff_x (node_count g) g held n then effect.X else (if eff_s (node_count g) g held n then effect.S else effect.None)
 
@@ -91,11 +91,11 @@ effect_on g held n = if eff_x (node_count g) g held n then effect.X else (if eff
 abbrev pub effective : State → ℕ → NodeId → Effect
 effective s t n = effect_on s.graph (s.held t) n
 
--- X on some node of every root path (1976, cut sets)
+-- X on some node of every path to the root
 abbrev pub IsCut : State → ℕ → NodeId → Type 0
 IsCut s t n = (way : List NodeId) → IsRootPath s.graph n way → list_any (λ p. same_mode (s.held t p) X) (n ∷ way) ≡ true
 
--- two transactions of which one may write a node and the other read it (1976)
+-- two transactions of which one may write a node and the other read it
 pub record Conflict (s : State) (t u : ℕ) (r : NodeId) : Type 0 where
   pub differ : t ≢ u
   pub writes : EffX s t r
@@ -114,19 +114,19 @@ is_at_least_effect e f = false
 
 -- The laws of a state, each said once and proved once.
 
--- where grants of different transactions are compatible and every grant meets the rule of the graph, no two transactions conflict
+-- if grants of different transactions are compatible and every grant meets the rule of the graph, no two transactions conflict
 abbrev pub NoConflictLaw : Type 0
 NoConflictLaw = (s : State) → GrantsGoTogether s → GrantsIntend s → HasNoConflict s
 
--- so it is in a lawful state
+-- the same in a lawful state
 abbrev pub LawfulNoConflict : Type 0
 LawfulNoConflict = (s : State) → IsLawful s → HasNoConflict s
 
--- an effective X is an X on every root path, and the other way round
+-- effective X is an X on every path to the root, and the other way round
 abbrev pub CutsOff : State → ℕ → NodeId → Type 0
 CutsOff s t n = (EffX s t n → IsCut s t n) × (IsCut s t n → EffX s t n)
 
--- so it is over a lawful graph, whatever is granted
+-- the same over a lawful graph, whatever is granted
 abbrev pub CutSetLaw : Type 0
 CutSetLaw = (s : State) → IsLawfulGraph s.graph → (t : ℕ) (n : NodeId) → is_live s.graph n ≡ true → CutsOff s t n
 
@@ -134,7 +134,7 @@ CutSetLaw = (s : State) → IsLawfulGraph s.graph → (t : ℕ) (n : NodeId) →
 abbrev pub LawfulCutSet : Type 0
 LawfulCutSet = (s : State) → IsLawful s → (t : ℕ) (n : NodeId) → is_live s.graph n ≡ true → CutsOff s t n
 
--- where nobody is on a cycle of waits, whoever waits waits, over some steps, for one who does not wait
+-- if nobody is on a cycle of waits, each waiter waits, over one or more steps, for one that does not wait
 abbrev pub ChainsEnd : Type 0
 ChainsEnd = (s : State) → IsLawful s → HasNoCycle s → (t : ℕ) → is_wait (status_of s t) ≡ true → (u : ℕ) × Reaches (waits_for s) t u
     × (is_wait (status_of s u) ≡ false)
@@ -143,38 +143,38 @@ ChainsEnd = (s : State) → IsLawful s → HasNoCycle s → (t : ℕ) → is_wai
 abbrev pub SettlingEnds : Type 0
 SettlingEnds = (c : Victims) (s : State) → IsLawful s → (t : ℕ) → (s' : State) × Settled c s t s' × ((other : State) → Settled c s t other → other ≡ s')
 
--- and then t is on no cycle, and nobody waits for whom it did not wait for
+-- and then t is on no cycle, and no wait is new
 abbrev pub SettlingFrees : Type 0
 SettlingFrees =
     (c : Victims) (s s' : State) → IsLawful s → (t : ℕ) → Settled c s t s' → IsOnNoCycle (waits_for s') t
     × ((x y : ℕ) → waits_for s' x y ≡ true → waits_for s x y ≡ true)
 
--- to condemn v takes waits away and adds none: what is left are waits that are not v's
+-- to condemn v removes waits and adds none: what is left are waits that are not v's
 abbrev pub CondemningFrees : Type 0
 CondemningFrees = (s : State) → IsLawful s → (v x y : ℕ) → waits_for (condemned s v) x y ≡ true → without (waits_for s) v x y ≡ true
 
--- where the fewest fall, one is enough
+-- by `Fewest`, one victim is enough
 abbrev pub OneFalls : Type 0
 OneFalls = (k : ℕ) (s s' : State) → IsLawful s → (t : ℕ) → SettledWithin Fewest k s t s' → k ≤ 1
 
--- the law can be met: the empty state meets it, under both ways of detection, both choices of victims and every limit
+-- the empty state is lawful, by both ways of detection and choices of victims, and with every limit
 abbrev pub EmptyIsLawful : Type 0
 EmptyIsLawful = (detect : Detect) (victims : Victims) (most : ℕ) → IsLawful (choosing victims (empty_state detect most))
 
--- and nobody waits in it
+-- and nobody is on a cycle in it
 abbrev pub EmptyHasNoCycle : Type 0
 EmptyHasNoCycle = (detect : Detect) (victims : Victims) (most : ℕ) → HasNoCycle (choosing victims (empty_state detect most))
 
 -- The records below a node, in two graphs.
 
--- below n no record came, went, or changed a key
+-- below n no record was added, removed or given another key
 pub record SameBelow (g g' : Graph) (n : NodeId) : Type 0 where
   pub kept : (r : NodeId) → IsBelow g n r → IsBelow g' n r × (keys_in (shape_of g' r) ≡ keys_in (shape_of g r))
   pub no_more : (r : NodeId) → IsBelow g' n r → IsBelow g n r
 
 -- What holds of a state also between the steps of a call.
 
--- who holds or waits lives, on living nodes; who stands in a queue waits there, once, for a mode; this holds also between the steps of a call
+-- holders and waiters live, on living nodes; who is in a queue waits there, once, for a mode; this holds also between the steps of a call
 pub record IsOrderly (s : State) : Type 0 where
   pub holders : (u : ℕ) (q : NodeId) → holds (members s q) u ≡ true → is_some (s.txns u) ≡ true
   pub holders_live : (u : ℕ) (q : NodeId) → holds (members s q) u ≡ true → is_live s.graph q ≡ true
@@ -183,7 +183,7 @@ pub record IsOrderly (s : State) : Type 0 where
   pub one_wait : (u : ℕ) (q : NodeId) (m : Mode) → status_of s u ≡ Some (Waiting q m) → (filter (is_waiter u) (s.queue q) ≡ (u, m) ∷ []) × (m ≢ NL)
   pub below : (u : ℕ) → is_some (s.txns u) ≡ true → u < s.most
 
--- who stands in the queue of n waits there, once, for a mode
+-- who is in the queue of n waits there, once, for a mode
 pub record WaitWell (b : State) (n : NodeId) : Type 0 where
   pub waits_are : (u : ℕ) → is_among_waiters u (b.queue n) ≡ true → is_waiting_at b u n ≡ true
   pub one_wait : (u : ℕ) → is_among_waiters u (b.queue n) ≡ true → (m : Mode) × (filter (is_waiter u) (b.queue n) ≡ (u, m) ∷ []) × (m ≢ NL)

@@ -1,4 +1,4 @@
--- The state of the model: one flat map of grants, one queue for each node, the transactions by slot; grants from fronts, cycles and victims.
+-- The state of the model: grants, a queue for each node, and the transactions by slot; grants from the front, cycles and victims.
 use Rattle.std.specs.Prelude.{ℕ, Bool, false, ◌&&◌, ◌==◌, List, [], Option, Some, None, if◌then◌else◌, true, ◌||◌, ◌∷◌, length, drop, ◌≡◌, zero, suc, not}
 use Rattle.std.specs.List.{range_with_len, list_any, list_all}
 use Rattle.gl_modes.specs.declared.mode.Mode.{Mode}
@@ -17,26 +17,25 @@ use Rattle.gl_model.specs.declared.txn.Status.{Status}
 use Rattle.gl_model.specs.declared.answers.Detect.{Detect}
 use Rattle.gl_model.specs.declared.txn.Status.TheVariants.{Active, Waiting, Condemned}
 
--- a living transaction: the number of begins at its own, that since which its work wants to be done, and what it is doing (Gray and Reuter; ages are
--- own)
+-- a living transaction: its age (the count of begins at its own), its `since` (its age, or that of an earlier begin of its work), and its status
 pub record Txn : Type 0 where
   pub age : ℕ
   pub since : ℕ
   pub status : Status
 
--- the whole state (own): no header and no list of locks stands in it, since both can be read from the grants
+-- the whole state: without headers and lists of locks, since both can be read from the grants
 pub record State : Type 0 where
   pub graph : Graph
   pub txns : ℕ → Option Txn  -- by slot
   pub held : ℕ → NodeId → Mode  -- by slot and node, NL for no grant
   pub queue : NodeId → List Waiter  -- slots with wanted modes
   pub detect : Detect
-  pub victims : Victims  -- whom a deadlock takes
+  pub victims : Victims  -- how victims are chosen
   pub most : ℕ  -- how many transactions may live at once
   pub begins : ℕ
   pub accepted : ℕ
 
--- who holds one node in which mode
+-- the mode of each slot on one node
 abbrev pub members : State → NodeId → Members
 members s n = λ t. s.held t n
 
@@ -49,16 +48,16 @@ abbrev pub live_by : ℕ → Option Txn → Bool
 live_by age None = false
 live_by age (Some x) = x.age == age
 
--- the name names a transaction that lives: slot and age agree
+-- the name is of a living transaction: slot and age agree
 abbrev pub lives : State → TxnId → Bool
 lives s t = live_by t.age (s.txns t.slot)
 
--- what is being done in a slot, if it is taken
+-- the status in a slot, if it is not free
 abbrev pub status_in : Option Txn → Option Status
 status_in None = None
 status_in (Some x) = Some x.status
 
--- what the transaction in a slot is doing
+-- the status of the transaction in a slot
 abbrev pub status_of : State → ℕ → Option Status
 status_of s t = status_in (s.txns t)
 
@@ -71,12 +70,12 @@ age_in (Some x) = x.age
 abbrev pub age_of : State → ℕ → ℕ
 age_of s t = age_in (s.txns t)
 
--- the number since which the work in a slot wants to be done, 0 for a free one
+-- the `since` in a slot, 0 for a free one
 abbrev pub since_in : Option Txn → ℕ
 since_in None = 0
 since_in (Some x) = x.since
 
--- the number since which the work of the transaction in a slot wants to be done, 0 for a free slot
+-- the `since` of the transaction in a slot, 0 for a free slot
 abbrev pub since_of : State → ℕ → ℕ
 since_of s t = since_in (s.txns t)
 
@@ -117,7 +116,7 @@ with_limits nodes bounds s = record s { graph = record s.graph { most = nodes; m
 abbrev pub counting : ℕ → State → State
 counting k s = record s { accepted = k }
 
--- no node, of which 65,536 may live at once, 256 bounds for an index, no transaction, nothing counted; of a deadlock the youngest falls
+-- no node (at most 65,536 at once, and 256 bounds for an index), no transaction, nothing counted; victims are chosen by `Youngest`
 abbrev pub empty_state : Detect → ℕ → State
 empty_state detect most =
     record {
@@ -132,9 +131,9 @@ empty_state detect most =
       accepted = 0;
     }
 
--- The rule of the lock graph, tested on explicit locks alone.
+-- The rule of the lock graph, tested on held locks alone.
 
--- a mode that may write here or further down: IX, SIX or X (1976)
+-- a mode that may write here or further down: IX, SIX or X
 abbrev pub is_write : Mode → Bool
 is_write m = is_at_least m IX
 
@@ -143,8 +142,7 @@ abbrev pub no_parents : List NodeId → Bool
 no_parents [] = true
 no_parents (p ∷ ps) = false
 
--- the rule of the lock graph (1976), for a mode on a node with these parents: to write, IX or greater on every parent; to read, IS or greater on one,
--- and nothing for a root
+-- the rule of the lock graph, for a mode on a node with these parents: to write, IX or greater on every one; to read, IS or greater on one; nothing for a root
 abbrev pub intends_over : (NodeId → Mode) → List NodeId → Mode → Bool
 intends_over held ps m =
     if is_write m
@@ -155,13 +153,13 @@ intends_over held ps m =
 abbrev pub intends : State → ℕ → NodeId → Mode → Bool
 intends s t n m = intends_over (s.held t) (parents_of s.graph n) m
 
--- Grants from the front of queues, and waits that are taken away.
+-- Grants from the front of queues, and removed waits.
 
 -- the waiters of a node that can be granted from the front of its queue
 abbrev pub front_at : State → NodeId → List Waiter
 front_at s n = front s.most (members s n) (s.queue n)
 
--- who is granted somewhere is active again
+-- a waiter that is granted somewhere is active again
 abbrev pub awake : (NodeId → List Waiter) → ℕ → Status → Status
 awake granted t Active = Active
 awake granted t (Waiting n m) = if is_among_waiters t (granted n) then Active else Waiting n m
@@ -176,7 +174,7 @@ woken granted t (Some x) = Some (record x { status = awake granted t x.status })
 abbrev pub granted_at : State → (NodeId → Bool) → NodeId → List Waiter
 granted_at s chosen n = if chosen n then front_at s n else []
 
--- every chosen node grants from its front (own: the longest front that fits, each after those before it), all at once, so that no order of visits matters
+-- the waiters of every chosen node are granted from the front, all at once, so that no order of visits matters
 abbrev pub pumped : State → (NodeId → Bool) → State
 pumped s chosen =
     record s {
@@ -185,7 +183,7 @@ pumped s chosen =
       txns = λ t. woken (granted_at s chosen) t (s.txns t);
     }
 
--- t's wait is taken out of its queue, and t has this status
+-- t's wait is removed from its queue, and t has this status
 abbrev pub without_wait : State → ℕ → Status → State
 without_wait s t st = with_status (record s { queue = λ n. without_waiter t (s.queue n) }) t st
 
@@ -198,14 +196,13 @@ waits_at o q = false
 abbrev pub is_waiting_at : State → ℕ → NodeId → Bool
 is_waiting_at s t n = waits_at (status_of s t) n
 
--- t is condemned (own): its wait is taken out and that node grants from its front; its locks stay
+-- t is condemned: its wait is removed, and that node's waiters are granted from the front; its locks stay
 abbrev pub condemned : State → ℕ → State
 condemned s t = pumped (without_wait s t Condemned) (is_waiting_at s t)
 
 -- Who waits for whom, cycles, and victims.
 
--- what a wait is for: u holds the node in a mode that does not go with the wanted one, or stands ahead in its queue (Gray and Reuter; that all ahead
--- count is own)
+-- what a wait is for: u holds the node in a mode incompatible with the wanted one, or is ahead in its queue
 abbrev pub blocks : State → ℕ → ℕ → Option Status → Bool
 blocks s t u (Some (Waiting n m)) = not (are_compatible m (s.held u n)) || is_ahead (s.queue n) t u
 blocks s t u o = false
@@ -214,21 +211,20 @@ blocks s t u o = false
 abbrev pub waits_for : State → ℕ → ℕ → Bool
 waits_for s t u = not (t == u) && blocks s t u (status_of s t)
 
--- by the choice c of victims, v is condemned for t: of the candidates it is the one whose work wants to be done since the latest begin, of such the
--- youngest
+-- by the choice c of victims, v is condemned for t: the candidate with the greatest `since`, of several the youngest
 abbrev pub IsVictim : Victims → State → ℕ → ℕ → Type 0
 IsVictim c s t v = IsLatest (IsCandidate c (waits_for s) t) (since_of s) (age_of s) v
 
--- settling t in this many turns (own): while t is on a cycle, a victim is condemned
+-- t is settled in this many turns: while t is on a cycle, a victim is condemned
 abbrev pub SettledWithin : Victims → ℕ → State → ℕ → State → Type 0
 SettledWithin c zero s t s' = IsOnNoCycle (waits_for s) t × (s' ≡ s)
 SettledWithin c (suc k) s t s' = (v : ℕ) × IsVictim c s t v × SettledWithin c k (condemned s v) t s'
 
--- settling t, in as many turns as it takes
+-- t is settled, in however many turns
 abbrev pub Settled : Victims → State → ℕ → State → Type 0
 Settled c s t s' = (k : ℕ) × SettledWithin c k s t s'
 
--- nobody waits, over some steps, for itself
+-- nobody waits, over one or more steps, for itself
 abbrev pub HasNoCycle : State → Type 0
 HasNoCycle s = (t : ℕ) → IsOnNoCycle (waits_for s) t
 

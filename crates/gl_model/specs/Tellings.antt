@@ -1,4 +1,4 @@
--- What others are told of a command (own), a function of the states before and after; and the same step by step.
+-- What others are told of a command, a function of the states before and after; and the same step by step.
 use Rattle.gl_slots.specs.Limit.{most_slots}
 use Rattle.std.specs.Prelude.{◌&&◌, ◌==◌, [], Bool, if◌then◌else◌, List, nat_lt, None, not, Option, Some, true, ℕ, ◌∷◌, ◌≡◌}
 use Rattle.std.specs.List.{count_by, filter, filter_map, find, list_all}
@@ -15,7 +15,7 @@ use Rattle.gl_model.specs.declared.txn.Status.TheVariants.{Active, Condemned, Wa
 use Rattle.gl_model.specs.State.{age_in, age_of, is_waiting_at, slots, State, status_of, Txn}
 use Rattle.gl_model.specs.declared.answers.Notice.TheVariants as notice
 
--- what one is told that waited for m on n and waits no more: by the status at the end, whether the node lives, and whether the wanted mode is held
+-- what a waiter for m on n is told that waits no more: by its status at the end, whether the node lives, and whether it holds the wanted mode
 abbrev pub notice_of : State → ℕ → NodeId → Mode → Option Status → Option Notice
 notice_of s' t n m None = None
 notice_of s' t n m (Some (Waiting q w)) = None
@@ -25,7 +25,7 @@ notice_of s' t n m (Some Active) =
     then Some notice.Gone
     else (if same_mode (s'.held t n) m then Some (notice.Granted n m) else Some notice.Moved)
 
--- what one is told, by the status before: only who waited is told
+-- what a transaction is told, by its status before: only waiters are told
 abbrev pub told_from : State → ℕ → Option Status → Option Notice
 told_from s' t (Some (Waiting n m)) = notice_of s' t n m (status_of s' t)
 told_from s' t o = None
@@ -39,21 +39,21 @@ addressed t (Some x) = Some (t, x)
 abbrev pub told : State → State → List (TxnId × Notice)
 told s s' = filter_map (λ t. addressed (record { slot = t; age = age_of s t }) (told_from s' t (status_of s t))) (slots s)
 
--- all notices but that of the caller, whose answer says it
+-- all notices but the caller's, whose answer says it
 abbrev pub told_but : ℕ → State → State → List (TxnId × Notice)
 told_but asker s s' = filter (λ x. not (x.0.slot == asker)) (told s s')
 
--- who is told what
+-- a list of notices
 abbrev pub Told : Type 0
 Told = List (TxnId × Notice)
 
--- What is told step by step, against what the model tells at once.
+-- What is told step by step, compared with what the model tells at once.
 
--- what a slot is told of the way from one state to another
+-- what a slot is told between two states
 abbrev pub told_to : State → State → ℕ → Option (TxnId × Notice)
 told_to s now u = addressed (record { slot = u; age = age_of s u }) (told_from now u (status_of s u))
 
--- on the way from a state by releases and withdrawn waits: nobody began to wait, and who waits stands in one queue, once
+-- from a state to a later one by releases and removed waits: nobody began to wait, and each waiter is in one queue, once
 pub record IsOnWay (s now : State) : Type 0 where
   pub graph : now.graph ≡ s.graph
   pub ages : (u : ℕ) → age_of now u ≡ age_of s u
@@ -62,7 +62,7 @@ pub record IsOnWay (s now : State) : Type 0 where
   pub one_wait : (u : ℕ) (q : NodeId) (m : Mode) → status_of now u ≡ Some (Waiting q m) → filter (is_waiter u) (now.queue q) ≡ (u, m) ∷ []
   pub live : (u : ℕ) (q : NodeId) (m : Mode) → status_of s u ≡ Some (Waiting q m) → is_live s.graph q ≡ true
 
--- What a table's calls do step by step, against what the model does at once.
+-- What a table's calls do step by step, compared with what the model does at once.
 
 -- how many children of n pass the test
 abbrev pub children_that : Graph → (NodeId → Bool) → NodeId → ℕ
@@ -77,14 +77,14 @@ stripped s t =
       txns = λ u. if u == t then None else s.txns u;
     }
 
--- A told list as it is filled: notices by rising slot.
+-- A list of notices as it is filled, by rising slot.
 
--- each slot is below all behind it
+-- each slot is below all after it
 abbrev pub is_rising : Told → Bool
 is_rising [] = true
 is_rising (x ∷ xs) = list_all (λ y. nat_lt x.0.slot y.0.slot) xs && is_rising xs
 
--- the notices stand by rising slot, and slots are below the limit
+-- the notices are by rising slot, and slots are below the limit
 pub record IsBySlot (told : Told) : Type 0 where
   pub rising : is_rising told ≡ true
   pub below : list_all (λ x. nat_lt x.0.slot most_slots) told ≡ true
@@ -93,16 +93,16 @@ pub record IsBySlot (told : Told) : Type 0 where
 abbrev pub notices_in : Told → ℕ → Option (TxnId × Notice)
 notices_in told u = find (λ x. x.0.slot == u) told
 
--- the mode that a slot has among these, NL for none
+-- the mode of a slot among these, NL for none
 abbrev pub mode_given : List Waiter → ℕ → Mode
 mode_given ws u = after_grants (λ _. NL) ws u
 
--- these slots are told this, and all others what they were
+-- these slots are told this, and all others what they were told before
 pub record IsTold (txns : ℕ → Option Txn) (who : ℕ → Bool) (says : ℕ → Notice) (told told' : Told) : Type 0 where
   pub by_slot : IsBySlot told'
   pub notices : (u : ℕ) → notices_in told' u ≡ (if who u then Some (record { slot = u; age = age_in (txns u) }, says u) else notices_in told u)
 
--- what a waiter is told that is granted
+-- what a granted waiter is told
 abbrev pub grant_notice : (ℕ → Option Txn) → NodeId → List Waiter → ℕ → Option (TxnId × Notice)
 grant_notice txns n ws u = Some (record { slot = u; age = age_in (txns u) }, notice.Granted n (mode_given ws u))
 

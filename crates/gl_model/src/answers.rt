@@ -1,4 +1,4 @@
-//! What a table is asked by, and what it answers.
+//! The settings of a table, and its answers.
 
 ghost use Rattle.std.specs.Prelude.{◌≡◌};
 
@@ -7,8 +7,8 @@ use arrayvec::ArrayVec;
 use gl_modes::{Mode, NodeId};
 use gl_slots::SLOTS;
 
-/// How deadlocks are found: at the moment in which a transaction begins to wait, or by a watcher
-/// that reads the boards and asks for a victim.
+/// How deadlocks are detected: when a transaction begins to wait, or by a watcher that reads the
+/// waits-for snapshots and settles a transaction.
 #[derive(Clone, Copy, PartialEq, Eq, Debug)]
 pub enum Detect {
     AtBlock,
@@ -23,14 +23,14 @@ pub enum Effect {
     X,
 }
 
-/// What an ask that was not refused comes to.
+/// The outcome of a request that was not refused.
 #[derive(Clone, Copy, PartialEq, Eq, Debug)]
 pub enum Locked {
     /// The node is held, in this mode.
     Granted(Mode),
     /// The transaction waits.
     Waiting,
-    /// The transaction was condemned to end a deadlock that its wait made.
+    /// The transaction was condemned to end a deadlock that its wait closed.
     Victim,
 }
 
@@ -38,7 +38,7 @@ pub enum Locked {
 #[derive(Clone, Copy, PartialEq, Eq, Debug)]
 pub struct LockRow {
     pub node: NodeId,
-    /// The mode in which it is held: `NL` where it is waited for alone.
+    /// The mode in which it is held: `NL` if it is only waited for.
     pub mode: Mode,
     /// How many of its children the transaction holds.
     pub children: u32,
@@ -58,8 +58,8 @@ pub enum Notice {
 }
 
 impl Default for Notice {
-    /// What lies in an unused place of a list. It is zero in every field, so that a list is filled by
-    /// wide stores of zero.
+    /// The value of an unused place of a list. It is zero in every field, so that a list is filled
+    /// by wide stores of zero.
     fn default() -> Self
         ensures { result ≡ Notice.Granted (record { key = 0; birth = 0 }) Mode.NL }
     {
@@ -67,5 +67,5 @@ impl Default for Notice {
     }
 }
 
-/// Who is told what, by rising slot.
+/// The notices of a command, by rising slot.
 pub type Told = ArrayVec<(TxnId, Notice), SLOTS>;

@@ -9,7 +9,7 @@ use arrayvec::ArrayVec;
 use gl_modes::{Mode, NodeId};
 use gl_slots::{SLOTS, Slots};
 
-/// One who waits on a cycle.
+/// A transaction that waits on a cycle.
 #[derive(Clone, Copy, PartialEq, Eq, Debug)]
 pub struct Stuck {
     pub txn: TxnId,
@@ -17,13 +17,13 @@ pub struct Stuck {
     pub node: NodeId,
     /// The mode in which it wants that node.
     pub wanted: Mode,
-    /// The slots of those on the cycle for whom it waits.
+    /// The slots on the cycle for which it waits.
     pub waits_for: Slots,
 }
 
 impl Default for Stuck {
-    /// What lies in an unused place of a cycle. It is zero in every field, so that a cycle is filled by
-    /// wide stores of zero.
+    /// The value of an unused place of a cycle. It is zero in every field, so that a cycle is
+    /// filled by wide stores of zero.
     fn default() -> Self
         ensures { result ≡ record { txn = record { slot = 0; age = 0 }; node = record { key = 0; birth = 0 }; wanted = Mode.NL; waits_for = no_slots } }
     {
@@ -39,7 +39,7 @@ impl Default for Stuck {
 /// A deadlock, as it was when its victim was condemned.
 #[derive(Clone, PartialEq, Eq, Debug, Drop)]
 pub struct Deadlock {
-    /// Who was condemned to end it.
+    /// The transaction that was condemned to end it.
     pub victim: TxnId,
     /// Each transaction on a cycle with the one that was settled, the victim among them, by rising
     /// slot.
@@ -47,7 +47,7 @@ pub struct Deadlock {
 }
 
 impl Deadlock {
-    /// What is kept before the first victim falls: no victim, and nobody on a cycle.
+    /// What is recorded before the first victim: no victim, and nobody on a cycle.
     pub fn none() -> Self
         ensures { result ≡ no_deadlock }
     {

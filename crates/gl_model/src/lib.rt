@@ -1,5 +1,5 @@
-//! The model of the state of locks: transactions, who holds what and who waits where, what each call makes
-//! of it, and who is told; and the laws of the model.
+//! The model of the state of locks: transactions, who holds what and who waits for what, what each
+//! call makes of it, and who is told; and the laws of the model.
 #![tactic(auto)]
 
 mod answers;

@@ -1,4 +1,4 @@
-//! Transactions: their names and their states.
+//! Transactions: their names and their statuses.
 
 use gl_modes::{Mode, NodeId};
 use gl_slots::Slot;
@@ -16,13 +16,13 @@ impl TxnId {
     pub const NONE: TxnId = TxnId { slot: 0, age: 0 };
 }
 
-/// What a living transaction is doing.
+/// The status of a living transaction.
 #[derive(Clone, Copy, PartialEq, Eq, Debug)]
 pub enum Status {
-    /// It may ask for locks.
+    /// It may request locks.
     Active,
     /// It waits on a node for a mode.
     Waiting { node: NodeId, wanted: Mode },
-    /// It was chosen as a victim, and can only abort.
+    /// It was chosen as victim, and can only abort.
     Condemned,
 }

@@ -1,4 +1,4 @@
--- What an accepted command leaves of the count of accepted commands, which is raised behind it.
+-- What an accepted command leaves of the count of accepted commands, which is raised after it.
 use Rattle.std.specs.Prelude.{◌≡◌, ℕ, zero, suc}
 use Rattle.std.proofs.Common.{ap}
 use Rattle.gl_modes.proofs.Words.{split}

@@ -1,4 +1,4 @@
--- No definition of the model asks for the count of accepted commands.
+-- No definition of the model reads the count of accepted commands.
 use Rattle.gl_waits.specs.declared.victims.Victims.{Victims}
 use Rattle.std.specs.Prelude.{◌≡◌, ℕ, zero, suc}
 use Rattle.std.proofs.Common.{refl, ap, get_or}
@@ -37,7 +37,7 @@ module _ (k : ℕ) where
   pub no_conflict_counting : (s : State) → HasNoConflict s → HasNoConflict (counting k s)
   no_conflict_counting s none t u r c = none t u r (record { differ = c.differ; writes = c.writes; reads = c.reads })
 
-  -- nor who waits for whom
+  -- nor the waits
   pub no_cycle_counting : (s : State) → HasNoCycle s → HasNoCycle (counting k s)
   no_cycle_counting s none = none
 

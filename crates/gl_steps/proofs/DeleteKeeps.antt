@@ -1,4 +1,4 @@
--- A record goes with its grants and waits: the law of a state is kept.
+-- A record is removed with its grants and waits: the law of a state is kept.
 use Rattle.std.specs.Prelude.{not, [], ◌∷◌}
 use Rattle.std.proofs.Common.{sym, subst}
 use Rattle.gl_modes.specs.declared.node.NodeId.{NodeId}

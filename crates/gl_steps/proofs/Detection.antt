@@ -1,4 +1,4 @@
--- No command changes what the host chose for a state, as the way of detection.
+-- No command changes what the host chose for a state, such as detection.
 use Rattle.gl_modes.proofs.Words.{split}
 use Rattle.gl_waits.specs.declared.victims.Victims.{Victims}
 use Rattle.std.specs.Prelude.{◌≡◌, ℕ, zero, suc}
@@ -14,7 +14,7 @@ use Rattle.gl_steps.specs.Step.{Accepts, Step}
 use Rattle.gl_model.specs.Calls.{WaitSettles, wanted, enters_at, enqueued}
 use Rattle.gl_steps.proofs.EachStep.{each_step}
 
--- what the host chose for a state: when deadlocks are looked for, whom they take, and how many transactions may live at once
+-- what the host chose for a state: detection, choice of victims, and how many transactions may live at once
 abbrev pub settings : State → Detect × Victims × ℕ
 settings s = (s.detect, s.victims, s.most)
 
@@ -58,6 +58,6 @@ pub steps_keep_settings : (s s' : State) (c : Command) (a : Answer) (told' : Tol
 steps_keep_settings s s' c a told' step =
     each_step (λ x. settings x ≡ settings s) s c a told' s' refl (λ next same. same) (λ free next acc. accepts_settings s c a told' next acc) step
 
--- the way of detection stays
+-- detection stays
 pub steps_keep_detect : (s s' : State) (c : Command) (a : Answer) (told' : Told) → Step s c a told' s' → s'.detect ≡ s.detect
 steps_keep_detect s s' c a told' step = ap (λ x. x.0) (steps_keep_settings s s' c a told' step)

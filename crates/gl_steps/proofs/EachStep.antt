@@ -12,7 +12,7 @@ use Rattle.gl_model.specs.Tellings.{Told}
 use Rattle.gl_steps.specs.Tests.{refusal_of, may_want_memory}
 use Rattle.gl_steps.specs.Step.{Accepts, Answers, Goes, Step, Unchanged, query_answer}
 
--- a relation of the state before and after that holds where nothing changes, and that does not ask for the count of accepted commands
+-- a relation of the state before and after that holds if nothing changes, and that does not read the count of accepted commands
 pub each_step : (After : State → Type 0) (s : State) (c : Command) (a : Answer) (told : Told) (s' : State) → After s
     → ((next : State) → After next → After (accepted_once next))
     → (refusal_of s c ≡ None → (next : State) → Accepts s c a told next → After next) → Step s c a told s' → After s'

@@ -39,7 +39,7 @@ use Rattle.std.proofs.lemmas.Bool.{not-true}
 sup_reads : (a b : Mode) → is_read b ≡ true → is_read (supremum a b) ≡ true
 sup_reads a b h = search rules
 
--- who does not wait is granted nothing from a queue
+-- one that does not wait is granted nothing from a queue
 front_among : (most : ℕ) (g : Members) (t : ℕ) (q : List Waiter) → is_among_waiters t q ≡ false → is_among_waiters t (front most g q) ≡ false
 front_among most g t [] h = refl
 front_among most g t (w ∷ q) h =

@@ -1,4 +1,4 @@
--- New nodes, a node taken out, and a node with other parents: what they leave to a holder t.
+-- New nodes, a node removed, and a node with other parents: what they leave to a holder t.
 use Rattle.std.specs.Prelude.{◌≡◌, ◌≢◌, ℕ, zero, suc, ◌+◌, ◌≤◌, ◌<◌, Bool, true, false, not, ◌&&◌, ◌||◌, ◌==◌, nat_lt, List, [], ◌∷◌, Option, Some}
 use Rattle.std.specs.Prelude.{None, is_some, if◌then◌else◌}
 use Rattle.std.specs.List.{list_all}
@@ -49,7 +49,7 @@ pub x_on_parents : (s : State) → IsLawful s → (u : ℕ) (n : NodeId) → is_
 x_on_parents s law u n live some all =
     eff_x_any s law u 1 n live (ap (λ b. same_mode (s.held u n) X || b) (ap₂ (λ a b. a && b) some all) ∙ or-true _)
 
--- what t may hold beside an X
+-- what t may hold if another holds X
 pub beside_x : (m w : Mode) → same_mode m X ≡ true → are_compatible m w ≡ true → w ≡ NL
 beside_x m w x c = search rules
 
@@ -127,7 +127,7 @@ module _ (s s' : State) (law : IsLawful s) (ns : List Node) (made : s'.graph ≡
   pub born_kinds : KeepsKinds s.graph s'.graph
   born_kinds n live _ = kind_same (node_at s.graph n) (node_at s'.graph n) (born_same n (old_below s.graph law.graph ns n live))
 
-  -- new nodes, where the records among them are out of t's reach
+  -- new nodes, if the records among them are out of t's reach
   pub born_step_records : (t : ℕ) → ((c : NodeId) → s.graph.births < c.birth → is_record_shape (shape_of s'.graph c) ≡ true
       → ReadOn s'.graph (s.held t) c → ⊥) → GraphStep s.graph s'.graph (s.held t) (is_new s.graph)
   born_step_records t records = record {
@@ -143,7 +143,7 @@ module _ (s s' : State) (law : IsLawful s) (ns : List Node) (made : s'.graph ≡
       born_step_records t (λ c new rec _. true≢false
       (sym rec ∙ ap (λ g. is_record_shape (shape_of g c)) made ∙ born_no_records s.graph.births s.graph ns plain (unborn_shape s.graph law.graph) c new))
 
--- the node of one birth is changed, and keeps its key or goes
+-- the node of one birth is changed, and keeps its key or is removed
 abbrev pub KeepsKey : (Option Node → Option Node) → Type 0
 KeepsKey f = (key : ℕ) (o : Option Node) → with_key key o ≡ None → with_key key (f o) ≡ None
 
@@ -182,7 +182,7 @@ module _ (s s' : State) (law : IsLawful s) (x : NodeId) (f : Option Node → Opt
   pub changed_old : (c : NodeId) → c.birth ≤ s.graph.births → is_live s'.graph c ≡ true → is_live s.graph c ≡ true
   changed_old c _ on = split (same_node c x) (λ e. ap (is_live s.graph) (same_node-equal c x e) ∙ live) (λ e. ap is_some (sym (at_same c e)) ∙ on)
 
-  -- all else is as it was, so kinds are kept where that of the node is
+  -- all else is as it was, so kinds are kept if that of the node is
   pub changed_kinds : (is_live s'.graph x ≡ true → KeepsKind (node_at s.graph x) (node_at s'.graph x)) → KeepsKinds s.graph s'.graph
   changed_kinds here c _ live' =
       split (same_node c x)

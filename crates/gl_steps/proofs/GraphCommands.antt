@@ -1,4 +1,4 @@
--- Commands that change the graph: each keeps a transaction that it does not name, where the states before and after are lawful.
+-- Commands that change the graph: each keeps a transaction that it does not name, if the states before and after are lawful.
 use Rattle.std.specs.Prelude.{◌≡◌, ◌≢◌, ◌⊎◌, ℕ, ◌+◌, ◌<◌, Bool, true, false, not, ◌&&◌, ◌==◌, List, [], ◌∷◌, Option, Some, None, is_some, if◌then◌else◌}
 use Rattle.std.specs.List.{filter, list_all, list_any}
 use Rattle.std.proofs.Common.{refl, sym, ap, ap₂, subst, ◌∙◌, arith, inl, inr}
@@ -55,7 +55,7 @@ plain_intervals index place (k ∷ ks) = plain_intervals index (place + 1) ks
 abbrev pub new_record : ℕ → List ℕ → List NodeId → Node
 new_record key keys ps = record { key = key; shape = Rec keys; parents = ps }
 
--- the grants of t where a node on which another holds X is taken out, a node gets other parents, or nodes are made
+-- the grants of t if a node on which another holds X is removed, a node gets other parents, or nodes are made
 pub deleted_same : (s : State) → IsLawful s → (u t : ℕ) (x : NodeId) → u ≢ t → same_mode (s.held u x) X ≡ true → SameGrants s (deleted s x) t
 deleted_same s law u t x ne holds q =
     let nothing = beside_x (s.held u x) (s.held t x) holds (law.compatible u t x ne) in
@@ -121,7 +121,7 @@ module _ (s : State) (law : IsLawful s) (t : TxnId) (alive : lives s t ≡ true)
           (λ b. is_record_shape (shape_in (with_key c.key (if b then Some (new_record key keys ps) else s.graph.at c.birth)))) e
           ∙ unborn_shape s.graph law.graph c new))
 
-  -- a node taken out, which another holds in X
+  -- a node removed, which another holds in X
   pub delete_keeps : (u : ℕ) (x : NodeId) → u ≢ t.slot → is_live s.graph x ≡ true → same_mode (s.held u x) X ≡ true → next ≡ deleted s x → Kept
   delete_keeps u x ne live holds is =
       keeps_graph s (accepted_once next) t told' (λ c. same_node c x) law law'

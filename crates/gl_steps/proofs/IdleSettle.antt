@@ -1,4 +1,4 @@
--- A settle of one who is on no cycle.
+-- A settle of a transaction that is on no cycle.
 use Rattle.std.specs.Prelude.{◌≡◌, true, [], Option, Some, None}
 use Rattle.std.proofs.Common.{sym, ap, ◌∙◌, ⊎_elim}
 use Rattle.gl_modes.specs.declared.refusal.Refusal.{Refusal}

@@ -35,7 +35,7 @@ abbrev pub ToldGrant : State → State → TxnId → Told → Type 0
 ToldGrant s s' t told' = (g : GrantedTo s s' t.slot) × (list_any (tells t g.node g.mode) told' ≡ true)
 
 -- t lives on; its grants stay, or one for which it waited was given, and it was told; ids are not given again;
--- what stands keeps its kind; its effective modes stay, or rise where it was told; what lies below its effective S stays, where the step is not of rows
+-- nodes that live on keep their kinds; its effective modes stay, or may rise if it was told; what is below its effective S stays, unless the step is of rows
 pub record Keeps (s s' : State) (t : TxnId) (told' : Told) (rows : Bool) : Type 0 where
   pub alive : lives s' t ≡ true
   pub grants : SameGrants s s' t.slot ⊎ ToldGrant s s' t told'

@@ -1,4 +1,4 @@
--- What stands keeps its kind: a record its file, and a file the mark that rows of it were adopted.
+-- A node that lives on keeps its kind: a record its file, and a file the mark that rows of it were adopted.
 use Rattle.std.specs.Prelude.{◌≡◌, ℕ, Bool, true, false, ◌==◌, List, [], ◌∷◌, Option, Some, None, if◌then◌else◌}
 use Rattle.std.proofs.Common.{refl, sym, ap, ◌∙◌}
 use Rattle.gl_modes.proofs.Words.{clash, no}
@@ -17,7 +17,7 @@ pub record KeepsKind (o o' : Option Node) : Type 0 where
   pub file : is_record_shape (shape_in o) ≡ true → first_in (parents_in o') ≡ first_in (parents_in o)
   pub mark : is_adopted (shape_in o) ≡ true → is_adopted (shape_in o') ≡ true
 
--- of all nodes that stand before and after
+-- of all nodes that live before and after
 abbrev pub KeepsKinds : Graph → Graph → Type 0
 KeepsKinds g g' = (n : NodeId) → is_live g n ≡ true → is_live g' n ≡ true → KeepsKind (node_at g n) (node_at g' n)
 
@@ -77,7 +77,7 @@ kind_reparented ps key (Some n) movable = by (n.key == key) movable
     by true m = record { record_same = refl; file = λ h. clash h (movable_unrecorded (Some n.shape) m); mark = λ h. h }
     by false m = absurd (no m)
 
--- a file that has the mark keeps it where one is marked
+-- a file that has the mark keeps it if one is marked
 mark_stays : (g : Graph) (f n : NodeId) → is_adopted (shape_of g n) ≡ true → is_adopted (shape_of (marked g f) n) ≡ true
 mark_stays g f n h = by (n.birth == f.birth)
   where

@@ -1,4 +1,4 @@
--- the count of accepted commands, which nothing else asks for
+-- the count of accepted commands, which nothing else reads
 pub mod Counting
 pub mod Accepting
 -- steps

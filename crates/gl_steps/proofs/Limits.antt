@@ -37,7 +37,7 @@ worn_at k = record (play (empty_state AtBlock 1) command.Begin).2 { accepted = k
 abbrev settles : Line
 settles = done (command.Settle t)
 
--- settling one who waits for nobody changes the count alone
+-- settling one that waits for nobody changes the count alone
 one_more : (k : ℕ) → (k == max_count) ≡ false → play (worn_at k) (command.Settle t) ≡ (answer.Done, [], worn_at (k + 1))
 one_more k e =
     let F : Bool → Outcome = λ b. tested (worn_at k) (command.Settle t) (first_refusal (where_true b no.WornOut ∷ no_txn (worn_at k) t ∷ [])) in

@@ -17,7 +17,7 @@ use Rattle.gl_model.specs.State.{Settled, SettledWithin}
 use Rattle.gl_model.proofs.law.Keeps.{woken_waits}
 use Rattle.gl_model.proofs.law.Takes.{IsQuiet, restatus_quiet}
 
--- the same transaction, whatever it is doing
+-- the same transaction, in any status
 pub record SameTurn (x y : Option Txn) : Type 0 where
   pub there : is_some y ≡ is_some x
   pub age : age_in y ≡ age_in x

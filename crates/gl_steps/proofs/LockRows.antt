@@ -24,7 +24,7 @@ b = txn 1 2
 abbrev c : TxnId
 c = txn 2 3
 
--- a transaction's own grant does not stand in its way
+-- a transaction's own grant does not block it
 row_own_grant : Rows AtBlock 2 (
     roots db ∷ begins a
     ∷ says (command.Try a db IX) (answer.Granted IX)
@@ -43,7 +43,7 @@ row_grant_on_commit : Rows AtBlock 2 (
     ∷ group db IX ∷ [])
 row_grant_on_commit = computed refl
 
--- a newcomer waits behind a queue though it goes with all that is granted
+-- a newcomer waits after a queue though it is compatible with all grants
 row_newcomer_behind_queue : Rows AtBlock 3 (
     roots db ∷ begins a ∷ begins b ∷ begins c
     ∷ locks a S db
@@ -64,7 +64,7 @@ row_conversion_ahead : Rows AtBlock 3 (
     ∷ holds c db NL ∷ [])
 row_conversion_ahead = computed refl
 
--- two conversions that wait for each other: the youngest is the victim, here the asker
+-- two conversions that wait for each other: the youngest is the victim, here the requester
 row_asker_is_victim : Rows AtBlock 2 (
     roots db ∷ begins a ∷ begins b
     ∷ locks a S db
@@ -85,7 +85,7 @@ row_other_is_victim : Rows AtBlock 2 (
     ∷ tells (command.Abort b) a (notice.Granted db X) ∷ [])
 row_other_is_victim = computed refl
 
--- a victim that begins again keeps its turn: the next that falls began after its first begin, though before its second
+-- a victim that begins again keeps its turn: the next victim began after its first begin, though before its second
 row_victim_keeps_its_turn : Rows AtBlock 3 (
     roots db ∷ begins a ∷ begins b ∷ begins c
     ∷ locks a S db
@@ -102,7 +102,7 @@ row_victim_keeps_its_turn : Rows AtBlock 3 (
     ∷ tells (command.Abort c) (txn 0 4) (notice.Granted db X) ∷ [])
 row_victim_keeps_its_turn = computed refl
 
--- a cycle through a waiter that stands ahead
+-- a cycle through a waiter that is ahead
 row_cycle_through_waiter_ahead : Rows AtBlock 3 (
     roots (id 1) ∷ roots (id 2) ∷ begins a ∷ begins b ∷ begins c
     ∷ locks a S (id 1)
@@ -113,7 +113,7 @@ row_cycle_through_waiter_ahead : Rows AtBlock 3 (
     ∷ tells (command.Abort c) a (notice.Granted (id 2) S) ∷ [])
 row_cycle_through_waiter_ahead = computed refl
 
--- the lowest free slot is taken, and the limit is what the state says
+-- a begin gets the lowest free slot, and the limit is what the state says
 row_lowest_slot : Rows AtBlock 64 (
     map (λ k. begins (txn k (k + 1))) (range_with_len 0 64)
     ++ refuses command.Begin no.TooManyTxns
@@ -121,7 +121,7 @@ row_lowest_slot : Rows AtBlock 64 (
     ∷ begins (txn 5 65) ∷ [])
 row_lowest_slot = computed refl
 
--- a try does not wait, and a wait can be given up
+-- a try does not wait, and a wait can be cancelled
 row_try_and_cancel : Rows AtBlock 2 (
     roots db ∷ begins a ∷ begins b
     ∷ locks a S db
@@ -134,7 +134,7 @@ row_try_and_cancel : Rows AtBlock 2 (
     ∷ done (command.Commit b) ∷ [])
 row_try_and_cancel = computed refl
 
--- with detection by a watcher a deadlock stays until someone asks to settle it
+-- with detection by a watcher a deadlock stays until it is settled
 row_by_watcher : Rows ByWatcher 2 (
     roots db ∷ begins a ∷ begins b
     ∷ locks a S db

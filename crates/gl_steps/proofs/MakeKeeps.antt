@@ -20,7 +20,7 @@ use Rattle.gl_model.proofs.law.Records.{placed-lawful}
 use Rattle.gl_graph.proofs.Unrefused.{not_refused, test_fails, not_false, enough_room}
 use Rattle.gl_steps.proofs.NotRefused.{active_is}
 
--- a test that was passed behind the count of commands
+-- a test that was passed after the count of commands
 pub behind_worn : (s : State) (o : Option Refusal) → first_refusal (worn s ∷ o ∷ []) ≡ None → o ≡ None
 behind_worn s o h = (not_refused o [] (not_refused (worn s) (o ∷ []) h).1).0
 

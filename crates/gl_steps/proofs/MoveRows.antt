@@ -39,7 +39,7 @@ c = txn 2 3
 abbrev places : List Line
 places = roots db ∷ inner (db ∷ []) x ∷ inner (db ∷ []) y ∷ file (x ∷ []) f1 ∷ []
 
--- of the waiters on a file that moves those go that lose the rule of the graph
+-- of the waiters on a file that moves, those that fail the rule of the graph are removed
 row_file_moves : Rows AtBlock 3 (places ++
     begins a ∷ begins b ∷ begins c ∷ locks_all a IX (db ∷ x ∷ y ∷ [])
     ++ locks a X f1
@@ -53,7 +53,7 @@ row_file_moves : Rows AtBlock 3 (places ++
     ∷ tells (command.Commit a) c (notice.Granted f1 S) ∷ [])
 row_file_moves = computed refl
 
--- no node comes below itself; a node without parents is a root
+-- no node gets below itself; a node without parents is a root
 row_no_cycle : Rows AtBlock 1 (
     roots db ∷ inner (db ∷ []) x ∷ inner (x ∷ []) y ∷ begins a
     ∷ locks a X db
@@ -68,7 +68,7 @@ row_no_cycle : Rows AtBlock 1 (
     ∷ refuses (command.Unlock a x) (no.HeldChild y) ∷ [])
 row_no_cycle = computed refl
 
--- a move asks IX on each new parent
+-- a move needs IX on each new parent
 row_new_parent : Rows AtBlock 2 (places ++
     begins a ∷ begins b ∷ locks_all a IX (db ∷ x ∷ [])
     ++ locks a X f1
@@ -78,7 +78,7 @@ row_new_parent : Rows AtBlock 2 (places ++
     ∷ waits a IX y ∷ [])
 row_new_parent = computed refl
 
--- X on all old and all new parents does in place of X on the node, but not where there are none
+-- X on all old and all new parents is enough in place of X on the node, but not if there are none
 row_all_parents : Rows AtBlock 1 (places ++
     begins a
     ∷ locks a IX db

@@ -49,7 +49,7 @@ s_by_parents : (k : ℕ) (g : Graph) (held : NodeId → Mode) (n : NodeId) (ps :
     → list_all (λ p. same_mode (held p) X) ps ≡ true → eff_s (suc k) g held n ≡ true
 s_by_parents k g held n ps e some h = ap (λ qs. is_read (held n) || list_any (eff_s k g held) qs) e ∙ or_right (is_read (held n)) _ (s_over k g held ps some h)
 
--- where the mode on one node is the same and others have the same parents, all modes are the same
+-- if the mode on one node is the same and others have the same parents, all modes are the same
 module _ (g g' : Graph) (held : NodeId → Mode) (n : NodeId) (others : (q : NodeId) → q ≢ n → parents_of g' q ≡ parents_of g q)
     (x_here : (k : ℕ) → eff_x k g' held n ≡ eff_x k g held n) (s_here : (k : ℕ) → eff_s k g' held n ≡ eff_s k g held n) where
   -- effective X, by the steps up

@@ -1,4 +1,4 @@
--- What is known of a command that is not refused: who asks lives, the nodes live, and a mover holds what it must.
+-- What is known of a command that is not refused: the requester lives, the nodes live, and a mover holds what it must.
 use Rattle.std.specs.Prelude.{◌≡◌, ◌⊎◌, ℕ, Bool, true, false, not, ◌&&◌, List, [], ◌∷◌, Option, Some, None, ◌≢◌, ◌==◌}
 use Rattle.std.specs.List.{list_all}
 use Rattle.std.proofs.Common.{refl, sym, ap, ◌∙◌, inl, inr, ap₂, arith}

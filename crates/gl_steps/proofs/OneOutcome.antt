@@ -26,7 +26,7 @@ wait_one : (d : Detect) (c : Victims) (s s₁ s₂ : State) (t : ℕ) → IsLawf
 wait_one AtBlock c s s₁ s₂ t law h k = settled_one c s s₁ s₂ t law h k
 wait_one ByWatcher c s s₁ s₂ t law h k = h ∙ sym k
 
--- two ways in which one command goes
+-- two outcomes of one command
 module _ (s s₁ s₂ : State) (a₁ a₂ : Answer) (told₁ told₂ : Told) where
   abbrev Same : Type 0
   Same = (a₁ ≡ a₂) × (told₁ ≡ told₂) × (s₁ ≡ s₂)

@@ -1,4 +1,4 @@
--- Each way in which another transaction's command changes grants, queues and slots, and what it leaves to a slot t that it does not name.
+-- How another transaction's command changes grants, queues and slots, and what it leaves to a slot t that it does not name.
 use Rattle.gl_modes.proofs.Words.{split, and_both, same_number}
 use Rattle.gl_waits.specs.declared.victims.Victims.{Victims}
 use Rattle.gl_waits.proofs.VictimLemmas.{candidate-on_cycle}
@@ -26,7 +26,7 @@ use Rattle.gl_modes.proofs.NodeLemmas.{same_node-equal}
 pub other : (u t : ℕ) → u ≢ t → (t == u) ≡ false
 other u t ne = grind (arith, nat_tests)
 
--- the grants of t, where another's are changed
+-- the grants of t, if another's are changed
 pub with_grant_same : (s : State) (u t : ℕ) (n : NodeId) (m : Mode) → u ≢ t → SameGrants s (with_grant s u n m) t
 with_grant_same s u t n m ne q = ap (λ b. if b && same_node q n then m else s.held t q) (other u t ne)
 
@@ -51,7 +51,7 @@ enqueued_follows s u t n m ne well =
     by q true e = placed_other (members s n) u t (s.queue n) m ne ∙ ap (λ x. waits_of t (s.queue x)) (sym (same_node-equal q n e))
     by q false e = refl
 
--- another's wait is taken out
+-- another's wait is removed
 pub without_wait_follows : (s : State) (u t : ℕ) (st : Status) → u ≢ t → WaitsWell s t → Follows s (without_wait s u st) t
 without_wait_follows s u t st ne well =
     follows_same s (without_wait s u st) t well refl (ap (λ b. if b then restatus st (s.txns u) else s.txns t) (other u t ne)) (λ q. refl)
@@ -108,7 +108,7 @@ condemned_follows s v t waits well =
     differ : (v == t) ≡ false → v ≢ t
     differ e same = let no : (v == t) ≡ true = grind (arith, nat_tests) in true≢false (sym no ∙ e)
 
--- who waits for another waits
+-- one that waits for another waits
 blocks_waits : (s : State) (v u : ℕ) (o : Option Status) → blocks s v u o ≡ true → (n : NodeId) × (m : Mode) × (o ≡ Some (Waiting n m))
 blocks_waits s v u None h = absurd (true≢false (sym h))
 blocks_waits s v u (Some Active) h = absurd (true≢false (sym h))
@@ -137,7 +137,7 @@ pub wait_settles_follows : (d : Detect) (c : Victims) (s : State) (u : ℕ) (s' 
 wait_settles_follows AtBlock c s u s' t settles well = settled_follows c s u s' t settles well
 wait_settles_follows ByWatcher c s u s' t settles well = subst (λ x. Follows s x t) (sym settles) (follows_same s s t well refl refl (λ q. refl) (λ q. refl))
 
--- everything of another taken out, or some of its grants, and then the pump
+-- everything of another removed, or some of its grants, and then the pump
 abbrev cleared : State → ℕ → State
 cleared s u =
     record s {
@@ -174,7 +174,7 @@ unlocked_follows s u t n ne well =
     let f = with_grant_follows s u t n NL ne well in
     follows_trans s (with_grant s u n NL) (pumped (with_grant s u n NL) (same_node n)) t f (pumped_follows (with_grant s u n NL) (same_node n) t f.well)
 
--- another takes its wait back
+-- another cancels its wait
 pub cancelled_follows : (s : State) (u t : ℕ) → u ≢ t → WaitsWell s t → Follows s (pumped (without_wait s u Active) (is_waiting_at s u)) t
 cancelled_follows s u t ne well =
     let f = without_wait_follows s u t Active ne well in

@@ -1,4 +1,4 @@
--- What others cannot do below what a transaction reads, over a run: records come and go there by adopt and forget alone.
+-- What others cannot do below what a transaction reads, over a run: records are added and removed there by adopt and forget alone.
 use Rattle.std.specs.Prelude.{◌≡◌, ◌≤◌, Bool, true, false, List, [], ◌∷◌}
 use Rattle.std.specs.List.{list_any}
 use Rattle.std.proofs.Common.{refl, sym, ap, subst, ◌∙◌, inl, inr, ⊎_elim, arith}
@@ -34,7 +34,7 @@ none_below s s' law e n = subst (λ x. LeavesBelow s [] [] x n) (sym e) (record 
   went = λ r on dead. clash (below_stands s.graph law.graph n r on) dead;
 })
 
--- nothing is below what does not stand
+-- nothing is below a node that does not live
 gone_below : (s s' : State) (cs : List Command) (rs : List (Answer × Told)) → IsLawful s → IsLawful s' → (n : NodeId) → is_live s.graph n ≡ false
     → is_live s'.graph n ≡ false → LeavesBelow s cs rs s' n
 gone_below s s' cs rs law law' n dead dead' = record {
@@ -55,7 +55,7 @@ module _ (s mid s' : State) (law : IsLawful s) (lawm : IsLawful mid) (law' : IsL
     (rs : List (Answer × Told)) (step : Step s c x.0 x.1 mid) (run : Run mid cs rs s') (n : NodeId) (first : StepBelow s c x mid n)
     (rest : LeavesBelow mid cs rs s' n) (between : (r : NodeId) → is_live s.graph r ≡ true → is_live s'.graph r ≡ true → is_live mid.graph r ≡ true)
     (kinds : KeepsKinds mid.graph s'.graph) where
-  -- one that stands behind the step is below n there where it is below n at the end
+  -- one that lives after the step is below n there if it is below n at the end
   below_mid : (r : NodeId) → is_live mid.graph r ≡ true → IsBelow s'.graph n r → IsBelow mid.graph n r
   below_mid r live on = (rest.stays r live (below_stands s'.graph law'.graph n r on)).no_more on
 
@@ -105,7 +105,7 @@ module _ (s mid s' : State) (law : IsLawful s) (lawm : IsLawful mid) (law' : IsL
     went = cons_went;
   }
 
--- step by step: t reads n on where it stands, and what goes does not come again
+-- step by step: t still reads n while it lives, and what is removed does not return
 pub others_leave_below : OthersLeaveBelow
 others_leave_below s s' cs rs t n law run alive apart reads = along cs rs s s' law run alive apart reads
   where
@@ -133,7 +133,7 @@ others_leave_below s s' cs rs t n law run alive apart reads = along cs rs s s' l
         (λ dead. gone_below mid s' cs rs lawm law' n dead (not_true (is_live s'.graph n) (λ live. clash (over.old n (births n stood) live) dead))) in
         cons_below s mid s' law lawm law' c r cs rs run.1 run.2 n first rest (λ q live live'. over.old q (births q live) live') over.kinds
 
--- Where no row is adopted or forgotten, or none of one file.
+-- If no row is adopted or forgotten, or none of one file.
 
 -- steps that are so are told by a test of their commands
 abbrev Tells : (State → Command → Answer × Told → State → Type 0) → (Command → Bool) → Type 0
@@ -183,14 +183,14 @@ module _ (s s' : State) (cs : List Command) (rs : List (Answer × Told)) (law : 
       split (is_live s.graph r) (λ live. (leaves.stays r live (below_stands s'.graph law'.graph n r on)).no_more on)
       (λ dead. absurd (no_step (Adopts (first_parent s'.graph r) r) test tested cs rs s s' none (leaves.came r dead on)))
 
-  -- where no row is adopted or forgotten, the records below n are the same
+  -- if no row is adopted or forgotten, the records below n are the same
   pub same_below : list_any is_of_rows cs ≡ false → SameBelow s.graph s'.graph n
   same_below none = record {
     kept = λ r. kept_by is_of_rows r (forgets_row r) none;
     no_more = λ r. no_more_by is_of_rows r (adopts_row (first_parent s'.graph r) r) none;
   }
 
-  -- where none of a file is, those of the file are
+  -- if none of a file is, those of the file are
   pub same_below_of : (f : NodeId) → list_any (is_of_rows_of s.graph f) cs ≡ false → SameBelowOf s.graph s'.graph f n
   same_below_of f none = record {
     kept = λ r is. kept_by (is_of_rows_of s.graph f) r (subst (λ h. Tells (Forgets r) (is_of_rows_of s.graph h)) is (forgets_of s.graph r)) none;

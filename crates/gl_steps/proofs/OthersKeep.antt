@@ -1,4 +1,4 @@
--- What others cannot do to a holder, over a run: its effective modes stay, and what stands keeps its kind.
+-- What others cannot do to a holder, over a run: its effective modes stay, and what lives on keeps its kind.
 use Rattle.std.specs.Prelude.{◌≡◌, ◌⊎◌, ℕ, ◌≤◌, Bool, true, false, ◌||◌, List, [], ◌∷◌, Option, Some, None, is_some}
 use Rattle.std.specs.List.{list_any}
 use Rattle.std.proofs.Common.{refl, sym, subst, ◌∙◌, arith, rules, inl, inr}
@@ -58,7 +58,7 @@ over_none s s' t alive e = subst (λ x. KeepsOver s x t false) (sym e) (record {
   greater = λ n _ _. effect_refl (effective s t.slot n);
 })
 
--- one step is such a run
+-- one step is a run of this kind
 pub over_of_step : (s s' : State) (t : TxnId) (told' : Told) (rows : Bool) → Keeps s s' t told' rows → KeepsOver s s' t (list_any (is_grant_to t) told')
 over_of_step s s' t told' rows a = record {
   alive = a.alive;
@@ -111,7 +111,7 @@ run_keeps (c ∷ cs) (r ∷ rs) s s' t law run alive apart =
     let first = over_of_step s run.0 t r.1 (is_of_rows c) (step_keeps s law t alive r.0 r.1 run.0 law' c both.0 run.1) in
     over_trans s run.0 s' t (list_any (is_grant_to t) r.1) (told_granted t rs) law first (run_keeps cs rs run.0 s' t law' run.2 first.alive both.1)
 
--- a holder's effective modes are the same, or the same or greater where it was told of a grant
+-- a holder's effective modes are the same, or the same or greater if it was told of a grant
 pub others_keep_effects : OthersKeepEffects
 others_keep_effects s s' cs rs t law run alive apart =
     let kept = run_keeps cs rs s s' t law run alive apart in

@@ -1,5 +1,5 @@
--- The model as a program: what a state answers to a command, and what is left. A new node gets the least key above all others, and settling takes as
--- many turns as there are that wait.
+-- The model as a program: what a state answers to a command, and what is left. A new node gets the least key above all others, and settling has as many turns
+-- as there are waiters.
 use Rattle.std.specs.Prelude.{ℕ, false, zero, suc, ◌+◌, ◌-◌, nat_le, List, [], ◌∷◌, length, Option, Some, None, if◌then◌else◌, min}
 use Rattle.std.specs.List.{range_with_len}
 use Rattle.gl_modes.specs.declared.mode.Mode.TheVariants.{X}
@@ -21,7 +21,7 @@ use Rattle.gl_steps.specs.Step.{lock_answer, query_answer}
 use Rattle.gl_model.proofs.law.Settle.{locked, settled}
 use Rattle.gl_steps.proofs.Made.{adopted, made, next_id}
 
--- an answer, who is told, and what is left
+-- an answer, the notices, and what is left
 abbrev pub Outcome : Type 0
 Outcome = Answer × Told × State
 
@@ -60,7 +60,7 @@ interval_keys s bs = range_with_len (free_key s + 1) (length bs + 1)
 abbrev pub one_made : State → Shape → List NodeId → Outcome
 one_made s shape ps = (answer.Node (next_id s (free_key s)), [], made s (new_node s shape ps))
 
--- done, and those who no longer wait are told
+-- done, and those that wait no more are told
 abbrev pub done : State → State → Outcome
 done s s' = (answer.Done, told s s', s')
 
@@ -117,7 +117,7 @@ go s c = (answer.Done, [], s)
 abbrev pub counted : Outcome → Outcome
 counted o = (o.0, o.1, accepted_once o.2)
 
--- a query is answered, any other command goes
+-- a query is answered, any other command is carried out
 abbrev pub answered : State → Command → Option Answer → Outcome
 answered s c (Some a) = (a, [], s)
 answered s c None = counted (go s c)

@@ -69,7 +69,7 @@ range_apart a zero = refl
 range_apart a (suc n) = both _ _ (split (list_any (λ x. x == a) (range_with_len (a + 1) n))
     (λ e. let low = in_range a (a + 1) n e in absurd (omega arith)) (λ e. ap not e)) (range_apart (a + 1) n)
 
--- where not all slots are taken one is found
+-- if not all slots are taken, a free one is found
 slot_found : (txns : ℕ → Option Txn) (us : List ℕ) → list_all (λ t. is_some (txns t)) us ≡ false
     → find (λ u. is_none (txns u)) us ≡ Some (slot_or_zero (find (λ u. is_none (txns u)) us))
 slot_found txns [] h = absurd (no (sym h))
@@ -140,7 +140,7 @@ module _ (s : State) (law : IsLawful s) where
   goes (command.Drop t n) None e = (_, (refl, refl, refl), refl)
   goes (command.IndexBy t ps f bs) None e = (_, (_, index_is_born ps.now f bs.now, refl, refl, refl), refl)
 
-  -- whatever the command
+  -- of any command
   pub play_steps : (c : Command) → Step s c (play s c).0 (play s c).1 (play s c).2
   play_steps c = inl (goes c (refusal_of s c) refl)
 

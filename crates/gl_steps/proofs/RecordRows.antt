@@ -1,4 +1,4 @@
--- Worked rows with records: the rule of the graph, effective modes, keys that change, escalation, records that come and go.
+-- Worked rows with records: the rule of the graph, effective modes, keys that change, escalation, records that are added and removed.
 use Rattle.std.specs.Prelude.{[], ◌∷◌, ◌++◌}
 use Rattle.std.proofs.Common.{refl}
 use Rattle.gl_modes.specs.declared.mode.Mode.TheVariants.{NL, IS, IX, S, X}
@@ -11,7 +11,7 @@ use Rattle.gl_steps.specs.declared.command.Command.TheVariants as command
 use Rattle.gl_steps.proofs.RowWords.{Rows, a, b, begins, c, computed, db, done, f1, holds, i1, i1_0, i1_1, locks, locks_all, prelude, r1, r2, ref}
 use Rattle.gl_steps.proofs.RowWords.{refuses, says, tells, waits}
 
--- X asks IX on every parent, S on one; a node is left after its children
+-- X needs IX on every parent, S on one; a node is left after its children
 row_graph_rule : Rows AtBlock 1 (prelude ++
     begins a ∷ locks_all a IX (db ∷ f1 ∷ []) ++
     refuses (command.Lock a r1 X) (no.NeedParents i1_0)
@@ -34,7 +34,7 @@ row_effective : Rows AtBlock 2 (prelude ++
     ∷ says (command.Effective a f1) (answer.Effect effect.X) ∷ [])
 row_effective = computed refl
 
--- a rekey asks IX on the new interval
+-- a rekey needs IX on the new interval
 row_rekey_needs_new_interval : Rows AtBlock 2 (prelude ++
     begins a ∷ begins b ∷ locks_all a IX (db ∷ f1 ∷ i1 ∷ i1_0 ∷ [])
     ++ locks a X r1
@@ -46,7 +46,7 @@ row_rekey_needs_new_interval : Rows AtBlock 2 (prelude ++
     ∷ done (command.Rekey a r1 i1 150) ∷ [])
 row_rekey_needs_new_interval = computed refl
 
--- of the waiters on a record that moves those go that lose the rule of the graph
+-- of the waiters on a record that moves, those that fail the rule of the graph are removed
 row_rekey_moves_waiters : Rows AtBlock 3 (prelude ++
     begins a ∷ begins b ∷ begins c ∷ locks_all a IX (db ∷ f1 ∷ i1 ∷ i1_0 ∷ [])
     ++ locks a X r1
@@ -62,7 +62,7 @@ row_rekey_moves_waiters : Rows AtBlock 3 (prelude ++
     ∷ tells (command.Commit a) c (notice.Granted r1 S) ∷ [])
 row_rekey_moves_waiters = computed refl
 
--- X on all old and all new parents does in place of X on the record
+-- X on all old and all new parents is enough in place of X on the record
 row_rekey_under_parents : Rows AtBlock 1 (prelude ++
     begins a
     ∷ locks a IX db
@@ -89,7 +89,7 @@ row_escalate : Rows AtBlock 1 (prelude ++
     ∷ holds a r2 X ∷ [])
 row_escalate = computed refl
 
--- who waits on a record that is deleted is told, and keeps its other locks
+-- a waiter on a record that is deleted is told, and keeps its other locks
 row_delete_with_waiter : Rows AtBlock 2 (prelude ++
     begins a ∷ begins b ∷ locks_all a IX (db ∷ f1 ∷ i1 ∷ i1_0 ∷ [])
     ++ locks a X r1
@@ -100,7 +100,7 @@ row_delete_with_waiter : Rows AtBlock 2 (prelude ++
     ∷ holds b f1 IS ∷ [])
 row_delete_with_waiter = computed refl
 
--- the interval in which a key lies, at its edges
+-- the interval that has a key, at its edges
 row_insert : Rows AtBlock 1 (prelude ++
     begins a ∷ locks_all a IX (db ∷ f1 ∷ [])
     ++ refuses (command.Insert a f1 (ref (0 ∷ []))) (no.NeedParents i1_0)

@@ -38,7 +38,7 @@ row_no_such_node : Rows AtBlock 1 (prelude ++
     ∷ refuses (command.Effective a nowhere) no.NoSuchNode ∷ [])
 row_no_such_node = computed refl
 
--- no such transaction, whatever else is wrong
+-- no such transaction, with anything else wrong too
 row_no_such_txn : Rows AtBlock 1 (prelude ++
     refuses (command.Lock ended nowhere NL) no.NoSuchTxn
     ∷ refuses (command.Try ended nowhere NL) no.NoSuchTxn
@@ -95,7 +95,7 @@ row_condemned : Rows AtBlock 2 (prelude ++
     ∷ holds b db S ∷ [])
 row_condemned = computed refl
 
--- modes that nobody may ask for, and modes that a record does not take
+-- modes that nobody may request, and modes that a record cannot have
 row_bad_mode : Rows AtBlock 1 (prelude ++
     begins a
     ∷ refuses (command.Lock a db NL) no.BadMode
@@ -160,7 +160,7 @@ row_need_exclusive : Rows AtBlock 1 (prelude ++
     ∷ refuses (command.Cancel a) no.NotWaiting ∷ [])
 row_need_exclusive = computed refl
 
--- a file that has records takes no index more
+-- a file that has records gets no further index
 row_file_in_use : Rows AtBlock 1 (prelude ++
     refuses (command.Index (ref (db ∷ [])) f1 (ref [])) no.FileInUse ∷ [])
 row_file_in_use = computed refl

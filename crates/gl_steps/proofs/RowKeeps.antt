@@ -1,4 +1,4 @@
--- Rows are adopted and forgotten: the law of a state is kept, and records without locks alone come and go.
+-- Rows are adopted and forgotten: the law of a state is kept, and only records without locks are added and removed.
 use Rattle.gl_steps.specs.Promises.{ChangesIdleRows, RowsComeAndGo, is_of_rows}
 use Rattle.gl_steps.specs.Step.{Accepts}
 use Rattle.gl_steps.specs.declared.command.Answer.{Answer}
@@ -51,7 +51,7 @@ may_forget s r free =
 pub forget_keeps : (r : NodeId) → KeepsLaw (command.Forget r)
 forget_keeps r s s' a told law free acc = let may = may_forget s r free in subst IsLawful (sym acc.2) (forgotten-lawful s law r may.rec may.idle)
 
--- Records without locks alone come and go.
+-- Only records without locks are added and removed.
 
 idle_itself : (s : State) → ChangesIdleRows s s
 idle_itself s = record {

@@ -1,4 +1,4 @@
--- Which record an adopt makes and a forget takes: the one that is named, and no other.
+-- Which record an adopt makes and a forget removes: the one that is named, and no other.
 use Rattle.std.specs.Prelude.{◌≡◌, ℕ, zero, suc, ◌+◌, true, false, List, [], ◌∷◌, Some, is_some}
 use Rattle.std.proofs.Common.{refl, sym, ap, subst, ◌∙◌, arith}
 use Rattle.gl_modes.proofs.NodeLemmas.{node_is}
@@ -32,7 +32,7 @@ use Rattle.gl_steps.proofs.Made.{adopted, adopted_is}
 use Rattle.gl_steps.proofs.MakeKeeps.{behind_worn}
 use Rattle.gl_steps.proofs.RowKeeps.{MayForget, may_forget}
 
--- what comes is adopted by the step, as a record of its file, which is marked, and what goes is forgotten by it
+-- what is added is adopted by the step, as a record of its file, which is marked, and what is removed is forgotten by it
 pub record NamesRows (s : State) (c : Command) (x : Answer × Told) (s' : State) : Type 0 where
   pub came : (r : NodeId) → is_live s.graph r ≡ false → is_live s'.graph r ≡ true
       → Adopts (first_parent s'.graph r) r s c x s' × (is_adopted (shape_of s'.graph (first_parent s'.graph r)) ≡ true)
@@ -46,7 +46,7 @@ module _ (s : State) (law : IsLawful s) where
     abbrev row : Node
     row = new_record n.key keys (record_parents s.graph f keys)
 
-    -- what comes is the record
+    -- what is added is the record
     row_is : n.birth ≡ s.graph.births + 1 → (r : NodeId) → is_live s.graph r ≡ false → is_live (with_row s.graph law.graph f row) r ≡ true
         → (r ≡ n) × (node_at (born_node s.graph row) r ≡ Some row)
     row_is birth r dead live =

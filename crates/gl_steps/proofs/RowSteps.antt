@@ -1,4 +1,4 @@
--- Rows are adopted and forgotten: each step keeps a transaction, whose effective modes on the nodes that stand are left.
+-- Rows are adopted and forgotten: each step keeps a transaction, whose effective modes on the nodes that live on stay.
 use Rattle.std.specs.Prelude.{is_some}
 use Rattle.std.specs.Prelude.{◌≡◌, ◌≤◌, ℕ, true, List, [], ◌∷◌}
 use Rattle.std.proofs.Common.{sym, ap, subst, ◌∙◌, arith, inl}
@@ -25,7 +25,7 @@ module _ (s : State) (law : IsLawful s) (t : TxnId) (alive : lives s t ≡ true)
   abbrev Kept : Type 0
   Kept = Keeps s (accepted_once next) t told' true
 
-  -- another graph, in which what stands keeps its parents
+  -- another graph, in which what lives on keeps its parents
   leaving_keeps : (g : Graph) → next ≡ with_graph s g → LeavesParents s.graph g → KeepsKinds s.graph g → s.graph.births ≤ g.births
       → ((n : NodeId) → n.birth ≤ s.graph.births → is_live g n ≡ true → is_live s.graph n ≡ true) → Kept
   leaving_keeps g is leaves kinds births old =

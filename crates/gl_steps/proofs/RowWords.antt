@@ -21,7 +21,7 @@ use Rattle.gl_model.proofs.law.Takes.{empty-lawful}
 use Rattle.gl_steps.proofs.Play.{after, replies}
 use Rattle.gl_steps.proofs.PlayIsStep.{play_runs}
 
--- a command, what is answered, and who is told what
+-- a command, its answer, and its notices
 abbrev pub Line : Type 0
 Line = Command × Answer × Told
 
@@ -52,7 +52,7 @@ computed {detect = detect} {most = most} {lines = lines} same =
 abbrev pub ref : {A : Type 0} → A → Bor A
 ref x = record { ref_ptr = (0, 0); now = x }
 
--- where no node was taken out, the node of a birth has the key below it
+-- if no node was removed, the node of a birth has the key below it
 abbrev pub id : ℕ → NodeId
 id birth = record { key = birth - 1; birth = birth }
 
@@ -76,7 +76,7 @@ refuses c r = says c (answer.Refused r)
 abbrev pub tells : Command → TxnId → Notice → Line
 tells c t n = (c, answer.Done, (t, n) ∷ [])
 
--- granted what was asked
+-- granted what was requested
 abbrev pub locks : TxnId → Mode → NodeId → Line
 locks t m n = says (command.Lock t n m) (answer.Granted m)
 
@@ -147,7 +147,7 @@ prelude =
     indexed ++ begins z ∷ locks_all z IX (db ∷ f1 ∷ i1 ∷ i1_0 ∷ i1_1 ∷ [])
     ++ says (command.Insert z f1 (ref (50 ∷ []))) (answer.Node r1) ∷ says (command.Insert z f1 (ref (200 ∷ []))) (answer.Node r2) ∷ done (command.Commit z) ∷ []
 
--- who begins behind the prelude
+-- the first transaction after the prelude
 abbrev pub a : TxnId
 a = txn 0 2
 

@@ -33,7 +33,7 @@ pub record MayDrop (s : State) (t : TxnId) (n : NodeId) : Type 0 where
   pub holds : same_mode (s.held t.slot n) X ≡ true
   pub free : is_in_use s.graph n ≡ false
 
--- the node itself is among what has to be locked
+-- the node itself is among what must be locked
 pub itself_locked : (s : State) (t : ℕ) (n : NodeId) (o : Option Shape) → holds_x_on_all s t (locked_to_drop n o) ≡ true → same_mode (s.held t n) X ≡ true
 itself_locked s t n None h = (and_both _ _ h).0
 itself_locked s t n (Some Inner) h = (and_both _ _ h).0

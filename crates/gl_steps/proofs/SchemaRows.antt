@@ -1,4 +1,4 @@
--- Worked rows of a schema that changes: what a drop is refused, who is told of it, and an index that its maker holds.
+-- Worked rows of a schema that changes: how a drop is refused, its notices, and an index that its maker holds.
 use Rattle.std.specs.Prelude.{[], ◌∷◌, ◌++◌}
 use Rattle.std.proofs.Common.{refl}
 use Rattle.gl_modes.specs.declared.mode.Mode.TheVariants.{IS, IX, X}
@@ -60,7 +60,7 @@ row_index_again : Rows AtBlock 1 (prelude ++
     ∷ done (command.Drop a again) ∷ [])
 row_index_again = computed refl
 
--- it asks IX on each parent
+-- it needs IX on each parent
 row_index_needs_parents : Rows AtBlock 1 (indexed ++
     roots (id 6)
     ∷ begins z

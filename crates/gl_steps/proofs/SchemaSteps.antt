@@ -31,7 +31,7 @@ use Rattle.gl_steps.proofs.KeptKinds.{kind_same}
 use Rattle.gl_steps.proofs.Made.{next_id}
 use Rattle.gl_steps.proofs.OtherChanges.{with_grant_same}
 
--- who waits for what goes lives on
+-- one that waits for a removed node lives on
 freed_among_lives : (goes : NodeId → Bool) (age : ℕ) (x : Option Txn) → live_by age (freed_among goes x) ≡ live_by age x
 freed_among_lives goes age None = refl
 freed_among_lives goes age (Some x) = refl

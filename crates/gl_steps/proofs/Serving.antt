@@ -1,4 +1,4 @@
--- A step counts a command exactly where it accepts it.
+-- A step counts a command exactly if it accepts it.
 use Rattle.std.specs.Prelude.{◌≡◌, ◌+◌, Bool, true, false, not, ◌&&◌, Option, Some, None}
 use Rattle.std.proofs.Common.{refl, ap, ⊎_elim, ◌∙◌}
 use Rattle.gl_modes.specs.declared.mode.Mode.{Mode}

@@ -25,7 +25,7 @@ use Rattle.gl_steps.proofs.NotRefused.{record_has_parents}
 use Rattle.gl_steps.proofs.RowKeeps.{rows_come_and_go}
 use Rattle.gl_steps.proofs.RowNames.{names_rows}
 
--- What a record is below stands, and so does the record with its file.
+-- All that a record is below lives, and so does the record with its file.
 
 module _ (g : Graph) (law : IsLawfulGraph g) where
   end_stands : (n r : NodeId) (way : List NodeId) → is_live g r ≡ true → IsRoute g r way n → is_live g n ≡ true
@@ -45,7 +45,7 @@ module _ (g : Graph) (law : IsLawfulGraph g) where
   pub file_stands : (r : NodeId) → is_record_shape (shape_of g r) ≡ true → is_live g (first_parent g r) ≡ true
   file_stands r rec = law.parents_live r (first_parent g r) (first_among (parents_of g r) (record_has_parents g law r rec))
 
--- A transaction reads on what it read, where that stands.
+-- A transaction still reads what it read, if that lives on.
 
 effect_reads : (x r x' r' : Bool) → r ≡ true → is_at_least_effect (effect_of x' r') (effect_of x r) ≡ true → (x' ≡ true) ⊎ (r' ≡ true)
 effect_reads x r true r' on more = inl refl
@@ -66,7 +66,7 @@ read_stands s law t n reads =
     let on = eff_s_route s.graph (s.held t) (node_count s.graph) n reads in
     read_lives s law t n on.0 on.1 on.2 on.3
 
--- One step: what stands is below n as it was, what came was adopted by it, and what went was forgotten by it.
+-- One step: what lives on is below n as it was, what is added was adopted by it, and what is removed was forgotten by it.
 
 pub record StepBelow (s : State) (c : Command) (x : Answer × Told) (s' : State) (n : NodeId) : Type 0 where
   pub stays : (r : NodeId) → is_live s.graph r ≡ true → is_live s'.graph r ≡ true → StaysBelow s.graph s'.graph n r
@@ -74,7 +74,7 @@ pub record StepBelow (s : State) (c : Command) (x : Answer × Told) (s' : State)
       → Adopts (first_parent s'.graph r) r s c x s' × (is_adopted (shape_of s'.graph (first_parent s'.graph r)) ≡ true)
   pub went : (r : NodeId) → IsBelow s.graph n r → is_live s'.graph r ≡ false → Forgets r s c x s'
 
--- where what stands keeps its parents, a way up from it is one before and after
+-- if what lives on keeps its parents, a route up from it is one before and after
 module _ (g g' : Graph) (law : IsLawfulGraph g) (law' : IsLawfulGraph g')
     (parents : (n : NodeId) → is_live g n ≡ true → is_live g' n ≡ true → parents_of g' n ≡ parents_of g n) where
   way_kept : (n r : NodeId) (way : List NodeId) → is_live g r ≡ true → is_live g' r ≡ true → IsRoute g r way n → IsRoute g' r way n

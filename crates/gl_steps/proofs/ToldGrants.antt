@@ -1,4 +1,4 @@
--- Who was granted a mode for which it waited is told so.
+-- One that was granted a mode for which it waited is told so.
 use Rattle.std.specs.Prelude.{◌≡◌, ◌≢◌, ℕ, zero, suc, ◌+◌, ◌<◌, ◌≤◌, Bool, true, false, not, ◌&&◌, ◌||◌, ◌==◌, List, [], ◌∷◌, Option, Some, None}
 use Rattle.std.specs.Prelude.{if◌then◌else◌, is_some}
 use Rattle.std.specs.List.{cons_option, filter, filter_map, list_any, range_with_len}

@@ -43,7 +43,7 @@ module _ (s : State) (t : ℕ) (n : NodeId) (m : Mode) (a : Answer) where
     other_status : (o : Option Status) → (o ≡ Some (Waiting n m) → ⊥) → status_of next t ≡ o → Began next
     other_status o other is w = absurd (other (sym is ∙ w))
 
-    -- who is released is gone, and others are woken
+    -- one that is released is gone, and others are woken
     released_case : (u : ℕ) → (got : status_of next t ≡ status_in (woken
         (granted_at (stripped s u) (λ q. holds (members s q) u || is_waiting_at s u q)) t (if t == u then None else s.txns t))) → Began next
     released_case u got w =
@@ -106,7 +106,7 @@ pub begins_waits : BeginsWaits
 begins_waits s s' c a list t n m step =
     each_step (Began s t n m a) s c a list s' (λ w. inl w) (λ next h. h) (λ free next acc. accepted s t n m a list next c acc) step
 
--- so where nobody waits, a step that is not answered with a wait leaves nobody waiting
+-- so if nobody waits, a step that is not answered with a wait leaves nobody waiting
 pub nobody_waits_on : (s s' : State) (c : Command) (a : Answer) (list : Told) → NobodyWaits s → (a ≡ answer.Waiting → ⊥) → Step s c a list s' → NobodyWaits s'
 nobody_waits_on s s' c a list idle goes_on step t = by (status_of s' t) refl
   where

@@ -44,7 +44,7 @@ use Rattle.gl_steps.proofs.ToldGrants.{age_is, any_filtered, any_mapped, txn_the
 
 -- t lives in s, and waits on n for m
 module _ (s : State) (law : IsLawful s) (t : TxnId) (alive : lives s t ≡ true) (n : NodeId) (m : Mode) (waits : status_of s t.slot ≡ Some (Waiting n m)) where
-  -- whoever lives on and waits no more is told something
+  -- one that lives on and waits no more is told something
   some_notice : (now : State) (o : Option Status) → (o ≡ None → ⊥) → ((q : NodeId) (w : Mode) → o ≡ Some (Waiting q w) → ⊥) → (x : Notice)
       × (notice_of now t.slot n m o ≡ Some x)
   some_notice now None there quiet = absurd (there refl)
@@ -101,7 +101,7 @@ module _ (s : State) (law : IsLawful s) (t : TxnId) (alive : lives s t ≡ true)
       let before : waits_on s t n ≡ true = both _ _ alive (ap (λ o. waits_at o n) waits ∙ same_node-refl n) in
       true≢false (sym (ap (λ x. live_by t.age x && waits_at (status_in x) n) same ∙ before) ∙ over)
 
-  -- who is active has another slot
+  -- an active transaction has another slot
   other_active : (u : TxnId) → waiting_test (status_of s u.slot) ≡ None → u.slot ≢ t.slot
   other_active u passed e = none_some (sym passed ∙ ap (λ v. waiting_test (status_of s v)) e ∙ ap waiting_test waits)
 

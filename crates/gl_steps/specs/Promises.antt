@@ -29,7 +29,7 @@ use Rattle.gl_waits.specs.Waits.{IsOnNoCycle}
 abbrev pub same_txn : TxnId → TxnId → Bool
 same_txn t u = (t.slot == u.slot) && (t.age == u.age)
 
--- the command names t as its transaction; settle names one too, but asks nothing of its locks, so a settle of t counts as another's command
+-- the command names t as its transaction; a settle of t needs none of its locks, and counts as another's command
 abbrev pub names : TxnId → Command → Bool
 names t (command.Lock u n m) = same_txn t u
 names t (command.Try u n m) = same_txn t u
@@ -60,24 +60,24 @@ told_granted t rs = list_any (λ r. list_any (is_grant_to t) r.1) rs
 abbrev pub StandsInBoth : State → State → NodeId → Type 0
 StandsInBoth s s' r = (is_live s.graph r ≡ true) × (is_live s'.graph r ≡ true) × (is_record_shape (shape_of s.graph r) ≡ true)
 
--- t's effective mode on every such record is the same, or the same or greater where t was told of a grant
+-- t's effective mode on every such record is the same, or the same or greater if t was told of a grant
 pub record KeepsEffects (s s' : State) (t : TxnId) (granted : Bool) : Type 0 where
   pub same : granted ≡ false → (r : NodeId) → StandsInBoth s s' r → effective s' t.slot r ≡ effective s t.slot r
   pub greater : (r : NodeId) → StandsInBoth s s' r → is_at_least_effect (effective s' t.slot r) (effective s t.slot r) ≡ true
 
--- over a run that does not name t, its effective modes on the records that stand stay, or grow where it was told of a grant (own)
+-- over a run that does not name t, its effective modes on records that live before and after stay, or may rise if it was told of a grant
 abbrev pub OthersKeepEffects : Type 0
 OthersKeepEffects =
     (s s' : State) (cs : List Command) (rs : List (Answer × Told)) (t : TxnId) → IsLawful s → Run s cs rs s' → lives s t ≡ true
     → list_any (names t) cs ≡ false → KeepsEffects s s' t (told_granted t rs)
 
--- the command makes or takes a record of which there are no locks
+-- the command adopts or forgets a record
 abbrev pub is_of_rows : Command → Bool
 is_of_rows (command.Adopt f keys) = true
 is_of_rows (command.Forget r) = true
 is_of_rows c = false
 
--- over a run that does not name t, and in which no row is adopted or forgotten, no record comes, goes or changes a key below a node that t reads (own)
+-- over a run that does not name t and adopts or forgets no row, no record is added, removed or given another key below a node that t reads
 abbrev pub OthersKeepBelow : Type 0
 OthersKeepBelow =
     (s s' : State) (cs : List Command) (rs : List (Answer × Told)) (t : TxnId) (n : NodeId) → IsLawful s → Run s cs rs s' → lives s t ≡ true
@@ -89,23 +89,23 @@ is_of_rows_of g f (command.Adopt h keys) = same_node h f
 is_of_rows_of g f (command.Forget r) = same_node (first_parent g r) f
 is_of_rows_of g f c = false
 
--- below n no record of the file f came, went, or changed a key
+-- below n no record of the file f was added, removed or given another key
 pub record SameBelowOf (g g' : Graph) (f n : NodeId) : Type 0 where
   pub kept : (r : NodeId) → first_parent g r ≡ f → IsBelow g n r → IsBelow g' n r × (keys_in (shape_of g' r) ≡ keys_in (shape_of g r))
   pub no_more : (r : NodeId) → first_parent g' r ≡ f → IsBelow g' n r → IsBelow g n r
 
--- the same of the records of one file, where no row of it is adopted or forgotten (own)
+-- the same of the records of one file, if no row of it is adopted or forgotten
 abbrev pub OthersKeepFile : Type 0
 OthersKeepFile =
     (s s' : State) (cs : List Command) (rs : List (Answer × Told)) (t : TxnId) (n f : NodeId) → IsLawful s → Run s cs rs s' → lives s t ≡ true
     → list_any (names t) cs ≡ false → list_any (is_of_rows_of s.graph f) cs ≡ false → EffS s t.slot n → SameBelowOf s.graph s'.graph f n
 
--- some step of a run from one state to the other is so
+-- some step of a run between the states is so
 abbrev pub SomeStep : (State → Command → Answer × Told → State → Type 0) → State → List Command → List (Answer × Told) → State → Type 0
 SomeStep IsSo s (c ∷ cs) (r ∷ rs) s' = (mid : State) × Step s c r.0 r.1 mid × ((IsSo s c r mid × Run mid cs rs s') ⊎ SomeStep IsSo mid cs rs s')
 SomeStep IsSo s cs rs s' = ⊥
 
--- the step adopts r as a record of f: it is answered with its name, and behind it nobody holds it or waits for it
+-- the step adopts r as a record of f: it is answered with its name, and after it nobody holds it or waits for it
 abbrev pub Adopts : (f r : NodeId) → State → Command → Answer × Told → State → Type 0
 Adopts f r s (command.Adopt h keys) x s' = (h ≡ f) × (x.0 ≡ answer.Node r) × (is_idle s' r ≡ true)
 Adopts f r s c x s' = ⊥
@@ -115,25 +115,25 @@ abbrev pub Forgets : (r : NodeId) → State → Command → Answer × Told → S
 Forgets r s (command.Forget q) x s' = (q ≡ r) × (x.0 ≡ answer.Done) × (is_idle s r ≡ true)
 Forgets r s c x s' = ⊥
 
--- a record that stands is below n just where it was, and one below n has its keys
+-- a record is below n exactly if it was before, and one that was below n has its keys
 pub record StaysBelow (g g' : Graph) (n r : NodeId) : Type 0 where
   pub kept : IsBelow g n r → IsBelow g' n r × (keys_in (shape_of g' r) ≡ keys_in (shape_of g r))
   pub no_more : IsBelow g' n r → IsBelow g n r
 
--- what a run leaves below n: what stands is there as it was; what came was adopted as a record of its file, of which rows were adopted; what went was forgotten
+-- what a run leaves below n: records that live on as they were; new ones were adopted, in a file of adopted rows; removed ones were forgotten
 pub record LeavesBelow (s : State) (cs : List Command) (rs : List (Answer × Told)) (s' : State) (n : NodeId) : Type 0 where
   pub stays : (r : NodeId) → is_live s.graph r ≡ true → is_live s'.graph r ≡ true → StaysBelow s.graph s'.graph n r
   pub came : (r : NodeId) → is_live s.graph r ≡ false → IsBelow s'.graph n r → SomeStep (Adopts (first_parent s'.graph r) r) s cs rs s'
   pub unadopted : (r : NodeId) → is_adopted (shape_of s'.graph (first_parent s'.graph r)) ≡ false → IsBelow s'.graph n r → is_live s.graph r ≡ true
   pub went : (r : NodeId) → IsBelow s.graph n r → is_live s'.graph r ≡ false → SomeStep (Forgets r) s cs rs s'
 
--- over a run that does not name t, records come and go below a node that t reads by adopt and forget alone, while nobody holds them or waits for them (own)
+-- over a run that does not name t, adopt alone adds and forget alone removes records below a node that t reads, while nobody holds them or waits for them
 abbrev pub OthersLeaveBelow : Type 0
 OthersLeaveBelow =
     (s s' : State) (cs : List Command) (rs : List (Answer × Told)) (t : TxnId) (n : NodeId) → IsLawful s → Run s cs rs s' → lives s t ≡ true
     → list_any (names t) cs ≡ false → EffS s t.slot n → LeavesBelow s cs rs s' n
 
--- what a run leaves a transaction that it does not name: its effective modes, and the records below what it reads, but for rows that are adopted and forgotten
+-- what a run leaves a transaction that it does not name: its effective modes, and the records below what it reads, except rows adopted and forgotten
 pub record Leaves (s : State) (cs : List Command) (rs : List (Answer × Told)) (s' : State) (t : TxnId) : Type 0 where
   pub effects : KeepsEffects s s' t (told_granted t rs)
   pub below : (n : NodeId) → EffS s t.slot n → LeavesBelow s cs rs s' n
@@ -168,15 +168,15 @@ abbrev pub LowersNone : ℕ → Command → Type 0
 LowersNone t c = (s s' : State) (a : Answer) (told : Told) → IsLawful s → Step s c a told s' → (n : NodeId)
     → is_at_least_effect (effective s' t n) (effective s t n) ≡ true
 
--- a rekey leaves the mover's effective modes (own)
+-- a rekey leaves the mover's effective modes
 abbrev pub RekeyKeepsMover : Type 0
 RekeyKeepsMover = (t : TxnId) (r i : NodeId) (key : ℕ) → KeepsModes t.slot (command.Rekey t r i key)
 
--- a move leaves the mover's effective modes (own)
+-- a move leaves the mover's effective modes
 abbrev pub MoveKeepsMover : Type 0
 MoveKeepsMover = (t : TxnId) (n : NodeId) (ps : Bor (List NodeId)) → KeepsModes t.slot (command.Move t n ps)
 
--- an escalation lowers the caller's effective mode nowhere (own)
+-- an escalation lowers the caller's effective mode on no node
 abbrev pub EscalateLowersNone : Type 0
 EscalateLowersNone = (t : TxnId) (n : NodeId) → LowersNone t.slot (command.Escalate t n)
 
@@ -187,11 +187,11 @@ KeepsCaller (command.Move t x ps) s s' = (n : NodeId) → effective s' t.slot n 
 KeepsCaller (command.Escalate t x) s s' = (n : NodeId) → is_at_least_effect (effective s' t.slot n) (effective s t.slot n) ≡ true
 KeepsCaller c s s' = Unit {0}
 
--- in a lawful state there is a step for every command, so what is said of steps is never said of nothing
+-- in a lawful state there is a step for every command, so no law of steps is empty
 abbrev pub AlwaysAnswers : Type 0
 AlwaysAnswers = (s : State) (c : Command) → IsLawful s → (a : Answer) × (told : Told) × (s' : State) × Step s c a told s'
 
--- a command that makes a node, whose key may be any that is free
+-- the command makes a node, whose key may be any that is free
 abbrev pub makes_node : Command → Bool
 makes_node (command.Inner ps) = true
 makes_node (command.File ps) = true
@@ -201,19 +201,19 @@ makes_node (command.Adopt f keys) = true
 makes_node (command.IndexBy t ps f bs) = true
 makes_node c = false
 
--- in a lawful state a command that makes no node has one answer, one list of notices and one state, want of memory aside
+-- in a lawful state a command that makes no node has one answer, one list of notices and one state, lack of memory aside
 abbrev pub OneOutcome : Type 0
 OneOutcome =
     (s s₁ s₂ : State) (c : Command) (a₁ a₂ : Answer) (told₁ told₂ : Told) → IsLawful s → makes_node c ≡ false → Goes s c (refusal_of s c) a₁ told₁ s₁
     → Goes s c (refusal_of s c) a₂ told₂ s₂
     → (a₁ ≡ a₂) × (told₁ ≡ told₂) × (s₁ ≡ s₂)
 
--- what a settle of one who is on no cycle leaves (own): nobody is told and, where it is not refused, the count of accepted commands alone changes
+-- what a settle of a transaction on no cycle leaves: nobody is told and, if it is not refused, only the count of accepted commands changes
 abbrev pub SettlesIdle : State → Command → Answer → Told → State → Type 0
 SettlesIdle s (command.Settle t) a told s' = IsOnNoCycle (waits_for s) t.slot → (told ≡ []) × (a ≡ answer.Done → s' ≡ accepted_once s)
 SettlesIdle s c a told s' = Unit {0}
 
--- a settle of one who is on no cycle settles nobody
+-- a settle of a transaction on no cycle settles nobody
 abbrev pub SettlesNobody : Type 0
 SettlesNobody = (s s' : State) (t : TxnId) (a : Answer) (told : Told) → IsLawful s → Step s (command.Settle t) a told s'
     → SettlesIdle s (command.Settle t) a told s'
@@ -232,19 +232,19 @@ ends_wait_of t (command.Cancel u) = same_txn t u
 ends_wait_of t (command.Abort u) = same_txn t u
 ends_wait_of t c = false
 
--- the node is there before and after with its keys and its parents
+-- the node has the same keys and parents in both states
 pub record StandsThrough (s s' : State) (n : NodeId) : Type 0 where
   pub keys : keys_in (shape_of s'.graph n) ≡ keys_in (shape_of s.graph n)
   pub parents : parents_of s'.graph n ≡ parents_of s.graph n
 
--- all locks and all transactions are left; a node that comes or goes is a record of which there are no locks, and all others stand through
+-- all locks and transactions stay; a node that is added or removed is a record that nobody holds or waits for, and all others stay as they are
 pub record ChangesIdleRows (s s' : State) : Type 0 where
   pub locks : s' ≡ record s { graph = s'.graph; accepted = s'.accepted }
   pub came : (n : NodeId) → is_live s.graph n ≡ false → is_live s'.graph n ≡ true → (is_record_shape (shape_of s'.graph n) ≡ true) × (is_idle s' n ≡ true)
   pub went : (n : NodeId) → is_live s.graph n ≡ true → is_live s'.graph n ≡ false → (is_record_shape (shape_of s.graph n) ≡ true) × (is_idle s n ≡ true)
   pub stays : (n : NodeId) → is_live s.graph n ≡ true → is_live s'.graph n ≡ true → StandsThrough s s' n
 
--- adopt and forget change only that (own)
+-- adopt and forget change only that
 abbrev pub RowsComeAndGo : Type 0
 RowsComeAndGo = (s s' : State) (c : Command) (a : Answer) (told : Told) → IsLawful s → is_of_rows c ≡ true → Step s c a told s' → ChangesIdleRows s s'
 
@@ -252,13 +252,13 @@ RowsComeAndGo = (s s' : State) (c : Command) (a : Answer) (told : Told) → IsLa
 abbrev pub NobodyWaits : State → Type 0
 NobodyWaits s = (t : ℕ) → is_wait (status_of s t) ≡ false
 
--- a wait begins by a lock alone (own): who waits after a step waited so before, or the step is answered with that wait
+-- a wait begins by a lock alone: who waits after a step waited so before, or the step is answered with a wait
 abbrev pub BeginsWaits : Type 0
 BeginsWaits =
     (s s' : State) (c : Command) (a : Answer) (told : Told) (t : ℕ) (n : NodeId) (m : Mode) → Step s c a told s' → status_of s' t ≡ Some (Waiting n m)
     → (status_of s t ≡ Some (Waiting n m)) ⊎ (a ≡ answer.Waiting)
 
--- a wait that a step ends is told or named (own): who waits no more was told so, or the command cancelled or aborted it by name
+-- a wait that a step ends is told or named: its transaction was told so, or the command cancelled or aborted it by name
 abbrev pub EndsWaits : Type 0
 EndsWaits =
     (s s' : State) (c : Command) (a : Answer) (told : Told) (t : TxnId) (n : NodeId) → IsLawful s → Step s c a told s' → waits_on s t n ≡ true

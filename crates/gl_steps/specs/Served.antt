@@ -1,4 +1,4 @@
--- Which commands are accepted, and what an answer says of that.
+-- Which commands are accepted.
 use Rattle.std.specs.Prelude.{◌≡◌, ◌+◌, Bool, true, false, not, ◌&&◌, []}
 use Rattle.gl_model.specs.State.{State}
 use Rattle.gl_model.specs.Tellings.{Told}
@@ -7,7 +7,7 @@ use Rattle.gl_steps.specs.declared.command.Answer.TheVariants as answer
 use Rattle.gl_steps.specs.declared.command.Command.{Command}
 use Rattle.gl_steps.specs.declared.command.Command.TheVariants as command
 
--- a command that only asks
+-- the command is a query
 abbrev pub is_query : Command → Bool
 is_query (command.Group n) = true
 is_query (command.Held t n) = true
@@ -19,16 +19,16 @@ abbrev pub is_refused : Answer → Bool
 is_refused (answer.Refused r) = true
 is_refused a = false
 
--- an answer that leaves its asker waiting
+-- an answer that leaves its requester waiting
 abbrev pub leaves_waiting : Answer → Bool
 leaves_waiting answer.Waiting = true
 leaves_waiting a = false
 
--- a command that changes something, and is not refused
+-- the command is no query, and is not refused
 abbrev pub accepts : Command → Answer → Bool
 accepts c a = not (is_query c) && not (is_refused a)
 
--- where a command is not accepted all is as before and nobody is told; where it is, it is counted
+-- if a command is not accepted, all is as before and nobody is told; if it is, it is counted
 pub record Counts (s : State) (c : Command) (a : Answer) (told : Told) (s' : State) : Type 0 where
   pub not_accepted : accepts c a ≡ false → (s' ≡ s) × (told ≡ [])
   pub accepted : accepts c a ≡ true → s'.accepted ≡ s.accepted + 1

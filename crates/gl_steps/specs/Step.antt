@@ -1,4 +1,4 @@
--- One command: its answer, the state that it leaves, and what others are told; and runs of commands (own).
+-- One command: its answer, the state that it leaves, and what others are told; and runs of commands.
 use Rattle.std.specs.Prelude.{◌≡◌, ◌⊎◌, ℕ, ◌+◌, ◌-◌, false, true, List, [], ◌∷◌, Option, Some, None}
 use Rattle.gl_model.specs.declared.txn.Status.{Status}
 use Rattle.gl_model.specs.declared.answers.Locked.{Locked}
@@ -31,7 +31,7 @@ answer_of_lock (locked.Granted m) = answer.Granted m
 answer_of_lock locked.Waiting = answer.Waiting
 answer_of_lock locked.Victim = answer.Victim
 
--- the same by the mode held and the asker's status at the end
+-- the same by the held mode and the requester's status at the end
 abbrev pub lock_answer : Mode → Option Status → Answer
 lock_answer held o = answer_of_lock (locked_as held o)
 
@@ -95,18 +95,18 @@ abbrev pub Answers : State → Command → Option Answer → Answer → Told →
 Answers s c (Some q) a told' s' = Unchanged s a told' s' q
 Answers s c None a told' s' = (next : State) × Accepts s c a told' next × (s' ≡ accepted_once next)
 
--- a refused command is answered with its refusal, and changes nothing; any other goes
+-- a refused command is answered with its refusal, and changes nothing; any other is carried out
 abbrev pub Goes : State → Command → Option Refusal → Answer → Told → State → Type 0
 Goes s c (Some r) a told' s' = Unchanged s a told' s' (answer.Refused r)
 Goes s c None a told' s' = Answers s c (query_answer s c) a told' s'
 
--- one step: the command goes, or memory is wanting where it may be
+-- one step: the command is refused or carried out, or lacks memory if that is permitted
 abbrev pub Step : State → Command → Answer → Told → State → Type 0
 Step s c a told' s' =
     Goes s c (refusal_of s c) a told' s'
     ⊎ ((may_want_memory s c ≡ true) × Unchanged s a told' s' (answer.Refused no.NoMemory))
 
--- steps along a list of commands, a reply to each
+-- steps along a list of commands, with a reply to each
 abbrev pub Run : State → List Command → List (Answer × Told) → State → Type 0
 Run s [] [] s' = s' ≡ s
 Run s (c ∷ cs) (r ∷ rs) s' = (mid : State) × Step s c r.0 r.1 mid × Run mid cs rs s'

@@ -1,4 +1,4 @@
--- Why a command is refused: the tests of each in their order, and where memory may be wanting.
+-- Why a command is refused: the tests of each in their order, and when lack of memory is permitted.
 use Rattle.std.specs.Prelude.{ℕ, Bool, true, false, not, ◌&&◌, ◌||◌, ◌==◌, List, [], ◌∷◌, ◌++◌, length, Option, Some, is_none}
 use Rattle.gl_model.specs.declared.txn.TxnId.{TxnId}
 use Rattle.gl_steps.specs.declared.command.Command.{Command}
@@ -23,23 +23,23 @@ use Rattle.gl_model.specs.State.{State, members}
 abbrev pub worn : State → Option Refusal
 worn s = where_true (s.accepted == max_count) no.WornOut
 
--- insert takes a file, and a key for each of its indexes
+-- insert needs a file, and a key for each of its indexes
 abbrev pub record_asks : State → TxnId → NodeId → List ℕ → List (Option Refusal)
 record_asks s t f keys =
     worn_births s.graph ∷ active_on s t (f ∷ [])
     ++ where_true (not (is_file_shape (shape_of s.graph f))) no.BadParents
     ∷ where_true (not (length keys == length (indexes_of s.graph f))) no.BadKeys ∷ []
 
--- it asks IX or greater on each parent that the new record will have, and there must be room for the record
+-- it also needs IX or greater on each parent that the new record will have, and room for the record
 abbrev pub insert_tests : State → TxnId → NodeId → List ℕ → List (Option Refusal)
 insert_tests s t f keys = record_asks s t f keys ++ first_not_ix (s.held t.slot) (record_parents s.graph f keys) ∷ too_many_nodes s.graph 1 ∷ []
 
--- delete takes a record alone, and asks X on it
+-- delete needs a record, and X on it
 abbrev pub delete_tests : State → TxnId → NodeId → List (Option Refusal)
 delete_tests s t r = active_on s t (r ∷ []) ++ where_true (not (is_record_shape (shape_of s.graph r))) no.BadParents
     ∷ where_true (not (holds_x s t.slot r)) no.NeedExclusive ∷ []
 
--- rekey takes a record, and an index of its file
+-- rekey needs a record, an index of its file, and the locks of a move
 abbrev pub rekey_tests : State → TxnId → NodeId → NodeId → ℕ → List (Option Refusal)
 rekey_tests s t r i key =
     active_on s t (r ∷ i ∷ [])
@@ -47,7 +47,7 @@ rekey_tests s t r i key =
     ∷ need_exclusive s t.slot r true (rekeyed_parents s.graph r i key)
     ∷ need_new_parents s t.slot r (rekeyed_parents s.graph r i key) ∷ []
 
--- move takes an inner node, a file or an index, to parents that it could have been made under
+-- move needs an inner node, a file or an index, parents that it could have been made under, and locks
 abbrev pub move_asks : State → TxnId → NodeId → List NodeId → List (Option Refusal)
 move_asks s t n ps =
     active_on s t (n ∷ ps)
@@ -55,19 +55,19 @@ move_asks s t n ps =
     ∷ need_exclusive s t.slot n (some_given (parents_of s.graph n) && some_given ps) ps
     ∷ need_new_parents s t.slot n ps ∷ []
 
--- and no path may close
+-- it also must close no cycle
 abbrev pub move_tests : State → TxnId → NodeId → List NodeId → List (Option Refusal)
 move_tests s t n ps = move_asks s t n ps ++ first_cycle s.graph n ps ∷ []
 
--- escalate takes any node but a record, which must be held
+-- escalate needs a held node that is no record
 abbrev pub escalate_asks : State → TxnId → NodeId → List (Option Refusal)
 escalate_asks s t n = active_on s t (n ∷ []) ++ where_true (is_record_shape (shape_of s.graph n)) no.BadParents ∷ not_held s t.slot n ∷ []
 
--- and the raised mode must fit
+-- the raised mode must also fit
 abbrev pub escalate_tests : State → TxnId → NodeId → List (Option Refusal)
 escalate_tests s t n = escalate_asks s t n ++ escalation_blocks s t.slot n ∷ []
 
--- the tests of each command, want of memory aside: first whether it can be counted, then those of the call that does it
+-- the tests of each command, lack of memory aside: first whether it can be counted, then those of its call
 abbrev pub tests_of : State → Command → List (Option Refusal)
 tests_of s (command.Inner ps) = worn s ∷ inner_refusal s.graph ps.now ∷ []
 tests_of s (command.File ps) = worn s ∷ file_refusal s.graph ps.now ∷ []
@@ -94,11 +94,11 @@ tests_of s (command.Forget r) = worn s ∷ forget_tests s r
 tests_of s (command.Drop t n) = worn s ∷ drop_tests s t n
 tests_of s (command.IndexBy t ps f bs) = worn s ∷ index_by_tests s t ps.now f bs.now
 
--- why the command is refused, if it is: the first test that finds a reason
+-- why the command is refused, if it is: the first test that refuses
 abbrev pub refusal_of : State → Command → Option Refusal
 refusal_of s c = first_refusal (tests_of s c)
 
--- the refusal is that a path would close
+-- the refusal is that a cycle would be closed
 abbrev pub is_cycle : Option Refusal → Bool
 is_cycle (Some (no.Cycle n)) = true
 is_cycle o = false
@@ -107,7 +107,7 @@ is_cycle o = false
 abbrev pub newcomer : State → TxnId → NodeId → Bool
 newcomer s t n = not (holds (members s n) t.slot)
 
--- the commands for which memory may be wanting: those that make something, and a lock for a newcomer or for one who waits
+-- the commands that may lack memory: those that make something or search the graph, and a lock by a newcomer or one that waits
 abbrev pub lists_memory : State → Command → Bool
 lists_memory s (command.Inner ps) = true
 lists_memory s (command.File ps) = true
@@ -123,6 +123,6 @@ lists_memory s (command.Adopt f keys) = true
 lists_memory s (command.IndexBy t ps f bs) = true
 lists_memory s c = false
 
--- memory is a permitted reason where nothing else is; for a move also in place of a path that closes, since the search for it may want memory
+-- lack of memory is a permitted reason if there is no other; for a move also in place of a closed cycle, since the search for it may run out
 abbrev pub may_want_memory : State → Command → Bool
 may_want_memory s c = lists_memory s c && (is_none (refusal_of s c) || is_cycle (refusal_of s c))

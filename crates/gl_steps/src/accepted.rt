@@ -5,7 +5,7 @@ ghost use Rattle.gl_steps.specs.Served.{accepts, is_refused, leaves_waiting};
 
 use crate::command::{Answer, Command};
 
-/// Whether a command that was answered so was accepted: it is none that only asks, and was not refused.
+/// Whether a command with this answer was accepted: it is no query, and was not refused.
 pub fn is_accepted(command: &Command<'_>, answer: &Answer) -> bool
     ensures { result ≡ accepts command.now answer.now }
 {
@@ -23,7 +23,7 @@ pub fn is_refused(answer: &Answer) -> bool
     matches!(answer, Answer::Refused(_))
 }
 
-/// Whether the answer leaves its asker waiting.
+/// Whether the answer leaves its requester waiting.
 pub fn leaves_waiting(answer: &Answer) -> bool
     ensures { result ≡ leaves_waiting answer.now }
 {

@@ -1,24 +1,23 @@
-//! The commands of the lock manager, and what is answered.
+//! The commands of the lock manager, and their answers.
 
 use gl_model::{Effect, Told, TxnId};
 use gl_modes::{Mode, NodeId, Refusal};
 
-/// What an escalation did. Escalation to a node as Gray and Reuter describe it; that it is asked
-/// for, and what it keeps, is our own choice.
+/// What an escalation did.
 #[derive(Clone, Copy, PartialEq, Eq, Debug)]
 pub struct Escalated {
     /// The mode in which the node is now held.
     pub mode: Mode,
-    /// How many children were released, since the node's lock implies theirs.
+    /// How many children were released, since the node's lock covers them.
     pub released: u32,
     /// How many held children were kept.
     pub kept: u32,
 }
 
-/// What is answered to a command.
+/// The answer to a command.
 #[derive(Clone, Copy, PartialEq, Eq, Debug)]
 pub enum Answer {
-    /// It was done, and nothing further is to be said.
+    /// The command was done.
     Done,
     /// A node was made.
     Node(NodeId),
@@ -26,33 +25,31 @@ pub enum Answer {
     Begun(TxnId),
     /// The lock is held, in this mode.
     Granted(Mode),
-    /// The lock is waited for.
+    /// The transaction waits for the lock.
     Waiting,
-    /// The asker was condemned to end a deadlock, and can only abort.
+    /// The requester was condemned to end a deadlock, and can only abort.
     Victim,
     /// An escalation was done.
     Escalated(Escalated),
-    /// A mode that was asked after.
+    /// The queried mode.
     Mode(Mode),
-    /// An effective mode that was asked after.
+    /// The queried effective mode.
     Effect(Effect),
     /// The command was refused, and nothing has changed.
     Refused(Refusal),
 }
 
-/// An answer, and who is told what besides.
+/// An answer, and the notices to others.
 #[derive(Drop)]
 pub struct Reply {
     pub answer: Answer,
-    /// At most one notice for each transaction, by rising slot. The asker of a lock and the caller
-    /// of a cancel are left out.
+    /// At most one notice for each transaction, by rising slot; none for the requester of a lock or
+    /// the caller of a cancel.
     pub told: Told,
 }
 
 /// One command. `Group`, `Held` and `Effective` are queries, which change nothing; every other
-/// command that is not refused is counted. `Adopt` and `Forget` are our own: by them a record need
-/// not stand for as long as its row does. So are `Drop` and `IndexBy`, by which a schema changes, and
-/// `BeginAgain`, by which a victim keeps its turn.
+/// command that is not refused is counted.
 #[derive(Clone, Copy)]
 pub enum Command<'a> {
     /// A new inner node, under 0 to 8 inner nodes.
@@ -63,8 +60,9 @@ pub enum Command<'a> {
     File {
         parents: &'a [NodeId],
     },
-    /// A new index of a file without records, under 1 to 8 inner nodes, with rising bounds above 0
-    /// that part its intervals: at most 256, or as many as were chosen by `Manager::with_limits`.
+    /// A new index of a file that has no records and had no row adopted, under 1 to 8 inner nodes,
+    /// with rising bounds above 0 that part its intervals: at most 256, or as many as
+    /// `Manager::with_limits` chose.
     Index {
         parents: &'a [NodeId],
         file: NodeId,
@@ -72,19 +70,19 @@ pub enum Command<'a> {
     },
     /// A new transaction.
     Begin,
-    /// A new transaction for work that wants to be done since an earlier begin: the age of the transaction that
-    /// was to do it first. Whoever is chosen of a deadlock's members is the one whose number is the greatest, of
-    /// several such the youngest. A number above its own age counts as that.
+    /// A new transaction for work that began earlier: `since` is the age of the first transaction
+    /// for it. The victim of a deadlock is the candidate with the greatest such number, of several
+    /// the youngest. A number above its own age counts as that.
     BeginAgain {
         since: u64,
     },
-    /// Ask for a lock, and wait where it cannot be granted at once.
+    /// Request a lock, and wait if it cannot be granted at once.
     Lock {
         txn: TxnId,
         node: NodeId,
         mode: Mode,
     },
-    /// Ask for a lock, and be refused where it cannot be granted at once.
+    /// Request a lock, and be refused if it cannot be granted at once.
     Try {
         txn: TxnId,
         node: NodeId,
@@ -95,12 +93,12 @@ pub enum Command<'a> {
         txn: TxnId,
         node: NodeId,
     },
-    /// Raise the lock of a node, and release the children whose locks it then implies.
+    /// Raise the lock of a node, and release the children that it then covers.
     Escalate {
         txn: TxnId,
         node: NodeId,
     },
-    /// Take a wait back.
+    /// Cancel a wait.
     Cancel {
         txn: TxnId,
     },
@@ -112,7 +110,7 @@ pub enum Command<'a> {
     Abort {
         txn: TxnId,
     },
-    /// Condemn those who lie on a cycle with this transaction, by the choice of victims, until it is on none.
+    /// Condemn victims, by the choice of victims, until this transaction is on no cycle.
     Settle {
         txn: TxnId,
     },
@@ -122,7 +120,7 @@ pub enum Command<'a> {
         file: NodeId,
         keys: &'a [u64],
     },
-    /// Take a record away.
+    /// Delete a record.
     Delete {
         txn: TxnId,
         rec: NodeId,
@@ -154,24 +152,25 @@ pub enum Command<'a> {
         txn: TxnId,
         node: NodeId,
     },
-    /// A new record of a file, with a key for each of its indexes, which nobody holds: a row of the
-    /// engine's that is to be locked. From then on no index of the file is made.
+    /// A new record of a file, with a key for each of its indexes, which nobody holds: the node of
+    /// an engine's row that is to be locked. From then on only `IndexBy` makes an index of the
+    /// file.
     Adopt {
         file: NodeId,
         keys: &'a [u64],
     },
-    /// Take a record away that nobody holds or waits for.
+    /// Remove a record that nobody holds or waits for.
     Forget {
         rec: NodeId,
     },
-    /// Take an inner node without children away, a file without records and indexes, or an index with its
-    /// intervals, where no record of its file stands. It is held in X, and for an index its file too.
+    /// Drop an inner node without children, a file without records and indexes, or, if its file has
+    /// no record, an index with its intervals. It must be held in X, and for an index its file too.
     Drop {
         txn: TxnId,
         node: NodeId,
     },
-    /// A new index of a file that may have had records, but has none now, held in X. The file is held in X, and
-    /// each parent in IX or greater.
+    /// A new index of a file that may have had records, but has none now, held in X. The file must
+    /// be held in X, and each parent in IX or greater.
     IndexBy {
         txn: TxnId,
         parents: &'a [NodeId],

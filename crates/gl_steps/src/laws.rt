@@ -12,24 +12,26 @@ pub fn steps_keep_law()
     ensures start { EmptyIsLawful }
 {}
 
-/// Over a run that does not name it, a transaction's effective modes on the records that stand stay,
-/// or grow where it was told of a grant.
+/// Over a run that does not name it, a transaction's effective modes on records that live before
+/// and after stay, or may rise if it was told of a grant.
 pub fn others_keep_effects()
     ensures { OthersKeepEffects }
 {}
 
-/// Over a run that does not name it, the records that stand stay below what a transaction reads, with
-/// their keys. One that came there was adopted, as a record of a file of which rows were then adopted,
-/// and right behind that command nobody held it or waited for it. One that went was forgotten, and
-/// right before that command nobody held it or waited for it. So where no row is adopted or forgotten,
-/// no record comes or goes there; and where none of a file is, none of that file does.
+/// Over a run that does not name a transaction, records that live before and after stay below what
+/// it reads, with their keys. A record that was added there was adopted, and its file is one of
+/// adopted rows; right after that command nobody held it or waited for it. A record that is gone
+/// was forgotten, and right before that command nobody held it or waited for it. So if no row is
+/// adopted or forgotten, no record is added or removed there; and if no row of a file is, none of
+/// that file.
 pub fn others_keep_below()
     ensures rows { OthersLeaveBelow }
     ensures file { OthersKeepFile }
     ensures plain { OthersKeepBelow }
 {}
 
-/// What is adopted and what is forgotten are records of which there are no locks, and nothing else changes.
+/// Adopt and forget add and remove only records that nobody holds or waits for, and change nothing
+/// else.
 pub fn rows_come_and_go()
     ensures { RowsComeAndGo }
 {}
@@ -53,24 +55,25 @@ pub fn always_answers()
     ensures { AlwaysAnswers }
 {}
 
-/// In a lawful state a command that makes no node has one outcome, want of memory aside.
+/// In a lawful state a command that makes no node has one outcome, lack of memory aside.
 pub fn one_outcome()
     ensures { OneOutcome }
 {}
 
-/// A settle of a transaction that is on no cycle tells nobody and, where it is not refused, changes
-/// the count of accepted commands alone.
+/// A settle of a transaction that is on no cycle tells nobody and, if it is not refused, changes
+/// only the count of accepted commands.
 pub fn settles_nobody()
     ensures { SettlesNobody }
 {}
 
-/// Who waits on a node before a step and not after it was told so, or the command cancelled or
-/// aborted it by name.
+/// A transaction that waits on a node before a step and not after it was told so, or the command
+/// cancelled or aborted it by name.
 pub fn ends_waits()
     ensures { EndsWaits }
 {}
 
-/// Who waits after a step waited so before, or the command was a lock that is answered with that wait.
+/// A transaction that waits after a step waited so before, or the command was a lock that is
+/// answered with that wait.
 pub fn begins_waits()
     ensures { BeginsWaits }
 {}

@@ -1,5 +1,5 @@
-//! The commands of the lock manager, what each does to the state of the model, and the laws that hold
-//! over every step and every run.
+//! The commands of the lock manager, what each does to the state of the model, and the laws of
+//! every step and every run.
 #![tactic(auto)]
 
 mod accepted;

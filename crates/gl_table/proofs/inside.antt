@@ -1,4 +1,4 @@
--- Headers, lists and seats: what the code keeps.
+-- Headers, lists and transaction entries: what the code keeps.
 pub mod Slots
 pub mod Lists
 pub mod Orders

@@ -1,4 +1,4 @@
--- What a contract sees of a table, the state of the model that it stands for, what holds of every table, and what a listing and a board have.
+-- What a contract sees of a table, its state of the model, what holds of every table, and what listings and snapshots have.
 use Rattle.gl_slots.specs.Limit.{most_slots}
 use Rattle.std.specs.Prelude.{◌≡◌, ℕ, ◌||◌, List, length, Option, Some, None, is_some, slice_get, Bool, [], map, get_or}
 use Rattle.std.specs.List.{IsDistinct, All, count_by, list_any, range_with_len}
@@ -26,8 +26,7 @@ use Rattle.gl_model.specs.declared.txn.Status.TheVariants.{Waiting}
 use Rattle.gl_model.specs.declared.txn.TxnId.{TxnId}
 use Rattle.gl_model.specs.declared.answers.Detect.TheVariants.{ByWatcher}
 
--- a table: the graph, the headers by node, the transactions by slot with their lists, the way of detection, whom a deadlock takes, how many began,
--- and the last deadlock of which a victim fell
+-- a table: graph, headers by node, transactions by slot with their lists, detection, choice of victims, number of begins, and last deadlock
 pub record TableView : Type 0 where
   pub graph : View
   pub headers : Entries
@@ -38,7 +37,7 @@ pub record TableView : Type 0 where
   pub begins : ℕ
   pub deadlock : Deadlock
 
--- the state that it stands for: headers, lists and the last deadlock are forgotten
+-- its state of the model, without headers, lists and last deadlock
 abbrev pub state_of : TableView → State
 state_of v =
     record {
@@ -57,39 +56,38 @@ state_of v =
 abbrev pub entry_at : TableView → ℕ → NodeId → Option Entry
 entry_at v t n = option_map_or (λ es. lookup (same_node n) es) (slice_get v.lists t) None
 
--- the lists agree with the state: each has exactly the nodes that its transaction holds or waits for, with the mode that is held and the exact count
--- of held children
+-- the lists agree with the state: each has exactly the nodes that its transaction holds or waits for, with the held mode and the exact count of held children
 pub record ListsAgree (v : TableView) : Type 0 where
   pub listed : (t : ℕ) (n : NodeId) → is_some (entry_at v t n) ≡ (holds (members (state_of v) n) t || is_waiting_at (state_of v) t n)
   pub modes : (t : ℕ) (n : NodeId) → mode_in (entry_at v t n) ≡ (state_of v).held t n
   pub counts : (t : ℕ) (n : NodeId) (e : Entry) → entry_at v t n ≡ Some e → e.children ≡ held_children (state_of v) t n
 
--- each once: no node has two headers, and none stands twice in a list
+-- no node has two headers, and none is twice in a list
 pub record StandOnce (v : TableView) : Type 0 where
   pub headers : IsDistinct same_node (keys_of v.headers)
   pub lists : (t : ℕ) (es : List (NodeId × Entry)) → slice_get v.lists t ≡ Some es → IsDistinct same_node (keys_of es)
 
--- What a listing has: who lives in a slot, and the nodes that a transaction holds or waits for, row by row.
+-- What a listing has: who lives in a slot, and the nodes that a transaction holds or waits for, one by one.
 
 -- the name and the status of the transaction in a slot
 abbrev pub named_in : ℕ → Option Txn → Option (TxnId × Status)
 named_in t None = None
 named_in t (Some x) = Some (record { slot = t; age = x.age }, x.status)
 
--- who lives in a slot, and what it is doing
+-- the transaction in a slot, and its status
 abbrev pub living_in : State → ℕ → Option (TxnId × Status)
 living_in s t = named_in t (s.txns t)
 
--- how many stand ahead of a slot in the queue of a node
+-- how many are ahead of a slot in the queue of a node
 abbrev pub ahead_of : State → ℕ → NodeId → ℕ
 ahead_of s t n = count_by (is_ahead (s.queue n) t) (slots s)
 
--- the same of the node for which a slot that is doing this waits, if it does
+-- the same for the node on which a slot with this status waits, if it does
 abbrev pub ahead_in : State → ℕ → Option Status → Option ℕ
 ahead_in s t (Some (Waiting n m)) = Some (ahead_of s t n)
 ahead_in s t o = None
 
--- what a list says of a node, as a row
+-- a list's entry of a node, as a row
 abbrev pub row_of : NodeId × Entry → LockRow
 row_of (n, e) = record { node = n; mode = e.mode; children = e.children }
 
@@ -105,16 +103,15 @@ nodes_of v t = keys_of (get_or v.lists t [])
 abbrev pub is_row_of : NodeId → LockRow → Bool
 is_row_of n r = same_node n r.node
 
--- the rows are the locks of the slot in the model: each node that it holds or waits for has one row, with the mode that is held and the exact count
--- of held children, and no other node has one
+-- the rows are the locks of the slot in the model: one for each node that it holds or waits for, with the held mode and the exact count of held children
 pub record AreRowsOf (s : State) (t : ℕ) (rows : List LockRow) : Type 0 where
   pub nodes : (n : NodeId) → list_any (is_row_of n) rows ≡ (holds (members s n) t || is_waiting_at s t n)
   pub once : IsDistinct same_node (map (λ (r : LockRow). r.node) rows)
   pub each : All (λ (r : LockRow). (r.mode ≡ s.held t r.node) × (r.children ≡ held_children s t r.node)) rows
 
--- The board of a state: who waits for whom, in one value.
+-- The waits-for snapshot of a state.
 
--- the board of this moment: the count of accepted commands, the ages, and a bit for each wait; it has a place for each slot whatever the limit is (own)
+-- the snapshot of this moment: the count of accepted commands, the ages, and a bit for each wait, with a place for each slot whatever the limit is
 abbrev pub board_of : State → Board
 board_of s =
     record {
@@ -123,7 +120,7 @@ board_of s =
       rows = map (λ t. bits_of (waits_for s t)) (range_with_len 0 most_slots);
     }
 
--- what headers and seats show of a state: who lives and waits, who holds what, and the queues
+-- what headers and transaction entries show of a state: who lives and waits, who holds what, and the queues
 abbrev pub shown : Entries → List (Option Seat) → ℕ → State
 shown hs seats epoch =
     record (empty_state ByWatcher (length seats)) { txns = txns_of seats; held = held_of hs; queue = queue_of hs; accepted = epoch }

@@ -1,4 +1,4 @@
-//! The board of a moment.
+//! The waits-for snapshot of a moment.
 
 ghost use Rattle.gl_slots.specs.Limit.{most_slots};
 ghost use Rattle.std.specs.Prelude.{◌≡◌, ◌≤◌, ◌==◌, ◌&&◌, ◌||◌, ◌⊎◌, ◌↔◌, ℕ, IsTrue, ◌<◌, IfSome, MatchOption, Some, false, get_or, length, not};
@@ -20,7 +20,8 @@ use gl_modes::{Mode, NodeId};
 use gl_slots::{Bits, SLOTS, Slot, Slots};
 use gl_waits::{Ages, Board, WaitsFor};
 
-/// The board of this moment, in which only the slots of those who live and wait are written.
+/// The snapshot of this moment. Only the ages of living transactions and the rows of waiters are
+/// written.
 pub(crate) fn board(headers: &Headers, seats: &Seats, epoch: u64) -> Board
     requires few { length seats.now.items ≤ most_slots }
     ensures { result ≡ board_of (shown headers.now.entries seats.now.items epoch) }
@@ -31,7 +32,7 @@ pub(crate) fn board(headers: &Headers, seats: &Seats, epoch: u64) -> Board
     board
 }
 
-/// Writes the age in each seat that is taken, where all are 0 before.
+/// Writes the age of each living transaction; all are 0 before.
 fn write_ages(seats: &Seats, ages: &mut [u64; SLOTS])
     requires none { (u : ℕ) → get_or ages.old u 0 ≡ 0 }
     ensures len { length ages.new ≡ length ages.old }
@@ -45,8 +46,8 @@ fn write_ages(seats: &Seats, ages: &mut [u64; SLOTS])
     }
 }
 
-/// Writes the row of each slot that waits, where all are empty before. Each queue in which somebody waits is
-/// read once, however many wait in it.
+/// Writes the row of each waiter; all are empty before. Each queue with a waiter is read once,
+/// however many it has.
 fn write_rows(headers: &Headers, seats: &Seats, rows: &mut [Bits; SLOTS])
     requires none { (t : ℕ) → get_or rows.old t no_bits ≡ no_bits }
     ensures len { length rows.new ≡ length rows.old }
@@ -68,7 +69,7 @@ fn is_unwritten(rows: &[Bits; SLOTS], slot: Slot) -> bool
     Slots::from_bits(rows[slot as usize]).is_empty()
 }
 
-/// Writes the row of a slot, and those of all who wait for the same node.
+/// Writes the row of a slot, and those of all that wait for the same node.
 fn show_waiter(headers: &Headers, seats: &Seats, slot: Slot, rows: &mut [Bits; SLOTS])
     requires below { slot < most_slots }
     requires none { get_or rows.old slot no_bits ≡ no_bits }
@@ -81,13 +82,13 @@ fn show_waiter(headers: &Headers, seats: &Seats, slot: Slot, rows: &mut [Bits; S
         return;
     };
     show_queue(headers, seats.as_slice(), node, rows);
-    // A waiter stands in the queue, so its row is there by now.
+    // A waiter is in the queue, so its row is written by now.
     if is_unwritten(rows, slot) {
         rows[slot as usize] = row(headers, slot, node, wanted).bits();
     }
 }
 
-/// For what a slot waits, and in which mode; `None` where it does not wait.
+/// The node that a slot waits for, and the wanted mode; `None` if it does not wait.
 fn wait_of(seats: &Seats, slot: Slot) -> Option<(NodeId, Mode)>
     ensures { MatchOption result (is_wait (status_in (txns_of seats.now.items slot)) ≡ false)
         (λ wait. status_in (txns_of seats.now.items slot) ≡ Some (Waiting wait.0 wait.1)) }
@@ -98,8 +99,8 @@ fn wait_of(seats: &Seats, slot: Slot) -> Option<(NodeId, Mode)>
     }
 }
 
-/// Writes the rows of those who wait for a node, in one pass over its queue: ahead of each are those
-/// who were passed. A slot's first place counts.
+/// Writes the rows of a node's waiters, in one pass over its queue: ahead of each are those passed
+/// so far. A slot's first place counts.
 fn show_queue(headers: &Headers, seats: &[Option<Seat>], node: NodeId, rows: &mut [Bits; SLOTS])
     ensures len { length rows.new ≡ length rows.old }
     ensures rows { (t : ℕ) → (get_or rows.new t no_bits ≡ get_or rows.old t no_bits)
@@ -131,8 +132,7 @@ fn wanted_on(seats: &[Option<Seat>], slot: Slot, node: NodeId) -> Option<Mode>
     }
 }
 
-/// Who waits for whom at this moment, how old each is, and since when its work wants to be done, read slot
-/// by slot.
+/// Who waits for whom at this moment, and the age and the `since` of each, read slot by slot.
 #[derive(Clone, Copy)]
 pub(crate) struct Waits<'a> {
     pub(crate) headers: &'a Headers,
@@ -183,7 +183,7 @@ impl Ages for Waits<'_> {
     }
 }
 
-/// Whom a slot waits for that waits on this node for this mode.
+/// The slots for which a slot waits, if it waits on this node for this mode.
 fn row(headers: &Headers, slot: Slot, node: NodeId, wanted: Mode) -> Slots
     requires below { slot < most_slots }
     ensures { (u : ℕ) → has_slot result u ≡ (not (slot == u)
@@ -192,7 +192,7 @@ fn row(headers: &Headers, slot: Slot, node: NodeId, wanted: Mode) -> Slots
     headers.waits_for(slot, node, wanted)
 }
 
-/// Whom a slot waits for with these ahead of it.
+/// The slots for which a slot waits, with these ahead of it.
 fn row_behind(header: &Header, ahead: Slots, slot: Slot, wanted: Mode) -> Slots
     ensures { (u : ℕ) → has_slot result u ≡ (not (slot == u) && (not (are_compatible wanted (members_of header.now u)) || has_slot ahead u)) }
 {

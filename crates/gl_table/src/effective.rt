@@ -15,9 +15,8 @@ use gl_modes::{Mode, NodeId, covers};
 use indexmap::IndexSet;
 use std::alloc::{AllocError, Global};
 
-/// What the transaction with this list may do to a node by all its locks together.
-///
-/// Each node above is looked at once at most for each of the two modes, however many ways lead up.
+/// What the transaction with this list may do to a node by all its locks together. Each node above
+/// is looked at once at most for each of the two modes, however many paths lead up.
 pub(crate) fn effective(
     alloc: Global,
     graph: &Graph,
@@ -36,10 +35,10 @@ pub(crate) fn effective(
     Ok(Effect::None)
 }
 
-/// Whether some root path of the node has no node that the transaction holds in X.
+/// Whether some path from the node to the root has no node that the transaction holds in X.
 ///
-/// The set of nodes found is the queue of the search too, and no way goes on past a node that is
-/// held in X. Where the node itself is held in X, there is no search.
+/// The set of nodes found is also the queue of the search, which does not continue above a node
+/// held in X. If the node itself is held in X, there is no search.
 fn has_free_root(
     alloc: Global,
     graph: &Graph,

@@ -40,9 +40,8 @@ pub(crate) mod moves;
 mod place;
 mod wake;
 
-/// Who holds what and who waits where. The same is kept twice, so that neither way of asking is a
-/// search: by node in the headers, and by transaction in the lists. Where the graph is asked, it is
-/// handed in.
+/// Who holds what and who waits for what, kept twice, so that no query is a search: by node in the
+/// headers, and by transaction in the lists. The graph is passed in if it is needed.
 #[derive(Drop)]
 pub(crate) struct Ledger {
     pub(crate) alloc: Global,
@@ -79,8 +78,8 @@ impl Ledger {
         self.seats.get(slot)
     }
 
-    /// The mode in which a slot holds a node, `NL` for none. It is read at the node, and not looked for in
-    /// the slot's list: most nodes that are asked for are new, and would be looked for in vain.
+    /// The mode in which a slot holds a node, `NL` for none. It is read at the node, not searched
+    /// for in the slot's list: most requested nodes are new, and would be searched for in vain.
     #[inline(always)]
     pub(crate) fn mode(&self, slot: Slot, node: NodeId) -> Mode
         ensures { result ≡ held_of self.now.headers.entries slot node }
@@ -88,7 +87,7 @@ impl Ledger {
         self.headers.mode_of(slot, node)
     }
 
-    /// How many children of a node a slot holds, where it holds the node.
+    /// How many children of a node a slot holds, if it holds the node.
     pub(crate) fn children(&self, slot: Slot, node: NodeId) -> Option<u32>
         ensures { result ≡ (if holds (λ t. held_by self.now.lists.items t node) slot then Some (counted_by self.now.lists.items slot node) else None) }
     {
@@ -110,7 +109,7 @@ impl Ledger {
         }
     }
 
-    /// The row at a place in the list of a slot.
+    /// The entry at a place in the list of a slot.
     pub(crate) fn row(&self, slot: Slot, place: usize) -> Option<LockRow>
         ensures { result ≡ by_list (λ l. option_map row_of (slice_get l.entries.entries place)) None self.now.lists.items slot }
     {
@@ -131,7 +130,7 @@ impl Ledger {
         Some(node)
     }
 
-    /// The node at a place in the list of a slot, where no child of it is held.
+    /// The node at a place in the list of a slot, if no child of it is held.
     pub(crate) fn childless_at(&self, slot: Slot, place: usize) -> Option<NodeId>
         ensures { result ≡ by_list (λ l. childless_in (slice_get l.entries.entries place)) None self.now.lists.items slot }
     {
@@ -179,9 +178,9 @@ impl Ledger {
         effective(self.alloc, graph, &self.lists[slot as usize], node)
     }
 
-    /// Takes the grant of a slot from the header of a node, which then grants from its front. The
-    /// slot's own list is left as it is. The list `granted` is filled anew; whoever drops several
-    /// grants has one for all.
+    /// Removes the grant of a slot from the header of a node, whose waiters are then granted from
+    /// the front. The slot's own list is left as it is. The list `granted` is filled anew; a caller
+    /// that drops several grants has one for all.
     #[inline(always)]
     pub(crate) fn drop_and_wake(
         &mut self,
@@ -203,8 +202,9 @@ impl Ledger {
         self.wake_granted(graph, node, granted.as_slice(), told);
     }
 
-    /// Takes the wait of a slot from the header of its node, which then grants from its front. The
-    /// slot's own list is left as it is; its status is written. The list `granted` is filled anew.
+    /// Removes the wait of a slot from the header of its node, whose waiters are then granted from
+    /// the front. The slot's own list is left as it is; its status is written. The list `granted`
+    /// is filled anew.
     pub(crate) fn leave_queue(
         &mut self,
         graph: &Graph,
@@ -227,7 +227,7 @@ impl Ledger {
         self.seats.set_status(slot, status);
     }
 
-    /// Those whose waits on a node were granted hold it, are active, and are told.
+    /// The waiters that were granted on a node hold it, are active, and are told.
     #[inline]
     fn wake_granted(
         &mut self,
@@ -243,7 +243,7 @@ impl Ledger {
             (books_of self.new.seats self.new.lists.items told.new.items) }
     {
         if granted.is_empty() {
-            return; // As mostly: the parents are looked up only where somebody is granted.
+            return; // Mostly so: the parents are looked up only if a waiter is granted.
         }
         wake::wake(
             &mut self.seats,

@@ -1,4 +1,4 @@
-//! The table of locks: who holds what and who waits where, over the model of its state.
+//! The table of locks: who holds what and who waits for what, over the model of its state.
 #![tactic(auto)]
 
 mod boards;

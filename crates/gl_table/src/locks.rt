@@ -15,15 +15,16 @@ mod release;
 mod settle;
 mod shed;
 
-/// The lock graph, and the ledger of who holds what on its nodes and who waits where. The law is said by
-/// the ghost fields: who holds or waits lives, on living nodes; the ledger's parts are in order; each
-/// list has the modes of its slot, and exact counts of held children. Each method keeps it. A step that
-/// breaks it on the way is the ledger's.
+/// The lock graph, and the ledger of its locks and waits. The ghost fields say the law: holders and
+/// waiters live, on living nodes; the ledger's parts are in order; each list has the modes of its
+/// slot, and exact counts of held children. Each method keeps it; only steps of the ledger break it
+/// meanwhile.
 #[derive(Drop)]
 pub(crate) struct Locks {
     pub(crate) graph: Graph,
     pub(crate) ledger: Ledger,
-    /// Whom the last release granted. It is filled anew by each, and is kept since to make it would write all of it.
+    /// The waiters that the last release granted. Each release fills it anew; it is kept, since to
+    /// make one would write all of it.
     pub(crate) granted: GrantList,
     ghost orderly: { IsOrderly (state_in graph ledger) },
     ghost sound: { AreSound ledger },

@@ -1,4 +1,4 @@
-//! The rule of the lock graph, tested on explicit locks of the parents alone.
+//! The rule of the lock graph, tested on the locks held on the parents alone.
 
 ghost use Rattle.std.specs.Prelude.{◌≡◌, ◌||◌, None, if◌then◌else◌};
 ghost use Rattle.std.specs.List.{list_any};
@@ -12,9 +12,9 @@ ghost use Rattle.gl_model.specs.Calls.{first_not_ix, first_of_all, rule_refusal}
 use gl_lock_lists::LockList;
 use gl_modes::{Mode, NodeId, Refusal, covers};
 
-/// Whether the rule of the graph lets this transaction have this mode on a node with these parents:
+/// Whether the rule of the graph permits this transaction this mode on a node with these parents:
 /// to write, IX or greater on each; to read, IS or greater on one, and nothing for a root. Refused
-/// with `NeedParents`: the first parent that is wanting, to read the first of all.
+/// with `NeedParents`, to write for the first parent that lacks it, to read for the first of all.
 #[inline(always)]
 #[tactic(auto, using(crate::proofs::calls::Queries::rule_steps))]
 pub(crate) fn check_rule(list: &LockList, parents: &[NodeId], mode: Mode) -> Result<(), Refusal>

@@ -1,12 +1,12 @@
-//! A transaction that lives.
+//! A transaction entry.
 
 use gl_model::Status;
 
-/// A transaction that lives.
+/// The entry of a living transaction.
 #[derive(Clone, Copy)]
 pub struct Seat {
     pub(crate) age: u64,
-    /// The number of begins since which its work wants to be done.
+    /// Its age, or that of an earlier transaction for its work.
     pub(crate) since: u64,
     pub(crate) status: Status,
 }

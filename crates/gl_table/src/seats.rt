@@ -1,4 +1,4 @@
-//! The seats of all transactions, by slot.
+//! The transaction entries, by slot.
 
 ghost use Rattle.gl_slots.specs.Limit.{most_slots};
 ghost use Rattle.std.specs.Prelude.{◌≡◌, ◌<◌, ◌≤◌, ◌==◌, ℕ, IfOk, None, Some, if◌then◌else◌, length, position, replicate, slice_set};
@@ -12,8 +12,8 @@ use gl_slots::{Slot, Slots};
 use std::alloc::{AllocError, Global};
 use std::marker::Model;
 
-/// The transaction in each slot, and three sets: of the free slots, of those in which somebody lives, and
-/// of those who wait. So none of them is found by a search, however many slots there are.
+/// The transaction in each slot, and three sets: of the free slots, of those with a transaction,
+/// and of those that wait. So none is searched for, however many slots there are.
 #[derive(Drop)]
 pub(crate) struct Seats {
     list: Vec<Option<Seat>>,
@@ -35,7 +35,7 @@ impl Model for Seats {
 }
 
 impl Seats {
-    /// So many free seats.
+    /// So many free slots.
     pub(crate) fn new(alloc: Global, most: usize) -> Result<Self, AllocError>
         requires { most ≤ most_slots }
         ensures { IfOk result (λ seats. seats.items ≡ replicate most None) }
@@ -65,7 +65,7 @@ impl Seats {
         }
     }
 
-    /// All seats, from slot 0 on.
+    /// All entries, from slot 0 on.
     pub(crate) fn as_slice(&self) -> &[Option<Seat>]
         ensures { result.now ≡ self.now.items }
     {
@@ -79,21 +79,21 @@ impl Seats {
         self.free.lowest()
     }
 
-    /// The slots in which somebody lives.
+    /// The slots with a transaction.
     pub(crate) fn living(&self) -> Slots
         ensures { (u : ℕ) → has_slot result u ≡ lives_at self.now.items u }
     {
         self.living
     }
 
-    /// The slots of those who wait.
+    /// The slots of transactions that wait.
     pub(crate) fn waiting(&self) -> Slots
         ensures { (u : ℕ) → has_slot result u ≡ waits_at self.now.items u }
     {
         self.waiting
     }
 
-    /// Seats a transaction.
+    /// Enters a transaction.
     pub(crate) fn take(&mut self, slot: Slot, seat: Seat)
         requires { slot < length self.old.items }
         ensures { self.new.items ≡ slice_set self.old.items slot (Some seat) }
@@ -115,7 +115,7 @@ impl Seats {
         self.waiting.remove(slot);
     }
 
-    /// Writes what the transaction in a slot is doing. Answers its age, 0 for a free slot.
+    /// Sets the status of the transaction in a slot. Answers its age, 0 for a free slot.
     pub(crate) fn set_status(&mut self, slot: Slot, status: Status) -> u64
         requires { slot < length self.old.items }
         ensures age { result ≡ age_in (txns_of self.old.items slot) }
@@ -135,7 +135,7 @@ impl Seats {
     }
 }
 
-/// Puts a slot into the set of those who wait, or takes it out, by what its transaction is doing.
+/// Puts a slot into the set of those that wait, or removes it, by the status of its transaction.
 fn note(waiting: &mut Slots, slot: Slot, status: Status)
     requires { slot < most_slots }
     ensures { (u : ℕ) → has_slot waiting.new u ≡ (if u == slot then is_wait (Some status) else has_slot waiting.old u) }

@@ -57,8 +57,8 @@ impl Model for Table {
 }
 
 impl Table {
-    /// A table without nodes and transactions, for at most so many transactions at once. Of those in a
-    /// deadlock the youngest falls. The only refusal is `NoMemory`.
+    /// A table without nodes and transactions, for at most `most` transactions at once, which
+    /// chooses victims by `Youngest`. The only refusal is `NoMemory`.
     pub fn new(alloc: Global, detect: Detect, most: usize) -> Result<Self, Refusal>
         requires some { 1 ≤ most }
         requires few { most ≤ most_slots }
@@ -69,7 +69,7 @@ impl Table {
         Table::choosing(alloc, detect, Victims::Youngest, most)
     }
 
-    /// As `new`, with a choice of whom a deadlock takes.
+    /// As `new`, with this choice of victims.
     pub fn choosing(
         alloc: Global,
         detect: Detect,
@@ -85,8 +85,8 @@ impl Table {
         Table::over(Graph::new(alloc), alloc, detect, victims, most)
     }
 
-    /// As `choosing`, with other limits: of the nodes that may live at once, at most 2^31, and of the
-    /// bounds of an index. They are 65,536 and 256 where none are chosen.
+    /// As `choosing`, with other limits: `nodes` may live at once, at most 2^31, and an index may
+    /// have `bounds` bounds. The defaults are 65,536 and 256.
     pub fn with_limits(
         alloc: Global,
         detect: Detect,
@@ -139,10 +139,10 @@ impl Table {
         }
     }
 
-    /// The law of every table: its state is lawful; a header stands exactly where somebody holds or
-    /// waits, with the supremum of the grants as its group mode; the lists agree; no node has two
-    /// headers, or stands twice in a list; no two transactions conflict; and with detection at block
-    /// nobody is on a cycle of waits.
+    /// The law of every table: its state is lawful; a node has a header exactly if a transaction
+    /// holds it or waits for it, with the supremum of the grants as its group mode; the lists
+    /// agree; no node has two headers or is twice in a list; no two transactions conflict; and with
+    /// detection at block nobody is on a cycle of waits.
     pub fn law(&self)
         ensures lawful { IsLawful (state_of self.now) }
         ensures headers { AreHeaders self.now.headers }
@@ -155,22 +155,22 @@ impl Table {
         self.locks.ledger.headers.law();
     }
 
-    /// How deadlocks are found.
+    /// How deadlocks are detected.
     pub fn detect(&self) -> Detect
         ensures { result ≡ self.now.detect }
     {
         self.detect
     }
 
-    /// Whom a deadlock takes.
+    /// How victims are chosen.
     pub fn victims(&self) -> Victims
         ensures { result ≡ self.now.victims }
     {
         self.victims
     }
 
-    /// The deadlock of which the last victim fell, as it was when that was condemned; `None` where
-    /// none ever was. It takes no memory.
+    /// The deadlock of the last victim, as it was when that was condemned; `None` if none ever was.
+    /// Allocates no memory.
     pub fn last_deadlock(&self) -> Option<&Deadlock>
         ensures some { IfSome result (λ deadlock. deadlock.now ≡ self.now.deadlock) }
         ensures none { IsNone result ↔ (self.now.deadlock.cycle.items ≡ []) }
@@ -189,7 +189,7 @@ impl Table {
         &self.locks.graph
     }
 
-    /// What a transaction is doing; `None` where the name names none that lives.
+    /// Whether a transaction is active, waits or is condemned; `None` if it does not live.
     pub fn status(&self, t: TxnId) -> Option<Status>
         ensures { result ≡ (if lives (state_of self.now) t then status_of (state_of self.now) t.slot else None) }
     {

@@ -1,4 +1,4 @@
-//! Telling: notices by rising slot.
+//! Lists of notices, by rising slot.
 
 ghost use Rattle.gl_slots.specs.Limit.{most_slots};
 ghost use Rattle.std.specs.Prelude.{◌≡◌, ◌<◌, ◌==◌, ℕ, None, Some, if◌then◌else◌, nat_lt, true};
@@ -20,7 +20,7 @@ pub(crate) fn tell(told: &mut Told, t: TxnId, notice: Notice)
     told.insert(place, (t, notice));
 }
 
-/// How many notices are to slots below this one.
+/// How many notices are for slots below this one.
 fn place_of(told: &[(TxnId, Notice)], slot: Slot) -> usize
     requires { is_rising told.now ≡ true }
     ensures { result ≡ prefix_len (λ x. nat_lt x.0.slot slot) told.now }

@@ -1,4 +1,4 @@
-//! The one entry for every command.
+//! The one call for every command.
 
 ghost use Rattle.std.specs.Prelude.{◌≡◌, []};
 ghost use Rattle.gl_catalog.specs.Deadlocks.{KeepsDeadlock};
@@ -17,17 +17,17 @@ use gl_steps::{Answer, Command, Reply};
 use gl_table::Told;
 
 impl Manager {
-    /// Carries out one command, and answers it. A command that changes something and is not refused
-    /// is counted; one that waits, or whose asker is condemned, counts too. A refused command and a
-    /// query change nothing.
+    /// Carries out one command, and answers it. A command that is no query and is not refused is
+    /// counted, also if it waits or its requester is condemned. A refused command and a query
+    /// change nothing.
     ///
-    /// To a living transaction that the command does not name, its effective mode on each record that
-    /// stands before and after is left, or raised where the reply tells it of a grant; and where it
-    /// reads a node, the records below that node are left, with their keys, but for rows that are
-    /// adopted or forgotten, which nobody holds or waits for. A rekey and a move leave
-    /// the effective modes of their caller, and an escalation lowers none. A settle of a transaction
-    /// that is on no cycle tells nobody. A lock and a settle keep the last deadlock of which they
-    /// condemn the victim, and every other command leaves the one that was kept.
+    /// A living transaction that the command does not name keeps its effective mode on each record
+    /// that lives before and after, unless the reply tells it of a grant, which may raise it. If it
+    /// reads a node, the records below that node stay, with their keys, except rows that are
+    /// adopted or forgotten, which no transaction holds or waits for. A rekey and a move leave the
+    /// effective modes of their caller, and an escalation lowers none. A settle of a transaction
+    /// that is on no cycle tells nobody. A lock or a settle that condemns victims records the
+    /// deadlock of the last; otherwise the recorded one stays.
     pub fn apply(&mut self, command: Command<'_>) -> Reply
         ensures step { Step (state_of self.old) command.entry result.answer result.told.items (state_of self.new) }
         ensures deadlock { KeepsDeadlock command.entry self.old result.answer self.new }
@@ -42,8 +42,8 @@ impl Manager {
         Reply { answer, told }
     }
 
-    /// As `apply_telling`, but in one place: callers of `apply` make every choice of a command, and
-    /// would each have all of it inlined.
+    /// As `apply_telling`, but not inlined: else each caller of `apply` would have the code of
+    /// every command.
     #[inline(never)]
     fn apply_apart(&mut self, command: Command<'_>, told: &mut Told) -> Answer
         requires empty { told.old.items ≡ [] }
@@ -58,8 +58,9 @@ impl Manager {
         self.apply_telling(command, told)
     }
 
-    /// As `apply`, with the notices put into an empty list, which the caller may use again: a reply is
-    /// some six kilobytes large. Inlined, so that a caller with one kind of command makes no choice.
+    /// As `apply`, with the notices put into an empty list that the caller may use again: a reply
+    /// has some six kilobytes. Inlined, so that a caller with one kind of command tests for no
+    /// other.
     #[inline(always)]
     pub fn apply_telling(&mut self, command: Command<'_>, told: &mut Told) -> Answer
         requires empty { told.old.items ≡ [] }
@@ -75,7 +76,7 @@ impl Manager {
         self.carry_out(command, told)
     }
 
-    /// Carries out one command by the call that does it.
+    /// Carries out one command by its call.
     #[inline(always)]
     fn carry_out(&mut self, command: Command<'_>, told: &mut Told) -> Answer
         requires empty { told.old.items ≡ [] }

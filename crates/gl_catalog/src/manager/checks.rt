@@ -1,5 +1,4 @@
-//! The tests that the manager makes before it changes anything, each with the refusal that it
-//! answers.
+//! The tests that the manager makes before it changes anything, each with its refusal.
 
 ghost use Rattle.std.specs.Prelude.{◌≡◌, true};
 ghost use Rattle.gl_graph.specs.Graph.{is_live};
@@ -15,7 +14,7 @@ use gl_modes::{Mode, NodeId, Refusal};
 use gl_table::TxnId;
 
 impl Manager {
-    /// Whether one command more can be counted.
+    /// Whether one more command can be counted.
     pub(super) fn check_count(&self) -> Result<(), Refusal>
         ensures { result ≡ verdict (worn (state_of self.now)) }
     {
@@ -26,7 +25,7 @@ impl Manager {
         }
     }
 
-    /// Whether two commands more can be counted.
+    /// Whether two more commands can be counted.
     pub(super) fn check_count_twice(&self) -> Result<(), Refusal>
         ensures { result ≡ verdict (worn_twice (state_of self.now)) }
     {
@@ -37,14 +36,14 @@ impl Manager {
         }
     }
 
-    /// Whether the name names a transaction that lives and neither waits nor is condemned.
+    /// Whether the name is of a living transaction that neither waits nor is condemned.
     pub(super) fn check_active(&self, t: TxnId) -> Result<(), Refusal>
         ensures { result ≡ verdict (first_refusal (commit_tests (state_of self.now) t)) }
     {
         self.table.check_active(t)
     }
 
-    /// Whether the id names a node.
+    /// Whether the node lives.
     pub(super) fn lives(&self, n: NodeId) -> bool
         ensures { result ≡ is_live (state_of self.now).graph n }
     {
@@ -62,8 +61,8 @@ impl Manager {
         }
     }
 
-    /// Whether a living transaction holds each of these in IX or greater; refused with the first that
-    /// it does not.
+    /// Whether a living transaction holds each of these in IX or greater; refuses with the first
+    /// that it does not.
     pub(super) fn check_writable(&self, t: TxnId, nodes: &[NodeId]) -> Result<(), Refusal>
         requires txn { lives (state_of self.now) t ≡ true }
         ensures { result ≡ verdict (first_not_ix ((state_of self.now).held t.slot) nodes.now) }

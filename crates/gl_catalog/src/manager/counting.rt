@@ -15,14 +15,14 @@ use gl_modes::{Mode, NodeId};
 use gl_table::{Locked, Notice, Table, TxnId};
 
 impl Manager {
-    /// What the manager has been doing since it was made. It takes no memory.
+    /// What the manager has done since it was made. Allocates no memory.
     pub fn counters(&self) -> Counters
         ensures { result ≡ self.now.counters }
     {
         self.counters
     }
 
-    /// Counts what a lock of a node came to, by whom it told, and by the mode in which its transaction
+    /// Counts a lock of a node by its answer, its notices, and the mode in which its transaction
     /// held the node before.
     pub(super) fn count_lock(
         &mut self,
@@ -44,8 +44,8 @@ impl Manager {
         self.counters.add_notices(told);
     }
 
-    /// How many transactions wait, and how many of them for a node, where a lock left its asker waiting;
-    /// else none.
+    /// How many transactions wait, and how many of them for a node, if a lock left its requester
+    /// waiting; else none.
     fn waits_seen(&self, n: NodeId, locked: Locked) -> (u64, u64)
         ensures waiting { result.0 ≡ (if waits (answer_of_lock locked) then waiting_in (state_of self.now) else 0) }
         ensures queued { result.1 ≡ (if waits (answer_of_lock locked) then length ((state_of self.now).queue n) else 0) }
@@ -56,7 +56,7 @@ impl Manager {
         }
     }
 
-    /// The mode in which a transaction holds a node, `NL` where it does not live.
+    /// The mode in which a transaction holds a node, `NL` if it does not live.
     pub(super) fn held_by(&self, t: TxnId, n: NodeId) -> Mode
         ensures { result ≡ (if lives (state_of self.now) t then (state_of self.now).held t.slot n else NL) }
     {
@@ -91,15 +91,15 @@ impl Manager {
     }
 }
 
-/// Whether somebody waits for a node that was held in one mode and then in another. Where the mode was
-/// not raised nothing is looked up.
+/// Whether a transaction waits for a node that was held in one mode and then in another. If the
+/// mode was not raised, nothing is looked up.
 pub(super) fn raise_passes(table: &Table, n: NodeId, before: Mode, after: Mode) -> bool
     ensures { result ≡ raise_passes (table_state table.now) n before after }
 {
     before != Mode::NL && after != before && table.is_awaited(n)
 }
 
-/// The same of a lock, by what it came to.
+/// The same for a lock, by its answer.
 fn lock_passes(table: &Table, n: NodeId, before: Mode, locked: Locked) -> bool
     ensures { result ≡ lock_passes (table_state table.now) n before locked }
 {

@@ -1,4 +1,4 @@
-//! A lock on a node in place of locks on its children.
+//! Escalation: a lock on a node in place of locks on its children.
 
 ghost use Rattle.std.specs.Prelude.{◌≡◌, ◌+◌, ◌∷◌, [], IfOk, OnErr, OnOk};
 ghost use Rattle.gl_graph.specs.Refusals.{first_refusal, verdict};
@@ -19,16 +19,16 @@ use gl_steps::Escalated;
 use gl_table::{Told, TxnId};
 
 impl Manager {
-    /// Raises the lock of a node, to X where the transaction holds some child of it in IX, SIX or X,
-    /// else to S, and releases the children whose locks the raised one implies: a held child of which
-    /// no child is held, not held in X, or held in X with X on each of its parents. Each child that
-    /// was released grants from its front. Answers what was done, and who is told of a grant, by
-    /// rising slot. The transaction's effective mode is lowered on no node, and others are left what
-    /// `apply` leaves them.
+    /// Raises the lock of a node, to X if the transaction holds a child of it in IX, SIX or X, else
+    /// to S, and releases the children that the raised lock covers: a held child of which no child
+    /// is held, and which is not in X, or in X with X on each of its parents. The waiters of each
+    /// released child are granted from the front. Answers what was done, and the notices of grants,
+    /// by rising slot. The transaction's effective mode is lowered on no node; other transactions
+    /// keep what `apply` leaves them.
     ///
     /// Refused, in this order, with `WornOut`, `NoSuchTxn`, `TxnWaiting`, `TxnCondemned`,
-    /// `NoSuchNode`, `BadParents` (a record), `NotHeld` and `WouldBlock`, where the raised mode is not
-    /// granted at once. It takes no memory, and goes over what the transaction holds.
+    /// `NoSuchNode`, `BadParents` (a record), `NotHeld` and `WouldBlock` (the raised mode is not
+    /// granted at once). Allocates no memory, and scans all that the transaction holds.
     pub fn escalate(&mut self, t: TxnId, n: NodeId) -> Result<(Escalated, Told), Refusal>
         ensures step { CallSteps (state_of self.old) (command.Escalate t n) rose result (state_of self.new) }
         ensures deadlock { OnOk result (KeepsAccepted (command.Escalate t n) self.old self.new) }
@@ -78,7 +78,7 @@ impl Manager {
         })
     }
 
-    /// The tests of `escalate` but for whether the raised mode is granted at once.
+    /// The tests of `escalate`, except whether the raised mode is granted at once.
     fn check_escalate(&self, t: TxnId, n: NodeId) -> Result<(), Refusal>
         ensures { result ≡ verdict (first_refusal (worn (state_of self.now) ∷ escalate_asks (state_of self.now) t n)) }
     {

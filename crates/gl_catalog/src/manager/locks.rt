@@ -1,8 +1,8 @@
-//! Transactions, and the locks that they ask for and give back.
+//! Transactions, and the locks that they acquire and release.
 //!
-//! Each call does what `apply` does for its command, with no command and no answer to be matched. It is
-//! refused with `WornOut` where no command can be counted any more, and then as the call of the table
-//! by its name. Calls that tell somebody fill a list that is empty before.
+//! Each call does what `apply` does for its command, without a match. It is refused with `WornOut`
+//! if no command can be counted any more, and then as the table's call of its name. Notices are put
+//! into a list that must be empty.
 
 ghost use Rattle.std.specs.Prelude.{◌≡◌, [], IfOk, OnErr};
 ghost use Rattle.gl_steps.specs.declared.command.Command.TheVariants as command;
@@ -16,7 +16,7 @@ use gl_modes::{Mode, NodeId, Refusal};
 use gl_table::{Locked, Told, TxnId};
 
 impl Manager {
-    /// Begins a transaction, in the lowest free slot. It may want memory.
+    /// Begins a transaction, in the lowest free slot. May allocate memory.
     pub fn begin(&mut self) -> Result<TxnId, Refusal>
         ensures step { CallSteps (state_of self.old) command.Begin began result (state_of self.new) }
         ensures completes { IfOk result (λ x. Completes command.Begin self.old (began x) self.new) }
@@ -29,9 +29,9 @@ impl Manager {
         Ok(txn)
     }
 
-    /// Begins a transaction for work that wants to be done since an earlier begin: since the age of the
-    /// transaction that was to do it first. Of a deadlock the one whose number is the greatest is the
-    /// next victim, so a victim that begins again with its first age keeps its turn. It may want memory.
+    /// Begins a transaction for work that began earlier: `since` is the age of the first
+    /// transaction for it. The next victim of a deadlock is the one with the greatest such number,
+    /// so a victim that begins again with its first age keeps its turn. May allocate memory.
     pub fn begin_again(&mut self, since: u64) -> Result<TxnId, Refusal>
         ensures step { CallSteps (state_of self.old) (command.BeginAgain since) began result (state_of self.new) }
         ensures completes { IfOk result (λ x. Completes (command.BeginAgain since) self.old (began x) self.new) }
@@ -44,8 +44,8 @@ impl Manager {
         Ok(txn)
     }
 
-    /// Asks for a mode on a node, and waits where it cannot be granted at once. With detection at block
-    /// the asker is settled then. It may want memory.
+    /// Requests a mode on a node, and waits if it cannot be granted at once. With detection at
+    /// block a requester that waits is settled at once. May allocate memory.
     pub fn lock_telling(
         &mut self,
         t: TxnId,
@@ -67,8 +67,8 @@ impl Manager {
         Ok(locked)
     }
 
-    /// Asks for a mode on a node, and is refused with `WouldBlock` where it cannot be granted at once.
-    /// It may want memory, but where the node is held.
+    /// Requests a mode on a node, and is refused with `WouldBlock` if it cannot be granted at once.
+    /// May allocate memory, unless the transaction holds the node.
     pub fn try_lock(&mut self, t: TxnId, n: NodeId, mode: Mode) -> Result<Mode, Refusal>
         ensures step { CallSteps (state_of self.old) (command.Try t n mode) took result (state_of self.new) }
         ensures completes { IfOk result (λ x. Completes (command.Try t n mode) self.old (took x) self.new) }
@@ -84,7 +84,8 @@ impl Manager {
         Ok(mode)
     }
 
-    /// Releases one node, of which no child is held; it grants from its front. It takes no memory.
+    /// Releases one node, of which no child is held; its waiters are granted from the front.
+    /// Allocates no memory.
     pub fn unlock_telling(&mut self, t: TxnId, n: NodeId, told: &mut Told) -> Result<(), Refusal>
         requires empty { told.old.items ≡ [] }
         ensures step { CallSteps (state_of self.old) (command.Unlock t n) (doing told.new.items) result (state_of self.new) }
@@ -100,7 +101,8 @@ impl Manager {
         Ok(())
     }
 
-    /// Takes back the wait of a transaction; its node grants from its front. It takes no memory.
+    /// Cancels the wait of a transaction; the node's waiters are granted from the front. Allocates
+    /// no memory.
     pub fn cancel_telling(&mut self, t: TxnId, told: &mut Told) -> Result<(), Refusal>
         requires empty { told.old.items ≡ [] }
         ensures step { CallSteps (state_of self.old) (command.Cancel t) (doing told.new.items) result (state_of self.new) }
@@ -116,7 +118,7 @@ impl Manager {
         Ok(())
     }
 
-    /// Ends an active transaction and releases everything. It takes no memory.
+    /// Ends an active transaction and releases everything. Allocates no memory.
     pub fn commit_telling(&mut self, t: TxnId, told: &mut Told) -> Result<(), Refusal>
         requires empty { told.old.items ≡ [] }
         ensures step { CallSteps (state_of self.old) (command.Commit t) (doing told.new.items) result (state_of self.new) }
@@ -132,7 +134,7 @@ impl Manager {
         Ok(())
     }
 
-    /// Ends a transaction whatever it is doing, and releases everything. It takes no memory.
+    /// Ends a transaction in any status, and releases everything. Allocates no memory.
     pub fn abort_telling(&mut self, t: TxnId, told: &mut Told) -> Result<(), Refusal>
         requires empty { told.old.items ≡ [] }
         ensures step { CallSteps (state_of self.old) (command.Abort t) (doing told.new.items) result (state_of self.new) }
@@ -148,8 +150,8 @@ impl Manager {
         Ok(())
     }
 
-    /// Condemns victims, by the choice of victims, until the transaction is on no cycle. It takes no
-    /// memory.
+    /// Condemns victims, by the choice of victims, until the transaction is on no cycle. Allocates
+    /// no memory.
     pub fn settle_telling(&mut self, t: TxnId, told: &mut Told) -> Result<(), Refusal>
         requires empty { told.old.items ≡ [] }
         ensures step { CallSteps (state_of self.old) (command.Settle t) (doing told.new.items) result (state_of self.new) }

@@ -1,4 +1,4 @@
-//! Nodes move.
+//! Records get other keys, and nodes other parents.
 
 ghost use Rattle.std.specs.Prelude.{◌≡◌, ◌+◌, ◌∷◌, ◌&&◌, [], IfOk, OnErr, OnOk, not, true};
 ghost use Rattle.gl_graph.specs.Changes.{rekeyed_parents};
@@ -23,17 +23,17 @@ use gl_modes::{Mode, NodeId, Refusal};
 use gl_table::{Told, TxnId};
 
 impl Manager {
-    /// Gives a record another key for one index of its file, and the interval in which that key lies
-    /// in place of the old one. What is held stays. Waits on the record that do not meet the rule of
-    /// the graph over its new parents are over. Answers who is told of that, by rising slot. The
-    /// effective modes of the transaction stay, and others are left what `apply` leaves them.
+    /// Gives a record another key for one index of its file, and with it that key's interval as a
+    /// parent, in place of the old one. Locks on the record stay. A wait on it that fails the rule
+    /// of the graph over its new parents ends. Answers the notices of these, by rising slot. The
+    /// effective modes of the transaction stay; other transactions keep what `apply` leaves them.
     ///
-    /// Lawful where the transaction holds X on the record and IX or greater on each new parent, or X
-    /// on each old and each new parent. Refused, in this order, with `WornOut`, `NoSuchTxn`,
-    /// `TxnWaiting`, `TxnCondemned`, `NoSuchNode`, `BadParents` (no record, or no index of its file),
+    /// The transaction needs X on the record and IX or greater on each new parent, or X on each old
+    /// and each new parent. Refused, in this order, with `WornOut`, `NoSuchTxn`, `TxnWaiting`,
+    /// `TxnCondemned`, `NoSuchNode`, `BadParents` (no record, or no index of its file),
     /// `NeedExclusive` (without X on the record, and not with X on all those parents) and
-    /// `NeedParents` (with X on the record: the first new parent not held in IX or greater). It takes
-    /// no memory.
+    /// `NeedParents` (with X on the record: the first new parent not held in IX or greater).
+    /// Allocates no memory.
     pub fn rekey(&mut self, t: TxnId, rec: NodeId, index: NodeId, key: u64) -> Result<Told, Refusal>
         ensures step { CallSteps (state_of self.old) (command.Rekey t rec index key) done result (state_of self.new) }
         ensures deadlock { OnOk result (KeepsAccepted (command.Rekey t rec index key) self.old self.new) }
@@ -73,16 +73,16 @@ impl Manager {
     }
 
     /// Gives an inner node, a file or an index other parents; an inner node without parents is a
-    /// root. What is held stays. Waits on the node that do not meet the rule of the graph over its new
-    /// parents are over. Answers who is told of that, by rising slot. The effective modes of the
-    /// transaction stay, and others are left what `apply` leaves them.
+    /// root. Locks on the node stay. A wait on it that fails the rule of the graph over its new
+    /// parents ends. Answers the notices of these, by rising slot. The effective modes of the
+    /// transaction stay; other transactions keep what `apply` leaves them.
     ///
-    /// Lawful where the transaction holds X on the node and IX or greater on each new parent, or, where
-    /// there are both old and new parents, X on each of them. Refused, in this order, with `WornOut`,
-    /// `NoSuchTxn`, `TxnWaiting`, `TxnCondemned`, `NoSuchNode`, `BadParents` (a record or an interval,
-    /// or parents that no such node could have), `NeedExclusive`, `NeedParents` (with X on the node:
-    /// the first new parent not held in IX or greater), `Cycle` (the first new parent that is the node
-    /// or has a path to it) and `NoMemory`, which may come in place of `Cycle` too.
+    /// The transaction needs X on the node and IX or greater on each new parent, or, if there are
+    /// both old and new parents, X on each of them. Refused, in this order, with `WornOut`,
+    /// `NoSuchTxn`, `TxnWaiting`, `TxnCondemned`, `NoSuchNode`, `BadParents` (a record or an
+    /// interval, or parents that no such node could have), `NeedExclusive`, `NeedParents` (with X
+    /// on the node: the first new parent not held in IX or greater), `Cycle` (the first new parent
+    /// that is the node or has a path to it) and `NoMemory`, which may replace `Cycle` too.
     pub fn relocate(&mut self, t: TxnId, n: NodeId, parents: &[NodeId]) -> Result<Told, Refusal>
         ensures step { CallSteps (state_of self.old) (command.Move t n parents.entry) done result (state_of self.new) }
         ensures deadlock { OnOk result (KeepsAccepted (command.Move t n parents.entry) self.old self.new) }
@@ -136,7 +136,7 @@ impl Manager {
         self.check_move(t, rec, true, parents.as_slice())
     }
 
-    /// Whether the one node is a record, and the other an index of its file.
+    /// Whether `rec` is a record and `index` an index of its file.
     fn is_keyed_by(&self, rec: NodeId, index: NodeId) -> bool
         ensures { result ≡ (is_record_shape (shape_of (state_of self.now).graph rec)
             && is_index_of_shape (first_parent (state_of self.now).graph rec) (shape_of (state_of self.now).graph index)) }
@@ -171,7 +171,7 @@ impl Manager {
         parents
     }
 
-    /// The tests of `relocate` but for the search for a cycle and for memory.
+    /// The tests of `relocate`, except the search for a cycle and memory.
     fn check_relocate(&self, t: TxnId, n: NodeId, parents: &[NodeId]) -> Result<(), Refusal>
         ensures { result ≡ verdict (first_refusal (worn (state_of self.now) ∷ move_asks (state_of self.now) t n parents.now)) }
     {
@@ -200,8 +200,8 @@ impl Manager {
         }
     }
 
-    /// Whether the locks of a transaction let it move a node to these parents: X on the node and IX or
-    /// greater on each of them, or X on each old and each new parent, where there are both.
+    /// Whether the locks of a transaction let it move a node to these parents: X on the node and IX
+    /// or greater on each of them, or X on each old and each new parent, if there are both.
     fn check_move(
         &self,
         t: TxnId,

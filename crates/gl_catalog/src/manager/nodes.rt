@@ -1,4 +1,4 @@
-//! New nodes of the graph. Each call does what `apply` does for its command, and is refused as it is.
+//! New nodes of the graph. Each call does what `apply` does for its command, with its refusals.
 
 ghost use Rattle.std.specs.Prelude.{◌≡◌, IfOk, OnErr};
 ghost use Rattle.gl_steps.specs.declared.command.Command.TheVariants as command;
@@ -10,7 +10,7 @@ use super::Manager;
 use gl_modes::{NodeId, Refusal};
 
 impl Manager {
-    /// A new inner node under these; without parents it is a root.
+    /// Makes an inner node under these; without parents it is a root.
     pub fn add_inner(&mut self, parents: &[NodeId]) -> Result<NodeId, Refusal>
         ensures step { CallSteps (state_of self.old) (command.Inner parents.entry) made result (state_of self.new) }
         ensures completes { IfOk result (λ x. Completes (command.Inner parents.entry) self.old (made x) self.new) }
@@ -23,7 +23,7 @@ impl Manager {
         Ok(node)
     }
 
-    /// A new file under these.
+    /// Makes a file under these.
     pub fn add_file(&mut self, parents: &[NodeId]) -> Result<NodeId, Refusal>
         ensures step { CallSteps (state_of self.old) (command.File parents.entry) made result (state_of self.new) }
         ensures completes { IfOk result (λ x. Completes (command.File parents.entry) self.old (made x) self.new) }
@@ -36,8 +36,8 @@ impl Manager {
         Ok(node)
     }
 
-    /// A new index of a file that has no records and had no row adopted, under these, with an interval
-    /// at key 0 and one at each bound.
+    /// Makes an index under these, of a file that has no records and had no row adopted, with an
+    /// interval at key 0 and one at each bound.
     pub fn add_index(
         &mut self,
         parents: &[NodeId],

@@ -1,4 +1,4 @@
-//! A node is locked with what has to be held above it.
+//! Paths: a node is locked with the locks that it needs above it.
 
 ghost use Rattle.std.specs.Prelude.{◌≡◌, ◌⊎◌, ◌++◌, ◌∷◌, [], Err, IfErr, None, OnErr, Some, true};
 ghost use Rattle.gl_modes.specs.declared.refusal.Refusal.{Refusal as ARefusal};
@@ -27,41 +27,38 @@ use arrayvec::ArrayVec;
 use gl_modes::{Mode, NodeId, Refusal, covers};
 use gl_table::{Locked, Told, TxnId};
 
-/// How many nodes above a path keeps.
+/// The most nodes above that a path keeps.
 const MOST_KEPT: usize = 8;
 
-/// The nodes above that a path knows to be wanted, upwards.
+/// The nodes above that are known to be needed, upwards.
 type Above = ArrayVec<NodeId, MOST_KEPT>;
 
-/// The last ask of a path, and what it came to.
+/// The last request of a path, and its answer.
 #[derive(Clone, Copy, PartialEq, Eq, Debug)]
 pub struct Reached {
-    /// The node that was asked for: the path's own, or one above it.
+    /// The requested node: the path's own, or one above it.
     pub node: NodeId,
     pub locked: Locked,
 }
 
 impl Manager {
-    /// Locks a node with what has to be held above it: to write, by `IX` each parent that is not held
-    /// in `IX` or greater; to read, by `IS` the first parent, where none is held in `IS` or greater;
-    /// and the same above each of these. The highest comes first, and the node in its mode last. What
-    /// is held already is not asked again. Each ask is a lock, and is counted as one.
+    /// Locks a node with what must be held above it: to write, in `IX` each parent that is not held
+    /// in `IX` or greater; to read, in `IS` the first parent, if none is held in `IS` or greater;
+    /// and the same above each of these. The highest is locked first, and the node in its mode
+    /// last. Each request is a lock, and is counted as one.
     ///
-    /// It ends with the ask for the node; or with the first ask above it that waits, that fells its
-    /// transaction, or whose grant told others, who are to hear of it before more is asked. The answer
-    /// says which. Once that node is granted, and they have heard, the caller asks again for the rest
-    /// of the path. What was locked stays locked.
+    /// The path ends with the request for the node; or with the first request above it that waits,
+    /// that condemns its transaction, or whose grant told others, who must hear of it before more
+    /// is requested. The answer says which. Once that node is granted, and they have heard, the
+    /// caller calls again for the rest of the path. What was locked stays locked.
     ///
-    /// To another living transaction its effective mode on each record is left, or raised where the
-    /// list tells it of a grant; and where it reads a node, the records below that node are left, with
-    /// their keys. Each ask does to the counters and to the last deadlock what its lock does.
+    /// Another living transaction keeps its effective mode on each record, unless the list tells it
+    /// of a grant, which may raise it; and if it reads a node, the records below that node stay,
+    /// with their keys. Each request changes the counters and the last deadlock as its lock does.
     ///
     /// Refused, in this order, with `WornOut`, `NoSuchTxn`, `TxnWaiting`, `TxnCondemned`,
-    /// `NoSuchNode` and `BadMode` before anything is locked; with `WornOut` and `NoMemory` also on
-    /// the way. It wants memory for locks alone. Who holds something asks for the node first: where all
-    /// above it is held nothing else is looked at. Else the way up is looked at before it is locked, from
-    /// the parent that a refusal names: to write once, from each node that wants another parent once more,
-    /// to read from the node for each ask.
+    /// `NoSuchNode` and `BadMode` before anything is locked; with `WornOut` and `NoMemory` also
+    /// later. Allocates memory for locks alone.
     pub fn lock_path_telling(
         &mut self,
         t: TxnId,
@@ -79,11 +76,11 @@ impl Manager {
         self.law();
         let mut above = Above::new();
         if self.table.lock_count(t) == Some(0) {
-            self.climb(t, node, mode, &mut above); // A refused ask costs more than a look.
+            self.climb(t, node, mode, &mut above); // Looking costs less than a refused lock.
         }
         'path: loop {
             let reached = self.lock_first(t, node, mode, &mut above, told)?;
-            // A grant is counted, so that the path ends where the count does, if not before.
+            // Each grant is counted, so the path ends when the count is full, if not before.
             let _counted = self.accepted();
             if !leads_on(node, reached, told) {
                 return Ok(reached);
@@ -92,8 +89,8 @@ impl Manager {
         }
     }
 
-    /// Makes the ask that comes first on the way to a lock of this node, of which these nodes above are
-    /// known. A node may want another parent once one is granted, so that more may be found on the way.
+    /// Makes the first request on the path to a lock of this node, of which these nodes above are
+    /// known. After a grant a node may need another parent, so more may be found.
     fn lock_first(
         &mut self,
         t: TxnId,
@@ -129,13 +126,13 @@ impl Manager {
         }
     }
 
-    /// Climbs from the next ask to the one that comes first. Nothing is asked on the way.
+    /// Climbs from the next request to the first. Nothing is requested.
     fn climb(&self, t: TxnId, node: NodeId, mode: Mode, above: &mut Above)
         ensures kept { KeepsWay (state_of self.now) t (node, mode) above.old.items → KeepsWay (state_of self.now) t (node, mode) above.new.items }
         ensures first { parent_wanted (state_of self.now) t (next_ask (node, mode) above.new.items) ≡ None }
     {
         self.law();
-        // A way up has fewer steps than there are nodes.
+        // A path to the root has fewer steps than there are nodes.
         'up: for _step in 0..self.graph().len() {
             let (asked, wanted) = next_ask(node, mode, above);
             match self.parent_wanted(t, asked, wanted) {
@@ -145,8 +142,8 @@ impl Manager {
         }
     }
 
-    /// Goes down from a node above that was granted. To a writer those below it are wanted as they
-    /// were; a reader may want fewer, and climbs anew.
+    /// Steps down from a granted node. A writer still needs the nodes below it; a reader may need
+    /// fewer, and climbs anew.
     fn go_down(&self, t: TxnId, node: NodeId, mode: Mode, above: &mut Above)
         requires { KeepsBelow (state_of self.now) t (node, mode) above.old.items }
         ensures { KeepsWay (state_of self.now) t (node, mode) above.new.items }
@@ -159,7 +156,7 @@ impl Manager {
         above.pop();
     }
 
-    /// The parent for want of which a lock would be refused.
+    /// The parent for lack of which a lock would be refused.
     fn parent_wanted(&self, t: TxnId, node: NodeId, mode: Mode) -> Option<NodeId>
         ensures { worn (state_of self.now) ≡ None → result ≡ parent_wanted (state_of self.now) t (node, mode) }
     {
@@ -170,7 +167,7 @@ impl Manager {
     }
 }
 
-/// What is asked next on a path of which these nodes above are known.
+/// The next request of a path of which these nodes above are known.
 fn next_ask(node: NodeId, mode: Mode, above: &Above) -> (NodeId, Mode)
     ensures { result ≡ next_ask (node, mode) above.now.items }
 {
@@ -180,7 +177,7 @@ fn next_ask(node: NodeId, mode: Mode, above: &Above) -> (NodeId, Mode)
     }
 }
 
-/// Keeps one node more. Where there is no room, those below it are forgotten, to be found again.
+/// Keeps one more node. If there is no room, those below it are dropped, to be found again.
 fn keep(above: &mut Above, parent: NodeId)
     ensures { (above.new.items ≡ above.old.items ++ parent ∷ []) ⊎ (above.new.items ≡ parent ∷ []) }
 {
@@ -190,7 +187,7 @@ fn keep(above: &mut Above, parent: NodeId)
     above.push(parent);
 }
 
-/// The intention that a mode wants on parents.
+/// The intention that a mode needs on parents.
 fn intention(mode: Mode) -> Mode
     ensures { result ≡ intention mode }
 {
@@ -201,7 +198,7 @@ fn intention(mode: Mode) -> Mode
     }
 }
 
-/// The parent for want of which a lock is refused.
+/// The parent for lack of which a lock is refused.
 fn missing_parent(refusal: Refusal) -> Option<NodeId>
     ensures { result ≡ missing_parent refusal }
 {
@@ -211,7 +208,7 @@ fn missing_parent(refusal: Refusal) -> Option<NodeId>
     }
 }
 
-/// Whether a path to this node goes on: it was granted above, and told nobody.
+/// Whether a path to this node continues: the request was granted above it, and told nobody.
 fn leads_on(node: NodeId, reached: Reached, told: &Told) -> bool
     ensures { result ≡ goes_on node reached.node (reaching told.now.items reached) }
 {

@@ -1,4 +1,4 @@
-//! Records come and go.
+//! Records are inserted, deleted, adopted and forgotten.
 
 ghost use Rattle.std.specs.Prelude.{◌≡◌, ◌+◌, [], IfOk, OnErr, OnOk};
 ghost use Rattle.gl_graph.specs.Graph.{record_parents};
@@ -21,14 +21,14 @@ use gl_modes::{Mode, NodeId, Refusal};
 use gl_table::{Told, TxnId};
 
 impl Manager {
-    /// Makes a record of a file, with a key for each of the file's indexes, in order of their making,
-    /// and gives it to the transaction in X. The record lies under the file and, for each index, under
-    /// the interval that holds its key. Others are left what `apply` leaves them.
+    /// Makes a record of a file, held by the transaction in X, with a key for each of the file's
+    /// indexes, in order of their making. Its parents are the file and, for each index, the
+    /// interval of its key. Other transactions keep what `apply` leaves them.
     ///
     /// Refused, in this order, with `WornOut`, `NoSuchTxn`, `TxnWaiting`, `TxnCondemned`,
     /// `NoSuchNode`, `BadParents` (the node is no file), `BadKeys` (not one for each index),
-    /// `NeedParents` (the first of the parents that is not held in IX or greater), `TooManyNodes` and
-    /// `NoMemory`.
+    /// `NeedParents` (the first of the parents that is not held in IX or greater), `TooManyNodes`
+    /// and `NoMemory`.
     pub fn insert(&mut self, t: TxnId, file: NodeId, keys: &[u64]) -> Result<NodeId, Refusal>
         ensures step { CallSteps (state_of self.old) (command.Insert t file keys.entry) made result (state_of self.new) }
         ensures deadlock { OnOk result (KeepsAccepted (command.Insert t file keys.entry) self.old self.new) }
@@ -48,11 +48,11 @@ impl Manager {
         Ok(rec)
     }
 
-    /// Takes a record away that the transaction holds in X. Who waits for it is active again. Answers
-    /// who is told that it is gone, by rising slot. Others are left what `apply` leaves them.
+    /// Deletes a record that the transaction holds in X. Its waiters are active again. Answers the
+    /// notices that it is gone, by rising slot. Other transactions keep what `apply` leaves them.
     ///
     /// Refused, in this order, with `WornOut`, `NoSuchTxn`, `TxnWaiting`, `TxnCondemned`,
-    /// `NoSuchNode`, `BadParents` (the node is no record) and `NeedExclusive`. It takes no memory.
+    /// `NoSuchNode`, `BadParents` (the node is no record) and `NeedExclusive`. Allocates no memory.
     pub fn delete(&mut self, t: TxnId, rec: NodeId) -> Result<Told, Refusal>
         ensures step { CallSteps (state_of self.old) (command.Delete t rec) done result (state_of self.new) }
         ensures deadlock { OnOk result (KeepsAccepted (command.Delete t rec) self.old self.new) }
@@ -83,9 +83,10 @@ impl Manager {
         Ok(())
     }
 
-    /// Makes a record of a file that nobody holds, with a key for each of the file's indexes, in order
-    /// of their making: a row of the engine's that is to be locked. From then on no index of the file
-    /// is made. Nobody is told, and others are left what `apply` leaves them.
+    /// Makes a record of a file, held by nobody, with a key for each of the file's indexes, in
+    /// order of their making: the node of a row of the engine's that is to be locked. From then on
+    /// only `index_by` makes an index of the file. Nobody is told; other transactions keep what
+    /// `apply` leaves them.
     ///
     /// Refused, in this order, with `WornOut`, `NoSuchNode`, `BadParents` (the node is no file),
     /// `BadKeys` (not a key for each index), `TooManyNodes` and `NoMemory`.
@@ -101,10 +102,10 @@ impl Manager {
         Ok(rec)
     }
 
-    /// Makes a record as `adopt` does, and gives it to the transaction in this mode: a row of the
+    /// Makes a record as `adopt` does, locked by the transaction in this mode: a row of the
     /// engine's gets its node and its lock in one call, which does both or nothing. It does what
-    /// `adopt` and then `lock` do, and counts as both. The lock is granted at once, since nobody else
-    /// can hold the new record or wait for it, and nobody is told.
+    /// `adopt` and then `lock` do, and counts as both. The lock is granted at once, since nobody
+    /// else can hold the new record or wait for it, and nobody is told.
     ///
     /// Refused, in this order, with `WornOut` (fewer than two commands can be counted any more),
     /// `NoSuchTxn`, `TxnWaiting`, `TxnCondemned`, then as `adopt` with `WornOut`, `NoSuchNode`,
@@ -132,11 +133,11 @@ impl Manager {
         Ok(rec)
     }
 
-    /// Takes a record away that nobody holds or waits for. Nobody is told, and others are left what
-    /// `apply` leaves them.
+    /// Removes a record that nobody holds or waits for. Nobody is told; other transactions keep
+    /// what `apply` leaves them.
     ///
-    /// Refused, in this order, with `WornOut`, `NoSuchNode`, `BadParents` (the node is no record) and
-    /// `RecordInUse`. It takes no memory.
+    /// Refused, in this order, with `WornOut`, `NoSuchNode`, `BadParents` (the node is no record)
+    /// and `RecordInUse`. Allocates no memory.
     pub fn forget(&mut self, rec: NodeId) -> Result<(), Refusal>
         ensures step { CallSteps (state_of self.old) (command.Forget rec) (doing []) result (state_of self.new) }
         ensures completes { IfOk result (λ x. Completes (command.Forget rec) self.old (doing [] x) self.new) }
@@ -149,8 +150,8 @@ impl Manager {
         Ok(())
     }
 
-    /// The tests of `insert` but for the count and memory. Where all are passed it answers the
-    /// record's parents.
+    /// The tests of `insert`, except the count and memory. If all pass it answers the record's
+    /// parents.
     fn check_insert(
         &self,
         t: TxnId,
@@ -169,7 +170,7 @@ impl Manager {
         Ok(parents)
     }
 
-    /// Those tests of `insert` that go before those of the parents.
+    /// The tests of `insert` before those of the parents.
     fn check_record(&self, t: TxnId, file: NodeId, keys: &[u64]) -> Result<(), Refusal>
         ensures { result ≡ verdict (first_refusal (record_asks (state_of self.now) t file keys.now)) }
     {
@@ -189,8 +190,7 @@ impl Manager {
         }
     }
 
-    /// The tests of `adopt_locked` but for memory. Where all are passed it answers the record's
-    /// parents.
+    /// The tests of `adopt_locked`, except memory. If all pass it answers the record's parents.
     fn check_adopting(
         &self,
         t: TxnId,
@@ -212,7 +212,7 @@ impl Manager {
         Ok(parents)
     }
 
-    /// The tests of `adopt` but for the count and memory.
+    /// The tests of `adopt`, except the count and memory.
     fn check_row(&self, file: NodeId, keys: &[u64]) -> Result<(), Refusal>
         ensures { result ≡ verdict (record_refusal (state_of self.now).graph file keys.now) }
     {

@@ -1,4 +1,4 @@
-//! Savepoints: a transaction goes back to what it held.
+//! Savepoints: a transaction releases what it locked since a mark.
 
 ghost use Rattle.std.specs.Prelude.{◌≡◌, IfOk, OnErr, [], true};
 ghost use Rattle.gl_graph.specs.Refusals.{first_refusal, verdict};
@@ -12,17 +12,18 @@ use gl_modes::Refusal;
 use gl_table::{Told, TxnId};
 
 impl Manager {
-    /// Goes back to a savepoint: unlocks what an active transaction has locked since it had so many
-    /// locks, but for nodes of which it still holds a child; and says how many were unlocked. What it had
-    /// at the mark it has still, in that mode or, where that was raised since, in the greater one.
+    /// Rolls back to a savepoint: unlocks what an active transaction has locked since it had so
+    /// many locks, except nodes of which it still holds a child; answers how many were unlocked.
+    /// What it held at the mark it still holds, in that mode or, if that was raised since, in the
+    /// greater one.
     ///
-    /// The mark is what `lock_count` said. What a transaction locks stands behind what it had, and a
-    /// release puts the last of its locks into the place of the released. So a mark is good until a lock
-    /// of before it is released; behind that fewer go than were locked since, and never one of before.
+    /// The mark is what `lock_count` said. New locks are added at the end of the list, and a
+    /// release moves the last one into the gap. So a mark is good until a lock from before it is
+    /// released; after that fewer are released than were locked since, never one from before.
     ///
-    /// It is one command for each node that is unlocked, and tells at once all that they tell. Refused, in
-    /// this order, with `NoSuchTxn`, `TxnWaiting`, `TxnCondemned`, and with `WornOut` where not each lock
-    /// since the mark can be counted. It takes no memory.
+    /// It is one command for each node that is unlocked, and tells at once all that they tell.
+    /// Refused, in this order, with `NoSuchTxn`, `TxnWaiting`, `TxnCondemned`, and with `WornOut`
+    /// if not each lock since the mark can be counted. Allocates no memory.
     pub fn release_since_telling(
         &mut self,
         t: TxnId,

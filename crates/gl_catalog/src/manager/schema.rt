@@ -1,4 +1,4 @@
-//! A schema changes: nodes are dropped, and indexes made, under the locks of a transaction.
+//! Schema changes: nodes are dropped, and indexes made, under the locks of a transaction.
 
 ghost use Rattle.std.specs.Prelude.{◌≡◌, [], IfOk, OnErr, true};
 ghost use Rattle.gl_graph.specs.Graph.{is_live, shape_of};
@@ -17,14 +17,14 @@ use gl_modes::{Mode, NodeId, Refusal};
 use gl_table::{Told, TxnId};
 
 impl Manager {
-    /// Takes away an inner node without children, a file without records and without indexes, or an index
-    /// with its intervals where no record of its file stands. The transaction holds it in X, and of an index
-    /// its file too. All locks on it go; who waits for it is active again, and is told that it is gone, in an
-    /// empty list. Others are left what `apply` leaves them.
+    /// Drops an inner node without children, a file without records and indexes, or, if its file
+    /// has no record, an index with its intervals. The transaction needs X on it, and for an index
+    /// on its file too. All locks on it end; its waiters are active again and told that it is gone,
+    /// in an empty list. Other transactions keep what `apply` leaves them.
     ///
-    /// Refused, in this order, with `WornOut`, `NoSuchTxn`, `TxnWaiting`, `TxnCondemned`, `NoSuchNode`,
-    /// `BadParents` (an interval or a record), `NeedExclusive`, and `HasChildren` of an inner node, else
-    /// `FileInUse`. It takes no memory.
+    /// Refused, in this order, with `WornOut`, `NoSuchTxn`, `TxnWaiting`, `TxnCondemned`,
+    /// `NoSuchNode`, `BadParents` (an interval or a record), `NeedExclusive`, and `HasChildren` for
+    /// an inner node, else `FileInUse`. Allocates no memory.
     pub fn drop_telling(&mut self, t: TxnId, n: NodeId, told: &mut Told) -> Result<(), Refusal>
         requires empty { told.old.items ≡ [] }
         ensures step { CallSteps (state_of self.old) (command.Drop t n) (doing told.new.items) result (state_of self.new) }
@@ -40,13 +40,13 @@ impl Manager {
         Ok(())
     }
 
-    /// Makes an index of a file that may have had records, but has none now, and gives it to the transaction
-    /// in X, which holds the file in X and each parent in IX or greater. Nobody is told, and others are left
-    /// what `apply` leaves them.
+    /// Makes an index, held by the transaction in X, of a file that may have had records, but has
+    /// none now. The transaction needs X on the file and IX or greater on each parent. Nobody is
+    /// told; other transactions keep what `apply` leaves them.
     ///
-    /// Refused, in this order, with `WornOut`, `NoSuchTxn`, `TxnWaiting`, `TxnCondemned`, `NoSuchNode`,
-    /// `BadParents`, `NeedExclusive` (the file is not held in X), `NeedParents`, `FileInUse`, `BadKeys` (the
-    /// bounds), `TooManyNodes` and `NoMemory`.
+    /// Refused, in this order, with `WornOut`, `NoSuchTxn`, `TxnWaiting`, `TxnCondemned`,
+    /// `NoSuchNode`, `BadParents`, `NeedExclusive` (the file is not held in X), `NeedParents`,
+    /// `FileInUse`, `BadKeys` (the bounds), `TooManyNodes` and `NoMemory`.
     pub fn index_by(
         &mut self,
         t: TxnId,
@@ -66,7 +66,7 @@ impl Manager {
         Ok(index)
     }
 
-    /// The tests of a drop.
+    /// The tests of `drop_telling`.
     fn check_drop(&self, t: TxnId, n: NodeId) -> Result<(), Refusal>
         ensures { result ≡ verdict (refusal_of (state_of self.now) (command.Drop t n)) }
     {
@@ -87,7 +87,7 @@ impl Manager {
         }
     }
 
-    /// Whether a living transaction holds a node in X and, of an index, its file too.
+    /// Whether a living transaction holds a node in X and, for an index, its file too.
     fn may_drop(&self, t: TxnId, n: NodeId) -> bool
         requires txn { lives (state_of self.now) t ≡ true }
         ensures { result ≡ holds_x_on_all (state_of self.now) t.slot (locked_to_drop n (shape_of (state_of self.now).graph n)) }
@@ -101,7 +101,7 @@ impl Manager {
         }
     }
 
-    /// The tests of an index that a transaction makes, but for the count and memory.
+    /// The tests of `index_by`, except the count and memory.
     fn check_index_by(
         &self,
         t: TxnId,

@@ -1,4 +1,4 @@
--- Nodes go with all their grants and waits, each with all that lies below it: the law of a state is kept, and no step of a wait is added.
+-- Nodes are removed with all their grants and waits, each with all below it: the law of a state is kept, and no wait is added.
 use Rattle.gl_model.proofs.Words.{[], ◌∙◌, ◌≡◌, ◌≤◌, age_in, ap, arith, Bool, false, filter, Graph, HasNoCycle, holds, if◌then◌else◌, intends}
 use Rattle.gl_model.proofs.Words.{intends_over, is_ahead, is_among_waiters, is_at_least, is_child, is_live, is_record_shape, is_some, is_waiter, IsLawful}
 use Rattle.gl_model.proofs.Words.{IsLawfulGraph, less-no_cycle, members, Mode, ModeFitsKind, nat_tests, NL, node_at, NodeId, not, Option, parents_in}
@@ -10,13 +10,13 @@ use Rattle.gl_model.proofs.law.Edges.{is_step, step_is}
 use Rattle.gl_model.proofs.law.Keeps.{rule_same}
 use Rattle.gl_model.proofs.queues.Waiters.{among_by_filter}
 
--- in this graph all stands that does not go, and nothing that stays lies under what goes
+-- this graph has all nodes that are not removed, and none that stays was below a removed one
 pub record GoAway (g : Graph) (goes : NodeId → Bool) (g' : Graph) : Type 0 where
   pub lawful : IsLawfulGraph g'
   pub stays : (q : NodeId) → is_live g q ≡ true → goes q ≡ false → node_at g' q ≡ node_at g q
   pub apart : (q p : NodeId) → is_live g q ≡ true → goes q ≡ false → is_child g p q ≡ true → goes p ≡ false
 
--- a status after the waits on nodes that go
+-- a status after the waits on removed nodes
 pub some_freed_among : (goes : NodeId → Bool) (o : Option Txn) → is_some (freed_among goes o) ≡ is_some o
 some_freed_among goes o = grind (arith, nat_tests, o)
 
@@ -136,7 +136,7 @@ module _ (s : State) (o : IsOrderly s) (goes : NodeId → Bool) where
     below = λ u h. o.below u (sym (some_freed_among goes (s.txns u)) ∙ h);
   }
 
--- the locks on nodes go, and then those on others
+-- the locks on nodes are removed, and then those on others
 pub departed_twice : (s : State) (a b : NodeId → Bool) → departed (departed s a s.graph) b s.graph ≡ departed s (λ q. b q || a q) s.graph
 departed_twice s a b = λ i. record s {
   held = fun_ext (λ u. fun_ext (λ q. twice (b q) (a q) NL (s.held u q))) i;

@@ -1,4 +1,4 @@
--- Who waits for whom after each change. For cycles and boards.
+-- Who waits for whom after each change. For cycles and snapshots.
 use Rattle.gl_model.proofs.Words.{[], ⊎_elim, ◌&&◌, ◌++◌, ◌+◌, ◌==◌, ◌||◌, ◌∙◌, ◌∷◌, ◌≡◌, ◌≢◌, ◌⊎◌, Active, and_both, ap, append-nil, ap₂, are_compatible}
 use Rattle.gl_model.proofs.Words.{arith, begun_since, blocks, Bool, clash, Condemned, differ-false, drop, enqueued, false, filter, granted_at, holds}
 use Rattle.gl_model.proofs.Words.{if◌then◌else◌, inr, is_ahead, is_among_waiters, is_waiter, IsLawful, length, List, Members, members, Mode, nat_tests}
@@ -75,23 +75,23 @@ pumped_steps s chosen law x y h =
 
 -- Changes at one transaction add no step between others.
 
--- of two that wait, one stands ahead
+-- of two waiters, one is ahead
 one_ahead : (x y : ℕ) (q : List Waiter) → x ≢ y → is_among_waiters x q ≡ true → is_among_waiters y q ≡ true → (ahead q x y ≡ true) ⊎ (ahead q y x ≡ true)
 one_ahead x y [] ne h k = clash h refl
 one_ahead x y (w ∷ q) ne h k = grind (arith, nat_tests, one_ahead x y q ne)
 
--- one between, who is neither
+-- one between, which is neither
 ahead_skip : (x y t : ℕ) (m : Mode) (b a : List Waiter) → x ≢ t → y ≢ t → ahead (a ++ (t, m) ∷ b) x y ≡ true → ahead (a ++ b) x y ≡ true
 ahead_skip x y t m b [] nx ny h = grind (arith, nat_tests, differ-false t x nx, differ-false t y ny, h)
 ahead_skip x y t m b (w ∷ a) nx ny h =
     grind (arith, nat_tests, w.0 == x, w.0 == y, ahead_skip x y t m b a nx ny, among_append x a b, among_append x a ((t, m) ∷ b), differ-false t x nx)
 
--- y stands ahead of x in the second part, or somewhere in the first
+-- y is ahead of x in the second part, or somewhere in the first
 ahead_parts : (x y : ℕ) (b a : List Waiter) → ahead (a ++ b) x y ≡ true → (is_among_waiters y a ≡ true) ⊎ (ahead b x y ≡ true)
 ahead_parts x y b [] h = inr h
 ahead_parts x y b (w ∷ a) h = grind (arith, nat_tests, ahead_parts x y b a)
 
--- holders first and then the others: the same order, where it was so
+-- holders first and then the others: the same order, if it was so
 sorted_ahead : (g : Members) (q : List Waiter) (x y : ℕ) → HoldersFirst g q → x ≢ y
     → ahead (filter (λ w. holds g w.0) q ++ filter (λ w. not (holds g w.0)) q) x y ≡ true → ahead q x y ≡ true
 sorted_ahead g q x y sorted ne h = split (holds g x) holder other
@@ -116,7 +116,7 @@ sorted_ahead g q x y sorted ne h = split (holds g x) holder other
         (any_left (is_waiter y) (λ w. holds g w.0) q e)))
         (λ e. keep_ahead (λ u. not (holds g u)) x y q (ap not hx) e) (ahead_parts x y (filter (λ w. not (holds g w.0)) q) (filter (λ w. holds g w.0) q) h)
 
--- others stand as they stood
+-- others keep their places
 pub placed_ahead : (g : Members) (q : List Waiter) (t : ℕ) (m : Mode) (x y : ℕ) → HoldersFirst g q → x ≢ y → x ≢ t → y ≢ t → ahead (placed g q t m) x y ≡ true
     → ahead q x y ≡ true
 placed_ahead g q t m x y sorted ne nx ny = placed_case (λ l. ahead l x y ≡ true → ahead q x y ≡ true) g q t m

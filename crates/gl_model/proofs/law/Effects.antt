@@ -7,7 +7,7 @@ use Rattle.gl_model.proofs.Words.{same_node, same_node-refl, some_at, split, Sta
 
 -- An effective X is an X on every root path.
 
--- one that fails, where not all pass
+-- one that fails, if not all pass
 pub not_all : (q : NodeId → Bool) (ps : List NodeId) → list_all q ps ≡ false → (p : NodeId) × (list_any (same_node p) ps ≡ true) × (q p ≡ false)
 not_all q [] h = absurd (true≢false h)
 not_all q (x ∷ xs) h = grind (arith, nat_tests, q x, not_all q xs)
@@ -25,7 +25,7 @@ module _ (g : Graph) (held : NodeId → Mode) where
       or_elim _ _ x (λ here. ap (λ b. b || list_any is_x (p ∷ way)) here) (λ up.
       ap (λ b. is_x n || b) (on_path k p r way (all_at (eff_x k g held) (parents_of g n) p route.0 (and_both _ _ up).1) route.1 root) ∙ or-true (is_x n))
 
-  -- a way up without X, to a node without parents or of k steps
+  -- a route up without X, to a node without parents or of k steps
   abbrev pub Escapes : ℕ → NodeId → Type 0
   Escapes k n = (r : NodeId) × (way : List NodeId) × IsRoute g n way r × (list_any is_x (n ∷ way) ≡ false) × ((parents_of g r ≡ []) ⊎ (length way ≡ k))
 
@@ -62,7 +62,7 @@ cut_set_law s law t n live = cut_set_on s law.graph t n live
 
 -- Effective modes, without fuel: a route to a node held in S, SIX or X; an effective X after any number of steps.
 
--- all pass where each that is listed passes
+-- all pass if each that is listed passes
 pub all_from : (q : NodeId → Bool) (ps : List NodeId) → ((p : NodeId) → list_any (same_node p) ps ≡ true → q p ≡ true) → list_all q ps ≡ true
 all_from q [] f = refl
 all_from q (x ∷ xs) f =
@@ -86,7 +86,7 @@ read_on_route g h n m [] route r = subst (ReadOn g h) (sym route) r
 read_on_route g h n m (p ∷ way) route r = let up = read_on_route g h p m way route.1 r in (up.0, p ∷ up.1, (route.0, up.2), up.3)
 
 module _ (g : Graph) (h : NodeId → Mode) where
-  -- an effective S comes over a route
+  -- an effective S is that of a node on a route
   pub eff_s_route : (k : ℕ) (n : NodeId) → eff_s k g h n ≡ true → ReadOn g h n
   eff_s_route zero n x = (n, [], refl, x)
   eff_s_route (suc k) n x =
@@ -140,14 +140,14 @@ x_is w h = search rules
 pub ix_is : (w : Mode) → is_at_least w IX ≡ true → is_at_least w IS ≡ true
 ix_is w h = search rules
 
--- where some pass one test and all another, one passes both
+-- if some pass one test and all another, one passes both
 pub any_all : (p q : NodeId → Bool) (ps : List NodeId) → list_any p ps ≡ true → list_all q ps ≡ true → (x : NodeId) × (p x ≡ true) × (q x ≡ true)
 any_all p q [] h k = absurd (true≢false (sym h))
 any_all p q (x ∷ xs) h k =
     let both = and_both (q x) (list_all q xs) k in
     or_elim (p x) (list_any p xs) h (λ here. (x, here, both.0)) (λ there. any_all p q xs there both.1)
 
--- who meets the graph rule on a node with parents holds one of them
+-- a transaction that meets the graph rule on a node with parents holds one of them
 pub holds_one : (held : NodeId → Mode) (ps : List NodeId) (m : Mode) → not (no_parents ps) ≡ true → intends_over held ps m ≡ true
     → list_any (λ p. is_at_least (held p) IS) ps ≡ true
 holds_one held [] m some h = absurd (true≢false (sym some))
@@ -177,7 +177,7 @@ module _ (g : Graph) (ht hu : NodeId → Mode) (fit : (n : NodeId) → are_compa
       let found = any_all _ _ (parents_of g n) up (holds_all ht (parents_of g n) (ht n) w (rule_t n (ix_is _ w))) in
       none_read j found.0 found.1 found.2)
 
-  -- on the way up from the node the X of the one meets the S of the other, or an intention to write above it does
+  -- on the path up from the node the X of the one meets the S of the other, or an intention to write above it does
   pub no_conflict : (j k : ℕ) (n : NodeId) → eff_x k g ht n ≡ true → eff_s j g hu n ≡ true → ⊥
   no_conflict zero k n x s = none_held k n x (read_is _ s)
   no_conflict (suc j) zero n x s = none_read (suc j) n s (x_is _ x)

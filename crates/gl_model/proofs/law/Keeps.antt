@@ -12,7 +12,7 @@ use Rattle.gl_model.proofs.queues.Waiters.{ahead, ahead_after, ahead_first, ahea
 use Rattle.gl_model.proofs.queues.Waiters.{grants_other, if-false, if-true, no_cons, none_filtered, not_among, one_in_first}
 use Rattle.gl_model.proofs.queues.Fronts.{granted_parts}
 
--- who does not hold holds NL
+-- one that does not hold has NL
 pub nl_is : (a : Mode) → not (same_mode a NL) ≡ false → a ≡ NL
 nl_is a h = search rules
 
@@ -22,15 +22,15 @@ nl_is a h = search rules
 less_compatible : (m a b : Mode) → is_at_least b a ≡ true → are_compatible m b ≡ true → are_compatible m a ≡ true
 less_compatible m a b h k = search rules
 
--- who holds no less holds
+-- a mode no less than a held one is held
 pub more_held : (a b : Mode) → is_at_least b a ≡ true → not (same_mode a NL) ≡ true → not (same_mode b NL) ≡ true
 more_held a b h k = search rules
 
--- where all who hold are below the limit, nobody at or above it does
+-- if all holders are below the limit, nobody at or above it holds
 pub holders-within : (s : State) (n : NodeId) → ((u : ℕ) → holds (members s n) u ≡ true → u < s.most) → IsWithin s.most (members s n)
 holders-within s n below u le = split (holds (members s n) u) (λ h. let lt = below u h in absurd (omega arith)) (λ h. nl_is (s.held u n) h)
 
--- and so it is in a lawful state
+-- and the same in a lawful state
 pub lawful-within : (s : State) → IsLawful s → (n : NodeId) → IsWithin s.most (members s n)
 lawful-within s law n = holders-within s n (λ u h. law.slots_below u (law.grants_live u n h).0)
 
@@ -42,7 +42,7 @@ rule_more h h' more ps m k =
     let any = any_weaker (λ p. is_at_least (h p) IS) (λ p. is_at_least (h' p) IS) ps (λ p. at_least-transitive (h' p) (h p) IS (more p)) in
     grind (arith, nat_tests, is_write m, no_parents ps, all, any)
 
--- fewer fit where a mode is greater
+-- fewer fit if a mode is greater
 pub fits_less : (g g' : Members) → ((u : ℕ) → is_at_least (g' u) (g u) ≡ true) → (t : ℕ) (m : Mode) (us : List ℕ)
     → list_all (λ u. (u == t) || are_compatible m (g' u)) us ≡ true → list_all (λ u. (u == t) || are_compatible m (g u)) us ≡ true
 fits_less g g' more t m us k = all_weaker (λ u. (u == t) || are_compatible m (g' u)) (λ u. (u == t) || are_compatible m (g u)) us
@@ -110,9 +110,9 @@ module _ (s : State) (law : IsLawful s) (t : ℕ) (n : NodeId) (m : Mode) (activ
     ages_differ = law.ages_differ;
   }
 
--- The law but for the fronts of some nodes: what each command leaves before those nodes grant.
+-- The law except the fronts of some nodes: what each command leaves before those nodes grant.
 
--- `front_waits` is asked of the nodes not chosen
+-- `front_waits` is needed of the nodes not chosen
 pub record IsLawfulBut (chosen : NodeId → Bool) (s : State) : Type 0 where
   pub graph : IsLawfulGraph s.graph
   pub grants_live : (t : ℕ) (n : NodeId) → holds (members s n) t ≡ true → (is_some (s.txns t) ≡ true) × (is_live s.graph n ≡ true)
@@ -130,7 +130,7 @@ pub record IsLawfulBut (chosen : NodeId → Bool) (s : State) : Type 0 where
   pub ages : (t : ℕ) → is_some (s.txns t) ≡ true → (1 ≤ age_of s t) × (age_of s t ≤ s.begins)
   pub ages_differ : (t u : ℕ) → is_some (s.txns t) ≡ true → age_of s t ≡ age_of s u → t ≡ u
 
--- A state with fewer grants, waits and transactions keeps the law, but for the fronts where something was taken.
+-- A state with fewer grants, waits and transactions keeps the law, except the fronts of nodes that lost something.
 
 -- a wait on n, with its mode
 pub waiting_is : (o : Option Status) (n : NodeId) → waits_at o n ≡ true → (m : Mode) × (o ≡ Some (Waiting n m))
@@ -237,12 +237,12 @@ module _ (g : NodeId → List Waiter) (u : ℕ) where
   pub woken_age : (x : Option Txn) → age_in (woken g u x) ≡ age_in x
   woken_age x = grind (arith, nat_tests, x)
 
-  -- who still waits was not granted
+  -- a slot that still waits was not granted
   pub woken_waits : (q : NodeId) (m : Mode) (x : Option Txn) → status_in (woken g u x) ≡ Some (Waiting q m) → (status_in x ≡ Some (Waiting q m))
       × (is_among_waiters u (g q) ≡ false)
   woken_waits q m x h = grind (arith, nat_tests, x)
 
-  -- and who was not granted still waits
+  -- and one that was not granted still waits
   pub woken_sleeps : (q : NodeId) (m : Mode) (x : Option Txn) → status_in x ≡ Some (Waiting q m) → is_among_waiters u (g q) ≡ false
       → status_in (woken g u x) ≡ Some (Waiting q m)
   woken_sleeps q m x h k = grind (arith, nat_tests, x)
@@ -267,7 +267,7 @@ module _ (s : State) (chosen : NodeId → Bool) (law : IsLawfulBut chosen s) whe
   pub wait_of : (u : ℕ) (q : NodeId) → is_among_waiters u (s.queue q) ≡ true → (m : Mode) × (status_of s u ≡ Some (Waiting q m))
   wait_of u q h = waiting_is (status_of s u) q (law.waits_are u q h)
 
-  -- who is granted stood once in the queue, so it is gone from what is left
+  -- a granted waiter was once in the queue, so it is not in the rest
   pub one_of : (u : ℕ) (q : NodeId) (m : Mode) → status_of s u ≡ Some (Waiting q m) → is_among_waiters u (got q) ≡ true
       → (filter (is_waiter u) (got q) ≡ (u, m) ∷ []) × (filter (is_waiter u) (left q) ≡ [])
   one_of u q m st h =

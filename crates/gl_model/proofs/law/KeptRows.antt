@@ -13,7 +13,7 @@ use Rattle.std.specs.List.{All}
 abbrev is_of : ℕ → Stuck → Bool
 is_of u r = r.txn.slot == u
 
--- the deadlock of t as far as its rows are written: those of the cycle have their rows or are left, and who is left has a slot above all rows
+-- the deadlock of t as far as its rows are written: those of the cycle have rows or remain, and those that remain have slots above all rows
 pub record IsKeptBut (s : State) (t v : ℕ) (cycle left : Slots) (d : Deadlock) : Type 0 where
   pub victim : d.victim ≡ name_at s v
   pub rows : All (IsStuck s t) d.cycle.items
@@ -34,14 +34,14 @@ module _ (s : State) (t v : ℕ) (cycle : Slots) (of : (u : ℕ) → IsTrue (has
     few = λ u h. subst (λ (rs : List Stuck). length rs ≤ u) (sym none) (omega arith);
   }
 
-  -- who is left is on the cycle
+  -- one that remains is on the cycle
   pub left-on_cycle : (left : Slots) (k : ℕ) (d : Deadlock) → has_slot left k ≡ true → IsKeptBut s t v cycle left d → IsOnCycleOf (waits_for s) t k
   left-on_cycle left k d here so = (of k).0 (so.parts k ∙ or_right (has_row d k) (has_slot left k) here)
 
   -- one row more
   module _ (left rest : Slots) (k : ℕ) (lowest : IsLowest left k) (taken : (u : ℕ) → has_slot rest u ≡ (has_slot left u && not (u == k))) (d d' : Deadlock)
       (r : Stuck) (so : IsKeptBut s t v cycle left d) where
-    -- who is left now was left before, and has a slot above the row's
+    -- one that remains now remained before, and has a slot above the row's
     still : (u : ℕ) → has_slot rest u ≡ true → (has_slot left u ≡ true) × (k < u)
     still u h =
         let both = and_both (has_slot left u) (not (u == k)) (sym (taken u) ∙ h) in
@@ -112,7 +112,7 @@ victim_has_row c s t v d victim is = is.whole v (candidate-on_cycle c (waits_for
 
 -- The loop that settles a slot: what holds between its victims.
 
--- to settle t after a victim whose deadlock is kept is to settle it before
+-- to settle t after a victim whose deadlock is recorded is to settle it before
 pub keeping_turn : (c : Victims) (s now s' : State) (t v : ℕ) (d e d' : Deadlock) → IsVictim c s t v → IsDeadlock s t v e → now ≡ condemned s v
     → SettlesKeeping c now t e s' d' → SettlesKeeping c s t d s' d'
 keeping_turn c s now s' t v d e d' victim kept is rest = (suc rest.0, (v, e, victim, kept, subst (λ x. SettlesKeepingWithin c rest.0 x t e s' d') is rest.1))
@@ -122,6 +122,6 @@ keeping_settles : (c : Victims) (t : ℕ) (s' : State) (d' : Deadlock) (k : ℕ)
 keeping_settles c t s' d' zero s d h = (h.0, h.1)
 keeping_settles c t s' d' (suc k) s d h = (h.0, h.2, keeping_settles c t s' d' k (condemned s h.0) h.1 h.4)
 
--- to settle and keep is to settle
+-- to settle and record is to settle
 pub settles-keeping : (c : Victims) (s : State) (t : ℕ) (d : Deadlock) (s' : State) (d' : Deadlock) → SettlesKeeping c s t d s' d' → Settled c s t s'
 settles-keeping c s t d s' d' h = (h.0, keeping_settles c t s' d' h.0 s d h.1)

@@ -23,7 +23,7 @@ pub record MayLock (s : State) (t : TxnId) (n : NodeId) (m : Mode) : Type 0 wher
   pub not_bad : bad_mode s n m ≡ None
   pub rule : intends s t.slot n (wanted s t.slot n m) ≡ true
 
--- whatever was tested first
+-- after any first test
 pub may_lock : (s : State) (t : TxnId) (n : NodeId) (m : Mode) (first : Option Refusal) (rest : List (Option Refusal))
     → first_refusal (first ∷ active_on s t (n ∷ []) ++ bad_mode s n m ∷ need_parents s t.slot n (wanted s t.slot n m) ∷ rest) ≡ None → MayLock s t n m
     × (first_refusal rest ≡ None)
@@ -53,7 +53,7 @@ pub wait_settles-lawful : (d : Detect) (c : Victims) (s : State) (t : ℕ) (s' :
 wait_settles-lawful AtBlock c s t s' law h = settled-lawful c s s' t law h
 wait_settles-lawful ByWatcher c s t s' law h = subst IsLawful (sym h) law
 
--- either way
+-- in either case
 pub locks-lawful : (s s' : State) → IsLawful s → (t : TxnId) (n : NodeId) (m : Mode) → MayLock s t n m → Locks s t.slot n m s' → IsLawful s'
 locks-lawful s s' law t n m may h =
     split (enters_at s t.slot n m) (λ e. subst IsLawful (sym (h.at_once e)) (granted-lawful s law t n m may e))
@@ -89,7 +89,7 @@ taken_steps s law held queue txns chosen less x y h =
     less_steps s held queue txns chosen less x y (pumped_steps (record s { held = held; queue = queue; txns = txns }) chosen
     (less-lawful s law held queue txns chosen less) x y h)
 
--- what is taken away leads to no new wait
+-- a removal adds no wait
 pub taken-no_cycle : (s : State) → IsLawful s → (held : ℕ → NodeId → Mode) (queue : NodeId → List Waiter) (txns : ℕ → Option Txn) (chosen : NodeId → Bool)
     → IsLess s held queue txns chosen → HasNoCycle s → HasNoCycle (pumped (record s { held = held; queue = queue; txns = txns }) chosen)
 taken-no_cycle s law held queue txns chosen less none =
@@ -102,7 +102,7 @@ given_up-no_cycle s law t st quiet none =
     taken-no_cycle s law s.held (λ n. without_waiter t (s.queue n)) (λ u. if u == t then restatus st (s.txns t) else s.txns u) (is_waiting_at s t)
     (without_wait-less s law t st quiet) none
 
--- a turn of settling adds no step
+-- a turn of settling adds no wait
 pub condemned_steps : (s : State) → IsLawful s → (t x y : ℕ) → waits_for (condemned s t) x y ≡ true → waits_for s x y ≡ true
 condemned_steps s law t x y h =
     taken_steps s law s.held (λ n. without_waiter t (s.queue n)) (λ u. if u == t then restatus Condemned (s.txns t) else s.txns u) (is_waiting_at s t)
@@ -130,13 +130,13 @@ settled-no_cycle c s s' t law h none = less-no_cycle (waits_for s) (waits_for s'
 active_idle : (s : State) (t : ℕ) → status_of s t ≡ Some Active → (u : ℕ) → waits_for s t u ≡ false
 active_idle s t active = idle_no_step s t (λ n m st. apart (sym active ∙ st))
 
--- a grant at once to one who does not wait
+-- a grant at once to one that does not wait
 pub granted-no_cycle : (s : State) (t : ℕ) (n : NodeId) (m : Mode) → status_of s t ≡ Some Active → HasNoCycle s → HasNoCycle (with_grant s t n m)
 granted-no_cycle s t n m active none =
     at_one-no_cycle (waits_for s) (waits_for (with_grant s t n m)) t (granted_steps s t n m) none
     (no_step-no_cycle (waits_for (with_grant s t n m)) t (active_idle (with_grant s t n m) t active))
 
--- who begins waits for nobody
+-- a transaction that begins waits for nobody
 pub begun-no_cycle : (s : State) (t since : ℕ) → HasNoCycle s → HasNoCycle (begun_since s t since)
 begun-no_cycle s t since none = at_one-no_cycle (waits_for s) (waits_for (begun_since s t since)) t (begun_steps s t since) none
     (no_step-no_cycle (waits_for (begun_since s t since)) t (active_idle (begun_since s t since) t (ap status_in (if-true _ (number_same t t refl)))))
@@ -149,7 +149,7 @@ waiting-no_cycle c s s' law t n m may e settled none =
     (settled_steps c settled.0 (enqueued s t.slot n (wanted s t.slot n m)) s' t.slot (waiting-lawful s law t n m may e) settled.1 x y h) nx ny)
     none (settled_free c settled.0 (enqueued s t.slot n (wanted s t.slot n m)) s' t.slot settled.1)
 
--- a lock adds steps at the asker alone, who is settled
+-- a lock adds waits of or for its requester alone, which is settled
 pub locks-no_cycle : (s s' : State) → s.detect ≡ AtBlock → IsLawful s → (t : TxnId) (n : NodeId) (m : Mode) → MayLock s t n m → Locks s t.slot n m s'
     → HasNoCycle s → HasNoCycle s'
 locks-no_cycle s s' at law t n m may h none =

@@ -60,7 +60,7 @@ x_at_least_is a h = search rules
 all_x_ix : (held : NodeId → Mode) (ps : List NodeId) → list_all (λ p. same_mode (held p) X) ps ≡ true → list_all (λ p. is_at_least (held p) IX) ps ≡ true
 all_x_ix held ps h = all_weaker (λ p. same_mode (held p) X) (λ p. is_at_least (held p) IX) ps (λ p. x_is (held p)) h
 
--- who writes over IX on all parents meets the rule; so does everyone over X on all of some
+-- with IX on all parents a writer meets the rule; with X on all of some parents, everyone does
 write_intends : (held : NodeId → Mode) (ps : List NodeId) (m : Mode) → is_write m ≡ true → list_all (λ p. is_at_least (held p) IX) ps ≡ true
     → intends_over held ps m ≡ true
 write_intends held ps m w h = ap (λ b. cond b (list_all (λ p. is_at_least (held p) IX) ps) (no_parents ps || list_any (λ p. is_at_least (held p) IS) ps)) w ∙ h
@@ -82,7 +82,7 @@ module _ (s : State) (law : IsLawful s) (t : ℕ) (n : NodeId) (ps : List NodeId
   mover_waits_not : (q : NodeId) (m : Mode) → status_of s t ≡ Some (Waiting q m) → ⊥
   mover_waits_not q m e = apart (sym active ∙ e)
 
-  -- who holds the node is the mover
+  -- a holder of the node is the mover
   pub only_mover : (u : ℕ) → holds (members s n) u ≡ true → u ≡ t
   only_mover u h =
       split (u == t) (λ e. same_number u t e) (λ e.
@@ -95,7 +95,7 @@ module _ (s : State) (law : IsLawful s) (t : ℕ) (n : NodeId) (ps : List NodeId
   mover_below : HoldsNode s t n ps → t < s.most
   mover_below a = law.slots_below t (txn_there (s.txns t) Active active)
 
-  -- who waits on the node is no holder of it
+  -- a waiter on the node is no holder of it
   pub waiter_bare : (u : ℕ) → is_among_waiters u (s.queue n) ≡ true → s.held u n ≡ NL
   waiter_bare u h =
       let st = waiting_is (status_of s u) n (law.waits_are u n h) in
@@ -220,7 +220,7 @@ module _ (s : State) (law : IsLawful s) (t : ℕ) (n : NodeId) (ps : List NodeId
       ages_differ = λ u v h e. law.ages_differ u v (sym (some_txn u) ∙ h) (sym (same_age u) ∙ e ∙ same_age v);
     }
 
--- A node moves: no step from one who waits to another is new, and so no cycle.
+-- A node moves: no wait of one for another is new, and so no cycle.
 
 pub moved_steps : (s : State) → IsLawful s → (r : NodeId) (ps : List NodeId) (g : Graph) (x y : ℕ) → waits_for (moved_to s r ps g) x y ≡ true
     → waits_for s x y ≡ true
@@ -268,11 +268,11 @@ module _ (s : State) (t : ℕ) (n : NodeId) (was is : Node) (g' : Graph) (m : Mo
   pub new_parents : parents_of g' n ≡ is.parents
   new_parents = ap (λ g. parents_of g n) (sym m.graph) ∙ ap parents_in (at_here s.graph n was is m.there m.key)
 
-  -- no node came or went
+  -- no node was added or removed
   pub count_same : node_count g' ≡ node_count s.graph
   count_same = ap node_count (sym m.graph) ∙ ap length (nodes_same s.graph n was is m.there m.key)
 
-  -- nor was taken out
+  -- nor listed otherwise
   pub nodes_kept : nodes g' ≡ nodes s.graph
   nodes_kept = ap nodes (sym m.graph) ∙ nodes_same s.graph n was is m.there m.key
 

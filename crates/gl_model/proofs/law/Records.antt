@@ -17,9 +17,9 @@ use Rattle.gl_model.proofs.law.Keeps.{lawful-within, nl_is, with_grant-lawful}
 use Rattle.gl_model.proofs.law.Tests.{all_ix}
 use Rattle.gl_model.proofs.queues.Waiters.{among_by_filter}
 
--- Nodes come and go of which there are no locks: the law of a state is kept.
+-- Nodes that nobody holds or waits for are added and removed: the law of a state is kept.
 
--- the node stands in another graph too, with its kind and its parents
+-- the node is in another graph too, with its kind and its parents
 pub record StandsIn (g g' : Graph) (n : NodeId) : Type 0 where
   pub live : is_live g' n ≡ true
   pub record_is : is_record_shape (shape_of g' n) ≡ is_record_shape (shape_of g n)
@@ -34,7 +34,7 @@ module _ (s : State) (law : IsLawful s) (g' : Graph) (lawful : IsLawfulGraph g')
   rule_later : (t : ℕ) (n : NodeId) (m : Mode) → StandsIn s.graph g' n → intends s t n m ≡ true → intends (with_graph s g') t n m ≡ true
   rule_later t n m there k = ap (λ ps. intends_over (s.held t) ps m) there.parents ∙ k
 
-  -- who holds or waits does so on a node that stands
+  -- each grant and wait is on a node that lives on
   pub regraphed-lawful : IsLawful (with_graph s g')
   regraphed-lawful = record {
     graph = lawful;
@@ -73,7 +73,7 @@ module _ (g : Graph) (law : IsLawfulGraph g) (ns : List Node) where
   unborn [] birth low = refl
   unborn (m ∷ ms) birth low = both _ _ (ap (λ o. not (is_some (with_key m.key o))) (none_above g law ns birth low)) (unborn ms (birth + 1) (omega arith))
 
-  -- where no new node passes the test, as many children of a node pass it as did
+  -- if no new node passes the test, as many children of a node pass it as before
   pub born-children : (f : NodeId → Bool) → ((c : NodeId) → f c ≡ true → is_live g c ≡ true) → (p : NodeId)
       → children_that (born_nodes g ns) f p ≡ children_that g f p
   born-children f live p =
@@ -99,7 +99,7 @@ pub record Grows (g g' : Graph) : Type 0 where
 pub grown-lawful : (s : State) → IsLawful s → (g' : Graph) → Grows s.graph g' → IsLawful (with_graph s g')
 grown-lawful s law g' more = subst (λ g. IsLawful (with_graph s g)) (sym more.after) (born-lawful s law more.ns more.lawful)
 
--- what a call makes, where no test refuses it
+-- what a call makes, if no test refuses it
 module _ (g g' : Graph) (law : IsLawfulGraph g) (ps : List NodeId) (n : NodeId) where
   pub inner-grows : inner_refusal g ps ≡ None → IsBorn g g' n Inner ps → Grows g g'
   inner-grows free born =
@@ -204,12 +204,12 @@ module _ (s : State) (law : IsLawful s) (g' : Graph) (n f : NodeId) (keys : List
   pub adopted-lawful : IsLawful (with_graph s g')
   adopted-lawful = subst (λ g. IsLawful (with_graph s g)) (sym born.after) (marked-lawful (with_graph s mid) (grown-lawful s law mid grows) f)
 
-  -- where nobody can hold it, as many children of a node are held as were
+  -- if nobody can hold it, as many children of a node are held as before
   pub adopted-children : (h : NodeId → Bool) → ((c : NodeId) → h c ≡ true → is_live s.graph c ≡ true) → (p : NodeId)
       → children_that g' h p ≡ children_that s.graph h p
   adopted-children h live p = ap (λ g. children_that g h p) born.after ∙ marked-children mid f h p ∙ born-children s.graph law.graph grows.ns h live p
 
--- A record goes of which there are no locks.
+-- A record that nobody holds or waits for is removed.
 
 -- nobody holds an idle node, and nobody waits for it
 pub idle-free : (s : State) → IsLawful s → (n : NodeId) → is_idle s n ≡ true → ((u : ℕ) → s.held u n ≡ NL) × (s.queue n ≡ [])
@@ -217,7 +217,7 @@ idle-free s law n idle =
     let b = and_both _ _ idle in
     (nobody_holds-all s.most (members s n) (lawful-within s law n) b.0, empty-list (s.queue n) b.1)
 
--- and the other way round
+-- and conversely
 pub free-idle : (s : State) (n : NodeId) → ((u : ℕ) → s.held u n ≡ NL) → s.queue n ≡ [] → is_idle s n ≡ true
 free-idle s n unheld unawaited =
     both _ _ (range-from_each (λ t. not (holds (members s n) t)) 0 s.most (λ u low high. ap (λ m. not (not (same_mode m NL))) (unheld u)))
@@ -243,7 +243,7 @@ module _ (s : State) (law : IsLawful s) (r : NodeId) (rec : is_record_shape (sha
       regraphed-lawful s law (without_node s.graph r) (removed_lawful s.graph law.graph r rec)
       (λ t n h. left_stands n (law.grants_live t n h).1 (not_held t n h)) (λ t n h. left_stands n (law.waits_live t n h) (not_awaited t n h))
 
--- A record goes with its grants and waits: the law of a state is kept, and no step of a wait is added.
+-- A record is removed with its grants and waits: the law of a state is kept, and no wait is added.
 
 module _ (s : State) (law : IsLawful s) (r : NodeId) (rec : is_record_shape (shape_of s.graph r) ≡ true) where
   -- a record is nobody's parent

@@ -1,4 +1,4 @@
--- Records without locks come and go, and all others keep their parents: effective modes stay. For rows that are adopted and forgotten.
+-- Records without locks are added and removed, and all others keep their parents: effective modes stay. For rows that are adopted and forgotten.
 use Rattle.gl_model.proofs.Words.{[], ◌&&◌, ◌||◌, ◌∙◌, ◌∷◌, ◌≡◌, ap, ap₂, arith, clash, eff_s, eff_x, effective, false, Graph, if◌then◌else◌, is_idle, is_live}
 use Rattle.gl_model.proofs.Words.{is_read, is_record_shape, is_some, IsLawful, IsLawfulGraph, keys_in, list_all, list_any, live_node, marked, marked_live}
 use Rattle.gl_model.proofs.Words.{marked_parents, marked_record, Mode, nat_tests, no_parents, Node, node_at, node_count, NodeId, not, old_same, parent_plain}
@@ -14,9 +14,9 @@ use Rattle.gl_model.proofs.law.Searches.{same_bool}
 use Rattle.gl_model.proofs.law.Records.{free-idle, no_queue, nobody_holds}
 use Rattle.gl_model.proofs.law.Keeps.{all_same, any_same}
 
--- Where nodes keep their parents, which stand on, the effective modes on what stands are those that they were.
+-- If nodes keep their parents, which live on, the effective modes on nodes that live on stay.
 
--- each node that stands on has the parents that it had, and each parent stands on
+-- each node that lives on has the parents that it had, and each parent lives on
 pub record LeavesParents (g g' : Graph) : Type 0 where
   pub parents : (n : NodeId) → is_live g n ≡ true → is_live g' n ≡ true → parents_of g' n ≡ parents_of g n
   pub stand : (n p : NodeId) → list_any (same_node p) (parents_of g n) ≡ true → (is_live g p ≡ true) × (is_live g' p ≡ true)
@@ -51,7 +51,7 @@ effective_left s s' t law law' leaves keeps n live live' =
     (sym (s_left s.graph s'.graph (s.held t) leaves k' n live live') ∙ (ap (λ h. eff_s k' s'.graph h n) (sym keeps) ∙ x)))) in
     ap₂ (λ x y. if x then effect.X else (if y then effect.S else effect.None)) xs ss
 
--- A record is adopted: the nodes that stood do so with their keys and parents, and the one that comes is a record.
+-- A record is adopted: the nodes from before stay with their keys and parents, and the new one is a record.
 
 module _ (g : Graph) (law : IsLawfulGraph g) (f : NodeId) (node : Node) where
   -- the record's file is marked
@@ -73,7 +73,7 @@ module _ (g : Graph) (law : IsLawfulGraph g) (f : NodeId) (node : Node) where
     stand = λ n p up. let there = law.parents_live n p up in (there, row_live p there);
   }
 
-  -- what did not stand and does is the record
+  -- a new node is the record
   pub row_came : is_record_shape (Some node.shape) ≡ true → (n : NodeId) → is_live g n ≡ false → is_live with_row n ≡ true
       → is_record_shape (shape_of with_row n) ≡ true
   row_came rec n dead live =
@@ -88,7 +88,7 @@ module _ (g : Graph) (law : IsLawfulGraph g) (f : NodeId) (node : Node) where
 -- A record is forgotten.
 
 module _ (g : Graph) (law : IsLawfulGraph g) (r : NodeId) (rec : is_record_shape (shape_of g r) ≡ true) where
-  -- what stands stood as it does
+  -- a node that lives was there before
   pub left_was : (n : NodeId) → is_live (without_node g r) n ≡ true → node_at (without_node g r) n ≡ node_at g n
   left_was n live' = let x = live_node (node_at (without_node g r) n) live' in x.1 ∙ sym (was_there g law r rec n x.0 x.1)
 
@@ -102,6 +102,6 @@ module _ (g : Graph) (law : IsLawfulGraph g) (r : NodeId) (rec : is_record_shape
   pub gone_is : (n : NodeId) → is_live g n ≡ true → is_live (without_node g r) n ≡ false → n ≡ r
   gone_is n live dead = grind (arith, nat_tests, same_node n r, same_node-equal)
 
--- there are no locks of what does not stand
+-- a node that does not live has no locks
 pub dead-idle : (s : State) → IsLawful s → (n : NodeId) → is_live s.graph n ≡ false → is_idle s n ≡ true
 dead-idle s law n dead = free-idle s n (λ u. nobody_holds s law u n (λ live. clash live dead)) (no_queue (s.queue n) (λ u h. clash (law.waits_live u n h) dead))

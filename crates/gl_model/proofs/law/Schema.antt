@@ -20,7 +20,7 @@ use Rattle.gl_model.proofs.law.Keeps.{with_grant-lawful}
 use Rattle.gl_model.proofs.law.Records.{grown-lawful, Grows, no_queue, nobody_holds}
 use Rattle.gl_model.proofs.law.Tests.{all_ix}
 
--- what goes with a node that is in no use goes alone
+-- what is removed with a node that is not in use is removed alone
 module _ (g : Graph) (law : IsLawfulGraph g) (n : NodeId) (movable : is_movable_shape (shape_of g n) ≡ true) (free : is_in_use g n ≡ false) where
   pub branch_goes : GoAway g (goes_with g n) (without_branch g n)
   branch_goes = record {
@@ -34,7 +34,7 @@ module _ (g : Graph) (law : IsLawfulGraph g) (n : NodeId) (movable : is_movable_
       stays : (q : NodeId) → is_live g q ≡ true → goes_with g n q ≡ false → node_at (without_branch g n) q ≡ node_at g q
       stays q h e = let both = or_no _ _ e in stays_left g n (live g law n movable free) q h both.0 both.1
 
--- the one parent of what goes with a node
+-- the one parent of what is removed with a node
 module _ (g : Graph) (law : IsLawfulGraph g) (n : NodeId) (movable : is_movable_shape (shape_of g n) ≡ true) (free : is_in_use g n ≡ false) where
   pub only_parent : (q : NodeId) → is_child g n q ≡ true → parents_of g q ≡ n ∷ []
   only_parent q c = by (node_at g q) refl (children_are g law n movable free q c).1 c
@@ -61,7 +61,7 @@ dropped_lawful s law n movable free =
 pub dropped-no_cycle : (s : State) (n : NodeId) → HasNoCycle s → HasNoCycle (dropped s n)
 dropped-no_cycle s n none = departed-no_cycle s (goes_with s.graph n) (without_branch s.graph n) none
 
--- an index is made of a file, and a transaction comes to hold it
+-- an index of a file is made, held by a transaction
 module _ (s : State) (law : IsLawful s) (ps : List NodeId) (f : NodeId) (bs : List ℕ) (room : IsRoomyIndex s.graph ps f bs)
     (g' : Graph) (n : NodeId) (born : IsIndexBorn s.graph g' n ps f bs) where
   abbrev node : Node

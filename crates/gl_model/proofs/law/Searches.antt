@@ -8,10 +8,10 @@ use Rattle.gl_model.proofs.Words.{subst, suc, sym, take, true, true≢false, wit
 use Rattle.gl_model.specs.declared.answers.Effect.TheVariants as effect
 use Rattle.gl_model.proofs.law.Effects.{all_from, cut_set_on, eff_s_route, eff_x_any, eff_x_route, is_x, on_path, read_on_eff, read_on_route, ReadOn}
 
--- A search upwards, without climbing past some nodes, finds a node that is sought exactly where a route leads to one.
+-- A search upwards, without climbing past some nodes, finds a sought node exactly if a route leads to one.
 
 module _ (g : Graph) (stops sought : NodeId → Bool) where
-  -- the search so far, which ends where a node that is sought is met: of the first i nodes found none is sought
+  -- the search so far, which ends at the first sought node: of the first i nodes found none is sought
   pub record IsSearch (from : NodeId) (found : List NodeId) (i : ℕ) : Type 0 where
     pub climb : IsClimb g stops from found i
     pub unsought : (q : NodeId) → among q (take i found) ≡ true → stops q ≡ false → sought q ≡ false
@@ -42,7 +42,7 @@ module _ (g : Graph) (stops sought : NodeId → Bool) where
       → sought n ≡ true → Leads g stops sought from
   search_meets from found i n item s on it = climb_meets g stops sought from found i n (item_among found i n item) s.climb on it
 
-  -- none is missed, where nothing is left to look at
+  -- none is missed, if nothing is left to look at
   pub search_ends : (from : NodeId) (found : List NodeId) (i : ℕ) → slice_get found i ≡ None → IsSearch from found i → Leads g stops sought from → ⊥
   search_ends from found i none s l =
       let end = climb_ends g stops from found i none s.climb from l.end l.way s.climb.starts l.route l.free in
@@ -53,13 +53,13 @@ module _ (g : Graph) (stops sought : NodeId → Bool) where
 abbrev pub is_read_at : (NodeId → Mode) → NodeId → Bool
 is_read_at h n = is_read (h n)
 
--- where it finds none there is no effective S over any number of steps
+-- if it finds none there is no effective S over any number of steps
 pub unread : (g : Graph) (h : NodeId → Mode) (k : ℕ) (n : NodeId) → (Leads g never (is_read_at h) n → ⊥) → eff_s k g h n ≡ false
 unread g h k n none =
     split (eff_s k g h n) (λ e. let r = eff_s_route g h k n e in
     absurd (none (record { end = r.0; way = r.1; route = r.2; free = never_stops (n ∷ r.1); meets = r.3 }))) (λ e. e)
 
--- where it finds one there is effective S: a route has fewer steps than there are nodes
+-- if it finds one there is effective S: a route has fewer steps than there are nodes
 pub read_from : (g : Graph) → IsLawfulGraph g → (h : NodeId → Mode) (n : NodeId) → is_live g n ≡ true → Leads g never (is_read_at h) n
     → eff_s (node_count g) g h n ≡ true
 read_from g law h n live l = read_on_eff g law h n live (l.end, l.way, l.route, l.meets)
@@ -78,20 +78,20 @@ no_parents_is : (ps : List NodeId) → no_parents ps ≡ true → ps ≡ []
 no_parents_is [] h = refl
 no_parents_is (p ∷ ps) h = absurd (no h)
 
--- where it finds one there is no effective X over any number of steps
+-- if it finds one there is no effective X over any number of steps
 pub free_from : (g : Graph) (h : NodeId → Mode) (k : ℕ) (n : NodeId) → Leads g (is_x g h) (is_top g) n → eff_x k g h n ≡ false
 free_from g h k n l = split (eff_x k g h n) (λ e. absurd (no (sym l.free ∙ on_path g h k n l.end l.way e l.route (no_parents_is _ l.meets)))) (λ e. e)
 
--- where it finds none each root path has a node held in X
+-- if it finds none each root path has a node held in X
 pub cut_off : (g : Graph) → IsLawfulGraph g → (h : NodeId → Mode) (n : NodeId) → is_live g n ≡ true → (Leads g (is_x g h) (is_top g) n → ⊥)
     → eff_x (node_count g) g h n ≡ true
 cut_off g law h n live none =
     (cut_set_on (record (empty_state AtBlock 0) { graph = g; held = λ _. h }) law 0 n live).1 (λ way path. split (list_any (is_x g h) (n ∷ way)) (λ e. e)
     (λ e. absurd (none (record { end = path.0; way = way; route = path.1; free = e; meets = ap no_parents path.2.1 }))))
 
--- A graph that changes only at nodes on which a holder has no effective S: its effective modes and what lies below stay.
+-- A graph that changes only at nodes on which a holder has no effective S: its effective modes and what is below stay.
 
--- the graph changes at the nodes of a set; h has no effective S there, where the node stood before or is a record after
+-- the graph changes at the nodes of a set; h has no effective S there, if the node lived before or is a record after
 pub record GraphStep (g g' : Graph) (h : NodeId → Mode) (changed : NodeId → Bool) : Type 0 where
   pub same : (c : NodeId) → changed c ≡ false → node_at g' c ≡ node_at g c
   pub before : (c : NodeId) → changed c ≡ true → ReadOn g h c → ⊥
@@ -152,7 +152,7 @@ module _ (g g' : Graph) (h : NodeId → Mode) (changed : NodeId → Bool) (step 
       ap (λ b. same_mode (h n) X || b) (ap₂ (λ a b. a && b) (ap (λ ps. not (no_parents ps)) (sym (same_parents n e)) ∙ both.0)
       (all_from (eff_x k g h) (parents_of g n) (λ p on. x_back k p (parents_live n p on) (all_at (eff_x k g' h) (parents_of g n) p on all)))) ∙ or-true _))
 
-  -- what lies below a node that is read is read, so it did not change
+  -- what is below a node that is read is read, so it did not change
   pub below_same : (n : NodeId) → ReadOn g h n → SameBelow g g' n
   below_same n r = record {
     kept = λ c below.
@@ -182,7 +182,7 @@ module _ (g g' : Graph) (h : NodeId → Mode) (changed : NodeId → Bool) (step 
 pub same_bool : (a b : Bool) → (a ≡ true → b ≡ true) → (b ≡ true → a ≡ true) → b ≡ a
 same_bool a b h1 h2 = grind (arith, nat_tests)
 
--- a holder's effective modes where its grants stay and the graph makes such a step
+-- a holder's effective modes if its grants stay and the graph makes such a step
 pub effective_same : (s s' : State) (t : ℕ) (changed : NodeId → Bool) → IsLawful s → IsLawful s' → GraphStep s.graph s'.graph (s.held t) changed
     → s'.held t ≡ s.held t → (n : NodeId) → is_live s.graph n ≡ true → is_live s'.graph n ≡ true → effective s' t n ≡ effective s t n
 effective_same s s' t changed law law' step keeps n live live' =

@@ -15,7 +15,7 @@ use Rattle.gl_model.proofs.law.Takes.{condemned-lawful, restatus_quiet, without_
 use Rattle.gl_model.proofs.queues.Waiters.{ahead, ahead_is, ahead_second, among_by_filter, if-false, if-true, no_cons}
 use Rattle.gl_model.proofs.queues.Walks.{Distinct, in_range, IsAnswer, same, short, victim, victim_is}
 
--- Settling always comes to an end: each turn leaves fewer that wait.
+-- Settling always ends: each turn leaves fewer waiters.
 
 -- how many pass
 abbrev pub tally : (ℕ → Bool) → List ℕ → ℕ
@@ -32,7 +32,7 @@ module _ (p q : ℕ → Bool) (sub : (u : ℕ) → q u ≡ true → p u ≡ true
   tally_lt v [] h pv qv = clash h refl
   tally_lt v (x ∷ xs) h pv qv = grind (arith, nat_tests, p x, q x, same_number v x, tally_le xs, tally_lt v xs)
 
--- who waits
+-- the slot waits
 abbrev pub waiting : State → ℕ → Bool
 waiting s u = is_wait (status_of s u)
 
@@ -58,7 +58,7 @@ module _ (s : State) (law : IsLawful s) where
       let before = woken_waits (granted_at (without_wait s v Condemned) (is_waiting_at s v)) v n m ((without_wait s v Condemned).txns v) e in
       restatus_quiet Condemned (λ q w k. cc) (s.txns v) n m (sym (ap status_in (if-true _ (number_same v v refl))) ∙ before.0))
 
-  -- who is waited for lives
+  -- a slot that is waited for lives
   pub low : (x y : ℕ) → waits_for s x y ≡ true → y < s.most
   low x y h =
       let st = step_is s x y h in let n = st.0 in let m = st.1 in
@@ -83,7 +83,7 @@ fewer s law v w =
     let lt = wait_low s law v w in
     tally_lt (waiting s) (waiting (condemned s v)) (still_waits s law v) v (slots s) (in_range v 0 s.most (omega arith) (omega arith)) w (waits_no_more s law v)
 
--- a turn takes the victim, if there is one
+-- a turn condemns the victim, if there is one
 abbrev pub by_victim : (ℕ → State) → State → Option ℕ → State
 by_victim turn s None = s
 by_victim turn s (Some v) = turn v
@@ -114,7 +114,7 @@ module _ (c : Victims) where
       by None none rest = (zero, (none, refl))
       by (Some v) one rest = let r = rest v one in (suc r.0, (v, one, r.1))
 
--- what settling leaves, by as many turns as there are that wait
+-- what settling leaves, by as many turns as there are waiters
 abbrev pub settled : Victims → State → ℕ → State
 settled c s t = settled_by c (tally (waiting s) (slots s)) s t
 
@@ -131,7 +131,7 @@ waited ByWatcher c s t = s
 abbrev pub locked : State → ℕ → NodeId → Mode → State
 locked s t n m = if enters_at s t n m then with_grant s t n (wanted s t n m) else waited s.detect s.victims (enqueued s t n (wanted s t n m)) t
 
--- so a lock that passed its tests has an outcome under both ways of detection
+-- so a lock that passed its tests has an outcome by both ways of detection
 pub locks_some : (s : State) → IsLawful s → (t : TxnId) (n : NodeId) (m : Mode) → MayLock s t n m → Locks s t.slot n m (locked s t.slot n m)
 locks_some s law t n m may = by (enters_at s t.slot n m) refl
   where
@@ -167,7 +167,7 @@ settled_within_one c (suc j) (suc k) s a b t law h l =
     settled_within_one c j k (condemned s h.0) a b t (condemned-lawful s law h.0) h.2
     (subst (λ v. SettledWithin c k (condemned s v) t b) (victim_one c s law t l.0 h.0 l.1 h.1) l.2)
 
--- ages differ, so the victim is one, turn by turn
+-- ages differ, so each turn has one victim
 pub settled_one : (c : Victims) (s a b : State) (t : ℕ) → IsLawful s → Settled c s t a → Settled c s t b → a ≡ b
 settled_one c s a b t law h k = settled_within_one c h.0 k.0 s a b t law h.1 k.1
 
@@ -175,9 +175,9 @@ settled_one c s a b t law h k = settled_within_one c h.0 k.0 s a b t law h.1 k.1
 pub settling_ends : SettlingEnds
 settling_ends c s law t = (settled c s t, settles c s law t, λ other h. settled_one c s other (settled c s t) t law h (settles c s law t))
 
--- Where the fewest fall, one is enough: who is condemned waits for nobody any more, and nobody waits for whom it did not wait for.
+-- By `Fewest`, one victim is enough: a condemned transaction waits for nobody any more, and no wait is new.
 
--- who waits for somebody waits
+-- a transaction that waits for another waits
 pub condemning_frees : CondemningFrees
 condemning_frees s law v x y h = grind (arith, nat_tests, step_is (condemned s v) x y h, waits_no_more s law v, condemned_steps s law v x y h, same_number)
 
@@ -189,13 +189,13 @@ one_falls zero s s' law t h = omega arith
 one_falls (suc zero) s s' law t h = omega arith
 one_falls (suc (suc k)) s s' law t h = absurd (freed s law t h.0 h.1 h.2.0 h.2.1.is_member.is_member.on_cycle)
 
--- Where nobody is on a cycle of waits, each chain of waits ends at one who does not wait.
+-- If nobody is on a cycle of waits, each chain of waits ends at one that does not wait.
 
 one_fails : (f : ℕ → Bool) (xs : List ℕ) → list_all f xs ≡ false → (u : ℕ) × (f u ≡ false)
 one_fails f [] h = clash refl h
 one_fails f (x ∷ xs) h = split (f x) (λ e. one_fails f xs (sym (ap (λ b. b && list_all f xs) e) ∙ h)) (λ e. (x, e))
 
--- whoever waits waits for someone
+-- each waiter waits for another
 module _ (s : State) (law : IsLawful s) (t : ℕ) (n : NodeId) (m : Mode) (st : status_of s t ≡ Some (Waiting n m)) where
   turned : (x : ℕ) → (x == t) ≡ false → not (t == x) ≡ true
   turned x k = grind (arith, nat_tests)
@@ -236,12 +236,12 @@ module _ (s : State) (law : IsLawful s) (t : ℕ) (n : NodeId) (m : Mode) (st : 
             }),
           )
 
-  -- the lawful fronts are empty, so the wait does not fit or stands behind another
+  -- the lawful fronts are empty, so the wait does not fit or is after another
   pub waits_for_one : (u : ℕ) × (waits_for s t u ≡ true)
   waits_for_one = by_queue (s.queue n) refl (law.front_waits n) (law.one_wait t n m st)
 
 module _ (edge : ℕ → ℕ → Bool) where
-  -- the way from its start to one of its numbers
+  -- the part from its start to one of its numbers
   prefix : (x y q : ℕ) (way : List ℕ) → IsWalk edge x way y → list_any (same q) way ≡ true → Reaches edge x q
   prefix x y q [] h k = clash k refl
   prefix x y q (v ∷ way) h k =
@@ -256,7 +256,7 @@ module _ (edge : ℕ → ℕ → Bool) where
   abbrev Ends : (ℕ → Bool) → ℕ → Type 0
   Ends busy x = (u : ℕ) × Reaches edge x u × (busy u ≡ false)
 
-  -- a chain ends, or goes on for k numbers
+  -- a chain ends, or continues for k numbers
   goes_on : (busy : ℕ → Bool) → ((x : ℕ) → busy x ≡ true → (u : ℕ) × (edge x u ≡ true)) → (k x : ℕ) → busy x ≡ true
       → Ends busy x ⊎ ((y : ℕ) × (way : List ℕ) × IsWalk edge x way y × (length way ≡ k))
   goes_on busy next zero x b = let u = next x b in inr (u.0, [], u.1, refl)

@@ -9,12 +9,12 @@ use Rattle.gl_model.proofs.law.Tests.{rule_met}
 use Rattle.gl_model.proofs.queues.Edits.{filter_no, filter_yes}
 use Rattle.gl_model.proofs.queues.Waiters.{among_append, if-false, if-true}
 
--- the rule of the graph is met where it is no reason to refuse
+-- the rule of the graph is met if it does not refuse
 pub rule_allows : (held : NodeId → Mode) (ps : List NodeId) (m : Mode) → is_none (rule_refusal held ps m) ≡ intends_over held ps m
 rule_allows held ps m = split (intends_over held ps m) (λ e. ap is_none (if-true _ e) ∙ sym e)
     (λ e. cases_of (rule_refusal held ps m) (λ k. clash (rule_met held ps m k) e) (λ r k. ap is_none k ∙ sym e))
 
--- who is among those of a front that pass a test, with one waiter more
+-- those of a front that pass a test, with one more waiter
 pub among_more : (f : Waiter → Bool) (q : List Waiter) (i : ℕ) (d : Waiter) → i < length q → (u : ℕ)
     → is_among_waiters u (filter f (take (i + 1) q)) ≡ (is_among_waiters u (filter f (take i q)) || (f (get_or q i d) && ((get_or q i d).0 == u)))
 among_more f q i d low u =
@@ -24,7 +24,7 @@ among_more f q i d low u =
     one : (w : Waiter) → is_among_waiters u (filter f (w ∷ [])) ≡ (f w && (w.0 == u))
     one w = grind (arith, nat_tests, f w)
 
--- the set of those so far who pass the test
+-- the set of those so far that pass the test
 abbrev pub IsSetOf : (Waiter → Bool) → List Waiter → Slots → Type 0
 IsSetOf f q set = (u : ℕ) → has_slot set u ≡ is_among_waiters u (filter f q)
 
@@ -47,7 +47,7 @@ module _ (f : Waiter → Bool) (q : List Waiter) (i : ℕ) (d w : Waiter) (low :
       last : (b : Bool) → b ≡ (b || false)
       last b = grind (arith, nat_tests)
 
--- who stands at a place is a waiter
+-- the slot at a place is a waiter
 pub among_at : (q q' : List Waiter) (i : ℕ) (d : Waiter) → q ≡ q' → i < length q → is_among_waiters (get_or q i d).0 q' ≡ true
 among_at q q' i d same low = ap (is_among_waiters (get_or q i d).0) (sym same) ∙ list_any_at (is_waiter (get_or q i d).0) q i d low (number_same _ _ refl)
 
@@ -77,13 +77,13 @@ pub all_of_some : (p g : Waiter → Bool) (q : List Waiter) → list_all g (filt
 all_of_some p g [] h = refl
 all_of_some p g (w ∷ q) h = grind (arith, nat_tests, p w, g w, all_of_some p g q)
 
--- who waits, and not among those who pass, is among those who do not
+-- a waiter that is not among those that pass is among those that do not
 pub among_failing : (f : Waiter → Bool) (u : ℕ) (q : List Waiter) → is_among_waiters u q ≡ true → is_among_waiters u (filter f q) ≡ false
     → is_among_waiters u (filter (λ w. not (f w)) q) ≡ true
 among_failing f u [] h k = h
 among_failing f u (w ∷ q) h k = grind (arith, nat_tests, f w, w.0 == u, among_failing f u q)
 
--- those who fail the test are all chosen by slot
+-- those that fail the test are all chosen by slot
 pub all_or_chosen : (f : Waiter → Bool) (p : ℕ → Bool) (q : List Waiter) → ((u : ℕ) → is_among_waiters u (filter (λ w. not (f w)) q) ≡ true → p u ≡ true)
     → list_all (λ w. f w || p w.0) q ≡ true
 all_or_chosen f p [] chosen = refl
@@ -102,7 +102,7 @@ without_chosen f p p' u (w ∷ q) fails less =
     let two = and_both (not (w.0 == u) || not (f w)) _ fails in
     grind (arith, nat_tests, f w, p w.0, w.0 == u, two.0, less w.0, without_chosen f p p' u q two.1 less)
 
--- where nobody fits, nobody is granted
+-- if nobody fits, nobody is granted
 pub stuck_front : (most : ℕ) (g : Members) (q : List Waiter) → list_all (λ w. not (fits most g w.0 w.1)) q ≡ true → front most g q ≡ []
 stuck_front most g [] h = refl
 stuck_front most g (w ∷ q) h = if-false _ (not-true (fits most g w.0 w.1) (and_both _ _ h).0)

@@ -1,4 +1,4 @@
--- What is taken away, a wait that begins, and the empty state: the law is kept. For releases, locks and new tables.
+-- Removed grants and waits, a wait that begins, and the empty state: the law is kept. For releases, locks and new tables.
 use Rattle.gl_model.proofs.Words.{[], ⊎_elim, ◌&&◌, ◌+◌, ◌<◌, ◌==◌, ◌||◌, ◌∙◌, ◌∷◌, ◌≡◌, ◌≢◌, ◌≤◌, ◌⊎◌, Active, age_in, age_of, and_both, ap, ap₂, arith}
 use Rattle.gl_model.proofs.Words.{begun_since, Bool, choosing, clash, Condemned, condemned, Detect, empty_state, enqueued, enters, false, filter, front}
 use Rattle.gl_model.proofs.Words.{holds, if◌then◌else◌, inl, inr, intends, is_ahead, is_among_waiters, is_at_least, is_child, is_live, is_some, is_waiter}
@@ -13,7 +13,7 @@ use Rattle.gl_model.proofs.queues.Edits.{among_same, HoldersFirst, out_of_withou
 use Rattle.gl_model.proofs.queues.Edits.{without_filter, without_none}
 use Rattle.gl_model.proofs.queues.Waiters.{ahead_is, if-false, if-true}
 
--- What is taken away: some grants of an active transaction, a wait, a whole transaction.
+-- What is removed: some grants of an active transaction, a wait, a whole transaction.
 
 -- grants of one active transaction
 module _ (s : State) (law : IsLawful s) (t : ℕ) (gone chosen : NodeId → Bool) (active : status_of s t ≡ Some Active)
@@ -32,7 +32,7 @@ module _ (s : State) (law : IsLawful s) (t : ℕ) (gone chosen : NodeId → Bool
   held_left : (u : ℕ) (q : NodeId) → gone q ≡ false → held_but u q ≡ s.held u q
   held_left u q off = held_case u q (λ _ g _. clash g off) (λ e. e)
 
-  -- where it holds still, the node was left
+  -- if it still holds, the node was left
   pub taken-less : IsLess s held_but s.queue s.txns chosen
   taken-less = record {
     kept = λ u q. held_case u q (λ _ _ e. inl e) (λ e. inr e);
@@ -91,7 +91,7 @@ module _ (s : State) (law : IsLawful s) (t : ℕ) (held : ℕ → NodeId → Mod
 abbrev pub IsQuiet : Status → Type 0
 IsQuiet st = (q : NodeId) (m : Mode) → Some st ≡ Some (Waiting q m) → ⊥
 
--- who gave its wait up waits no more
+-- a transaction whose wait ended waits no more
 pub restatus_quiet : (st : Status) → IsQuiet st → (x : Option Txn) (q : NodeId) (m : Mode) → status_in (restatus st x) ≡ Some (Waiting q m) → ⊥
 restatus_quiet st quiet x q m h = grind (arith, nat_tests, x, quiet q m)
 
@@ -111,14 +111,14 @@ without_wait-less s law t st quiet =
     out-less s law t s.held (restatus st (s.txns t)) (is_waiting_at s t) (λ u q ne. refl) (inr (λ q. refl, λ h. restatus_some st (s.txns t) ∙ h))
     (restatus_quiet st quiet (s.txns t)) (λ h. (sym (restatus_some st (s.txns t)) ∙ h, restatus_age st (s.txns t))) (λ q no. (no, refl))
 
--- a wait given up, whether by its transaction or by the manager
+-- a wait that ends, by its transaction or by the manager
 pub without_wait-lawful : (s : State) → IsLawful s → (t : ℕ) (st : Status) → IsQuiet st → IsLawful (pumped (without_wait s t st) (is_waiting_at s t))
 without_wait-lawful s law t st quiet =
     pumped-lawful (without_wait s t st) (is_waiting_at s t)
     (less-lawful s law s.held (λ n. without_waiter t (s.queue n)) (λ u. if u == t then restatus st (s.txns t) else s.txns u) (is_waiting_at s t)
     (without_wait-less s law t st quiet))
 
--- a wait taken out and its node pumped
+-- a wait removed and its node pumped
 pub condemned-lawful : (s : State) → IsLawful s → (t : ℕ) → IsLawful (condemned s t)
 condemned-lawful s law t = without_wait-lawful s law t Condemned (λ q m h. cc)
 
@@ -130,7 +130,7 @@ settled_within-lawful c (suc k) s s' t law h = settled_within-lawful c k (condem
 pub settled-lawful : (c : Victims) (s s' : State) (t : ℕ) → IsLawful s → Settled c s t s' → IsLawful s'
 settled-lawful c s s' t law h = settled_within-lawful c h.0 s s' t law h.1
 
--- where t holds or waits
+-- the node is held or awaited by t
 abbrev pub at_all : State → ℕ → NodeId → Bool
 at_all s t n = holds (members s n) t || is_waiting_at s t n
 

@@ -9,7 +9,7 @@ use Rattle.gl_model.proofs.Words.{status_of, supremum, supremum-above, supremum-
 use Rattle.gl_model.proofs.law.Keeps.{IsLess, less-lawful, nl_is, pumped-lawful, with_grant-lawful}
 use Rattle.gl_model.proofs.law.Takes.{taken-less}
 
--- who holds a mode that may write holds
+-- a mode that may write is held
 holds_write : (m : Mode) → is_at_least m IX ≡ true → not (same_mode m NL) ≡ true
 holds_write m h = search rules
 
@@ -20,7 +20,7 @@ pub active_in : (age : ℕ) (x : Option Txn) → live_by age x ≡ true → wait
 active_in age None live w c = clash live refl
 active_in age (Some x) live w c = grind (arith, nat_tests)
 
--- an active transaction on a living node, whatever was tested first
+-- an active transaction on a living node, after any first test
 pub active_after : (s : State) (t : TxnId) (n : NodeId) (first : Option Refusal) (rest : List (Option Refusal))
     → first_refusal (first ∷ active_on s t (n ∷ []) ++ rest) ≡ None
     → (status_of s t.slot ≡ Some Active) × (is_live s.graph n ≡ true) × (first_refusal rest ≡ None)
@@ -42,7 +42,7 @@ record_modes : (a m : Mode) → (same_mode a S || same_mode a X) ≡ true → (s
     → (same_mode (supremum a m) S || same_mode (supremum a m) X) ≡ true
 record_modes a m h k = search rules
 
--- the wanted mode fits the kind, as the held and the asked one do
+-- the wanted mode fits the kind, as the held and the requested one do
 pub mode_fits : (s : State) → IsLawful s → (t : ℕ) (n : NodeId) (m : Mode) → bad_mode s n m ≡ None → (same_mode m NL ≡ false)
     × ModeFitsKind s n (wanted s t n m)
 mode_fits s law t n m h =
@@ -84,7 +84,7 @@ no_child s law t n q h live child held =
 
 -- Escalating keeps the law.
 
--- where the old mode meets the rule, so does a new one that writes only if the old one did
+-- if the old mode meets the rule, so does a new one that writes only if the old one did
 rule_of_old : (held : NodeId → Mode) (ps : List NodeId) (a m : Mode) → is_write m ≡ is_write a → intends_over held ps a ≡ true → intends_over held ps m ≡ true
 rule_of_old held ps a m e h = ap (λ w. cond w (list_all (λ p. is_at_least (held p) IX) ps) (no_parents ps || list_any (λ p. is_at_least (held p) IS) ps)) e ∙ h
 
@@ -95,7 +95,7 @@ write_s : (a : Mode) → is_write a ≡ false → is_write (supremum a S) ≡ fa
 write_s a h = search rules
 
 module _ (s : State) (law : IsLawful s) (t : ℕ) (n : NodeId) where
-  -- who holds a child to write holds the node to write
+  -- a transaction that holds a child to write holds the node to write
   writes_up : (c : NodeId) → is_child s.graph n c ≡ true → is_write (s.held t c) ≡ true → is_write (s.held t n) ≡ true
   writes_up c child writes =
       all_at (λ p. is_at_least (s.held t p) IX) (parents_of s.graph c) n child
@@ -103,7 +103,7 @@ module _ (s : State) (law : IsLawful s) (t : ℕ) (n : NodeId) where
       (no_parents (parents_of s.graph c) || list_any (λ p. is_at_least (s.held t p) IS) (parents_of s.graph c))) writes)
       ∙ law.grants_intend t c (holds_write (s.held t c) writes))
 
-  -- so the raised mode writes only where the old one did
+  -- so the raised mode writes only if the old one did
   writes_same : is_write (wanted s t n (asked_by_escalation s t n)) ≡ is_write (s.held t n)
   writes_same =
       split (is_write (s.held t n)) (λ e. write_above (s.held t n) (asked_by_escalation s t n) e ∙ sym e)

@@ -85,7 +85,7 @@ count_alike p q (x ∷ xs) same =
     ∙ ap₂ (λ b k. cond b 1 0 + k) (same x (or_left _ _ (same_node-refl x))) (count_alike p q xs (λ c h. same c (or_right (same_node c x) _ h)))
     ∙ sym (count_cons p x xs)
 
--- where only the test of n changes, from no to b, n is counted once more if b
+-- if only the test of n changes, from no to b, n is counted once more if b
 count_one : (p q : NodeId → Bool) (n : NodeId) (b : Bool) (xs : List NodeId) → are_distinct xs ≡ true → list_any (same_node n) xs ≡ true → p n ≡ false → q n ≡ b
     → ((c : NodeId) → same_node c n ≡ false → q c ≡ p c) → count_by q xs ≡ count_by p xs + cond b 1 0
 count_one p q n b [] d h absent there same = absurd (no h)
@@ -125,7 +125,7 @@ children_up g law f f' n live was now same p =
     (grind (arith, nat_tests, is_child g p n)) (grind (arith, nat_tests, is_child g p n))
     (λ c e. ap (λ b. is_child g p c && b) (same c e)) ∙ ap (λ k. children_that g f p + k) (sym (count_self p (parents_of g n) (parents_distinct g law n)))
 
--- one less is one more, the other way round
+-- one less is one more, conversely
 pub children_down : (g : Graph) → IsLawfulGraph g → (f f' : NodeId → Bool) (n : NodeId) → is_live g n ≡ true → f n ≡ true → f' n ≡ false
     → ((q : NodeId) → same_node q n ≡ false → f' q ≡ f q) → (p : NodeId) → children_that g f' p + count_by (same_node p) (parents_of g n) ≡ children_that g f p
 children_down g law f f' n live was now same p = sym (children_up g law f' f n live now was (λ q e. sym (same q e)) p)
@@ -155,7 +155,7 @@ module _ (n : NodeId) (f : NodeId → Bool) where
   rest_there : (q : NodeId) → same_node q n ≡ false → rest q ≡ f q
   rest_there q e = ap (λ b. f q && not b) e ∙ grind (arith, nat_tests, f q)
 
-  -- where the node passes, each of its parents has it as a child that does
+  -- if the node passes, each of its parents has it as a child that does
   pub parents_counted : (g : Graph) → IsLawfulGraph g → is_live g n ≡ true → f n ≡ true → (p : NodeId)
       → count_by (same_node p) (parents_of g n) ≤ children_that g f p
   parents_counted g law live passes p = let less = children_down g law f rest n live passes rest_here rest_there p in omega arith
@@ -168,7 +168,7 @@ module _ (g g' : Graph) (law : IsLawfulGraph g) (law' : IsLawfulGraph g') (n : N
       each : (c : NodeId) → (is_child g' p c && rest n f c) ≡ (is_child g p c && rest n f c)
       each c = grind (arith, nat_tests, same_node c n, is_child g' p c, is_child g p c, same_node p, same_node-equal)
 
-  -- where the node passes, each old parent has one child less, and each new one more
+  -- if the node passes, each old parent has one child less, and each new one more
   pub children_moved : (p : NodeId) → children_that g' f p + (if f n then count_by (same_node p) (parents_of g n) else 0)
       ≡ children_that g f p + (if f n then count_by (same_node p) (parents_of g' n) else 0)
   children_moved p = split (f n) (λ e.

@@ -1,4 +1,4 @@
--- Queues with a wait taken out, or one put in its place. For waits that begin and end.
+-- Queues with a wait removed, or one placed. For waits that begin and end.
 use Rattle.gl_model.proofs.Words.{[], ◌&&◌, ◌++◌, ◌==◌, ◌||◌, ◌∙◌, ◌∷◌, ◌≡◌, ◌≢◌, age_in, and_both, ap, ap₂, arith, Bool, clash, enters, false, filter}
 use Rattle.gl_model.proofs.Words.{filter-append, fits, freed, freed_unless, front, holds, if◌then◌else◌, is_among_waiters, is_empty, is_some, is_waiter, List}
 use Rattle.gl_model.proofs.Words.{list_all, list_any, Members, Mode, nat_tests, no, NodeId, not, number_other, Option, or_elim, or_left, or_right, placed, refl}
@@ -6,12 +6,12 @@ use Rattle.gl_model.proofs.Words.{same_node, same_number, Some, split, status_in
 use Rattle.gl_model.proofs.queues.Waiters.{ahead, ahead_first, among_append, among_waits, if-false, if-true, keep_filter, none_filtered, not_among, placed_case}
 use Rattle.gl_model.proofs.queues.Waiters.{placed_other as another_placed, some_wait, waits_of, without_other}
 
--- A queue with a wait taken out, and one with a wait put in its place.
+-- A queue with a wait removed, and one with a wait placed.
 
 same_slot : (t : ℕ) → (t == t) ≡ true
 same_slot t = grind (arith, nat_tests)
 
--- who is left is another
+-- one that remains is another
 pub out_of_without : (t u : ℕ) (q : List Waiter) → is_among_waiters u (without_waiter t q) ≡ true → (is_among_waiters u q ≡ true) × (u ≢ t)
 out_of_without t u [] h = clash h refl
 out_of_without t u (w ∷ q) h = grind (arith, nat_tests, out_of_without t u q)
@@ -24,7 +24,7 @@ pub any_left : (p r : Waiter → Bool) (xs : List Waiter) → list_any p (filter
 any_left p r [] h = h
 any_left p r (x ∷ xs) h = grind (arith, nat_tests, r x, any_left p r xs)
 
--- of a queue of which waiters are taken out, though none of one who waits: the order ahead of that one
+-- the order ahead of one waiter in a queue from which others were removed
 pub filtered_ahead : (f : Waiter → Bool) (a b : ℕ) (q : List Waiter) → list_all (λ w. not (is_waiter a w) || f w) q ≡ true → ahead (filter f q) a b ≡ true
     → ahead q a b ≡ true
 filtered_ahead f a b [] all h = h
@@ -39,12 +39,12 @@ keep_ahead p a b q pa h = filtered_ahead (λ w. p w.0) a b q (own q) h
     own [] = refl
     own (w ∷ l) = grind (arith, nat_tests, is_waiter a w, own l, pa, same_number w.0 a)
 
--- and the order among the others, where one wait is taken out
+-- and the order among the others, if one wait is removed
 pub without_ahead : (t a b : ℕ) (q : List Waiter) → ahead (without_waiter t q) a b ≡ true → ahead q a b ≡ true
 without_ahead t a b q h =
     keep_ahead (λ v. not (v == t)) a b q (ap not (number_other a t (out_of_without t a q (ahead_first (without_waiter t q) a b h)).1)) h
 
--- where t does not wait, nothing is taken out
+-- if t does not wait, nothing is removed
 pub without_none : (t : ℕ) (q : List Waiter) → is_among_waiters t q ≡ false → without_waiter t q ≡ q
 without_none t [] h = refl
 without_none t (w ∷ q) h = grind (arith, nat_tests, without_none t q)
@@ -64,7 +64,7 @@ among_same u a b e h = among_waits u b ∙ ap some_wait (sym e) ∙ sym (among_w
 pub placed_other : (g : Members) (q : List Waiter) (t u : ℕ) (m : Mode) → u ≢ t → filter (is_waiter u) (placed g q t m) ≡ filter (is_waiter u) q
 placed_other g q t u m ne = another_placed g t u q m (λ e. ne (sym e))
 
--- t stands there once, with its mode
+-- t is there once, with its mode
 pub placed_self : (g : Members) (q : List Waiter) (t : ℕ) (m : Mode) → is_among_waiters t q ≡ false → filter (is_waiter t) (placed g q t m) ≡ (t, m) ∷ []
 placed_self g q t m out = placed_case (λ l. waits_of t l ≡ (t, m) ∷ []) g q t m
     (λ e. once (filter (λ w. holds g w.0) q) (filter (λ w. not (holds g w.0)) q) (gone (holds g)) (gone (λ x. not (holds g x))))
@@ -76,7 +76,7 @@ placed_self g q t m out = placed_case (λ l. waits_of t l ≡ (t, m) ∷ []) g q
     gone : (p : ℕ → Bool) → waits_of t (filter (λ w. p w.0) q) ≡ []
     gone p = keep_filter p t q ∙ split (p t) (λ e. if-true _ e ∙ not_among t q out) (λ e. if-false _ e)
 
--- a holder waits only behind holders
+-- a holder waits only after holders
 abbrev pub HoldersFirst : Members → List Waiter → Type 0
 HoldersFirst g q = (a b : ℕ) → holds g a ≡ true → ahead q a b ≡ true → holds g b ≡ true
 
@@ -127,7 +127,7 @@ placed_front most g q t m sorted before out = placed_case (λ l. front most g l 
     as_newcomer [] be off = grind (arith, nat_tests, fits most g t m)
     as_newcomer (w ∷ l) be off = front_head most g w l (l ++ (t, m) ∷ []) be
 
--- Queues from which waiters are taken, and what becomes of their owners.
+-- Queues from which waiters are removed, and their transactions.
 
 pub filter_yes : (p : Waiter → Bool) (x : Waiter) (xs : List Waiter) → p x ≡ true → filter p (x ∷ xs) ≡ x ∷ filter p xs
 filter_yes p x xs t = ap (λ b. if b then x ∷ filter p xs else filter p xs) t
@@ -143,7 +143,7 @@ pub none_left : (p : Waiter → Bool) (xs : List Waiter) → filter p xs ≡ [] 
 none_left p [] e = refl
 none_left p (x ∷ xs) e = grind (arith, nat_tests, p x, none_left p xs)
 
--- the one that passes the first test passes the second, where one that passes the first is left
+-- the one that passes the first test passes the second, if one that passes the first remains
 pub one_stays : (p r : Waiter → Bool) (xs : List Waiter) (y : Waiter) → filter p xs ≡ y ∷ [] → list_any p (filter r xs) ≡ true → r y ≡ true
 one_stays p r xs y one h =
     split (r y) (λ t. t) (λ f. absurd (no (sym (none_left p (filter r xs) (filter_swap p r xs ∙ ap (filter r) one ∙ filter_no r y [] f)) ∙ h)))
@@ -151,7 +151,7 @@ one_stays p r xs y one h =
 pub one_left : (p r : Waiter → Bool) (xs : List Waiter) (y : Waiter) → filter p xs ≡ y ∷ [] → r y ≡ true → filter p (filter r xs) ≡ y ∷ []
 one_left p r xs y one t = filter_swap p r xs ∙ ap (filter r) one ∙ filter_yes r y [] t
 
--- a status after the waits on a node are taken out
+-- a status after the waits on a node are removed
 pub some_freed : (n : NodeId) (o : Option Txn) → is_some (freed n o) ≡ is_some o
 some_freed n o = grind (arith, nat_tests, o)
 
@@ -179,6 +179,6 @@ pub waits_unless : (keeps : ℕ → Bool) (n q : NodeId) (u : ℕ) (o : Option T
     → waits_at (status_in (freed_unless keeps n u o)) q ≡ true
 waits_unless keeps n q u o h k = grind (arith, nat_tests, same_node q n)
 
--- who does not wait on n is as it was
+-- one that does not wait on n is as it was
 pub freed_other : (n : NodeId) (x : Option Txn) → waits_at (status_in x) n ≡ false → freed n x ≡ x
 freed_other n x h = grind (arith, nat_tests, x)

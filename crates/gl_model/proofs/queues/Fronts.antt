@@ -1,4 +1,4 @@
--- What nodes grant from their fronts, in whatever order, and without one transaction. For releases of many nodes.
+-- What nodes grant from their fronts, in any order, and without one transaction. For releases of many nodes.
 use Rattle.gl_model.proofs.Words.{[], ◌&&◌, ◌++◌, ◌==◌, ◌||◌, ◌∙◌, ◌∷◌, ◌≡◌, Active, after_grants, ap, append-nil, ap₂, are_compatible, arith, awake, Bool}
 use Rattle.gl_model.proofs.Words.{clash, Condemned, drop, drop-nil, false, fits, front, front-and_rest, fun_ext, granted_at, if◌then◌else◌, is_among_waiters}
 use Rattle.gl_model.proofs.Words.{length, List, list_all, Members, members, Mode, nat_tests, NL, NL-compatible, NodeId, None, not_true, Option, or_left, or_no}
@@ -13,7 +13,7 @@ use Rattle.gl_model.proofs.queues.Waiters.{all_weaker, among_append}
 pub granted_parts : (s : State) (chosen : NodeId → Bool) (n : NodeId) → granted_at s chosen n ++ drop (length (granted_at s chosen n)) (s.queue n) ≡ s.queue n
 granted_parts s chosen n = grind (arith, nat_tests, chosen n, front-and_rest s.most (members s n) (s.queue n))
 
--- waiters granted in two parts, and taken from the queue in two parts
+-- waiters granted in two parts, and removed from the queue in two parts
 granted_append : (xs ys : List Waiter) (g : Members) → after_grants g (xs ++ ys) ≡ after_grants (after_grants g xs) ys
 granted_append [] ys g = refl
 granted_append (x ∷ xs) ys g = granted_append xs ys (with_mode g x.0 x.1)
@@ -23,7 +23,7 @@ dropped_append [] ys q = refl
 dropped_append (x ∷ xs) ys [] = drop-nil (length ys)
 dropped_append (x ∷ xs) ys (w ∷ q) = dropped_append xs ys q
 
--- who is woken by one list and then by another is woken by both joined
+-- a slot woken by one list and then by another is woken by both joined
 woken_append : (f g h : NodeId → List Waiter) (u : ℕ) → ((n : NodeId) → h n ≡ f n ++ g n) → (x : Option Txn) → woken g u (woken f u x) ≡ woken h u x
 woken_append f g h u is None = refl
 woken_append f g h u is (Some x) = ap (λ st. Some (record x { status = st })) (by x.status)
@@ -61,11 +61,11 @@ bare t g = λ u. if u == t then NL else g u
 pub out_of_own : (t : ℕ) (q : List Waiter) → is_among_waiters t (without_waiter t q) ≡ false
 out_of_own t q = not_true _ (λ h. (out_of_without t t q h).1 refl)
 
--- to take out who holds nothing changes nothing
+-- to remove a slot that holds nothing changes nothing
 pub bare_free : (t : ℕ) (g : Members) → g t ≡ NL → bare t g ≡ g
 bare_free t g free = grind (arith, nat_tests, same_number)
 
--- a grant to another, before t is taken out or after
+-- a grant to another, before t is removed or after
 bare_with_mode : (t : ℕ) (g : Members) (u : ℕ) (m : Mode) → (u == t) ≡ false → bare t (with_mode g u m) ≡ with_mode (bare t g) u m
 bare_with_mode t g u m other = fun_ext (λ v. grind (arith, nat_tests, v == t, v == u))
 
@@ -82,7 +82,7 @@ bare_fits : (t : ℕ) (g : Members) (u : ℕ) (m : Mode) (us : List ℕ) → lis
 bare_fits t g u m us h = all_weaker (λ v. (v == u) || are_compatible m (g v)) (λ v. (v == u) || are_compatible m (bare t g v)) us
     (λ v e. grind (arith, nat_tests, v == t, NL-compatible m)) h
 
--- a grant of t can only block: without t the front that fits with t is granted, and then what fits behind it
+-- a grant of t can only block: without t the front that fits with t is granted, and then what fits after it
 pub bare_front : (most t : ℕ) (q : List Waiter) (g : Members) → is_among_waiters t q ≡ false
     → front most (bare t g) q ≡ front most g q ++ front most (bare t (after_grants g (front most g q))) (drop (length (front most g q)) q)
 bare_front most t [] g out = refl
@@ -117,13 +117,13 @@ two_parts most t g q out true false free = ap₂ (front most) (bare_free t g (fr
 two_parts most t g q out false true free = refl
 two_parts most t g q out false false free = refl
 
--- who does not wait is not granted
+-- one that does not wait is not granted
 pub granted_waits : (s : State) (t : ℕ) (P : NodeId → Bool) (n : NodeId) → is_among_waiters t (s.queue n) ≡ false
     → is_among_waiters t (granted_at s P n) ≡ false
 granted_waits s t P n out = not_true _ (λ h. clash (ap (is_among_waiters t) (sym (granted_parts s P n))
     ∙ among_append t (granted_at s P n) _ ∙ or_left _ _ h) out)
 
--- the nodes of P grant, then t goes, then those of Q grant: as if t had gone before, where it holds no node that is in P alone
+-- the nodes of P grant, then t is removed, then those of Q grant: as if t were removed before, if it holds no node that is in P alone
 module _ (s : State) (t : ℕ) (P Q : NodeId → Bool) (out : (n : NodeId) → is_among_waiters t (s.queue n) ≡ false) (free : (n : NodeId) → P n ≡ true → Q n ≡ false
     → s.held t n ≡ NL) where
   abbrev first : NodeId → List Waiter

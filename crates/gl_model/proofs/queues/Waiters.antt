@@ -1,4 +1,4 @@
--- Queues of waiters: who stands where, what a front takes, and what granting gives one slot. For all that speaks of queues.
+-- Queues of waiters: their places, their front, and what granting gives one slot. For all about queues.
 use Rattle.gl_slots.specs.Limit.{most_slots}
 use Rattle.gl_model.proofs.Words.{[], ◌&&◌, ◌++◌, ◌+◌, ◌<◌, ◌==◌, ◌||◌, ◌∙◌, ◌∷◌, ◌≡◌, ◌≢◌, ◌⊎◌, after_grants, All-same, and_both, ap, append-nil, ap₂, arith}
 use Rattle.gl_model.proofs.Words.{before_first, Bool, both, clash, differ-false, false, filter, filter-append, get_or, HeaderState, holds, if◌then◌else◌, inl}
@@ -47,11 +47,11 @@ among_waits t (w ∷ q) = grind (arith, nat_tests, is_waiter t w, among_waits t 
 pub one_among : (t : ℕ) (q : List Waiter) (w : Waiter) → waits_of t q ≡ w ∷ [] → is_among_waiters t q ≡ true
 one_among t q w e = among_waits t q ∙ ap some_wait e
 
--- a waiter is found where the list of its waits is not empty
+-- a waiter is found if the list of its waits is not empty
 pub among_by_filter : (t : ℕ) (w : Waiter) (ws q : List Waiter) → filter (is_waiter t) q ≡ w ∷ ws → is_among_waiters t q ≡ true
 among_by_filter t w ws q h = among_waits t q ∙ ap some_wait h
 
--- who does not wait there has no waits there
+-- one that does not wait there has no waits there
 pub not_among : (t : ℕ) (q : List Waiter) → is_among_waiters t q ≡ false → filter (is_waiter t) q ≡ []
 not_among t [] h = refl
 not_among t (v ∷ q) h = grind (arith, nat_tests, is_among_waiters t q, not_among t q)
@@ -84,7 +84,7 @@ one_in_first (x ∷ xs) ys w h ne =
     let e : x ≡ w = cc in let r : xs ++ ys ≡ [] = cc in
     let two = both_empty xs ys r in (ap₂ (λ a b. a ∷ b) e two.0, two.1)
 
--- one wait stands in the one part or in the other
+-- one wait is in the one part or in the other
 pub split_one : (xs ys : List Waiter) (w : Waiter) → xs ++ ys ≡ w ∷ [] → ((xs ≡ []) × (ys ≡ w ∷ [])) ⊎ ((xs ≡ w ∷ []) × (ys ≡ []))
 split_one [] ys w e = inl (refl, e)
 split_one (x ∷ xs) ys w e = inr (one_in_first (x ∷ xs) ys w e no_cons)
@@ -94,14 +94,14 @@ pub keep_filter : (p : ℕ → Bool) (u : ℕ) (q : List Waiter) → waits_of u 
 keep_filter p u [] = split (p u) (λ e. sym (if-true _ e)) (λ e. sym (if-false _ e))
 keep_filter p u (w ∷ q) = grind (arith, nat_tests, p w.0, p u, keep_filter p u q)
 
--- a wait taken out
+-- a wait removed
 pub without_other : (u t : ℕ) (q : List Waiter) → u ≢ t → waits_of t (without_waiter u q) ≡ waits_of t q
 without_other u t q ne = keep_filter (λ v. not (v == u)) t q ∙ ap (λ b. if not b then waits_of t q else []) (differ-false t u ne)
 
 pub without_self : (t : ℕ) (q : List Waiter) → waits_of t (without_waiter t q) ≡ []
 without_self t q = keep_filter (λ v. not (v == t)) t q ∙ ap (λ b. if not b then waits_of t q else []) (number_same t t refl)
 
--- who holds stands before a new wait, and who does not behind it; or all do
+-- a holder is before a new wait, and others after it; or all are before
 pub placed_case : (P : List Waiter → Type 0) (g : Members) (q : List Waiter) (t : ℕ) (m : Mode)
     → (holds g t ≡ true → P (filter (λ w. holds g w.0) q ++ (t, m) ∷ filter (λ w. not (holds g w.0)) q)) → (holds g t ≡ false → P (q ++ (t, m) ∷ []))
     → P (placed g q t m)
@@ -121,9 +121,9 @@ placed_other g u t q m ne = placed_case (λ l. waits_of t l ≡ waits_of t q) g 
     parts true l = append-nil l
     parts false l = refl
 
--- Lists of waiters: who stands ahead, what a front takes, what a taken wait leaves.
+-- Lists of waiters: which are ahead, what a front grants, what a removed wait leaves.
 
--- who stands ahead, one waiter after another
+-- those ahead, one waiter after another
 abbrev pub ahead : List Waiter → ℕ → ℕ → Bool
 ahead [] t u = false
 ahead (w ∷ q) t u = not (w.0 == t) && (if w.0 == u then is_among_waiters t q else ahead q t u)
@@ -137,34 +137,34 @@ ahead_is (w ∷ q) t u = by (w.0 == t) (w.0 == u) (is_among_waiters t q) refl (a
         → is_ahead (w ∷ q) t u ≡ ahead (w ∷ q) t u
     by a b c e h = grind (arith, nat_tests)
 
--- who is in one of two parts is in the whole
+-- a waiter of one of two parts is in the whole
 pub among_append : (t : ℕ) (a b : List Waiter) → is_among_waiters t (a ++ b) ≡ (is_among_waiters t a || is_among_waiters t b)
 among_append t a b = list_any-append (is_waiter t) a b
 
--- who has another ahead of it waits, and so does that one
+-- one with another ahead of it waits, and so does that one
 pub ahead_first : (q : List Waiter) (t u : ℕ) → ahead q t u ≡ true → is_among_waiters t q ≡ true
 ahead_first [] t u h = clash h refl
 ahead_first (w ∷ q) t u h = grind (arith, nat_tests, is_among_waiters t q, ahead_first q t u)
 
--- who stands ahead waits
+-- one that is ahead waits
 pub ahead_second : (q : List Waiter) (t u : ℕ) → ahead q t u ≡ true → is_among_waiters u q ≡ true
 ahead_second [] t u h = clash h refl
 ahead_second (w ∷ q) t u h = grind (arith, nat_tests, ahead_second q t u)
 
--- the part after one that t does not stand in
+-- the part after one without t
 pub ahead_after : (a b : List Waiter) (t u : ℕ) → is_among_waiters t a ≡ false → ahead b t u ≡ true → ahead (a ++ b) t u ≡ true
 ahead_after [] b t u out h = h
 ahead_after (w ∷ a) b t u out h = grind (arith, nat_tests, w.0 == u, among_append t a b, ahead_first b t u h, ahead_after a b t u)
 
--- all of a first part stand ahead of those who wait only behind it
+-- all of a first part are ahead of those that wait only after it
 pub ahead_across : (a b : List Waiter) (t u : ℕ) → is_among_waiters t a ≡ false → is_among_waiters t b ≡ true → is_among_waiters u a ≡ true
     → ahead (a ++ b) t u ≡ true
 ahead_across [] b t u out later h = clash h refl
 ahead_across (w ∷ a) b t u out later h = grind (arith, nat_tests, w.0 == u, among_append t a b, ahead_across a b t u)
 
--- Who stands ahead in a queue, as the waiters that are passed; the slots of waiters.
+-- Those ahead in a queue, as the waiters that are passed; the slots of waiters.
 
--- who stands ahead of t is who stands before its first wait
+-- a slot is ahead of t if it is before t's first wait
 pub ahead-first : (q : List Waiter) (t u i : ℕ) (d : Waiter) → i < length q → (get_or q i d).0 ≡ t → is_among_waiters t (take i q) ≡ false
     → is_ahead q t u ≡ is_among_waiters u (take i q)
 ahead-first q t u i d low at none = ahead_is q t u ∙ by q i low at none

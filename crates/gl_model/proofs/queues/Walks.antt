@@ -1,4 +1,4 @@
--- Walks of a relation between finitely many numbers. For deadlocks: whether there is one, and who is a victim.
+-- Walks of a relation between finitely many numbers. For deadlocks: whether there is one, and its victim.
 use Rattle.gl_model.proofs.Words.{[], ⊤, ◌&&◌, ◌+◌, ◌<◌, ◌==◌, ◌||◌, ◌∙◌, ◌∷◌, ◌≡◌, ◌≢◌, ◌≤◌, AllByRecursion, and_both, ap, ap₂, arith, Bool}
 use Rattle.gl_model.proofs.Words.{candidate-on_cycle, clash, false, Fewest, freeing-itself, if◌then◌else◌, IsCandidate, IsDistinct, IsEquivalence}
 use Rattle.gl_model.proofs.Words.{IsOnCycleOf, IsOnNoCycle, is_earlier, IsLatest, IsWalk, earlier-itself, earlier-not_back, earlier-over, latest-from, ⊎_elim}
@@ -56,7 +56,7 @@ abbrev NoneLater : (ℕ → ℕ) → (ℕ → ℕ) → (ℕ → Bool) → ℕ �
 NoneLater since age p n None = (u : ℕ) → u < n → p u ≡ false
 NoneLater since age p n (Some v) = (p v ≡ true) × ((u : ℕ) → u < n → p u ≡ true → is_earlier since age v u ≡ false)
 
--- one more is taken
+-- one more is looked at
 module _ (since age : ℕ → ℕ) (p : ℕ → Bool) (n : ℕ) where
   last : (u : ℕ) → u < suc n → (u < n) ⊎ (u ≡ n)
   last u low = grind arith
@@ -87,7 +87,7 @@ latest_is : (since age : ℕ → ℕ) (p : ℕ → Bool) (n : ℕ) → NoneLater
 latest_is since age p zero = λ u lt. absurd (omega arith)
 latest_is since age p (suc n) = one_more since age p n (latest_below since age p n) (p n) refl (latest_is since age p n)
 
--- y is reached from x by at most k slots on the way
+-- y is reached from x by at most k slots in between
 abbrev pub hops : (ℕ → ℕ → Bool) → ℕ → ℕ → ℕ → ℕ → Bool
 hops edge most zero x y = edge x y
 hops edge most (suc k) x y = edge x y || list_any (λ v. edge x v && hops edge most k v y) (range_with_len 0 most)
@@ -110,7 +110,7 @@ IsAnswer c edge since age t None = IsOnNoCycle edge t
 IsAnswer c edge since age t (Some v) = IsLatest (IsCandidate c edge t) since age v
 
 module _ (edge : ℕ → ℕ → Bool) (most : ℕ) (low : (x y : ℕ) → edge x y ≡ true → y < most) where
-  -- a walk that meets v goes on from v
+  -- a walk that meets v continues from v
   cut : (u v y : ℕ) (way : List ℕ) → IsWalk edge u way y → list_any (same v) way ≡ true → Distinct way → (post : List ℕ) × IsWalk edge v post y × Distinct post
       × (list_any (same v) post ≡ false)
   cut u v y [] h k d = clash k refl
@@ -169,7 +169,7 @@ module _ (edge : ℕ → ℕ → Bool) (most : ℕ) (low : (x y : ℕ) → edge 
   turned t v h = let both = and_both (hops edge most most t v) (hops edge most most v t) h in
       record { there = sound most t v both.0; back = sound most v t both.1 }
 
-  -- who is on no cycle does not come round
+  -- one that is on no cycle does not reach itself
   pub round_none : (t : ℕ) → IsOnNoCycle edge t → hops edge most most t t ≡ false
   round_none t none = split (hops edge most most t t) (λ h. absurd (no_cycle-reaches edge t none (sound most t t h))) (λ h. h)
 
@@ -193,7 +193,7 @@ module _ (edge : ℕ → ℕ → Bool) (most : ℕ) (low : (x y : ℕ) → edge 
   is_passing Youngest t v h = turns edge most low t v h
   is_passing Fewest t v h = ap₂ (λ a b. a && not b) (turns edge most low t v h.on_cycle) (round_none (without edge v) most (low_without v) t h.freed)
 
-  -- who is on a cycle is a candidate itself
+  -- one on a cycle is a candidate itself
   itself : (c : Victims) (t v : ℕ) → IsOnCycleOf edge t v → (u : ℕ) × IsCandidate c edge t u
   itself Youngest t v on = (v, on)
   itself Fewest t v on = (t, freeing-itself edge t (v, on))

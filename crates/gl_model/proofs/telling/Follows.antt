@@ -18,7 +18,7 @@ pub record GrantedTo (s s' : State) (t : ℕ) : Type 0 where
   pub elsewhere : (q : NodeId) → same_node node q ≡ false → s'.held t q ≡ s.held t q
   pub more : is_at_least mode (s.held t node) ≡ true
 
--- t stands once in the queue of the node where it waits, and in no other
+-- t is once in the queue of the node on which it waits, and in no other
 pub record WaitsWell (s : State) (t : ℕ) : Type 0 where
   pub one : (n : NodeId) (m : Mode) → status_of s t ≡ Some (Waiting n m) → waits_of t (s.queue n) ≡ (t, m) ∷ []
   pub more : (n : NodeId) (m : Mode) → status_of s t ≡ Some (Waiting n m) → is_at_least m (s.held t n) ≡ true
@@ -28,7 +28,7 @@ pub record WaitsWell (s : State) (t : ℕ) : Type 0 where
 abbrev pub SameGrants : State → State → ℕ → Type 0
 SameGrants s s' t = (q : NodeId) → s'.held t q ≡ s.held t q
 
--- a change that leaves one slot all that it had, and raises it at most at one node, where it waited
+-- a change that leaves one slot all that it had, and raises it at most at one node, on which it waited
 pub record Follows (s s' : State) (t : ℕ) : Type 0 where
   pub graph : s'.graph ≡ s.graph
   pub lives : (age : ℕ) → live_by age (s.txns t) ≡ true → live_by age (s'.txns t) ≡ true
@@ -106,11 +106,11 @@ absent_well s t absent idle = record {
 woken_lives : (g : NodeId → List Waiter) (t age : ℕ) (x : Option Txn) → live_by age (woken g t x) ≡ live_by age x
 woken_lives g t age x = grind (arith, nat_tests, x)
 
--- who was granted nowhere is as it was
+-- one that was granted nowhere is as it was
 pub unwoken : (g : NodeId → List Waiter) (u : ℕ) → ((q : NodeId) → is_among_waiters u (g q) ≡ false) → (x : Option Txn) → woken g u x ≡ x
 unwoken g u out x = grind (arith, nat_tests, x)
 
--- who was granted where it waited is active
+-- one that was granted what it waited for is active
 pub roused : (g : NodeId → List Waiter) (u : ℕ) (q : NodeId) (m : Mode) (x : Option Txn) → status_in x ≡ Some (Waiting q m) → is_among_waiters u (g q) ≡ true
     → status_in (woken g u x) ≡ Some Active
 roused g u q m x h k = grind (arith, nat_tests, x)
@@ -128,12 +128,12 @@ module _ (s : State) (chosen : NodeId → Bool) (t : ℕ) (well : WaitsWell s t)
   held_same : (n : NodeId) → waits_of t (granted n) ≡ [] → (pumped s chosen).held t n ≡ s.held t n
   held_same n e = granted_mode (members s n) t (granted n) ∙ ap (last_mode (s.held t n)) e
 
-  -- where no wait of t is granted, nothing of t is touched
+  -- if no wait of t is granted, nothing of t is changed
   same_follows : ((n : NodeId) → waits_of t (granted n) ≡ []) → Follows s (pumped s chosen) t
   same_follows out = follows_same s (pumped s chosen) t well refl (unwoken granted t (λ n. none_filtered t (granted n) (out n)) (s.txns t))
       (λ n. held_same n (out n)) (λ n. ap (λ ws. ws ++ waits_of t (rest n)) (sym (out n)) ∙ waits_parts n)
 
-  -- where t does not wait, none is
+  -- if t does not wait, none is
   nowhere : (o : Option Status) → status_of s t ≡ o → (n : NodeId) → waits_at o n ≡ false → (waits_of t (granted n) ≡ []) × (waits_of t (rest n) ≡ [])
   nowhere o e n no_wait = both_empty _ _ (waits_parts n
       ∙ not_among t (s.queue n) (not_true _ (λ h. true≢false (sym (well.are n h) ∙ ap (λ x. waits_at x n) e ∙ no_wait))))

@@ -1,4 +1,4 @@
--- Where who stands in a queue waits there, once: the front that its node grants, and that order is kept. For wakes.
+-- If each slot in a queue waits there, once: the front that its node grants, and that order is kept. For wakes.
 use Rattle.gl_slots.specs.Limit.{most_slots}
 use Rattle.gl_model.proofs.Words.{[], ◌++◌, ◌==◌, ◌∙◌, ◌∷◌, ◌≡◌, ◌≤◌, Active, ap, AreBelow, arith, Bool, both, clash, enters, enters-limit, false}
 use Rattle.gl_model.proofs.Words.{filter-append, front-and_rest, front-waited, front_at, granted, granted_at, holds, if◌then◌else◌, is_among_waiters}
@@ -11,9 +11,9 @@ use Rattle.gl_model.proofs.queues.Edits.{out_of_without, without_filter}
 use Rattle.gl_model.proofs.queues.Waiters.{among_by_filter, grants_other, if-false, if-true, none_filtered, one_in_first, waits_of}
 use Rattle.gl_model.proofs.telling.Ways.{granted_stands, is_by_test, left_stands, way_pumped, without_wait_other, woken_same}
 
--- Where who stands in a queue waits there, once: what follows for the front that its node grants.
+-- If each slot in a queue waits there, once: what follows for the front that its node grants.
 
--- where each slot stands once, no slot stands twice
+-- if each slot is there once, no slot is there twice
 pub distinct_once : (q : List Waiter) → ((u : ℕ) → is_among_waiters u q ≡ true → (w : Waiter) × (waits_of u q ≡ w ∷ [])) → is_distinct q ≡ true
 distinct_once [] one = refl
 distinct_once (w ∷ q) one = both (not (is_among_waiters w.0 q)) (is_distinct q) (ap not alone) (distinct_once q later)
@@ -42,7 +42,7 @@ module _ (s : State) (o : IsOrderly s) where
     one_wait = λ u h. let st = waits_there u q h in let one = o.one_wait u q st.0 st.1 in (st.0, one.0, one.1);
   }
 
-  -- with one wait taken out, all others stand as they did
+  -- with one wait removed, all others stay as they were
   pub well_without : (t : ℕ) (st : Status) (q : NodeId) → WaitWell (without_wait s t st) q
   well_without t st q = record {
     waits_are = λ u h. let was = out_of_without t u (s.queue q) h in ap (λ x. waits_at (status_in x) q) (without_wait_other s t st u (number_other u t was.1))
@@ -54,11 +54,11 @@ module _ (s : State) (o : IsOrderly s) where
   pub below_without : (t : ℕ) (st : Status) (q : NodeId) → AreBelow s.most ((without_wait s t st).queue q)
   below_without t st q u h = waiters_below q u (out_of_without t u (s.queue q) h).0
 
--- who waits at a node waits nowhere else
+-- a waiter at a node waits at no other
 pub waits_only : (s : State) (t : ℕ) (n : NodeId) → is_waiting_at s t n ≡ true → is_waiting_at s t ≡ same_node n
 waits_only s t n h = ap waits_at (waiting_is (status_of s t) n h).1
 
--- and it stands there, and in no other queue
+-- and it is there, and in no other queue
 
 pub stands_there : (s : State) → IsOrderly s → (t : ℕ) (n : NodeId) → is_waiting_at s t n ≡ true → is_among_waiters t (s.queue n) ≡ true
 stands_there s o t n h = let wait = waiting_is (status_of s t) n h in among_by_filter t (t, wait.0) [] (s.queue n) (o.one_wait t n wait.0 wait.1).0
@@ -67,7 +67,7 @@ pub stands_only : (s : State) → IsOrderly s → (t : ℕ) (n : NodeId) → is_
     → is_among_waiters t (s.queue q) ≡ false
 stands_only s o t n h q e = not_true _ (λ k. clash (o.waits_are t q k) (ap (λ f. f q) (waits_only s t n h) ∙ e))
 
--- what is granted on each node, where only n grants
+-- what is granted on each node, if only n grants
 
 pub granted_here : (b : State) (n : NodeId) → granted_at b (same_node n) n ≡ front_at b n
 granted_here b n = if-true _ (same_node-refl n)
@@ -79,7 +79,7 @@ module _ (b : State) (n : NodeId) (well : WaitWell b n) where
   pub front_stands : (u : ℕ) → is_among_waiters u (front_at b n) ≡ true → is_among_waiters u (b.queue n) ≡ true
   front_stands u h = front-waited b.most (members b n) (b.queue n) u h
 
-  -- who stays in the queue
+  -- those that stay in the queue
   abbrev rest : List Waiter
   rest = pumped_queue b.most (members b n) (b.queue n)
 
@@ -92,7 +92,7 @@ module _ (b : State) (n : NodeId) (well : WaitWell b n) where
       parts : (u : ℕ) → waits_of u (front_at b n) ++ waits_of u rest ≡ waits_of u (b.queue n)
       parts u = sym (filter-append (is_waiter u) (front_at b n) rest) ∙ ap (waits_of u) (front-and_rest b.most (members b n) (b.queue n))
 
-  -- who is in the front waited there and is active, and all others are as they were
+  -- one in the front waited there and is active, and all others are as they were
   pub woken_front : (u : ℕ) → woken (granted_at b (same_node n)) u (b.txns u)
       ≡ (if is_among_waiters u (front_at b n) then restatus Active (b.txns u) else b.txns u)
   woken_front u = is_by_test (is_among_waiters u (front_at b n)) (λ h. let wait = waiting_is (status_of b u) n (well.waits_are u (front_stands u h)) in
@@ -105,7 +105,7 @@ module _ (b : State) (n : NodeId) (well : WaitWell b n) where
           → woken (granted_at b (same_node n)) u x ≡ restatus Active x
       active m x st k = grind (arith, nat_tests, x)
 
--- Slots with a transaction are below the limit of the state, and so are all who hold: the limit of slots serves as well.
+-- Slots with a transaction are below the limit of the state, and so are all holders: the limit of slots serves as well.
 
 pub enters-most : (s : State) → IsOrderly s → s.most ≤ most_slots → (t : ℕ) (n : NodeId) (m : Mode)
     → enters s.most (members s n) (s.queue n) t m ≡ enters slot_limit (members s n) (s.queue n) t m
@@ -113,16 +113,16 @@ enters-most s orderly few t n m = enters-limit s.most (members s n) (s.queue n) 
 
 -- What is in order stays so once nodes grant from their fronts.
 
--- who does not wait stands in no queue
+-- one that does not wait is in no queue
 pub in_no_queue : (s : State) → IsOrderly s → (t : ℕ) → is_wait (status_of s t) ≡ false → (q : NodeId) → is_among_waiters t (s.queue q) ≡ false
 in_no_queue s o t quiet q = not_true _ (λ h. clash (ap is_wait (waits_there s o t q h).1) quiet)
 
--- who stands in a queue is another
+-- one in a queue is another
 pub stands_other : (s : State) → IsOrderly s → (t : ℕ) → is_wait (status_of s t) ≡ false → (u : ℕ) (q : NodeId) → is_among_waiters u (s.queue q) ≡ true
     → (u == t) ≡ false
 stands_other s o t quiet u q h = not_true _ (λ e. clash (ap (λ v. is_among_waiters v (s.queue q)) (sym (same_number u t e)) ∙ h) (in_no_queue s o t quiet q))
 
--- a way from the state itself begins
+-- what is told since a state begins at it
 pub way_here : (s : State) → IsOrderly s → IsOnWay s s
 way_here s o = record {
   graph = refl;
@@ -146,7 +146,7 @@ orderly_pumped s o chosen =
       below = λ u h. o.below u (sym (woken_some (granted_at s chosen) u (s.txns u)) ∙ h);
     }
   where
-    -- who holds a node was granted it, or held it before
+    -- a holder of a node was granted it, or held it before
     granted_or_held : {C : Type 0} (u : ℕ) (q : NodeId) → holds (members (pumped s chosen) q) u ≡ true → (is_among_waiters u (granted_at s chosen q) ≡ true → C)
         → (holds (members s q) u ≡ true → C) → C
     granted_or_held u q h granted held =

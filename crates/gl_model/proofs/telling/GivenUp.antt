@@ -1,4 +1,4 @@
--- A wait is given up: who is granted, who waits still, and what is told. For cancels and victims.
+-- A wait ends without a grant: who is granted, who still waits, and what is told. For cancels and victims.
 use Rattle.gl_model.proofs.Words.{⊎_elim, ◌<◌, ◌==◌, ◌∙◌, ◌≡◌, ◌⊎◌, age_of, ap, ap₂, arith, Bool, clash, Condemned, condemned, false, front_at, grant_notice}
 use Rattle.gl_model.proofs.Words.{granted_at, holds, if◌then◌else◌, inl, inr, is_among_waiters, is_live, is_some, is_wait, is_waiting_at, IsOnWay, IsOrderly}
 use Rattle.gl_model.proofs.Words.{members, Mode, mode_given, nat_tests, NL, NodeId, None, not, not_true, Notice, notices_in, Option, pumped, refl, same_mode}
@@ -13,7 +13,7 @@ use Rattle.gl_model.proofs.queues.Waiters.{grants_other, if-false}
 use Rattle.gl_model.proofs.telling.Fronts.{front_stands, granted_here, waits_only, waits_there, way_here, well_without}
 use Rattle.gl_model.proofs.telling.Ways.{granted_stands, victim_tells, way_pumped, way_without_wait, without_wait_other, without_wait_own}
 
--- A wait is given up, and its node grants from its front: who is granted, and who waits still.
+-- A wait ends without a grant, and the node's waiters are granted from the front: who is granted, and who still waits.
 
 module _ (s : State) (o : IsOrderly s) (t : ℕ) (n : NodeId) (st : Status) (quiet : IsQuiet st) (waits : is_waiting_at s t n ≡ true) where
   abbrev b : State
@@ -25,11 +25,11 @@ module _ (s : State) (o : IsOrderly s) (t : ℕ) (n : NodeId) (st : Status) (qui
   well : WaitWell b n
   well = well_without s o t st n
 
-  -- who gave its wait up is not granted
+  -- the one whose wait ended is not granted
   pub given_up_out : is_among_waiters t (front_at b n) ≡ false
   given_up_out = not_true _ (λ h. (out_of_without t t (s.queue n) (front_stands b n well t h)).1 refl)
 
-  -- who waits still is another, who was not granted and waited before
+  -- one that still waits is another, which was not granted and waited before
   pub waits_still : (u : ℕ) → is_wait (status_of after u) ≡ true → ((u == t) ≡ false) × (is_among_waiters u (front_at b n) ≡ false)
       × (is_wait (status_of s u) ≡ true)
   waits_still u h = (other, not_true _ (asleep wait.0 wait.1 was), ap (λ x. is_wait (status_in x)) (sym (without_wait_other s t st u other)) ∙ ap is_wait was.0)
@@ -51,9 +51,9 @@ module _ (s : State) (o : IsOrderly s) (t : ℕ) (n : NodeId) (st : Status) (qui
           clash (ap (is_among_waiters u) (granted_here b n) ∙ k) (ap₂ (λ f x. is_among_waiters u (granted_at b f x)) (sym (waits_only s t n waits)) (sym here)
           ∙ was.1)
 
--- Once a wait is given up, and its node granted from its front, the state is as orderly as it was.
+-- After a wait has ended, and its node granted from its front, the state is as orderly as it was.
 
--- where the same slots are taken, and who holds held or waited before, all on the way is orderly
+-- if the same slots are taken, and each holder held or waited before, all states in between are orderly
 pub orderly_on_way : (s now : State) → IsOrderly s → IsOnWay s now → now.most ≡ s.most → ((u : ℕ) → is_some (now.txns u) ≡ is_some (s.txns u))
     → ((u : ℕ) (q : NodeId) → holds (members now q) u ≡ true → (holds (members s q) u ≡ true) ⊎ (is_among_waiters u (s.queue q) ≡ true)) → IsOrderly now
 orderly_on_way s now o way most same held = record {
@@ -83,9 +83,9 @@ module _ (s : State) (o : IsOrderly s) (t : ℕ) (st : Status) (chosen : NodeId 
       (λ g. inr (out_of_without t u (s.queue q) (granted_stands left chosen u q g)).0)
       (λ g. inl (ap (λ m. not (same_mode m NL)) (sym (grants_other (granted_at left chosen q) (members left q) u g)) ∙ h)))
 
--- A victim's wait is given up: what is told agrees with the way, and who waits still is told nothing.
+-- A victim's wait ends: what is told agrees with the changes, and one that still waits is told nothing.
 
--- whom the node of t grants once t is condemned is told so, and t of its end
+-- those that t's node grants once t is condemned are told so, and t is told that it is a victim
 abbrev pub TellsVictim : State → ℕ → NodeId → Told → Told → Type 0
 TellsVictim s t n told told' =
     (u : ℕ) → notices_in told' u ≡ (if u == t then Some (record { slot = t; age = age_of s t }, notice.Victim)
@@ -110,11 +110,11 @@ module _ (s : State) (o : IsOrderly s) (t : ℕ) (n : NodeId) (m : Mode) (waits 
   here : is_waiting_at s t n ≡ true
   here = ap (λ x. waits_at x n) waits ∙ same_node-refl n
 
-  -- who is condemned is not granted
+  -- the condemned one is not granted
   pub victim_out : in_front t ≡ false
   victim_out = given_up_out s o t n Condemned (λ q w k. cc) here
 
-  -- so it is not told before its end
+  -- so it is not told before its condemnation
   pub victim_absent : (told mid : Told) → WakesTold s.txns n (front_at fallen n) told mid → notices_in told t ≡ None → notices_in mid t ≡ None
   victim_absent told mid wakes none = wakes.notices t ∙ if-false _ victim_out ∙ none
 

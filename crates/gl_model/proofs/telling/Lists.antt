@@ -19,7 +19,7 @@ all_inserted p xs zero x h here rest = grind arith
 all_inserted p [] (suc i) x h here rest = absurd (omega arith)
 all_inserted p (y ∷ ys) (suc i) x h here rest = let b = and_both _ _ rest in both _ _ b.0 (all_inserted p ys i x (omega arith) here b.1)
 
--- all behind one that is above are above
+-- all after one that is above are above
 all_above : (lo s : ℕ) (xs : Told) → lo < s → list_all (λ y. nat_lt s y.0.slot) xs ≡ true → list_all (λ y. nat_lt lo y.0.slot) xs ≡ true
 all_above lo s xs h above = all_weaker (λ (y : Named). nat_lt s y.0.slot) (λ (y : Named). nat_lt lo y.0.slot) xs (λ y e. grind (arith, nat_tests)) above
 
@@ -44,7 +44,7 @@ rising_order (x ∷ xs) h zero (suc j) d le lt =
 rising_order (x ∷ xs) h (suc i) zero d le lt = absurd (omega (arith, le))
 rising_order (x ∷ xs) h (suc i) (suc j) d le lt = rising_order xs (and_both _ _ h).1 i j d (omega (arith, le)) (omega (arith, lt))
 
--- so the place of a notice is where a binary search parts them
+-- so a binary search parts them at the place of a notice
 pub place_parts : (xs : Told) (s : ℕ) → is_rising xs ≡ true → IsPartitionedBy (λ (x : Named). nat_lt x.0.slot s) xs
 place_parts xs s h = IsPartitionedBy-ltb (λ (x : Named). x.0.slot) xs s (rising_order xs h)
 
@@ -177,11 +177,11 @@ rising_all f n xs up each low =
     rising_is f n 0 xs up (told_pass (λ v. nat_le 0 v) xs (λ u h. grind (arith, nat_tests)))
     (told_pass (λ v. nat_lt v (0 + n)) xs (λ u h. let lt = low u (sym (ap is_some (each u)) ∙ h) in grind (arith, nat_tests, lt))) (λ u h. each u)
 
--- who is told lives
+-- one that is told lives
 told_lives : (s now : State) (u : ℕ) → is_some (told_to s now u) ≡ true → is_some (s.txns u) ≡ true
 told_lives s now u h = grind (arith, nat_tests)
 
--- where slots are below the limit, notices by rising slot that are those of each slot are what is told
+-- if slots are below the limit, notices by rising slot that are those of each slot are what is told
 pub told_in_order : (s now : State) → ((u : ℕ) → is_some (s.txns u) ≡ true → u < s.most) → (xs : Told) → IsBySlot xs
     → ((u : ℕ) → notices_in xs u ≡ told_to s now u) → xs ≡ told s now
 told_in_order s now below xs sorted each = rising_all (told_to s now) s.most xs sorted.rising each (λ u h. below u (told_lives s now u h))
@@ -199,7 +199,7 @@ but_each : (s now : State) (t : ℕ) → told_but t s now ≡ filter_map (λ u. 
 but_each s now t = filter-filter_map (λ x. not (x.0.slot == t)) (told_to s now) (slots s)
     ∙ ap (λ f. filter_map f (slots s)) (fun_ext (λ u. kept_name t (record { slot = u; age = age_of s u }) (told_from now u (status_of s u))))
 
--- what is told from two states is the same but for t, where they agree on all others
+-- what is told from two states is the same except for t, if they agree on all others
 pub told_but_same : (s s' now : State) (t : ℕ) → s'.most ≡ s.most → ((u : ℕ) → (u == t) ≡ false → s'.txns u ≡ s.txns u) → told_but t s' now ≡ told_but t s now
 told_but_same s s' now t most same =
     but_each s' now t ∙ ap₂ filter_map (fun_ext (λ u. grind (arith, nat_tests, u == t, same u))) (ap (range_with_len 0) most) ∙ sym (but_each s now t)
@@ -211,19 +211,19 @@ told_but_is s now t xs law most sorted each =
     rising_all (λ u. if u == t then None else told_to s now u) s.most xs sorted.rising each
     (λ u h. law.slots_below u (told_lives s now u (grind (arith, nat_tests, u == t, h)))) ∙ sym (but_each s now t)
 
--- and where the status of all is the same, nothing is told
+-- and if the status of all is the same, nothing is told
 pub told_nothing : (s now : State) (t : ℕ) → ((u : ℕ) → is_some (s.txns u) ≡ true → u < s.most) → ((u : ℕ) → status_of now u ≡ status_of s u)
     → [] ≡ told_but t s now
 told_nothing s now t below same = ap (filter (λ x. not (x.0.slot == t)))
     (told_in_order s now below [] (record { rising = refl; below = refl }) (λ u. sym (quiet_told s now u (same u))))
 
--- A settle of one who is on no cycle.
+-- A settle of a transaction that is on no cycle.
 
 settled_same_within : (c : Victims) (k : ℕ) (s s' : State) (t : ℕ) → IsOnNoCycle (waits_for s) t → SettledWithin c k s t s' → s' ≡ s
 settled_same_within c zero s s' t none h = h.1
 settled_same_within c (suc k) s s' t none h = absurd (none h.0 (candidate-on_cycle c (waits_for s) t h.0 h.1.is_member.is_member))
 
--- it is settled as it stands
+-- it is settled as it is
 pub settled_same : (c : Victims) (s s' : State) (t : ℕ) → IsOnNoCycle (waits_for s) t → Settled c s t s' → s' ≡ s
 settled_same c s s' t none h = settled_same_within c h.0 s s' t none h.1
 

@@ -1,4 +1,4 @@
--- Nodes are unlocked one after the other: what is left, and the way that it is. For a transaction that goes back.
+-- Nodes are unlocked one after the other: what is left, and what is told since. For rollbacks.
 use Rattle.gl_model.proofs.Words.{[], ◌&&◌, ◌++◌, ◌∙◌, ◌∷◌, ◌≡◌, Active, ap, arith, Bool, child_held, clash, Detect, false, find, HasNoCycle, held_child, holds}
 use Rattle.gl_model.proofs.Words.{is_child, is_wait, IsLawful, IsOnWay, IsOrderly, List, list_any, members, nat_tests, NL, NodeId, nodes, None, not_true, refl}
 use Rattle.gl_model.proofs.Words.{Some, State, status_in, status_of, subst, sym, unlocked, Victims, with_grant, ℕ}
@@ -19,7 +19,7 @@ pub unlocks_way : (begin s s' : State) (t : ℕ) (ns : List NodeId) → Unlocks 
 unlocks_way begin s s' t [] h way = subst (IsOnWay begin) (sym h) way
 unlocks_way begin s s' t (n ∷ ns) h way = unlocks_way begin (unlocked s t n) s' t ns h.2 (way_releases begin s t n way)
 
--- the same state, but for how deadlocks are found, whom they take, and what is counted
+-- the same state, except detection, choice of victims, and counts
 abbrev pub saying : Detect → Victims → ℕ → ℕ → State → State
 saying d v b a x = record x { detect = d; victims = v; begins = b; accepted = a }
 
@@ -29,7 +29,7 @@ pub unlocks_saying : (d : Detect) (v : Victims) (b a : ℕ) (s s' : State) (t : 
 unlocks_saying d v b a s s' t [] h = ap (saying d v b a) h
 unlocks_saying d v b a s s' t (n ∷ ns) h = (h.0, h.1, unlocks_saying d v b a (unlocked s t n) s' t ns h.2)
 
--- who waits for nothing is what it was, whatever it releases
+-- one that does not wait stays as it was, at any release of its own
 pub own_stays : (s : State) → IsOrderly s → (t : ℕ) (n : NodeId) → is_wait (status_of s t) ≡ false → (unlocked s t n).txns t ≡ s.txns t
 own_stays s o t n quiet = woken_front (with_grant s t n NL) n (well_granted s o t n NL n) t ∙ if-false _ (not_true _ (λ h.
     clash (front_stands (with_grant s t n NL) n (well_granted s o t n NL n) t h) (in_no_queue s o t quiet n)))
@@ -37,7 +37,7 @@ own_stays s o t n quiet = woken_front (with_grant s t n NL) n (well_granted s o 
 pub active_stays : (s : State) → IsOrderly s → (t : ℕ) (n : NodeId) → status_of s t ≡ Some Active → status_of (unlocked s t n) t ≡ Some Active
 active_stays s o t n active = ap status_in (own_stays s o t n (ap is_wait active)) ∙ active
 
--- where no child is held, none is found
+-- if no child is held, none is found
 pub none_in_the_way : (s : State) (t : ℕ) (n : NodeId) → holds_child s t n ≡ false → held_child s t n ≡ None
 none_in_the_way s t n h = ap child_held (none_any (λ c. is_child s.graph n c && holds (members s c) t) (nodes s.graph) h)
   where

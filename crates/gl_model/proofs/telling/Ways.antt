@@ -1,4 +1,4 @@
--- The way from one state to another by releases and withdrawn waits, and what its steps tell. For all that tells.
+-- From one state to another by releases and ended waits (`IsOnWay`), and what the steps tell. For all that tells.
 use Rattle.gl_model.proofs.Words.{[], ◌&&◌, ◌++◌, ◌==◌, ◌∙◌, ◌∷◌, ◌≡◌, Active, addressed, age_of, ap, ap₂, arith, Bool, clash, Condemned, drop, false}
 use Rattle.gl_model.proofs.Words.{filter-append, front_at, grant_notice, granted_at, if◌then◌else◌, is_among_waiters, is_live, is_waiter, is_waiting_at}
 use Rattle.gl_model.proofs.Words.{IsLawful, IsOnWay, length, List, members, Mode, mode_given, nat_tests, NL, NodeId, None, not, not_true, notice_of}
@@ -14,7 +14,7 @@ use Rattle.gl_model.proofs.queues.Waiters.{waits_of}
 use Rattle.gl_model.proofs.telling.Follows.{roused, SameGrants, unwoken}
 use Rattle.gl_model.proofs.queues.Fronts.{granted_parts}
 
--- The way from one state to another by releases and withdrawn waits: each step keeps what is known of it.
+-- From one state to another by releases and ended waits: each step keeps what is known of it.
 
 -- what is left of a queue once its node granted
 abbrev pub left_at : State → (NodeId → Bool) → NodeId → List Waiter
@@ -41,7 +41,7 @@ left_stands s chosen u q h =
     ap (is_among_waiters u) (sym (granted_and_left s chosen q)) ∙ among_append u (granted_at s chosen q) (left_at s chosen q)
     ∙ or_right (is_among_waiters u (granted_at s chosen q)) _ h
 
--- another's slot, once a wait is taken out
+-- another's slot, once a wait is removed
 pub without_wait_other : (s : State) (t : ℕ) (st : Status) (u : ℕ) → (u == t) ≡ false → (without_wait s t st).txns u ≡ s.txns u
 without_wait_other s t st u e = ap (λ b. if b then restatus st (s.txns t) else s.txns u) e
 
@@ -50,11 +50,11 @@ pub without_wait_own : (s : State) (t : ℕ) (st : Status) → (without_wait s t
 without_wait_own s t st = if-true _ (number_same t t refl)
 
 module _ (s now : State) (way : IsOnWay s now) where
-  -- who stands in a queue waits there
+  -- a slot in a queue waits there
   pub way_wait : (u : ℕ) (q : NodeId) → is_among_waiters u (now.queue q) ≡ true → (m : Mode) × (status_of now u ≡ Some (Waiting q m))
   way_wait u q h = waiting_is (status_of now u) q (way.waits_are u q h)
 
-  -- who is granted stood once in the queue, so it is gone from what is left
+  -- a granted waiter was once in the queue, so it is not in the rest
   pub way_granted_once : (chosen : NodeId → Bool) (u : ℕ) (q : NodeId) (m : Mode) → status_of now u ≡ Some (Waiting q m)
       → is_among_waiters u (granted_at now chosen q) ≡ true → (waits_of u (granted_at now chosen q) ≡ (u, m) ∷ []) × (waits_of u (left_at now chosen q) ≡ [])
   way_granted_once chosen u q m st h =
@@ -65,7 +65,7 @@ module _ (s now : State) (way : IsOnWay s now) where
   pub way_with_grant : (t : ℕ) (n : NodeId) (m : Mode) → IsOnWay s (with_grant now t n m)
   way_with_grant t n m = record { graph = way.graph; ages = way.ages; waited = way.waited; waits_are = way.waits_are; one_wait = way.one_wait; live = way.live }
 
-  -- who gives its wait up waits no more, and all others wait as before
+  -- one whose wait ended waits no more, and all others wait as before
   pub way_without_wait : (t : ℕ) (st : Status) → IsQuiet st → IsOnWay s (without_wait now t st)
   way_without_wait t st quiet = record {
     graph = way.graph;
@@ -77,12 +77,12 @@ module _ (s now : State) (way : IsOnWay s now) where
     live = way.live;
   }
     where
-      -- who waits still is another
+      -- one that still waits is another
       other_waits : (u : ℕ) (q : NodeId) (m : Mode) → status_of (without_wait now t st) u ≡ Some (Waiting q m) → ((u == t) ≡ false)
           × (status_of now u ≡ Some (Waiting q m))
       other_waits u q m h = grind (arith, nat_tests)
 
-  -- who is granted waits no more, and is gone from its queue
+  -- a granted waiter waits no more, and is not in its queue
   pub way_pumped : (chosen : NodeId → Bool) → IsOnWay s (pumped now chosen)
   way_pumped chosen = record {
     graph = way.graph;
@@ -97,7 +97,7 @@ module _ (s now : State) (way : IsOnWay s now) where
     live = way.live;
   }
 
--- the way begins anywhere
+-- it begins at any lawful state
 pub way_begins : (s : State) → IsLawful s → IsOnWay s s
 way_begins s law = record {
   graph = refl;
@@ -108,28 +108,28 @@ way_begins s law = record {
   live = λ u q m h. law.waits_live u q (among_by_filter u (u, m) [] (s.queue q) (law.one_wait u q m h));
 }
 
--- and goes on by the release of a node
+-- and continues by the release of a node
 pub way_releases : (s now : State) (t : ℕ) (n : NodeId) → IsOnWay s now → IsOnWay s (unlocked now t n)
 way_releases s now t n way = way_pumped s (with_grant now t n NL) (way_with_grant s now way t n NL) (same_node n)
 
--- or by a wait that is given up, with another status
+-- or by a wait that ends, with another status
 pub way_gives_up : (s now : State) (t : ℕ) (n : NodeId) (m : Mode) (st : Status) → ((q : NodeId) (w : Mode) → Some st ≡ Some (Waiting q w) → ⊥)
     → status_of now t ≡ Some (Waiting n m) → IsOnWay s now → IsOnWay s (pumped (without_wait now t st) (is_waiting_at now t))
 way_gives_up s now t n m st quiet waits way = way_pumped s (without_wait now t st) (way_without_wait s now way t st quiet) (is_waiting_at now t)
 
--- What the steps of a way tell: who is granted, who gives its wait up, and all others what they were told before.
+-- What the steps tell: the granted waiters, the one whose wait ended, and all others what they were told before.
 
--- what is the one where a test passes and the other where it fails
+-- what is the one if a test passes and the other if it fails
 pub is_by_test : {A : Type 0} {x y z : A} (b : Bool) → (b ≡ true → x ≡ y) → (b ≡ false → x ≡ z) → x ≡ (if b then y else z)
 is_by_test true f g = f refl
 is_by_test false f g = g refl
 
--- who was granted where it waited is active
+-- one that was granted what it waited for is active
 pub woken_up : (g : NodeId → List Waiter) (u : ℕ) (q : NodeId) (m : Mode) (x : Option Txn) → status_in x ≡ Some (Waiting q m) → is_among_waiters u (g q) ≡ true
     → status_in (woken g u x) ≡ Some Active
 woken_up g u q m x h k = roused g u q m x h k
 
--- who was granted nowhere is as it was
+-- one that was granted nowhere is as it was
 pub woken_same : (g : NodeId → List Waiter) (u : ℕ) → ((q : NodeId) → is_among_waiters u (g q) ≡ false) → (x : Option Txn) → woken g u x ≡ x
 woken_same g u out x = unwoken g u out x
 
@@ -138,7 +138,7 @@ pub told_same : (now s' : State) (u : ℕ) → s'.graph ≡ now.graph → s'.txn
     → told_from s' u o ≡ told_from now u o
 told_same now s' u graph txn grants o = grind (arith, nat_tests, o, status_of now u, ap status_in txn)
 
--- only who waited at the beginning is told
+-- only one that waited at the beginning is told
 pub told_waits : (s now : State) (u : ℕ) (st : Status) → IsQuiet st → status_of s u ≡ Some st → told_to s now u ≡ None
 told_waits s now u st quiet h = ap (λ o. addressed (record { slot = u; age = age_of s u }) (told_from now u o)) h ∙ grind (arith, nat_tests)
 
@@ -150,7 +150,7 @@ module _ (s now : State) (way : IsOnWay s now) where
     abbrev name : TxnId
     name = record { slot = u; age = age_of s u }
 
-    -- whom a node grants from its front is told of its mode: it waited for it from the beginning
+    -- a waiter that a node grants from its front is told of its mode: it waited for it from the beginning
     pub granted_told : is_among_waiters u (front_at now n) ≡ true → told_to s (pumped now (same_node n)) u ≡ grant_notice s.txns n (front_at now n) u
     granted_told h =
         ap (λ o. addressed name (told_from after u o)) (way.waited u n wait.0 wait.1)
@@ -191,7 +191,7 @@ pub without_wait_told : (s now : State) (t : ℕ) (st : Status) (u : ℕ) → (u
 without_wait_told s now t st u e = ap (addressed (record { slot = u; age = age_of s u }))
     (told_same now (without_wait now t st) u refl (without_wait_other now t st u e) (λ q. refl) (status_of s u))
 
--- of a wait that is over those are told whom its node grants, and all others what they are told of its end
+-- after an ended wait those that its node grants are told, and all others what they are told of its end
 pub wait_over_told : (s now : State) (t : ℕ) (n : NodeId) (m : Mode) (st : Status) → IsQuiet st → status_of now t ≡ Some (Waiting n m) → IsOnWay s now → (u : ℕ)
     → told_to s (pumped (without_wait now t st) (is_waiting_at now t)) u
     ≡ (if is_among_waiters u (front_at (without_wait now t st) n) then grant_notice s.txns n (front_at (without_wait now t st) n) u
@@ -200,7 +200,7 @@ wait_over_told s now t n m st quiet waits way u =
     ap (λ o. told_to s (pumped (without_wait now t st) (waits_at o)) u) waits
     ∙ pumped_told s (without_wait now t st) (way_without_wait s now way t st quiet) n u
 
--- of a release all others are told who are granted
+-- after a release all other granted waiters are told
 pub release_tells : (s now : State) (t : ℕ) (n : NodeId) → IsOnWay s now → (u : ℕ) → (u == t) ≡ false → told_to s (unlocked now t n) u
     ≡ (if is_among_waiters u (front_at (with_grant now t n NL) n) then grant_notice s.txns n (front_at (with_grant now t n NL) n) u else told_to s now u)
 release_tells s now t n way u e =
@@ -209,11 +209,11 @@ release_tells s now t n way u e =
     (ap (addressed (record { slot = u; age = age_of s u }))
     (told_same now (with_grant now t n NL) u refl refl (λ q. ap (λ b. if b && same_node q n then NL else now.held u q) e) (status_of s u)))
 
--- who was active from the beginning is told nothing
+-- one that was active from the beginning is told nothing
 pub active_untold : (s now : State) (t : ℕ) → status_of s t ≡ Some Active → told_to s now t ≡ None
 active_untold s now t is = told_waits s now t Active (λ q m h. cc) is
 
--- of a wait given up by a victim it is told, and those who are granted
+-- after a victim's wait it is told, and so are the granted waiters
 pub victim_tells : (s now : State) (t : ℕ) (n : NodeId) (m : Mode) → status_of now t ≡ Some (Waiting n m) → IsOnWay s now → (u : ℕ)
     → told_to s (pumped (without_wait now t Condemned) (is_waiting_at now t)) u ≡ (if is_among_waiters u (front_at (without_wait now t Condemned) n)
     then grant_notice s.txns n (front_at (without_wait now t Condemned) n) u
@@ -231,7 +231,7 @@ victim_tells s now t n m waits way u =
     over : told_to s (without_wait now t Condemned) u ≡ (if u == t then Some (record { slot = t; age = age_of s t }, notice.Victim) else told_to s now u)
     over = is_by_test (u == t) (λ e. ap (told_to s (without_wait now t Condemned)) (same_number u t e) ∙ own) (without_wait_told s now t Condemned u)
 
--- of a wait taken back all others are told who are granted
+-- after a cancelled wait all other granted waiters are told
 pub cancel_tells : (s now : State) (t : ℕ) (n : NodeId) (m : Mode) → status_of now t ≡ Some (Waiting n m) → IsOnWay s now → (u : ℕ) → (u == t) ≡ false
     → told_to s (pumped (without_wait now t Active) (is_waiting_at now t)) u
     ≡ (if is_among_waiters u (front_at (without_wait now t Active) n) then grant_notice s.txns n (front_at (without_wait now t Active) n) u
@@ -249,7 +249,7 @@ quiet_told s now u same = grind (arith, nat_tests, status_of s u)
 pub nobody_told : (s : State) (u : ℕ) → told_to s s u ≡ None
 nobody_told s u = quiet_told s s u refl
 
--- who is gone is told nothing
+-- an ended transaction is told nothing
 pub gone_untold : (s now : State) (u : ℕ) → status_of now u ≡ None → told_to s now u ≡ None
 gone_untold s now u gone = grind (arith, nat_tests, status_of s u)
 

@@ -72,7 +72,7 @@ module _ (i : Inside) (sound : IsSound i) (f : NodeId) (keys : List ℕ) (free :
       pub state_adopted : with_locks i (state_in v ledger) ≡ with_grant (with_graph before (graph_of v)) t n m
       state_adopted = ap {A = State} (with_locks i) is
 
-      -- in a mode that a record takes and the parents permit
+      -- in a mode that a record can have and the parents permit
       module _ (active : status_of before t ≡ Some Active) (fit : (same_mode m S || same_mode m X) ≡ true)
           (rule : rule_refusal (before.held t) (record_parents (graph_of i.locks.graph) f keys) m ≡ None) where
         intends_there : intends_over (before.held t) (parents_of (graph_of v) n) m ≡ true

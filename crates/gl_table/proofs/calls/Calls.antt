@@ -1,4 +1,4 @@
--- What the calls on the locks make of a table, and what tests an ask passes. For the calls that release, and the locks that test.
+-- What the calls on the locks make of a table, and what tests a request passes. For the calls that release, and the locks that test.
 use Rattle.gl_table.proofs.Words.{[], ⊎_elim, ◌&&◌, ◌<◌, ◌==◌, ◌∙◌, ◌∷◌, ◌≡◌, Active, ap, arith, bad_mode, Bool, cases_lt, clash, commit_tests, state_at}
 use Rattle.gl_table.proofs.Words.{condemned, Deadlock, Detect, false, first_refusal, front_at, get_or, grant_notice, HasNoCycle, held_child, held_children}
 use Rattle.gl_table.proofs.Words.{holds, if◌then◌else◌, is_among_waiters, is_child, is_live, is_some, is_wait, IsDeadlock, IsLawful, IsOnWay, IsOrderly}
@@ -31,7 +31,7 @@ pub test_passed : (o : Option Refusal) (x : Unit {0}) → Ok x ≡ verdict o →
 test_passed None x h = refl
 test_passed (Some r) x h = absurd (cc)
 
--- who passed the tests of a commit is active
+-- a transaction that passed the tests of a commit is active
 pub is_active : (s : State) (t : TxnId) → first_refusal (commit_tests s t) ≡ None → status_of s t.slot ≡ Some Active
 is_active s t h = grind (arith, nat_tests)
 
@@ -43,7 +43,7 @@ module _ (i : Inside) (sound : IsSound i) where
   abbrev l : State
   l = state_at i.locks
 
-  -- who passed the tests of an unlock holds the node and no child of it
+  -- a transaction that passed the tests of an unlock holds the node and no child of it
   pub may_unlock : (v : TableView) → view_of i ≡ v → (t : TxnId) (n : NodeId) (x y : Unit {0}) → Ok x ≡ verdict (first_refusal (commit_tests (state_of v) t))
       → Ok y ≡ verdict (first_refusal (not_held (state_of v) t.slot n ∷ held_child (state_of v) t.slot n ∷ []))
       → (status_of s t.slot ≡ Some Active) × (holds (members s n) t.slot ≡ true) × (held_child s t.slot n ≡ None) × (held_children s t.slot n ≡ 0)
@@ -93,7 +93,7 @@ module _ (i : Inside) (sound : IsSound i) where
             not_front : is_among_waiters t (front_at (with_grant s t n NL) n) ≡ false
             not_front = not_true _ (λ h. clash (front_stands (with_grant s t n NL) n (well_granted s o t n NL n) t h) (in_no_queue s o t (ap is_wait active) n))
 
-  -- the way from a table's state begins at its locks
+  -- what is told since a table's state begins at its locks
   pub table_way : IsOnWay s l
   table_way = let w = way_begins s sound.lawful in record {
     graph = refl;
@@ -118,8 +118,7 @@ module _ (i : Inside) (sound : IsSound i) where
       no_cycle = λ at. subst HasNoCycle (sym state_released) (released-no_cycle s sound.lawful t (sound.no_cycle at));
     }
 
--- Settling looks neither at the way of detection and the choice of victims that the state names nor at how many began, in which a table's state differs from
--- that of its locks.
+-- Settling reads neither detection, choice of victims nor the number of begins of the state, in which a table's state differs from that of its locks.
 
 module _ (c : Victims) (t : ℕ) (d : Detect) (v : Victims) (b : ℕ) where
   -- the state, with these
@@ -133,7 +132,7 @@ module _ (c : Victims) (t : ℕ) (d : Detect) (v : Victims) (b : ℕ) where
   settled_on zero x x' h = (h.0, ap over h.1)
   settled_on (suc k) x x' h = (h.0, victim_on c x h.0 h.1, settled_on k (condemned x h.0) x' h.2)
 
-  -- in as many turns as it takes
+  -- in as many turns as are needed
   pub settled_also : (x x' : State) → Settled c x t x' → Settled c (over x) t (over x')
   settled_also x x' h = (h.0, settled_on h.0 x x' h.1)
 
@@ -156,18 +155,18 @@ module _ (c : Victims) (t : ℕ) (d : Detect) (v : Victims) (b : ℕ) where
   pub keeping_also : (x x' : State) (e e' : Deadlock) → SettlesKeeping c x t e x' e' → SettlesKeeping c (over x) t e (over x') e'
   keeping_also x x' e e' h = (h.0, keeping_on h.0 x x' e e' h.1)
 
--- The tests of an ask: what refuses it, and what is left to be tested once some have passed. For the locks that test.
+-- The tests of a request: what refuses it, and what remains to be tested once some have passed. For the locks that test.
 
--- who is active has a seat
+-- an active transaction has an entry
 active_seated : (seats : List (Option Seat)) (t : ℕ) → status_in (txns_of seats t) ≡ Some Active → t < length seats
 active_seated seats t h =
     ⊎_elim (λ lt. lt) (λ le. absurd (none_some (sym (ap (λ o. status_in (txn_in o)) (slice_get_past seats t le)) ∙ h))) (cases_lt t (length seats))
 
--- who may ask has a list
+-- a transaction that may request has a list
 pub asker_listed : (g : Graph) (l : Ledger) (t : TxnId) → AreSound l → first_refusal (commit_tests (state_on g l) t) ≡ None → t.slot < length l.lists.items
 asker_listed g l t sound may = subst (λ (k : ℕ). t.slot < k) (sym sound.lists) (active_seated l.seats.items t.slot (is_active (state_on g l) t may))
 
--- a node lives where it has a kind
+-- a node lives if it has a kind
 live_kind : (x : Option Node) → is_some x ≡ is_some (kind_in (shape_in x))
 live_kind None = refl
 live_kind (Some x) = kinded x.shape
@@ -194,7 +193,7 @@ module _ (s : State) (t : TxnId) (n : NodeId) (m : Mode) where
   abbrev rule : Option Refusal
   rule = need_parents s t.slot n (wanted s t.slot n m)
 
-  -- who may not ask at all is refused
+  -- a transaction that may not request at all is refused
   pub asker_refused : (r : Refusal) → first_refusal (commit_tests s t) ≡ Some r → first_refusal (lock_tests s t n m) ≡ Some r
   asker_refused r h = refused_first (commit_tests s t) (some_no_node s.graph (n ∷ []) ∷ bad_mode s n m ∷ rule ∷ []) r h
 

@@ -1,4 +1,4 @@
--- Nodes go from a table with all locks on them: what it makes of the table. For the calls that take nodes away.
+-- Nodes are removed from a table with all locks on them: what is left of the table. For the calls that remove nodes.
 use Rattle.gl_table.proofs.Words.{[], ◌∙◌, ◌≡◌, Active, addressed, age_in, age_of, Agrees, ap, AreExact, Bool, children_that, clash, CountsHeld, departed}
 use Rattle.gl_table.proofs.Words.{false, Graph, graph_of, HasNoCycle, holds, if◌then◌else◌, is_among_waiters, is_live, IsLawful, IsOrderly, IsSound, members}
 use Rattle.gl_table.proofs.Words.{Mode, NL, NodeId, None, not, not_true, notice_of, Option, refl, same_mode, Some, split, State, state_at, state_in}
@@ -19,7 +19,7 @@ use Rattle.gl_table.specs.declared.ledger.Ledger.{Ledger}
 use Rattle.gl_table.specs.declared.table.Table.TheInside.{Inside}
 use Rattle.gl_table.proofs.calls.Stands.{MayStand, stands, with_locks}
 
--- of what goes one node alone is waited for, and it is gone
+-- of the removed nodes only one is waited for, and it is removed
 pub record AreGone (s : State) (goes : NodeId → Bool) (g' : Graph) (n : NodeId) : Type 0 where
   pub away : GoAway s.graph goes g'
   pub itself : goes n ≡ true
@@ -27,14 +27,14 @@ pub record AreGone (s : State) (goes : NodeId → Bool) (g' : Graph) (n : NodeId
   pub only : (u : ℕ) (q : NodeId) → goes q ≡ true → is_among_waiters u (s.queue q) ≡ true → q ≡ n
   pub children : (f : NodeId → Bool) → ((c : NodeId) → goes c ≡ true → f c ≡ false) → (p : NodeId) → children_that g' f p ≡ children_that s.graph f p
 
--- who waited for it is active
+-- its waiters are active
 active_again : (goes : NodeId → Bool) (n : NodeId) (m : Mode) (x : Option Txn) → goes n ≡ true → status_in x ≡ Some (Waiting n m)
     → status_in (freed_among goes x) ≡ Some Active
 active_again goes n m None e h = absurd (cc)
 active_again goes n m (Some x) e h = let is : x.status ≡ Waiting n m = cc in ap (λ st. Some (none_among goes st)) is
     ∙ ap (λ b. Some (if b then Active else Waiting n m)) e
 
--- who waits for nothing that goes is as it was
+-- a transaction that waits for no removed node is as it was
 freed_other : (goes : NodeId → Bool) (x : Option Txn) → ((q : NodeId) (m : Mode) → status_in x ≡ Some (Waiting q m) → goes q ≡ false) → freed_among goes x ≡ x
 freed_other goes None none = refl
 freed_other goes (Some x) none = ap (λ st. Some (record x { status = st })) (by x.status (λ q m e. none q m (ap Some e)))
@@ -48,7 +48,7 @@ module _ (s : State) (o : IsOrderly s) (goes : NodeId → Bool) (g' : Graph) (n 
   abbrev now : State
   now = departed s goes g'
 
-  -- who waited is told that the node is gone; all others, who do what they did, are told nothing
+  -- each waiter is told that the node is gone; all others are as they were, and are told nothing
   pub departed_tells : (u : ℕ)
       → (if is_among_waiters u (s.queue n) then Some (record { slot = u; age = age_in (s.txns u) }, notice.Gone) else None) ≡ told_to s now u
   departed_tells u = split (is_among_waiters u (s.queue n)) (λ e.

@@ -27,7 +27,7 @@ use Rattle.gl_table.proofs.calls.Law.{called}
 use Rattle.gl_table.proofs.calls.Records.{held_alone}
 use Rattle.gl_table.proofs.calls.Stands.{MayStand, stands, with_locks}
 
--- what is counted among those that are kept, where none of the others counts
+-- what is counted among those that are kept, if none of the others counts
 count_kept : (live keep f f' : NodeId → Bool) (xs : List NodeId) → list_all live xs ≡ true
     → ((x : NodeId) → live x ≡ true → keep x ≡ true → f' x ≡ f x) → ((x : NodeId) → keep x ≡ false → f x ≡ false)
     → count_by f' (filter keep xs) ≡ count_by f xs
@@ -44,7 +44,7 @@ count_kept live keep f f' (x ∷ xs) all same off =
     none : (k : ℕ) → k ≡ 0 + k
     none k = omega arith
 
--- as many children of a node pass a test that nothing passes which goes
+-- as many children of a node pass a test that no removed node passes
 branch_children : (g : Graph) (law : IsLawfulGraph g) (n : NodeId) → is_movable_shape (shape_of g n) ≡ true → is_in_use g n ≡ false → (f : NodeId → Bool)
     → ((c : NodeId) → goes_with g n c ≡ true → f c ≡ false) → (p : NodeId) → children_that (without_branch g n) f p ≡ children_that g f p
 branch_children g law n movable free f none p =
@@ -80,7 +80,7 @@ branch_children g law n movable free f none p =
 
 module _ (s : State) (law : IsLawful s) (t : ℕ) (n : NodeId) (movable : is_movable_shape (shape_of s.graph n) ≡ true)
     (free : is_in_use s.graph n ≡ false) (active : status_of s t ≡ Some Active) (holding : same_mode (s.held t n) X ≡ true) where
-  -- who meets the rule on a child holds the node
+  -- a transaction that meets the rule on a child holds the node
   holds_parent : (u : ℕ) (q : NodeId) (m : Mode) → is_child s.graph n q ≡ true → intends s u q m ≡ true → is_at_least (s.held u n) IS ≡ true
   holds_parent u q m c rule = by (is_write m) (sym (ap (λ ps. intends_over (s.held u) ps m) (only_parent s.graph law.graph n movable free q c)) ∙ rule)
     where
@@ -134,7 +134,7 @@ module _ (s : State) (law : IsLawful s) (t : ℕ) (n : NodeId) (movable : is_mov
     unawaited = branch_unawaited;
   }
 
-  -- what goes
+  -- what is removed
   pub branch_gone : (g' : Graph) → g' ≡ without_branch s.graph n → AreGone s (goes_with s.graph n) g' n
   branch_gone g' is = subst (λ g. AreGone s (goes_with s.graph n) g n) (sym is) (record {
     away = branch_goes s.graph law.graph n movable free;
@@ -156,7 +156,7 @@ module _ (i : Inside) (sound : IsSound i) (ps : List NodeId) (f : NodeId) (bs : 
   abbrev before : State
   before = state_of (view_of i)
 
-  -- the graph was asked for the index
+  -- the graph was called for the index
   pub stands_indexed : (r : Result NodeId Refusal) → Refuses (reindex_refusal (graph_of i.locks.graph) ps f bs) r
       → IfOk r (λ n. IsIndexBorn (graph_of i.locks.graph) (graph_of v) n ps f bs) → OnErr r (v ≡ i.locks.graph) → MayStand i v i.locks.ledger
   stands_indexed r refuses made same =

@@ -12,7 +12,7 @@ use Rattle.gl_model.proofs.law.Takes.{settled-lawful, without_wait-lawful}
 use Rattle.gl_model.proofs.telling.Lists.{told_but_is, told_is}
 use Rattle.gl_model.proofs.telling.Ways.{gone_untold, is_by_test, nobody_told}
 
--- who is released has no slot
+-- a released transaction has no slot
 released_gone : (s : State) (t : ℕ) → status_of (released s t) t ≡ None
 released_gone s t = grind (arith, nat_tests, granted_at (stripped s t) (λ n. holds (members s n) t || is_waiting_at s t n), number_same t t refl)
 
@@ -24,7 +24,7 @@ module _ (i : Inside) (sound : IsSound i) where
   abbrev l : State
   l = state_at i.locks
 
-  -- a transaction ended, whatever it was doing: all others are told, and it is told nothing itself
+  -- a transaction ended in any status: all others are told, and it is told nothing itself
   pub told_ended : (t : ℕ) (locks : Locks) → state_at locks ≡ released l t → (first list : Told) → first ≡ []
       → TellsOthers t l (state_at locks) first list → list ≡ told s (state_of (view_of (record i { locks = locks })))
   told_ended t locks is first list none tells =
@@ -39,7 +39,7 @@ module _ (i : Inside) (sound : IsSound i) where
       gone : status_of after t ≡ None
       gone = ap (λ x. status_of x t) (state_released i sound t locks is) ∙ released_gone s t
 
-  -- a wait was taken back
+  -- a wait was cancelled
   module _ (t : ℕ) (n : NodeId) (waits : is_waiting_at s t n ≡ true) (locks : Locks) (is : state_at locks ≡ cancelled l t) where
     abbrev after : Inside
     after = record i { locks = locks }
@@ -81,7 +81,7 @@ module _ (i : Inside) (sound : IsSound i) where
       no_cycle = λ at. settled-no_cycle s.victims s (state_of (view_of now)) t sound.lawful state_settled (sound.no_cycle at);
     }
 
-    -- who is granted is told, and who is a victim
+    -- those that are granted are told, and so are victims
     pub told_settled : (first list : Told) → first ≡ [] → TellsAll l (state_at locks) first list → list ≡ told s (state_of (view_of now))
     told_settled first list none tells =
         told_is s (state_of (view_of now)) list sound.lawful i.locks.sound.few tells.by_slot

@@ -27,7 +27,7 @@ use Rattle.gl_model.proofs.queues.Waiters.{among_by_filter}
 
 -- What holds of a table's fields, in the words of what a contract sees.
 
--- in a lawful state who stands in a queue is who waits there
+-- in a lawful state a slot is in a queue exactly if it waits there
 pub waits_among : (s : State) → IsLawful s → (t : ℕ) (n : NodeId) → is_waiting_at s t n ≡ is_among_waiters t (s.queue n)
 waits_among s law t n = same_bool (is_among_waiters t (s.queue n)) (is_waiting_at s t n) (law.waits_are t n)
     (λ h. let st = waiting_is (status_of s t) n h in among_by_filter t (t, st.0) [] (s.queue n) (law.one_wait t n st.0 st.1))
@@ -76,7 +76,7 @@ lists_once (l ∷ ls) (suc t) es e = lists_once ls t es e
 pub stand_once : (i : Inside) → IsSound i → AreDistinct i.locks.ledger.headers.entries → StandOnce (view_of i)
 stand_once i sound unique = record { headers = unique; lists = lists_once i.locks.ledger.lists.items }
 
--- A table in which nothing stands.
+-- A table without contents.
 
 length-replicate : (k : ℕ) → length (replicate {A = Option Seat} k None) ≡ k
 length-replicate zero = refl
@@ -143,7 +143,7 @@ module _ (i : Inside) (sound : IsSound i) (v : View) where
     count = λ u p. i.locks.count u p ∙ sym (suits.counts u p);
   })
 
-  -- who is held by somebody lives
+  -- what a slot holds lives
   pub held-lives : (u : ℕ) (c : NodeId) → holds (members before c) u ≡ true → is_live before.graph c ≡ true
   held-lives u c h = (sound.lawful.grants_live u c h).1
 
@@ -166,7 +166,7 @@ module _ (i : Inside) (sound : IsSound i) (v : View) where
       → OnErr result (v ≡ i.locks.graph) → ((n : NodeId) → refusal ≡ None → Made n → Grows (graph_of i.locks.graph) (graph_of v)) → MayStand i v i.locks.ledger
   called refusal result Made refuses made same grows = suited-call refusal result Made refuses made same (λ n free it. grown-suits (grows n free it))
 
--- A transaction takes the lowest free seat.
+-- A transaction enters the lowest free slot.
 
 -- a search among the places of a list is one among its elements
 find-places : {X : Type 0} (f : X → Bool) (p : ℕ → Bool) (xs : List X) (k : ℕ) → ((i : ℕ) (x : X) → slice_get xs i ≡ Some x → p (k + i) ≡ f x)
@@ -187,7 +187,7 @@ find-places f p (x ∷ xs) k h =
         ≡ cond (nat_lt (cond (not b) (1 + q) 0) (suc (length xs))) (Some (k + cond (not b) (1 + q) 0)) None
     by b q h1 = grind (arith, nat_tests)
 
--- all pass where none is found that does not
+-- all pass if none is found that does not
 all-by_find : {X : Type 0} (p : X → Bool) (xs : List X) → list_all p xs ≡ is_none (find (λ x. not (p x)) xs)
 all-by_find p [] = refl
 all-by_find p (x ∷ xs) = grind (arith, nat_tests, p x, all-by_find p xs)
@@ -200,7 +200,7 @@ none-free : (o : Option Seat) → is_free o ≡ true → is_some (txn_in (Some o
 none-free None e = refl
 none-free (Some x) e = cc
 
--- the lowest free seat is that of the lowest free slot
+-- the lowest free entry is that of the lowest free slot
 pub found-slot : (v : TableView) (o : Option ℕ) → o ≡ position is_free v.seats → free_slot (state_of v) ≡ o
 found-slot v o is =
     find-places is_free (λ u. is_none (txns_of v.seats u)) v.seats 0 free_at
@@ -212,7 +212,7 @@ found-slot v o is =
     free_at : (i : ℕ) (x : Option Seat) → slice_get v.seats i ≡ Some x → is_none (txns_of v.seats (0 + i)) ≡ is_free x
     free_at i x e = ap (λ k. is_none (txns_of v.seats k)) (from_0 i) ∙ ap (λ o. is_none (txn_in o)) e ∙ free-none x
 
--- a transaction may begin where a slot is free and an age is left
+-- a transaction may begin if a slot is free and an age is left
 pub begin-refusal : (first : State) (o : Option ℕ) → (first.begins ≡ max_count → ⊥) → free_slot first ≡ o
     → first_refusal (begin_tests first) ≡ where_true (is_none o) no.TooManyTxns
 begin-refusal first o left is =
@@ -255,7 +255,7 @@ module _ (i : Inside) (sound : IsSound i) (t since : ℕ) (at : Some t ≡ posit
     most = seats-same z;
   }
 
-  -- who waits was there before
+  -- each waiter was there before
   waited : (u : ℕ) → is_wait (status_in ((begun_since first t since).txns u)) ≡ true → is_wait (status_in (first.txns u)) ≡ true
   waited u = grind (arith, nat_tests)
 

@@ -19,7 +19,7 @@ use Rattle.gl_model.proofs.law.Lock.{granted-lawful, granted-no_cycle, locks-law
 use Rattle.gl_model.proofs.telling.Fronts.{enters-most}
 use Rattle.gl_model.proofs.telling.Lists.{told_but_same, told_nothing}
 
--- The tests of an ask, and what a grant makes of a table.
+-- The tests of a request, and what a grant makes of a table.
 
 module _ (i : Inside) (v : TableView) (view : view_of i ≡ v) (t : TxnId) (n : NodeId) (m : Mode) where
   -- the locks meet the tests of the table
@@ -31,7 +31,7 @@ pub test_refused : (o : Option Refusal) (r : Refusal) → Err r ≡ verdict o �
 test_refused None r h = absurd (cc)
 test_refused (Some x) r h = let same : r ≡ x = cc in ap Some (sym same)
 
--- where no test refuses, a value is no refusal
+-- if no test refuses, a value is no refusal
 pub unrefused : {T : Type 0} (o : Option Refusal) (x : T) → o ≡ None → Refuses o (Ok x)
 unrefused None x h = tt
 unrefused (Some r) x h = absurd (cc)
@@ -45,7 +45,7 @@ module _ (s : State) (t : TxnId) (n : NodeId) (m : Mode) where
   pub try_refused : (r : Refusal) → first_refusal (lock_tests s t n m) ≡ Some r → first_refusal (try_tests s t n m) ≡ Some r
   try_refused r h = refused_first (lock_tests s t n m) (would_block s t.slot n m ∷ []) r h
 
-  -- and so does an ask that would wait
+  -- and so does a request that would wait
   pub try_decides : first_refusal (lock_tests s t n m) ≡ None → (b : Bool) → enters_at s t.slot n m ≡ b
       → first_refusal (try_tests s t n m) ≡ (if b then None else Some no.WouldBlock)
   try_decides h b e = passed_then (lock_tests s t n m) (would_block s t.slot n m ∷ []) h ∙ blocked s t.slot n m b e
@@ -64,7 +64,7 @@ module _ (i : Inside) (sound : IsSound i) (t : TxnId) (n : NodeId) (m : Mode) wh
   pub same_enters : is_granted_at i.locks.ledger.headers.entries t.slot n m ≡ enters_at s t.slot n m
   same_enters = sym (enters-most l i.locks.orderly i.locks.sound.few t.slot n (wanted l t.slot n m))
 
-  -- where nothing stands against a lock it can be asked for
+  -- if no test refuses a lock, it can be requested
   pub may_ask : MayLock s t n m → MayAct i.locks.graph i.locks.ledger t.slot
   may_ask may = may_act i.locks.graph i.locks.ledger (as_it_was i sound).law t.slot may.active
 
@@ -170,7 +170,7 @@ module _ (i : Inside) (sound : IsSound i) (t : TxnId) (n : NodeId) (m : Mode) (m
   abbrev alone : State
   alone = state_at i.locks
 
-  -- the asker waits
+  -- the requester waits
   module _ (ledger : Ledger) (is : state_in i.locks.graph ledger ≡ enqueued alone t.slot n (wanted alone t.slot n m)) where
     abbrev waiting : State
     waiting = state_in i.locks.graph ledger
@@ -183,7 +183,7 @@ module _ (i : Inside) (sound : IsSound i) (t : TxnId) (n : NodeId) (m : Mode) (m
       count = exact.count;
     }
 
-    -- and was settled, where that is the way of detection
+    -- and was settled, if that is the detection
     module _ (left : code.Locks) (kept : Deadlock) (settles : WaitSettles i.detect i.victims waiting t.slot (state_at left)) where
       abbrev waited : Inside
       waited = record i { locks = left; deadlock = kept }
@@ -210,7 +210,7 @@ module _ (i : Inside) (sound : IsSound i) (t : TxnId) (n : NodeId) (m : Mode) (m
         no_cycle = λ at. locks-no_cycle before (state_of (view_of waited)) at sound.lawful t n m may state_locked (sound.no_cycle at);
       }
 
-      -- the asker's own wait is told to nobody
+      -- the requester's own wait is told to nobody
       pub told_locked : (list : Told) → list ≡ told_but t.slot waiting (state_at left) → list ≡ told_but t.slot before (state_of (view_of waited))
       told_locked list told =
           told ∙ ap (λ (x : State). told_but t.slot x (state_of (view_of waited))) is
@@ -219,7 +219,7 @@ module _ (i : Inside) (sound : IsSound i) (t : TxnId) (n : NodeId) (m : Mode) (m
           others : {A : Type 0} (b : Bool) (x y : A) → b ≡ false → (if b then x else y) ≡ y
           others b x y h1 = grind (arith, nat_tests)
 
--- whatever an ask came to, the locks keep their law
+-- after any outcome of a request, the locks keep their law
 pub law_asked : (i : Inside) (sound : IsSound i) (t : TxnId) (n : NodeId) (m : Mode) → MayLock (state_of (view_of i)) t n m → (ledger : Ledger)
     (r : Result Asked Refusal)
     → IfOk r (λ asked. HasAsked (state_at i.locks) (state_in i.locks.graph ledger) t.slot n m asked)
@@ -229,7 +229,7 @@ law_asked i sound t n m may ledger (Ok a) asked err exact =
     (λ e. law_waiting i sound t n m may e ledger (asked.waits e) exact)
 law_asked i sound t n m may ledger (Err r) asked err exact = (stands_kept i sound t n m ledger err exact).law
 
--- what is refused is so whatever it would have answered
+-- a refusal is one for any type of answer
 pub refuses_err : (A B : Type 0) (o : Option Refusal) (r : Refusal) → Refuses {T = A} o (Err r) → Refuses {T = B} o (Err r)
 refuses_err A B None r h = h
 refuses_err A B (Some x) r h = let same : r ≡ x = cc in ap Err same

@@ -28,7 +28,7 @@ count_one : (t k n : ℕ) → k ≤ t → t < k + n → count_by (λ u. t == u) 
 count_one t k zero le lt = absurd (omega arith)
 count_one t k (suc n) le lt = grind (arith, nat_tests, count_cons (λ u. t == u) k (range_with_len (k + 1) n), count_past t (k + 1) n, count_one t (k + 1) n)
 
--- what passes one of two tests, where nothing passes both
+-- what passes one of two tests, if nothing passes both
 count_either : (f g : ℕ → Bool) (xs : List ℕ) → ((u : ℕ) → f u ≡ true → g u ≡ false) → count_by (λ u. f u || g u) xs ≡ count_by f xs + count_by g xs
 count_either f g [] apart = refl
 count_either f g (x ∷ xs) apart = grind (
@@ -41,7 +41,7 @@ count_either f g (x ∷ xs) apart = grind (
   apart x,
 )
 
--- who waits in a queue in which no slot stands twice
+-- the waiters of a queue in which no slot is twice
 count_among : (most : ℕ) (q : List Waiter) → is_distinct q ≡ true → ((u : ℕ) → is_among_waiters u q ≡ true → u < most)
     → count_by (λ u. is_among_waiters u q) (range_with_len 0 most) ≡ length q
 count_among most [] distinct below = none (range_with_len 0 most)

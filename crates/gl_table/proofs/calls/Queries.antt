@@ -1,4 +1,4 @@
--- What is asked of a table: its lists and headers say what its state says. For queries and tests.
+-- Queries of a table: its lists and headers say what its state says. For queries and tests.
 use Rattle.gl_table.proofs.Words.{[], ◌&&◌, ◌+◌, ◌<◌, ◌||◌, ◌∙◌, ◌∷◌, ◌≡◌, ◌≤◌, add-one, answered, ap, ap₂, AreHeaders, AreRowsOf, arith, board_of, Bool, both}
 use Rattle.gl_table.proofs.Words.{by_list, child_held, clash, cond, count_by, drop, drop-cons, Entry, entry_at, Err, false, find, first_not_ix, first_of_all}
 use Rattle.gl_table.proofs.Words.{first_refusal, get_or, Graph, group_of, group_of-limit, header_at, header_or_new, HeaderState, held_by, held_child}
@@ -20,14 +20,14 @@ use Rattle.gl_modes.specs.declared.refusal.Refusal.TheVariants as no
 use Rattle.gl_model.proofs.law.Keeps.{lawful-within}
 use Rattle.gl_model.proofs.law.Records.{free-idle, idle-free}
 
--- who lives has a name
+-- a living transaction has a name
 pub named : (age : ℕ) (o : Option Txn) → live_by age o ≡ true → is_some o ≡ true
 named age None h = absurd (cc)
 named age (Some x) h = refl
 
 -- What the lists say of held children, as the tests of an unlock.
 
--- nothing is found where nothing is counted, and the other way round
+-- nothing is found if nothing is counted, and conversely
 pub none_counted : (f : NodeId → Bool) (ns : List NodeId) → count_by f ns ≡ 0 → find f ns ≡ None
 none_counted f [] h = refl
 none_counted f (n ∷ ns) h = grind (arith, nat_tests, f n, sym (sum_by-cons (λ x. cond (f x) 1 0) n ns) ∙ h, none_counted f ns)
@@ -37,7 +37,7 @@ none_found_counted f [] h = refl
 none_found_counted f (n ∷ ns) h = grind (arith, nat_tests, f n, none_found_counted f ns)
 
 module _ (s : State) (t : ℕ) (n : NodeId) where
-  -- how many children of the node are held, where it is
+  -- how many children of the node are held, if it is
   abbrev pub children_in : Option ℕ
   children_in = if holds (members s n) t then Some (held_children s t n) else None
 
@@ -96,7 +96,7 @@ past_end [] t h = refl
 past_end (l ∷ ls) zero h = absurd (omega arith)
 past_end (l ∷ ls) (suc t) h = past_end ls t (omega arith)
 
--- What is asked of a table: what its lists and headers say is what its state says.
+-- Queries of a table: what its lists and headers say is what its state says.
 
 -- a node without header is idle, and no other is
 pub idle-seen : (i : Inside) → IsSound i → AreHeaders i.locks.ledger.headers.entries → (n : NodeId) (o : Option HeaderState)
@@ -113,7 +113,7 @@ idle-seen i sound headers n (Some h) is = sym (not_true (is_idle (state_of (view
         (λ u low high. ap (λ m. not (not (same_mode m NL))) (ap (λ o. members_of (header_or_new o) u) is ∙ free.0 u)))
         (ap is_empty (ap (λ o. (header_or_new o).queue) is ∙ free.1))) (headers.used n h (sym is))
 
--- where no test refuses, a call answers the value
+-- if no test refuses, a call answers the value
 pub answers : {A : Type 0} (o : Option Refusal) (x y : A) → o ≡ None → x ≡ y → Ok x ≡ answered o y
 answers o x y none same = ap Ok same ∙ ap (λ p. answered p y) (sym none)
 
@@ -146,7 +146,7 @@ module _ (A : Type 0) {B : Type 0} (o : Option Refusal) (r : Refusal) (result : 
       by None h = absurd (no h)
       by (Some x) h = cc
 
--- and so it is of a lock, whatever it would have answered
+-- and the same for a lock, for any type of answer
 module _ (s : State) (t : TxnId) (n : NodeId) (m : Mode) where
   pub lock_refused_as : (A B : Type 0) (r : Refusal) (result : Result B Refusal) → result ≡ Err r → RefusesLock {A = A} s t n m (Err r)
       → RefusesLock {A = B} s t n m result
@@ -166,7 +166,7 @@ module _ (i : Inside) (sound : IsSound i) (v : TableView) (view : view_of i ≡ 
       sym (group_of-limit (length i.locks.ledger.seats.items) (members_at i.locks.ledger.headers.entries n) i.locks.sound.few
       (lawful-within (state_of (view_of i)) sound.lawful n)) ∙ ap (λ w. group_of (state_of w).most (members (state_of w) n)) view
 
-  -- a board is made of who lives, holds and waits alone
+  -- a snapshot is made of transactions, grants and queues alone
   pub board-seen : (epoch : ℕ) → board_of (shown i.locks.ledger.headers.entries i.locks.ledger.seats.items epoch) ≡ board_of (record
       (state_of v) { accepted = epoch })
   board-seen epoch = λ z. board_of (record (state_of v) {

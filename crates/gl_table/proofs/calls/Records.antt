@@ -1,4 +1,4 @@
--- Records come and go, and children are shed: what it makes of a table. For those calls.
+-- Records are added and removed, and children are shed: what is left of a table. For those calls.
 use Rattle.gl_slots.specs.Limit.{most_slots}
 use Rattle.gl_table.proofs.Words.{[], ◌&&◌, ◌+◌, ◌-◌, ◌==◌, ◌||◌, ◌∙◌, ◌∷◌, ◌≡◌, ◌≤◌, Active, Agrees, and_both, ap, are_compatible, AreExact, arith, Bool}
 use Rattle.gl_table.proofs.Words.{children_that, clash, cond, count_by, count_cons, CountsHeld, covered_children, false, first_not_ix, granted_at, Graph}
@@ -35,22 +35,22 @@ use Rattle.gl_model.proofs.telling.Fronts.{in_no_queue}
 use Rattle.gl_model.proofs.telling.Lists.{told_is}
 use Rattle.gl_model.proofs.telling.Ways.{active_untold, nobody_told}
 
--- Records of a table come and go: what holds of the fields still does.
+-- Records of a table are added and removed: what holds of the fields still does.
 
 beside_x : (m : Mode) → are_compatible X m ≡ true → m ≡ NL
 beside_x m h = search rules
 
--- beside X nobody holds the node
+-- if a transaction holds X, no other holds the node
 pub held_alone : (s : State) → IsLawful s → (t : ℕ) (n : NodeId) → same_mode (s.held t n) X ≡ true → (u : ℕ) → (u == t) ≡ false → s.held u n ≡ NL
 held_alone s law t n x u e =
     beside_x (s.held u n) (ap (λ m. are_compatible m (s.held u n)) (sym (same_mode-equal (s.held t n) X x))
     ∙ law.compatible t u n (λ is. other_number u t e (sym is)))
 
--- the node that was taken out names none
+-- the removed node names none
 out_of_graph : (g : Graph) (n : NodeId) → is_live (without_node g n) n ≡ false
 out_of_graph g n = ap (λ b. is_some (with_key n.key (if b then None else g.at n.birth))) (number_same n.birth n.birth refl)
 
--- a record goes alone
+-- a record is removed alone
 pub record_gone : (s : State) (law : IsLawful s) (r : NodeId) → is_record_shape (shape_of s.graph r) ≡ true → (g' : Graph) → g' ≡ without_node s.graph r
     → AreGone s (λ q. same_node q r) g' r
 record_gone s law r rec g' is = subst (λ g. AreGone s (λ q. same_node q r) g r) (sym is) (record {
@@ -96,7 +96,7 @@ module _ (i : Inside) (sound : IsSound i) (f : NodeId) (keys : List ℕ) (free :
   roomy_record : IsRoomyRecord (graph_of i.locks.graph) f keys
   roomy_record = record_unrefused (graph_of i.locks.graph) f keys free
 
-  -- the graph was asked for the record
+  -- the graph was called for the record
   pub stands_grown : (r : Result NodeId Refusal) → Refuses (record_refusal (graph_of i.locks.graph) f keys) r
       → IfOk r (λ n. IsBorn (graph_of i.locks.graph) (graph_of v) n (Rec keys) (record_parents (graph_of i.locks.graph) f keys))
       → OnErr r (v ≡ i.locks.graph) → MayStand i v i.locks.ledger
@@ -126,7 +126,7 @@ module _ (i : Inside) (sound : IsSound i) (f : NodeId) (keys : List ℕ) (free :
         no_cycle = λ at. subst HasNoCycle (sym state_placed) (granted-no_cycle (with_graph before (graph_of v)) t n X active (sound.no_cycle at));
       }) exact
 
--- A record that nobody holds comes or goes: what holds of a table's fields still does.
+-- A record that nobody holds is added or removed: what holds of a table's fields still does.
 
 module _ (i : Inside) (sound : IsSound i) (v : View) where
   abbrev standing : State
@@ -159,7 +159,7 @@ count_parts f g h (x ∷ xs) parts =
     let a = count_cons f x xs in let b = count_cons g x xs in let c = count_cons h x xs in let p = parts x in
     omega arith
 
--- who reads a node holds it
+-- a reader of a node holds it
 reads_held : (m : Mode) → is_at_least m S ≡ true → not (same_mode m NL) ≡ true
 reads_held m h = search rules
 

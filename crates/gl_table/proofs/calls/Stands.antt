@@ -1,4 +1,4 @@
--- When a ledger over a graph may stand in a table. For the calls that write either.
+-- When a ledger over a graph may be that of a table. For the calls that write either.
 use Rattle.gl_table.proofs.Words.{◌≡◌, Active, Agrees, AreExact, AreSound, CountsHeld, Detect, IsLawful, IsOrderly, IsSafe, IsSound, MayAct, Some, State}
 use Rattle.gl_table.proofs.Words.{state_in, status_of, Victims, View, ℕ}
 use Rattle.gl_model.proofs.law.Orderly.{lawful_orderly}
@@ -9,7 +9,7 @@ use Rattle.gl_table.specs.declared.table.Table.TheInside.{Inside}
 abbrev pub with_locks : Inside → State → State
 with_locks i x = record x { detect = i.detect; victims = i.victims; begins = i.begins }
 
--- the locks are in order where the table is lawful, whatever its way of detection, its choice of victims and its count of begins
+-- the locks are in order if the table is lawful, for any detection, choice of victims and count of begins
 pub orderly_over : (x : State) (d : Detect) (v : Victims) (b : ℕ) → IsLawful (record x { detect = d; victims = v; begins = b }) → IsOrderly x
 orderly_over x d v b law =
     let o = lawful_orderly (record x { detect = d; victims = v; begins = b }) law in
@@ -22,7 +22,7 @@ orderly_over x d v b law =
       below = o.below;
     }
 
--- what the locks are to keep: all that their struct says of them
+-- what the locks must keep: all that their struct says of them
 abbrev pub IsLaw : View → Ledger → Type 0
 IsLaw v l = record {
   orderly : IsOrderly (state_in v l);
@@ -31,7 +31,7 @@ IsLaw v l = record {
   count : (u : ℕ) → CountsHeld (state_in v l) l.lists.items u;
 }
 
--- the ledger may stand over the graph in this table, in place of its own
+-- the ledger may be over the graph in this table, in place of its own
 pub record MayStand (i : Inside) (v : View) (l : Ledger) : Type 0 where
   pub safe : IsSafe (with_locks i (state_in v l))
   pub law : IsLaw v l
@@ -42,7 +42,7 @@ stands i v l safe exact = record {
   law = record { orderly = orderly_over (state_in v l) i.detect i.victims i.begins safe.lawful; sound = exact.sound; agree = exact.agree; count = exact.count };
 }
 
--- where somebody is active there, it may act
+-- if a slot is active there, it may act
 pub may_act : (v : View) (l : Ledger) → IsLaw v l → (t : ℕ) → status_of (state_in v l) t ≡ Some Active → MayAct v l t
 may_act v l law t active = record {
   exact = record { sound = law.sound; agree = law.agree; count = law.count };

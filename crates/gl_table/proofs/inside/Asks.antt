@@ -1,4 +1,4 @@
--- What an ask that is granted leaves, also of a node that nobody held, and that a node has its key alone. For asks and new records.
+-- What a request that is granted leaves, also of a node that nobody held, and that a node has its key alone. For requests and new records.
 use Rattle.gl_slots.specs.Limit.{most_slots}
 use Rattle.gl_table.proofs.Words.{[], ◌&&◌, ◌+◌, ◌<◌, ◌==◌, ◌^◌, ◌||◌, ◌∙◌, ◌∷◌, ◌≡◌, ◌≢◌, ◌≤◌, Active, Agrees, and-false, ap, ap₂, AreHeaders, AreSound}
 use Rattle.gl_table.proofs.Words.{arith, Asked, Bool, cases_of, children_that, clash, count_by, count_by-le-length, count_of, counted_by, CountsHeld, enters}
@@ -20,7 +20,7 @@ use Rattle.gl_model.proofs.telling.Fronts.{enters-most}
 use Rattle.gl_model.proofs.queues.Waiters.{if-false, if-true}
 use Rattle.gl_header.proofs.Unused.{unused-false}
 
--- What is known of an active slot that asks for a node, and of its list.
+-- What is known of an active slot that requests a node, and of its list.
 
 -- room was made in the list of the slot, if it was wanted; all says what it said
 pub record HasMadeRoom (l l' : Ledger) (t : ℕ) (wanted : Bool) : Type 0 where
@@ -29,7 +29,7 @@ pub record HasMadeRoom (l l' : Ledger) (t : ℕ) (wanted : Bool) : Type 0 where
   pub lists : KeepsLists l.lists.items l'.lists.items
   pub room : wanted ≡ true → HasRoomAt l'.lists.items t
 
--- headers and seats alone make the state
+-- headers and transaction entries alone make the state
 pub state-same : (g : Graph) (l l' : Ledger) → l'.headers.entries ≡ l.headers.entries → l'.seats ≡ l.seats → state_on g l' ≡ state_on g l
 state-same g l l' headers seats = λ i. record (state_on g (record l { seats = seats i })) { held = held_of (headers i); queue = queue_of (headers i) }
 
@@ -132,7 +132,7 @@ is_ready g l l' t n m held now may enters held_is made = record {
     may_now : MayAct g l' t
     may_now = room-may_ask g l l' t (not (held && now)) made may
 
--- what the header of a node says of an ask is what the state says
+-- what the header of a node says of a request is what the state says
 pub says_is : (g : View) (l : Ledger) (t : ℕ) (n : NodeId) (m : Mode) → MayAct g l t → is_granted_at l.headers.entries t n m ≡ enters_at (state_in g l) t n m
 says_is g l t n m may = sym (enters-most (state_in g l) may.orderly may.exact.sound.few t n (wanted (state_in g l) t n m))
 
@@ -154,16 +154,16 @@ module _ {g : View} {l : Ledger} (l' : Ledger) {t : ℕ} (may : MayAct g l t) (r
   pub roomy_says : (n : NodeId) (m : Mode) → is_granted_at l'.headers.entries t n m ≡ enters_at (state_in g l) t n m
   roomy_says n m = says_is g l' t n m roomy_may ∙ ap (λ s. enters_at s t n m) roomy_same
 
-  -- so the ask can be carried out, whatever it comes to
+  -- so the request can be carried out, with any outcome
   pub roomy_ready : (n : NodeId) (m : Mode) (held now : Bool) → held ≡ holds (members (state_in g l) n) t → enters_at (state_in g l) t n m ≡ now
       → ((held && is_granted_at l.headers.entries t n m) ≡ false → HasRoomAt l'.lists.items t) → IsReady g l l' t n m held now
   roomy_ready n m held now is at room =
       is_ready g l l' t n m held now may at is (only_room (not (held && now))
       (λ e. room (ap (λ b. held && b) (says_is g l t n m may ∙ at) ∙ not-true (held && now) e)))
 
--- What an ask that is granted leaves.
+-- What a request that is granted leaves.
 
--- other members of one node, of whom one alone is changed, are one grant
+-- other members of one node, of which one alone is changed, are one grant
 pub with_members-grant : (held : ℕ → NodeId → Mode) (t : ℕ) (n : NodeId) (m : Mode)
     → with_members held n (with_mode (λ u. held u n) t m) ≡ (λ u q. if (u == t) && same_node q n then m else held u q)
 with_members-grant held t n m = fun_ext (λ u. fun_ext (λ q. split (same_node q n)
@@ -207,7 +207,7 @@ module _ (s : State) (t : ℕ) (n : NodeId) (m : Mode) (lock : m ≢ NL) (u : �
   holding-slot : (u == t) ≡ false → (q : NodeId) → holding after q ≡ holding s q
   holding-slot e q = ap (λ b. not (same_mode (if b && same_node q n then m else s.held u q) NL)) e
 
-  -- where it holds the same nodes, it holds the same children
+  -- if it holds the same nodes, it holds the same children
   children-same : ((q : NodeId) → holding after q ≡ holding s q) → (p : NodeId) → held_children s u p + 0 ≡ held_children after u p
   children-same alike p = let none : held_children s u p + 0 ≡ held_children s u p = omega arith in
       none ∙ ap (λ f. children_that s.graph f p) (fun_ext (λ q. sym (alike q)))
@@ -237,20 +237,20 @@ pub grant-counts : (s : State) (ls ls' : List LockList) (t : ℕ) (n : NodeId) (
     → CountsGrant s ls ls' t n → (u : ℕ) → CountsHeld s ls u → CountsHeld (with_grant s t n m) ls' u
 grant-counts s ls ls' t n m law live lock more u counts p = grind (arith, nat_tests, more u p, counts p, children-new s t n m lock u law live p)
 
--- the answer to an ask that enters
+-- the answer to a request that is granted at once
 pub answer-granted : (enters : Bool) (a : Asked) (m w : Mode) → enters ≡ true → a ≡ (if enters then asked.Granted m else asked.Waiting) → a ≡ asked.Granted w
     → w ≡ m
 answer-granted enters a m w now answer is = let e : asked.Granted w ≡ asked.Granted m = sym is ∙ answer
     ∙ ap (λ k. if k then asked.Granted m else asked.Waiting) now in cc
 
--- an ask that was granted enters, and one that waits does not
+-- a request that was granted enters, and one that waits does not
 pub answer-enters : (enters : Bool) (a : Asked) (m w : Mode) → a ≡ (if enters then asked.Granted m else asked.Waiting) → a ≡ asked.Granted w → enters ≡ true
 answer-enters enters a m w h1 h2 = grind (arith, nat_tests)
 
 pub answer-waits : (enters : Bool) (a : Asked) (m : Mode) → a ≡ (if enters then asked.Granted m else asked.Waiting) → a ≡ asked.Waiting → enters ≡ false
 answer-waits enters a m h1 h2 = grind (arith, nat_tests)
 
--- what an ask for m leaves, granted as w
+-- what a request for m leaves, granted as w
 pub record IsGranted (g : View) (l l' : Ledger) (t : ℕ) (n : NodeId) (m w : Mode) : Type 0 where
   pub sound : AreSound l'
   pub mode : w ≡ wanted (state_in g l) t n m
@@ -258,7 +258,7 @@ pub record IsGranted (g : View) (l l' : Ledger) (t : ℕ) (n : NodeId) (m w : Mo
   pub agree : (u : ℕ) → Agrees (state_in g l') l'.lists.items u
   pub count : (u : ℕ) → CountsHeld (state_in g l') l'.lists.items u
 
--- room was made, the headers were asked, and the list was written
+-- room was made, the headers were called, and the list was written
 module _ {g : View} {l r : Ledger} (l' : Ledger) {t : ℕ} {n : NodeId} {m : Mode} {old : Bool} (ready : IsReady g l r t n m old true) (a : Asked)
     (w : Mode) where
   abbrev want : Mode
@@ -298,14 +298,14 @@ module _ {g : View} {l r : Ledger} (l' : Ledger) {t : ℕ} {n : NodeId} {m : Mod
         queue = (changed ready.enters).1 i;
       }
 
--- A node that nobody holds and nobody waits for comes to be held by one slot.
+-- A node that nobody holds or waits for becomes held by one slot.
 
 module _ (g : View) (l : Ledger) (t : ℕ) (n : NodeId) (m : Mode) (may : MayAct g l t) (fresh : IsFresh (state_in g l) n)
     (room : HasRoomAt l.lists.items t) where
   abbrev wanted_new : Mode
   wanted_new = supremum (held_of l.headers.entries t n) m
 
-  -- an ask for the node would be granted at once
+  -- a request for the node would be granted at once
   ready : IsReady g l l t n m false true
   ready = record {
     may = may;
@@ -327,9 +327,9 @@ module _ (g : View) (l : Ledger) (t : ℕ) (n : NodeId) (m : Mode) (may : MayAct
         queue ∙ ap (with_waiters (queue_of l.headers.entries) n) one.queue ∙ with_waiters-same (queue_of l.headers.entries) n [] (sym fresh.unawaited),
       )) seats has counts
 
--- Who has a header is held or waited for, and so lives: of each key one node at most has a header. For asks and new records.
+-- A node with a header is held or waited for, and so lives: of each key at most one node has a header. For requests and new records.
 
--- in a queue that is not empty somebody waits
+-- a queue that is not empty has a waiter
 first_waiter : (ws : List Waiter) → is_empty ws ≡ false → (t : ℕ) × (is_among_waiters t ws ≡ true)
 first_waiter [] e = clash refl e
 first_waiter (w ∷ ws) e = (w.0, or_left (w.0 == w.0) (list_any (is_waiter w.0) ws) (number_same w.0 w.0 refl))
@@ -350,7 +350,7 @@ module _ {g : Graph} (l : Ledger) (all : AreHeaders l.headers.entries) (orderly 
         (λ h has. clash (same_node-from_equal q n (law.keys_differ q n (header_lives q h has) live same)) other);
   }
 
-  -- and where nobody holds or awaits it, the key is free
+  -- and if nobody holds or waits for it, the key is free
   pub free_key : (n : NodeId) → IsFresh (state_on g l) n → IsFreeKey hs n.key
   free_key n fresh = record {
     none = λ q same. cases_of (header_at hs q) (λ none. none)

@@ -1,4 +1,4 @@
--- A transaction goes back to a mark in the order of its list: what holds after each node that it releases. For that call.
+-- A transaction rolls back to a mark in the order of its list: what holds after each node that it releases. For that call.
 use Rattle.gl_table.proofs.Words.{[], ◌&&◌, ◌++◌, ◌+◌, ◌==◌, ◌||◌, ◌∙◌, ◌∷◌, ◌≡◌, ◌≤◌, Active, Agrees, any_counted, ap, arith, Bool, CanTell, clash, counted_by}
 use Rattle.gl_table.proofs.Words.{CountsHeld, false, front_at, held_children, holds, holds_child, is_among_waiters, is_child, is_wait, IsOrderly, LeavesPlace}
 use Rattle.gl_table.proofs.Words.{length, List, listed_by, LockList, members, nat_lt, nat_tests, NL, NodeId, nodes, nodes_by, not_true, notices_in, or-false}
@@ -22,19 +22,19 @@ module _ (s : State) (o : IsOrderly s) (t : ℕ) (active : status_of s t ≡ Som
       sym (or-false (holds (members s n) t)) ∙ ap (λ b. holds (members s n) t || b) (sym (in_no_queue s o t (ap is_wait active) n)) ∙ sym (agree.listed n)
       ∙ listed
 
-  -- where no child is counted, none is held
+  -- if no child is counted, none is held
   pub none_held : counted_by ls t n ≡ 0 → (held_children s t n ≡ 0) × (holds_child s t n ≡ false)
   none_held none = let no_child : held_children s t n ≡ 0 = sym (count n) ∙ none in
       (no_child, sym (any_counted (held_child_of n) (nodes s.graph)) ∙ ap (nat_lt 0) no_child)
 
-  -- and where some are, one is
+  -- and if some are, one is
   pub some_held : (counted_by ls t n == 0) ≡ false → holds_child s t n ≡ true
   some_held some = sym (any_counted (held_child_of n) (nodes s.graph)) ∙ positive (held_children s t n) (ap (λ k. k == 0) (sym (count n)) ∙ some)
     where
       positive : (k : ℕ) → (k == 0) ≡ false → nat_lt 0 k ≡ true
       positive k h = grind (arith, nat_tests)
 
--- a node that is released leaves its place in the list, whoever is granted it
+-- a node that is released leaves its place in the list, with any grants
 pub place_left : (s : State) → IsOrderly s → (t : ℕ) → status_of s t ≡ Some Active → (n : NodeId) → holds (members s n) t ≡ true
     → {ls mid : List LockList} → Agrees s ls t → WakesLists ls n (parents_of s.graph n) (front_at (with_grant s t n NL) n) mid
     → {order' : List NodeId} → (listed_by mid t n ≡ true → LeavesPlace n (nodes_by mid t) order') → LeavesPlace n (nodes_by ls t) order'
@@ -47,8 +47,7 @@ place_left s o t active n held {ls} {mid} agree wakes {order'} leaves =
     listed : listed_by mid t n ≡ true
     listed = wakes.listed t n ∙ agree.listed n ∙ ap (λ b. b || is_among_waiters t (s.queue n)) held
 
--- t went back from s, in which it had its nodes in this order, and has that one now: nodes were unlocked, none of those before the mark, and all others were
--- told
+-- t rolled back from s, with its nodes in this order, and now has that one: nodes were unlocked, none of those before the mark, and all others were told
 pub record IsGoingBack (s now : State) (t mark : ℕ) (order order' : List NodeId) (was told : Told) : Type 0 where
   pub active : status_of now t ≡ Some Active
   pub gone : List NodeId
@@ -74,7 +73,7 @@ back_begins s t mark order told active tell = record {
 }
 
 module _ {s now : State} {t mark : ℕ} {order order' : List NodeId} {was told : Told} (is : IsGoingBack s now t mark order order' was told) where
-  -- one node more was released, which stood no earlier than the mark
+  -- one more node was released, with a place not before the mark
   pub back_one : IsOrderly now → (n : NodeId) → holds (members now n) t ≡ true → holds_child now t n ≡ false → (at : ℕ) → mark ≤ at
       → slice_get order' at ≡ Some n → {order'' : List NodeId} → LeavesPlace n order' order'' → {told' : Told}
       → WakesTold now.txns n (front_at (with_grant now t n NL) n) told told' → IsGoingBack s (unlocked now t n) t mark order order'' was told'

@@ -1,4 +1,4 @@
--- The board of a moment, written slot by slot, and who is a victim. For boards and detection.
+-- The waits-for snapshot of a moment, written slot by slot, and which slot is a victim. For snapshots and detection.
 use Rattle.gl_slots.specs.Limit.{most_slots}
 use Rattle.gl_table.proofs.Words.{[], ⊎_elim, ◌&&◌, ◌<◌, ◌==◌, ◌||◌, ◌∙◌, ◌∷◌, ◌≡◌, ◌≢◌, ◌⊎◌, age_in, and-false, and-true, ap, are_compatible}
 use Rattle.gl_table.proofs.Words.{arith, blocks, Board, board_of, Bool, candidate-on_cycle, cases_eq, cases_lt, clash, cond, Entries}
@@ -15,9 +15,9 @@ use Rattle.gl_table.specs.inside.Seats.{lives_at}
 use Rattle.gl_model.proofs.law.Edges.{idle_no_step, step_is}
 use Rattle.gl_model.proofs.queues.Waiters.{ahead-first}
 
--- The board of a moment, written slot by slot.
+-- The snapshot of a moment, written slot by slot.
 
--- the slots of a set of which the lowest was taken out
+-- the slots of a set without the lowest
 
 -- the set is the other one without slot k
 abbrev pub IsWithout : Slots → ℕ → Slots → Type 0
@@ -44,7 +44,7 @@ empty_row n t =
 
 -- The ages.
 
--- the ages in the seats
+-- the ages in the entries
 abbrev pub age_at : List (Option Seat) → ℕ → ℕ
 age_at seats t = age_in (txns_of seats t)
 
@@ -128,7 +128,7 @@ rows-there edge left after k xs less some rows =
     (⊎_elim (λ right. right) (λ none. absurd (some (λ u. subst (λ (b : Bits). has_bit b u ≡ false) (sym none.1) (no_bits-none u)))) (rows k))
     (λ t. inl refl) rows
 
--- a row without slots is empty, also where it is right
+-- a row without slots is empty, also if it is right
 pub rows-unwritten : (edge : ℕ → ℕ → Bool) (left : Slots) (k : ℕ) (xs : List Bits) → HasNoBit (get_or xs k no_bits) → AreRowsBut edge left xs
     → get_or xs k no_bits ≡ no_bits
 rows-unwritten edge left k xs none rows = ⊎_elim
@@ -139,7 +139,7 @@ rows-unwritten edge left k xs none rows = ⊎_elim
 pub rows-read : (edge : ℕ → ℕ → Bool) (left : Slots) (xs : List Bits) → HasNoSlot left → AreRowsBut edge left xs → (t : ℕ) → IsRow edge xs t
 rows-read edge left xs empty rows t = ⊎_elim (λ right. right) (λ none. clash none.0 (empty t)) (rows t)
 
--- the row of a slot whose place in a queue is reached, where those passed are known
+-- the row of a slot whose place in a queue is reached, if those passed are known
 pub reached-row : (hs : Entries) (seats : List (Option Seat)) (node : NodeId) (h : HeaderState) (q : List Waiter) (t i : ℕ) (w : Mode) (passed r : Slots)
     (d : Waiter) → h ≡ header_or_new (header_at hs node) → q ≡ h.queue
     → status_in (txns_of seats t) ≡ Some (Waiting node w) → i < length q → (get_or q i d).0 ≡ t
@@ -151,7 +151,7 @@ reached-row hs seats node h q t i w passed r d is same st low at front out row u
     ∙ ap (λ x. is_ahead x t u) same) ∙ ap (λ (x : HeaderState). not (t == u) && (not (are_compatible w (members_of x u)) || is_ahead x.queue t u)) is
     ∙ sym (ap (λ o. not (t == u) && blocks (shown hs seats 0) t u o) st)
 
--- The board.
+-- The snapshot.
 
 ages-all : (age : ℕ → ℕ) (n : ℕ) (xs : List ℕ) → length xs ≡ n → ((u : ℕ) → get_or xs u 0 ≡ age u) → xs ≡ map age (range_with_len 0 n)
 ages-all age n xs size ages = fill_by_all age xs n 0 size (λ k low. ages k)
@@ -171,7 +171,7 @@ board-all hs seats epoch b at ages_len rows_len ages rows =
 
 -- The victim: what is read from the locks is what their state says.
 
--- who reaches a slot has a step
+-- a slot that reaches another has a step
 first_step : (edge : ℕ → ℕ → Bool) (a b : ℕ) → Reaches edge a b → (x : ℕ) × (edge a x ≡ true)
 first_step edge a b r = by r.0 r.1
   where
@@ -179,7 +179,7 @@ first_step edge a b r = by r.0 r.1
     by [] h = (b, h)
     by (x ∷ way) h = (x, h.0)
 
--- who is on a cycle waits
+-- a slot on a cycle waits
 pub cycle_waits : (s : State) (t v : ℕ) → IsOnCycleOf (waits_for s) t v → is_wait (status_of s v) ≡ true
 cycle_waits s t v on = let step = first_step (waits_for s) v t on.back in ap is_wait (step_is s v step.0 step.1).2.waits
 

@@ -1,4 +1,4 @@
--- The locks on a node that is in no use go, and those on its children, one by one: what is left. For nodes that are dropped.
+-- The locks on a node that is not in use are removed, and those on its children, one by one: what is left. For nodes that are dropped.
 use Rattle.gl_table.proofs.Words.{[], ◌&&◌, ◌++◌, ◌+◌, ◌<◌, ◌==◌, ◌||◌, ◌∙◌, ◌∷◌, ◌≡◌, ◌≤◌, Active, age_in, ap, ap₂, AreExact, arith, Bool, clash}
 use Rattle.gl_table.proofs.Words.{count_none, departed, false, fun_ext, get_or, held_children, holds, if◌then◌else◌, is_among_waiters, is_child, is_live}
 use Rattle.gl_table.proofs.Words.{is_some, IsBranchLeftTo, IsBySlot, IsLawfulGraph, IsLeftTo, IsOrderly, length, List, list_any, MayAct, members, Mode, NL}
@@ -32,7 +32,7 @@ among_item (y ∷ ys) q h =
     or_elim (same_node q y) (list_any (same_node q) ys) h (λ here. (zero, ap Some (sym (same_node-equal q y here))))
     (λ there. let it = among_item ys q there in (suc it.0, it.1))
 
--- where nobody holds a node or waits for it, nothing goes
+-- if nobody holds a node or waits for it, nothing is removed
 pub departed_nothing : (s : State) → IsOrderly s → (x : NodeId) → ((u : ℕ) → s.held u x ≡ NL) → s.queue x ≡ [] → departed s (λ q. same_node q x) s.graph ≡ s
 departed_nothing s o x unheld unawaited = λ i. record s {
   held = fun_ext (λ u. fun_ext (λ q. held_is u q)) i;
@@ -181,7 +181,7 @@ module _ {s : State} {t : ℕ} {n : NodeId} {xs : List NodeId} (may : MayClear s
           turn false true = refl
           turn false false = refl
 
-      -- its locks go
+      -- its locks are removed
       pub one_more : departed (before k) (λ q. same_node q x) s.graph ≡ before (k + 1)
       one_more = departed_twice s (λ q. list_any (same_node q) (take k xs)) (λ q. same_node q x)
           ∙ ap (λ (goes : NodeId → Bool). departed s goes s.graph) (fun_ext more)
@@ -220,7 +220,7 @@ pub record IsClearing (g : View) (s : State) (xs : List NodeId) (k : ℕ) (l : L
   pub by_slot : IsBySlot list
   pub same : (u : ℕ) → notices_in list u ≡ notices_in first u
 
--- in the end those who waited for the node are told
+-- at the end the node's waiters are told
 pub told_after : (s now : State) (n : NodeId) (first mid list : Told) → now.queue n ≡ s.queue n → ((u : ℕ) → age_in (now.txns u) ≡ age_in (s.txns u))
     → ((u : ℕ) → notices_in mid u ≡ notices_in first u) → TellsGone now n mid list → TellsGone s n first list
 told_after s now n first mid list queue ages same tells = record {
@@ -242,7 +242,7 @@ take_all [] (suc k) h = refl
 take_all (x ∷ xs) zero h = absurd (omega arith)
 take_all (x ∷ xs) (suc k) h = ap (λ ys. x ∷ ys) (take_all xs k (omega arith))
 
--- where nothing goes all stays
+-- if nothing is removed all stays
 pub departed_none : (s : State) → departed s (λ q. false) s.graph ≡ s
 departed_none s = λ i. record s { txns = fun_ext (λ u. freed_never (s.txns u)) i }
   where

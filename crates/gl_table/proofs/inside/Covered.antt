@@ -1,4 +1,4 @@
--- An ask for no more than is held: it is granted at once, and changes nothing. For asks.
+-- A request for no more than is held: it is granted at once, and changes nothing. For requests.
 use Rattle.gl_table.proofs.Words.{AreHeaders, and_both, ap, ap₂, are_compatible, both, clash, enters_at, fun_ext, granted, header_at, ◌&&◌, ◌==◌}
 use Rattle.gl_table.proofs.Words.{◌∙◌, ◌≡◌, ◌≢◌}
 use Rattle.gl_table.proofs.Words.{HeaderState, MayAct, Mode, NL, NodeId, None, header_or_new, held_of, holds, is_at_least, is_granted_at, members_of, not}

@@ -19,13 +19,13 @@ use Rattle.gl_model.proofs.telling.Fronts.{front_stands, in_no_queue, orderly_un
 use Rattle.gl_model.proofs.telling.GivenUp.{given_up_out, orderly_without, waits_still}
 use Rattle.gl_model.proofs.telling.Ways.{cancel_tells, release_tells, way_gives_up, way_releases, woken_same}
 
--- One node more is taken from a slot, and grants from its front.
+-- One more node is released by a slot, and its waiters are granted from the front.
 
 -- the state without t's grants on these nodes
 abbrev pub taken_from : State → ℕ → (NodeId → Bool) → State
 taken_from s t left = record s { held = λ u q. if (u == t) && left q then NL else s.held u q }
 
--- one node more is taken from t, and grants from its front
+-- one more node is released by t, and its waiters are granted from the front
 module _ (s : State) (t : ℕ) (c : NodeId) (left : NodeId → Bool) (off : left c ≡ false) where
   abbrev more : NodeId → Bool
   more q = left q || same_node c q
@@ -63,9 +63,9 @@ module _ (s : State) (t : ℕ) (c : NodeId) (left : NodeId → Bool) (off : left
       ap (λ x. unlocked x t c) is ∙ ap (λ x. pumped x (same_node c)) same_taken ∙ pumped-pumped (taken_from s t more) left (same_node c)
       (λ q. not_true _ (λ h. let both = and_both (left q) (same_node c q) h in clash both.1 (apart q both.0)))
 
--- To take a wait back and to release then is to release at once.
+-- To end a wait and then release is to release at once.
 
--- t's wait is gone, and its status, whatever it was
+-- t's wait is gone, and its status, whichever it was
 stripped_wait : (s : State) (t : ℕ) (st : Status) → stripped (without_wait s t st) t ≡ stripped s t
 stripped_wait s t st = λ i. record (stripped s t) {
   queue = λ n. without_none t (without_waiter t (s.queue n)) (out_of_own t (s.queue n)) i;
@@ -108,13 +108,13 @@ StillTells s now t was told =
     (begin : State) → IsOnWay begin s → ((u : ℕ) → (u == t) ≡ false → notices_in was u ≡ told_to begin s u)
     → IsOnWay begin now × ((u : ℕ) → (u == t) ≡ false → notices_in told u ≡ told_to begin now u)
 
--- a slot that stands in no queue released a node, and those whom the node granted were told
+-- a slot that is in no queue released a node, and the granted waiters were told
 module _ (now : State) (o : IsOrderly now) (t : ℕ) (out : (q : NodeId) → is_among_waiters t (now.queue q) ≡ false) (n : NodeId) (told told' : Told)
     (tell : WakesTold now.txns n (front_at (with_grant now t n NL) n) told told') where
   abbrev granted : List Waiter
   granted = front_at (with_grant now t n NL) n
 
-  -- who is granted is active
+  -- a granted waiter is active
   txn_is : (u : ℕ) → (unlocked now t n).txns u ≡ (if is_among_waiters u granted then restatus Active (now.txns u) else now.txns u)
   txn_is u = woken_front (with_grant now t n NL) n (well_granted now o t n NL n) u
 
@@ -131,7 +131,7 @@ module _ (now : State) (o : IsOrderly now) (t : ℕ) (out : (q : NodeId) → is_
   pub own_notice : notices_in told' t ≡ notices_in told t
   own_notice = tell.notices t ∙ if-false _ not_granted
 
-  -- who waits still was not granted, and was told nothing
+  -- a slot that still waits was not granted, and was told nothing
   pub still_untold : ((u : ℕ) → is_wait (status_of now u) ≡ true → notices_in told u ≡ None) → (u : ℕ) → is_wait (status_of (unlocked now t n) u) ≡ true
       → notices_in told' u ≡ None
   still_untold untold u h = split (is_among_waiters u granted) (λ e. clash h (ap (λ x. is_wait (status_in x)) (txn_is u ∙ if-true _ e) ∙ active (now.txns u)))
@@ -183,7 +183,7 @@ leaving_begins s t ls told o agree count tell = record {
   tells = λ begin way same. (way, same);
 }
   where
-    -- where no node grants, nothing changes
+    -- if no node grants, nothing changes
     nothing : s ≡ pumped (taken_from s t (λ q. false)) (λ q. false)
     nothing = λ i. record s {
       held = λ u q. by (u == t) (s.held u q) i;
@@ -198,7 +198,7 @@ module _ {s now : State} {t : ℕ} {ls : List LockList} {was told : Told} (is : 
   leaving_out = in_no_queue now is.orderly t (ap (λ x. is_wait (status_in x)) is.txn ∙ quiet)
 
   module _ (n : NodeId) (holding : holds (members now n) t ≡ true) where
-    -- t holds what it held, but for n
+    -- t holds what it held, except n
     pub held_after : (q : NodeId) → (unlocked now t n).held t q ≡ (if same_node q n then NL else now.held t q)
     held_after = unlocked_own now t n leaving_out
 
@@ -261,7 +261,7 @@ module _ {s now : State} {t : ℕ} {ls : List LockList} {was told : Told} (is : 
       tells = still_tells now is.orderly t leaving_out n told told' woken s was is.tells;
     }
 
-  -- who holds nothing any more left all that it held, and is released but for its name
+  -- a slot that no longer holds anything released all that it held, and is released except its name
   module _ (begun : IsOrderly s) (none : (q : NodeId) → holds (members now q) t ≡ false) where
     -- the nodes that grant as t is released
     abbrev all : NodeId → Bool
@@ -271,21 +271,21 @@ module _ {s now : State} {t : ℕ} {ls : List LockList} {was told : Told} (is : 
     left_all q = ap (λ b. holds (members s q) t && not b) (none q) ∙ and-true (holds (members s q) t) ∙ sym (or-false (holds (members s q) t))
         ∙ ap (λ b. holds (members s q) t || b) (sym (not_true (is_waiting_at s t q) (λ h. clash (ap is_wait (waiting_is (status_of s t) q h).1) quiet)))
 
-    -- to take all grants of t and then its name is to strip the state of t, which stands in no queue
+    -- to remove all grants of t and then its name is to strip the state of t, which is in no queue
     named : with_txn (taken_from s t all) t None ≡ stripped s t
     named = λ i. record (stripped s t) {
       held = λ u q. by u q (u == t) refl (all q) refl i;
       queue = λ q. sym (without_none t (s.queue q) (stood q)) i;
     }
       where
-        -- who waits for nothing stands in no queue
+        -- a slot that does not wait is in no queue
         stood : (q : NodeId) → is_among_waiters t (s.queue q) ≡ false
         stood = in_no_queue s begun t quiet
 
         by : (u : ℕ) (q : NodeId) (b : Bool) → (u == t) ≡ b → (k : Bool) → all q ≡ k → (if b && k then NL else s.held u q) ≡ (if b then NL else s.held u q)
         by u q b h1 h2 h3 = grind (arith, nat_tests)
 
-    -- who has a name or none is granted the same
+    -- with a name or without, the same is granted
     last : with_txn (pumped (taken_from s t all) all) t None ≡ pumped (with_txn (taken_from s t all) t None) all
     last = λ i. record (pumped (taken_from s t all) all) { txns = λ u. by u (u == t) i }
       where
@@ -297,9 +297,9 @@ module _ {s now : State} {t : ℕ} {ls : List LockList} {was told : Told} (is : 
     left_released = sym (ap (λ x. with_txn x t None) is.left ∙ ap (λ f. with_txn (pumped (taken_from s t f) f) t None) (fun_ext left_all) ∙ last
         ∙ ap (λ x. pumped x all) named)
 
--- A wait is taken back by its own transaction, or by its end: what all others are told.
+-- A wait is cancelled by its own transaction, or by its end: what all others are told.
 
--- t waits for nothing now, its release is what it was, and all others are told of the way
+-- t does not wait now, its release is what it was, and all others are told up to now
 pub record IsFree (s now : State) (t : ℕ) (was told : Told) : Type 0 where
   pub orderly : IsOrderly now
   pub quiet : is_wait (status_of now t) ≡ false
@@ -312,12 +312,12 @@ pub record IsFree (s now : State) (t : ℕ) (was told : Told) : Type 0 where
 pub free_same : (s now now' : State) (t : ℕ) (was told told' : Told) → now' ≡ now → told' ≡ told → IsFree s now t was told → IsFree s now' t was told'
 free_same s now now' t was told told' e k is = subst (λ (x : State). IsFree s x t was told') (sym e) (subst (λ (xs : Told). IsFree s now t was xs) (sym k) is)
 
--- where it waits for nothing, nothing is taken back
+-- if it does not wait, nothing is cancelled
 pub free_idle : (s : State) (t : ℕ) (told : Told) → IsOrderly s → is_wait (status_of s t) ≡ false
     → ((u : ℕ) → is_wait (status_of s u) ≡ true → notices_in told u ≡ None) → IsFree s s t told told
 free_idle s t told o quiet untold = record { orderly = o; quiet = quiet; untold = untold; released = refl; own = refl; tells = λ begin way same. (way, same) }
 
--- who took its wait back waits for nothing
+-- a transaction that cancelled its wait does not wait
 pub cancelled_idle : (s : State) (t : ℕ) → is_wait (status_of (cancelled s t) t) ≡ false
 cancelled_idle s t = grind (arith, nat_tests, number_same t t refl)
 
@@ -333,7 +333,7 @@ module _ (s : State) (o : IsOrderly s) (t : ℕ) (n : NodeId) (waits : is_waitin
   pub cancelled_own : notices_in told t ≡ notices_in was t
   cancelled_own = grind (arith, nat_tests, wakes.notices t, given_up_out s o t n Active (λ q m e. cc) waits)
 
-  -- all others are told who are granted
+  -- all granted others are told
   pub cancelled_tells : StillTells s (cancelled s t) t was told
   cancelled_tells begin way same = (
     way_gives_up begin s t n wait.0 Active (λ q m e. cc) wait.1 way,

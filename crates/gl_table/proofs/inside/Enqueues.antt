@@ -1,4 +1,4 @@
--- What an ask that waits leaves. For asks.
+-- What a request that waits leaves. For requests.
 use Rattle.gl_slots.specs.Limit.{most_slots}
 use Rattle.gl_table.proofs.Words.{◌&&◌, ◌+◌, ◌<◌, ◌==◌, ◌||◌, ◌∙◌, ◌≡◌, ◌≤◌, Agrees, and_both, ap, ap₂, AreSound, arith, Bool, count_of, counted_by}
 use Rattle.gl_table.proofs.Words.{CountsHeld, enqueued, enters, Entries, false, fun_ext, held_of, holds, if◌then◌else◌, is_among_waiters, is_listed, is_wait}
@@ -15,7 +15,7 @@ module _ (s : State) (t : ℕ) (n : NodeId) (w : Mode) (out : is_among_waiters t
   abbrev after : State
   after = enqueued s t n w
 
-  -- who stands in a queue stood there, or is the one who asked
+  -- a slot is in a queue if it was there before, or is the requester
   among-placed : (u : ℕ) → is_among_waiters u (placed (members s n) (s.queue n) t w) ≡ ((u == t) || is_among_waiters u (s.queue n))
   among-placed u = split (u == t) (λ e. ap (λ v. is_among_waiters v (placed (members s n) (s.queue n) t w)) (same_number u t e)
       ∙ one_among t (placed (members s n) (s.queue n) t w) (t, w) (placed_self (members s n) (s.queue n) t w out)
@@ -52,7 +52,7 @@ module _ (s : State) (t : ℕ) (n : NodeId) (w : Mode) (out : is_among_waiters t
       swapped : (a b c : Bool) → (a || (b || c)) ≡ (b || (a || c))
       swapped a b c = grind (arith, nat_tests)
 
--- the list of one who will wait has the node, in the mode that is held, and room for the counts of a later grant
+-- the list of a slot that will wait has the node, in the held mode, and room for the counts of a later grant
 pub record HasWait (ls ls' : List LockList) (t : ℕ) (n : NodeId) (held : Mode) : Type 0 where
   pub node : HasNode ls ls' t n held
   pub counts : (u : ℕ) (q : NodeId) → counted_by ls' u q ≡ counted_by ls u q
@@ -71,14 +71,14 @@ has_wait-set ls t x x' lt at n held modes listed counts room = record {
     no_more : (b : Bool) (k : ℕ) → k + (if b then 0 else 0) ≡ k
     no_more b k = grind (arith, nat_tests)
 
--- what an ask for m leaves that waits
+-- what a request for m that waits leaves
 pub record IsEnqueued (g : View) (l l' : Ledger) (t : ℕ) (n : NodeId) (m : Mode) : Type 0 where
   pub sound : AreSound l'
   pub state : state_in g l' ≡ enqueued (state_in g l) t n (wanted (state_in g l) t n m)
   pub agree : (u : ℕ) → Agrees (state_in g l') l'.lists.items u
   pub count : (u : ℕ) → CountsHeld (state_in g l') l'.lists.items u
 
--- room was made, the headers were asked, the node was listed, and the status was written
+-- room was made, the headers were called, the node was listed, and the status was written
 module _ (g : View) (l r l' : Ledger) (t : ℕ) (n : NodeId) (m w : Mode) (held : Bool) (ready : IsReady g l r t n m held false) (hs : Entries)
     (seats : List (Option Seat)) where
   abbrev want : Mode

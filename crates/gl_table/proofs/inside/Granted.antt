@@ -1,4 +1,4 @@
--- Headers, seats and lists once a node granted from its front. For releases and withdrawn waits.
+-- Headers, transaction entries and lists after a node's waiters were granted from the front. For releases and ended waits.
 use Rattle.gl_slots.specs.Limit.{most_slots}
 use Rattle.gl_table.proofs.Words.{[], ◌&&◌, ◌+◌, ◌<◌, ◌==◌, ◌||◌, ◌∙◌, ◌≡◌, ◌≢◌, ◌≤◌, Active, after_grants, Agrees, and-false, and_both, ap, ap₂}
 use Rattle.gl_table.proofs.Words.{AreExactFor, arith, books_of, Bool, CanEnd, CanHold, children_that, clash, count_by, count_by-le-length, CountsHeld, drop}
@@ -34,7 +34,7 @@ module _ (b : State) (n : NodeId) (well : WaitWell b n) where
   granted_there : (q : NodeId) → same_node q n ≡ false → granted q ≡ []
   granted_there q e = ap (λ k. if k then front_at b q else []) (same_node-sym n q ∙ e)
 
-  -- who is granted is granted at n
+  -- a granted waiter is granted at n
   only_here : (u : ℕ) (q : NodeId) → is_among_waiters u (granted q) ≡ true → q ≡ n
   only_here u q h = split (same_node q n) (λ e. same_node-equal q n e) (λ e. clash (ap (is_among_waiters u) (sym (granted_there q e)) ∙ h) refl)
 
@@ -53,7 +53,7 @@ module _ (b : State) (n : NodeId) (well : WaitWell b n) where
   same_held : (u : ℕ) (q : NodeId) → is_among_waiters u (granted q) ≡ false → after.held u q ≡ b.held u q
   same_held u q e = grants_other (granted q) (members b q) u e
 
-  -- who held or waited still does
+  -- a holder or waiter still is one
   concerned : (u : ℕ) (q : NodeId) → (holds (members b q) u || is_among_waiters u (b.queue q))
       ≡ (holds (members after q) u || is_among_waiters u (after.queue q))
   concerned u q = split (is_among_waiters u (granted q)) (λ h. let is = only_here u q h in
@@ -82,7 +82,7 @@ module _ (b : State) (n : NodeId) (well : WaitWell b n) where
         by : (a k : Bool) → k ≡ true → (x y : Mode) → (if a && k then x else y) ≡ (if a then x else y)
         by a k h1 h2 h3 = grind (arith, nat_tests)
 
-        -- who waits still was not granted
+        -- a slot that still waits was not granted
         asleep : (u : ℕ) (q : NodeId) (m : Mode) → (status_of b u ≡ Some (Waiting q m)) × (is_among_waiters u (granted q) ≡ false)
             → is_among_waiters u (granted n) ≡ false
         asleep u q m was = split (is_among_waiters u (granted n))
@@ -110,7 +110,7 @@ module _ (b : State) (n : NodeId) (well : WaitWell b n) where
         nested : (a c : Bool) (k : ℕ) → (if a then (if c then k else 0) else 0) ≡ (if a && c then k else 0)
         nested a c k = grind (arith, nat_tests)
 
-        -- who is not new holds what it held
+        -- a slot that is not new holds what it held
         same_holding : (q : NodeId) → (is_among_waiters u (front_at b n) && same_mode (b.held u n) NL) ≡ false → holding after q ≡ holding b q
         same_holding q e = split (is_among_waiters u (granted q))
             (λ h. let is = only_here u q h in let here = ap (λ x. is_among_waiters u (granted x)) (sym is) ∙ h in
@@ -118,7 +118,7 @@ module _ (b : State) (n : NodeId) (well : WaitWell b n) where
             ∙ sym (ap (holding b) is ∙ ap not (sym (ap (λ k. k && same_mode (b.held u n) NL) (ap (is_among_waiters u) (sym granted_now) ∙ here)) ∙ e)))
             (λ h. ap (λ m. not (same_mode m NL)) (same_held u q h))
 
--- What the headers, the seats and the lists are once a node granted from its front is the state of the model.
+-- After a node's waiters were granted from the front, headers, entries and lists are those of the state of the model.
 
 -- the members of a node, with one grant changed
 pub members-with_grant : (s : State) (t : ℕ) (n : NodeId) (m : Mode) → with_mode (members s n) t m ≡ members (with_grant s t n m) n
@@ -128,7 +128,7 @@ members-with_grant s t n m = fun_ext (λ u. by u (u == t))
     by u b = grind (arith, nat_tests)
 
 module _ (s : State) (o : IsOrderly s) (few : s.most ≤ most_slots) (t : ℕ) (n : NodeId) where
-  -- the front by the limit of slots, once a grant is gone, is that by the number of seats
+  -- the front by the limit of slots, once a grant is gone, is that by the number of entries
   pub released_front : front slot_limit (with_mode (members s n) t NL) (s.queue n) ≡ front_at (with_grant s t n NL) n
   released_front =
       sym (front-limit s.most (with_mode (members s n) t NL) (s.queue n) few within (waiters_below s o n))
@@ -137,7 +137,7 @@ module _ (s : State) (o : IsOrderly s) (few : s.most ≤ most_slots) (t : ℕ) (
       within : IsWithin s.most (with_mode (members s n) t NL)
       within u le = grind (arith, nat_tests)
 
-  -- and so it is once a wait is gone
+  -- and the same once a wait is gone
   pub withdrawn_front : (st : Status) → front slot_limit (members s n) (without_waiter t (s.queue n)) ≡ front_at (without_wait s t st) n
   withdrawn_front st = sym (front-limit s.most (members s n) (without_waiter t (s.queue n)) few (members_within s o n) (below_without s o t st n))
 
@@ -158,7 +158,7 @@ pub status_last : (s : State) (t : ℕ) (st : Status) (ws : List Waiter) (txns t
     → (u : ℕ) → txns' u ≡ (if is_among_waiters u ws then restatus Active ((without_wait s t st).txns u) else (without_wait s t st).txns u)
 status_last s t st ws txns txns' out woken written u = grind (arith, nat_tests, without_wait s t st, same_number)
 
--- a state of these grants, queues, transactions and seats
+-- a state of these grants, queues, transactions and entries
 pub pumped_by_fields : (b : State) (chosen : NodeId → Bool) (held : ℕ → NodeId → Mode) (queue : NodeId → List Waiter) (txns : ℕ → Option Txn) (most : ℕ)
     → held ≡ (pumped b chosen).held → queue ≡ (pumped b chosen).queue → ((u : ℕ) → txns u ≡ (pumped b chosen).txns u) → most ≡ b.most
     → record b { held = held; queue = queue; txns = txns; most = most } ≡ pumped b chosen
@@ -175,7 +175,7 @@ unlisted_by-few ls t ps = by (slice_get ls t)
     by None = omega arith
     by (Some l) = count_by-le-length (λ p. not (is_listed l p)) ps
 
--- who waits for a node may come to hold it: its list has the node, and room for the counts of the parents
+-- a waiter of a node can become its holder: its list has the node, and room for the counts of the parents
 pub can_hold_there : (s : State) → IsOrderly s → IsLawfulGraph s.graph → (n : NodeId) (ls : List LockList) (u : ℕ) → is_among_waiters u (s.queue n) ≡ true
     → u < length ls → Agrees s ls u → CountsHeld s ls u → CanHold ls u n (parents_of s.graph n)
 can_hold_there s o law n ls u h lt agree count =

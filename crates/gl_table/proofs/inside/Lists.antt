@@ -1,8 +1,8 @@
--- Lists in which nothing stands. For new locks.
+-- Empty lists. For new locks.
 use Rattle.gl_table.proofs.Words.{[], ◌++◌, ◌+◌, ◌∷◌, ◌≡◌, arith, by_list, count_of, counted_by, Entry, entry_of, false, held_by, is_listed, is_some}
 use Rattle.gl_table.proofs.Words.{length, List, listed_by, LockList, mode_in, mode_of, NL, NodeId, None, Option, refl, Some, suc, zero, ℕ, ⊤}
 
--- Lists in which nothing stands.
+-- Empty lists.
 
 -- nothing is listed and nothing is counted
 pub record IsBare (l : LockList) : Type 0 where

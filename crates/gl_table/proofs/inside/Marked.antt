@@ -23,7 +23,7 @@ pub record IsReleasing (s now : State) (t : ℕ) (n : NodeId) (ls : List LockLis
   pub marked : IsShedding s now t n l
   pub covered : (q : NodeId) → left_by s now t q ≡ true → is_covered s t n q ≡ true
 
--- nothing is counted where whatever passes passes a test that nothing passes
+-- nothing is counted if all that passes also passes a test that nothing passes
 none_passes : (f g : NodeId → Bool) (xs : List NodeId) → list_any g xs ≡ false → ((x : NodeId) → f x ≡ true → g x ≡ true) → count_by f xs ≡ 0
 none_passes f g [] h less = refl
 none_passes f g (x ∷ xs) h less =
@@ -77,7 +77,7 @@ module _ {s now : State} {t : ℕ} {n : NodeId} {ls : List LockList} {l : LockLi
           back : (a b : Bool) → (a || b) ≡ true → b ≡ false → a ≡ true
           back a b h1 h2 = grind (arith, nat_tests)
 
--- what is listed stands at some place
+-- what is listed is at some place
 place_of_listed : {A : Type 0} (q : NodeId) (es : List (NodeId × A)) → is_some (lookup (same_node q) es) ≡ true → (i : ℕ)
     × (slice_get (map (λ e. e.0) es) i ≡ Some q)
 place_of_listed q [] h = clash h refl
@@ -116,14 +116,14 @@ module _ {s now : State} {t : ℕ} {n : NodeId} {ls : List LockList} {l : LockLi
   pub releasing_modes : (q : NodeId) → mode_of l q ≡ now.held t q
   releasing_modes q = is.marked.modes q ∙ split (is_covered s t n q) (λ e. if-true _ e ∙ sym (nl_is (now.held t q) (gone q e))) (λ e. if-false _ e)
 
--- The list of a slot is taken out of its place, its covered children are marked, and at the end it is put back.
+-- The list of a slot is moved out of its place, its covered children are marked, and at the end it is put back.
 
--- who is active has a list
+-- an active slot has a list
 pub list_there : (l : Ledger) (g : Graph) → AreSound l → IsOrderly (state_on g l) → (t : ℕ) → status_of (state_on g l) t ≡ Some Active
     → t < length l.lists.items
 list_there l g sound o t active = subst (λ (k : ℕ). t < k) (sym sound.lists) (o.below t (txn_there ((state_on g l).txns t) Active active))
 
--- what was taken out of its place
+-- what was moved out of its place
 pub taken_out : (ls : List LockList) (t : ℕ) (x l : LockList) → l ≡ x → x ≡ slice_index_or ls t x → l ≡ slice_index_or ls t l
 taken_out ls t x l is at = subst (λ (y : LockList). y ≡ slice_index_or ls t y) (sym is) at
 

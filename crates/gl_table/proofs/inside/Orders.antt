@@ -1,4 +1,4 @@
--- In which order a list has its nodes, and what it says of the node at a place. For a transaction that goes back.
+-- In which order a list has its nodes, and what it says of the node at a place. For a rollback to a mark.
 use Rattle.gl_table.proofs.Words.{[], ◌==◌, ◌∙◌, ◌∷◌, ◌≡◌, ap, Bool, by_list, childless_in, count_in, count_of, counted_by, Entry, false, get_or, is_listed}
 use Rattle.gl_table.proofs.Words.{is_some, IsApart, IsUnique, keys, keys_of, LeavesPlace, length, List, listed_by, LockList, lookup_from_place, loose_of, map}
 use Rattle.gl_table.proofs.Words.{node_equivalence, NodeId, nodes_by, None, none_some, Option, option_map, refl, same_node, same_number, slice_get}
@@ -30,7 +30,7 @@ unique_at [] t = tt
 unique_at (l ∷ ls) zero = unique_in l
 unique_at (l ∷ ls) (suc t) = unique_at ls t
 
--- what a list has stands in its order
+-- what a list has is in its order
 pub listed_as : (ls : List LockList) (t : ℕ) (q : NodeId) → list_any (same_node q) (nodes_by ls t) ≡ listed_by ls t q
 listed_as [] t q = refl
 listed_as (l ∷ ls) zero q = sym (is_some-lookup (same_node q) l.entries.entries)
@@ -42,7 +42,7 @@ node_there [] t i = refl
 node_there (l ∷ ls) zero i = sym (slice_get-map (λ x. x.0) l.entries.entries i)
 node_there (l ∷ ls) (suc t) i = node_there ls t i
 
--- what stands before a place, and before the next
+-- what is before a place, and before the next
 module _ (ks : List NodeId) (i m : ℕ) (n : NodeId) (next : m ≡ i + 1) (at : slice_get ks i ≡ Some n) where
   abbrev before : NodeId → Bool
   before q = list_any (same_node q) (take i ks)
@@ -68,7 +68,7 @@ order_seen [] t = refl
 order_seen (l ∷ ls) zero = refl
 order_seen (l ∷ ls) (suc t) = order_seen ls t
 
--- a node was taken out of a list that has it
+-- a node was removed from a list that has it
 pub leaves_place : (l l' : LockList) (n : NodeId) → keys l'.entries ≡ keys_of (swap_remove_entry (same_node n) l.entries.entries) → is_listed l n ≡ true
     → LeavesPlace n (keys l.entries) (keys l'.entries)
 leaves_place l l' n is listed =
@@ -80,7 +80,7 @@ leaves_place l l' n is listed =
 
 -- What a list says of the node at a place.
 
--- the node stands at this place of an order, it is listed, and no child of it is counted
+-- the node is at this place of an order, it is listed, and no child of it is counted
 abbrev pub IsChildless : List NodeId → ℕ → NodeId → ℕ → Bool → Type 0
 IsChildless order i n count listed = (slice_get order i ≡ Some n) × (count ≡ 0) × (listed ≡ true)
 

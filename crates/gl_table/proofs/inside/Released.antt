@@ -1,4 +1,4 @@
--- A grant is taken and its node released: the lists agree. For releases.
+-- A grant is removed and its node released: the lists agree. For releases.
 use Rattle.gl_table.proofs.Words.{◌&&◌, ◌+◌, ◌<◌, ◌==◌, ◌||◌, ◌∙◌, ◌≡◌, ◌≤◌, Active, Agrees, ap, ap₂, arith, Bool, CanStrike, children_that, clash, count_by}
 use Rattle.gl_table.proofs.Words.{counted_by, CountsHeld, false, front_at, fun_ext, granted_at, held_by, held_children, holds, if◌then◌else◌, is_among_waiters}
 use Rattle.gl_table.proofs.Words.{is_live, is_wait, IsLawfulGraph, IsOrderly, length, List, listed_by, LockList, members, Mode, mode_given, nat_tests, NL}
@@ -14,7 +14,8 @@ use Rattle.gl_model.proofs.queues.Waiters.{grants_other, if-true}
 use Rattle.gl_model.proofs.telling.Fronts.{front_stands, in_no_queue, well_granted}
 use Rattle.gl_model.proofs.telling.Ways.{left_stands}
 
--- A grant is taken from a slot that stands in no queue, and its node grants from its front: what the slot holds then, and that the lists of all others agree.
+-- A grant is removed from a slot that is in no queue, and the node's waiters are granted from the front: what the slot then holds, and that all other lists
+-- agree.
 
 module _ (s : State) (t : ℕ) (n : NodeId) where
   held_other : (u : ℕ) → (u == t) ≡ false → (q : NodeId) → (with_grant s t n NL).held u q ≡ s.held u q

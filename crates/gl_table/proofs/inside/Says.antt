@@ -1,4 +1,4 @@
--- What the lists say is what the state of the locks says. For what is asked of the locks.
+-- What the lists say is what the state of the locks says. For queries of the locks.
 use Rattle.gl_table.proofs.Words.{◌&&◌, ◌∙◌, ◌≡◌, ap, ap₂, counted_by, effect_on, find, fun_ext, graph_of, held_by, held_children, holds, if◌then◌else◌}
 use Rattle.gl_table.proofs.Words.{is_child, is_live, is_write, list_any, members, Mode, NL, NodeId, nodes, None, not, same_mode, Some, state_at, sym, true, ℕ}
 use Rattle.gl_table.specs.declared.locks.Locks.{Locks}

@@ -1,4 +1,4 @@
--- The lowest free seat, a seat that is written, and a slot that is freed. For seats, and for the end of a transaction.
+-- The lowest free entry, an entry that is written, and a slot that is freed. For transaction entries, and for the end of a transaction.
 use Rattle.gl_table.proofs.Words.{[], ◌&&◌, ◌<◌, ◌==◌, ◌||◌, ◌∙◌, ◌∷◌, ◌≡◌, Agrees, and-false, ap, ap₂, arith, clash, count_none, count_of, CountsHeld}
 use Rattle.gl_table.proofs.Words.{elements, false, gets, if◌then◌else◌, is_among_waiters, is_child, is_free, is_free_at, is_listed, is_live, is_some, is_wait}
 use Rattle.gl_table.proofs.Words.{IsOrderly, length, length-set, List, lives, LockList, mode_of, nat_tests, NL, NodeId, nodes, nodes_live, None, none_some, not}
@@ -9,9 +9,9 @@ use Rattle.gl_model.specs.State.{waits_at as awaits}
 use Rattle.gl_table.proofs.inside.Lists.{bare-modes, IsBare}
 use Rattle.gl_table.proofs.inside.Slots.{agrees-set, counts-set, own_list}
 
--- The set of free slots finds the lowest free seat.
+-- The set of free slots finds the lowest free entry.
 
--- the place of the first free seat is the lowest free slot
+-- the place of the first free entry is the lowest free slot
 first : (xs : List (Option Seat)) (k : ℕ) → is_free_at xs k ≡ true → ((u : ℕ) → u < k → is_free_at xs u ≡ false) → (position_or_len is_free xs ≡ k)
     × (k < length xs)
 first [] k h below = clash h refl
@@ -31,44 +31,44 @@ all-taken (x ∷ xs) all =
     let taken : is_free x ≡ false = all 0 in
     grind (arith, nat_tests, later, taken)
 
--- where no slot is free, no seat is
+-- if no slot is free, no entry is
 pub none-free : (xs : List (Option Seat)) → ((u : ℕ) → is_free_at xs u ≡ false) → position is_free xs ≡ None
 none-free xs all = let t = all-taken xs all in grind (arith, nat_tests, t)
 
--- One seat is written.
+-- One entry is written.
 
 pub txns-set : (seats : List (Option Seat)) (t : ℕ) (seat : Option Seat) → t < length seats → (u : ℕ)
     → txns_of (slice_set seats t seat) u ≡ (if u == t then txn_in (Some seat) else txns_of seats u)
 txns-set seats t seat lt u = grind (arith, nat_tests, gets, elements)
 
--- and who is free then
+-- and the slots that are then free
 pub free-set : (seats : List (Option Seat)) (t : ℕ) (seat : Option Seat) → t < length seats → (u : ℕ)
     → is_free_at (slice_set seats t seat) u ≡ (if u == t then is_free seat else is_free_at seats u)
 free-set seats t seat lt u = grind (arith, nat_tests, gets, elements)
 
--- the same slots are free, whatever one who lives is doing
+-- the same slots are free, with any status of one that lives
 pub free-kept : (seats : List (Option Seat)) (t : ℕ) (x : Seat) → t < length seats → lives_at seats t ≡ true → (u : ℕ)
     → is_free_at (slice_set seats t (Some x)) u ≡ is_free_at seats u
 free-kept seats t x lt lives u = free-set seats t (Some x) lt u ∙ grind (arith, nat_tests, gets, elements)
 
--- and who waits then
+-- and those that then wait
 pub waits-set : (seats : List (Option Seat)) (t : ℕ) (seat : Option Seat) → t < length seats → (u : ℕ)
     → waits_at (slice_set seats t seat) u ≡ (if u == t then is_wait (status_in (txn_in (Some seat))) else waits_at seats u)
 waits-set seats t seat lt u = ap (λ o. is_wait (status_in o)) (txns-set seats t seat lt u) ∙ grind (arith, nat_tests)
 
--- and who lives
+-- and those that live
 pub lives-set : (seats : List (Option Seat)) (t : ℕ) (seat : Option Seat) → t < length seats → (u : ℕ)
     → lives_at (slice_set seats t seat) u ≡ (if u == t then is_some (txn_in (Some seat)) else lives_at seats u)
 lives-set seats t seat lt u = ap is_some (txns-set seats t seat lt u) ∙ grind (arith, nat_tests)
 
--- the same transactions live, whatever one of them is doing
+-- the same transactions live, with any status of one of them
 pub lives-kept : (seats : List (Option Seat)) (t : ℕ) (x : Seat) → t < length seats → lives_at seats t ≡ true → (u : ℕ)
     → lives_at (slice_set seats t (Some x)) u ≡ lives_at seats u
 lives-kept seats t x lt lives u = lives-set seats t (Some x) lt u ∙ grind (arith, nat_tests)
 
--- A slot that holds nothing and stands in no queue is freed, and its list is emptied: the lists agree.
+-- A slot that holds nothing and is in no queue is freed, and its list is emptied: the lists agree.
 
--- the state with the slot's seat free
+-- the state with the slot's entry free
 pub state-freed : (s : State) (seats seats' : List (Option Seat)) (t : ℕ) → t < length seats → seats' ≡ slice_set seats t None
     → record s { txns = txns_of seats'; most = length seats' } ≡ with_txn (record s { txns = txns_of seats; most = length seats }) t None
 state-freed s seats seats' t lt freed =

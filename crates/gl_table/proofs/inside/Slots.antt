@@ -48,7 +48,7 @@ module _ (ls : List LockList) (t : ℕ) (l : LockList) (lt : t < length ls) (at 
   pub by_list-here : {A : Type 0} (u : ℕ) → (u == t) ≡ true → (f : LockList → A) (none : A) → by_list f none ls u ≡ f l
   by_list-here u e f none = ap (by_list f none ls) (same_number u t e) ∙ by_list-at f none ls t l lt at
 
-  -- where the list that is written says what the old one said, all say what they said
+  -- if the written list says what the old one said, all say what they said
   pub by_list-kept : (l' : LockList) {A : Type 0} (f : LockList → A) (none : A) → f l' ≡ f l → (u : ℕ)
       → by_list f none (slice_set ls t l') u ≡ by_list f none ls u
   by_list-kept l' f none same u = by_list-set ls t l' lt f none u ∙ split (u == t) (λ e. if-true _ e ∙ same ∙ sym (by_list-here u e f none)) (λ e. if-false _ e)
@@ -60,11 +60,11 @@ but_not a b = grind (arith, nat_tests)
 pub none_more : (k : ℕ) → k ≡ k + 0
 none_more k = omega arith
 
--- neither is more where nothing is
+-- neither is more if nothing is
 pub none_if : (b : Bool) (k : ℕ) → k + (if b then 0 else 0) ≡ k
 none_if b k = grind (arith, nat_tests)
 
--- What a list says by slot once it is written, where each slot has what is wanted of it.
+-- What a list says by slot once it is written, if each slot has what is needed of it.
 module _ (ls : List LockList) (t : ℕ) (l l' : LockList) (lt : t < length ls) (at : l ≡ slice_index_or ls t l) where
   by_slot : {A : Type 0} (f : LockList → A) (none : A) (u : ℕ) (want : Bool → A) → ((u == t) ≡ true → f l ≡ by_list f none ls u → f l' ≡ want true)
       → by_list f none ls u ≡ want false → by_list f none (slice_set ls t l') u ≡ want (u == t)
@@ -88,7 +88,7 @@ module _ (ls : List LockList) (t : ℕ) (l l' : LockList) (lt : t < length ls) (
     orders = λ u e. by_list-set ls t l' lt (λ x. keys x.entries) [] u ∙ ap (λ b. if b then keys l'.entries else nodes_by ls u) e;
   }
 
-  -- a node is taken out of one list, in which no child of it is counted
+  -- a node is removed from one list, in which no child of it is counted
   pub written-left : (n : NodeId) → ((q : NodeId) → mode_of l' q ≡ (if same_node q n then NL else mode_of l q))
       → ((q : NodeId) → is_listed l' q ≡ (is_listed l q && not (same_node q n))) → ((q : NodeId) → count_of l' q ≡ count_of l q)
       → IsWritten ls n (λ u. u == t) as_left (slice_set ls t l')

@@ -18,7 +18,7 @@ use Rattle.gl_model.proofs.queues.Waiters.{among_by_filter, if-false, if-true}
 use Rattle.gl_model.proofs.telling.Fronts.{stands_there, waiters_below, waits_there}
 use Rattle.gl_model.proofs.telling.Ways.{is_by_test, quiet_told}
 
--- Waits on one node that end without a grant: the state, the lists and the notices while some of them still stand.
+-- Waits on one node that end without a grant: the state, the lists and the notices while some of them remain.
 
 -- whether the list of a waiter allows its wait is whether the wait stays
 pub allowed_stays : (s : State) (ls : List LockList) (ps : List NodeId) (w : Waiter) (l : LockList) → w.0 < length ls → l ≡ slice_index_or ls w.0 l
@@ -33,7 +33,7 @@ is_lost s n f u = is_among_waiters u (filter (λ w. not (f w)) (s.queue n))
 abbrev pub moved_notice : State → ℕ → Option (TxnId × notice.the_data)
 moved_notice s u = Some (record { slot = u; age = age_in (s.txns u) }, notice.Moved)
 
--- who waits on n is active
+-- a waiter of n is active
 pub freed_here : (n : NodeId) (m : Mode) (x : Option Txn) → status_in x ≡ Some (Waiting n m) → freed n x ≡ restatus Active x
 freed_here n m None h = absurd (cc)
 freed_here n m (Some x) h =
@@ -42,7 +42,7 @@ freed_here n m (Some x) h =
     ∙ ap (λ b. Some (record x { status = if b then Active else Waiting n m })) (same_node-refl n)
 
 module _ (s : State) (o : IsOrderly s) (n : NodeId) (f : Waiter → Bool) where
-  -- a lost wait stands in the queue
+  -- a lost wait is in the queue
   pub lost_stood : (u : ℕ) → is_lost s n f u ≡ true → is_among_waiters u (s.queue n) ≡ true
   lost_stood u h = any_left (is_waiter u) (λ w. not (f w)) (s.queue n) h
 
@@ -57,14 +57,14 @@ module _ (s : State) (o : IsOrderly s) (n : NodeId) (f : Waiter → Bool) where
   lost_fails : (u : ℕ) → is_lost s n f u ≡ true → list_all (λ w. not (is_waiter u w) || not (f w)) (s.queue n) ≡ true
   lost_fails u h = let w = lost_waits u h in all_of_some (is_waiter u) (λ v. not (f v)) (s.queue n) (ap (list_all (λ v. not (f v))) w.2 ∙ both _ true w.3 refl)
 
-  -- so it is none of those that are left, and all others are
+  -- so it is none of those that remain, and all others are
   left_among : (u : ℕ) → is_among_waiters u (filter f (s.queue n)) ≡ (if is_lost s n f u then false else is_among_waiters u (s.queue n))
   left_among u = is_by_test (is_lost s n f u)
       (λ e. let w = lost_waits u e in not_true _ (λ k. clash (one_stays (is_waiter u) f (s.queue n) (u, w.0) w.2 k) (not-true _ w.3)))
       (λ e. split (is_among_waiters u (filter f (s.queue n))) (λ k. k ∙ sym (any_left (is_waiter u) f (s.queue n) k))
       (λ k. k ∙ sym (not_true _ (λ h. clash (among_failing f u (s.queue n) h k) e))))
 
-  -- who lost its wait is active, and all others are as they were
+  -- a slot that lost its wait is active, and all others are as they were
   left_txn : (u : ℕ) → freed_unless (λ v. is_among_waiters v (filter f (s.queue n))) n u (s.txns u)
       ≡ (if is_lost s n f u then restatus Active (s.txns u) else s.txns u)
   left_txn u = ap (λ b. if b then s.txns u else freed n (s.txns u)) (left_among u) ∙ is_by_test (is_lost s n f u)
@@ -74,7 +74,7 @@ module _ (s : State) (o : IsOrderly s) (n : NodeId) (f : Waiter → Bool) where
       ∙ split (is_among_waiters u (s.queue n)) (λ k. if-true _ k)
       (λ k. if-false _ k ∙ freed_other n (s.txns u) (not_true _ (λ w. clash (stands_there s o u n w) k))))
 
--- the waits on n that fail the test are over, but for those of pending slots; nothing is granted
+-- the waits on n that fail the test have ended, except those of pending slots; nothing is granted
 pub record IsTurning (l l' : Ledger) (n : NodeId) (s : State) (f : Waiter → Bool) (pending : ℕ → Bool) (told told' : Told) : Type 0 where
   pub held : held_of l'.headers.entries ≡ s.held
   pub here : queue_of l'.headers.entries n ≡ filter (λ w. f w || pending w.0) (s.queue n)

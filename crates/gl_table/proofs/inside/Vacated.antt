@@ -1,4 +1,4 @@
--- The locks on a node go: the lists agree. For nodes that are taken away.
+-- The locks on a node are removed: the lists agree. For nodes that are removed.
 use Rattle.gl_table.proofs.Words.{[], ◌&&◌, ◌+◌, ◌==◌, ◌||◌, ◌∙◌, ◌≡◌, ◌≤◌, Active, Agrees, and-false, and_both, ap, ap₂, arith, as_left, books_of, Bool}
 use Rattle.gl_table.proofs.Words.{CanEnd, CanStrike, CanTellWaiters, children_that, clash, cond, count_by, count_none, count_same, count_there, counted_by}
 use Rattle.gl_table.proofs.Words.{CountsHeld, departed, false, freed, fun_ext, Graph, graph_of, held_children, holds, if◌then◌else◌, is_among_waiters}
@@ -21,7 +21,7 @@ pub record-childless : (g : Graph) → IsLawfulGraph g → (r : NodeId) → is_r
 record-childless g law r rec f = count_none (is_live g) (λ c. is_child g r c && f c) (nodes g) (nodes_live g)
     (λ c live. ap (λ b. b && f c) (not_true (is_child g r c) (λ h. rec_not_plain (shape_of g r) rec (parent_plain g law c r h))))
 
--- where the record that goes does not pass the test, as many children of a node pass it as did
+-- if the removed record does not pass the test, as many children of a node pass it as did
 pub children-left : (g : Graph) (law : IsLawfulGraph g) (r : NodeId) → is_record_shape (shape_of g r) ≡ true → (f : NodeId → Bool) → f r ≡ false → (p : NodeId)
     → children_that (without_node g r) f p ≡ children_that g f p
 children-left g law r rec f none p =
@@ -35,7 +35,7 @@ children-left g law r rec f none p =
     ∙ and-false (is_child g p r)) in
     omega arith
 
--- who waits at the node is active, and all others are as they were
+-- a waiter at the node is active, and all others are as they were
 freed_here : (r : NodeId) (x : Option Txn) → waits_at (status_in x) r ≡ true → freed r x ≡ restatus Active x
 freed_here r None h = clash h refl
 freed_here r (Some x) h = grind (arith, nat_tests)

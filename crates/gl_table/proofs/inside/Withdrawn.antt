@@ -18,9 +18,9 @@ use Rattle.gl_model.proofs.telling.Fronts.{front_stands, stands_only, stands_the
 use Rattle.gl_model.proofs.telling.GivenUp.{way_withdrawn}
 use Rattle.gl_model.proofs.telling.Ways.{granted_stands, left_stands, without_wait_other, without_wait_own}
 
--- One wait is given up: the lists agree with what is left.
+-- One wait ends: the lists agree with what is left.
 
--- the list of t has n only where t holds it; what the lists say else is as it was
+-- the list of t has n only if t holds it; all else that the lists say is as it was
 pub record Unlists (ls ls' : List LockList) (t : ℕ) (n : NodeId) : Type 0 where
   pub len : length ls' ≡ length ls
   pub modes : (u : ℕ) (q : NodeId) → held_by ls' u q ≡ held_by ls u q
@@ -33,12 +33,12 @@ held_listed : (o : Option Entry) → same_mode (mode_in o) NL ≡ false → is_s
 held_listed None h = clash refl h
 held_listed (Some e) h = refl
 
--- a list that has a node where it holds it
+-- a list that has a node if it holds it
 only_held : (l : LockList) (n : NodeId) → same_mode (mode_of l n) NL ≡ false → (q : NodeId)
     → is_listed l q ≡ (if same_node q n then not (same_mode (mode_of l n) NL) else is_listed l q)
 only_held l n h q = grind (arith, nat_tests, same_node-equal)
 
--- and one from which a node was taken that it did not hold
+-- and one from which a node was removed that it did not hold
 unheld_left : (l l' : LockList) (n : NodeId) → same_mode (mode_of l n) NL ≡ true → ((q : NodeId) → is_listed l' q ≡ (is_listed l q && not (same_node q n)))
     → (q : NodeId) → is_listed l' q ≡ (if same_node q n then not (same_mode (mode_of l n) NL) else is_listed l q)
 unheld_left l l' n h left q = left q ∙ by (is_listed l q) (same_node q n) ∙ ap (λ k. if same_node q n then not k else is_listed l q) (sym h)
@@ -46,13 +46,13 @@ unheld_left l l' n h left q = left q ∙ by (is_listed l q) (same_node q n) ∙ 
     by : (a b : Bool) → (a && not b) ≡ (if b then false else a)
     by a b = grind (arith, nat_tests)
 
--- where a node was taken out that was not held, the modes are the same
+-- if a node was removed that was not held, the modes are the same
 unheld_modes : (l : LockList) (n : NodeId) → same_mode (mode_of l n) NL ≡ true → (q : NodeId) → (if same_node q n then NL else mode_of l q) ≡ mode_of l q
 unheld_modes l n h q = grind (arith, nat_tests, same_mode-equal, same_node-equal)
 
 module _ (ls : List LockList) (t : ℕ) (n : NodeId) (l : LockList) (lt : t < length ls) (at : l ≡ slice_index_or ls t l) where
   module _ (l' : LockList) where
-    -- a list is written that says the same, but has n only where it holds it
+    -- a list is written that says the same, but has n only if it holds it
     unlists_set : ((q : NodeId) → mode_of l' q ≡ mode_of l q)
         → ((q : NodeId) → is_listed l' q ≡ (if same_node q n then not (same_mode (mode_of l n) NL) else is_listed l q))
         → ((q : NodeId) → count_of l' q ≡ count_of l q) → Unlists ls (slice_set ls t l') t n
@@ -76,7 +76,7 @@ module _ (ls : List LockList) (t : ℕ) (n : NodeId) (l : LockList) (lt : t < le
   pub unlists_held : same_mode (mode_of l n) NL ≡ false → Unlists ls (slice_set ls t l) t n
   unlists_held h = unlists_set l (λ q. refl) (only_held l n h) (λ q. refl)
 
--- all others stand in the queue where they stood
+-- all others keep their places in the queue
 pub others_among : (t u : ℕ) (ws : List Waiter) → (u == t) ≡ false → is_among_waiters u (without_waiter t ws) ≡ is_among_waiters u ws
 others_among t u ws e = among_waits u (without_waiter t ws) ∙ ap some_wait (without_filter t u ws (other_number u t e)) ∙ sym (among_waits u ws)
 
@@ -92,7 +92,7 @@ module _ (s : State) (o : IsOrderly s) (law : IsLawfulGraph s.graph) (t : ℕ) (
   well : WaitWell b n
   well = well_without s o t st n
 
-  -- who left stands in no queue, and is not granted
+  -- a slot that left is in no queue, and is not granted
   out : (q : NodeId) → is_among_waiters t (b.queue q) ≡ false
   out q = not_true _ (λ h. (out_of_without t t (s.queue q) h).1 refl)
 
@@ -169,7 +169,7 @@ one_if b = cond b 1 0
 one_if_more : (a b : Bool) → (b ≡ true → a ≡ true) → one_if b ≤ one_if a
 one_if_more a b h1 = grind (arith, nat_tests)
 
--- of the numbers that pass p only some pass q, so not more, and fewer where v passes p alone
+-- of the numbers that pass p only some pass q, so not more, and fewer if v passes p alone
 module _ (p q : ℕ → Bool) (sub : (u : ℕ) → q u ≡ true → p u ≡ true) where
   count_le : (xs : List ℕ) → count_by q xs ≤ count_by p xs
   count_le [] = omega arith
@@ -192,7 +192,7 @@ fewer_wait s o v h = count_less (waiting s) (waiting (condemned s v)) still v (s
     low : v < s.most
     low = o.below v (txn_there (s.txns v) _ (wait_is (status_of s v) h).2)
 
-    -- who waits still waited before
+    -- a slot that still waits waited before
     still : (u : ℕ) → waiting (condemned s v) u ≡ true → waiting s u ≡ true
     still u k = let w = wait_is (status_of (condemned s v) u) k in
         ap is_wait ((way_withdrawn s s v Condemned (is_waiting_at s v) (λ q m e. cc) (way_here s o)).waited u w.0 w.1 w.2)

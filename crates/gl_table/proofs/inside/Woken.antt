@@ -10,9 +10,9 @@ use Rattle.gl_table.proofs.Words.{Waiter, WaitsEnd, with_mode, Writing, zero, �
 use Rattle.gl_table.proofs.inside.Slots.{none_more}
 use Rattle.gl_model.proofs.queues.Waiters.{grants_other, if-false, if-true}
 
--- Waiters of different slots, taken from the front.
+-- Waiters of different slots, granted from the front.
 
--- one waiter more is taken
+-- one more waiter is granted
 pub among_more : (u : ℕ) (ws : List Waiter) (i : ℕ) (d : Waiter) → i < length ws
     → is_among_waiters u (take (i + 1) ws) ≡ (is_among_waiters u (take i ws) || (u == (slice_index_or ws i d).0))
 among_more u ws i d lt = list_any_more (is_waiter u) ws i d lt ∙ ap (λ b. is_among_waiters u (take i ws) || b) (turned (slice_index_or ws i d).0)
@@ -46,7 +46,7 @@ given_at g (w ∷ ws) zero d h lt =
     sym (grants_other ws (with_mode g w.0 w.1) w.0 (not-true _ both.0) ∙ if-true _ (number_same w.0 w.0 refl))
 given_at g (w ∷ ws) (suc i) d h lt = given_at (with_mode g w.0 w.1) ws i d (and_both (not (is_among_waiters w.0 ws)) (is_distinct ws) h).1 (omega arith)
 
--- who is among them holds what it is given, and all others what they held
+-- a slot among them holds what it is given, and all others what they held
 pub given_or_held : (ws : List Waiter) (g : Members) (u : ℕ) → after_grants g ws u ≡ (if is_among_waiters u ws then mode_given ws u else g u)
 given_or_held ws g u = split (is_among_waiters u ws) (λ e. same ws g (λ _. NL) e ∙ sym (if-true _ e)) (λ e. grants_other ws g u e ∙ sym (if-false _ e))
   where
@@ -165,12 +165,12 @@ ends_one {b} t age x age_is len txns lists by_slot notices = record {
     at_own : {A : Type 0} (u : ℕ) (f : ℕ → A) (y : A) → (if u == t then f t else y) ≡ (if u == t then f u else y)
     at_own u f y = grind (arith, nat_tests, same_number u t)
 
--- Waits are given up on a node that their owners do not hold: the lists agree with the state that is left.
+-- Waits end on a node that their transactions do not hold: the lists agree with the state that is left.
 module _ (s after : State) (n : NodeId) (who : ℕ → Bool) (bare : (u : ℕ) → who u ≡ true → s.held u n ≡ NL)
     (held : (u : ℕ) (q : NodeId) → after.held u q ≡ s.held u q)
     (queue : (u : ℕ) (q : NodeId) → is_among_waiters u (after.queue q) ≡ (if who u && same_node q n then false else is_among_waiters u (s.queue q)))
     (txns : (u : ℕ) → after.txns u ≡ (if who u then restatus Active (s.txns u) else s.txns u)) where
-  -- who waits still did not give its wait up
+  -- a slot that still waits did not end its wait
   waits_on : (u : ℕ) → is_wait (status_of after u) ≡ true → (who u ≡ false) × (is_wait (status_of s u) ≡ true)
   waits_on u h = split (who u) (λ e. clash h (ap (λ x. is_wait (status_in x)) (txns u ∙ if-true _ e) ∙ at_rest (s.txns u)))
       (λ e. (e, ap (λ x. is_wait (status_in x)) (sym (txns u ∙ if-false _ e)) ∙ h))

@@ -1,4 +1,4 @@
--- The ledger that the code keeps beside the graph: as a state of the model, and what agrees with it.
+-- The ledger that the code keeps of a graph's locks: as a state of the model, and what agrees with it.
 use Rattle.gl_slots.specs.Limit.{most_slots}
 use Rattle.std.specs.Prelude.{◌≡◌, ◌≤◌, ◌||◌, ℕ, true, false, List, [], length, None, replicate}
 use Rattle.gl_modes.specs.declared.mode.Mode.TheVariants.{NL}
@@ -16,7 +16,7 @@ use Rattle.gl_model.specs.State.{State, members, status_of, is_wait}
 use Rattle.gl_table.specs.inside.Seats.{txns_of}
 use Rattle.gl_table.specs.inside.Slots.{KeepsLists, counted_by, held_by, listed_by, room_by}
 
--- the state that a ledger is over a graph
+-- the state of a ledger over a graph
 abbrev pub state_on : Graph → Ledger → State
 state_on g l =
     record {
@@ -35,7 +35,7 @@ state_on g l =
 abbrev pub state_in : View → Ledger → State
 state_in g l = state_on (graph_of g) l
 
--- a slot's list has the nodes that it holds or waits for, with their modes, and room for a later grant where it waits
+-- a slot's list has the nodes that it holds or waits for, with their modes, and room for a later grant if it waits
 pub record Agrees (s : State) (ls : List LockList) (u : ℕ) : Type 0 where
   pub modes : (q : NodeId) → held_by ls u q ≡ s.held u q
   pub listed : (q : NodeId) → listed_by ls u q ≡ (holds (members s q) u || is_among_waiters u (s.queue q))
@@ -45,7 +45,7 @@ pub record Agrees (s : State) (ls : List LockList) (u : ℕ) : Type 0 where
 abbrev pub CountsHeld : State → List LockList → ℕ → Type 0
 CountsHeld s ls u = (p : NodeId) → counted_by ls u p ≡ held_children s u p
 
--- what the ledger is made of is in order
+-- the parts of the ledger are in order
 pub record AreSound (l : Ledger) : Type 0 where
   pub few : length l.seats.items ≤ most_slots
   pub lists : length l.lists.items ≡ length l.seats.items

@@ -1,4 +1,4 @@
--- What holds of the fields of the seats.
+-- What holds of the fields of the transaction entries.
 use Rattle.gl_slots.specs.Limit.{most_slots}
 use Rattle.std.specs.Prelude.{◌≡◌, ◌≤◌, ℕ, length}
 use Rattle.gl_slots.specs.Slots.{has_slot}
@@ -9,7 +9,7 @@ use Rattle.gl_table.specs.inside.Seats.{SeatList, is_free_at, lives_at, waits_at
 abbrev pub seats_of : Inside → SeatList
 seats_of s = record { items = s.list.items }
 
--- the sets are those of the seats in which nobody sits, of those in which somebody lives, and of those who wait
+-- the sets are those of the free slots, of those with a transaction, and of those that wait
 pub record IsSeating (s : Inside) : Type 0 where
   pub few : length s.list.items ≤ most_slots
   pub free : (u : ℕ) → has_slot s.free u ≡ is_free_at s.list.items u

@@ -1,10 +1,10 @@
--- The seats that the code keeps, as transactions by slot.
+-- The transaction entries that the code keeps, as transactions by slot.
 use Rattle.std.specs.Prelude.{ℕ, Bool, true, false, List, Option, Some, None, is_some, slice_get}
 use Rattle.std.specs.Option.{option_map_or}
 use Rattle.gl_table.specs.declared.seat.Seat.{Seat}
 use Rattle.gl_model.specs.State.{Txn, is_wait, status_in}
 
--- the transaction in a seat that is there and taken
+-- the transaction of an entry that exists and is taken
 abbrev pub txn_in : Option (Option Seat) → Option Txn
 txn_in None = None
 txn_in (Some None) = None
@@ -14,7 +14,7 @@ txn_in (Some (Some x)) = Some (record { age = x.age; since = x.since; status = x
 abbrev pub txns_of : List (Option Seat) → ℕ → Option Txn
 txns_of seats t = txn_in (slice_get seats t)
 
--- the seats by slot, as a contract sees them
+-- the entries by slot, as a contract sees them
 pub record SeatList : Type 0 where
   pub items : List (Option Seat)
 
@@ -26,11 +26,11 @@ lives_at seats t = is_some (txns_of seats t)
 abbrev pub waits_at : List (Option Seat) → ℕ → Bool
 waits_at seats t = is_wait (status_in (txns_of seats t))
 
--- nobody sits there
+-- the entry is free
 abbrev pub is_free : Option Seat → Bool
 is_free None = true
 is_free (Some x) = false
 
--- the slot is there, and nobody sits there
+-- the slot exists and is free
 abbrev pub is_free_at : List (Option Seat) → ℕ → Bool
 is_free_at seats t = option_map_or is_free (slice_get seats t) false

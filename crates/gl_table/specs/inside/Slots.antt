@@ -1,4 +1,4 @@
--- The told list and the lists of all transactions by slot: what it is to wake and to free waiters.
+-- The list of notices and the lists of all transactions by slot: what it means to wake and to free waiters.
 use Rattle.gl_slots.specs.Limit.{most_slots}
 use Rattle.std.specs.Prelude.{ℕ, Bool, true, ◌&&◌, ◌==◌, ◌≡◌, Option, ◌+◌, ◌<◌, ◌≤◌, ◌^◌, false, map, List, length, None, if◌then◌else◌}
 use Rattle.std.specs.Prelude.{[], slice_get, Some, take}
@@ -24,32 +24,32 @@ use Rattle.gl_model.specs.Calls.{held_children, is_covered}
 use Rattle.gl_model.specs.State.{State, members, restatus}
 use Rattle.gl_model.specs.declared.answers.Notice.TheVariants as notice
 
--- Whom more can be told.
+-- To whom more can be told.
 
 -- more can be told: the list is by slot, and has no notice for these
 pub record CanTell (list : Told) (who : ℕ → Bool) : Type 0 where
   pub by_slot : IsBySlot list
   pub untold : (u : ℕ) → who u ≡ true → notices_in list u ≡ None
 
--- the list goes on from what all are told of the way to one state to what they are told of the way to another
+-- the list continues from what all are told between a start and one state to what they are told between that start and another
 pub record TellsAll (s s' : State) (list list' : Told) : Type 0 where
   pub by_slot : IsBySlot list'
   pub all : (start : State) → IsOnWay start s → ((u : ℕ) → notices_in list u ≡ told_to start s u) → (u : ℕ) → notices_in list' u ≡ told_to start s' u
 
--- the list goes on from what all but this slot are told of the way to one state to what they are told of the way to another; the slot is told nothing more
+-- the same for all but this slot, which is told nothing more
 pub record TellsOthers (t : ℕ) (s s' : State) (list list' : Told) : Type 0 where
   pub by_slot : IsBySlot list'
   pub others : (start : State) → IsOnWay start s → ((u : ℕ) → (u == t) ≡ false → notices_in list u ≡ told_to start s u)
       → (u : ℕ) → (u == t) ≡ false → notices_in list' u ≡ told_to start s' u
   pub own : notices_in list' t ≡ notices_in list t
 
--- The lists of all transactions by slot, and what it is to wake waiters.
+-- The lists of all transactions by slot, and what it means to wake waiters.
 
 -- what a list says, by slot
 abbrev pub by_list : {A : Type 0} → (LockList → A) → A → List LockList → ℕ → A
 by_list f none ls t = option_map_or f (slice_get ls t) none
 
--- the mode that a list has of a node
+-- the mode of a node in a list
 abbrev pub held_by : List LockList → ℕ → NodeId → Mode
 held_by ls t n = by_list (λ l. mode_of l n) NL ls t
 
@@ -57,7 +57,7 @@ held_by ls t n = by_list (λ l. mode_of l n) NL ls t
 abbrev pub nodes_by : List LockList → ℕ → List NodeId
 nodes_by ls t = by_list (λ l. keys l.entries) [] ls t
 
--- the node of which a list says this, where no child of it is counted
+-- the node of a list's entry, if no child of it is counted
 abbrev pub childless_in : Option (NodeId × Entry) → Option NodeId
 childless_in None = None
 childless_in (Some (n, e)) = if e.children == 0 then Some n else None
@@ -66,7 +66,7 @@ childless_in (Some (n, e)) = if e.children == 0 then Some n else None
 abbrev pub listed_by : List LockList → ℕ → NodeId → Bool
 listed_by ls t n = by_list (λ l. is_listed l n) false ls t
 
--- the count that is kept of a node's held children
+-- the kept count of a node's held children
 abbrev pub counted_by : List LockList → ℕ → NodeId → ℕ
 counted_by ls t n = by_list (λ l. count_of l n) 0 ls t
 
@@ -74,24 +74,24 @@ counted_by ls t n = by_list (λ l. count_of l n) 0 ls t
 abbrev pub room_by : List LockList → ℕ → ℕ
 room_by ls t = by_list (λ l. spare l.loose) 0 ls t
 
--- how many of these nodes a list has not
+-- how many of these nodes are not in a list
 abbrev pub unlisted_by : List LockList → ℕ → List NodeId → ℕ
 unlisted_by ls t ps = by_list (λ l. unlisted l ps) 0 ls t
 
--- a slot may come to hold a node with these parents: its list has the node, and can count one child more of each parent
+-- a slot can become a holder of a node with these parents: its list has the node, and can count one more child of each parent
 pub record CanHold (ls : List LockList) (t : ℕ) (n : NodeId) (ps : List NodeId) : Type 0 where
   pub slot : t < length ls
   pub listed : listed_by ls t n ≡ true
   pub room : held_by ls t n ≡ NL → unlisted_by ls t ps ≤ room_by ls t
   pub few : (q : NodeId) → list_any (same_node q) ps ≡ true → counted_by ls t q + count_by (same_node q) ps < 2 ^ 32
 
--- what is written of a node in the lists of slots: its mode, whether it is listed no more, and how many held children more are counted
+-- what is written of a node in the lists of slots: its mode, whether it is removed, and how many more held children are counted
 pub record Writing : Type 0 where
   pub mode : ℕ → Mode
   pub gone : Bool
   pub more : ℕ → NodeId → ℕ
 
--- the lists once this is written in those of these slots; all else is as it was
+-- the lists after this is written in those of these slots; all else is unchanged
 pub record IsWritten (ls : List LockList) (n : NodeId) (who : ℕ → Bool) (is : Writing) (ls' : List LockList) : Type 0 where
   pub len : length ls' ≡ length ls
   pub modes : (u : ℕ) (q : NodeId) → held_by ls' u q ≡ (if who u && same_node q n then is.mode u else held_by ls u q)
@@ -100,11 +100,11 @@ pub record IsWritten (ls : List LockList) (n : NodeId) (who : ℕ → Bool) (is 
   pub rooms : (u : ℕ) → who u ≡ false → room_by ls' u ≡ room_by ls u
   pub orders : (u : ℕ) → who u ≡ false → nodes_by ls' u ≡ nodes_by ls u
 
--- a node with these parents is held in this mode; where it was not held before it counts as a child of each parent
+-- a node with these parents is held in this mode; if it was not held before, it counts as a child of each parent
 abbrev pub as_held : List LockList → NodeId → List NodeId → (ℕ → Mode) → Writing
 as_held ls n ps mode = record { mode = mode; gone = false; more = λ u q. if same_mode (held_by ls u n) NL then count_by (same_node q) ps else 0 }
 
--- a node that is not held is listed no more
+-- a node that is not held is removed from the list
 abbrev pub as_left : Writing
 as_left = record { mode = λ u. NL; gone = true; more = λ u q. 0 }
 
@@ -114,13 +114,13 @@ WakesLists ls n ps ws ls' = IsWritten ls n (λ u. is_among_waiters u ws) (as_hel
 
 -- The end of waits on a node, by a grant or without one.
 
--- the seats, the lists and a told list as it is filled
+-- the transaction entries, the lists, and a list of notices as it is filled
 pub record Books : Type 0 where
   pub seats : List (Option Seat)
   pub lists : List LockList
   pub told : Told
 
--- so by their parts
+-- the same from its parts
 abbrev pub books_of : SeatList → List LockList → Told → Books
 books_of seats lists told = record { seats = seats.items; lists = lists; told = told }
 
@@ -130,14 +130,14 @@ pub record AreKept (b : Books) : Type 0 where
   pub len : length b.lists ≡ length b.seats
   pub by_slot : IsBySlot b.told
 
--- waiters of different slots that are there, who were told nothing yet
+-- waiters of different existing slots, which were told nothing yet
 pub record CanEnd (b : Books) (ws : List Waiter) : Type 0 where
   pub kept : AreKept b
   pub distinct : is_distinct ws ≡ true
   pub below : (u : ℕ) → is_among_waiters u ws ≡ true → u < length b.seats
   pub untold : (u : ℕ) → is_among_waiters u ws ≡ true → notices_in b.told u ≡ None
 
--- the waits of these slots on the node are over: they are active, this is written in their lists, and they are told this; all else is as it was
+-- the waits of these slots on the node end: they are active, this is written in their lists, and they are told this; all else is unchanged
 pub record WaitsEnd (b : Books) (n : NodeId) (who : ℕ → Bool) (is : Writing) (says : ℕ → Notice) (b' : Books) : Type 0 where
   pub len : length b'.seats ≡ length b.seats
   pub txns : (u : ℕ) → txns_of b'.seats u ≡ (if who u then restatus Active (txns_of b.seats u) else txns_of b.seats u)
@@ -157,23 +157,23 @@ pub record KeepsLists (ls ls' : List LockList) : Type 0 where
   pub counts : (u : ℕ) (q : NodeId) → counted_by ls' u q ≡ counted_by ls u q
   pub rooms : (u : ℕ) → room_by ls u ≤ room_by ls' u
 
--- the list of a slot has room for one node more, and for the counts of nine that are not listed
+-- the list of a slot has room for one more node, and for the counts of nine that are not listed
 pub record HasRoomAt (ls : List LockList) (t : ℕ) : Type 0 where
   pub entry : 0 < by_list (λ l. spare l.entries) 0 ls t
   pub counts : 9 ≤ room_by ls t
 
--- a slot holds no child of a node that its list has, and counts each parent of it
+-- a slot counts no held child of a node, and counts the node for each of its parents
 pub record CanStrike (ls : List LockList) (t : ℕ) (n : NodeId) (ps : List NodeId) : Type 0 where
   pub slot : t < length ls
   pub childless : counted_by ls t n ≡ 0
   pub some : (q : NodeId) → count_by (same_node q) ps ≤ counted_by ls t q
 
--- the node is gone from an order: those before it stand as they stood
+-- the node is removed from an order: those before it keep their places
 pub record LeavesPlace (n : NodeId) (order order' : List NodeId) : Type 0 where
   pub before : (place : ℕ) → slice_get order place ≡ Some n → take place order' ≡ take place order
   pub fewer : length order' + 1 ≡ length order
 
--- the lists once the node is taken out of one; each parent has one held child less
+-- the lists after the node is removed from one; each parent has one held child less
 pub record Strikes (ls ls' : List LockList) (t : ℕ) (n : NodeId) (ps : List NodeId) : Type 0 where
   pub len : length ls' ≡ length ls
   pub modes : (u : ℕ) (q : NodeId) → held_by ls' u q ≡ (if (u == t) && same_node q n then NL else held_by ls u q)

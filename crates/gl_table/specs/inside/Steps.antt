@@ -1,4 +1,4 @@
--- What a step of the ledger asks for, and what it comes to.
+-- What a step of the ledger needs, and what it leaves.
 use Rattle.std.specs.Prelude.{◌≡◌, ◌≢◌, ◌&&◌, ◌==◌, ◌+◌, ◌<◌, ◌≤◌, ◌^◌, Bool, ℕ, true, false, List, [], Some, None, length, not, if◌then◌else◌}
 use Rattle.std.specs.List.{count_by, filter, list_all}
 use Rattle.gl_modes.specs.Nodes.{same_node}
@@ -26,76 +26,76 @@ use Rattle.gl_table.specs.inside.Ledger.{Agrees, AreExact, AreSound, CountsHeld,
 use Rattle.gl_table.specs.inside.Slots.{AreKept, Books, CanTell, HasRoomAt, IsShedding, WaitsEnd, WakesLists, as_left, books_of, counted_by, held_by}
 use Rattle.gl_table.specs.inside.Slots.{unlisted_by}
 
--- the ledger is in order over a graph, and exact for these slots; the lists of others may be out
+-- the ledger is in order over a graph, and exact for these slots; the lists of others may be inexact
 pub record AreExactFor (g : View) (l : Ledger) (who : ℕ → Type 0) : Type 0 where
   pub sound : AreSound l
   pub orderly : IsOrderly (state_in g l)
   pub agree : (u : ℕ) → who u → Agrees (state_in g l) l.lists.items u
   pub count : (u : ℕ) → who u → CountsHeld (state_in g l) l.lists.items u
 
--- more can be told to those who wait for n, who were told nothing yet
+-- more can be told to n's waiters, which were told nothing yet
 abbrev pub CanTellWaiters : State → NodeId → Told → Type 0
 CanTellWaiters s n list = CanTell list (λ u. is_among_waiters u (s.queue n))
 
--- those who waited for n were told that it is gone
+-- n's waiters were told that it is gone
 abbrev pub TellsGone : State → NodeId → Told → Told → Type 0
 TellsGone s n list list' = IsTold s.txns (λ u. is_among_waiters u (s.queue n)) (λ u. notice.Gone) list list'
 
--- n granted from its front in this state: those who stood there hold it and are told, and the ledger is in order
+-- n's waiters were granted from the front in this state: they hold it and are told, and the ledger is in order
 pub record HasWoken (g : View) (n : NodeId) (s : State) (l l' : Ledger) (list list' : Told) : Type 0 where
   pub sound : AreSound l'
   pub lists : WakesLists l.lists.items n (parents_of (graph_of g) n) (front_at s n) l'.lists.items
   pub tells : WakesTold (state_in g l).txns n (front_at s n) list list'
 
--- a wait of t, who is there, can be over: t was told nothing yet, and more can be told
+-- a wait of t can end: t was told nothing yet, and more can be told
 pub record CanEndAt (b : Books) (t : ℕ) : Type 0 where
   pub kept : AreKept b
   pub seated : t < length b.seats
   pub untold : notices_in b.told t ≡ None
 
--- the covered children of n are released, and t's list, which is out of its place, has what t holds still
+-- the covered children of n are released, and t's list, which is kept apart, has what t still holds
 pub record IsReleased (s now : State) (t : ℕ) (n : NodeId) (l : LockList) : Type 0 where
   pub state : now ≡ shed s t n
   pub active : status_of now t ≡ Some Active
   pub marked : IsShedding s now t n l
   pub modes : (q : NodeId) → mode_of l q ≡ now.held t q
 
--- t has left all that it held: it holds nothing and waits for nothing, and once its seat is free it is released
+-- t holds nothing and waits for nothing, and is released once its entry is free
 pub record HasLeftAll (s now : State) (t : ℕ) : Type 0 where
   pub most : now.most ≡ s.most
   pub state : released s t ≡ with_txn now t None
   pub free : (n : NodeId) → now.held t n ≡ NL
   pub out : (n : NodeId) → is_among_waiters t (now.queue n) ≡ false
 
--- the ledger is in order over a graph, and each list has the modes of its slot; what is counted may be out
+-- the ledger is in order over a graph, and each list has the modes of its slot; the counts may be inexact
 pub record AreAgreed (g : View) (l : Ledger) : Type 0 where
   pub sound : AreSound l
   pub orderly : IsOrderly (state_in g l)
   pub agree : (u : ℕ) → Agrees (state_in g l) l.lists.items u
 
--- those who wait for n hold nothing of it, and none of them can be granted
+-- n's waiters do not hold it, and none of them can be granted
 pub record AreShutOut (s : State) (n : NodeId) : Type 0 where
   pub newcomers : (u : ℕ) → is_among_waiters u (s.queue n) ≡ true → s.held u n ≡ NL
   pub stuck : list_all (λ w. not (fits slot_limit (members s n) w.0 w.1)) (s.queue n) ≡ true
 
--- where t holds n, its list can count n at these new parents in place of the old ones
+-- if t holds n, its list can count n under these new parents in place of the old ones
 pub record CanRecount (s : State) (ls : List LockList) (t : ℕ) (n : NodeId) (old new : List NodeId) : Type 0 where
   pub slot : t < length ls
   pub counted : holds (members s n) t ≡ true → (q : NodeId) → count_by (same_node q) old ≤ counted_by ls t q
   pub listed : unlisted_by ls t new ≡ 0
   pub few : (q : NodeId) → counted_by ls t q + count_by (same_node q) new < 2 ^ 32
 
--- what a node with these parents adds to the held children of q, where it is held
+-- what a node with these parents adds to the held children of q, if it is held
 abbrev pub adds_to : Bool → List NodeId → NodeId → ℕ
 adds_to held ps q = if held then count_by (same_node q) ps else 0
 
--- so it counts it now; all other counts are as they were
+-- so it counts it now; all other counts are unchanged
 abbrev pub Recounts : State → List LockList → ℕ → NodeId → List NodeId → List NodeId → List LockList → Type 0
 Recounts s ls t n old new ls' =
     (u : ℕ) (q : NodeId) → counted_by ls' u q + adds_to ((u == t) && holds (members s n) t) old q
     ≡ counted_by ls u q + adds_to ((u == t) && holds (members s n) t) new q
 
--- n has moved: waits on it that do not meet the rule of the graph over its parents are over, and who waited so is told
+-- n has moved: waits on it that fail the rule of the graph over its parents end, and their transactions are told
 pub record HasMoved (g : View) (n : NodeId) (l l' : Ledger) (list list' : Told) : Type 0 where
   pub sound : AreSound l'
   pub state : state_in g l' ≡ moved_to (state_in g l) n (parents_of (graph_of g) n) (graph_of g)
@@ -103,7 +103,7 @@ pub record HasMoved (g : View) (n : NodeId) (l l' : Ledger) (list list' : Told) 
   pub tells : IsTold (state_in g l).txns
       (λ u. is_among_waiters u (filter (λ w. not (stays (state_in g l) (parents_of (graph_of g) n) w)) ((state_in g l).queue n))) (λ u. notice.Moved) list list'
 
--- t waits for n no more, and nothing else of the headers changed; t is active, its list has n no more, and it is told that n moved
+-- t waits for n no more, and the headers are else unchanged; t is active, its list lacks n, and it is told that n moved
 pub record IsTurnedAway (t : ℕ) (n : NodeId) (l l' : Ledger) (list list' : Told) : Type 0 where
   pub held : held_of l'.headers.entries ≡ held_of l.headers.entries
   pub queue : queue_of l'.headers.entries ≡ with_waiters (queue_of l.headers.entries) n (without_waiter t (queue_of l.headers.entries n))
@@ -127,7 +127,7 @@ pub record IsFresh (s : State) (n : NodeId) : Type 0 where
   pub unheld : (u : ℕ) → s.held u n ≡ NL
   pub unawaited : s.queue n ≡ []
 
--- n is in no use, t holds it, nobody else holds n or a child that goes with it, and nobody waits for a child
+-- n is not in use, t holds it, nobody else holds n or a child that is removed with it, and nobody waits for a child
 pub record IsBranchLeftTo (s : State) (t : ℕ) (n : NodeId) : Type 0 where
   pub movable : is_movable_shape (shape_of s.graph n) ≡ true
   pub free : is_in_use s.graph n ≡ false
@@ -135,20 +135,20 @@ pub record IsBranchLeftTo (s : State) (t : ℕ) (n : NodeId) : Type 0 where
   pub alone : (u : ℕ) (q : NodeId) → (u == t) ≡ false → goes_with s.graph n q ≡ true → s.held u q ≡ NL
   pub unawaited : (q : NodeId) → is_child s.graph n q ≡ true → s.queue q ≡ []
 
--- room was made for t to come to hold a node with this key, by a header that was prepared with t's grant of this mode
+-- room was made for t to hold a node with this key, with a header prepared with t's grant of this mode
 pub record IsPrepared (l : Ledger) (t key : ℕ) (m : Mode) (prepared : HeaderState) : Type 0 where
   pub header : IsOneHolder prepared t m
   pub headers_room : key < l.headers.room
   pub lists_room : HasRoomAt l.lists.items t
 
--- t can ask for n in a mode m: n lives, and this is what t holds of it, and these are its parents
+-- t can request n in a mode m: n lives, and these are t's held mode and n's parents
 pub record CanAsk (g : View) (l : Ledger) (t : ℕ) (n : NodeId) (m held : Mode) (parents : List NodeId) : Type 0 where
   pub live : is_live (graph_of g) n ≡ true
   pub lock : m ≢ NL
   pub held_is : held ≡ held_by l.lists.items t n
   pub parents_are : parents ≡ parents_of (graph_of g) n
 
--- t asked for n and has this answer: it was granted at once, or it waits
+-- t requested n and has this answer: it was granted at once, or it waits
 pub record HasAsked (s now : State) (t : ℕ) (n : NodeId) (m : Mode) (answer : Asked) : Type 0 where
   pub answered : answer ≡ asked_at s t n m
   pub enters : enters_at s t n m ≡ true → now ≡ granted s t n m

@@ -1,4 +1,4 @@
-//! Asking for a node: granted at once, or queued.
+//! Requests for a node: granted at once, or queued.
 
 ghost use Rattle.std.specs.Prelude.{◌&&◌, ◌<◌, ◌≡◌, IfErr, IfOk, IsOk, OnErr, OnOk, false, length, not, true};
 ghost use Rattle.gl_header.specs.Header.{holds};
@@ -22,7 +22,7 @@ use gl_modes::{Mode, NodeId, Refusal, covers, sup};
 use gl_slots::Slot;
 use std::alloc::AllocError;
 
-/// Makes room in the list of a slot for one node more, and for the counts of its parents.
+/// Makes room in the list of a slot for one more node, and for the counts of its parents.
 #[inline]
 pub(crate) fn make_room(lists: &mut Vec<LockList>, slot: Slot) -> Result<(), AllocError>
     requires { slot < length lists.old.items }
@@ -33,8 +33,8 @@ pub(crate) fn make_room(lists: &mut Vec<LockList>, slot: Slot) -> Result<(), All
 }
 
 impl Ledger {
-    /// Makes room in the list of a slot, which holds the node in the mode `held`, for what an ask comes
-    /// to. A conversion that is granted at once needs none, so that want of memory does not refuse it.
+    /// Makes room in the list of a slot, which holds the node in the mode `held`, for a request. A
+    /// conversion that is granted at once needs none, so lack of memory does not refuse it.
     #[inline]
     fn make_room_to_ask(
         &mut self,
@@ -63,10 +63,10 @@ impl Ledger {
         }
     }
 
-    /// Asks for a mode on a node that has these parents and that the slot holds in the mode `held`: the
-    /// supremum of the held and the asked mode is granted at once, or the slot waits for it in its
-    /// place. The room for a later grant is made here. The only refusal is `NoMemory`, which a member
-    /// that is granted at once never meets.
+    /// Requests a mode on a node that has these parents and that the slot holds in the mode `held`:
+    /// the supremum of the held and the requested mode is granted at once, or the slot waits for it
+    /// in its place. The room for a later grant is made here. The only refusal is `NoMemory`, never
+    /// for a member that is granted at once.
     #[inline]
     pub(crate) fn ask(
         &mut self,
@@ -115,9 +115,9 @@ impl Ledger {
         Ok(asked)
     }
 
-    /// Grants a mode that can be granted at once, where the node has these parents and the slot holds
-    /// the mode `held`: the supremum of the held and the asked mode. The only refusal is `NoMemory`,
-    /// which a member never meets.
+    /// Grants a mode that can be granted at once, on a node that has these parents and that the
+    /// slot holds in the mode `held`: the supremum of the held and the requested mode. The only
+    /// refusal is `NoMemory`, never for a member.
     pub(crate) fn grant(
         &mut self,
         graph: &Graph,

@@ -1,4 +1,4 @@
-//! The tests of an ask, before anything changes.
+//! The tests of a request, before anything changes.
 
 ghost use Rattle.std.specs.Prelude.{◌≡◌, ◌&&◌, ◌||◌, IfErr, IfOk, None, OnOk, Option, Some, not};
 ghost use Rattle.gl_modes.specs.declared.mode.Mode.TheVariants.{NL, S, X};
@@ -19,7 +19,7 @@ use gl_modes::{Mode, NodeId, Refusal, sup};
 use gl_slots::Slot;
 
 impl Ledger {
-    /// Whether the name names a transaction that lives and neither waits nor is condemned.
+    /// Whether the name is of a living transaction that neither waits nor is condemned.
     #[inline]
     pub(crate) fn check_active(&self, t: TxnId) -> Result<(), Refusal>
         ensures { (g : AGraph) → result ≡ verdict (first_refusal (commit_tests (state_on g self.now) t)) }
@@ -34,8 +34,8 @@ impl Ledger {
         }
     }
 
-    /// The tests of an ask, whether it waits or not. Answers the mode in which the node is held, and
-    /// its parents, so that whoever then asks looks up neither.
+    /// The tests of a request, whether it waits or not. Answers the mode in which the node is held,
+    /// and its parents, so that the request looks up neither.
     #[inline(always)]
     pub(crate) fn check_ask<'a>(
         &self,
@@ -64,7 +64,7 @@ impl Ledger {
     }
 }
 
-/// Whether the mode is none, or one that a node of this kind does not take: a record takes `S` and `X`.
+/// Whether the mode is none, or one that a node of this kind cannot have: a record has `S` and `X`.
 fn is_bad_mode(kind: Kind, mode: Mode) -> bool
     ensures { (shape : Option Shape) → Some kind ≡ kind_in shape
         → result ≡ (same_mode mode NL || (is_record_shape shape && not (same_mode mode S || same_mode mode X))) }

@@ -1,4 +1,4 @@
-//! Who falls for a deadlock, and what is kept of it before.
+//! Victims of deadlocks, and the record of each deadlock.
 
 ghost use Rattle.gl_slots.specs.Limit.{most_slots};
 ghost use Rattle.std.specs.Prelude.{ℕ, ◌&&◌, ◌<◌, ◌↔◌, ◌≡◌, IfNone, IfSome, IsTrue, Some, length, true};
@@ -20,7 +20,7 @@ use gl_slots::{Slot, Slots};
 use gl_waits::{Victims, on_cycle_in, victim_for};
 
 impl Ledger {
-    /// Who is to be condemned next for a slot; `None` where it is on no cycle.
+    /// The next victim for a slot; `None` if the slot is on no cycle.
     pub(crate) fn victim(&self, victims: Victims, slot: Slot) -> Option<Slot>
         requires sound { AreSound self.now }
         requires seated { slot < length self.now.seats.items }
@@ -36,7 +36,7 @@ impl Ledger {
         Some(victim as Slot)
     }
 
-    /// Keeps, in place of the last deadlock, that of a slot, of which this victim is to fall.
+    /// Records, in place of the last deadlock, that of a slot, before this victim is condemned.
     pub(crate) fn keep_deadlock(&self, slot: Slot, victim: Slot, deadlock: &mut Deadlock)
         requires sound { AreSound self.now }
         requires seated { slot < length self.now.seats.items }
@@ -64,7 +64,7 @@ impl Ledger {
         on_cycle_in(&waits, slot as usize)
     }
 
-    /// A slot that waits: its name, what it waits for, and for whom of these slots.
+    /// A slot that waits: its name, its node and wanted mode, and for whom of these slots it waits.
     fn stuck(&self, slot: Slot, cycle: Slots) -> Stuck
         requires below { slot < most_slots }
         requires waits { is_wait (status_in (txns_of self.now.seats.items slot)) ≡ true }

@@ -1,4 +1,4 @@
-//! Nodes leave the list of a slot: one by one, all of them, or those that are covered.
+//! Nodes are removed from the list of a slot: one by one, all of them, or those that are covered.
 
 ghost use Rattle.std.specs.Prelude.{◌<◌, ◌==◌, ◌≡◌, Some, false, length};
 ghost use Rattle.gl_model.specs.Lawful.{IsOrderly};
@@ -18,7 +18,7 @@ use gl_model::{Notice, Status, Told, TxnId};
 use gl_modes::NodeId;
 use gl_slots::Slot;
 
-/// Takes a node, of which no child is held, out of the list of a slot; each parent has one held
+/// Removes a node, of which no child is held, from the list of a slot; each parent has one held
 /// child less.
 pub(crate) fn strike(lists: &mut Vec<LockList>, slot: Slot, node: NodeId, parents: &[NodeId])
     requires can { CanStrike lists.old.items slot node parents.now }
@@ -29,7 +29,7 @@ pub(crate) fn strike(lists: &mut Vec<LockList>, slot: Slot, node: NodeId, parent
     list.count_down(parents);
 }
 
-/// A slot waits no more on a node that it does not hold: it is active, its list has the node no more,
+/// Ends the wait of a slot on a node that it does not hold: it is active, its list lacks the node,
 /// and it is told why.
 pub(crate) fn end_wait(
     seats: &mut Seats,
@@ -50,8 +50,9 @@ pub(crate) fn end_wait(
 }
 
 impl Ledger {
-    /// Releases one node after the other, from the back of the slot's list to its front. The list itself is left
-    /// as it is, for whoever takes all out of it at once. The list `granted` is filled anew.
+    /// Releases one node after the other, from the end of the slot's list to its beginning. The
+    /// list itself is left as it is, for a caller that clears it. The list `granted` is filled
+    /// anew.
     pub(crate) fn leave_all(
         &mut self,
         graph: &Graph,
@@ -78,8 +79,8 @@ impl Ledger {
         }
     }
 
-    /// Releases what is marked in the list of a slot, from its back to its front. The list `granted` is filled
-    /// anew.
+    /// Releases what is marked in the list of a slot, from its end to its beginning. The list
+    /// `granted` is filled anew.
     pub(crate) fn release_marked(
         &mut self,
         graph: &Graph,

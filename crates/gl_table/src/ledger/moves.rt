@@ -1,4 +1,4 @@
-//! A node that moved: what follows for who moved it, and for those who wait on it.
+//! After a move: the counts of held children, and the waits on the moved node.
 
 ghost use Rattle.std.specs.Prelude.{◌≡◌, ◌<◌, ◌≤◌, ◌+◌, ◌^◌, [], ℕ, not, true};
 ghost use Rattle.std.specs.List.{count_by, filter};
@@ -30,8 +30,7 @@ use gl_model::{Notice, Told};
 use gl_modes::{Mode, NodeId};
 use gl_slots::{Slot, Slots};
 
-/// The parents of a node, of which there are at most 8. They are kept apart from the graph, and so
-/// outlive a change of it.
+/// The parents of a node, at most 8, copied so that they outlive a change of the graph.
 pub(crate) fn parents_before(graph: &Graph, node: NodeId) -> ArrayVec<NodeId, 8>
     ensures { result.items ≡ parents_of (graph_of graph.now) node }
 {
@@ -43,7 +42,7 @@ pub(crate) fn parents_before(graph: &Graph, node: NodeId) -> ArrayVec<NodeId, 8>
     parents
 }
 
-/// Whether the rule of the graph lets the owner of a list have this mode on a node with these
+/// Whether the rule of the graph permits the owner of a list this mode on a node with these
 /// parents.
 fn is_allowed(list: &LockList, parents: &[NodeId], mode: Mode) -> bool
     ensures { result ≡ intends_over (mode_of list.now) parents.now mode }
@@ -51,7 +50,7 @@ fn is_allowed(list: &LockList, parents: &[NodeId], mode: Mode) -> bool
     check_rule(list, parents, mode).is_ok()
 }
 
-/// Where a node is held, one held child less is counted of each old parent, and one more of each new
+/// If the node is held, counts one held child less of each old parent, and one more of each new
 /// one, which the list has.
 fn recount(list: &mut LockList, node: NodeId, old: &[NodeId], new: &[NodeId])
     requires counted { not (same_mode (mode_of list.old node) NL) ≡ true → (q : Node) → count_by (same_node q) old.now ≤ count_of list.old q }
@@ -70,12 +69,11 @@ fn recount(list: &mut LockList, node: NodeId, old: &[NodeId], new: &[NodeId])
 }
 
 impl Ledger {
-    /// A node has moved. Where the slot that moved it holds it, one held child less is counted of each
-    /// old parent, and one more of each new one. Waits on the node that do not meet the rule of the
-    /// graph over its new parents are over. Puts who is told of that into an empty list, by rising
-    /// slot.
+    /// A node has moved. If the slot that moved it holds it, one held child less is counted of each
+    /// old parent, and one more of each new one. Waits on the node that fail the rule of the graph
+    /// over its new parents end. Puts the notices of these into an empty list, by rising slot.
     ///
-    /// Linear in the parents and the waiters. It takes no memory.
+    /// Linear in the parents and the waiters. Allocates no memory.
     pub(crate) fn follow(
         &mut self,
         graph: &Graph,
@@ -97,7 +95,7 @@ impl Ledger {
         self.turn_away(graph, node, told);
     }
 
-    /// Ends the waits on a node that do not meet the rule of the graph: who waited so is active, and
+    /// Ends the waits on a node that fail the rule of the graph: their transactions are active, and
     /// told that the node moved. The others keep their order. No waiter fits, so nobody is granted.
     fn turn_away(&mut self, graph: &Graph, node: NodeId, told: &mut Told)
         requires agreed { AreAgreed graph.now self.old }
@@ -112,7 +110,7 @@ impl Ledger {
         }
     }
 
-    /// The slots that wait on a node for a mode that does not meet the rule of the graph.
+    /// The slots that wait on a node for a mode that fails the rule of the graph.
     fn strays(&self, graph: &Graph, node: NodeId) -> Slots
         requires agreed { AreAgreed graph.now self.now }
         ensures { (u : ℕ) → has_slot result u ≡ is_among_waiters u
@@ -128,8 +126,8 @@ impl Ledger {
         strays
     }
 
-    /// Ends a wait of a slot that holds nothing on the node, where nobody at the front of what is left
-    /// can be granted. The slot is active, and told that the node moved.
+    /// Ends a wait of a slot that does not hold the node, if none of the remaining waiters can be
+    /// granted from the front. The slot is active, and told that the node moved.
     fn turn_one_away(&mut self, slot: Slot, node: NodeId, told: &mut Told)
         requires can { CanEndAt (books_of self.old.seats self.old.lists.items told.old.items) slot }
         requires waits { is_among_waiters slot (queue_of self.old.headers.entries node) ≡ true }

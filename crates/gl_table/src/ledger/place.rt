@@ -1,4 +1,4 @@
-//! Locks on records that come and go.
+//! Locks on new nodes and on nodes that are removed.
 
 ghost use Rattle.gl_slots.specs.Limit.{most_slots};
 ghost use Rattle.std.specs.Prelude.{◌≡◌, ◌≢◌, ◌<◌, ℕ, [], IfErr, IfOk, length, true};
@@ -26,7 +26,7 @@ use gl_model::{Notice, Told};
 use gl_modes::{Mode, NodeId, Refusal};
 use gl_slots::Slot;
 
-/// Those who wait for a node that goes wait no more: they are active, their lists have it no more,
+/// Ends the waits for a node that is removed: the waiters are active, their lists lack the node,
 /// and they are told.
 fn free(
     seats: &mut Seats,
@@ -47,8 +47,8 @@ fn free(
 }
 
 impl Ledger {
-    /// Takes all locks on a node away that an active slot holds and nobody else, and of which nobody holds a
-    /// child. Those who wait for it are active again, and are told that it is gone.
+    /// Removes all locks on a node that an active slot holds and nobody else, and of which nobody
+    /// holds a child. Its waiters are active again, and told that it is gone.
     pub(crate) fn vacate(&mut self, graph: &Graph, slot: Slot, node: NodeId, told: &mut Told)
         requires act { MayAct graph.now self.old slot }
         requires left { IsLeftTo (state_in graph.now self.old) slot node }
@@ -68,8 +68,8 @@ impl Ledger {
         free(&mut self.seats, &mut self.lists, told, node, waiters);
     }
 
-    /// Takes the lock on a node away that an active slot may hold, and nobody else. Nobody waits for the node or
-    /// holds a child of it, so nobody is told.
+    /// Removes the lock on a node that an active slot may hold, and nobody else. Nobody waits for
+    /// the node or holds a child of it, so nobody is told.
     fn clear(&mut self, graph: &Graph, slot: Slot, node: NodeId, told: &mut Told)
         requires act { MayAct graph.now self.old slot }
         requires left { IsLeftTo (state_in graph.now self.old) slot node }
@@ -85,9 +85,9 @@ impl Ledger {
         }
     }
 
-    /// Takes all locks on a node that is in no use away, and those on its children, which of an index are its
-    /// intervals. An active slot holds the node, nobody else holds any of them, and nobody waits for a child.
-    /// Those who wait for the node are active again, and are told that it is gone.
+    /// Removes all locks on a node that is not in use, and on its children, the intervals of an
+    /// index. An active slot holds the node, nobody else holds any of them, and nobody waits for a
+    /// child. The node's waiters are active again, and told that it is gone.
     pub(crate) fn vacate_branch(&mut self, graph: &Graph, slot: Slot, node: NodeId, told: &mut Told)
         requires act { MayAct graph.now self.old slot }
         requires branch { IsBranchLeftTo (state_in graph.now self.old) slot node }
@@ -103,9 +103,9 @@ impl Ledger {
         self.vacate(graph, slot, node, told);
     }
 
-    /// Makes room for a node with this key that a slot comes to hold, and for the counts of its parents.
-    /// Answers the node's header, with the slot's grant of this mode in it. The only refusal is
-    /// `NoMemory`, and all locks stay as they are.
+    /// Makes room for a node with this key that a slot will hold, and for the counts of its
+    /// parents. Answers the node's header, with the slot's grant of this mode in it. The only
+    /// refusal is `NoMemory`; no lock changes.
     pub(crate) fn prepare(
         &mut self,
         slot: Slot,
@@ -125,8 +125,8 @@ impl Ledger {
         self.headers.prepare(key, slot, mode)
     }
 
-    /// An active slot comes to hold a node in this mode that nobody holds or waits for, by the header
-    /// that was prepared. It takes no memory: the room is there.
+    /// Gives an active slot this mode on a node that nobody holds or waits for, by the prepared
+    /// header. Allocates no memory: the room is there.
     pub(crate) fn place(
         &mut self,
         graph: &Graph,

@@ -11,8 +11,8 @@ use gl_model::{Notice, Status, Told, TxnId};
 use gl_modes::{Mode, NodeId};
 use gl_slots::Slot;
 
-/// A slot, whose list has the node, holds it in this mode. Where it did not hold it before, each
-/// parent has one held child more.
+/// A slot whose list has the node holds it in this mode. If it did not hold it before, each parent
+/// has one held child more.
 pub(crate) fn hold(
     lists: &mut Vec<LockList>,
     slot: Slot,
@@ -31,8 +31,8 @@ pub(crate) fn hold(
     }
 }
 
-/// Those whose waits on a node were granted hold it, are active, and are told. Mostly nobody waits, so
-/// that this stands apart from the way of a release.
+/// The waiters that were granted on a node hold it, are active, and are told. Mostly there are
+/// none, so this is kept out of the code of a release.
 #[inline(never)]
 pub(crate) fn wake(
     seats: &mut Seats,

@@ -1,4 +1,4 @@
-//! A transaction goes back to a mark.
+//! A transaction rolls back to a mark.
 
 ghost use Rattle.std.specs.Prelude.{◌≡◌, ◌+◌, List, Some, drop, length, take, true};
 ghost use Rattle.std.specs.List.{list_any};
@@ -15,11 +15,11 @@ use gl_model::Told;
 use gl_slots::Slot;
 
 impl Locks {
-    /// Releases what an active slot holds from a place in its list on, but for nodes of which a child
-    /// stays; and says how many were released.
+    /// Releases what an active slot holds from a place in its list on, except nodes of which a
+    /// child stays; answers how many were released.
     ///
-    /// Nodes mostly stand behind their parents, so that one pass from the back is enough, and another
-    /// one where a node stood before its parent. Those before the place keep theirs.
+    /// Nodes are mostly listed after their parents, so one pass from the end is enough, and another
+    /// if a node was listed before its parent. Nodes before the place keep theirs.
     pub(crate) fn release_since(&mut self, slot: Slot, mark: usize, told: &mut Told) -> usize
         requires active { status_of (state_at self.old) slot ≡ Some Active }
         requires tell { CanTell told.old.items (λ u. is_wait (status_of (state_at self.old) u)) }
@@ -36,8 +36,8 @@ impl Locks {
         rows - self.ledger.rows(slot)
     }
 
-    /// One pass from the back of a slot's list to a place in it: each node is released of which no child
-    /// is held then. Says how many were.
+    /// One pass from the end of a slot's list to a place in it: releases each node of which no
+    /// child is held then. Answers how many.
     fn release_childless(&mut self, slot: Slot, mark: usize, told: &mut Told) -> usize
         requires active { status_of (state_at self.old) slot ≡ Some Active }
         requires tell { CanTell told.old.items (λ u. is_wait (status_of (state_at self.old) u)) }

@@ -12,8 +12,8 @@ use gl_model::{Status, Told};
 use gl_slots::Slot;
 
 impl Locks {
-    /// Takes back the wait of a slot, if it has one, releases all that it holds, and frees it. Each
-    /// node grants from its front.
+    /// Cancels the wait of a slot, if it has one, releases all that it holds, and frees it. The
+    /// waiters of each node are granted from the front.
     pub(crate) fn abort(&mut self, slot: Slot, told: &mut Told)
         requires seated { slot < (state_at self.old).most }
         requires tell { CanTell told.old.items (λ u. is_wait (status_of (state_at self.old) u)) }
@@ -32,8 +32,8 @@ impl Locks {
         self.end(slot, told);
     }
 
-    /// Releases all that a slot holds, which waits for nothing, and frees the slot. Each node grants
-    /// from its front.
+    /// Releases all that a slot holds, which does not wait, and frees the slot. The waiters of each
+    /// node are granted from the front.
     pub(crate) fn end(&mut self, slot: Slot, told: &mut Told)
         requires seated { slot < (state_at self.old).most }
         requires quiet { is_wait (status_of (state_at self.old) slot) ≡ false }

@@ -1,4 +1,4 @@
-//! What the locks say.
+//! Queries of the locks.
 
 ghost use Rattle.std.specs.Prelude.{if◌then◌else◌, ◌&&◌, ◌<◌, ◌≡◌, IfOk, None, Some, true};
 ghost use Rattle.std.specs.List.{find, list_any};
@@ -25,7 +25,7 @@ impl Locks {
         self.ledger.mode(slot, node)
     }
 
-    /// How many children of a node a slot holds, where it holds the node.
+    /// How many children of a node a slot holds, if it holds the node.
     #[inline]
     pub(crate) fn children(&self, slot: Slot, node: NodeId) -> Option<u32>
         ensures { result ≡ (if holds (members (state_at self.now) node) slot then Some (held_children (state_at self.now) slot node) else None) }
@@ -61,7 +61,7 @@ impl Locks {
         self.ledger.effective(&self.graph, slot, node)
     }
 
-    /// What an ask of a slot for a node came to.
+    /// The outcome of a slot's request for a node.
     pub(crate) fn outcome(&self, slot: Slot, node: NodeId) -> Locked
         ensures { result ≡ locked_as ((state_at self.now).held slot node) (status_of (state_at self.now) slot) }
     {

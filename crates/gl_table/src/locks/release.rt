@@ -1,4 +1,4 @@
-//! A node is released, and a wait is taken back.
+//! A node is released, and a wait ended.
 
 ghost use Rattle.std.specs.Prelude.{◌≡◌, Some, true};
 ghost use Rattle.gl_header.specs.Header.{holds, is_among_waiters};
@@ -19,7 +19,8 @@ use gl_modes::NodeId;
 use gl_slots::Slot;
 
 impl Locks {
-    /// Releases a node of which the slot holds no child. The node grants from its front.
+    /// Releases a node of which the slot holds no child. The node's waiters are granted from the
+    /// front.
     pub(crate) fn release(&mut self, slot: Slot, node: NodeId, told: &mut Told)
         requires active { status_of (state_at self.old) slot ≡ Some Active }
         requires holds { holds (members (state_at self.old) node) slot ≡ true }
@@ -35,7 +36,8 @@ impl Locks {
         strike(&mut self.ledger.lists, slot, node, self.graph.parents(node));
     }
 
-    /// Takes back the wait of a slot, which has this status then. Its node grants from its front.
+    /// Ends the wait of a slot, which then has this status. The node's waiters are granted from the
+    /// front.
     pub(crate) fn withdraw(&mut self, slot: Slot, node: NodeId, status: Status, told: &mut Told)
         requires waits { is_waiting_at (state_at self.old) slot node ≡ true }
         requires quiet { (q : Node) (m : AMode) → Some status ≡ Some (Waiting q m) → ⊥ }

@@ -1,4 +1,4 @@
-//! Deadlocks are ended.
+//! Deadlocks are ended: victims are condemned.
 
 ghost use Rattle.std.specs.Prelude.{[], ℕ, ◌<◌, ◌≡◌, None, true};
 ghost use Rattle.gl_model.specs.Calls.{WaitSettles};
@@ -16,8 +16,8 @@ use gl_slots::Slot;
 use gl_waits::Victims;
 
 impl Locks {
-    /// With detection at block, settles a slot that has begun to wait, and keeps the last deadlock that
-    /// this ends. Puts who else is told into an empty list, by rising slot.
+    /// With detection at block, settles a slot that has begun to wait, and records the last
+    /// deadlock that this ends. Puts the notices to others into an empty list, by rising slot.
     #[inline(never)]
     pub(crate) fn settle_asker(
         &mut self,
@@ -39,8 +39,8 @@ impl Locks {
         }
     }
 
-    /// Condemns a victim, by the choice of victims, until a slot is on no cycle. Each time the deadlock
-    /// is kept in place of the last, the victim's wait is given up, and its node grants from its front.
+    /// Condemns a victim, by the choice of victims, until a slot is on no cycle. Each time the
+    /// deadlock is recorded in place of the last, and the victim's wait ends.
     pub(crate) fn settle(
         &mut self,
         victims: Victims,
@@ -55,13 +55,14 @@ impl Locks {
         ensures tells { TellsAll (state_at self.old) (state_at self.new) told.old.items told.new.items }
     {
         while let Some(victim) = self.ledger.victim(victims, slot) {
-            // Kept first: once the victim's wait is given up, the cycle is gone.
+            // Recorded first: once the victim's wait has ended, the cycle is gone.
             self.ledger.keep_deadlock(slot, victim, deadlock);
             self.condemn(victim, told);
         }
     }
 
-    /// Gives up the wait of a slot, which is condemned and told so. Its node grants from its front.
+    /// Condemns a slot that waits, and tells it. Its wait ends, and the node's waiters are granted
+    /// from the front.
     fn condemn(&mut self, slot: Slot, told: &mut Told)
         requires waits { is_wait (status_of (state_at self.old) slot) ≡ true }
         requires tell { CanTell told.old.items (λ u. is_wait (status_of (state_at self.old) u)) }

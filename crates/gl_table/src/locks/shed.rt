@@ -14,11 +14,11 @@ use gl_modes::NodeId;
 use gl_slots::Slot;
 
 impl Locks {
-    /// Releases the children of a node that an active slot's lock on it covers. Each of them grants
-    /// from its front.
+    /// Releases the children of a node that an active slot's lock on it covers. Their waiters are
+    /// granted from the front.
     ///
     /// What is covered is judged before any of it is released, and marked in the slot's list, which
-    /// is out of its place meanwhile.
+    /// is kept apart meanwhile.
     pub(crate) fn shed(&mut self, slot: Slot, node: NodeId, told: &mut Told)
         requires active { status_of (state_at self.old) slot ≡ Some Active }
         requires tell { CanTell told.old.items (λ u. is_wait (status_of (state_at self.old) u)) }

@@ -1,4 +1,5 @@
-//! The calls that answer with a told list of their own. Each makes the list, and calls its twin.
+//! The calls that answer with a list of notices of their own. Each makes the list, and calls its
+//! twin.
 
 ghost use Rattle.std.specs.Prelude.{◌≡◌, [], IfOk, OnErr, OnOk, true, ◌-◌};
 ghost use Rattle.gl_graph.specs.Refusals.{first_refusal};
@@ -22,11 +23,11 @@ use gl_model::{Locked, Told, TxnId};
 use gl_modes::{Mode, NodeId, Refusal};
 
 impl Table {
-    /// Releases one node, of which the transaction holds no child; the node grants from its front.
-    /// Answers who is told of a grant, by rising slot.
+    /// Releases one node, of which the transaction holds no child; the node's waiters are granted
+    /// from the front. Answers the notices of grants, by rising slot.
     ///
     /// Refused, in this order, with `NoSuchTxn`, `TxnWaiting`, `TxnCondemned`, `NoSuchNode`,
-    /// `NotHeld` and `HeldChild`, naming the held child that was born first. It takes no memory.
+    /// `NotHeld` and `HeldChild`, naming the held child that was born first. Allocates no memory.
     pub fn unlock(&mut self, t: TxnId, n: NodeId) -> Result<Told, Refusal>
         ensures told { IfOk result (λ list. list.items ≡ told (state_of self.old) (state_of self.new)) }
         ensures state { OnOk result (state_of self.new ≡ unlocked (state_of self.old) t.slot n) }
@@ -39,10 +40,11 @@ impl Table {
         Ok(told)
     }
 
-    /// Ends a transaction and releases everything; each node that it held grants from its front.
-    /// Answers who is told of a grant, by rising slot.
+    /// Ends a transaction and releases everything; the waiters of each node that it held are
+    /// granted from the front. Answers the notices of grants, by rising slot.
     ///
-    /// Refused, in this order, with `NoSuchTxn`, `TxnWaiting` and `TxnCondemned`. It takes no memory.
+    /// Refused, in this order, with `NoSuchTxn`, `TxnWaiting` and `TxnCondemned`. Allocates no
+    /// memory.
     pub fn commit(&mut self, t: TxnId) -> Result<Told, Refusal>
         ensures told { IfOk result (λ list. list.items ≡ told (state_of self.old) (state_of self.new)) }
         ensures state { OnOk result (state_of self.new ≡ released (state_of self.old) t.slot) }
@@ -55,11 +57,11 @@ impl Table {
         Ok(told)
     }
 
-    /// Ends a transaction whatever it is doing, takes back its wait, and releases everything; each
-    /// node that it held or waited on grants from its front. Answers who is told of a grant, by
-    /// rising slot.
+    /// Ends a transaction in any status, cancels its wait, and releases everything; the waiters of
+    /// each node that it held or waited on are granted from the front. Answers the notices of
+    /// grants, by rising slot.
     ///
-    /// Refused with `NoSuchTxn`. It takes no memory.
+    /// Refused with `NoSuchTxn`. Allocates no memory.
     pub fn abort(&mut self, t: TxnId) -> Result<Told, Refusal>
         ensures told { IfOk result (λ list. list.items ≡ told (state_of self.old) (state_of self.new)) }
         ensures state { OnOk result (state_of self.new ≡ released (state_of self.old) t.slot) }
@@ -72,15 +74,15 @@ impl Table {
         Ok(told)
     }
 
-    /// Asks for a mode on a node, and waits where it cannot be granted at once. What is granted is
-    /// the supremum of the held and the asked mode. With detection at block, the asker is settled then:
-    /// victims are condemned until it is on no cycle, and the last deadlock that this ends is kept.
-    /// Answers what the ask came to, and who else is told of a grant or of being a victim, by rising
-    /// slot.
+    /// Requests a mode on a node, and waits if it cannot be granted at once. The granted mode is
+    /// the supremum of the held and the requested mode. With detection at block, a requester that
+    /// waits is then settled: victims are condemned until it is on no cycle, and the last deadlock
+    /// that this ends is recorded. Answers the outcome, and the notices to others, of grants and
+    /// condemnations, by rising slot.
     ///
     /// Refused, in this order, with `NoSuchTxn`, `TxnWaiting`, `TxnCondemned`, `NoSuchNode`,
-    /// `BadMode` (`NL`, or other than `S` and `X` on a record), `NeedParents` and `NoMemory`, which
-    /// a conversion granted at once never meets.
+    /// `BadMode` (`NL`, or other than `S` and `X` on a record), `NeedParents` and `NoMemory` (never
+    /// for a conversion granted at once).
     pub fn lock(&mut self, t: TxnId, n: NodeId, mode: Mode) -> Result<(Locked, Told), Refusal>
         ensures answer { IfOk result (λ answer. answer.0 ≡ locked_as ((state_of self.new).held t.slot n) (status_of (state_of self.new) t.slot)) }
         ensures told { IfOk result (λ answer. answer.1.items ≡ told_but t.slot (state_of self.old) (state_of self.new)) }
@@ -94,10 +96,11 @@ impl Table {
         Ok((locked, told))
     }
 
-    /// Takes back the wait of a transaction, which is active then; its node grants from its front.
-    /// Answers who else is told of a grant, by rising slot.
+    /// Cancels the wait of a transaction, which is then active; the node's waiters are granted from
+    /// the front. Answers the notices of grants to others, by rising slot.
     ///
-    /// Refused, in this order, with `NoSuchTxn`, `TxnCondemned` and `NotWaiting`. It takes no memory.
+    /// Refused, in this order, with `NoSuchTxn`, `TxnCondemned` and `NotWaiting`. Allocates no
+    /// memory.
     pub fn cancel(&mut self, t: TxnId) -> Result<Told, Refusal>
         ensures told { IfOk result (λ list. list.items ≡ told_but t.slot (state_of self.old) (state_of self.new)) }
         ensures state { OnOk result (state_of self.new ≡ cancelled (state_of self.old) t.slot) }
@@ -110,13 +113,13 @@ impl Table {
         Ok(told)
     }
 
-    /// While the transaction is on a cycle of waits, condemns the youngest of those on a cycle with it, or,
-    /// where the fewest fall, the youngest of those that alone take it off all cycles. Each victim's
-    /// wait is given up, and its node grants from its front; the last deadlock that this ends is kept.
-    /// Answers who is told of a grant or of being a victim, by rising slot: nobody where it is on no
-    /// cycle, and then nothing changes.
+    /// While the transaction is on a cycle of waits, condemns a victim: of the candidates by the
+    /// choice of victims, the one with the greatest `since`, of several the youngest. Each victim's
+    /// wait ends, and the node's waiters are granted from the front; the last deadlock that this
+    /// ends is recorded. Answers the notices of grants and condemnations, by rising slot: none if
+    /// the transaction is on no cycle, and then nothing changes.
     ///
-    /// Refused with `NoSuchTxn`. It takes no memory.
+    /// Refused with `NoSuchTxn`. Allocates no memory.
     pub fn settle(&mut self, t: TxnId) -> Result<Told, Refusal>
         ensures told { IfOk result (λ list. list.items ≡ told (state_of self.old) (state_of self.new)) }
         ensures state { OnOk result (Settled (state_of self.old).victims (state_of self.old) t.slot (state_of self.new)) }
@@ -131,10 +134,10 @@ impl Table {
         Ok(told)
     }
 
-    /// Takes a record away that an active transaction holds in X. Each waiter on it is active again.
-    /// Answers who is told that it is gone, by rising slot.
+    /// Deletes a record that an active transaction holds in X. Each waiter on it is active again.
+    /// Answers the notices that it is gone, by rising slot.
     ///
-    /// It takes no memory, and looks at the record's parents and waiters alone.
+    /// Allocates no memory, and looks at the record's parents and waiters alone.
     pub fn remove(&mut self, t: TxnId, rec: NodeId) -> Told
         requires acting { IsActing (state_of self.old) t }
         requires record { is_record_shape (shape_of (state_of self.old).graph rec) ≡ true }
@@ -148,14 +151,14 @@ impl Table {
         told
     }
 
-    /// Gives a record another key for one index of its file, and the interval in which that key lies
-    /// in place of the old one. Waits on it that do not meet the rule of the graph over its new
-    /// parents are over: they are taken from the queue, and the others keep their order. Answers who
-    /// is told of that, by rising slot.
+    /// Gives a record another key for one index of its file, and with it that key's interval as a
+    /// parent, in place of the old one. A wait on it that fails the rule of the graph over its new
+    /// parents ends; the others keep their order. Answers the notices of ended waits, by rising
+    /// slot.
     ///
-    /// The transaction is active, and holds X on the record and IX or greater on each new parent, or
-    /// X on each old and each new parent. Linear in the parents and the waiters of the record. It
-    /// takes no memory, and refuses nothing.
+    /// The transaction is active, and holds X on the record and IX or greater on each new parent,
+    /// or X on each old and each new parent. Linear in the parents and the waiters of the record.
+    /// Allocates no memory, and refuses nothing.
     pub fn reparent(&mut self, t: TxnId, rec: NodeId, index: NodeId, key: u64) -> Told
         requires acting { IsActing (state_of self.old) t }
         requires allowed { CanRekey (state_of self.old) t.slot rec index key }
@@ -169,17 +172,17 @@ impl Table {
         told
     }
 
-    /// Gives an inner node, a file or an index other parents: living, different inner nodes, at most
-    /// 8, and at least one for a file or an index. Without parents an inner node is a root. Waits on
-    /// it that do not meet the rule of the graph over its new parents are over: they are taken from
-    /// the queue, and the others keep their order. Answers who is told of that, by rising slot.
+    /// Gives an inner node, a file or an index other parents: living, different inner nodes, at
+    /// most 8, and at least one for a file or an index. Without parents an inner node is a root. A
+    /// wait on it that fails the rule of the graph over its new parents ends; the others keep their
+    /// order. Answers the notices of ended waits, by rising slot.
     ///
-    /// The transaction is active, and holds X on the node and IX or greater on each new parent, or X
-    /// on each old and each new parent, where there are some on both sides. Linear in the parents and
-    /// the waiters of the node, but for the search for a cycle.
+    /// The transaction is active, and holds X on the node and IX or greater on each new parent, or,
+    /// if there are both old and new parents, X on each of them. Linear in the parents and the
+    /// waiters of the node, except the search for a cycle.
     ///
     /// Refused with `Cycle`, naming the first new parent that is the node or has a path to it, and
-    /// with `NoMemory`, also where the search for such a path had too little.
+    /// with `NoMemory`, also if the search for a path had too little memory.
     pub fn regraft(&mut self, t: TxnId, n: NodeId, parents: &[NodeId]) -> Result<Told, Refusal>
         requires acting { IsActing (state_of self.old) t }
         requires allowed { CanMove (state_of self.old) t.slot n parents.now }
@@ -194,12 +197,12 @@ impl Table {
         Ok(told)
     }
 
-    /// Releases the children of a node that an active transaction's lock on the node covers, and each
-    /// of them grants from its front: a held child of which no child is held, not held in `X`, or
-    /// held in `X` with `X` on each of its parents. Answers how many were released and how many are
-    /// kept, and who is told of a grant, by rising slot.
+    /// Releases the children of a node that an active transaction's lock on the node covers: a held
+    /// child of which no child is held, and which is not in `X`, or in `X` with `X` on each of its
+    /// parents. The waiters of each are granted from the front. Answers how many were released, how
+    /// many are kept, and the notices of grants, by rising slot.
     ///
-    /// It takes no memory, and goes over what the transaction holds.
+    /// Allocates no memory, and scans all that the transaction holds.
     pub fn shed(&mut self, t: TxnId, n: NodeId) -> (u32, u32, Told)
         requires acting { IsActing (state_of self.old) t }
         requires reads { is_at_least ((state_of self.old).held t.slot n) S ≡ true }

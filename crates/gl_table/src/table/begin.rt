@@ -12,8 +12,8 @@ use gl_modes::Refusal;
 
 impl Table {
     /// Begins a transaction, in the lowest free slot. Its age is the count of begins, this one
-    /// included. Refused, in this order, with `WornOut` where `u64::MAX` have begun, and
-    /// `TooManyTxns` where all slots are taken. It takes no memory.
+    /// included. Refused, in this order, with `WornOut` if `u64::MAX` have begun, and `TooManyTxns`
+    /// if no slot is free. Allocates no memory.
     pub fn begin(&mut self) -> Result<TxnId, Refusal>
         ensures begun { IfOk result (λ t. (free_slot (state_of self.old) ≡ Some t.slot)
             × (t.age ≡ (state_of self.old).begins + 1)
@@ -26,9 +26,9 @@ impl Table {
         self.begin_again(u64::MAX)
     }
 
-    /// Begins a transaction as `begin` does, for work that wants to be done since an earlier begin: since
-    /// the age of the transaction that was to do it first. A number above its own age counts as that.
-    /// Of a deadlock the one whose number is the greatest is the next victim.
+    /// Begins a transaction as `begin` does, for work that began earlier: `since` is the age of the
+    /// first transaction for it. A number above its own age counts as that. The next victim of a
+    /// deadlock is the one with the greatest such number.
     #[inline]
     pub fn begin_again(&mut self, since: u64) -> Result<TxnId, Refusal>
         ensures begun { IfOk result (λ t. (free_slot (state_of self.old) ≡ Some t.slot)

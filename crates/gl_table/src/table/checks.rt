@@ -1,4 +1,4 @@
-//! The tests that calls make before they change anything, each with the refusal that it answers.
+//! The tests that calls make before they change anything, each with its refusal.
 
 ghost use Rattle.std.specs.Prelude.{◌≡◌, ◌∷◌, []};
 ghost use Rattle.gl_graph.specs.Refusals.{first_refusal, verdict};
@@ -10,7 +10,7 @@ use gl_model::TxnId;
 use gl_modes::{NodeId, Refusal};
 
 impl Table {
-    /// Whether the name names a transaction that lives.
+    /// Whether the name is of a living transaction.
     pub(super) fn check_txn(&self, t: TxnId) -> Result<(), Refusal>
         ensures { result ≡ verdict (no_txn (state_of self.now) t) }
     {
@@ -20,8 +20,8 @@ impl Table {
         }
     }
 
-    /// Whether the name names a transaction that lives and neither waits nor is condemned. Refused with
-    /// `NoSuchTxn`, `TxnWaiting` and `TxnCondemned`.
+    /// Whether the name is of a living transaction that neither waits nor is condemned. Refused
+    /// with `NoSuchTxn`, `TxnWaiting` and `TxnCondemned`.
     #[inline]
     pub fn check_active(&self, t: TxnId) -> Result<(), Refusal>
         ensures { result ≡ verdict (first_refusal (commit_tests (state_of self.now) t)) }
@@ -29,7 +29,7 @@ impl Table {
         self.locks.ledger.check_active(t)
     }
 
-    /// Whether the id names a node.
+    /// Whether the node lives.
     pub(super) fn check_node(&self, n: NodeId) -> Result<(), Refusal>
         ensures { result ≡ verdict (no_node (state_of self.now) n) }
     {

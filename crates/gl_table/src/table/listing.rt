@@ -1,5 +1,5 @@
-//! Listings: who holds what and who waits where, one after the other. None of these takes memory, and
-//! all that is asked between two commands is of one moment.
+//! Listings: who holds what and who waits for what. None allocates memory, and answers without a
+//! command between them are of one moment.
 
 ghost use Rattle.std.specs.Prelude.{◌≡◌, ◌||◌, ℕ, IfOk, None, Some, get_or, if◌then◌else◌, length, map, position, slice_get};
 ghost use Rattle.gl_graph.specs.Refusals.{first_refusal};
@@ -15,21 +15,21 @@ use gl_modes::{Mode, NodeId, Refusal};
 use gl_slots::{Slot, Slots};
 
 impl Table {
-    /// How many transactions may live at once: their slots are those below.
+    /// How many transactions may live at once; their slots are below this.
     pub fn most(&self) -> usize
         ensures { result ≡ (state_of self.now).most }
     {
         self.locks.ledger.seats.as_slice().len()
     }
 
-    /// The slots of those who wait.
+    /// The slots of the transactions that wait.
     pub fn waiting_slots(&self) -> Slots
         ensures { (u : ℕ) → has_slot result u ≡ is_wait (status_of (state_of self.now) u) }
     {
         self.locks.ledger.seats.waiting()
     }
 
-    /// The transaction in a slot, and what it is doing; `None` for a free slot.
+    /// The transaction in a slot, and its status; `None` for a free slot.
     pub fn living(&self, slot: Slot) -> Option<(TxnId, Status)>
         ensures { result ≡ living_in (state_of self.now) slot }
     {
@@ -43,7 +43,7 @@ impl Table {
         ))
     }
 
-    /// How many nodes a transaction holds or waits for; `None` where it does not live.
+    /// How many nodes a transaction holds or waits for; `None` if it does not live.
     pub fn lock_count(&self, t: TxnId) -> Option<usize>
         ensures { result ≡ (if lives (state_of self.now) t then Some (length (rows_of self.now t.slot)) else None) }
     {
@@ -53,8 +53,8 @@ impl Table {
         }
     }
 
-    /// The row at a place among the nodes that a transaction holds or waits for; `None` where it does
-    /// not live or has no more. A command may change the places.
+    /// The entry at a place in the list of nodes that a transaction holds or waits for; `None` if
+    /// it does not live or has no more. A command may change the places.
     pub fn lock_at(&self, t: TxnId, place: usize) -> Option<LockRow>
         ensures row { result ≡ (if lives (state_of self.now) t then slice_get (rows_of self.now t.slot) place else None) }
         ensures rows { AreRowsOf (state_of self.now) t.slot (rows_of self.now t.slot) }
@@ -66,7 +66,7 @@ impl Table {
         }
     }
 
-    /// The slots of those who hold a node. Refused with `NoSuchNode`.
+    /// The slots of the transactions that hold a node. Refused with `NoSuchNode`.
     pub fn holders(&self, n: NodeId) -> Result<Slots, Refusal>
         ensures holders { IfOk result (λ slots. (u : ℕ) → has_slot slots u ≡ holds (members (state_of self.now) n) u) }
         ensures refused { RefusesOnly (first_refusal (group_tests (state_of self.now) n)) result }
@@ -82,7 +82,7 @@ impl Table {
         self.locks.mode(slot, n)
     }
 
-    /// Who waits for a node, by slot, with the wanted modes, in the queue's order. Refused with
+    /// The waiters of a node, by slot, with the wanted modes, in the queue's order. Refused with
     /// `NoSuchNode`.
     pub fn queue(&self, n: NodeId) -> Result<&[(Slot, Mode)], Refusal>
         ensures queue { IfOk result (λ waiters. waiters.now ≡ (state_of self.now).queue n) }
@@ -92,8 +92,8 @@ impl Table {
         Ok(self.locks.ledger.headers.queue(n))
     }
 
-    /// How many stand ahead of a transaction in the queue of the node that it waits for; `None` where it
-    /// does not live or does not wait.
+    /// How many waiters are ahead of a transaction in the queue of the node that it waits for;
+    /// `None` if it does not live or does not wait.
     pub fn ahead(&self, t: TxnId) -> Option<usize>
         ensures { result ≡ (if lives (state_of self.now) t
             then ahead_in (state_of self.now) t.slot (status_of (state_of self.now) t.slot) else None) }
@@ -107,9 +107,9 @@ impl Table {
         }
     }
 
-    /// The slots of those for whom a transaction waits: who holds the node in a mode that does not go
-    /// with the wanted one, and who stands ahead in its queue. Nobody where it does not wait. Refused
-    /// with `NoSuchTxn`.
+    /// The slots of those for whom a transaction waits: those that hold the node in a mode
+    /// incompatible with the wanted one, and those ahead in its queue; none if it does not wait.
+    /// Refused with `NoSuchTxn`.
     pub fn waits_for(&self, t: TxnId) -> Result<Slots, Refusal>
         ensures waits { IfOk result (λ slots. (u : ℕ) → has_slot slots u ≡ waits_for (state_of self.now) t.slot u) }
         ensures refused { RefusesOnly (first_refusal (living_tests (state_of self.now) t)) result }

@@ -1,4 +1,4 @@
-//! Locks are asked for.
+//! Requests for locks.
 
 ghost use Rattle.std.specs.Prelude.{◌≡◌, [], IfOk, IsOk, None, OnErr, OnOk, true};
 ghost use Rattle.gl_graph.specs.Refusals.{Refuses, first_refusal, verdict};
@@ -15,8 +15,8 @@ use gl_model::{Locked, Told, TxnId};
 use gl_modes::{Mode, NodeId, Refusal};
 
 impl Table {
-    /// Whether `lock` would be refused, want of memory aside, and with what. Nothing is asked. It takes
-    /// no memory.
+    /// Whether `lock` would be refused, lack of memory aside, and with what. Requests nothing, and
+    /// allocates no memory.
     #[inline]
     pub fn check_lock(&self, t: TxnId, n: NodeId, mode: Mode) -> Result<(), Refusal>
         ensures { result ≡ verdict (first_refusal (lock_tests (state_of self.now) t n mode)) }
@@ -45,8 +45,8 @@ impl Table {
         Ok(locked)
     }
 
-    /// As `lock_telling`, and answers beside it the mode in which the node was held before, `NL` for
-    /// none: whoever counts conversions need not look it up again.
+    /// As `lock_telling`, and answers also the mode in which the node was held before, `NL` for
+    /// none, for a caller that counts conversions.
     pub fn lock_from(
         &mut self,
         t: TxnId,
@@ -83,12 +83,12 @@ impl Table {
         }
     }
 
-    /// Asks for a mode on a node, and is refused where it cannot be granted at once. What is granted
-    /// is the supremum of the held and the asked mode.
+    /// Requests a mode on a node, and is refused if it cannot be granted at once. The granted mode
+    /// is the supremum of the held and the requested mode.
     ///
     /// Refused, in this order, with `NoSuchTxn`, `TxnWaiting`, `TxnCondemned`, `NoSuchNode`,
     /// `BadMode` (`NL`, or other than `S` and `X` on a record), `NeedParents`, `WouldBlock` and
-    /// `NoMemory`, which one who holds the node never meets.
+    /// `NoMemory` (never for a holder of the node).
     pub fn try_lock(&mut self, t: TxnId, n: NodeId, mode: Mode) -> Result<Mode, Refusal>
         ensures mode { IfOk result (λ m. m ≡ wanted (state_of self.old) t.slot n mode) }
         ensures state { OnOk result (state_of self.new ≡ granted (state_of self.old) t.slot n mode) }

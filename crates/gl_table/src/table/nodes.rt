@@ -18,7 +18,7 @@ use gl_modes::{Mode, NodeId, Refusal};
 
 impl Table {
     /// Makes an inner node under 0 to 8 different inner nodes; without parents it is a root. Nobody
-    /// holds it, and all locks stay as they are.
+    /// holds it, and no lock changes.
     ///
     /// Refused, in this order, with `WornOut`, `NoSuchNode`, `BadParents`, `TooManyNodes` and
     /// `NoMemory`.
@@ -33,7 +33,7 @@ impl Table {
     }
 
     /// Makes a file under 1 to 8 different inner nodes, with no indexes and no records. Nobody
-    /// holds it, and all locks stay as they are.
+    /// holds it, and no lock changes.
     ///
     /// Refused, in this order, with `WornOut`, `NoSuchNode`, `BadParents`, `TooManyNodes` and
     /// `NoMemory`.
@@ -47,15 +47,14 @@ impl Table {
         self.locks.graph.add_file(parents)
     }
 
-    /// Makes an index of a file that has no records and of which none was ever adopted, under 1 to 8
-    /// different inner nodes, with strictly rising bounds above 0, and its intervals: one
-    /// that begins at key 0, and one at each bound. Of bounds there are at most 256, or as many as were
-    /// chosen by `with_limits`. The index is born first and then, in order, the intervals. Nobody holds
-    /// any of them, and all locks stay as they are.
+    /// Makes an index of a file that has no records and had no row adopted, under 1 to 8 different
+    /// inner nodes, with strictly rising bounds above 0, and its intervals: one from key 0 on, and
+    /// one from each bound. There are at most 256 bounds, or as many as `with_limits` chose. The
+    /// index is born first and then, in order, the intervals. Nobody holds any of them, and no lock
+    /// changes.
     ///
-    /// Refused, in this order, with `WornOut`, `NoSuchNode`, `BadParents` (also where the file is
-    /// none or has seven indexes), `FileInUse`, `BadKeys` (the bounds), `TooManyNodes` and
-    /// `NoMemory`.
+    /// Refused, in this order, with `WornOut`, `NoSuchNode`, `BadParents` (also if the file is none
+    /// or has seven indexes), `FileInUse`, `BadKeys` (the bounds), `TooManyNodes` and `NoMemory`.
     pub fn add_index(
         &mut self,
         parents: &[NodeId],
@@ -71,9 +70,9 @@ impl Table {
         self.locks.graph.add_index(parents, file, bounds)
     }
 
-    /// Makes an index of a file of which no record stands, and gives it in X to an active transaction that
-    /// holds each of its parents in IX or greater. Nothing stands against it but memory: the only refusal is
-    /// `NoMemory`. All room is made before anything changes.
+    /// Makes an index of a file without records, held in X by an active transaction that holds each
+    /// of its parents in IX or greater. All tests but that of memory were passed: the only refusal
+    /// is `NoMemory`. All room is made before anything changes.
     pub fn add_index_held(
         &mut self,
         t: TxnId,
@@ -100,9 +99,9 @@ impl Table {
         Ok(index)
     }
 
-    /// Takes away an inner node, a file or an index with its intervals, below which nothing stands, and which
-    /// an active transaction holds in X; with it go all locks on it. Those who wait for it are told that it is
-    /// gone, in an empty list. It takes no memory.
+    /// Drops an inner node, a file or an index with its intervals, which is not in use, and which
+    /// an active transaction holds in X; all locks on it end. Its waiters are told that it is gone,
+    /// in an empty list. Allocates no memory.
     pub fn drop_telling(&mut self, t: TxnId, n: NodeId, notices: &mut Told)
         requires empty { notices.old.items ≡ [] }
         requires acting { IsActing (state_of self.old) t }

@@ -1,4 +1,4 @@
-//! What can be asked, and changes nothing.
+//! Queries, which change nothing.
 
 ghost use Rattle.std.specs.Prelude.{◌≡◌, ◌&&◌, IfOk, None, Some, if◌then◌else◌, not};
 ghost use Rattle.std.specs.List.{list_any};
@@ -37,7 +37,7 @@ impl Table {
         Ok(self.locks.ledger.headers.group(n))
     }
 
-    /// The mode in which a transaction holds a node, `NL` for none; `None` where it does not live.
+    /// The mode in which a transaction holds a node, `NL` for none; `None` if it does not live.
     pub fn mode(&self, t: TxnId, n: NodeId) -> Option<Mode>
         ensures { result ≡ (if lives (state_of self.now) t then Some ((state_of self.now).held t.slot n) else None) }
     {
@@ -47,7 +47,7 @@ impl Table {
         }
     }
 
-    /// Whether nobody holds the node, and nobody waits for it.
+    /// Whether no transaction holds the node or waits for it.
     pub fn is_idle(&self, n: NodeId) -> bool
         ensures { result ≡ is_idle (state_of self.now) n }
     {
@@ -55,15 +55,15 @@ impl Table {
         self.locks.ledger.headers.is_idle(n)
     }
 
-    /// Whether somebody waits for the node.
+    /// Whether a transaction waits for the node.
     pub fn is_awaited(&self, n: NodeId) -> bool
         ensures { result ≡ not (is_empty ((state_of self.now).queue n)) }
     {
         !self.locks.ledger.headers.queue(n).is_empty()
     }
 
-    /// How many children of a node a transaction holds; `None` where it does not live or does not
-    /// hold the node.
+    /// How many children of a node a transaction holds; `None` if it does not live or does not hold
+    /// the node.
     pub fn children(&self, t: TxnId, n: NodeId) -> Option<u32>
         ensures { result ≡ (if lives (state_of self.now) t && holds (members (state_of self.now) n) t.slot
             then Some (held_children (state_of self.now) t.slot n) else None) }
@@ -74,8 +74,8 @@ impl Table {
         }
     }
 
-    /// Whether a transaction holds some child of a node in `IX`, `SIX` or `X`; `false` where it does
-    /// not live. It takes no memory.
+    /// Whether a transaction holds some child of a node in `IX`, `SIX` or `X`; `false` if it does
+    /// not live. Allocates no memory.
     pub fn writes_below(&self, t: TxnId, n: NodeId) -> bool
         ensures { result ≡ (lives (state_of self.now) t
             && list_any (λ c. is_child (state_of self.now).graph n c && is_write ((state_of self.now).held t.slot c)) (nodes (state_of self.now).graph)) }
@@ -101,7 +101,7 @@ impl Table {
         }
     }
 
-    /// Who waits for whom at this moment, under this epoch.
+    /// The waits-for snapshot of this moment, under this epoch.
     pub fn board(&self, epoch: u64) -> Board
         ensures { result ≡ board_of (record (state_of self.now) { accepted = epoch }) }
     {

@@ -1,4 +1,4 @@
-//! Records come and go.
+//! Records are inserted, deleted, adopted and forgotten.
 
 ghost use Rattle.std.specs.Prelude.{◌≡◌, ◌∷◌, ◌||◌, [], IfOk, None, OnErr, OnOk, true};
 ghost use Rattle.gl_modes.specs.declared.mode.Mode.TheVariants.{S, X};
@@ -18,12 +18,12 @@ use gl_model::{Told, TxnId};
 use gl_modes::{Mode, NodeId, Refusal};
 
 impl Table {
-    /// Makes a record of a file, with a key for each of the file's indexes, in order of their making,
-    /// and gives it in X to an active transaction that holds each of the record's parents in IX or
-    /// greater: the file and, for each index, the interval that holds the key.
+    /// Makes a record of a file, held in X by an active transaction, with a key for each of the
+    /// file's indexes, in order of their making. The transaction holds each of the record's parents
+    /// in IX or greater: the file and, for each index, the interval of the key.
     ///
-    /// Refused, in this order, with `WornOut`, `TooManyNodes` and `NoMemory`. All room is made before
-    /// anything changes.
+    /// Refused, in this order, with `WornOut`, `TooManyNodes` and `NoMemory`. All room is made
+    /// before anything changes.
     pub fn place(&mut self, t: TxnId, file: NodeId, keys: &[u64]) -> Result<NodeId, Refusal>
         requires acting { IsActing (state_of self.old) t }
         requires allowed { CanPlace (state_of self.old) t.slot file keys.now }
@@ -44,7 +44,7 @@ impl Table {
         self.place_under(t, file, keys, parents.as_slice())
     }
 
-    /// As `place`, where nothing stands against the record but memory, and its parents are known. The
+    /// As `place`, once all tests but that of memory were passed, with the record's parents. The
     /// only refusal is `NoMemory`.
     pub fn place_under(
         &mut self,
@@ -73,10 +73,10 @@ impl Table {
         Ok(rec)
     }
 
-    /// Whether the rule of the graph lets a living transaction have this mode on a node with these
-    /// parents, as `lock` tests it. Refused with `NeedParents`: to write, the first parent that is not
-    /// held in IX or greater; to read, where none is held in IS or greater, the first of all. It takes
-    /// no memory.
+    /// Whether the rule of the graph permits a living transaction this mode on a node with these
+    /// parents, as `lock` tests it. Refused with `NeedParents`: to write, for the first parent that
+    /// is not held in IX or greater; to read, if none is held in IS or greater, for the first of
+    /// all. Allocates no memory.
     pub fn check_rule_over(&self, t: TxnId, parents: &[NodeId], mode: Mode) -> Result<(), Refusal>
         requires txn { lives (state_of self.now) t ≡ true }
         ensures { result ≡ verdict (rule_refusal ((state_of self.now).held t.slot) parents.now mode) }
@@ -84,8 +84,8 @@ impl Table {
         check_rule(&self.locks.ledger.lists[t.slot as usize], parents, mode)
     }
 
-    /// Whether a living transaction holds each of these in IX or greater, as one who writes below them
-    /// must. Refused with `NeedParents`: the first that it does not. It takes no memory.
+    /// Whether a living transaction holds each of these in IX or greater, as a writer below them
+    /// must. Refused with `NeedParents`, for the first that it does not. Allocates no memory.
     pub fn check_writable(&self, t: TxnId, nodes: &[NodeId]) -> Result<(), Refusal>
         requires txn { lives (state_of self.now) t ≡ true }
         ensures { result ≡ verdict (first_not_ix ((state_of self.now).held t.slot) nodes.now) }
@@ -93,12 +93,12 @@ impl Table {
         check_writable(&self.locks.ledger.lists[t.slot as usize], nodes)
     }
 
-    /// Makes a record of a file that nobody holds, with a key for each of the file's indexes, in order
-    /// of their making: an engine's row, which is to be locked. From then on no index of the file is
-    /// made any more. All locks stay as they are.
+    /// Makes a record of a file, held by nobody, with a key for each of the file's indexes, in
+    /// order of their making: the node of an engine's row that is to be locked. From then on only
+    /// `add_index_held` makes an index of the file. No lock changes.
     ///
-    /// Refused, in this order, with `WornOut`, `NoSuchNode`, `BadParents` (no file), `BadKeys` (not a
-    /// key for each index), `TooManyNodes` and `NoMemory`.
+    /// Refused, in this order, with `WornOut`, `NoSuchNode`, `BadParents` (no file), `BadKeys` (not
+    /// a key for each index), `TooManyNodes` and `NoMemory`.
     pub fn adopt(&mut self, file: NodeId, keys: &[u64]) -> Result<NodeId, Refusal>
         ensures made { IfOk result (λ n. IsAdopted (state_of self.old).graph (state_of self.new).graph n file keys.now) }
         ensures state { OnOk result (state_of self.new ≡ with_graph (state_of self.old) (state_of self.new).graph) }
@@ -109,9 +109,9 @@ impl Table {
         self.locks.graph.adopt_record(file, keys)
     }
 
-    /// As `adopt`, and gives the record to an active transaction in a mode that its parents permit, where
-    /// nothing stands against it but memory, and its parents are known. The only refusal is `NoMemory`.
-    /// All room is made before anything changes.
+    /// As `adopt`, with the record held by an active transaction in a mode that its parents permit,
+    /// once all tests but that of memory were passed, with the record's parents. The only refusal
+    /// is `NoMemory`. All room is made before anything changes.
     pub fn adopt_under(
         &mut self,
         t: TxnId,
@@ -139,8 +139,7 @@ impl Table {
         Ok(rec)
     }
 
-    /// Takes a record away that nobody holds or waits for. It takes no memory, and all locks stay as
-    /// they are.
+    /// Removes a record that nobody holds or waits for. Allocates no memory, and no lock changes.
     pub fn forget(&mut self, rec: NodeId)
         requires record { is_record_shape (shape_of (state_of self.old).graph rec) ≡ true }
         requires idle { is_idle (state_of self.old) rec ≡ true }

@@ -1,4 +1,4 @@
-//! Locks are given back.
+//! Locks are released.
 
 ghost use Rattle.std.specs.Prelude.{◌≡◌, [], IfOk, List, OnErr, OnOk, length};
 ghost use Rattle.gl_graph.specs.Refusals.{first_refusal};
@@ -28,12 +28,14 @@ impl Table {
         Ok(())
     }
 
-    /// Goes back to a mark: releases what an active transaction has locked since it had so many locks,
-    /// but for nodes of which it still holds a child; and says how many were released. A mode that was
-    /// raised since stays raised. What was locked before keeps its place among the transaction's locks.
-    /// Puts the notices into an empty list. Refused with `NoSuchTxn`, `TxnWaiting` and `TxnCondemned`.
+    /// Rolls back to a mark: releases what an active transaction has locked since it had so many
+    /// locks, except nodes of which it still holds a child; answers how many were released. A mode
+    /// that was raised since stays raised. What was locked before keeps its place among the
+    /// transaction's locks. Puts the notices into an empty list. Refused with `NoSuchTxn`,
+    /// `TxnWaiting` and `TxnCondemned`.
     ///
-    /// It takes no memory. Linear in the locks since the mark, but where one was locked before its parent.
+    /// Allocates no memory. Linear in the locks since the mark, unless one was locked before its
+    /// parent.
     pub fn release_since_telling(
         &mut self,
         t: TxnId,

@@ -1,4 +1,4 @@
-//! Locks on children that a lock on their parent covers.
+//! Releases of locks on children that a lock on their parent covers.
 
 ghost use Rattle.std.specs.Prelude.{◌≡◌, ◌-◌, [], true};
 ghost use Rattle.gl_modes.specs.declared.mode.Mode.TheVariants.{S};

@@ -1,4 +1,4 @@
-//! Waits are given up.
+//! Waits are cancelled, and deadlocks settled.
 
 ghost use Rattle.std.specs.Prelude.{◌≡◌, [], IfOk, OnErr, OnOk, true};
 ghost use Rattle.gl_graph.specs.Refusals.{first_refusal};
@@ -45,7 +45,7 @@ impl Table {
         Ok(())
     }
 
-    /// The node that the transaction waits for, where its wait can be taken back.
+    /// The node that the transaction waits for, if its wait can be cancelled.
     fn check_waiting(&self, t: TxnId) -> Result<NodeId, Refusal>
         ensures waits { IfOk result (λ n. is_waiting_at (state_of self.now) t.slot n ≡ true) }
         ensures refuses { RefusesOnly (first_refusal (cancel_tests (state_of self.now) t)) result }

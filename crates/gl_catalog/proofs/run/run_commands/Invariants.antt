@@ -4,7 +4,7 @@ use Rattle.gl_catalog.specs.Replies.{said_in}
 use Rattle.gl_steps.specs.Step.{Run}
 use Rattle.gl_catalog.proofs.run.run_commands.Given as goal
 
--- the commands taken so far ran, each has its reply, and there is room for the others' replies
+-- the commands so far ran, each has its reply, and there is room for the others' replies
 abbrev pub invariant-loop-command : goal.invariant-loop-command
 invariant-loop-command l = record {
   ran : Run (state_of l.fn.manager) (take l.command-index l.commands) (said_in l.replies.items) (state_of l.manager);

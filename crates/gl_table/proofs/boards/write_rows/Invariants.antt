@@ -6,6 +6,6 @@ use Rattle.gl_table.proofs.boards.write_rows.Given as goal
 abbrev pub invariant-loop-slot : goal.invariant-loop-slot
 invariant-loop-slot l = (length l.rows ≡ length l.fn.rows) × AreRowsBut (waits_for (shown l.headers.entries l.seats.items 0)) l.left l.rows
 
--- each slot that is taken leaves fewer
+-- each slot that is removed leaves fewer
 abbrev pub decreases-loop-slot : goal.decreases-loop-slot
 decreases-loop-slot l = number_of l.left

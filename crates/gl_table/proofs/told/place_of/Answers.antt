@@ -2,7 +2,7 @@ use Rattle.gl_table.proofs.Words.{IsPartitionPoint-from_clause, nat_lt, rules}
 use Rattle.gl_model.proofs.telling.Lists.{place_found, place_parts}
 use Rattle.gl_table.proofs.told.place_of.Goals as goal
 
--- where the binary search parts the notices
+-- the point at which the binary search parts the notices
 pub returns : goal.returns
 returns c =
     place_found c.args.told.now c.args.slot c.partition_point.result c.partition_point.ensures.bound

@@ -23,7 +23,7 @@ all_live c =
     (λ x b q k. search (rules, tests)))
     ∙ c.if-not-all.false
 
--- what the locks say, where the node may lie there
+-- what the locks say, if the node may have these parents
 abbrev locks_left : After-can_lie_under → Bool → Option Refusal
 locks_left c both_given =
     first_refusal (need_exclusive (state_of c.args.self.now) c.args.t.slot c.args.n both_given c.args.parents.now ∷ need_new_parents

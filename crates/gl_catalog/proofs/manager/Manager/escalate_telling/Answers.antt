@@ -72,7 +72,7 @@ returns-clause-step c =
     c.shed_telling-released.result.1 c.shed_telling-released.new.notices (table_state c.shed_telling-released.new.self)
     c.shed_telling-released.ensures.state c.shed_telling-released.ensures.released c.shed_telling-released.ensures.kept c.shed_telling-released.ensures.told)
 
--- whether it passed somebody
+-- whether it passed a waiter
 raised : (c : After-add_notices) → c.raise_passes-passes.result ≡ passes_at (state_of c.args.self.now) c.args.t c.args.n
     (counting (c.self.inside.accepted + 1) (table_state c.shed_telling-released.new.self))
 raised c =

@@ -28,7 +28,7 @@ returns-in_default-clause-asks c =
     now.kept c.next_ask-wanted.ensures c.lock_telling.new.told.items c.in-Err.refusal c.in-Err.ensures.step c.in-Err.ensures.err none
     c.lock_telling.new.told.items
 
--- the refusal names the parent that the ask wanted
+-- the refusal names the parent that the request needed
 named : (c : After-climb) → parent_wanted (state_of c.first.self) c.args.t (next_ask (c.args.node, c.args.mode) c.first.above.items) ≡ Some c.in-Some.parent
 named c =
     let some : missing_parent c.in-Err.refusal ≡ Some c.in-Some.parent = search rules in

@@ -12,6 +12,6 @@ invariant-first l = record {
   kept : KeepsWay (state_of l.fn.self) l.t (l.node, l.mode) l.above.items;
 }
 
--- whether the next ask wants a parent locked first
+-- whether the next request needs a parent first
 abbrev pub decreases-first : goal.decreases-first
 decreases-first l = wants (parent_wanted (state_of l.self) l.t (next_ask (l.node, l.mode) l.above.items))

@@ -83,7 +83,7 @@ converts c =
     ∙ sym (ap (λ b. b && not (same_mode ((table_state c.self.inside.table).held c.args.t.slot c.args.n) NL)) (alive c))
     ∙ ap (λ (v : ManagerView). holds_already (state_of v) c.args.t c.args.n) c.self.view_is
 
--- who asked might ask
+-- the requester passed the tests
 may : (c : After-count_lock) → MayLock (state_of (view_of c.self.inside)) c.args.t c.args.n c.args.mode
 may c =
     (may_lock (state_of (view_of c.self.inside)) c.args.t c.args.n c.args.mode None [] (goes _ c.in_ok-held.ensures.refuses.refuses)).0
@@ -92,7 +92,7 @@ may c =
     goes None h = refl
     goes (Some r) h = absurd (cc)
 
--- and whether it passed somebody is read from what the lock came to
+-- and whether it passed a waiter is read from the lock's outcome
 passed : (c : After-count_lock) → lock_passes (state_of (locked c)) c.args.n c.in_ok-held.held c.in_ok-held.locked
     ≡ passes_at (state_of c.args.self.now) c.args.t c.args.n (state_of (locked c))
 passed c =

@@ -17,7 +17,7 @@ use Rattle.gl_catalog.proofs.Insertions.{refused_so}
 use Rattle.gl_catalog.proofs.manager.Manager.release_since_telling.Goals.{After-release_since_telling}
 use Rattle.gl_catalog.proofs.manager.Manager.release_since_telling.Goals as goal
 
--- no test stands against it
+-- no test refuses it
 passed : (c : After-release_since_telling) → first_refusal (back_tests (view_of c.self.inside) c.args.t c.args.mark) ≡ None
 passed c =
     subst (λ (v : ManagerView). first_refusal (back_tests v c.args.t c.args.mark) ≡ None) (sym c.self.view_is)

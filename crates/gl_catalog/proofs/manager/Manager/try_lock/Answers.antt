@@ -51,7 +51,7 @@ converts c =
     is ∙ ap (λ m. not (same_mode m NL)) c.held_by-held.ensures
     ∙ read_converts (lives (state_of c.args.self.now) c.args.t) ((state_of c.args.self.now).held c.args.t.slot c.args.n)
 
--- and whether the try passed somebody
+-- and whether the try passed a waiter
 passed : (c : After-add_grant) → c.raise_passes-passes.result ≡ passes_at (state_of c.args.self.now) c.args.t c.args.n
     (counting (c.self.inside.accepted + 1) (table_state c.try_lock.new.self))
 passed c =

@@ -65,7 +65,7 @@ ask-requires-clause-held c =
     c.requires.can.held_is ∙ (c.requires.act.exact.agree c.args.slot).modes c.args.node
     ∙ ap (λ (x : Ledger). held_of x.headers.entries c.args.slot c.args.node) (sym c.make_room_to_ask.ensures.rest)
 
--- no more is asked than is held
+-- no more is requested than is held
 
 pub returns-then-covers-clause-asked : goal.returns-then-covers-clause-asked
 returns-then-covers-clause-asked c =
@@ -103,7 +103,7 @@ returns-in_err-asked-clause-held c =
     let p = (goal.at.returns-in_err-asked-clause-held c).After-make_room_to_ask in
     λ h e. clash (c.in_err-asked.ensures.member (member_now p ∙ member_is p ∙ h) (says p ∙ e)) refl
 
--- what the list is asked for
+-- what the list is called with
 
 pub set_mode-requires : goal.set_mode-requires
 set_mode-requires c =
@@ -201,7 +201,7 @@ put_new c m held = let g = c.args.graph.now in let l = c.make_room_to_ask.new.se
     (λ q. c.count_up.ensures.counts q ∙ ap₂ (λ k ps. k + count_by (same_node q) ps) (c.enter.ensures.counts q) c.requires.can.parents_are
     ∙ ap (λ b. count_of x q + (if b then count_by (same_node q) (parents_of (graph_of g) n) else 0)) (sym (not-false _ (r.is_held ∙ c.if-is_member-2.false)))))
 
--- the list of one who waits has the node
+-- the list of a waiter has the node
 listed : (c : After-set_status) → MayAct c.args.graph.now c.make_room_to_ask.new.self c.args.slot
     → holds (members (state_in c.args.graph.now c.make_room_to_ask.new.self) c.args.node) c.args.slot ≡ c.ne-is_member.result
     → is_granted_at c.args.self.now.headers.entries c.args.slot c.args.node c.args.mode ≡ false

@@ -25,7 +25,7 @@ loop-at-init c =
           (λ u e. c.requires.exact.agree u) (λ u e. c.requires.exact.count u) c.requires.tell;
     }
 
--- the node stands at its place, and is held
+-- the node is at its place, and is held
 module _ (c : In-Some) where
   abbrev order : List NodeId
   order = nodes_by c.args.self.now.lists.items c.args.slot
@@ -59,7 +59,7 @@ loop-at-preserved-in-Some c =
           (leaving_one left c.requires.quiet c.in-Some.node (held p) c.law.ensures.lawful left.agree left.count ends.woken.lists ends.woken.tells);
     }
 
--- a node stands at each place
+-- a node is at each place
 pub loop-at-preserved : goal.loop-at-preserved
 loop-at-preserved c =
     let order : List NodeId = nodes_by c.args.self.now.lists.items c.args.slot in

@@ -48,7 +48,7 @@ woken c = subst (λ (ws : List Waiter). Wakes (books_of c.args.self.now.seats c.
 well : (c : goal.After-set_status) → WaitWell (left c) c.args.node
 well c = well_without (before c) c.requires.waiters.orderly c.args.slot c.args.status c.args.node
 
--- who left is not granted
+-- the slot that left is not granted
 out : (c : goal.After-set_status) → is_among_waiters c.args.slot (front_at (left c) c.args.node) ≡ false
 out c = not_true _ (λ h. (out_of_without c.args.slot c.args.slot ((before c).queue c.args.node) (front_stands (left c) c.args.node (well c) c.args.slot h)).1
     refl)

@@ -2,7 +2,7 @@ use Rattle.gl_table.proofs.Words.{◌∙◌, ◌≡◌, ap, clash, is_wait, Opti
 use Rattle.gl_table.proofs.ledger.Ledger.stuck.Goals.{in_default-via-in-Some+in_default, in_default-via-in_default}
 use Rattle.gl_table.proofs.ledger.Ledger.stuck.Goals as goal
 
--- whoever waits has a seat whose status is a wait
+-- a waiter has an entry whose status is a wait
 waits : (o : Option Seat) (t : Option Txn) → txn_in (Some o) ≡ t → is_wait (status_in t) ≡ true → is_wait (status_in (txn_in (Some o))) ≡ true
 waits o t same h = ap (λ x. is_wait (status_in x)) same ∙ h
 

@@ -9,6 +9,6 @@ invariant-loop-slot l = IsTurning l.fn.self l.self l.node (state_in l.graph l.fn
     (stays (state_in l.graph l.fn.self) (parents_of (graph_of l.graph) l.node))
     (has_slot l.strays) l.fn.told.items l.told.items
 
--- each slot that is taken leaves fewer
+-- each slot that is removed leaves fewer
 abbrev pub decreases-loop-slot : goal.decreases-loop-slot
 decreases-loop-slot l = number_of l.strays

@@ -24,7 +24,7 @@ struck : (c : After-strike) → Strikes c.args.self.now.lists.items c.strike.new
 struck c = subst (λ (ps : List NodeId). Strikes c.args.self.now.lists.items c.strike.new.lists.items c.args.slot c.args.node ps) c.parents.ensures
     c.strike.ensures
 
--- the waiters of the header that was taken are those of the node; where there was none, nobody waited
+-- the waiters of the removed header are those of the node; if there was none, nobody waited
 waiters : (c : Joined-taken) → c.match-taken.waiters.now ≡ queue_of c.args.self.now.headers.entries c.args.node
 waiters c = elim c.match-taken.branch [
   | in-Some w ↦ ap (λ (ws : Bor (List Waiter)). ws.now) w.waiters-is ∙ w.queue-waiters.ensures

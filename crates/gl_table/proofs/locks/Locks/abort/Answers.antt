@@ -6,14 +6,14 @@ use Rattle.gl_table.proofs.locks.Locks.abort.Goals as goal
 abbrev before : Joined-seat → State
 before c = state_at c.args.self.now
 
--- where nothing was taken back, all is as it was
+-- if nothing was cancelled, all is as it was
 idle : (c : Joined-seat) → is_wait (status_of (before c) c.args.slot) ≡ false → c.match-seat.self ≡ c.args.self.now → c.match-seat.told ≡ c.args.told.now
     → IsFree (before c) (state_at c.match-seat.self) c.args.slot c.args.told.now.items c.match-seat.told.items
 idle c quiet self told =
     free_same (before c) (before c) _ c.args.slot c.args.told.now.items c.args.told.now.items _ (ap state_at self) (ap (λ x. x.items) told)
     (free_idle (before c) c.args.slot c.args.told.now.items c.args.self.now.orderly quiet c.requires.tell.untold)
 
--- the slot waits for nothing, once its wait is taken back, if it has one
+-- the slot does not wait, once its wait is cancelled, if it has one
 free : (c : Joined-seat) → IsFree (before c) (state_at c.match-seat.self) c.args.slot c.args.told.now.items c.match-seat.told.items
 free c = elim c.match-seat.branch [
   | in-Some-Waiting w ↦

@@ -2,7 +2,7 @@ use Rattle.gl_table.proofs.Words.{◌+◌, ◌≡◌, ◌≤◌, holds_child, le
 use Rattle.gl_table.proofs.inside.Back.{IsGoingBack}
 use Rattle.gl_table.proofs.locks.Locks.release_childless.Given as goal
 
--- the slot goes back; while nothing is released, a child is held of each node that was passed
+-- the slot rolls back; while nothing is released, a child is held of each node that was passed
 abbrev pub invariant-loop-at : goal.invariant-loop-at
 invariant-loop-at l = record {
   within : l.at ≤ length (nodes_by l.self.ledger.lists.items l.slot);

@@ -16,7 +16,7 @@ pass-preserved c =
     let now = c.release_childless.ensures in
     back_pass c.pass.invariant now.unlocks.0 now.unlocks.1 now.unlocks.2 now.active now.before now.fewer now.tell now.tells
 
--- the slot went back, and of each node from the mark on a child is held
+-- the slot rolled back, and of each node from the mark on a child is held
 abbrev HasGoneBack : After-rows-2 → Locks → Told → Type 0
 HasGoneBack c l told =
     IsGoingBack (state_at c.args.self.now) (state_at l) c.args.slot c.args.mark (nodes_by c.args.self.now.ledger.lists.items c.args.slot)
@@ -24,7 +24,7 @@ HasGoneBack c l told =
     × ((n : NodeId) → list_any (same_node n) (drop c.args.mark (nodes_by l.ledger.lists.items c.args.slot)) ≡ true
     → holds_child (state_at l) c.args.slot n ≡ true)
 
--- either nothing stands from the mark on, or the last pass released nothing
+-- either nothing is listed from the mark on, or the last pass released nothing
 gone_back : (c : After-rows-2) → HasGoneBack c c.pass-test.self c.pass-test.told.items
 gone_back c = elim c.pass-test.branch [
   | else-pass-test w ↦

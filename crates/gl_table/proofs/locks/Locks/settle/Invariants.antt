@@ -3,8 +3,7 @@ use Rattle.gl_table.proofs.Words.{State, state_at, status_of, TellsAll, true, â„
 use Rattle.gl_table.proofs.inside.Withdrawn.{how_many_wait}
 use Rattle.gl_table.proofs.locks.Locks.settle.Given as goal
 
--- between two victims: what settles the slot from here settles it from the start and keeps the same, and what is told agrees
--- with the way
+-- between two victims: what settles the slot from here settles it from the start and records the same, and the notices agree with the changes so far
 abbrev pub invariant-loop-victim : goal.invariant-loop-victim
 invariant-loop-victim l = record {
   seated : l.slot < (state_at l.self).most;

@@ -53,7 +53,7 @@ leave-requires c = record {
       c.args.self.now.ledger.lists.items (mid h) c.args.self.now.agree c.args.self.now.count c.leave_queue.ensures.woken.lists);
 }
 
--- the node was taken out of the list, which did not hold it
+-- the node was removed from the list, which did not hold it
 left : (c : After-holds) (l' : LockList) → c.holds.result ≡ false
     → ((q : NodeId) → mode_of l' q ≡ (if same_node q c.args.node then NL else mode_of c.index_mut-list.result.now q))
     → ((q : NodeId) → is_listed l' q ≡ (is_listed c.index_mut-list.result.now q && not (same_node q c.args.node)))

@@ -3,7 +3,7 @@ use Rattle.gl_table.specs.declared.seats.Seats.TheInside.{Inside}
 use Rattle.gl_table.proofs.inside.Seats.{lowest-first, none-free}
 use Rattle.gl_table.proofs.seats.Seats.first_free.Goals as goal
 
--- what the set of free slots answers is the first free seat
+-- what the set of free slots answers is the first free entry
 answer : (s : Inside) → IsSeating s → (o : Option ℕ) → IfSome o (IsLowest s.free) → IfNone o (HasNoSlot s.free) → o ≡ position is_free s.list.items
 answer s law None some none = sym (none-free s.list.items (λ u. sym (law.free u) ∙ none u))
 answer s law (Some k) some none = sym (lowest-first s.list.items k (sym (law.free k) ∙ some.member) (λ u lt. sym (law.free u) ∙ some.none_below u lt))

@@ -29,12 +29,12 @@ roomy c = put c.self.inside c.self.inside.locks.graph c.prepare.new.self (ready 
 same : (c : After-add_index_unrefused) → state_of (view_of (roomy c)) ≡ state_of c.args.self.now
 same c = same_state c.self.inside c.self.invariant c.prepare.new.self c.prepare.ensures.kept ∙ ap (λ (v : TableView). state_of v) c.self.view_is
 
--- memory alone stands against the record
+-- memory alone can refuse the index
 free : (c : After-add_index_unrefused) → reindex_refusal (graph_of c.self.inside.locks.graph) c.args.parents.now c.args.file c.args.bounds.now ≡ None
 free c = subst (λ (v : TableView). reindex_refusal (state_of v).graph c.args.parents.now c.args.file c.args.bounds.now ≡ None) (sym c.self.view_is)
     c.requires.free
 
--- the graph was asked for the record
+-- the graph was called for the index
 asked : (c : After-add_index_unrefused) → MayStand (roomy c) c.add_index_unrefused.new.self c.prepare.new.self
 asked c =
     stands_indexed (roomy c) (ready c).safe c.args.parents.now c.args.file c.args.bounds.now (free c) c.add_index_unrefused.new.self

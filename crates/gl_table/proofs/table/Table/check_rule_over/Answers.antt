@@ -4,7 +4,7 @@ use Rattle.gl_table.proofs.calls.Queries.{named}
 use Rattle.gl_table.proofs.inside.Slots.{by_list-at}
 use Rattle.gl_table.proofs.table.Table.check_rule_over.Goals as goal
 
--- who lives has a list, which says what is held
+-- a living transaction has a list, which says what is held
 pub returns : goal.returns
 returns c =
     let i = c.self.inside in

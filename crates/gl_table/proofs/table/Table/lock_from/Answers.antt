@@ -10,7 +10,7 @@ use Rattle.gl_model.proofs.law.Lock.{MayLock}
 use Rattle.gl_table.proofs.table.Table.lock_from.Goals.{In_ok-held, In_err-granted, In-Granted, In-Waiting}
 use Rattle.gl_table.proofs.table.Table.lock_from.Goals as goal
 
--- the tests of the ask passed, and this is the mode held
+-- the tests of the request passed, and this is the mode held
 checked : (c : In_ok-held) → (first_refusal (lock_tests (state_of c.args.self.now) c.args.t c.args.n c.args.mode) ≡ None)
     × (c.in_ok-held.held ≡ (state_of c.args.self.now).held c.args.t.slot c.args.n)
 checked c = (
@@ -24,11 +24,11 @@ may c =
     subst (λ (v : TableView). MayLock (state_of v) c.args.t c.args.n c.args.mode) (sym c.self.view_is)
     (may_lock_by (state_of c.args.self.now) c.args.t c.args.n c.args.mode (checked c).0)
 
--- where it was granted at once
+-- if it was granted at once
 fits : (c : In-Granted) → enters_at (state_of (view_of c.self.inside)) c.args.t.slot c.args.n c.args.mode ≡ true
 fits c = answer-enters _ _ _ _ c.in_ok-granted.ensures.asked.answered c.in-Granted.is
 
--- and where it waits
+-- and if it waits
 blocks : (c : In-Waiting) → enters_at (state_of (view_of c.self.inside)) c.args.t.slot c.args.n c.args.mode ≡ false
 blocks c = answer-waits _ _ _ c.in_ok-granted.ensures.asked.answered c.in-Waiting.is
 
@@ -47,7 +47,7 @@ pub ask-requires-clause-can : goal.ask-requires-clause-can
 ask-requires-clause-can c = can_ask c.self.inside c.self.invariant c.args.t c.args.n c.args.mode (may (goal.at.ask-requires-clause-can c).In_ok-held)
     c.in_ok-held.held _ c.in_ok-held.ensures.held c.in_ok-held.ensures.parents
 
--- what the ask makes of the table where memory was wanting
+-- what the request leaves of the table if memory was lacking
 kept : (c : In_err-granted) → MayStand c.self.inside c.self.inside.locks.graph c.ask.new.self
 kept c = stands_kept c.self.inside c.self.invariant c.args.t c.args.n c.args.mode c.ask.new.self c.in_err-granted.ensures.err c.ask.ensures.exact
 

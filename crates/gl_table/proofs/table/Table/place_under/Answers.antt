@@ -28,11 +28,11 @@ roomy c = put c.self.inside c.self.inside.locks.graph c.prepare.new.self (ready 
 same : (c : After-add_record_under) → state_of (view_of (roomy c)) ≡ state_of c.args.self.now
 same c = same_state c.self.inside c.self.invariant c.prepare.new.self c.prepare.ensures.kept ∙ ap (λ (v : TableView). state_of v) c.self.view_is
 
--- memory alone stands against the record
+-- memory alone can refuse the record
 free : (c : After-add_record_under) → record_refusal (graph_of c.self.inside.locks.graph) c.args.file c.args.keys.now ≡ None
 free c = subst (λ (v : TableView). record_refusal (state_of v).graph c.args.file c.args.keys.now ≡ None) (sym c.self.view_is) c.requires.free.free
 
--- the graph was asked for the record
+-- the graph was called for the record
 asked : (c : After-add_record_under) → MayStand (roomy c) c.add_record_under.new.self c.prepare.new.self
 asked c =
     stands_grown (roomy c) (ready c).safe c.args.file c.args.keys.now (free c) c.add_record_under.new.self c.add_record_under.result
