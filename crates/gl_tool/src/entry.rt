@@ -1,4 +1,4 @@
-//! The whole program, with given words and streams.
+//! The whole program.
 
 ghost use Rattle.std.specs.Prelude.{◌≡◌, ◌≤◌, map};
 ghost use Rattle.gl_words.specs.Planned.{HasNoPlan};
