@@ -277,7 +277,7 @@ fn draw_waits<W: Write>(sink: &mut Sink, writer: &mut W, desk: &Desk, txn: TxnId
     let (Status::Waiting { node, wanted }, Ok(slots)) = (status, desk.manager.waits_for(txn)) else {
         return;
     };
-    let at = (txn.slot as usize).min(SLOTS - 1); // A living transaction is in a slot below.
+    let at = (txn.slot as usize).min(SLOTS - 1); // A living transaction has a lower slot.
     let cycle = Slots::from_bits(on_cycle(&desk.manager.board(), at));
     for slot in slots.iter() {
         put(sink, writer, b"  ");

@@ -61,7 +61,7 @@ impl Interpreter {
         let Ok(two) = Manager::choosing(alloc, detect, victims, 128) else {
             return None;
         };
-        one.law(); // Nothing stands in its lists.
+        one.law(); // Its lists are empty.
         two.law();
         Some(Interpreter {
             desk: Desk::new(alloc, language, one),

@@ -345,7 +345,7 @@ pub fn acts<N: Naming, R: Wait + Abort>(
             break;
         }
         actor.goes_on();
-        yield_now(); // Else one after the other could do all its work, where processors are few.
+        yield_now(); // Else, with few processors, the sessions could do all their work one by one.
     }
     ended(actor)
 }
