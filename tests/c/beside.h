@@ -1,6 +1,6 @@
 /*
- * beside.h: a manager of the library beside a naive one: whether two replies, two told lists and the whole states are
- * the same. What is not the same is said as a text; null means that nothing differs.
+ * beside.h: a manager of the library compared with a naive one: whether two replies, two told lists and the whole
+ * states are the same. A difference is described as a text; null means that nothing differs.
  */
 #ifndef BESIDE_H
 #define BESIDE_H
@@ -232,7 +232,7 @@ static inline const char *same_graph(const bs_manager *m, const naive *n) {
   return NULL;
 }
 
-/* Who lives, who holds what, and who waits where for what and for whom. */
+/* The transactions, what each holds, and which wait where, for what and for whom. */
 static inline const char *same_state(const bs_manager *m, const naive *n) {
   uint32_t slot;
   size_t i;
