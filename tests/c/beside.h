@@ -128,7 +128,7 @@ static inline const char *same_txn_in(const bs_manager *m, const naive *n, uint3
   return same_locks(m, n, txn);
 }
 
-/* For whom a transaction waits. */
+/* The transactions for which a transaction waits. */
 static inline const char *same_waits_for(const bs_manager *m, const naive *n, uint32_t slot) {
   bool waits[NAIVE_TXNS];
   bs_slots came;
@@ -143,7 +143,7 @@ static inline const char *same_waits_for(const bs_manager *m, const naive *n, ui
 }
 
 /* ------------------------------------------------------------------------------------------------
- * Nodes, and who holds them and waits for them.
+ * Nodes, with their holders and their queues.
  */
 
 static inline const char *same_holders(const bs_manager *m, const naive *n, const naive_node *node) {

@@ -555,7 +555,7 @@ static void an_ask_ends_beside_other_words(void) {
   close_table();
 }
 
-/* A lock for an instant is given back in each slot, and one that stays is kept in each. */
+/* A lock for an instant is released in each slot, and one that stays is kept in each. */
 static void instants_in_all_slots(void) {
   static struct heard h[BS_SLOTS];
   bs_txn all[BS_SLOTS];
@@ -621,8 +621,8 @@ static void set_up_watched(bs_txn *older, bs_txn *younger) {
   await_idle();
 }
 
-/* Has a transaction wait for X on the root by a list, with each growth that is refused in turn, until one is refused
- * that is the board's alone. */
+/* A transaction waits for X on the root by a list, with each allocation refused in turn, until only that of the board
+ * is refused. */
 static void wait_unshown(bs_txn txn) {
   bs_command command = bs_do_at(BS_DO_LOCK, txn, root, BS_X);
   long n = 0;
@@ -698,7 +698,7 @@ static void notes_signals(struct heard *h) {
   if (h->end.status == BS_VICTIM) DONE(bs_table_abort(table, h->txn, NULL));
 }
 
-/* In a call of the function the thread that watches blocks all signals, but those that a fault of its own raises. */
+/* In the callback the thread that watches blocks all signals, except those that a fault of its own raises. */
 static void a_thread_blocks_signals_but_its_faults(void) {
   static const int faults[] = { SIGSEGV, SIGBUS, SIGFPE, SIGILL, SIGTRAP };
   static const int others[] = { SIGHUP, SIGINT, SIGQUIT, SIGTERM, SIGUSR1, SIGUSR2, SIGALRM, SIGCHLD, SIGPIPE };
@@ -849,8 +849,8 @@ static void sets_off_others(struct heard *h) {
   }
 }
 
-/* Ends that are set off by the function come after it, in their order, by the same thread, and before the first call
- * returns; three deep and more. */
+/* Ends that the callback sets off come after it, in their order, by the same thread, and before the first call returns;
+ * three deep and more. */
 static void ends_set_off_ends(void) {
   static const int order[ENDS] = { 0, 1, 2, 3, 4, 5, 6, 7, 8, 9, 10, 11 };
   int i;
@@ -906,7 +906,7 @@ static void wait_again(int way, bs_txn txn, bs_node node, struct sleeper *s, str
   leave_waiting(&command);
 }
 
-/* The wait is cancelled: it has not come, whatever came before. */
+/* The wait is cancelled: it was not granted, whatever was before. */
 static void is_nothing_to(int way) {
   bool is_row = way == 1 || way == 4 || way == 7;
   struct sleeper s;
@@ -932,7 +932,8 @@ static void an_instant_of_before_is_nothing_to_a_wait(void) {
   for (way = 0; way < LATER_WAITS; way++) is_nothing_to(way);
 }
 
-/* A path that waits on its way where an instant came before is cancelled there, and does not continue. */
+/* A path that waits on its way, where a lock for an instant was granted before, is cancelled there, and does not
+ * continue. */
 static void an_instant_of_before_is_nothing_to_a_way(void) {
   struct sleeper s;
   struct heard h;
@@ -962,7 +963,7 @@ static void an_instant_of_before_is_nothing_to_a_way(void) {
   close_table();
 }
 
-/* What came for an instant is no answer to the next transaction of the slot, nor about another node. */
+/* A lock for an instant that was granted is no answer to the next transaction of the slot, nor about another node. */
 static void an_instant_is_of_its_transaction_and_node(void) {
   bs_txn holder, waiter, next;
   set_up(BS_AT_BLOCK);
