@@ -15,7 +15,7 @@ use Rattle.gl_c.specs.Numbers.{no_manager}
 use Rattle.gl_c.specs.answers.Replies.{served_reply, status_reply}
 use Rattle.gl_c.specs.managers.Serving.{ServesNodes}
 
--- a command is carried out, unless it is about a row by its node, and C gets the reply and the notices
+-- a command is carried out, unless it would insert, delete or change a record of a file of rows; C gets the reply and the notices
 pub record Replies (g : GuardedView) (c : Command) (r : Reply) (notices : Notices) (g' : GuardedView) : Type 0 where
   pub answer : Option Answer
   pub told : Told

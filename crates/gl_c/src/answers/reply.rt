@@ -96,8 +96,8 @@ impl Reply {
         }
     }
 
-    /// The reply for a command that is not made if it is about a row by its node. Inlined, so that a
-    /// call for one kind of command makes no choice.
+    /// The reply for a command; `None` is one that would insert, delete or change a record of a file of
+    /// rows. Inlined, so that a call for one kind of command makes no choice.
     #[inline(always)]
     pub(crate) fn of_served(answer: Option<Answer>) -> Reply
         ensures { result ≡ served_reply answer }

@@ -130,7 +130,7 @@ pub extern "C" fn bs_call_escalate_rows(
     manager.carry_out_row(call, told)
 }
 
-/// The node of a row, if somebody holds the row or waits for it.
+/// The node of a row, if it has one.
 #[unsafe(no_mangle)]
 pub extern "C" fn bs_call_row_node(manager: &mut Handle, file: Node, number: u64) -> Reply
     ensures { FindsRow (guarded_in manager.old) (row_at file number) result (guarded_in manager.new) }

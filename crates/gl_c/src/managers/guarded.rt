@@ -87,7 +87,7 @@ impl Guarded {
         self.registry.manager()
     }
 
-    /// The node of a row; `None` if nobody holds the row or waits for it.
+    /// The node of a row; `None` if it has none.
     pub(crate) fn node(&self, row: Row) -> Option<NodeId>
         ensures { result ≡ name_of self.now.rows row }
     {
