@@ -1,5 +1,5 @@
 /* A program that is compiled against a package, as C and as C++: two sessions wait for each other, each answer is
- * compared, and the status is the number of the first line whose answer is another. */
+ * compared, and the status is the number of the first line with a wrong answer. */
 #include "burlapslate.h"
 #include "burlapslate_shared.h"
 
@@ -19,7 +19,7 @@ static void *other(void *came) {
     if ((CALL).status != (STATUS)) return __LINE__; \
   } while (0)
 
-/* Two that hold S and ask for X: the younger falls. */
+/* Two transactions hold S and request X: the younger is the victim. */
 static int deadlock(void) {
   bs_manager m = BS_NO_MANAGER_HERE;
   bs_notices told;
@@ -39,7 +39,7 @@ static int deadlock(void) {
   return 0;
 }
 
-/* How many wait for the node. */
+/* How many transactions wait for the node. */
 static uint64_t waiters(void) {
   const bs_manager *m = bs_table_hold(table);
   uint64_t count = bs_queue_len(m, node).count;
@@ -47,7 +47,7 @@ static uint64_t waiters(void) {
   return count;
 }
 
-/* One that sleeps until the other commits. */
+/* A session sleeps until the other commits. */
 static int sleeper(void) {
   pthread_t thread;
   void *came = NULL;

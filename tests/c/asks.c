@@ -1,10 +1,10 @@
 /*
- * Stories of asks, which do not sleep: each is a function that ends the program with status 1 at the first answer that is
- * not as wanted, and else prints its name. In each there is one call for an ask that was left waiting, and none for any
- * other.
+ * Stories of asks, which do not sleep: each is a function that ends the program with status 1 at the first wrong
+ * answer, and else prints its name. Each ask that was left waiting has one call of the callback, and no other ask has
+ * any.
  *
- *   asks [SECONDS [RUNS]]   the time that a story may take before it is said to hang, 20 where none is given; and how
- *                           often races are run, 1000 where none is given
+ *   asks [SECONDS [RUNS]]   the time that a story may take before it is said to hang, 20 if none is given; and how
+ *                           often races are run, 1000 if none is given
  *
  * It is linked with the calls for memory of memory.h.
  */
@@ -27,14 +27,14 @@ static bs_notices told;
 static unsigned long runs = 1000;
 
 /* ------------------------------------------------------------------------------------------------
- * One who asks, and the function that hears its end.
+ * Requesters, and the callback that hears the ends of asks.
  */
 
-/* What is heard of an ask: it is the ask's word. What a story wants of the function is in `does`. */
+/* What is heard of an ask: it is the word of the ask. What the callback does then is in `does`. */
 struct heard {
   bs_txn txn;
   int calls;
-  int place; /* the how manieth call of the story it was */
+  int place; /* its call was the how manieth of the story, from 0 on */
   bs_reply end;
   pthread_t by;
   void (*does)(struct heard *h);
@@ -44,11 +44,11 @@ static pthread_mutex_t ear = PTHREAD_MUTEX_INITIALIZER;
 static int calls;
 static int context_word;
 
-/* How deep this thread is in calls of the function, and for what it asks at the moment. */
+/* How deep this thread is in calls of the callback, and the ask that it makes at the moment. */
 static __thread int depth;
 static __thread const struct heard *asking;
 
-/* The latch is free in each call, but of an ending table, which lends nothing. */
+/* The callback finds the latch free, but a table that ends lends nothing. */
 static void hear(void *context, bs_txn txn, bs_reply end, void *word) {
   struct heard *h = (struct heard *)word;
   const bs_manager *lent = bs_table_hold(table);
@@ -77,7 +77,7 @@ static int calls_of(const struct heard *h) {
   return count;
 }
 
-/* It was heard, once, and so. */
+/* The end of the ask was told by one call, with this status. */
 static bs_reply heard_so(struct heard *h, bs_status status, int line) {
   bs_reply end;
   while (calls_of(h) == 0) nap();
@@ -89,7 +89,7 @@ static bs_reply heard_so(struct heard *h, bs_status status, int line) {
 
 #define HEARD(h, status) heard_so((h), (status), __LINE__)
 
-/* By the time that the call of this thread has returned. */
+/* The same, by this thread, before now. */
 #define HEARD_BY_NOW(h, status) (WANT(calls_of(h) == 1), WANT(pthread_equal((h)->by, pthread_self())), HEARD(h, status))
 
 static struct heard nothing_heard(bs_txn txn) {
@@ -127,7 +127,7 @@ static bs_reply ask_row(struct heard *h, bs_txn txn, uint64_t number, uint64_t k
   asking = h;
   reply = bs_table_ask_row(table, txn, rows, number, &key, 1, BS_X, NULL, h);
   asking = NULL;
-  key = 0; /* the ask has its own */
+  key = 0; /* the ask has a copy */
   return reply;
 }
 
@@ -166,7 +166,7 @@ static void set_up(uint32_t detect) {
   DONE(bs_table_commit(table, t, NULL));
 }
 
-/* One who may write rows, wherever they lie. */
+/* A transaction that may write rows in all intervals. */
 static bs_txn begin_writer(void) {
   bs_txn t = begin();
   size_t i;
@@ -179,7 +179,7 @@ static bs_txn begin_writer(void) {
  * How an ask ends.
  */
 
-/* What need not wait is answered as a lock is, and nobody is called. */
+/* An ask that need not wait is answered as a lock is, and the callback is not called. */
 static void an_ask_is_answered_at_once(void) {
   struct heard h;
   bs_txn a, b;
@@ -200,7 +200,7 @@ static void an_ask_is_answered_at_once(void) {
   close_table();
 }
 
-/* One commit ends all, by rising slots, and before it returns. */
+/* One commit ends all waits, by rising slots, before it returns. */
 static void a_commit_ends_all(void) {
   static struct heard all[BS_SLOTS - 1];
   bs_txn a;
@@ -270,7 +270,7 @@ static bs_reply commits_in_a_list(bs_txn txn, bs_txn holder) {
   return runs_a_list(BS_DO_COMMIT, holder);
 }
 
-/* A lock of a record waits, and ends by this act: with one call, within it. */
+/* A lock of a record waits, and this act ends it: with one call, within the act. */
 static void ends(bs_reply (*act)(bs_txn txn, bs_txn holder), bs_status with) {
   struct heard h;
   bs_txn a, b;
@@ -303,8 +303,8 @@ static void each_end_of_an_ask(void) {
   ends(rekeys, BS_MOVED);
 }
 
-/* A savepoint ends an ask. And those for an instant end one behind the other in one hold, each with one call; a path goes
- * on to its node for an instant, and gives that back alone. */
+/* A rollback to a savepoint ends an ask. Asks for an instant end one after the other in the same critical section, each
+ * with one call; a path continues to its node for an instant, and releases only that. */
 static void a_savepoint_ends_asks_for_an_instant(void) {
   struct heard one, two, path, last;
   bs_txn a, b, c, d, e;
@@ -377,7 +377,7 @@ static void aborts_it(struct heard *h) {
   if (h->end.status == BS_VICTIM) DONE(bs_table_abort(table, h->txn, NULL));
 }
 
-/* Two hold S, and the younger asks for X. Whoever asks closes the cycle. */
+/* Two transactions hold S, and the younger requests X. The next request closes the cycle. */
 static void ask_as_younger(struct heard *h, bs_txn *a, bs_txn *b) {
   *a = begin(), *b = begin();
   DONE(bs_table_lock(table, *a, root, BS_S, NULL));
@@ -386,7 +386,7 @@ static void ask_as_younger(struct heard *h, bs_txn *a, bs_txn *b) {
   h->does = aborts_it;
 }
 
-/* A lock that sleeps tells whom it fells before it sleeps: here nobody else would ever end its wait. */
+/* A lock that sleeps tells its victim before it sleeps: nothing else would ever end its wait here. */
 static void a_lock_fells_an_ask(void) {
   struct heard h;
   bs_txn a, b;
@@ -408,7 +408,7 @@ static void a_path_fells_an_ask(void) {
   close_table();
 }
 
-/* An ask whose wait ends while it tells others is answered its end, and has no call. */
+/* An ask whose wait ends while it tells others is answered that end, and has no call. */
 static void an_ask_fells_an_ask(void) {
   struct heard h, own;
   bs_txn a, b;
@@ -440,7 +440,7 @@ static void an_ask_is_ended_by_what_it_tells(void) {
   close_table();
 }
 
-/* The asker itself falls: it is answered so. */
+/* The requester itself is the victim, and is answered so. */
 static void an_asker_falls(void) {
   struct heard one, two;
   bs_txn a, b;
@@ -468,7 +468,7 @@ static void a_settle_ends_an_ask(void) {
   close_table();
 }
 
-/* The thread that watches calls the function. */
+/* The thread that watches calls the callback. */
 static void a_watching_thread_ends_asks(void) {
   struct heard one, two;
   bs_txn a, b;
@@ -509,7 +509,7 @@ static void a_path_goes_on(void) {
   close_table();
 }
 
-/* A path that goes on at its end, with no more to wait for. */
+/* A path that continues at its end, with nothing left to wait for. */
 static void a_path_comes_to_its_end(void) {
   struct heard h;
   bs_txn a, b;
@@ -539,8 +539,8 @@ static void a_path_begins_anew(void) {
   close_table();
 }
 
-/* Two readers want to write, and wait on their ways for one. Both go on in one hold, and the younger falls: by its own
- * lock where it comes last, and else by the other's. */
+/* Two readers want to write, and their paths wait for one transaction. Both continue in one critical section, and the
+ * younger is the victim: by its own lock if that is the last, otherwise by the other's. */
 static void paths_meet(bool is_younger_first) {
   struct heard one, two;
   bs_txn gap, a, older, younger;
@@ -570,7 +570,7 @@ static void paths_meet_on_their_ways(void) {
   paths_meet(true);
 }
 
-/* Others fall for a lock above, which is granted by that: the path goes on, and they are told. */
+/* Others become victims for a lock above, which is then granted: the path continues, and they are told. */
 static void a_path_goes_on_where_others_fall(void) {
   struct heard one, two, own;
   bs_node other;
@@ -633,7 +633,7 @@ static void a_row_is_asked_for(void) {
   close_table();
 }
 
-/* Too many keys for any row are other keys. */
+/* More keys than any row has are other keys. */
 static void a_row_with_too_many_keys(void) {
   static uint64_t keys[40];
   struct heard h;
@@ -680,7 +680,7 @@ static bool is_over(struct timespec time) {
   return table_is_later(&now, &time);
 }
 
-/* The times of asks end by a call that somebody makes, and by nobody else. */
+/* The times of asks end only by a call of bs_table_expire. */
 static void an_ask_expires(void) {
   struct timespec soon = moment_in(2000), late = moment_in(60000000), later = moment_in(90000000), next;
   struct heard one, two, three, four;
@@ -710,7 +710,7 @@ static void an_ask_expires(void) {
   close_table();
 }
 
-/* A transaction's deadline is one of its asks too; the earlier comes first. */
+/* A transaction's deadline is a limit of its asks too; the earlier one counts. */
 static void an_ask_with_a_deadline(void) {
   struct timespec past = moment_in(0), late = moment_in(60000000), later = moment_in(90000000), next;
   struct heard h;
@@ -734,8 +734,8 @@ static void an_ask_with_a_deadline(void) {
   close_table();
 }
 
-/* A path that goes on begins to wait anew, to a time that is over by then: it ends in the same call, whether its slot has
- * been looked at by then or not. */
+/* A path that continues waits again, to a time that is already over: it ends in the same call, whether or not its slot
+ * was looked at before. */
 static void a_path_expires(bool is_looked_at) {
   struct timespec past = moment_in(0), next;
   struct heard one, two;
@@ -765,7 +765,7 @@ static void a_path_expires_on_its_way(void) {
 }
 
 /* ------------------------------------------------------------------------------------------------
- * What the function may do.
+ * What the callback may do.
  */
 
 static size_t commits_made;
@@ -797,8 +797,8 @@ static void a_chain_of_ends(void) {
 static struct heard inner;
 static bs_table *others;
 
-/* Whatever could sleep, and the end of a table, is refused here, of another table too. All else is done. What it holds
- * in the end it holds no more behind it. */
+/* The callback may not call what could sleep, or end a table, not even another one. All else is done. A table that it
+ * still holds at its end is released after it. */
 static void calls_the_table(struct heard *h) {
   struct timespec past = moment_in(0);
   bs_txn t = begin();
@@ -841,7 +841,7 @@ static void the_function_calls_the_table(void) {
   close_table();
 }
 
-/* A thread that holds another table ends asks of this one, and holds it still. */
+/* A thread that holds another table ends asks of this one, and still holds the other. */
 static void a_holder_of_another_tells(void) {
   struct heard h;
   bs_txn a, b;
@@ -861,8 +861,8 @@ static void a_holder_of_another_tells(void) {
 
 static bs_table *third;
 
-/* The function cannot give back what the thread held when it was called, nor use it. What it takes itself it may give
- * back, or leave to the call. */
+/* The callback can neither release nor use the table that the thread held when it was called. A table that the callback
+ * itself holds it may release, or leave that to the call. */
 static void takes_the_outer_table(struct heard *h) {
   (void)h;
   ANSWERS(BS_IN_USE, bs_table_let_go(others));
@@ -875,7 +875,7 @@ static void takes_the_outer_table(struct heard *h) {
   WANT(bs_table_hold(third) != NULL);
 }
 
-/* Two ends are told by a thread that holds another table: it holds that still after them, and nothing else. */
+/* A thread that holds another table tells two ends: it still holds that after them, and nothing else. */
 static void what_is_held_outside_stays_held(void) {
   struct heard one, two;
   bs_txn a;
@@ -901,7 +901,7 @@ static void what_is_held_outside_stays_held(void) {
   close_table();
 }
 
-/* A thread is cancelled within a call of the function: it ends behind the call of the table. */
+/* A thread is cancelled within a call of the callback: it ends after the call of the table. */
 static void comes_to_a_cancel(struct heard *h) {
   (void)h;
   pthread_testcancel();
@@ -987,7 +987,7 @@ static void a_table_without_a_function(void) {
   close_table();
 }
 
-/* What ends asks takes no memory, and each growth of an ask can be refused: then nothing waits, and nobody is called. */
+/* Ending asks takes no memory. Each allocation of an ask can be refused: then nothing waits, and there is no call. */
 static void asks_without_memory(void) {
   struct heard h, other;
   bs_txn a, b;
@@ -1015,7 +1015,7 @@ static void asks_without_memory(void) {
   close_table();
 }
 
-/* Where a path cannot go on for want of memory it ends so. */
+/* A path that cannot continue for lack of memory ends so. */
 static void a_path_goes_on_without_memory(void) {
   struct heard h;
   bs_txn a, b;
@@ -1078,7 +1078,7 @@ static bool is_in(void) {
   return is;
 }
 
-/* An end of a table waits for a call that another thread makes. */
+/* The end of a table waits for a call that another thread makes. */
 static void an_end_waits_for_a_call(void) {
   struct heard h;
   pthread_t thread;
@@ -1120,7 +1120,7 @@ static void a_list_is_left_waiting(void) {
   close_table();
 }
 
-/* One sleeps for a lock, and an ask for the same one stands behind it: each has its own end. */
+/* A thread sleeps for a lock, and an ask for the same one is after it in the queue: each has its own end. */
 static void *sleeps(void *arg) {
   bs_txn t = *(bs_txn *)arg;
   DONE(bs_table_lock(table, t, root, BS_X, NULL));
@@ -1145,7 +1145,7 @@ static void a_sleeper_and_an_ask(void) {
   close_table();
 }
 
-/* A function that makes no call of the table. */
+/* A callback that makes no call of the table. */
 static void hear_alone(void *context, bs_txn txn, bs_reply end, void *word) {
   (void)context, (void)txn;
   WANT(end.status == BS_DONE);
@@ -1157,7 +1157,7 @@ static void *reads_root(void *arg) {
   return NULL;
 }
 
-/* One commit ends the wait of one who sleeps and that of an ask, and nobody calls the table behind it. */
+/* One commit ends the wait of a sleeper and that of an ask, and nobody calls the table after it. */
 static void a_commit_wakes_and_tells(void) {
   pthread_t thread;
   int heard = 0;
@@ -1194,7 +1194,7 @@ static void *commits_by_the_gate(void *arg) {
   return NULL;
 }
 
-/* Ask and commit come at the same time: the ask is answered the grant and has no call, or it waits and has one. */
+/* An ask and a commit at the same time: the ask is answered the grant and has no call, or it waits and has one. */
 static void asks_and_commits(void) {
   unsigned long i, waited = 0;
   pthread_t thread;
@@ -1236,7 +1236,7 @@ static void *aborts_by_the_gate(void *arg) {
   return NULL;
 }
 
-/* The asker's transaction is ended while its ask tells another that it fell: by its answer, or by one call. */
+/* The requester's transaction is ended while its ask tells a victim: by its answer, or by one call. */
 static void asks_and_aborts(void) {
   unsigned long i;
   pthread_t thread;
@@ -1282,7 +1282,7 @@ struct client {
   struct client *next;
 };
 
-/* A queue of clients that are to go on. */
+/* A queue of clients that may continue. */
 struct queue {
   struct client *first, *last;
 };
@@ -1321,7 +1321,7 @@ static void set_up_files(uint32_t detect, uint32_t most, size_t number) {
   is_all_done = false;
 }
 
-/* The end of an ask: its client is to go on, in the loop. */
+/* The end of an ask: its client may continue, in the loop. */
 static void wakes_the_loop(void *context, bs_txn txn, bs_reply end, void *word) {
   struct client *client = (struct client *)word;
   (void)context;
@@ -1342,7 +1342,7 @@ static void choose(struct client *client, uint64_t *dice) {
   client->locked = 0;
 }
 
-/* Asks for the next file: what it is answered, or BS_WAITING. That its end may come is known before. */
+/* Asks for the next file: the answer, or BS_WAITING. Its end may come before the call returns. */
 static bs_reply ask_next(struct client *client, const struct timespec *until) {
   bs_reply reply;
   pthread_mutex_lock(&ear);
@@ -1357,7 +1357,7 @@ static bs_reply ask_next(struct client *client, const struct timespec *until) {
   return reply;
 }
 
-/* Adds to what is held in X, and commits. Another may have aborted it meanwhile: then nothing was added. */
+/* Adds to what is held in X, and commits. If another thread aborted the transaction meanwhile, nothing was added. */
 static bool adds_and_commits(struct client *client) {
   bs_command hold = bs_do_at(BS_DO_TRY, client->txn, files[client->files[0]], BS_X);
   size_t i;
@@ -1366,7 +1366,7 @@ static bool adds_and_commits(struct client *client) {
   return bs_table_commit(table, client->txn, NULL).status == BS_DONE;
 }
 
-/* Goes on with a client that was answered so, until it waits or has done its work; whether it has. */
+/* Continues with a client that was answered so, until it waits or has done its work; whether it has. */
 static bool go_on(struct client *client, bs_reply reply, const struct timespec *until) {
   for (;;) {
     if (reply.status == BS_WAITING) return false;
@@ -1402,7 +1402,7 @@ static void *sleeps_for_files(void *arg) {
   return NULL;
 }
 
-/* Takes waits of others back now and then. */
+/* Cancels waits of others now and then. */
 static void *cancels_some(void *arg) {
   uint64_t dice = 5;
   bool is_done = false;
@@ -1419,7 +1419,7 @@ static void *cancels_some(void *arg) {
   return NULL;
 }
 
-/* The next client that is to go on. Where none comes for a millisecond, what is over is taken back. */
+/* The next client that may continue. If there is none for a millisecond, the late waits are cancelled. */
 static struct client *next_of_loop(void) {
   struct client *client;
   pthread_mutex_lock(&ear);
@@ -1466,7 +1466,7 @@ static unsigned long sum_of_accounts(void) {
   return sum;
 }
 
-/* A loop has a slot for each of its clients, and so begins anew at once. */
+/* A loop has a slot for each of its clients, so it begins again at once. */
 static void a_crowd(uint64_t seed, uint32_t detect) {
   pthread_t threads[SLEEPERS], canceller;
   size_t i;
@@ -1511,7 +1511,7 @@ static void rings(void *context, bs_txn txn, bs_reply end, void *word) {
   ring();
 }
 
-/* One of the pool: it works for those who have their locks, and rings behind the commit. */
+/* A thread of the pool: it works for clients that have their locks, and rings after the commit. */
 static void *works(void *arg) {
   (void)arg;
   pthread_mutex_lock(&ear);
@@ -1539,7 +1539,7 @@ static void hand_over(struct client *client) {
   pthread_mutex_unlock(&ear);
 }
 
-/* Those who have heard go on. */
+/* Clients whose ends were heard continue. */
 static size_t serve_loop(void) {
   size_t done = 0;
   for (;;) {
@@ -1569,7 +1569,7 @@ static size_t number_at_work(void) {
   return number;
 }
 
-/* Each has its turn by the loop's own queue, which is their order here, while a slot is free. */
+/* Clients begin in the order of the loop's own queue, while a slot is free. */
 static void an_event_loop(void) {
   struct epoll_event event = { EPOLLIN, { NULL } };
   pthread_t pool[3];

@@ -1,6 +1,6 @@
 /*
- * beside.h: a manager of the library beside a naive one: whether two replies, two told lists and the whole states are
- * the same. What is not the same is said as a text; null means that nothing differs.
+ * beside.h: a manager of the library compared with a naive one: whether two replies, two told lists and the whole
+ * states are the same. A difference is described as a text; null means that nothing differs.
  */
 #ifndef BESIDE_H
 #define BESIDE_H
@@ -128,7 +128,7 @@ static inline const char *same_txn_in(const bs_manager *m, const naive *n, uint3
   return same_locks(m, n, txn);
 }
 
-/* For whom a transaction waits. */
+/* The transactions for which a transaction waits. */
 static inline const char *same_waits_for(const bs_manager *m, const naive *n, uint32_t slot) {
   bool waits[NAIVE_TXNS];
   bs_slots came;
@@ -143,7 +143,7 @@ static inline const char *same_waits_for(const bs_manager *m, const naive *n, ui
 }
 
 /* ------------------------------------------------------------------------------------------------
- * Nodes, and who holds them and waits for them.
+ * Nodes, with their holders and their queues.
  */
 
 static inline const char *same_holders(const bs_manager *m, const naive *n, const naive_node *node) {
@@ -232,7 +232,7 @@ static inline const char *same_graph(const bs_manager *m, const naive *n) {
   return NULL;
 }
 
-/* Who lives, who holds what, and who waits where for what and for whom. */
+/* The transactions, what each holds, and which wait where, for what and for whom. */
 static inline const char *same_state(const bs_manager *m, const naive *n) {
   uint32_t slot;
   size_t i;

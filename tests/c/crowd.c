@@ -1,15 +1,15 @@
 /*
- * A crowd over one shared table: 128 threads, or 1,000 where there are slots for them, make random commands of every
- * kind, by both ways of detection and both choices of victims, and over fewer slots than there are threads.
+ * A crowd over one shared table: 128 threads, or 1,000 if there are slots for them, make random commands of every kind,
+ * with both ways of detection and both choices of victims, and over fewer slots than there are threads.
  *
- *   crowd [ROUNDS [SECONDS]]   how many transactions each thread begins, 4 where none is given; and the time that a
- *                              setting may take before it is said to hang, 20 where none is given
+ *   crowd [ROUNDS [SECONDS]]   how many transactions each thread begins, 4 if none is given; and the time that a
+ *                              setting may take before it is said to hang, 20 if none is given
  *
- * Each call that the table makes with its manager is written down with its answer, with the latch held. In the end a
- * manager of one thread is asked the same in the same order, and must answer the same. What each thread was answered
- * must be what was written down, or, where it slept, how its wait then ended. Those who hold BS_X on an account, or on
- * a row that they insert or delete, add to it with nothing else to guard it, and no addition may be lost. Listings of
- * one moment agree with each other.
+ * Each call that the table makes with its manager is logged with its answer, under the latch. In the end a manager of
+ * one thread is asked the same in the same order, and must answer the same. The answer of each thread must be the
+ * logged one, or, if it slept, the end of its wait. A transaction that holds BS_X on an account, or on a row that it
+ * inserts or deletes, adds to it; only the lock protects that, and no addition may be lost. Listings of one moment
+ * agree with each other.
  */
 #include "burlapslate.h"
 #include "same.h"
@@ -29,7 +29,7 @@ enum kind {
 
 enum { MOST_NUMBERS = 3, MOST_PARENTS = 2 };
 
-/* A call, with all that it was given. */
+/* A call, with all its arguments. */
 struct call {
   enum kind kind;
   bs_txn txn;
@@ -48,17 +48,17 @@ struct served {
   struct call call;
   bs_reply reply;
   size_t told_count;
-  uint64_t told_sum; /* of all that the notices say */
-  uint64_t accepted; /* behind it */
-  bool has_slept;    /* a lock that was left waiting, and what its thread was answered then */
+  uint64_t told_sum; /* of all fields of the notices */
+  uint64_t accepted; /* after it */
+  bool has_slept;    /* a lock that was left waiting, and the answer to its thread then */
   bs_reply came;
 };
 
-/* With the latch of the table held. */
+/* Protected by the latch of the table. */
 static struct served *log_of_calls;
 static size_t log_count, log_room;
 
-/* The last call that this thread had served, and the one before. */
+/* The last call that was served for this thread, and the one before. */
 static __thread size_t my_last, my_last_but_one;
 
 static uint64_t mixed(uint64_t sum, uint64_t more) {
@@ -155,12 +155,12 @@ static void give_numbers(struct call *call, const uint64_t *numbers, size_t coun
 
 /* The calls that the header makes in place of those of burlapslate.h. */
 static bs_reply serve(bs_manager *m, struct call call, bs_notices *told) {
-  static bs_notices none; /* with the latch held too */
+  static bs_notices none; /* protected by the latch too */
   bs_reply reply = made(m, &call, told == NULL ? &none : told);
   return write_down(m, &call, reply, told);
 }
 
-/* Whether the begin is for one who sleeps for a slot: then it is not this thread's. */
+/* Whether the begin is for a thread that sleeps for a slot: then it is not this thread's. */
 static bool is_handed_on(void);
 
 static bs_reply served_begin(bs_manager *m, enum kind kind, uint64_t since) {
@@ -314,12 +314,12 @@ static bool is_handed_on(void) {
 static bs_node root, areas[AREAS], files[FILES], indexes[FILES], intervals[FILES][INTERVALS], accounts[ACCOUNTS];
 static bs_node records[RECORDS];
 static bs_node row_files[FILES], row_indexes[FILES], row_intervals[FILES][INTERVALS];
-/* Of records, of the indexes of rows and their intervals, and of those who may be ended by anybody. */
+/* Protects records, the indexes of rows and their intervals, and the transactions that anybody may end. */
 static pthread_mutex_t names = PTHREAD_MUTEX_INITIALIZER;
 static bs_txn free_game[THREADS];
-static long added[ACCOUNTS];      /* by who holds the account in X */
-static long changed[FILES][ROWS]; /* the same of rows, each of which is there or not */
-static bool is_over;              /* for those who watch, with `names` held */
+static long added[ACCOUNTS];      /* by the holder of the account in X */
+static long changed[FILES][ROWS]; /* the same of rows, each inserted or not */
+static bool is_over;              /* for the watchers, protected by `names` */
 
 static const uint64_t bounds[INTERVALS - 1] = { 100, 200 };
 
@@ -396,7 +396,7 @@ struct session {
   size_t number;
   uint64_t dice;
   bs_txn txn;
-  uint64_t since; /* of work that fell, its first begin; else 0 */
+  uint64_t since; /* of work whose transaction was a victim, its first begin; else 0 */
   bool is_game;   /* anybody may end its transaction */
   long adds[ACCOUNTS], changes[FILES][ROWS], victims, slept, late, others, indexes;
   pthread_t thread;
@@ -432,7 +432,7 @@ static bool same_reply(bs_reply a, bs_reply b) {
          a.released == b.released && a.kept == b.kept && a.count == b.count;
 }
 
-/* What was answered to a call that cannot sleep is what was written down for it. */
+/* The answer of a call that cannot sleep is the logged one. */
 static bs_reply as_served(bs_reply reply) {
   pthread_mutex_lock(&table->latch);
   WANT(same_reply(reply, log_of_calls[my_last].reply));
@@ -440,7 +440,7 @@ static bs_reply as_served(bs_reply reply) {
   return reply;
 }
 
-/* A cancel that finds no wait may end a path all the same. */
+/* A cancel that finds no wait may still end a path. */
 static bs_reply as_cancelled(bs_reply reply) {
   bs_reply served = reply;
   pthread_mutex_lock(&table->latch);
@@ -465,7 +465,7 @@ static bs_reply as_begun(bs_reply reply) {
   return reply;
 }
 
-/* The same of a lock. Where it slept, what it came to is noted; a wait that was given up has the cancel as its last. */
+/* The same of a lock. If it slept, its end is noted; a wait that was given up has the cancel as its last call. */
 static bs_reply as_slept(struct session *s, bs_reply reply) {
   struct served *last;
   pthread_mutex_lock(&table->latch);
@@ -484,7 +484,7 @@ static bs_reply as_slept(struct session *s, bs_reply reply) {
   return reply;
 }
 
-/* A wait for a row, and the call that asks for it again behind the grant. */
+/* A wait for a row, and the call that requests it again after the grant. */
 static bool is_asked_again(const struct served *slept, const struct served *last) {
   const struct call *a = &slept->call, *b = &last->call;
   if (a->kind != LOCK_ROW || b->kind != LOCK_ROW || slept->reply.status != BS_WAITING || slept->has_slept) return false;
@@ -492,7 +492,7 @@ static bool is_asked_again(const struct served *slept, const struct served *last
          a->numbers[0] == b->numbers[0];
 }
 
-/* The same of a row's lock: the answer behind a grant is that of the call which asks again. */
+/* The same of a row's lock: the answer after a grant is that of the call that requests it again. */
 static bs_reply as_row_slept(struct session *s, bs_reply reply) {
   struct served *slept;
   pthread_mutex_lock(&table->latch);
@@ -517,7 +517,8 @@ static bs_reply ask_path(struct session *s, bs_node node, bs_mode mode) {
   return as_slept(s, bs_table_lock_path(table, s->txn, node, mode, pick(s, 4) == 0 ? &until : NULL));
 }
 
-/* What is held above a row with this key, and then the row; what is wanting above a node with another key as well. */
+/* Locks what is needed above a row with this key, and then the row; if its node has another key, also what is missing
+ * above that. */
 static bs_reply ask_row_by(struct session *s, size_t i, uint64_t row, uint64_t key, bs_mode mode) {
   struct timespec until = moment_in(200 + (long)pick(s, 2000));
   const struct timespec *limit = pick(s, 4) == 0 ? &until : NULL;
@@ -542,8 +543,8 @@ static void change(struct session *s, size_t i, uint64_t row) {
   s->changes[i][row]++;
 }
 
-/* A row by its number, with one of two keys. Where its node has the other one the row is rekeyed, or given back where
- * it is held to be read. */
+/* Locks a row by its number, with one of two keys. If its node has the other one the row is rekeyed, or released if it
+ * is held to read. */
 static bs_reply ask_row(struct session *s, bs_mode mode) {
   size_t i = pick(s, FILES);
   uint64_t row = pick(s, ROWS), key = row * 29 + (pick(s, 3) == 0 ? 100 : 0);
@@ -573,7 +574,7 @@ static bs_reply add(struct session *s) {
   return reply;
 }
 
-/* A new record takes the place of another in the list of names, which may live on. */
+/* A new record replaces another in the list of names, which may live on. */
 static bs_reply insert(struct session *s) {
   size_t i = pick(s, FILES), place = pick(s, INTERVALS);
   uint64_t key = place * 100 + pick(s, 100);
@@ -610,7 +611,7 @@ static bs_reply move(struct session *s) {
   return reply.status == BS_DONE ? as_served(bs_table_move(table, s->txn, file, &area, 1, NULL)) : reply;
 }
 
-/* The index of a file of rows goes, and another is made, where no row stands. */
+/* Drops the index of a file of rows and makes another, if no row has a node. */
 static bs_reply change_index(struct session *s) {
   size_t i = pick(s, FILES), count;
   bs_node area = areas[i % AREAS], index = row_index(i);
@@ -629,7 +630,7 @@ static bs_reply change_index(struct session *s) {
   return reply;
 }
 
-/* Ends or cancels somebody whom anybody may end. */
+/* Ends or cancels a transaction that anybody may end. */
 static bs_reply meddle(struct session *s) {
   bs_txn whom;
   pthread_mutex_lock(&names);
@@ -641,7 +642,7 @@ static bs_reply meddle(struct session *s) {
   }
 }
 
-/* Several in one hold; one that waits is awaited. */
+/* Several commands in one critical section; one that waits is awaited. */
 static bs_reply run_list(struct session *s) {
   bs_command list[3];
   size_t i, count;
@@ -653,7 +654,7 @@ static bs_reply run_list(struct session *s) {
   return as_slept(s, bs_table_await(table, s->txn, list[count].node, list[count].mode, NULL));
 }
 
-/* A path and a row in one hold; what waits is awaited, and the list goes on. */
+/* A path and a row in one critical section; what waits is awaited, and the list continues. */
 static bs_reply run_rows(struct session *s) {
   size_t i = pick(s, FILES), done = 0;
   uint64_t row = pick(s, ROWS), key = row * 29;
@@ -680,7 +681,7 @@ static bs_reply run_rows(struct session *s) {
   return reply;
 }
 
-/* A try never waits, and fells nobody that asks by it. */
+/* A try never waits, and makes no victim. */
 static bs_reply as_tried(bs_reply reply) {
   WANT(reply.status != BS_WAITING && reply.status != BS_VICTIM && reply.status != BS_ON_THE_WAY);
   return reply;
@@ -692,7 +693,7 @@ static bs_reply try_path(struct session *s) {
   return as_tried(bs_table_try_path(table, s->txn, node, mode, (uint32_t)pick(s, 2)));
 }
 
-/* The first of three rows that is free, in one file. */
+/* The first free row of three, in one file. */
 static bs_reply skip_rows(struct session *s) {
   size_t i = pick(s, FILES), place;
   uint64_t keys[3], key = pick(s, 100);
@@ -716,7 +717,7 @@ static bs_reply skip_rows(struct session *s) {
   return reply;
 }
 
-/* How often a transaction stands in a queue. */
+/* How often a transaction is in a queue. */
 static size_t times_in_queue(const bs_manager *m, bs_txn txn, bs_node node) {
   bs_reply waiter;
   size_t place, times = 0;
@@ -793,7 +794,7 @@ static void name_game(struct session *s, bool is_game) {
   pthread_mutex_unlock(&names);
 }
 
-/* Work that fell begins again, and keeps its turn. */
+/* Work whose transaction was a victim begins again, and keeps its turn. */
 static bs_txn begin_work(const struct session *s) {
   if (s->since == 0) return as_begun(DONE(bs_table_begin_in_turn(table, NULL))).txn;
   return as_begun(DONE(bs_table_begin_again_in_turn(table, s->since, NULL))).txn;
@@ -826,7 +827,7 @@ static void *run_session(void *arg) {
 }
 
 /* ------------------------------------------------------------------------------------------------
- * Those who look.
+ * Watchers.
  */
 
 struct looker {
@@ -882,16 +883,16 @@ static void *look_on(void *arg) {
 /* By slot, the lock that waits. */
 static size_t waiting_at[BS_SLOTS];
 
-/* The node for which a lock waits: a path and a row's lock say so. */
+/* The node for which a lock waits: for a path and a row the reply names it. */
 static bs_node awaited(const struct served *s) {
   return s->call.kind == LOCK_PATH || s->call.kind == LOCK_ROW ? s->reply.node : s->call.node;
 }
 
-/* How a notice ends a lock, and whether it came to that; or its transaction was ended by somebody before it looked. */
+/* Compares the end of a lock with its notice; or its transaction was ended before its thread looked. */
 static void compare_end(const bs_notice *n) {
   static const bs_status ends[] = { BS_DONE, BS_DONE, BS_VICTIM, BS_MOVED, BS_GONE };
   const struct served *s = &log_of_calls[waiting_at[n->txn.slot]];
-  if (!s->has_slept) return; /* A path that was begun anew, or a wait that was taken back later. */
+  if (!s->has_slept) return; /* A path that began again, or a wait that was cancelled later. */
   if (s->came.status == BS_NO_SUCH_TXN) return;
   if (s->came.status == BS_NOT_WAITING && s->call.kind == LOCK_PATH) return; /* It was cancelled on its way. */
   WANT(s->came.status == ends[n->kind]);
@@ -920,7 +921,7 @@ static void replay_one(bs_manager *m, size_t at, bs_notices *told) {
   if (s->call.kind >= CANCEL && s->call.kind <= ABORT) compare_named(&s->call);
 }
 
-/* Behind all sessions: a manager of one thread, asked the same, is the same. */
+/* After all sessions: a manager of one thread, asked the same, is the same. */
 static void replay(uint32_t detect, uint32_t victims, uint32_t most) {
   static bs_notices told;
   static bs_board ours, theirs;
@@ -943,7 +944,7 @@ static void replay(uint32_t detect, uint32_t victims, uint32_t most) {
   DONE(bs_end(&m));
 }
 
-/* Else an addition is lost. */
+/* No addition may be lost. */
 static void compare_additions(const struct session *sessions) {
   size_t i, j, row;
   for (i = 0; i < ACCOUNTS; i++) {

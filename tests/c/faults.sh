@@ -1,8 +1,8 @@
 #!/usr/bin/env bash
-# faults.sh NAME.. LIBRARY LIBRARY: plants faults in a copy of what is written in C, the shared table and its dump, each by
-# itself, and wants the stories or the crowd to find it: by a want that does not hold, or since they hang. `all` stands for
-# every fault there is. The libraries are the proved one and the calls for memory, the last two that tools/c_library.sh
-# prints. Ends with status 1 where one is not found. CC names another compiler than cc.
+# faults.sh NAME.. LIBRARY LIBRARY: plants faults in a copy of the C sources, the shared table and its dump, one at a time.
+# The stories or the crowd must find each: by a check that fails, or because they hang. `all` means every fault there is.
+# The libraries are the proved one and the calls for memory, the last two that tools/c_library.sh prints. Ends with status 1
+# if one is not found. CC names another compiler than cc.
 set -uo pipefail
 top=$(cd "$(dirname "$0")/../.." && pwd) || exit 2
 [ $# -ge 3 ] || { sed -n '2,5s/^# //p' "$0" >&2; exit 2; }
@@ -11,7 +11,7 @@ libraries=("${@:$#-1:2}")
 work=$(mktemp -d) || exit 2
 trap 'rm -rf "$work"' EXIT
 
-# The faults: a name, and an edit by sed that must change a source. There is one for each call that wakes somebody, and
+# The faults: a name, and an edit by sed that must change a source. There is one for each call that wakes a sleeper, and
 # for each condition. The library may need more words (FAULT_LINKS).
 faults() {
   local call

@@ -1,9 +1,9 @@
 #!/usr/bin/env bash
 # install.sh: installs the library into a temporary folder, compiles the first program of README.md with what
-# pkg-config says, and runs it; also where the compiler keeps to ISO C, which without these words is refused by the
-# header. A number of slots that no library has is refused. Ends with status 1 where something is not as wanted. Where
-# there is no pkg-config it says so, compiles with the same words of its own, and ends with status 77: not tried to its
-# end. CC names another compiler than cc.
+# pkg-config says, and runs it; also with a compiler that keeps to ISO C, which the header refuses without these words.
+# A number of slots that no library has is refused. Ends with status 1 if anything is not as expected. Without pkg-config
+# it says so, compiles with the same words of its own, and ends with status 77: not tried to its end. CC names another
+# compiler than cc.
 set -uo pipefail
 top=$(cd "$(dirname "$0")/../.." && pwd) || exit 2
 work=$(mktemp -d) || exit 2
@@ -25,7 +25,7 @@ else
   status=77
 fi
 for standard in gnu11 c99 c11; do
-  # shellcheck disable=SC2086 # CC may have words behind the name, and pkg-config says several.
+  # shellcheck disable=SC2086 # CC may have words after the name, and pkg-config says several.
   ${CC:-cc} "-std=$standard" -Wall -Wextra -Werror -o "$work/first" "$work/first.c" $words || exit 1
   timeout 60 "$work/first" || exit 1
 done

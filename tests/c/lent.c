@@ -1,6 +1,6 @@
 /*
  * What may be done with a manager that a table lends: CALL is one call with `lent`. A question compiles. A command does
- * not, where a warning is an error (run.sh).
+ * not, if a warning is an error (run.sh).
  */
 #include "burlapslate_dump.h"
 

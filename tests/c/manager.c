@@ -724,7 +724,7 @@ static void a_tree_is_dropped_from_below(void) {
 }
 
 /* ------------------------------------------------------------------------------------------------
- * Rows by number, whose nodes come and go with their locks.
+ * Rows by number, whose nodes exist while the rows are locked.
  */
 
 static bs_node records, high;
@@ -764,7 +764,7 @@ static bs_reply ask(bs_txn txn, uint64_t key, bs_mode mode) {
   return bs_lock_row(m, txn, file, 7, &key, 1, mode, &told);
 }
 
-/* A lock of the row comes to this, over a node of this name. */
+/* A lock of the row has this status, by a node of this name. */
 static void row_answers(bs_status status, bs_reply reply, size_t key, uint64_t birth, int line) {
   tells_nobody(status, reply, line);
   wanted(is_named(reply.node, key, birth), "the node of the row", line);

@@ -1,10 +1,10 @@
 /*
- * As many records as are asked for by the first word, a million where there is none: made, and each locked
- * once by one of 127 transactions, in a manager whose limit they just meet. It ends the program with status 1
- * at the first answer that is not as wanted, and else prints a line.
+ * As many records as the first word says, by default a million, are made, and one of 127 transactions locks each once,
+ * in a manager whose limit they just meet. It ends the program with status 1 at the first wrong answer, and else prints
+ * a line.
  *
- * It is linked with the calls for memory of memory.h, to see that at that size too a refused growth leaves
- * everything as it was.
+ * It is linked with the calls for memory of memory.h, to see that at that size too a refused allocation changes
+ * nothing.
  */
 #include "burlapslate.h"
 #include "memory.h"
@@ -51,7 +51,7 @@ static void make_graph(uint32_t nodes) {
   below = done(bs_interval_of(&m, by_key, 0)).node;
 }
 
-/* All records but the last. */
+/* All records except the last. */
 static void insert_most(bs_node *records, uint32_t count) {
   uint32_t at;
   bs_txn t = begin();
@@ -65,7 +65,7 @@ static void insert_most(bs_node *records, uint32_t count) {
   done(bs_commit(&m, t, &told));
 }
 
-/* The last one, each of whose growths is refused in turn; and one more, for which there is no place. */
+/* The last one, each of whose allocations is refused in turn; and one more, for which there is no place. */
 static void insert_last(bs_node *records, uint32_t count) {
   uint64_t key = count;
   bs_txn t = begin();
@@ -86,7 +86,7 @@ static void insert_last(bs_node *records, uint32_t count) {
   done(bs_commit(&m, t, &told));
 }
 
-/* Each record is locked by one of 127, who then commit. */
+/* One of 127 transactions locks each record, and then all commit. */
 static void lock_each(const bs_node *records, uint32_t count) {
   bs_txn lockers[LOCKERS];
   uint32_t at, n;

@@ -1,7 +1,6 @@
 /*
- * The calls for memory of a program of tests, which is linked with them (run.sh): a growth can be refused, to see
- * that it leaves everything as it was, and the blocks that are out are counted with their bytes, to see that all are
- * given back.
+ * The calls for memory of a program of tests, which is linked with them (run.sh): an allocation can be refused, to see
+ * that it changes nothing; and the blocks in use are counted with their bytes, to see that all are freed.
  */
 #ifndef MEMORY_H
 #define MEMORY_H
@@ -11,7 +10,8 @@
 #include <stdbool.h>
 #include <stddef.h>
 
-/* Which growth of this thread is refused, counted from now on; 0: none. And how many blocks are out, and bytes. */
+/* Which allocation of this thread is refused, counted from now on, 0 for none; and how many blocks and bytes are in
+ * use. */
 static __thread long refused_growth;
 static long blocks, bytes;
 static pthread_mutex_t count_latch = PTHREAD_MUTEX_INITIALIZER;

@@ -124,7 +124,7 @@ const naive_node *naive_row(const naive *m, bs_node file, uint64_t number);
 bs_mode naive_held(const naive *m, uint32_t slot, uint64_t node);
 size_t naive_held_children(const naive *m, uint32_t slot, uint64_t node);
 
-/* For whom the transaction in a slot waits: by slot, whether for that one. */
+/* For which others the transaction in a slot waits, by slot. */
 void naive_waits_for(const naive *m, uint32_t slot, bool waits[NAIVE_TXNS]);
 
 #endif

@@ -1,7 +1,7 @@
 /*
  * A program that was compiled with the headers of another library, of another version or for another number of slots:
- * whatever makes a manager or a table, or reads a board, is refused by REFUSED, and touches nothing. It ends with status
- * 1 at the first answer that is not as wanted.
+ * each call that makes a manager or a table, or reads a board, is refused with REFUSED, and touches nothing. It ends
+ * with status 1 at the first wrong answer.
  */
 #include "burlapslate_shared.h"
 

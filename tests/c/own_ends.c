@@ -1,8 +1,8 @@
 /*
- * Stories of a call whose own wait ends within it: by a lock for an instant that others give back, by a path that
- * continues, or by what the engine's function does for another's end. The call answers that end, and there is no call
- * of the function for it. Each is a function that ends the program with status 1 at the first answer that is not as
- * wanted, and else prints its name.
+ * Stories of a call whose own wait ends within it: by a lock for an instant of another transaction that is released, by
+ * a path that continues, or by what the callback does for another's end. The call answers that end, and has no call of
+ * the callback. Each story is a function that ends the program with status 1 at the first wrong answer, and else prints
+ * its name.
  *
  *   own_ends [SECONDS]   the time that a story may take before it is said to hang, 20 if none is given
  *
@@ -81,7 +81,7 @@ static void has_no_wait_and_no_call(void) {
 }
 
 /* ------------------------------------------------------------------------------------------------
- * What the function does for another's end.
+ * What the callback does for another's end.
  */
 
 static bs_txn holder, loser;
@@ -189,7 +189,7 @@ static bs_reply is_answered(const struct way *way, bs_status status, const struc
   return reply;
 }
 
-/* The function grants what the caller waits for; whether the time of the call is over by then is nothing to that. */
+/* The callback grants what the caller waits for, whether or not the time of the call is over by then. */
 static void is_granted(const struct way *way, void (*does)(void), const struct timespec *until) {
   bs_node row;
   bs_reply reply;
@@ -210,7 +210,7 @@ static void a_function_grants_the_caller(void) {
   }
 }
 
-/* The function ends the wait in another way. The caller is active then, but for one that was chosen as victim. */
+/* The callback ends the wait in another way. The caller is active then, unless it was chosen as victim. */
 static void is_ended(const struct way *way, void (*does)(void), bs_status status) {
   set_up_cycle(does, false);
   is_answered(way, status, NULL);
@@ -231,8 +231,8 @@ static void a_function_ends_the_callers_wait(void) {
   }
 }
 
-/* The record and the row move. A path begins anew; a wait that still meets the rule of the graph continues: the row
- * is asked for again then, by keys that are others. */
+/* The record and the row move. A path begins again; a wait that still meets the rule of the graph continues: then the
+ * row is requested again, by other keys. */
 static void is_granted_elsewhere(const struct way *way) {
   bool is_row = way->by == BY_ROW;
   bs_node row;
@@ -249,7 +249,7 @@ static void a_function_moves_what_the_caller_waits_for(void) {
   for (w = 0; w < WAYS; w++) is_granted_elsewhere(&ways[w]);
 }
 
-/* The time of the caller's ask is over, and the function makes the call that ends such waits. */
+/* The time of the caller's ask is over, and the callback makes the call that ends such waits. */
 static void a_function_expires_the_callers_ask(void) {
   struct timespec past = moment_in(0);
   size_t w;
@@ -266,7 +266,7 @@ static void a_function_expires_the_callers_ask(void) {
   }
 }
 
-/* The function does nothing to the caller's wait: that continues, and its end is told later. */
+/* The callback does nothing to the caller's wait: that continues, and its end is told later. */
 static void a_function_leaves_the_caller_waiting(void) {
   static void (*const acts[])(void) = { commits, deletes };
   size_t w, i;
@@ -285,10 +285,10 @@ static void a_function_leaves_the_caller_waiting(void) {
 }
 
 /* ------------------------------------------------------------------------------------------------
- * Lists: the functions are called after all of it, so what they end is heard by an await, at once.
+ * Lists: the callbacks run after all of the list, so an await hears at once what they end.
  */
 
-/* The list leaves the caller waiting, the function ends that wait, and an await answers it, whether it could sleep or
+/* The list leaves the caller waiting, the callback ends that wait, and an await answers it, whether it could sleep or
  * asks. */
 static void is_awaited(const struct way *way, void (*does)(void), bs_status status, bool asks) {
   bs_command list[2];
@@ -321,10 +321,10 @@ static void an_await_answers_what_a_function_ended(void) {
 }
 
 /* ------------------------------------------------------------------------------------------------
- * A lock for an instant that another gives back.
+ * A lock for an instant that another releases.
  */
 
-static bs_node n, n2, child; /* the child lies under both */
+static bs_node n, n2, child; /* the child is under both */
 static bs_txn passer;
 static struct heard passers;
 static struct sleeper sleeping[3];
@@ -344,7 +344,7 @@ static void has_wait(struct sleeper *s, struct heard *h, bs_txn txn, bs_node nod
 
 /* The holder has n in IS and waits for the caller. In the queue of n the loser wants X, and the passer after it a mode
  * for an instant, which is compatible with IS. A call of the caller that joins the queue closes a cycle; the loser is
- * its youngest, so the passer is granted, and gives back what kept the caller waiting. */
+ * its youngest, so the passer is granted, and releases what kept the caller waiting. */
 static void set_up_passer(bs_mode passing, bool sleeps) {
   set_up(BS_AT_BLOCK);
   memset(&own, 0, sizeof own);
@@ -469,7 +469,7 @@ static void a_grant_within_the_call_is_answered_as_any(void) {
   }
 }
 
-/* The function for the loser comes after the caller's wait has ended: what it does then is nothing to the answer. */
+/* The callback for the loser runs after the caller's wait has ended: what it does then does not change the answer. */
 static void ends_the_caller(struct heard *h) {
   if (h->end.status == BS_VICTIM) DONE(bs_table_abort(table, caller, NULL));
 }
@@ -652,7 +652,7 @@ static void a_path_is_let_by_twice(void) {
 
 static bs_txn goer, blocker, reader, second, keeper;
 static struct heard goers, blockers, readers, seconds, keepers;
-static bs_node start_node, side_node, goal, goers_node; /* the goal lies under the first two */
+static bs_node start_node, side_node, goal, goers_node; /* the goal is under the first two */
 
 /* A path to the goal waits at its start for the loser, and that for the blocker, which waits for the caller. When
  * the loser is a victim the path continues, and waits for the transaction that reads the goal. */
@@ -883,7 +883,7 @@ static void aborts_a_victim(struct heard *h) {
 }
 
 /* The call of the holder, or for it, lets the path continue. The younger of the two is a victim then: the one by its
- * own lock, or the other, whose locks the function gives up; and the one is granted then. */
+ * own lock, or the other, whose locks the callback releases; and the one is granted then. */
 static void continues_in(bool is_held, void (*does)(void), int more_calls) {
   int is_younger;
   for (is_younger = 0; is_younger < 2; is_younger++) {
@@ -924,7 +924,7 @@ static void a_path_ends_in_the_call_that_lets_it_continue(void) {
 }
 
 /* A path for an instant continues, and waits for its node after the second. Another path continues in the same call,
- * and makes the second a victim: the first is granted, given back, and told once. */
+ * and makes the second a victim: the first is granted, released, and told once. */
 static void two_paths_continue(bool is_first) {
   struct heard aheads;
   bs_command list[2];
@@ -966,13 +966,13 @@ static void a_path_for_an_instant_ends_as_another_continues(void) {
 }
 
 /* ------------------------------------------------------------------------------------------------
- * Calls within the function, and tables that end.
+ * Calls within the callback, and tables that end.
  */
 
 static struct heard outer;
 static bool is_passed;
 
-/* An ask that the function makes, for n: the passer lets it by, and the function hears that at once. */
+/* An ask that the callback makes, for n: the passer lets it by, and the callback hears that at once. */
 static void asks_within(struct heard *h) {
   (void)h;
   WANT(DONE(ask(&own, caller, n, BS_S | (is_passed ? BS_INSTANT : 0))).mode == BS_S);
@@ -981,7 +981,7 @@ static void asks_within(struct heard *h) {
   holds(caller, n, is_passed ? BS_NL : BS_S);
 }
 
-/* The ends of others that the ask has set off are told after the function. */
+/* The ends of others that the ask has set off are told after the callback. */
 static void an_ask_within_the_function_is_granted(void) {
   int kind;
   for (kind = 0; kind < 2; kind++) {
@@ -1000,7 +1000,7 @@ static void an_ask_within_the_function_is_granted(void) {
   }
 }
 
-/* An ask that the function makes is left waiting: what the functions for others do comes after it, and is told. */
+/* An ask that the callback makes is left waiting: what the callbacks for others do comes after it, and is told. */
 static void asks_and_waits_within(struct heard *h) {
   (void)h;
   WAITS(ask(&own, caller, low, BS_X));
@@ -1033,7 +1033,7 @@ static bool is_within_now(void) {
   return is;
 }
 
-/* The function stays until another thread ends the table. */
+/* The callback stays until another thread ends the table. */
 static void stays_until_the_end(void) {
   pthread_mutex_lock(&ear);
   is_within = is_ending = true;
@@ -1137,8 +1137,8 @@ struct member {
   pthread_t thread;
 };
 
-static bs_node crowded[CROWDED]; /* the last lies under the first two */
-static uint64_t wanted_nodes;    /* so many of these are wanted */
+static bs_node crowded[CROWDED]; /* the last is under the first two */
+static uint64_t wanted_nodes;    /* this many of these are used */
 static pthread_barrier_t crowd_gate;
 
 static void member_hears(void *context, bs_txn txn, bs_reply end, void *word) {
@@ -1152,7 +1152,7 @@ static void member_hears(void *context, bs_txn txn, bs_reply end, void *word) {
   pthread_mutex_unlock(&ear);
 }
 
-/* An ask, and its end: by its answer, or by the one call of the function. */
+/* An ask, and its end: by its answer, or by the one call of the callback. */
 static bs_reply member_asks(struct member *m, bs_node node, bs_mode mode) {
   bs_reply reply;
   pthread_mutex_lock(&ear);

@@ -1,10 +1,10 @@
 #!/usr/bin/env bash
-# package.sh: packs the library (tools/package.sh), unpacks the archive and the Debian packages, each into a folder of
-# its own, and compiles programs with what stands there alone: the first program of README.md and answers.c, as C and as
-# C++, by what pkg-config says and by CMake, over the shared library and over the archive; the small engine of the
-# examples; and the crate for Rust. Looks at the names that both libraries show, and for paths of this machine. Ends with
-# status 1 where something is not as wanted; where a tool is missing it says what was not tried, tries all else, and ends
-# with status 77. CC and CXX name other compilers than cc and c++.
+# package.sh: packs the library (tools/package.sh), unpacks the archive and the Debian packages, each into its own folder,
+# and compiles programs with only what is there: the first program of README.md and answers.c, as C and as C++, with
+# pkg-config and with CMake, with the shared library and with the archive; the small engine of the examples; and the crate
+# for Rust. Checks the names that both libraries show, and looks for paths of this machine. Ends with status 1 if anything
+# is not as expected; if a tool is missing it says what was not tried, tries all else, and ends with status 77. CC and CXX
+# name other compilers than cc and c++.
 set -uo pipefail
 top=$(cd "$(dirname "$0")/../.." && pwd) || exit 2
 work=$(mktemp -d) || exit 2
@@ -15,7 +15,7 @@ status=0
 name=packing
 : >"$work/log"
 
-# has WHAT TOOL: whether there is the tool; else what was not tried is said.
+# has WHAT TOOL: whether the tool exists; if not, says what was not tried.
 has() {
   command -v "${2%% *}" >/dev/null && return
   echo "tests/c: the packages, $1: not tried: $2 is not found"
@@ -30,7 +30,7 @@ fails() {
   exit 1
 }
 
-# shows: the names that are seen from outside are the project's. A version has a name too, of kind A.
+# shows: the exported names are the project's. A version has a name too, of kind A.
 shows() {
   nm -D --defined-only "$libdir/libburlapslate.so" >"$work/names" || fails "the shared library is not read"
   nm -g --defined-only "$libdir/libburlapslate.a" >>"$work/names" || fails "the archive is not read"
@@ -46,7 +46,7 @@ refuses() {
   mkdir -p "$work/other" && echo 'BURLAPSLATE_0.0 { global: *; };' >"$work/other/map"
   echo 'int bs_call_len(void) { return 0; }' >"$work/other/library.c"
   echo 'int bs_call_len(void); int main(void) { return bs_call_len(); }' >"$work/other/program.c"
-  # shellcheck disable=SC2086 # CC may have words behind the name.
+  # shellcheck disable=SC2086 # CC may have words after the name.
   ${CC:-cc} -shared -fPIC -Wl,-soname,libburlapslate.so.0 -Wl,--version-script="$work/other/map" \
     -o "$work/other/libburlapslate.so.0" "$work/other/library.c" 2>"$work/log" || fails "no other library is made"
   # shellcheck disable=SC2086 # The same.
@@ -86,7 +86,7 @@ compiles() {
   done
 }
 
-# runs HOW PROGRAM: the program is linked so, and ends well.
+# runs HOW PROGRAM: the program is linked in this way, and ends well.
 runs() {
   local linked=archive
   ! readelf -d "$2" | grep -qF "[libburlapslate.so.0]" || linked=shared
@@ -121,7 +121,7 @@ by_cmake() {
   echo "the_package_by_cmake: $name"
 }
 
-# by_cargo WORD..: a program over the crate for Rust is built and ends well, with these words in the environment.
+# by_cargo WORD..: a program with the crate for Rust is built and ends well, with these words in the environment.
 by_cargo() {
   has "$name, by cargo" cargo || return 0
   (cd "$work/away/program" && timeout 300 env CARGO_TARGET_DIR="$work/cargo.$name" "$@" cargo run --offline --quiet) \
@@ -129,16 +129,16 @@ by_cargo() {
   echo "the_package_by_cargo: $name, ${1%%=*}"
 }
 
-# engine FOLDER: the small engine, from the examples that came with the package into the folder, compiles and ends well.
+# engine FOLDER: the small engine, from the package's examples in the folder, compiles and ends well.
 engine() {
-  # shellcheck disable=SC2086 # CC may have words behind the name.
+  # shellcheck disable=SC2086 # CC may have words after the name.
   ${CC:-cc} -std=c99 -D_POSIX_C_SOURCE=200809L -pthread -Wall -Wextra -Werror -O1 -I"$prefix/include" -o "$work/engine" \
     "$1"/examples/engine/*.c "$libdir/libburlapslate.so" 2>"$work/log" || fails "the engine is not compiled"
   runs shared "$work/engine"
   echo "the_package_has_an_engine: $name"
 }
 
-# away: the programs in C, with no checkout beside them.
+# away: the programs in C, without a checkout.
 away() {
   mkdir "$work/away" && cp "$top/tests/c/answers.c" "$work/away/" || exit 1
   awk '$0 == "```c" { inside = 1; next } inside && $0 == "```" { exit } inside' "$top/README.md" >"$work/away/first.c"

@@ -1,11 +1,11 @@
 /*
- * Random calls of a shared table, made by one thread so that their order is fixed, beside a model of the table. Every
- * kind of call is played that does not sleep: asks for nodes, paths and rows, with and without BS_INSTANT and times,
- * lists of commands, tries, savepoints, changes of the graph, times that are over, and tables that end. The engine's
- * function hears each end of an ask and makes calls itself, so that ends cause ends, three deep.
+ * Random calls of a shared table, made by one thread so that their order is fixed, and compared with a model of the
+ * table. Every kind of call is made that does not sleep: asks for nodes, paths and rows, with and without BS_INSTANT
+ * and times, lists of commands, tries, savepoints, changes of the graph, times that are over, and tables that end. The
+ * callback hears each end of an ask and makes calls itself, so that ends cause ends, three deep.
  *
- *   play [CALLS [SEED]]   how many calls are made, 100,000 where none is given; and the seed of the first play, 1 where
- *                         none is given. A play has 1,000 calls. Its seed determines them, and how its table is made.
+ *   play [CALLS [SEED]]   how many calls are made, 100,000 if none is given; and the seed of the first play, 1 if none
+ *                         is given. A play has 1,000 calls. Its seed determines them, and how its table is made.
  *
  * The rules of the model are at the head of play_model.h. Each answer, each told list and each told end is compared,
  * and after each call the whole state: the transactions, what they hold, where and for whom they wait, and the graph.
@@ -117,8 +117,8 @@ static bs_node make_child(bs_node root) {
   return last_node();
 }
 
-/* Chooses the members of a knot, of which all but the first few stand by falling age, mostly: the youngest is the
- * victim. Whether there are as many. */
+/* Chooses the members of a knot. All but the first few are mostly ordered by falling age, so that the youngest is the
+ * victim. Returns whether there are as many. */
 static bool make_members(bs_txn *members, size_t count, size_t first) {
   size_t i;
   for (i = 0; i < count; i++) make_one(BS_DO_BEGIN, no_node, no_node);
@@ -246,7 +246,7 @@ static void make_timed(call_kind kind, bs_txn txn, bs_node node, bs_mode mode, m
   make(&c);
 }
 
-/* A path waits behind a lock whose time is over, and its transaction gets a deadline that is over. So an expire cancels
+/* A path waits after a lock whose time is over, and its transaction gets a deadline that is over. So an expire cancels
  * the lock; by that the path continues, waits for its node, and is late itself. */
 static void make_late_path(void) {
   bs_node root, child;
@@ -312,13 +312,13 @@ static void make_change_under_waits(void) {
 }
 
 /* ------------------------------------------------------------------------------------------------
- * The engine's function.
+ * The callback.
  */
 
 static int context_word;
 static bool is_hearing;
 
-/* A call that the function makes. A table that it leaves held is given back when it returns. */
+/* A call that the callback makes. A table that it leaves held is released when it returns. */
 static void make_within(unsigned within) {
   unsigned outer = depth;
   is_hearing = true;
@@ -384,7 +384,7 @@ static bs_options options_of_seed(void) {
   return options;
 }
 
-/* A table takes asks once it has a function, and has one for good. */
+/* A table takes asks once it has a callback, and has one for good. */
 static void open_table(void) {
   bs_options options = options_of_seed();
   must(same_number("make", bs_table_make(&table, &options).status, BS_DONE), no_txn);
@@ -433,7 +433,7 @@ static void play(unsigned long most) {
   close_table();
 }
 
-/* Each command was done and refused at least so often. */
+/* Each command was done and refused at least this often. */
 static void commands_came(unsigned long least) {
   uint32_t kind;
   for (kind = BS_DO_BEGIN; kind < COMMANDS; kind++) {

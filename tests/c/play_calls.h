@@ -30,7 +30,7 @@ static const struct timespec moments[MOMENTS] = {
 static const struct timespec no_times[] = { { 0, 1000000000 }, { 5, -1 } };
 
 /* The kinds of calls. The kind of its command says whether an ask is for a node, a path or a row. A sleep is a call
- * that could sleep, made only where it is refused. */
+ * that could sleep, made only if it is refused. */
 typedef enum call_kind { COMMAND, ASK, AWAIT, EXPIRE, RUN, TRY_FIRST, MARK, DEADLINE, SLEEP } call_kind;
 
 /* A command with the lists that it is made with. */

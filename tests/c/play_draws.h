@@ -16,7 +16,7 @@ static size_t draw(size_t below) {
   return pcg_below(&rng, below);
 }
 
-/* Whether it is the one case of so many. */
+/* True in one case of this many. */
 static bool one_in(size_t cases) {
   return draw(cases) == 0;
 }
@@ -103,7 +103,7 @@ static bs_txn some_living(void) {
   return other_count == 0 ? no_txn : others[draw(other_count)];
 }
 
-/* Chooses up to so many different free transactions; how many there are. */
+/* Chooses up to this many different free transactions; how many there are. */
 static size_t some_free(bs_txn *txns, size_t most) {
   bs_txn all[NAIVE_TXNS];
   size_t count = 0, taken = 0;

@@ -68,7 +68,7 @@ typedef struct end {
   bs_reply reply;
   uintptr_t word;
   uint64_t command; /* the number of the command that ended the wait */
-  unsigned depth;   /* of the calls that the engine's function makes when it is told */
+  unsigned depth;   /* of the calls that the callback makes when it is told */
 } end;
 
 static naive n;
@@ -390,7 +390,7 @@ static bs_reply make_command(const bs_command *c, bs_notices *told) {
   }
 }
 
-/* What a command of a list comes to that waited for a node, and whose wait has ended so. */
+/* The outcome for a command of a list that waited for a node, and whose wait has ended so. */
 static bs_reply continue_command(const bs_command *c, bs_node at, bs_notices *told, bs_reply ended) {
   bool is_on_the_way = ended.status == BS_MOVED || (ended.status == BS_DONE && !same_node(at, c->node));
   if (c->kind == BS_DO_LOCK_ROW && ended.status == BS_DONE) return lock_row_again(c, at, ended);

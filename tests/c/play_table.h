@@ -99,8 +99,8 @@ static bs_reply table_ask_so(const bs_command *c, const struct timespec *until) 
   }
 }
 
-/* A call that could sleep, by the number of the command. The thread may not sleep: it is in the engine's function, or
- * holds a table. */
+/* A call that could sleep, by the number of the command. The thread may not sleep: it is in the callback, or holds a
+ * table. */
 static bs_reply table_sleep_so(const bs_command *c) {
   switch (c->number) {
     case 0: return bs_table_lock(table, c->txn, c->node, c->mode, NULL);

@@ -1,6 +1,6 @@
 #!/usr/bin/env bash
-# plus.sh: compiles the headers as C++ and runs a session. Ends with status 1 where something is not as wanted; where
-# there is no C++ compiler it says so, and ends with status 77: not tried. CXX names another compiler than c++.
+# plus.sh: compiles the headers as C++ and runs a session. Ends with status 1 if anything is not as expected; without a
+# C++ compiler it says so, and ends with status 77: not tried. CXX names another compiler than c++.
 set -uo pipefail
 top=$(cd "$(dirname "$0")/../.." && pwd) || exit 2
 compiler=${CXX:-c++}
@@ -13,7 +13,7 @@ trap 'rm -rf "$work"' EXIT
 
 mapfile -t libraries < <("$top/tools/c_library.sh" 2>"$work/log")
 [ "${#libraries[@]}" -eq 3 ] || { cat "$work/log" >&2; exit 1; }
-# shellcheck disable=SC2086 # CXX may have words behind the name.
+# shellcheck disable=SC2086 # CXX may have words after the name.
 $compiler -pthread -Wall -Wextra -Werror -I"$top/include" -o "$work/plus" "$top/tests/c/plus.cc" "${libraries[@]}" || exit 1
 timeout 60 "$work/plus" || exit 1
 echo "the_headers_in_cpp"

@@ -1,11 +1,11 @@
 #!/usr/bin/env bash
 # races.sh [TOOL..]: runs the stories of a shared table, its asks, its waits and a small crowd under tools that look for
 # races: `tsan` (ThreadSanitizer, which sees what is compiled here: the table and the programs), `helgrind` and `drd`
-# (valgrind's, which see the library too); all three where none is named. `short` stands for all but the crowd, under the
-# first of them that is found, which takes seconds: where none is, it ends with status 77, not tried. races.supp says
-# what is no race. Prints a line for each run. Ends with status 1 where one reports anything or a program fails; a tool
-# that is not found is passed over. RACES_LIBS names other archives than those of tools/c_library.sh, with a space
-# between. CC names another compiler.
+# (valgrind's, which see the library too); all three if none is named. `short` means all but the crowd, under the first of
+# them that is found, which takes seconds; if none is found, it ends with status 77, not tried. races.supp says what is no
+# race. Prints a line for each run. Ends with status 1 if one reports anything or a program fails; a tool that is not
+# found is skipped. RACES_LIBS names other archives than those of tools/c_library.sh, separated by a space. CC names
+# another compiler.
 set -uo pipefail
 top=$(cd "$(dirname "$0")/../.." && pwd) || exit 2
 work=$(mktemp -d) || exit 2
@@ -19,12 +19,12 @@ compile() {
   local with=("${@:3}") compiler=${CC:-cc}
   # shellcheck disable=SC2054 # The commas are of one word.
   [ "$2" = crowd ] || with+=(-Wl,--wrap=malloc,--wrap=realloc,--wrap=free)
-  # shellcheck disable=SC2086 # CC may have words behind the name.
+  # shellcheck disable=SC2086 # CC may have words after the name.
   $compiler -std=c99 -D_POSIX_C_SOURCE=200809L -pthread -Wall -Wextra -g -O1 -I"$top/include" -o "$work/$1" \
     -I"$top/c" "$top/tests/c/$2.c" "${libraries[@]:1}" "${with[@]}"
 }
 
-# quiet NAME COMMAND WORD..: whether the command ends with status 0; the tools end with 66 where they report anything.
+# quiet NAME COMMAND WORD..: whether the command ends with status 0; the tools end with 66 if they report anything.
 quiet() {
   local status=0
   timeout 1800 "${@:2}" >"$work/said" 2>&1 || status=$?
@@ -36,8 +36,8 @@ quiet() {
   echo "$1: nothing to report"
 }
 
-# A board that a watcher has read is freed by whoever shows the next: in an order that the library's atomic words
-# give, which ThreadSanitizer does not see.
+# A board that a watcher has read is freed by the thread that shows the next: in an order of the library's atomic
+# words, which ThreadSanitizer does not see.
 printf 'race:^gl_window::\nrace:^bs_call_look$\n' >"$work/seen"
 export TSAN_OPTIONS="exitcode=66 suppressions=$work/seen"
 

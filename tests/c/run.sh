@@ -1,10 +1,10 @@
 #!/usr/bin/env bash
 # run.sh [--slots N]: compiles the stories over the C library, and runs them. Prints a line for each story, of one thread
-# and of a shared table, for each play beside a naive lock manager, and for each setting of a crowd. A program with the
-# headers of another library is refused, and one that gives a command a manager that is lent is not compiled. Then it
-# plants eight faults in the shared table, which the stories must find. Ends with status 1 where something is not as
-# wanted; where there is no C compiler it says so, and ends with status 77: not tried. CC names another compiler than cc.
-# N is the number of slots of the library, 128 or 1024 (tools/c_library.sh); faults are planted for 128 alone.
+# and of a shared table, for each play against a naive lock manager, and for each setting of a crowd. A program with the
+# headers of another library is refused, and one that passes a lent manager to a command does not compile. Then it plants
+# eight faults in the shared table, which the stories must find. Ends with status 1 if anything is not as expected; without
+# a C compiler it says so, and ends with status 77: not tried. CC names another compiler than cc. N is the number of slots
+# of the library, 128 or 1024 (tools/c_library.sh); faults are planted only for 128.
 set -uo pipefail
 top=$(cd "$(dirname "$0")/../.." && pwd) || exit 2
 slots=128
@@ -26,14 +26,14 @@ trap 'rm -rf "$work"' EXIT
 mapfile -t libraries < <("$top/tools/c_library.sh" --slots "$slots" 2>"$work/log")
 [ "${#libraries[@]}" -eq 3 ] || { cat "$work/log" >&2; exit 1; }
 
-# compile PROGRAM WORD..: from the source of its name in this folder. Those that look into a table have its source in them.
+# compile PROGRAM WORD..: from the source of its name in this folder. Those that look into a table include its source.
 compile() {
   local with=("${libraries[@]}")
   case $1 in
     shared | crowd | asks | waits | own_ends) with=(-I"$top/c" "${libraries[@]:1}") ;;
     schemas | twins | play) with=("$top/tests/c/naive.c" "${libraries[@]}") ;;
   esac
-  # shellcheck disable=SC2086 # CC may have words behind the name.
+  # shellcheck disable=SC2086 # CC may have words after the name.
   $compiler -std=c99 -D_POSIX_C_SOURCE=200809L -pthread -Wall -Wextra -Werror -O1 -I"$headers" -o "$work/$1" \
     "$top/tests/c/$1.c" "${with[@]}" "${@:2}"
 }
@@ -54,13 +54,13 @@ for name in $(sed -n 's/^static inline [a-z_]* bs_\([a-z_]*\)(const bs_manager \
 done
 "$top/tools/names.sh" || exit 1
 
-# The library takes memory by malloc and realloc, gives it back by free, and shows its own names alone.
+# The library allocates by malloc and realloc, frees by free, and exports only its own names.
 ! nm -u "${libraries[@]:0:2}" | grep -qw -e calloc -e aligned_alloc -e posix_memalign || fails "it has another allocator"
 ! nm -g --defined-only "${libraries[0]}" | awk 'NF == 3 && $3 !~ /^bs_/' | grep -q . || fails "it shows other names"
 
 # lends CALL: whether a program compiles that makes this call with what a table lends.
 lends() {
-  # shellcheck disable=SC2086 # CC may have words behind the name.
+  # shellcheck disable=SC2086 # CC may have words after the name.
   $compiler -std=c99 -D_POSIX_C_SOURCE=200809L -Werror -fsyntax-only -I"$headers" "-DCALL=$1" "$top/tests/c/lent.c" \
     2>"$work/log"
 }

@@ -1,15 +1,15 @@
 /*
- * Random schemas over a manager of the library, beside the manager of plain lists of naive.h: tables, indexes, records
- * and rows are made, changed and removed. Both get every command, and must answer and tell the same. After each command
- * the transactions, their locks and the queues must be the same; after each change of the schema also every node, with
- * its parents, keys, indexes and intervals. Neither knows a removed node. By the end each kind of command was accepted
- * and refused, and every answer to a drop and to an index by a transaction came up.
+ * Random schemas over a manager of the library, compared with the manager of plain lists of naive.h: tables, indexes,
+ * records and rows are made, changed and removed. Both get every command, and must answer and tell the same. After each
+ * command the transactions, their locks and the queues must be the same; after each change of the schema also every
+ * node, with its parents, keys, indexes and intervals. Neither knows a removed node. By the end each kind of command
+ * was accepted and refused, and every answer to a drop and to an index by a transaction has occurred.
  *
- *   schemas [DRAWS]   how many times each play draws its work, 6000 where none is given
+ *   schemas [DRAWS]   how many times each play draws its work, 6000 if none is given
  *
  * The plays have both ways of detection and both choices of victims. Half of them also draw rows, paths, savepoints,
  * escalations, rekeys, cancels, settles and verdicts (`goes_further`). In the last two an allocation of each command is
- * refused, if it has so many: nothing has changed then, and the command is made again.
+ * refused, if it has enough of them: nothing has changed then, and the command is repeated.
  *
  * It is linked with the calls for memory of memory.h.
  */
@@ -24,7 +24,7 @@ enum { TXNS = 3, MOST_NODES = 36, MOST_BOUNDS = 3, KEYS = 30, ROWS = 4 };
 /* How many kinds of commands and how many statuses there are. */
 enum { KINDS = BS_DO_RELEASE_SINCE + 1, STATUSES = 75 };
 
-/* A play: how the manager is made, from which seed the work is drawn, and whether it is all kinds of work. */
+/* A play: how the manager is made, the seed for its work, and whether it has all kinds of work. */
 typedef struct setting {
   uint32_t detect, victims;
   uint64_t seed;
@@ -39,7 +39,7 @@ static const setting settings[] = {
   { BS_AT_BLOCK, BS_YOUNGEST, 9, true, true },   { BS_BY_WATCHER, BS_FEWEST, 10, true, true }
 };
 
-/* How many draws a manager lives where memory is refused: one that is older takes memory seldom. */
+/* How many draws a manager lives if memory is refused: an older one rarely allocates. */
 enum { FEW_DRAWS = 60 };
 
 static const setting *played;
@@ -50,14 +50,14 @@ static bs_txn txns[TXNS], ended;
 static pcg rng;
 static unsigned long asked;
 
-/* How often each kind of command was answered so, and how many were told that a dropped node is gone. */
+/* How often each kind of command had each answer, and how many were told that a dropped node is gone. */
 static unsigned long tally[KINDS][STATUSES];
 static unsigned long told_gone;
 
 /* How often each kind of command was refused memory. */
 static unsigned long refusals[KINDS];
 
-/* Ends the program where something differs. */
+/* Ends the program at a difference. */
 static void wanted(const char *differs, const bs_command *c) {
   if (differs == NULL) return;
   fprintf(stderr, "schemas.c: seed %lu, command %lu, of kind %u by slot %u: %s\n", (unsigned long)played->seed, asked,
@@ -112,7 +112,7 @@ static bs_reply made(const bs_command *c) {
   }
 }
 
-/* Whether an accepted command of this kind changes which nodes there are, or where they lie. */
+/* Whether an accepted command of this kind changes which nodes there are, or their parents and keys. */
 static bool changes_schema(const bs_command *c) {
   switch (c->kind) {
     case BS_DO_ADD_INNER:
@@ -136,7 +136,7 @@ static size_t draw(size_t below) {
   return pcg_below(&rng, below);
 }
 
-/* One of the last nodes that went. */
+/* One of the last nodes that were removed. */
 static bs_node some_gone(void) {
   static const bs_node none = { 0, 0 };
   size_t back = draw(8) + 1;
@@ -171,7 +171,7 @@ static void count(const bs_command *c, bs_reply reply) {
   }
 }
 
-/* Whether a command never takes memory: it begins, releases, or moves what there is. */
+/* Whether a command never takes memory: it begins, releases, or moves what exists. */
 static bool takes_no_memory(const bs_command *c) {
   switch (c->kind) {
     case BS_DO_BEGIN:
@@ -194,7 +194,7 @@ static bool takes_no_memory(const bs_command *c) {
 }
 
 /* Makes a command with the manager. In a play that refuses memory the first, second or third allocation of the call is
- * refused: then nothing has changed, and the command is made again. */
+ * refused: then nothing has changed, and the command is repeated. */
 static bs_reply made_in_spite(const bs_command *c) {
   uint64_t accepted = accepted_by(&m);
   bs_reply came;
@@ -212,7 +212,7 @@ static bs_reply made_in_spite(const bs_command *c) {
   return made(c);
 }
 
-/* Asks both, and they must answer and tell the same. Rows come and go by other commands too. */
+/* Makes the command with both, which must answer and tell the same. Rows are made and removed by other commands too. */
 static bs_reply asks(bs_command c) {
   uint64_t births = n.births;
   size_t nodes = n.node_count;
@@ -231,7 +231,7 @@ static bs_reply asks(bs_command c) {
  * Drawing.
  */
 
-/* Whether it is the one case of so many. */
+/* True in one case of this many. */
 static bool seldom(size_t cases) {
   return draw(cases) == 0;
 }
@@ -241,7 +241,7 @@ static bs_node first_node(void) {
   return n.node_count == 0 ? none : n.nodes[0].name;
 }
 
-/* A node of this kind; the one that was born first, where there is none. */
+/* A node of this kind; if there is none, the one that was born first. */
 static bs_node some(uint32_t kind) {
   bs_node found[NAIVE_NODES];
   size_t i, all = 0;
@@ -276,7 +276,7 @@ static bs_node some_parent(void) {
   }
 }
 
-/* The lists of a command, while it is asked. */
+/* The lists of a command, while it is made. */
 static bs_node parents[2];
 static uint64_t bounds[MOST_BOUNDS + 1], keys[BS_MOST_PARENTS];
 
@@ -308,7 +308,7 @@ static void some_keys(bs_command *c) {
   c->keys = keys;
 }
 
-/* Mostly this one; else one that has ended. */
+/* Mostly this one; else a transaction that has ended. */
 static bs_txn name(bs_txn txn) {
   return seldom(16) ? ended : txn;
 }
@@ -317,7 +317,7 @@ static bs_txn name(bs_txn txn) {
  * Work of one transaction.
  */
 
-/* Begins, for work that is new or for that of the one that ended last. */
+/* Begins, for new work or for that of the transaction that ended last. */
 static bs_txn begins(void) {
   static const bs_txn none = { 0, 0 };
   bs_command c = bs_do(BS_DO_BEGIN, none);
@@ -335,17 +335,17 @@ static void ends(size_t who, uint32_t kind) {
   txns[who] = begins();
 }
 
-/* The mode that is wanted above a lock. */
+/* The mode that is needed above a lock. */
 static bs_mode above(bs_mode mode) {
   return mode == BS_IX || mode == BS_SIX || mode == BS_X ? BS_IX : BS_IS;
 }
 
-/* Asks for one lock, mostly so that it does not wait. */
+/* Requests one lock, mostly so that it does not wait. */
 static bs_reply locks(bs_txn txn, bs_node node, bs_mode mode) {
   return asks(bs_do_at(seldom(3) ? BS_DO_LOCK : BS_DO_TRY, txn, node, mode));
 }
 
-/* Locks a node, and before it what is wanting above it. Whether it was granted. */
+/* Locks a node, after what is missing above it. Returns whether it was granted. */
 static bool reaches(bs_txn txn, bs_node node, bs_mode mode) {
   bs_node next = node;
   bs_mode next_mode = mode;
@@ -360,7 +360,7 @@ static bool reaches(bs_txn txn, bs_node node, bs_mode mode) {
   return false;
 }
 
-/* Takes what a child below these asks for. */
+/* Locks what a child below these needs. */
 static void reaches_all(bs_txn txn, const bs_command *c) {
   bs_node all[2];
   size_t i;
@@ -378,7 +378,7 @@ static void empties(bs_txn txn, bs_node file) {
   for (i = 0; i < all && reaches(txn, records[i], BS_X); i++) asks(bs_do_at(BS_DO_DELETE, txn, records[i], BS_NL));
 }
 
-/* Takes what a drop of a node asks for. */
+/* Locks what a drop of a node needs. */
 static void takes(bs_txn txn, bs_node node) {
   const naive_node *found;
   bs_node file;
@@ -390,7 +390,7 @@ static void takes(bs_txn txn, bs_node node) {
   if (seldom(2)) empties(txn, file);
 }
 
-/* Asks to read below a node, and waits where another holds it in BS_X. */
+/* Requests to read below a node, and waits if another transaction holds it in BS_X. */
 static void comes(bs_txn txn, bs_node node) {
   int i;
   for (i = 0; i < 2; i++) {
@@ -400,7 +400,7 @@ static void comes(bs_txn txn, bs_node node) {
   }
 }
 
-/* Drops a node, for which somebody may have come to wait. */
+/* Drops a node, which may have a waiter. */
 static void drops(bs_txn txn) {
   bs_node node = some_node();
   if (!seldom(6)) takes(txn, node);
@@ -435,7 +435,7 @@ static void indexes_by(bs_txn txn) {
   asks(c);
 }
 
-/* Asks for what needs locks above, and takes those that are wanting. */
+/* Makes a command that needs locks above, and acquires those that are missing. */
 static void asks_with_parents(bs_command c, bs_mode mode) {
   int i;
   for (i = 0; i < 4; i++) {
@@ -459,7 +459,7 @@ static void adopts(bs_txn txn) {
   asks(c);
 }
 
-/* A record goes, by its holder or as one that nobody holds. */
+/* Removes a record, by its holder or as one that nobody holds. */
 static void deletes(bs_txn txn) {
   bs_node record = seldom(16) ? some_node() : some(BS_RECORD);
   if (seldom(4)) {
@@ -481,7 +481,7 @@ static void moves(bs_txn txn) {
   asks(c);
 }
 
-/* A node that a transaction holds, where it holds any. */
+/* A node that a transaction holds, if it holds any. */
 static bs_node some_held(bs_txn txn) {
   static const bs_node none = { 0, 0 };
   const naive_txn *t = naive_txn_of(&n, txn);
@@ -505,7 +505,7 @@ static void locks_one(bs_txn txn) {
   else reaches(txn, node, mode);
 }
 
-/* Two that may read a node ask to write it, so that one falls. */
+/* Two transactions that may read a node request to write it, so that one is the victim. */
 static void clash(bs_txn txn) {
   bs_node node = some_node();
   bs_txn other = txns[draw(TXNS)];
@@ -518,7 +518,7 @@ static void clash(bs_txn txn) {
  * All work.
  */
 
-/* One that waits or is condemned asks in vain, or ends. */
+/* A transaction that waits or is condemned makes calls in vain, or ends. */
 static void gives_up(size_t who) {
   switch (draw(6)) {
     case 0: drops(txns[who]); break;
@@ -528,7 +528,7 @@ static void gives_up(size_t who) {
   }
 }
 
-/* Work of one that is active. */
+/* Work of an active transaction. */
 static void works(size_t who) {
   bs_txn txn = txns[who];
   size_t drawn = draw(48);
@@ -589,7 +589,7 @@ static void locks_row(bs_txn txn) {
   asks_with_parents(c, above(c.mode));
 }
 
-/* A row gets another key, mostly by one that writes it. */
+/* A row gets another key, mostly by a transaction that writes it. */
 static void rekeys_row(bs_txn txn) {
   bs_command c = some_row(BS_DO_LOCK_ROW, txn, BS_X);
   if (!seldom(4)) asks_with_parents(c, BS_IX);
@@ -604,7 +604,7 @@ static void makes_rows(bs_txn txn) {
 }
 
 
-/* A record gets another key, mostly by one that writes it. */
+/* A record gets another key, mostly by a transaction that writes it. */
 static void rekeys(bs_txn txn) {
   bs_command c = bs_do_at(BS_DO_REKEY, txn, some(BS_RECORD), BS_NL);
   const naive_node *record = naive_find(&n, c.node);
@@ -614,7 +614,7 @@ static void rekeys(bs_txn txn) {
   asks_with_parents(c, BS_IX);
 }
 
-/* A savepoint, and the way back to one that is good, or to none at all. */
+/* A savepoint, and a rollback to one that is good, or to none at all. */
 static void goes_back(bs_txn txn) {
   bs_command c = bs_do(BS_DO_RELEASE_SINCE, txn);
   const naive_txn *t = naive_txn_of(&n, txn);
@@ -627,7 +627,7 @@ static void goes_back(bs_txn txn) {
   asks(c);
 }
 
-/* What became of a wait, which may never have been. */
+/* What became of a wait, which may never have existed. */
 static void asks_for_a_verdict(bs_txn txn) {
   bs_command c = bs_do_at(0, txn, some_node(), some_mode());
   const naive_txn *t = naive_txn_of(&n, txn);
@@ -635,7 +635,7 @@ static void asks_for_a_verdict(bs_txn txn) {
   wanted(same_reply(bs_verdict(&m, txn, c.node, c.mode), naive_verdict(&n, txn, c.node, c.mode)), &c);
 }
 
-/* Work of kinds that the plays of seeds 1 to 3 have not. */
+/* Work of kinds that the plays of seeds 1 to 3 do not have. */
 static void goes_further(void) {
   bs_txn txn = name(txns[draw(TXNS)]);
   switch (draw(24)) {
@@ -658,7 +658,7 @@ static void goes_further(void) {
  * The plays.
  */
 
-/* Opens both, and draws from now on by this stream. */
+/* Opens both, and draws from this stream from now on. */
 static void opens(uint64_t stream) {
   static const bs_txn nobody = { 0, 0 };
   bs_options options = { 0, 0, TXNS, MOST_NODES, MOST_BOUNDS };
@@ -684,7 +684,7 @@ static void plays(unsigned long draws, uint64_t stream) {
   wanted(same_number("how many blocks of memory are left", (uint64_t)blocks_out(), 0), NULL);
 }
 
-/* Plays with one manager, or where memory is refused with many. */
+/* Plays with one manager, or with many if memory is refused. */
 static void plays_all(unsigned long draws) {
   unsigned long rest = draws;
   for (; played->is_refused && rest > FEW_DRAWS; rest -= FEW_DRAWS) plays(FEW_DRAWS, 54 + rest);
@@ -706,8 +706,8 @@ static void all_came(uint32_t kind, const bs_status *statuses, size_t all) {
   }
 }
 
-/* Each kind of command was accepted and refused. Only a begin can be refused in one way alone, and the tries of a table
- * are none of a manager's. */
+/* Each kind of command was accepted and refused. A begin can be refused in only one way, and the tries of a table are
+ * no commands of a manager. */
 static void all_kinds_came(void) {
   uint32_t kind;
   for (kind = BS_DO_BEGIN; kind < KINDS; kind++) {

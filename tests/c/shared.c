@@ -1,9 +1,9 @@
 /*
- * Stories of a table that threads share: each is a function that ends the program with status 1 at the first answer
- * that is not as wanted, and else prints its name.
+ * Stories of a table that threads share: each is a function that ends the program with status 1 at the first wrong
+ * answer, and else prints its name.
  *
- *   shared [SECONDS [THREADS]]   the time that a story may take before it is said to hang, 20 where none is given; and
- *                                how many threads take turns over fewer slots, at least 256, 1000 where none is given
+ *   shared [SECONDS [THREADS]]   the time that a story may take before it is said to hang, 20 if none is given; and how
+ *                                many threads take turns over fewer slots, at least 256, 1000 if none is given
  *
  * It is linked with the calls for memory of memory.h.
  */
@@ -14,7 +14,7 @@
 #include <stdarg.h>
 #include <stdio.h>
 
-/* So many begins of the header are refused memory. */
+/* This many begins of the header are refused memory. */
 static int refused_begins;
 
 static bs_reply noted_begin(bs_manager *m) {
@@ -25,8 +25,8 @@ static bs_reply noted_begin(bs_manager *m) {
 
 #define bs_begin(m) noted_begin(m)
 
-/* So many tries, releases and rows of the header are counted, and then the numbers are at their end; below 0 they never
- * are. And so many rows are refused memory. */
+/* After this many tries, releases and rows of the header its numbers are used up; below 0 they never are. And this many
+ * rows are refused memory. */
 static long numbers_left = -1;
 static int refused_rows;
 
@@ -68,7 +68,7 @@ static bs_reply noted_lock_row(bs_manager *m, bs_txn txn, bs_node rows, uint64_t
 #define bs_lock_row(m, txn, rows, number, keys, count, mode, list) \
   noted_lock_row(m, txn, rows, number, keys, count, mode, list)
 
-/* Where the header makes a condition for one who comes to sleep for a slot, with the latch held, the number of its
+/* When the header makes the condition of a thread that begins to sleep for a slot, under the latch, the number of its
  * arrival is noted. */
 static __thread long my_arrival;
 static long arrivals;
@@ -99,7 +99,7 @@ static int noted_fprintf(FILE *out, const char *format, ...) __attribute__((form
 
 #include "threads.h"
 
-/* Where the manager of an ending table goes, it is noted how many sleep on the table still. */
+/* When the manager of an ending table is ended, it is noted how many still sleep on the table. */
 static const bs_table *ending;
 static size_t asleep_at_end;
 
@@ -109,15 +109,15 @@ static bs_reply noted_end(bs_manager *m) {
 }
 
 /* ------------------------------------------------------------------------------------------------
- * A table with a store, and one who asks in a thread of its own.
+ * A table with a store, and a thread that requests locks.
  */
 
 /* A file under a root, with an index of two intervals, parted at 100, and a record in each. */
 static bs_table *table;
 
-/* Where the header makes text, nobody else uses the table: so its latch is free. */
+/* When the header writes text, nobody uses the table, so its latch is free. */
 static size_t texts;
-static bool is_held; /* but where the story holds it */
+static bool is_held; /* unless the story holds it */
 
 /* A write may be a point at which a thread is cancelled. */
 static __thread bool is_cancelled_in_writes;
@@ -145,7 +145,7 @@ static void close_table(void) {
   DONE(bs_table_free(&table));
 }
 
-/* Ends it, and sees that nobody sleeps on it any more when its manager goes. */
+/* Ends the table, and checks that nobody sleeps on it when its manager is ended. */
 static void end_as_all_leave(void) {
   ending = table;
   asleep_at_end = SIZE_MAX;
@@ -215,12 +215,12 @@ static void ask_in_thread(struct asker *a, bs_txn txn, bs_node node, bs_mode mod
   start(&a->thread, ask, a);
 }
 
-/* Has a transaction ask in a thread. */
+/* A transaction requests a lock in a thread. */
 static void start_asking_for(struct asker *a, bs_txn txn, bs_node node, bs_mode mode) {
   ask_in_thread(a, txn, node, mode, false);
 }
 
-/* The same of a thread that comes to sleep. */
+/* The same, and it has to wait. */
 static void send(struct asker *a, bs_txn txn, bs_node node, bs_mode mode) {
   start_asking_for(a, txn, node, mode);
   await_wait(txn);
@@ -231,7 +231,7 @@ static void send_by_path(struct asker *a, bs_txn txn, bs_node node, bs_mode mode
   await_wait(txn);
 }
 
-/* It must have been answered so. */
+/* The thread has returned, with this status. */
 static bs_reply back(struct asker *a, bs_status status) {
   join(a->thread);
   return ANSWERS(status, a->reply);
@@ -276,7 +276,7 @@ static void an_unlock_grants(void) {
   close_table();
 }
 
-/* One commit wakes all, also those in slots from 64 on. */
+/* One commit wakes all, also in slots from 64 on. */
 static void a_commit_wakes_all(void) {
   static struct asker all[BS_SLOTS - 1];
   bs_txn a;
@@ -316,7 +316,7 @@ static void a_path_condemns(void) {
   closes_a_cycle(send_by_path);
 }
 
-/* The asker itself falls, and does not sleep. */
+/* The requester itself is the victim, and does not sleep. */
 static void an_asker_falls(void) {
   struct asker one;
   bs_txn a, b;
@@ -397,8 +397,7 @@ static void a_record_goes(void) {
   close_table();
 }
 
-/* An escalation releases a child, for which a reader waits that came by another parent. */
-/* Who sleeps for a node that is dropped is woken, also on the way of a path; and who asks later finds none. */
+/* A sleeper for a node that is dropped is woken, also on the way of a path; later requests do not find the node. */
 static void a_drop_ends_sleeps(void) {
   struct asker one, two;
   bs_node area, under;
@@ -425,6 +424,7 @@ static void a_drop_ends_sleeps(void) {
   close_table();
 }
 
+/* An escalation releases a child, for which a reader with another parent waits. */
 static void grants_by(bs_reply (*escalate)(bs_table *, bs_txn, bs_node, bs_notices *)) {
   struct asker one;
   bs_node parents[2], child;
@@ -449,7 +449,7 @@ static void an_escalation_grants(void) {
   grants_by(bs_table_escalate);
 }
 
-/* Another thread takes the wait back: the transaction is active then. */
+/* Another thread cancels the wait: the transaction is active then. */
 static void a_cancel_ends_a_sleep(void) {
   struct asker one;
   bs_txn a, b;
@@ -465,7 +465,7 @@ static void a_cancel_ends_a_sleep(void) {
   close_table();
 }
 
-/* And who stood behind it is granted. */
+/* And the waiter after it is granted. */
 static void a_cancel_grants(void) {
   struct asker one, two;
   bs_txn a, b, c;
@@ -517,7 +517,7 @@ static void a_thread_dies(void) {
   close_table();
 }
 
-/* It sleeps on through wakes that are none, and through what others do elsewhere. */
+/* It sleeps on through wakes without a reason, and while others use other nodes. */
 static void an_idle_wake(void) {
   struct asker one;
   bs_txn a, b, c;
@@ -541,9 +541,9 @@ static void an_idle_wake(void) {
   close_table();
 }
 
-/* A thread that is cancelled in its sleep sleeps on, and ends behind its call. */
+/* A thread that is cancelled in its sleep sleeps on, and ends after its call. */
 struct cancelled {
-  bs_txn txn; /* it waits for the root, and with none for a slot */
+  bs_txn txn; /* it waits for the root; with no name, for a slot */
   bool begins;
   bs_reply reply;
   pthread_t thread;
@@ -592,14 +592,14 @@ static bool is_over(const struct timespec *until) {
   return now.tv_sec > until->tv_sec || (now.tv_sec == until->tv_sec && now.tv_nsec >= until->tv_nsec);
 }
 
-/* Whether `later` lies at least so many milliseconds behind `sooner`, and less than a minute more. */
+/* Whether `later` is at least this many milliseconds after `sooner`, and less than a minute more. */
 static bool lies_behind(const struct timespec *sooner, const struct timespec *later, uint64_t milliseconds) {
   int64_t apart = (int64_t)(later->tv_sec - sooner->tv_sec) * 1000000000 + (later->tv_nsec - sooner->tv_nsec);
   int64_t least = (int64_t)milliseconds * 1000000;
   return apart >= least && apart < least + (int64_t)60 * 1000000000;
 }
 
-/* A time ahead is one, and as far as was said. */
+/* A time ahead is valid, and as far ahead as was said. */
 static void a_time_ahead(void) {
   static const uint64_t far[] = { 0, 1, 999, 1000, 1001, 86400000, 4294967296 };
   size_t i, ms;
@@ -638,7 +638,7 @@ static void a_time_comes(void) {
   close_table();
 }
 
-/* Each wait of a transaction ends at its own time at the latest, and no wait of the next one in its slot does. */
+/* Each wait of a transaction ends at its deadline at the latest; no wait of the next transaction in its slot does. */
 static void a_deadline_of_its_own(void) {
   struct timespec soon = moment_in(2000), far = moment_in(60000000), wrong = far;
   struct asker two;
@@ -675,7 +675,7 @@ static void a_deadline_of_its_own(void) {
   DONE(bs_table_free(&table));
 }
 
-/* Whose time comes wakes who stood behind it. */
+/* A waiter whose time is over lets the waiter after it be granted. */
 static void a_time_comes_and_grants(void) {
   struct timespec until = moment_in(100000);
   struct asker one, two;
@@ -695,8 +695,8 @@ static void a_time_comes_and_grants(void) {
   close_table();
 }
 
-/* Takes the latch while a transaction waits, and answers the manager for a command too; null where its wait, the first
- * of the table, is over already. */
+/* Acquires the latch while a transaction waits, and returns the manager for a command; null if its wait, the first of
+ * the table, is already over. */
 static bs_manager *hold_in_wait(bs_txn txn) {
   bs_counts counts;
   memset(&counts, 0, sizeof counts);
@@ -710,8 +710,8 @@ static bs_manager *hold_in_wait(bs_txn txn) {
   }
 }
 
-/* The time is over, and then, before the one who sleeps has the latch again, it is granted. False: this machine was
- * too slow to see it wait. */
+/* The time is over, and then, before the sleeper has the latch again, the lock is granted. False: this machine was too
+ * slow to see it wait. */
 static bool grants_behind_the_time(long microseconds) {
   struct timespec until;
   struct asker one;
@@ -774,13 +774,13 @@ static void times_and_grants(void) {
  * Begins that sleep for a slot.
  */
 
-/* A table with so many slots, and a root alone. */
+/* A table with this many slots, and only a root. */
 static void set_up_slots(uint32_t most) {
   DONE(make_table(&table, BS_AT_BLOCK, BS_YOUNGEST, most));
   root = DONE(bs_table_add_inner(table, NULL, 0)).node;
 }
 
-/* One who begins in a thread of its own, for new work or, where that is not 0, since an earlier begin. */
+/* A thread that begins a transaction, for new work or, if `since` is not 0, for that of an earlier begin. */
 struct beginner {
   uint64_t since;
   const struct timespec *until;
@@ -806,7 +806,7 @@ static void start_to_begin(struct beginner *b, uint64_t since, const struct time
   start(&b->thread, begin_in_turn, b);
 }
 
-/* Has a thread come into the line, the last of so many. */
+/* A thread enters the begin queue, the last of this many. */
 static void line_up(struct beginner *b, size_t count) {
   start_to_begin(b, 0, NULL);
   await_sleepers(count);
@@ -817,7 +817,7 @@ static bs_txn begun(struct beginner *b) {
   return DONE(b->reply).txn;
 }
 
-/* The calls that end a transaction, by their numbers: each hands its slot on. */
+/* The calls that end a transaction, by their numbers: each gives its slot to a begin that sleeps. */
 enum { WAYS_TO_END = 5 };
 
 static void end_by(int way, bs_txn txn) {
@@ -866,14 +866,15 @@ enum { MOST_BEGINNERS = BS_SLOTS < 500 ? 1000 : 2 * BS_SLOTS };
 
 static size_t beginners = MOST_BEGINNERS;
 
-/* One who works in a transaction: when it came to sleep for its slot, 0 where it did not, and when it began. */
+/* A thread that works in a transaction: the number of its arrival in the begin queue, 0 if it did not sleep, and its
+ * age. */
 struct worker {
   long arrival;
   uint64_t age;
   pthread_t thread;
 };
 
-/* How many have done their work, which the root's lock guards. */
+/* How many have done their work, protected by the root's lock. */
 static long worked;
 
 static void *work_in_turn(void *arg) {
@@ -892,9 +893,8 @@ static int by_age(const void *one, const void *other) {
   return (a > b) - (a < b);
 }
 
-/* Many threads over fewer slots do their work once each. Half of them come to sleep, and while the others come
- * one slot after the other is freed. Those who slept began in the order in which they came, and nobody had the age of
- * another. */
+/* Many threads over fewer slots do their work once each. Half of them sleep; while the others arrive, one slot after
+ * the other is freed. Those that slept began in the order of their arrival, and no two had the same age. */
 static void turns_over(uint32_t most) {
   static struct worker all[MOST_BEGINNERS];
   bs_txn held[BS_SLOTS];
@@ -929,7 +929,7 @@ static void turns_over_four_slots(void) {
   turns_over(4);
 }
 
-/* Not even while the one who came earlier is still asleep over its slot. */
+/* Not even while the earlier one is still asleep with its slot. */
 static void a_later_begin_does_not_pass(void) {
   struct timespec past = moment_in(0);
   struct beginner one, two;
@@ -958,7 +958,7 @@ static void a_later_begin_does_not_pass(void) {
   close_table();
 }
 
-/* Of two who read the root, and both want to write it, the one in `falls` gives way. Both end. */
+/* Of two transactions that read the root and both want to write it, the one in `falls` is the victim. Both end. */
 static void falls_behind(bs_txn falls, bs_txn stays) {
   bs_command list[1];
   ANSWERS(BS_DONE, bs_table_lock(table, falls, root, BS_S, NULL));
@@ -971,7 +971,7 @@ static void falls_behind(bs_txn falls, bs_txn stays) {
   DONE(bs_table_commit(table, stays, NULL));
 }
 
-/* Who falls is the one whose work began last, whoever of the two has the greater age. */
+/* The victim is the transaction whose work began last, whichever has the greater age. */
 static void a_victim_keeps_its_turn(void) {
   bs_command list[2];
   bs_txn first, other, again;
@@ -997,7 +997,7 @@ static void a_victim_keeps_its_turn(void) {
   close_table();
 }
 
-/* In the line of those who sleep for a slot the old work has no earlier place, and it keeps its turn behind it. */
+/* In the begin queue old work has no earlier place; it keeps its turn after that. */
 static void a_begin_again_sleeps_for_a_slot(void) {
   struct beginner one, two;
   bs_command list[1];
@@ -1019,7 +1019,7 @@ static void a_begin_again_sleeps_for_a_slot(void) {
   close_table();
 }
 
-/* A list may free several slots: each is handed on behind its last command. */
+/* A list may free several slots: each is given to a sleeping begin after the last command. */
 static void a_list_frees_slots(void) {
   struct beginner one, two;
   bs_command list[2];
@@ -1035,7 +1035,7 @@ static void a_list_frees_slots(void) {
   close_table();
 }
 
-/* Whether the last of so many has come into the line before a time. */
+/* Whether the last of this many has entered the begin queue before a time. */
 static bool comes_into_line(size_t count, const struct timespec *until) {
   while (sleepers() != count && !is_over(until)) nap();
   return sleepers() == count;
@@ -1076,14 +1076,15 @@ static bool some_leave_the_line_in(long microseconds) {
   return is_in_time;
 }
 
-/* Those whose time comes leave the line from its head, from between and from its end; the others keep their order. */
+/* Begins whose time is over leave the begin queue at its front, in the middle and at its end; the others keep their
+ * order. */
 static void some_leave_the_line(void) {
   long microseconds = 50000;
   while (!some_leave_the_line_in(microseconds)) microseconds *= 2;
 }
 
-/* The time is over, and then, before the one who sleeps has the latch again, a slot is free. False: this machine was
- * too slow to see it in the line. */
+/* The time is over, and then, before the sleeper has the latch again, a slot is free. False: this machine was too slow
+ * to see it in the begin queue. */
 static bool begins_behind_the_time(long microseconds) {
   struct timespec until;
   struct beginner one;
@@ -1139,7 +1140,7 @@ static void times_and_turns(void) {
   close_table();
 }
 
-/* A table that ends wakes the line, and those who sleep for locks, and waits until all have left. */
+/* A table that ends wakes the begin queue and the sleepers for locks, and waits until all have left. */
 static void an_end_with_a_line(void) {
   static struct beginner line[200];
   struct timespec until = moment_in(60000000);
@@ -1193,7 +1194,7 @@ static void paths(void) {
   close_table();
 }
 
-/* Each lock of a path is waited for in its turn. */
+/* Each lock of a path is waited for in turn. */
 static void a_path_waits_twice(void) {
   struct asker one;
   bs_txn a, b, c;
@@ -1211,7 +1212,7 @@ static void a_path_waits_twice(void) {
   close_table();
 }
 
-/* A record that moves while its path is waited for is locked where it is then. */
+/* A record that moves while its path waits is locked at its new place. */
 static void a_path_moves(void) {
   struct asker one;
   bs_txn a, b;
@@ -1228,8 +1229,7 @@ static void a_path_moves(void) {
   close_table();
 }
 
-/* A cancel that comes when a lock on the way was granted, and its sleeper is not awake yet, is not lost: the path
- * ends. */
+/* A cancel after a lock on the way was granted, and before its sleeper is awake, is not lost: the path ends. */
 static void a_path_is_cancelled_on_its_way(void) {
   struct asker one;
   bs_command list[3];
@@ -1249,7 +1249,7 @@ static void a_path_is_cancelled_on_its_way(void) {
   close_table();
 }
 
-/* Where it was the last lock of the path, the path is done, and there is nothing to cancel. */
+/* If that was the last lock of the path, the path is done, and there is nothing to cancel. */
 static void a_path_is_cancelled_at_its_end(void) {
   struct asker one;
   bs_command list[2];
@@ -1264,7 +1264,7 @@ static void a_path_is_cancelled_at_its_end(void) {
   close_table();
 }
 
-/* The record of a path has moved, and its sleeper would begin anew. */
+/* The record of a path has moved, and its sleeper would begin the path again. */
 static void a_path_that_moved_is_cancelled(void) {
   struct asker one;
   bs_command list[2];
@@ -1282,7 +1282,7 @@ static void a_path_that_moved_is_cancelled(void) {
   close_table();
 }
 
-/* It ends at the first lock that comes to nothing, and what is above stays. */
+/* A path ends at the first lock that is not granted, and keeps the locks above. */
 static void a_path_ends_early(void) {
   struct timespec until;
   bs_txn a, b;
@@ -1304,8 +1304,8 @@ static void a_path_ends_early(void) {
 /* A file of rows, with an index of two intervals, parted at 100. */
 static bs_node rows, by_row_key, rows_below, rows_above;
 
-/* The engine's own row with the number 7: its key stands in a page with a latch of its own, and the row's lock guards
- * what else it has. */
+/* The engine's row with the number 7: its key is in a page with its own latch, and the row's lock protects the rest of
+ * it. */
 static pthread_mutex_t page = PTHREAD_MUTEX_INITIALIZER;
 static uint64_t page_key;
 static bool is_there;
@@ -1340,7 +1340,7 @@ static void set_up_rows(uint32_t detect) {
   if (detect == BS_BY_WATCHER) DONE(bs_table_watch_thread(table, 0));
 }
 
-/* What is held above a row that has this key. */
+/* Locks what is needed above a row with this key. */
 static bs_reply lock_above(bs_txn t, uint64_t key) {
   bs_reply reply = bs_table_lock_path(table, t, rows, BS_IX, NULL);
   bs_node interval = ASK(table, bs_interval_of, by_row_key, key).node;
@@ -1357,7 +1357,7 @@ static bs_reply ask_row(bs_txn t, uint64_t number, uint64_t key, const struct ti
   return bs_table_lock_row(table, t, rows, number, &key, 1, BS_X, until);
 }
 
-/* Asks for a row by a key. Its node may have another: what is wanting above that is locked too. */
+/* Locks a row by a key. If its node has another key, also locks what is missing above that. */
 static bs_reply ask_row_by(bs_txn t, uint64_t number, uint64_t key) {
   bs_reply reply = lock_above(t, key);
   while (reply.status == BS_DONE) {
@@ -1368,14 +1368,14 @@ static bs_reply ask_row_by(bs_txn t, uint64_t number, uint64_t key) {
   return reply;
 }
 
-/* One who asks for a row in a thread of its own, and begins anew where its key is another behind the grant. */
+/* A thread that requests a row, and begins again if its key is another after the grant. */
 struct row_asker {
   bs_txn txn;
-  uint64_t number, key; /* of row 7 the key that the page has first */
+  uint64_t number, key; /* for row 7 the key that the page has first */
   const struct timespec *until;
-  bool looks;           /* at the page, behind each grant */
+  bool looks;           /* at the page, after each grant */
   size_t others;        /* how often it was told of other keys */
-  size_t anew;          /* how often it began anew */
+  size_t anew;          /* how often it began again */
   bs_reply reply;
   pthread_t thread;
 };
@@ -1405,7 +1405,7 @@ static void start_asking(struct row_asker *a, bs_txn txn, uint64_t number, uint6
   start(&a->thread, ask_for_row, a);
 }
 
-/* The same of one who comes to sleep. */
+/* The same, and it has to wait. */
 static void send_for_row(struct row_asker *a, bs_txn txn, uint64_t number, uint64_t key) {
   start_asking(a, txn, number, key, false);
   await_wait(txn);
@@ -1447,7 +1447,7 @@ static void a_row_is_slept_for(void) {
   close_table();
 }
 
-/* Who slept for a row by other keys than its node's holds it too, and hears so. */
+/* A thread that slept for a row by other keys than its node's holds it too, and is told so. */
 static void a_row_with_other_keys_is_slept_for(void) {
   struct row_asker one;
   bs_node row;
@@ -1497,8 +1497,8 @@ static void how_a_sleep_for_a_row_ends(void) {
   DONE(bs_table_free(&table));
 }
 
-/* A file of rows is dropped and made again in one list, while a writer sleeps for it: that one is told so, and its rows'
- * numbers are free in the next file. */
+/* A file of rows is dropped and made again in one list, while a writer sleeps for it: the writer is told, and the
+ * numbers of its rows are free in the new file. */
 static void a_file_of_rows_is_dropped(void) {
   struct asker one, two;
   bs_command list[4];
@@ -1528,8 +1528,8 @@ static void a_file_of_rows_is_dropped(void) {
   close_table();
 }
 
-/* An index is dropped and made with finer bounds in one list. Who slept for it is told so, and who sleeps for the file
- * is granted behind the list. */
+/* An index is dropped and made with finer bounds in one list. A sleeper for it is told so, and a sleeper for the file
+ * is granted after the list. */
 static void an_index_is_made_again(void) {
   static const uint64_t finer[3] = { 50, 100, 150 };
   struct asker one, two;
@@ -1580,7 +1580,7 @@ static void rows_that_change(void) {
   close_table();
 }
 
-/* Who falls sleeps for a row, and is woken though the asker by whom it fell is told of other keys. */
+/* A victim sleeps for a row, and is woken though the requester that made it a victim is told of other keys. */
 static void other_keys_by_the_fall_of_another(void) {
   struct row_asker one;
   struct asker two;
@@ -1648,7 +1648,7 @@ static void two_ways_to_one_row(void) {
   close_table();
 }
 
-/* One who deletes the row and has not ended yet: it ends once the other waits for the row. */
+/* A thread that deletes the row and has not ended: it ends when the other waits for the row. */
 struct deleter {
   bs_txn txn, other;
   bool commits;
@@ -1693,7 +1693,7 @@ static void a_delete_that_aborts(void) {
   a_row_is_deleted(false);
 }
 
-/* One who moves the row: between its rekey and the writing of the key another reads the page. */
+/* A thread that moves the row: between its rekey and the writing of the key another reads the page. */
 struct mover {
   bs_txn txn, other;
   bool asks; /* for row 8 too, which the other holds */
@@ -1712,13 +1712,13 @@ static void *move_row(void *arg) {
   return NULL;
 }
 
-/* Whether the node of the row has the new key by now. */
+/* Whether the node of the row has the new key. */
 static bool is_rekeyed(void) {
   bs_reply row = ASK(table, bs_row_node, rows, OLD_ROW);
   return row.status == BS_DONE && ASK(table, bs_key, row.node, 0).count == NEW_KEY;
 }
 
-/* Who read the old key waits for the row, is told of other keys behind the grant, and begins anew. */
+/* A thread that read the old key waits for the row, is told of other keys after the grant, and begins again. */
 static void a_mover_beside_an_old_key(void) {
   struct row_asker one;
   struct mover m;
@@ -1735,7 +1735,7 @@ static void a_mover_beside_an_old_key(void) {
   close_table();
 }
 
-/* The two wait for each other, and the younger falls. */
+/* The two wait for each other, and the younger is the victim. */
 static void a_mover_in_a_cycle(uint32_t detect) {
   struct row_asker one;
   struct mover m;
@@ -1760,7 +1760,7 @@ static void a_mover_in_a_cycle_by_watcher(void) {
   a_mover_in_a_cycle(BS_BY_WATCHER);
 }
 
-/* How far a story of several threads has come. */
+/* The stage of a story of several threads. */
 static int stage;
 
 static void reach(int next) {
@@ -1779,13 +1779,13 @@ static void await_stage(int wanted_stage) {
   }
 }
 
-/* A writer that reads the key, and locks the row by it only when the row has moved and the move is committed. */
+/* A writer that reads the key, and locks the row by it only after the row has moved and the move is committed. */
 static void *write_late(void *arg) {
   struct row_asker *w = (struct row_asker *)arg;
   uint64_t key = read_key();
   reach(1);
   await_stage(2);
-  DONE(ask_row_by(w->txn, OLD_ROW, key)); /* No node stood, so these were taken for the row's own. */
+  DONE(ask_row_by(w->txn, OLD_ROW, key)); /* There was no node, so these were taken as the row's own. */
   reach(3);
   await_stage(4);
   WANT(read_key() != key);
@@ -1796,7 +1796,7 @@ static void *write_late(void *arg) {
   return NULL;
 }
 
-/* To look behind the grant keeps the writer from a row that lies in an interval which another reads. */
+/* Reading the keys again after the grant keeps the writer from a row in an interval that another transaction reads. */
 static void a_row_that_moved_unseen(void) {
   struct row_asker writer;
   struct mover m;
@@ -1818,7 +1818,8 @@ static void a_row_that_moved_unseen(void) {
   reach(2);
   await_stage(3);
   holds(reader, rows_above, BS_S);
-  WANT(holds_row(writer.txn, OLD_ROW)); /* The row lies in that interval: nothing but the look keeps the two apart. */
+  WANT(holds_row(writer.txn, OLD_ROW)); /* The row belongs in that interval: only that second look keeps the two
+                                         * apart. */
   reach(4);
   await_wait(writer.txn);
   WANT(amount == before && same_node(wait_in(table, writer.txn).node, rows_above));
@@ -1875,7 +1876,7 @@ static void lists_of_commands(void) {
   DONE(bs_table_free(&table));
 }
 
-/* A whole transaction in a list, which is made again and again. */
+/* A whole transaction in a list, which is run again and again. */
 static void lists_that_begin(void) {
   bs_command list[4];
   bs_txn before;
@@ -1892,7 +1893,7 @@ static void lists_that_begin(void) {
   close_table();
 }
 
-/* A list wakes whom it names. */
+/* A list wakes the transactions that it names. */
 static void lists_that_name(void) {
   struct asker one, two;
   bs_command list[2];
@@ -1923,7 +1924,7 @@ static bs_command row_command(uint32_t kind, bs_txn t, const uint64_t *key) {
   return command;
 }
 
-/* All that a session does to a row is one list, from its begin to its commit; and it is made again. */
+/* All that a session does to a row is one list, from its begin to its commit; and it is run again. */
 static void a_list_of_paths_and_rows(void) {
   static const uint64_t key = OLD_KEY;
   bs_txn t = bs_begun();
@@ -1951,7 +1952,8 @@ static void a_list_of_paths_and_rows(void) {
   close_table();
 }
 
-/* A path that waits on its way stops a list, which says for what. Behind the grant the list goes on from there. */
+/* A path that waits on its way stops a list, which says for which node. After the grant the list continues from
+ * there. */
 static void a_path_waits_in_a_list(void) {
   struct timespec past = moment_in(0);
   bs_command list[3];
@@ -1982,7 +1984,7 @@ static void a_path_waits_in_a_list(void) {
   close_table();
 }
 
-/* So does a row. Behind the grant it is asked for again, and its keys may be others. */
+/* So does a row. After the grant it is requested again, and its keys may be others. */
 static void a_row_waits_in_a_list(void) {
   static const uint64_t key = OLD_KEY, other_key = NEW_KEY;
   bs_command list[2];
@@ -2005,8 +2007,8 @@ static void a_row_waits_in_a_list(void) {
   close_table();
 }
 
-/* Two fall for locks of one path, each of whom sleeps, and the path goes on: its list has both, by rising slot. Who is
- * told later stands in the lower slot. */
+/* Two sleepers become victims for locks of one path, and the path continues: its list has both, by rising slot. The one
+ * that is told later is in the lower slot. */
 static void a_path_goes_on_in_a_list(void) {
   static bs_notices all;
   struct asker one, two, three;
@@ -2041,7 +2043,7 @@ static void a_path_goes_on_in_a_list(void) {
   close_table();
 }
 
-/* What is no command is refused by name, and so is one for a name that means nobody. */
+/* An unknown kind is refused, and so is a command for a name that names nobody. */
 static void commands_that_are_none(void) {
   static const bs_command nothing = { 0 };
   bs_command list[3];
@@ -2058,7 +2060,7 @@ static void commands_that_are_none(void) {
     list[0] = bs_do_at(kind, a, root, BS_X);
     WANT(bs_table_run(table, list, 1) == 0 && list[0].reply.status == BS_BAD_NUMBER);
   }
-  list[0] = bs_do(BS_DO_COMMIT, bs_begun()); /* with no begin ahead */
+  list[0] = bs_do(BS_DO_COMMIT, bs_begun()); /* without a begin before it */
   WANT(bs_table_run(table, list, 1) == 0 && list[0].reply.status == BS_NO_SUCH_TXN);
   ANSWERS(BS_NO_SUCH_TXN, bs_table_commit(table, bs_begun(), NULL));
   WANT(bs_table_run(table, NULL, 3) == 0 && bs_table_run(table, list, 0) == 0);
@@ -2069,7 +2071,7 @@ static void commands_that_are_none(void) {
   close_table();
 }
 
-/* Each command can stand in a list. */
+/* Each command can be in a list. */
 static void every_command(void) {
   static const uint64_t bound = 7, key = 3;
   bs_node top, under, table_node, index, record;
@@ -2118,7 +2120,7 @@ static void every_command(void) {
   close_table();
 }
 
-/* So can each of those that change a schema. */
+/* So can each schema change. */
 static void every_command_of_a_schema(void) {
   static const uint64_t bound = 7;
   bs_node top, table_node, index;
@@ -2155,7 +2157,7 @@ static bs_reply try_path(bs_txn t, bs_node node, bs_mode mode, uint32_t keep) {
   return bs_table_try_path(table, t, node, mode, keep);
 }
 
-/* It would have had to wait for this node. */
+/* The try would have had to wait for this node. */
 static void would_block(bs_reply reply, bs_node at) {
   ANSWERS(BS_WOULD_BLOCK, reply);
   WANT(same_node(reply.node, at));
@@ -2173,7 +2175,7 @@ static bool is_active(bs_txn t) {
   return DONE(ASK(table, bs_doing, t)).count == BS_ACTIVE;
 }
 
-/* What is held of the store: six modes. */
+/* The modes of the store's six nodes. */
 static void see_modes(bs_txn t, bs_mode *modes) {
   modes[0] = ASK(table, bs_held, t, root).mode;
   modes[1] = ASK(table, bs_held, t, file).mode;
@@ -2183,7 +2185,7 @@ static void see_modes(bs_txn t, bs_mode *modes) {
   modes[5] = ASK(table, bs_held, t, high).mode;
 }
 
-/* A path that is free is locked as bs_table_lock_path locks it, also where some of it is held already. */
+/* A free path is locked as bs_table_lock_path locks it, also if some of it is already held. */
 static void a_path_is_tried(void) {
   bs_mode mode, first, one[6], other[6];
   bs_node nodes[4];
@@ -2212,7 +2214,7 @@ static void a_path_is_tried(void) {
   close_table();
 }
 
-/* A reader wants fewer nodes once one above them is had, that is a parent too. */
+/* A reader needs fewer nodes once it holds one above them that is also a parent. */
 static void a_reader_skips_a_parent(void) {
   bs_node parents[2], node;
   bs_txn t, u;
@@ -2228,7 +2230,7 @@ static void a_reader_skips_a_parent(void) {
   close_table();
 }
 
-/* One that would block on its last node, or above it, keeps its way or gives it back. */
+/* A try that would block on its last node, or above it, keeps its path or releases it. */
 static void a_try_gives_back_its_way(void) {
   bs_txn a, b, t;
   told_by_release = 0;
@@ -2243,7 +2245,7 @@ static void a_try_gives_back_its_way(void) {
   WANT(locks_of(t) == 2);
   holds(t, root, BS_IS), holds(t, file, BS_IS);
   would_block(try_path(t, low, BS_S, BS_KEEP_NOTHING), low);
-  WANT(locks_of(t) == 2); /* It took none of them anew. */
+  WANT(locks_of(t) == 2); /* It acquired none of them anew. */
   DONE(bs_table_abort(table, t, NULL));
   t = begin();
   would_block(try_path(t, low, BS_X, BS_KEEP_WAY), low);
@@ -2262,7 +2264,7 @@ static void a_try_gives_back_its_way(void) {
   close_table();
 }
 
-/* A node that was held before stays as it was raised: no mode is ever lowered. What was taken anew goes. */
+/* A node that was held before stays raised: no mode is ever lowered. What was acquired anew is released. */
 static void a_raised_parent_stays(void) {
   bs_txn a, t;
   set_up(BS_AT_BLOCK);
@@ -2277,7 +2279,7 @@ static void a_raised_parent_stays(void) {
   close_table();
 }
 
-/* A node above one that the transaction read by another parent before stays: its child is held. */
+/* A node above one that the transaction had read by another parent stays: its child is held. */
 static void a_parent_of_what_was_read_stays(void) {
   bs_txn a, t;
   set_up(BS_AT_BLOCK);
@@ -2295,7 +2297,7 @@ static void a_parent_of_what_was_read_stays(void) {
   close_table();
 }
 
-/* A newcomer passes nobody who waits; one that holds the node already passes, as by any lock. */
+/* A newcomer passes no waiter; a transaction that holds the node does, as by any lock. */
 static void a_try_does_not_pass(void) {
   struct asker one;
   bs_txn a, b, c;
@@ -2312,7 +2314,7 @@ static void a_try_does_not_pass(void) {
   close_table();
 }
 
-/* One that would have closed a cycle of waits fells nobody, and does not fall. */
+/* A try that would have closed a cycle of waits makes no victim, and is none. */
 static void a_try_fells_nobody(void) {
   struct asker one;
   bs_txn older, younger;
@@ -2369,8 +2371,8 @@ static void a_path_is_refused(void) {
   close_table();
 }
 
-/* A chain of nodes, one under the other, and a lattice of layers, in which each node lies under all of the layer above:
- * ways that are longer than what a try keeps of them. */
+/* A chain of nodes, one under the other, and a lattice of layers, in which each node is under all of the layer above:
+ * paths that are longer than what a try stores of them. */
 enum { DEEP = 40, LAYERS = 12, WIDE = 4 };
 
 static bs_node chain[DEEP], lattice[LAYERS][WIDE];
@@ -2387,7 +2389,7 @@ static void set_up_deep(uint32_t detect) {
   }
 }
 
-/* All that was taken on such a way is given back, and all of it is taken where nobody has the node. */
+/* All that was acquired on such a path is released, and all of it is acquired if nobody has the node. */
 static void long_ways_are_tried(void) {
   bs_txn a, t;
   set_up_deep(BS_AT_BLOCK);
@@ -2415,7 +2417,7 @@ static void long_ways_are_tried(void) {
   close_table();
 }
 
-/* Where memory is refused on the way, all is given back that was taken, or kept; and it can be asked again. */
+/* If memory is refused on the way, all that was acquired is released, or kept; and the try can be repeated. */
 static void a_try_without_memory(void) {
   uint32_t keep;
   long refused = 0;
@@ -2442,7 +2444,7 @@ static void a_try_without_memory(void) {
   WANT(refused > 0);
 }
 
-/* At the end of the numbers nothing can be released any more: what was taken stays. */
+/* When the numbers are used up nothing can be released any more: what was acquired stays. */
 static void a_try_without_numbers(void) {
   bs_txn t;
   set_up(BS_AT_BLOCK);
@@ -2463,7 +2465,7 @@ static bs_node row_node(uint64_t number) {
   return DONE(ASK(table, bs_row_node, rows, number)).node;
 }
 
-/* A row that is free: without a node it gets one; and one whose node nobody holds is made anew with these keys. */
+/* A free row: without a node it gets one; if nobody holds its node, it gets a new one with these keys. */
 static void a_row_is_tried(void) {
   bs_node before;
   bs_reply now;
@@ -2494,7 +2496,7 @@ static void a_row_is_tried(void) {
   close_table();
 }
 
-/* A row that others hold: in a mode that goes it is held too, and let go in the end; else nothing is changed. */
+/* A row that others hold: in a compatible mode it is held too, and let go in the end; else nothing is changed. */
 static void a_row_of_others_is_tried(void) {
   struct row_asker one;
   bs_reply reply;
@@ -2512,7 +2514,7 @@ static void a_row_of_others_is_tried(void) {
   DONE(bs_table_commit(table, a, NULL));
   WANT(has_node(7));
   DONE(bs_table_commit(table, b, NULL));
-  WANT(!has_node(7)); /* The last who holds it lets it go: it was noted for that one. */
+  WANT(!has_node(7)); /* The last holder lets it go: it was noted for that one. */
   a = begin_writer(OLD_KEY), b = begin_writer(OLD_KEY);
   node = DONE(try_row(a, 7, OLD_KEY, BS_X)).node;
   would_block(try_row(b, 7, OLD_KEY, BS_S), node);
@@ -2526,15 +2528,15 @@ static void a_row_of_others_is_tried(void) {
   holds(b, node, BS_S);
   DONE(bs_table_unlock_row(table, b, rows, 7, NULL));
   send_for_row(&one, b, 7, OLD_KEY);
-  would_block(try_row(c, 7, OLD_KEY, BS_S), node); /* No newcomer passes who waits. */
+  would_block(try_row(c, 7, OLD_KEY, BS_S), node); /* A newcomer passes no waiter. */
   WANT(queue_at(node) == 1 && is_active(c));
-  WANT(DONE(try_row(a, 7, OLD_KEY, BS_X)).mode == BS_X); /* One that holds the row does. */
+  WANT(DONE(try_row(a, 7, OLD_KEY, BS_X)).mode == BS_X); /* A holder of the row does. */
   DONE(bs_table_commit(table, a, NULL));
   back_with_row(&one, BS_DONE);
   close_table();
 }
 
-/* A try of a row that would have closed a cycle fells nobody. */
+/* A try of a row that would have closed a cycle makes no victim. */
 static void a_try_of_a_row_fells_nobody(void) {
   struct row_asker one;
   bs_txn older, younger;
@@ -2554,7 +2556,7 @@ static void a_try_of_a_row_fells_nobody(void) {
   close_table();
 }
 
-/* By each mode and each list of keys: what is refused is refused as the lock of the row is. How many were. */
+/* In each mode and with each list of keys, a try is refused as the lock of the row is. Returns how many were. */
 static size_t refuses_alike(bs_txn t, bs_node of, uint64_t number) {
   static const uint64_t keys[2] = { OLD_KEY, NEW_KEY };
   size_t k, refused = 0;
@@ -2575,7 +2577,7 @@ static size_t refuses_alike(bs_txn t, bs_node of, uint64_t number) {
   return refused;
 }
 
-/* So it is of each transaction and each file, of a row with a node and of one without. */
+/* The same for each transaction and each file, for a row with a node and for one without. */
 static void a_row_is_refused(void) {
   bs_txn txns[5], holder, gone = { 3, 99 };
   bs_node files[4], other;
@@ -2598,14 +2600,14 @@ static void a_row_is_refused(void) {
     for (j = 0; j < 4; j++) refused += refuses_alike(txns[i], files[j], 7) + refuses_alike(txns[i], files[j], 8);
   }
   WANT(refused > 1600 && has_node(7) && !has_node(8));
-  refuses_alike(holder, rows, 7); /* It gives the row back. */
+  refuses_alike(holder, rows, 7); /* It releases the row. */
   WANT(!has_node(7));
   DONE(bs_table_abort(table, txns[3], NULL));
   back(&one, BS_DONE);
   close_table();
 }
 
-/* Where memory is refused a row that was not held is not held, and one that was is held still. */
+/* If memory is refused, a row that was not held is not held, and one that was is still held. */
 static void a_row_without_memory(void) {
   bs_status status = BS_NO_MEMORY;
   bs_txn a, b;
@@ -2639,7 +2641,7 @@ static void a_row_without_memory(void) {
   DONE(bs_table_unlock_row(table, a, rows, 7, NULL));
   DONE(try_row(a, 7, OLD_KEY, BS_S));
   numbers_left = 1;
-  reply = ANSWERS(BS_OTHER_KEYS, try_row(b, 7, OLD_KEY, BS_S)); /* It cannot be given back. */
+  reply = ANSWERS(BS_OTHER_KEYS, try_row(b, 7, OLD_KEY, BS_S)); /* It cannot be released. */
   numbers_left = -1;
   WANT(reply.mode == BS_S && same_node(reply.node, row_node(7)) && locks_of(b) == 5);
   close_table();
@@ -2651,7 +2653,7 @@ static bs_command row_try(bs_txn t, uint64_t number, const uint64_t *key) {
   return command;
 }
 
-/* Tries stand in lists. One that would block ends the list, as a refusal does. */
+/* Tries in lists. One that would block ends the list, as a refusal does. */
 static void a_list_of_tries(void) {
   static const uint64_t key = OLD_KEY;
   bs_txn t = bs_begun(), a;
@@ -2688,7 +2690,7 @@ static void a_list_of_tries(void) {
   close_table();
 }
 
-/* A skip over three that are locked takes the fourth, and keeps nothing of those that it passed. */
+/* A skip over three locked rows acquires the fourth, and keeps nothing of those that it passed. */
 static void a_skip_takes_the_first_that_is_free(void) {
   static const uint64_t key = OLD_KEY, other_key = NEW_KEY;
   bs_command list[5];
@@ -2708,7 +2710,7 @@ static void a_skip_takes_the_first_that_is_free(void) {
   list[3].keys = &other_key;
   WANT(bs_table_try_first(table, list, 5) == 3 && list[3].reply.status == BS_OTHER_KEYS);
   WANT(bs_table_try_first(table, list, 3) == 3 && is_active(t));
-  list[1].keys = NULL; /* What is refused otherwise ends it. */
+  list[1].keys = NULL; /* Any other refusal ends it. */
   WANT(bs_table_try_first(table, list, 5) == 1 && list[1].reply.status == BS_NULL_POINTER);
   for (i = 2; i < 5; i++) WANT(list[i].reply.status == BS_NOT_MADE);
   DONE(bs_table_commit(table, t, NULL));
@@ -2721,14 +2723,14 @@ static void a_skip_takes_the_first_that_is_free(void) {
   would_block(list[0].reply, low);
   would_block(list[1].reply, below);
   list[1].keep = BS_KEEP_WAY;
-  WANT(bs_table_try_first(table, list, 2) == 2 && locks_of(t) == 2); /* But where it is to be kept. */
+  WANT(bs_table_try_first(table, list, 2) == 2 && locks_of(t) == 2); /* Unless it is to be kept. */
   list[1].keep = BS_KEEP_NOTHING;
   list[2] = bs_do_at(BS_DO_TRY_PATH, t, high, BS_X);
   WANT(bs_table_try_first(table, list, 3) == 2 && list[2].reply.mode == BS_X && locks_of(t) == 5);
   close_table();
 }
 
-/* What is no try is refused by name there, and a table that is none. */
+/* A kind that is no try is refused, and so is a null table. */
 static void a_skip_is_refused(void) {
   bs_command list[2];
   uint32_t kind;
@@ -2753,7 +2755,7 @@ static void a_skip_is_refused(void) {
 }
 
 /* A skip passes over a record and a row that have moved to where the transaction holds nothing above them, and over a
- * record that is gone, by its node and by its path. It takes the next that is free. */
+ * record that is gone, by its node and by its path. It acquires the next free one. */
 static void a_skip_passes_over_what_moved_or_is_gone(void) {
   static const uint64_t key = OLD_KEY;
   bs_command list[6];
@@ -2784,16 +2786,17 @@ static void a_skip_passes_over_what_moved_or_is_gone(void) {
   WANT(list[2].reply.status == BS_NO_SUCH_NODE && list[3].reply.status == BS_NO_SUCH_NODE);
   would_block(list[4].reply, row_node(8));
   DONE(bs_table_commit(table, a, NULL));
-  WANT(bs_table_try_first(table, list, 6) == 1 && list[1].reply.status == BS_DONE); /* Its node went with the commit. */
+  WANT(bs_table_try_first(table, list, 6) == 1 && list[1].reply.status == BS_DONE); /* Its node was removed by the
+                                                                                     * commit. */
   WANT(list[0].reply.status == BS_NEED_PARENTS);
   close_table();
 }
 
-/* Jobs in a table, of which sixteen threads take one after the other by a skip over those that are locked. */
+/* Jobs in a table; sixteen threads take one after the other by a skip over the locked ones. */
 enum { JOBS = 200, WORKERS = 16, AT_ONCE = 20 };
 
 static bool is_done[JOBS];    /* in the page */
-static long times_done[JOBS]; /* by who holds the row */
+static long times_done[JOBS]; /* by the holder of the row */
 
 /* The first jobs that are not done, from the front of the table. */
 static size_t see_jobs(uint64_t *jobs) {
@@ -2881,7 +2884,7 @@ static void a_savepoint_wakes(void) {
   close_table();
 }
 
-/* A list goes back to a savepoint, and locks others. */
+/* A list rolls back to a savepoint, and locks others. */
 static void a_savepoint_in_a_list(void) {
   bs_command list[3];
   bs_txn a;
@@ -2900,7 +2903,7 @@ static void a_savepoint_in_a_list(void) {
   close_table();
 }
 
-/* One that is granted at once is given back at once; what the path locked above it stays. */
+/* A lock that is granted at once is released at once; what the path locked above it stays. */
 static void a_lock_for_an_instant(void) {
   bs_txn a, b;
   set_up(BS_AT_BLOCK);
@@ -2923,8 +2926,8 @@ static void a_lock_for_an_instant(void) {
   close_table();
 }
 
-/* Those that wait are given back in the hold in which they are granted: so one commit goes through all of them, up to a
- * lock that stays, and a caller's list has them all. */
+/* Those that wait are released in the critical section that grants them: so one commit grants all of them, up to a lock
+ * that stays, and a caller's list has them all. */
 static void instants_in_a_row(void) {
   struct asker one, two, three, last;
   bs_txn a, b, c, d, e;
@@ -2945,7 +2948,7 @@ static void instants_in_a_row(void) {
   close_table();
 }
 
-/* Whose wait for an instant ends in another way has nothing to give back, and its next lock stays. */
+/* If a wait for an instant ends in another way, there is nothing to release, and the transaction's next lock stays. */
 static void an_instant_that_never_comes(void) {
   struct asker one;
   struct timespec until;
@@ -2973,7 +2976,7 @@ static void an_instant_that_never_comes(void) {
   close_table();
 }
 
-/* What came for an instant is no answer to the next wait, even for the same node. */
+/* A lock for an instant that was granted is no answer to the next wait, even for the same node. */
 static void an_instant_that_came_is_over(void) {
   struct asker one;
   bs_txn a, b;
@@ -2993,7 +2996,7 @@ static void an_instant_that_came_is_over(void) {
   close_table();
 }
 
-/* Who asks for an instant may fall, as any who waits; and its locks stay until it aborts. */
+/* A transaction that waits for an instant may be a victim, as any waiter; its locks stay until it aborts. */
 static void an_instant_falls(void) {
   struct asker one, two;
   bs_txn a, b;
@@ -3011,7 +3014,7 @@ static void an_instant_falls(void) {
   close_table();
 }
 
-/* What is held already is raised, and stays; what is held for a child by another parent stays too. */
+/* A node that is already held is raised, and stays; one that is held for a child by another parent stays too. */
 static void an_instant_of_what_is_held(void) {
   bs_txn a;
   set_up(BS_AT_BLOCK);
@@ -3027,7 +3030,7 @@ static void an_instant_of_what_is_held(void) {
   close_table();
 }
 
-/* In a list the one that waits is awaited in its mode, and the list goes on behind it. */
+/* In a list a lock for an instant that waits is awaited in its mode, and the list continues after it. */
 static void an_instant_in_a_list(void) {
   bs_command list[3];
   bs_txn a, b;
@@ -3111,8 +3114,8 @@ static void a_watcher_looks(void) {
   ANSWERS(BS_NO_WATCHER, bs_look(&watcher, &board));
 }
 
-/* What is done by who has to do with no wait is not shown: the board before shows every wait still. Where a wait may
- * have come, gone or changed, the board behind it is. */
+/* Commands that have nothing to do with a wait are not shown: the last board still shows every wait. If a wait may have
+ * begun, ended or changed, the next board is shown. */
 static void a_watcher_is_shown_changes(void) {
   static bs_board board;
   bs_watcher watcher = BS_NO_WATCHER_HERE;
@@ -3203,7 +3206,7 @@ static void one_of_two_watchers_goes_on(void) {
   }
 }
 
-/* Nine come and go beside one that stays, and sees the wait that begins behind them. */
+/* Nine watchers are made and ended beside one that stays, and sees the wait that begins after them. */
 static void watchers_come_and_go(void) {
   static bs_board board;
   bs_watcher stays = BS_NO_WATCHER_HERE;
@@ -3229,7 +3232,8 @@ static void watchers_come_and_go(void) {
   close_table();
 }
 
-/* Watchers for which there was no memory keep no seat: a growth of a watch is refused eight times, and then eight watch. */
+/* Watchers for which there was no memory do not count: an allocation of a watch is refused eight times, and then eight
+ * watch. */
 static void refused_watchers(void) {
   static const bs_watcher none = BS_NO_WATCHER_HERE;
   bs_watcher all[BS_MOST_WATCHERS + 1];
@@ -3239,7 +3243,7 @@ static void refused_watchers(void) {
   for (; refused; n++) {
     for (i = 0; i < BS_MOST_WATCHERS + 1; i++) all[i] = none;
     set_up(BS_BY_WATCHER);
-    DONE(bs_table_watch(table, &all[0])); /* What the first takes for all is there from now on. */
+    DONE(bs_table_watch(table, &all[0])); /* What the first allocates for all exists from now on. */
     DONE(bs_watch_end(&all[0]));
     for (i = 0; i < BS_MOST_WATCHERS && refused; i++) {
       bs_reply reply;
@@ -3258,7 +3262,7 @@ static void refused_watchers(void) {
   WANT(n > 2);
 }
 
-/* A pair that waits for each other comes to an end by the thread that watches, whenever it began. */
+/* The thread that watches ends the wait of a pair for each other, whenever it began. */
 static void a_thread_watches(uint64_t pace) {
   int i;
   set_up(BS_BY_WATCHER);
@@ -3291,7 +3295,7 @@ static void a_thread_watches_and_rests(void) {
   a_thread_watches(1000000);
 }
 
-/* It does not keep the table from its end, however long it rests. */
+/* It does not delay the end of the table, however long it rests. */
 static void a_thread_rests_long(void) {
   struct asker one;
   bs_txn a, b;
@@ -3310,7 +3314,7 @@ static void handle(int number) {
   handled = number;
 }
 
-/* It takes no signal of the process: this thread blocks it, and so it is pending. */
+/* It takes no signal of the process: this thread blocks it, so it is pending. */
 static void a_thread_watches_without_signals(void) {
   struct timespec pause = { 0, 5000000 };
   struct sigaction action, before;
@@ -3357,7 +3361,7 @@ static void a_thread_watches_without_memory(void) {
   refuse_no_thread();
 }
 
-/* Two deadlocks stand on one board: both are ended before it rests, for an hour. A third that closes then stands. */
+/* Two deadlocks are on one board: both are ended before it rests, for an hour. A third that closes then stays. */
 static void a_thread_ends_all_it_sees(void) {
   struct timespec pause = { 0, 5000000 };
   struct asker one, two;
@@ -3450,7 +3454,7 @@ static void listings(void) {
   close_table();
 }
 
-/* How many lines of a text begin so. */
+/* How many lines of a text begin with this. */
 static size_t lines_with(FILE *text, const char *start_of_line) {
   char line[200];
   size_t count = 0;
@@ -3527,7 +3531,7 @@ static void a_long_dump(void) {
   fclose(whole);
 }
 
-/* A thread that dumps a table, or what it holds of one, and that is cancelled before it writes. */
+/* A thread that dumps a table, or a table that it holds, and that is cancelled before it writes. */
 struct dumper {
   bool holds;
   FILE *text;
@@ -3545,7 +3549,7 @@ static void *dump_to_the_end(void *arg) {
   return NULL;
 }
 
-/* The dump is written to its end, and the thread ends after it: its memory is given back, and so is the latch. */
+/* The dump is written to its end, and the thread ends after it: its memory is freed, and the latch is released. */
 static void a_dump_is_cancelled(void) {
   int holds;
   set_up(BS_AT_BLOCK);
@@ -3589,7 +3593,7 @@ static void an_end_with_sleepers(void) {
   DONE(bs_table_free(&table));
 }
 
-/* Threads that go on calling while the table ends. */
+/* Threads that continue to call while the table ends. */
 static void *call_on(void *arg) {
   long calls = 0;
   (void)arg;
@@ -3640,7 +3644,7 @@ static void a_table_by_options(void) {
   DONE(bs_table_free(&t));
 }
 
-/* Where there is no table, each call is refused so. */
+/* If there is no table, each call is refused with this status. */
 static void refuses_all(bs_table *none, bs_status status, bs_txn t) {
   bs_watcher watcher = BS_NO_WATCHER_HERE;
   bs_command list[2];
@@ -3682,7 +3686,7 @@ static void refuses_all(bs_table *none, bs_status status, bs_txn t) {
   fclose(text);
 }
 
-/* Null, and ended, and held by the thread that calls. */
+/* Null, and ended, and held by the calling thread. */
 static void places_without_a_table(void) {
   bs_table *never = NULL;
   bs_txn t = { 0, 0 };
@@ -3708,7 +3712,7 @@ static void places_without_a_table(void) {
   WANT(table == NULL);
 }
 
-/* A thread may hold several tables, and gives them back in any order. */
+/* A thread may hold several tables, and releases them in any order. */
 static void two_tables_are_lent(void) {
   bs_table *other = NULL;
   set_up(BS_AT_BLOCK);
@@ -3727,8 +3731,8 @@ static void two_tables_are_lent(void) {
   close_table();
 }
 
-/* While a thread holds a table it makes calls of another one, but none that could sleep: it would keep the latch. They
- * are refused whether they would have slept or not. */
+/* While a thread holds a table it can call another one, but make no call that could sleep: it would keep the latch.
+ * Such calls are refused whether they would have slept or not. */
 static void a_holder_of_a_table_does_not_sleep(void) {
   bs_table *other = NULL;
   bs_command list[1];
@@ -3765,7 +3769,7 @@ static void a_holder_of_a_table_does_not_sleep(void) {
   close_table();
 }
 
-/* Another thread does not hold what this one holds: it waits for the latch, and cannot give it back. */
+/* Another thread does not hold what this one holds: it waits for the latch, and cannot release it. */
 static void *let_go_of_it(void *arg) {
   (void)arg;
   ANSWERS(BS_NOT_HELD, bs_table_let_go(table));
@@ -3792,7 +3796,7 @@ static void a_table_is_lent(void) {
 }
 
 /* ------------------------------------------------------------------------------------------------
- * Want of memory.
+ * Lack of memory.
  */
 
 static void refused_tables(void) {
@@ -3811,7 +3815,7 @@ static void refused_tables(void) {
   WANT(made.status == BS_DONE && n > 3);
 }
 
-/* A call whose growth is refused is made again, and is done then; whether one was refused. */
+/* A call whose allocation is refused is made again, and is done then; whether one was refused. */
 static bool refuses(long n) {
   bs_watcher watcher = BS_NO_WATCHER_HERE;
   bs_command list[2];
@@ -3847,8 +3851,8 @@ static void refused_growths(void) {
   WANT(n > 2);
 }
 
-/* A begin for those who sleep is refused memory, in the thread that ends a transaction: they are told, and the next in
- * the line has the slot. Where there is none the slot is free. */
+/* A begin for a sleeping thread is refused memory, in the thread that ends a transaction: the sleeper is told, and the
+ * next in the begin queue has the slot. If there is none the slot is free. */
 static void refused_turns(void) {
   struct beginner line[3];
   bs_txn holder;

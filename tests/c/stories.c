@@ -1,9 +1,9 @@
 /*
- * Stories over the library, from the header alone: each is a function that ends the program with status 1
- * at the first answer that is not as wanted, and else prints its name.
+ * Stories over the library, from the header alone: each is a function that ends the program with status 1 at the first
+ * wrong answer, and else prints its name.
  *
- * It is linked with the calls for memory of memory.h, to see that a refused growth leaves everything as it was,
- * and that each manager gives back what it took.
+ * It is linked with the calls for memory of memory.h, to see that a refused allocation changes nothing, and that each
+ * manager frees what it took.
  */
 #include "burlapslate.h"
 #include "memory.h"
@@ -41,7 +41,7 @@ static bool is_told(size_t place, bs_txn txn, uint32_t kind) {
   return place < told.count && same_txn(told.at[place].txn, txn) && told.at[place].kind == kind;
 }
 
-/* Makes a manager at a place, with a root, which it answers. */
+/* Makes a manager at a place, with a root; returns the root. */
 static bs_node begin_manager(bs_manager *m, uint32_t detect) {
   DONE(make_manager(m, detect, BS_SLOTS));
   return DONE(bs_add_inner(m, NULL, 0)).node;
@@ -51,7 +51,7 @@ static bs_txn begin(bs_manager *m) {
   return DONE(bs_begin(m)).txn;
 }
 
-/* A file under a root with one index of two intervals, parted at 100; in one of records a record in each. */
+/* A file under a root with one index of two intervals, parted at 100; a file of records has a record in each. */
 struct file {
   bs_node root, file, index, below, above, low, high;
 };
@@ -153,7 +153,7 @@ static bs_counts counts_of(const bs_manager *m) {
   return counts;
 }
 
-/* A member that fits passes who waits, and is counted where that raised its mode. */
+/* A compatible conversion passes waiters, and is counted if it raised the mode. */
 static void a_conversion_passes(void) {
   bs_manager m = BS_NO_MANAGER_HERE;
   bs_node root = begin_manager(&m, BS_AT_BLOCK);
@@ -192,7 +192,7 @@ static void a_deadlock_has_a_victim(void) {
   DONE(bs_end(&m));
 }
 
-/* Two young readers hold what an old writer asks for, and wait for what it holds: who falls by a choice. */
+/* Two young readers hold what an old writer requests, and wait for what it holds: the victim depends on the choice. */
 static bs_status asks_in_their_way(uint32_t choice) {
   bs_manager m = BS_NO_MANAGER_HERE;
   bs_options options = { 0, 0, 0, 0, 0 };
@@ -387,7 +387,7 @@ static void a_record_is_adopted(void) {
   DONE(bs_end(&m));
 }
 
-/* Behind the first row that had a node a file gets no index. */
+/* After the first row that had a node a file gets no index. */
 static void an_index_over_rows(void) {
   bs_manager m = BS_NO_MANAGER_HERE;
   bs_node root = begin_manager(&m, BS_AT_BLOCK), file = DONE(bs_add_file(&m, &root, 1)).node;
@@ -430,7 +430,7 @@ static bool is_as(bs_manager *m, const struct seen *before) {
   return memcmp(&now, before, sizeof now) == 0 && told.count == 0;
 }
 
-/* What is held above a row that has this key. */
+/* Locks what is needed above a row with this key. */
 static void lock_above(bs_manager *m, bs_txn t, struct file f, uint64_t key) {
   DONE(bs_lock_path(m, t, f.file, BS_IX, &told));
   DONE(bs_lock_path(m, t, key < 100 ? f.below : f.above, BS_IX, &told));
@@ -440,7 +440,7 @@ static bs_reply ask_row(bs_manager *m, bs_txn t, struct file f, uint64_t number,
   return bs_lock_row(m, t, f.file, number, &key, 1, mode, &told);
 }
 
-/* A row with its key, and with what is held above it. */
+/* Locks a row with its key, after what is needed above it. */
 static bs_reply lock_row(bs_manager *m, bs_txn t, struct file f, uint64_t number, uint64_t key, bs_mode mode) {
   lock_above(m, t, f, key);
   return ask_row(m, t, f, number, key, mode);
@@ -476,7 +476,8 @@ static void a_row_by_its_number(void) {
   DONE(bs_end(&m));
 }
 
-/* By its node a row is locked and unlocked as any record. Then the node stands, and goes when the row is let go. */
+/* By its node a row is locked and unlocked as any record. The node then stays, and is removed when the row is let
+ * go. */
 static void a_row_by_its_node(void) {
   bs_manager m = BS_NO_MANAGER_HERE;
   struct file f = begin_rows(&m);
@@ -514,7 +515,7 @@ static void a_row_is_waited_for(void) {
   DONE(bs_end(&m));
 }
 
-/* A row is locked by the node that it has, and whether the keys are the node's own is said behind the grant. */
+/* A row is locked by the node that it has; after the grant a call says whether the keys are the node's own. */
 static void a_row_with_other_keys(void) {
   bs_manager m = BS_NO_MANAGER_HERE;
   struct file f = begin_rows(&m);
@@ -539,7 +540,7 @@ static void a_row_with_other_keys(void) {
   DONE(bs_end(&m));
 }
 
-/* A node that nobody holds or waits for is another's where the keys are others. */
+/* A node that nobody holds or waits for is replaced if the keys are others. */
 static void a_row_whose_node_stands(void) {
   bs_manager m = BS_NO_MANAGER_HERE;
   struct file f = begin_rows(&m);
@@ -561,7 +562,8 @@ static void a_row_whose_node_stands(void) {
   DONE(bs_end(&m));
 }
 
-/* A file is of records or of rows. The other calls are refused before all else, whatever they are given. */
+/* A file is of records or of rows. The calls of the other kind are refused before all else, whatever their
+ * arguments. */
 static void files_of_two_kinds(void) {
   static const uint64_t keys[2] = { 70, 80 };
   bs_manager m = BS_NO_MANAGER_HERE;
@@ -594,7 +596,7 @@ static void files_of_two_kinds(void) {
   DONE(bs_end(&m));
 }
 
-/* A refused call about a row changes nothing: no count, no board, no node, and not that its file may get an index. */
+/* A refused call about a row changes nothing: no count, no board, no node, and the file may still get an index. */
 static void rows_are_refused(void) {
   static const uint64_t key = 70;
   bs_manager m = BS_NO_MANAGER_HERE;
@@ -620,7 +622,7 @@ static void rows_are_refused(void) {
   WANT(bs_add_row_file(&m, &f.root, 1).status == BS_NO_MANAGER);
 }
 
-/* The same where the row has a node, which stays. */
+/* The same if the row has a node, which stays. */
 static void rows_with_nodes_are_refused(void) {
   static const uint64_t key = 70;
   bs_manager m = BS_NO_MANAGER_HERE;
@@ -667,7 +669,7 @@ static void a_deadlock_over_rows(void) {
   DONE(bs_end(&m));
 }
 
-/* The asker is granted by the fall of another, who is told, and hears that the keys are others. */
+/* The requester is granted because another becomes a victim, which is told; and it is told that the keys are others. */
 static void other_keys_by_the_fall_of_another(void) {
   bs_manager m = BS_NO_MANAGER_HERE;
   bs_node root = begin_manager(&m, BS_AT_BLOCK), other = DONE(bs_add_inner(&m, NULL, 0)).node, row;
@@ -688,8 +690,8 @@ static void other_keys_by_the_fall_of_another(void) {
   DONE(bs_end(&m));
 }
 
-/* A row that is inserted or deleted is locked in X until its transaction ends, so that nobody gets it or its number
- * before, be that a commit or an abort. */
+/* A row that is inserted or deleted is locked in X until its transaction ends, by a commit or an abort; before that
+ * nobody gets the row or its number. */
 static void rows_come_and_go(void) {
   bs_manager m = BS_NO_MANAGER_HERE;
   struct file f = begin_rows(&m);
@@ -715,7 +717,7 @@ static void rows_come_and_go(void) {
   DONE(bs_end(&m));
 }
 
-/* A file is held whole: its rows go, but for one that somebody else reads. */
+/* A file is held whole: its rows are let go, except one that another transaction reads. */
 static void an_escalation_of_rows(void) {
   bs_manager m = BS_NO_MANAGER_HERE;
   struct file f = begin_rows(&m);
@@ -750,7 +752,8 @@ static void an_escalation(void) {
   DONE(bs_end(&m));
 }
 
-/* What was locked since goes, and who waits for it is told. What was had by then stays, as it was raised since. */
+/* What was locked since is released, and its waiters are told. What was held before stays, in the mode to which it was
+ * raised. */
 static void a_savepoint(void) {
   bs_manager m = BS_NO_MANAGER_HERE;
   bs_node root = begin_manager(&m, BS_AT_BLOCK);
@@ -801,7 +804,7 @@ static void a_savepoint_before_a_raise(void) {
   DONE(bs_end(&m));
 }
 
-/* Where a lock of before it is given back, fewer go than were locked since, and none that was had by then. */
+/* If a lock from before it was released, fewer nodes are released than were locked since, and none from before. */
 static void a_savepoint_that_is_spoilt(void) {
   bs_manager m = BS_NO_MANAGER_HERE;
   bs_node root = begin_manager(&m, BS_AT_BLOCK), others[4];
@@ -819,7 +822,7 @@ static void a_savepoint_that_is_spoilt(void) {
   DONE(bs_end(&m));
 }
 
-/* A savepoint that is made during a wait counts that wait: a cancel of it spoils the savepoint. */
+/* A savepoint made during a wait counts that wait: a cancel of that wait spoils the savepoint. */
 static void a_savepoint_of_a_wait(void) {
   bs_manager m = BS_NO_MANAGER_HERE;
   bs_node root = begin_manager(&m, BS_AT_BLOCK), others[3];
@@ -838,7 +841,8 @@ static void a_savepoint_of_a_wait(void) {
   DONE(bs_end(&m));
 }
 
-/* A row whose last transaction locked it by its node alone keeps the node, until one that asked by number ends. */
+/* A row whose last transaction locked it only by its node keeps the node, until one that requested it by number
+ * ends. */
 static void a_row_that_is_locked_by_its_node(void) {
   bs_manager m = BS_NO_MANAGER_HERE;
   struct file f = begin_rows(&m);
@@ -914,7 +918,7 @@ static void a_file_moves(void) {
   DONE(bs_end(&m));
 }
 
-/* Takes the records of a file away, whose file and index the transaction holds. */
+/* Deletes the records of a file; the transaction holds the file and its index. */
 static void delete_records(bs_manager *m, bs_txn t, struct file f) {
   lock_path(m, t, f, f.below);
   DONE(bs_lock(m, t, f.above, BS_IX, &told));
@@ -941,7 +945,7 @@ static struct unable make_unable(bs_manager *m) {
   return u;
 }
 
-/* A drop is refused in this order, and by what stands below each kind of node. */
+/* A drop is refused in this order, and for what is below each kind of node. */
 static void a_drop_is_refused(void) {
   bs_node nothing = { 0, 0 };
   bs_manager m = BS_NO_MANAGER_HERE;
@@ -962,7 +966,7 @@ static void a_drop_is_refused(void) {
   DONE(bs_lock(&m, a, root, BS_X, &told));
   DONE(bs_lock(&m, a, f.index, BS_X, &told));
   WANT(bs_drop(&m, a, root, &told).status == BS_HAS_CHILDREN);
-  WANT(bs_drop(&m, a, f.index, &told).status == BS_NEED_EXCLUSIVE); /* For want of its file. */
+  WANT(bs_drop(&m, a, f.index, &told).status == BS_NEED_EXCLUSIVE); /* Its file is not locked. */
   DONE(bs_lock(&m, a, f.file, BS_X, &told));
   WANT(bs_drop(&m, a, f.index, &told).status == BS_FILE_IN_USE);
   WANT(bs_drop(&m, a, f.file, &told).status == BS_FILE_IN_USE);
@@ -976,7 +980,7 @@ static void a_drop_is_refused(void) {
   DONE(bs_end(&m));
 }
 
-/* Bounds that fall, so that what is refused for another reason is so before these are looked at. */
+/* Bounds that fall, so that any other refusal comes before that of the bounds. */
 static bs_reply index_falling(bs_manager *m, bs_txn t, const bs_node *parents, bs_node file) {
   static const uint64_t falling[2] = { 2, 1 };
   return bs_index_by(m, t, parents, 2, file, falling, 2);
@@ -1020,7 +1024,7 @@ static void an_index_by_is_refused(void) {
   DONE(bs_end(&m));
 }
 
-/* Whoever waits for a node that is dropped is told so. Another node may have its key then, and none its name. */
+/* A waiter for a node that is dropped is told so. Another node may have its key later, but none its name. */
 static void a_node_is_dropped(void) {
   bs_manager m = BS_NO_MANAGER_HERE;
   bs_node root = begin_manager(&m, BS_AT_BLOCK), file = DONE(bs_add_file(&m, &root, 1)).node, next;
@@ -1047,7 +1051,8 @@ static void a_node_is_dropped(void) {
   DONE(bs_end(&m));
 }
 
-/* The intervals of an index get finer under the locks of one transaction, which holds the new index to its end. */
+/* The intervals of an index become finer under the locks of one transaction, which holds the new index until it
+ * ends. */
 static void an_index_is_made_again(void) {
   static const uint64_t finer[3] = { 50, 100, 150 };
   bs_manager m = BS_NO_MANAGER_HERE;
@@ -1073,8 +1078,8 @@ static void an_index_is_made_again(void) {
   DONE(bs_end(&m));
 }
 
-/* Rows that have nodes are in the way of a drop, whoever left them, until they are let go. What is gone is no file of
- * rows any more, also where another file has its key. */
+/* Rows that have nodes refuse a drop, whoever left them, until they are let go. A file that is gone is no file of rows
+ * any more, even if another file has its key. */
 static void a_file_of_rows_is_dropped(void) {
   bs_manager m = BS_NO_MANAGER_HERE;
   struct file f = begin_rows(&m);
@@ -1110,8 +1115,8 @@ static void a_file_of_rows_is_dropped(void) {
   DONE(bs_end(&m));
 }
 
-/* Who reads a row by one index holds nothing on the file, nor on another index. So the row is in the way, though both
- * of these are held in X; and nobody comes by the first index, once it is held too. */
+/* A transaction that reads a row by one index holds nothing on the file, nor on another index. So the row refuses the
+ * drop, though both of these are held in X; and nobody reads by the first index after that is held too. */
 static void a_reader_by_another_index(void) {
   static const uint64_t keys[2] = { 70, 1 };
   bs_manager m = BS_NO_MANAGER_HERE;
@@ -1172,8 +1177,8 @@ static void stale_names(void) {
   DONE(bs_end(&m));
 }
 
-/* A name with a slot that is none, beside a transaction that has its age: each call with it is refused as one with the
- * name of a transaction that has ended, in the same order among the refusals, and nothing changes. */
+/* A name with a slot that does not exist, and the age of a living transaction: each call with it is refused as one with
+ * the name of a transaction that has ended, in the same order of refusals, and nothing changes. */
 static void no_transaction_by(bs_manager *m, bs_txn none, const struct file *f) {
   const uint64_t key = 1;
   bs_node nothing = { 0, 0 };
@@ -1203,7 +1208,7 @@ static void no_transaction_by(bs_manager *m, bs_txn none, const struct file *f) 
   WANT(bs_lock_at(m, none, 0).status == BS_NO_SUCH_TXN && bs_waits_for(m, none).status == BS_NO_SUCH_TXN);
 }
 
-/* The same of calls about rows. */
+/* The same for calls about rows. */
 static void no_row_by(bs_manager *m, bs_txn none, const struct file *f) {
   const uint64_t key = 50;
   WANT(bs_lock_row(m, none, f->file, 7, &key, 1, BS_X, &told).status == BS_NO_SUCH_TXN);
@@ -1252,7 +1257,7 @@ static void options_are_taken(void) {
   bs_manager m = BS_NO_MANAGER_HERE, usual = BS_NO_MANAGER_HERE;
   bs_options options = { 0, 0, 0, 0, 0 }, was = options;
   bs_node root;
-  DONE(bs_make(&usual, &options)); /* 0 is as usual in each of them */
+  DONE(bs_make(&usual, &options)); /* 0 means the default in each of them */
   was = limits_of(&usual);
   WANT(was.detect == BS_AT_BLOCK && was.victims == BS_YOUNGEST && was.transactions == BS_SLOTS);
   WANT(was.nodes == 65536 && was.bounds == 256);
@@ -1279,7 +1284,7 @@ static void options_are_taken(void) {
   WANT(bs_limits(&usual, &was).status == BS_NO_MANAGER && was.bounds == 0);
 }
 
-/* A maker may know fewer options than the library, or more. */
+/* A caller may know fewer options than the library, or more. */
 static void options_of_another_size(void) {
   struct { bs_options known; uint32_t more; } longer = { { 0, 0, 0, 9, 7 }, 5 };
   WANT(bs_call_chosen(&longer.known, sizeof longer).bounds == 7);
@@ -1288,7 +1293,7 @@ static void options_of_another_size(void) {
   WANT(bs_call_chosen(NULL, sizeof longer).nodes == 65536);
 }
 
-/* A manager that is made by options has indexes of so many bounds, and of no more. */
+/* A manager made with these options has indexes of this many bounds, and of no more. */
 static void has_bounds(const bs_options *options, uint32_t most) {
   bs_manager m = BS_NO_MANAGER_HERE;
   bs_options was;
@@ -1349,7 +1354,7 @@ static void intervals_are_nodes(void) {
   DONE(bs_end(&m));
 }
 
-/* A place that is a constant, and so never had a manager, is asked: nothing is written there. */
+/* A constant place, which so never had a manager, is asked: nothing is written there. */
 static void a_constant_place(void) {
   static const bs_manager never = BS_NO_MANAGER_HERE;
   bs_node node = { 0, 0 };
@@ -1376,7 +1381,7 @@ static void a_constant_place(void) {
   WANT(bs_last_deadlock(&never, &last).status == BS_NO_MANAGER && bs_counters(&never, &counts).status == BS_NO_MANAGER);
 }
 
-/* A name that names nothing is refused so, whatever is asked of it; where there are fewer is another answer. */
+/* A name that names nothing is refused so, whatever the question; that there are fewer is another answer. */
 static void names_that_name_nothing(void) {
   bs_node nothing = { 0, 0 };
   bs_manager m = BS_NO_MANAGER_HERE;
@@ -1420,7 +1425,7 @@ static void places_without_a_manager(void) {
   DONE(bs_end(&m));
 }
 
-/* What an earlier call told is not told again by one that the header refuses. */
+/* A call that the header refuses leaves no notices of an earlier call. */
 static bool is_refused_and_empty(bs_reply reply) {
   bool is_empty = told.count == 0;
   told.count = 1;
@@ -1485,7 +1490,7 @@ static void everybody_is_told(void) {
   DONE(bs_end(&m));
 }
 
-/* A call whose growth is refused changes nothing, and is done when it is asked again. */
+/* A call whose allocation is refused changes nothing, and is done when it is repeated. */
 static bs_node made_in_spite(bs_manager *m, bs_node root) {
   uint64_t before = accepted_by(m), nodes = bs_len(m).count;
   bs_reply made = bs_add_inner(m, &root, 1);
@@ -1506,7 +1511,7 @@ static void locked_in_spite(bs_manager *m, bs_txn t, bs_node node) {
   DONE(locked);
 }
 
-/* Whether there is an nth growth, which is refused. */
+/* Whether there is an nth allocation, which is refused. */
 static bool refuses(long n) {
   bs_manager m = BS_NO_MANAGER_HERE;
   bs_node root = begin_manager(&m, BS_AT_BLOCK);
@@ -1523,7 +1528,7 @@ static bool refuses(long n) {
   return refused;
 }
 
-/* One more than there are growths, each of which was refused in turn. */
+/* One more than the number of allocations, each of which was refused in turn. */
 static long growths_of(bool (*refuses_nth)(long n)) {
   long n = 1;
   while (refuses_nth(n)) n++;
@@ -1545,7 +1550,7 @@ static bs_node index_in_spite(bs_manager *m, bs_txn t, bs_node root, bs_node fil
   return DONE(made).node;
 }
 
-/* A drop takes no memory: a growth that is refused is refused behind it. */
+/* A drop takes no memory: a refusal of an allocation is still due after it. */
 static void drop_without_memory(bs_manager *m, bs_txn t, bs_node node) {
   long left = refused_growth;
   refused_growth = 1;
@@ -1554,7 +1559,7 @@ static void drop_without_memory(bs_manager *m, bs_txn t, bs_node node) {
   refused_growth = left;
 }
 
-/* Whether there is an nth growth of indexes that are made and dropped, which is refused. */
+/* Whether there is an nth allocation of indexes that are made and dropped, which is refused. */
 static bool refuses_an_index(long n) {
   bs_manager m = BS_NO_MANAGER_HERE;
   bs_node root = begin_manager(&m, BS_AT_BLOCK), files[8];
@@ -1585,8 +1590,8 @@ static bs_txn begin_writer(bs_manager *m, struct file f) {
   return t;
 }
 
-/* A row whose growth is refused is as it was, and so is all else; it is locked, or waited for, when it is asked for
- * again. */
+/* A row whose allocation is refused is unchanged, and so is all else; it is locked, or waits, when the call is
+ * repeated. */
 static void row_in_spite(bs_manager *m, bs_txn t, struct file f, uint64_t number, uint64_t key, bs_mode mode,
                          bs_status end) {
   bs_node row = bs_row_node(m, f.file, number).node;
@@ -1599,8 +1604,8 @@ static void row_in_spite(bs_manager *m, bs_txn t, struct file f, uint64_t number
   WANT(reply.status == end && same_node(reply.node, bs_row_node(m, f.file, number).node));
 }
 
-/* Whether there is an nth growth among these rows, which is refused: rows that get a node, that get another one, that
- * are held already, that two read, and that are waited for. */
+/* Whether there is an nth allocation among these rows, which is refused: rows that get a node, that get another one,
+ * that are already held, that two read, and that are waited for. */
 static bool refuses_row(long n) {
   bs_manager m = BS_NO_MANAGER_HERE;
   struct file f = begin_rows(&m);
@@ -1632,7 +1637,7 @@ static void refused_growths_of_rows(void) {
   WANT(growths_of(refuses_row) > 8);
 }
 
-/* The same of files of rows. */
+/* The same for files of rows. */
 static bool refuses_row_file(long n) {
   bs_manager m = BS_NO_MANAGER_HERE;
   bs_node root = begin_manager(&m, BS_AT_BLOCK);
@@ -1659,7 +1664,7 @@ static void refused_growths_of_row_files(void) {
   WANT(growths_of(refuses_row_file) > 2);
 }
 
-/* The bytes that are out once a thousand rows are locked from this one on; and they are released. */
+/* The bytes in use after a thousand rows are locked, from this one on; and they are released. */
 static long bytes_of_rows(bs_manager *m, struct file f, uint64_t from) {
   static const uint64_t key = 70;
   bs_txn a = begin_writer(m, f);
@@ -1673,8 +1678,8 @@ static long bytes_of_rows(bs_manager *m, struct file f, uint64_t from) {
   return locked;
 }
 
-/* A hundred thousand rows of which a thousand are locked at a time take the memory of a thousand, or twice that: a map
- * from which names went may double once. */
+/* A hundred thousand rows, of which a thousand are locked at a time, take the memory of a thousand, or twice that: a
+ * map from which names were removed may double once. */
 static void rows_that_nobody_locks(void) {
   bs_manager m = BS_NO_MANAGER_HERE;
   struct file f = begin_rows(&m);
@@ -1759,14 +1764,14 @@ static void a_board_shows_a_cycle(void) {
   WANT(bs_read_board(&m, &board).status == BS_NO_MANAGER);
 }
 
-/* The set has this slot alone, and each slot its own bit. */
+/* The set has only this slot, and each slot its own bit. */
 static void has_one(bs_slots set, size_t slot) {
   size_t i;
   for (i = 0; i < BS_SLOTS; i++) WANT(bs_has(set, (uint32_t)i) == (i == slot));
   for (i = 0; i < BS_SLOTS / 64; i++) WANT(set.words[i] == (i == slot / 64 ? (uint64_t)1 << slot % 64 : 0));
 }
 
-/* A board is read whole: in a ring of all slots each waits for the next, beyond the first 64 too. */
+/* A board is read whole: in a ring of all slots each waits for the next, also from slot 64 on. */
 static void a_ring_of_all(void) {
   static bs_board board;
   bs_node nodes[BS_SLOTS];

@@ -1,6 +1,6 @@
 /*
- * threads.h: what the tests of a shared table have in common: wants that end the program, a watchdog, and threads
- * that sleep for a lock.
+ * threads.h: what the tests of a shared table have in common: checks that end the program, a watchdog, and threads that
+ * sleep for a lock.
  */
 #ifndef THREADS_H
 #define THREADS_H
@@ -15,7 +15,7 @@
 /* The story that is played, for messages. */
 static const char *story = "";
 
-/* Other threads may run still: one line, and no end of the program but at once. */
+/* Other threads may still run: it prints one line, and ends the program at once. */
 static void wanted(bool holds, const char *what, const char *file, int line) {
   if (holds) return;
   fprintf(stderr, "%s:%d: %s: not so: %s\n", file, line, story, what);
@@ -33,7 +33,7 @@ static bs_reply answered(bs_reply reply, bs_status status, const char *call, con
 #define ANSWERS(status, call) answered((call), (status), #call, __FILE__, __LINE__)
 #define DONE(call) ANSWERS(BS_DONE, call)
 
-/* What hangs ends the program with status 1 and the name of the story. */
+/* A program that hangs ends with status 1 and the name of the story. */
 static void bark(int number) {
   static const char text[] = ": hangs\n";
   ssize_t written = write(2, story, strlen(story)) + write(2, text, sizeof text - 1);
@@ -41,13 +41,13 @@ static void bark(int number) {
   _Exit(written > 0 ? 1 : 2);
 }
 
-/* The watchdog barks where it is not fed for so many seconds. */
+/* The watchdog barks if it is not fed for this many seconds. */
 static void feed(unsigned seconds) {
   signal(SIGALRM, bark);
   alarm(seconds);
 }
 
-/* Asks a question of the manager that a table lends. What it is asked about is no such question itself. */
+/* Asks a question of the manager that a table lends. Its arguments must not be such a question. */
 static __thread __attribute__((unused)) bs_reply asked;
 static __thread __attribute__((unused)) bs_found found;
 
@@ -75,7 +75,7 @@ static inline void nap(void) {
   nanosleep(&time, NULL);
 }
 
-/* The time in so many microseconds. */
+/* The time in this many microseconds. */
 static struct timespec moment_in(long microseconds) {
   struct timespec moment;
   clock_gettime(CLOCK_MONOTONIC, &moment);

@@ -1,14 +1,13 @@
 /*
- * Twins: two managers side by side do the same random work of four transactions, on the rows of a file with two
- * indexes. In the one each row is locked by its number, and has a node only while it is locked. In the other each row
- * is a record that exists from the start. They give the same answers and notices, but for the names of rows' nodes.
- * After each step the transaction holds each row in the same mode in both, and has the same effective mode on it. Now
- * and then a transaction names keys that are not the row's own: the row is locked by the node that it has, and the
- * answer says so.
+ * Twins: two managers do the same random work of four transactions, on the rows of a file with two indexes. In the one
+ * each row is locked by its number, and has a node only while it is locked. In the other each row is a record that
+ * exists from the start. They give the same answers and notices, except for the names of rows' nodes. After each step
+ * the transaction holds each row in the same mode in both, and has the same effective mode on it. Now and then a
+ * transaction names keys that are not the row's own: the row is locked by the node that it has, and the answer says so.
  *
- *   twins [STEPS]   how many steps each play has, 6000 where none is given
+ *   twins [STEPS]   how many steps each play has, 6000 if none is given
  *
- * The plays have both ways of detection and both choices of victims. By their end each kind of work has come up.
+ * The plays have both ways of detection and both choices of victims. By their end each kind of work has occurred.
  */
 #include "burlapslate.h"
 #include "pcg.h"
@@ -17,11 +16,11 @@
 #include <stdio.h>
 #include <stdlib.h>
 
-/* How many rows there are, on how many of them is worked, below which number keys are, and how many transactions live
- * at once. Below so many nodes no row has one: a root, the file, two indexes and their five intervals. */
+/* How many rows there are, how many of them are used, the limit of the keys, and how many transactions live at once. No
+ * row has a node while there are this many: a root, the file, two indexes and their five intervals. */
 enum { ROWS = 20, SOUGHT = 6, KEYS = 30, TXNS = 4, SITE_NODES = 9 };
 
-/* The nodes that stand in both managers. */
+/* The nodes that exist in both managers. */
 typedef struct site {
   bs_node db, file, first, second;
 } site;
@@ -31,13 +30,13 @@ typedef struct row_keys {
   uint64_t of[2];
 } row_keys;
 
-/* A row, by its number, and what is said of its keys. */
+/* A row, by its number, and the keys that are named for it. */
 typedef struct line {
   size_t place;
   row_keys keys;
 } line;
 
-/* What a transaction asks for, of a row or of a node that stands in both. */
+/* What a transaction does, to a row or to a node that exists in both. */
 typedef enum act_kind { LOCK, UNLOCK, REKEY, RELEASE, ESCALATE, SETTLE, CANCEL, COMMIT, ABORT } act_kind;
 
 typedef struct act {
@@ -48,7 +47,7 @@ typedef struct act {
   uint64_t key;
 } act;
 
-/* What comes up in each play. */
+/* What occurs in each play. */
 typedef enum sight {
   A_WAIT, KEYS_OF_ANOTHER, A_REKEY, AN_ESCALATION, A_HELD_CHILD, A_LATER_GRANT, A_VICTIM, A_MOVE, SIGHTS
 } sight;
@@ -131,7 +130,7 @@ static void fill(void) {
   DONE(bs_commit(&standing, txn, &told));
 }
 
-/* Makes both managers, in which as many transactions have begun. */
+/* Makes both managers, and begins as many transactions in each. */
 static void open_twins(uint32_t detect, uint32_t victims) {
   bs_options options = options_of(detect, victims, TXNS);
   site other;
@@ -144,7 +143,7 @@ static void open_twins(uint32_t detect, uint32_t victims) {
   DONE(bs_commit(&named, DONE(bs_begin(&named)).txn, &told));
 }
 
-/* The node of a row that is locked by its number; the name that names nothing where it has none. */
+/* The node of a row that is locked by its number; if it has none, the name that names nothing. */
 static bs_node node_of(size_t place) {
   return bs_row_node(&named, at.file, place).node;
 }
@@ -153,7 +152,7 @@ static bool has_node(size_t place) {
   return bs_row_node(&named, at.file, place).status == BS_DONE;
 }
 
-/* The row of a node among these; ROWS where it is that of none. */
+/* The row of a node among these; ROWS if it has none. */
 static size_t place_by_number(bs_node node) {
   size_t place = 0;
   while (place < ROWS && !(has_node(place) && same_node(node_of(place), node))) place++;
@@ -167,7 +166,7 @@ static size_t place_of_record(bs_node node) {
 }
 
 /* ------------------------------------------------------------------------------------------------
- * Both are asked, and must answer alike.
+ * Both get each command, and must answer alike.
  */
 
 /* What was told in one manager is told in the other; a grant names the same row, or the same node. */
@@ -196,7 +195,7 @@ static bs_txn begin(void) {
   return came;
 }
 
-/* Locks along the path to a node that stands in both. Whether it was granted. */
+/* Locks along the path to a node that exists in both. Returns whether it was granted. */
 static bool reaches(bs_txn txn, bs_node node, bs_mode mode) {
   bs_reply came = bs_lock_path(&named, txn, node, mode, &told);
   bs_reply wants = bs_lock_path(&standing, txn, node, mode, &heard);
@@ -205,7 +204,8 @@ static bool reaches(bs_txn txn, bs_node node, bs_mode mode) {
   return came.status == BS_DONE;
 }
 
-/* Asks the manager whose rows have numbers. Of a lock it is seen whether the keys that were said are the node's own. */
+/* Makes the call with the manager whose rows have numbers. For a lock it notes whether the named keys are the node's
+ * own. */
 static bs_reply answer_by_number(bs_txn txn, const act *a) {
   bool has_others = has_node(a->row.place) && (bs_key(&named, node_of(a->row.place), 0).count != a->row.keys.of[0] ||
                                                bs_key(&named, node_of(a->row.place), 1).count != a->row.keys.of[1]);
@@ -219,7 +219,7 @@ static bs_reply answer_by_number(bs_txn txn, const act *a) {
   return reply;
 }
 
-/* Asks the manager whose rows all stand. */
+/* Makes the call with the manager whose rows all exist. */
 static bs_reply answer_by_record(bs_txn txn, const act *a) {
   bs_node record = records[a->row.place];
   if (a->kind == UNLOCK) return bs_unlock(&standing, txn, record, &heard);
@@ -227,7 +227,7 @@ static bs_reply answer_by_record(bs_txn txn, const act *a) {
   return bs_lock(&standing, txn, record, a->mode, &heard);
 }
 
-/* Asks a manager what is of no row. */
+/* Makes a call that is about no row. */
 static bs_reply answer_of_nodes(bs_manager *m, bs_txn txn, const act *a, bs_notices *list) {
   switch (a->kind) {
     case RELEASE: return bs_unlock(m, txn, a->node, list);
@@ -239,7 +239,7 @@ static bs_reply answer_of_nodes(bs_manager *m, bs_txn txn, const act *a, bs_noti
   }
 }
 
-/* Whether a reply names a node that is a row's: that of a lock that is not refused, and a child that is held. */
+/* Whether a reply names the node of a row: that of a lock that is not refused, and a held child. */
 static bool names_row(const act *a, bs_reply reply) {
   return reply.status == BS_HELD_CHILD || (a->kind == LOCK && reply.status != BS_NEED_PARENTS);
 }
@@ -258,8 +258,8 @@ static void sees(const act *a, bs_reply reply) {
   if (a->kind == ESCALATE && reply.released > 0) seen[AN_ESCALATION] = true;
 }
 
-/* Asks both, and answers what the one with standing rows does. A row that has no node is held by nobody: to unlock it
- * is to unlock a node that is gone. */
+/* Makes the call with both, and answers as the one whose rows all exist. A row without a node is held by nobody: to
+ * unlock it is to unlock a node that is gone. */
 static bs_status does(bs_txn txn, act a) {
   bool is_of_row = a.kind == LOCK || a.kind == UNLOCK || a.kind == REKEY;
   bool is_unnamed = a.kind == UNLOCK && !has_node(a.row.place);
@@ -297,7 +297,7 @@ static bool same_keys(row_keys one, row_keys other) {
   return one.of[0] == other.of[0] && one.of[1] == other.of[1];
 }
 
-/* Locks a row by some keys. Where it has a node, both lock that, whatever the keys. Whether it was granted. */
+/* Locks a row by some keys. If it has a node, both lock that, whatever the keys. Returns whether it was granted. */
 static bool locks(bs_txn txn, line row, bs_mode mode) {
   line own = own_line(row.place);
   bool is_granted;
@@ -307,7 +307,7 @@ static bool locks(bs_txn txn, line row, bs_mode mode) {
   return is_granted;
 }
 
-/* Gives a row another key for the first or the second index. Where it has no node its engine asks nobody. */
+/* Gives a row another key for the first or the second index. If it has no node, its engine makes no call. */
 static void rekeys_to(bs_txn txn, size_t place, bool in_second, uint64_t key) {
   act a = act_on(REKEY, own_line(place), BS_NL);
   bs_status answered;
@@ -322,7 +322,7 @@ static void rekeys_to(bs_txn txn, size_t place, bool in_second, uint64_t key) {
   if (answered == BS_DONE) own_keys[place] = with_key(own_keys[place], in_second, key);
 }
 
-/* The transaction holds each row in one mode in both, and may do the same to it. */
+/* The transaction holds each row in the same mode in both, with the same effective mode. */
 static void holds_alike(bs_txn txn) {
   size_t place;
   for (place = 0; place < ROWS; place++) {
@@ -342,7 +342,7 @@ static size_t draw(size_t below) {
   return pcg_below(&rng, below);
 }
 
-/* A node that stands in both. */
+/* A node that exists in both. */
 static bs_node some_node(void) {
   size_t drawn = draw(16);
   if (drawn == 0) return at.db;
@@ -351,7 +351,7 @@ static bs_node some_node(void) {
   return drawn == 5 ? at.second : DONE(bs_interval(&named, at.first, drawn % 3)).node;
 }
 
-/* The row with the keys that are said of it: now and then others than its own. */
+/* The row with the keys that are named for it: now and then others than its own. */
 static line said_of(line row) {
   uint64_t key;
   if (draw(4) != 0) return row;
@@ -360,7 +360,7 @@ static line said_of(line row) {
   return row;
 }
 
-/* Reads a row by one of its parents, which it answers. */
+/* Reads a row by one of its parents, which it returns. */
 static bs_node reads(bs_txn txn, size_t place) {
   line row = own_line(place);
   bs_node parents[3], above;
@@ -370,7 +370,7 @@ static bs_node reads(bs_txn txn, size_t place) {
   return above;
 }
 
-/* Locks all that is above a row with these keys in BS_IX. Whether it was granted. */
+/* Locks all that is above a row with these keys in BS_IX. Returns whether it was granted. */
 static bool may_write(bs_txn txn, row_keys keys) {
   bs_node parents[3];
   size_t i = 0;
@@ -379,13 +379,13 @@ static bool may_write(bs_txn txn, row_keys keys) {
   return i == 3;
 }
 
-/* Writes a row. Whether it was granted. */
+/* Writes a row. Returns whether it was granted. */
 static bool writes(bs_txn txn, size_t place) {
   line row = own_line(place), said = said_of(row);
   return may_write(txn, row.keys) && locks(txn, said, BS_X);
 }
 
-/* Gives a row another key, mostly as one that writes it and both places. */
+/* Gives a row another key, mostly in a transaction that writes it and both places. */
 static void rekeys(bs_txn txn, size_t place) {
   uint64_t key = draw(KEYS);
   bool in_second = draw(2) == 0;
@@ -398,7 +398,7 @@ static void ends(size_t who, act_kind kind) {
   if (does(txns[who], act_of(kind)) == BS_DONE) txns[who] = begin();
 }
 
-/* What takes no locks above before. */
+/* Calls that need no locks above. */
 static void asks_one(bs_txn txn, size_t place) {
   bs_node node = some_node();
   switch (draw(6)) {
@@ -449,7 +449,7 @@ static void ends_all(void) {
   DONE(bs_end(&standing));
 }
 
-/* So many steps, in which all has come up. */
+/* This many steps, in which all has occurred. */
 static void play(uint32_t detect, uint32_t victims, unsigned long of, unsigned long count) {
   size_t i;
   seed = of;

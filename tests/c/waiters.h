@@ -63,7 +63,7 @@ static inline bs_txn begin_writer(void) {
 }
 
 /* ------------------------------------------------------------------------------------------------
- * Asks, and the function that hears their ends.
+ * Asks, and the callback that hears their ends.
  */
 
 /* What is heard of an ask: it is the word of the ask. */
@@ -73,19 +73,19 @@ struct heard {
   int place; /* its call was the how manieth of the story, from 0 on */
   bs_reply end;
   pthread_t by;
-  void (*does)(struct heard *h); /* what the function does then, or null */
+  void (*does)(struct heard *h); /* what the callback does then, or null */
 };
 
 static pthread_mutex_t ear = PTHREAD_MUTEX_INITIALIZER;
 static int calls;
 static int context_word;
-static __attribute__((unused)) bool is_ending; /* a table may end while functions are called */
+static __attribute__((unused)) bool is_ending; /* a table may end while callbacks run */
 
-/* How deep this thread is in calls of the function, and the ask that it makes at the moment. */
+/* How deep this thread is in calls of the callback, and the ask that it makes at the moment. */
 static __thread int depth;
 static __thread const struct heard *asking;
 
-/* The function finds the latch free, but a table that ends lends nothing. It is never called within itself, nor for an
+/* The callback finds the latch free, but a table that ends lends nothing. It is never called within itself, nor for an
  * ask whose call has not returned. */
 static inline void hear(void *context, bs_txn txn, bs_reply end, void *word) {
   struct heard *h = (struct heard *)word;
@@ -191,7 +191,7 @@ static inline bs_reply lock_row(bs_txn txn, uint64_t key, bs_mode mode, const st
   return bs_table_lock_row(table, txn, rows, ROW, &key, 1, mode, until);
 }
 
-/* A table with the store, whose function hears. */
+/* A table with the store, whose callback hears. */
 static inline void set_up(uint32_t detect) {
   static const uint64_t bound = 100, keys[2] = { LOW_KEY, HIGH_KEY };
   bs_txn t;
@@ -241,7 +241,7 @@ struct sleeper {
   const struct timespec *until;
   bool is_held_up;           /* the latch guards this, and those below, while the thread is in its call */
   size_t sleeps;             /* how often it has slept */
-  struct timespec slept_to;  /* and to which time at last, where it had one */
+  struct timespec slept_to;  /* and to which time at last, if it had one */
   bs_reply reply;
   pthread_t thread;
 };

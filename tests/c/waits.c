@@ -77,7 +77,7 @@ static int noted_gettime(clockid_t clock, struct timespec *time) {
   return 0;
 }
 
-/* So many threads are not started. */
+/* This many threads are not started. */
 static int refused_threads;
 
 static int noted_create(pthread_t *thread, const pthread_attr_t *attributes, void *(*run)(void *), void *arg) {
@@ -250,7 +250,7 @@ static void a_path_keeps_its_time_on_its_way(void) {
  * Times within one second.
  */
 
-/* A time in a full second and so many nanoseconds of it, which lies so many seconds ahead. */
+/* A time within a second: this many nanoseconds of a full second, which is this many seconds ahead. */
 static struct timespec time_within(time_t seconds, long nanoseconds) {
   struct timespec time = moment_in(0);
   time.tv_sec += seconds;
@@ -388,7 +388,7 @@ static void a_path_that_ended_takes_no_cancel(void) {
 
 enum { IN_LINE = 4 };
 
-/* A thread comes to sleep for a slot, as one of so many. Its time may be over: then it is held up before it leaves. */
+/* A thread enters the begin queue, the last of this many. Its time may be over: then it is held up before it leaves. */
 static void line_up(struct sleeper *s, size_t count, const struct timespec *until) {
   *s = sleeper_of(BY_BEGIN, bs_begun(), root, BS_NL);
   s->until = until;
@@ -402,7 +402,7 @@ static void leave_line(struct sleeper *s) {
   BACK(s, BS_TIMED_OUT);
 }
 
-/* The sleeper has the slot that this transaction gives up. */
+/* The sleeper begins in the slot that this transaction releases. */
 static bs_txn begins_behind(struct sleeper *s, bs_txn holder) {
   bs_txn next;
   DONE(bs_table_commit(table, holder, NULL));
@@ -411,8 +411,8 @@ static bs_txn begins_behind(struct sleeper *s, bs_txn holder) {
   return next;
 }
 
-/* Of four that sleep for a slot two leave, one after the other, and a fifth comes at some moment of that. The others
- * begin in their order, and the fifth begins last. */
+/* Of four begins that sleep for a slot two leave, one after the other, and a fifth arrives at some moment of that. The
+ * others begin in their order, and the fifth begins last. */
 static void two_leave(size_t first, size_t second, int moment) {
   struct timespec past = moment_in(0);
   struct sleeper all[IN_LINE + 1];
@@ -445,7 +445,7 @@ static void some_leave_the_line_while_one_comes(void) {
   }
 }
 
-/* The last one leaves while another comes, until nobody is in the line; and it begins anew. */
+/* The last one leaves while another arrives, until the begin queue is empty; and then it is used again. */
 static void a_line_ends_and_begins_anew(void) {
   struct timespec past = moment_in(0);
   struct sleeper one, two;
@@ -555,7 +555,7 @@ static void an_ask_ends_beside_other_words(void) {
   close_table();
 }
 
-/* A lock for an instant is given back in each slot, and one that stays is kept in each. */
+/* A lock for an instant is released in each slot, and one that stays is kept in each. */
 static void instants_in_all_slots(void) {
   static struct heard h[BS_SLOTS];
   bs_txn all[BS_SLOTS];
@@ -621,8 +621,8 @@ static void set_up_watched(bs_txn *older, bs_txn *younger) {
   await_idle();
 }
 
-/* Has a transaction wait for X on the root by a list, with each growth that is refused in turn, until one is refused
- * that is the board's alone. */
+/* A transaction waits for X on the root by a list, with each allocation refused in turn, until only that of the board
+ * is refused. */
 static void wait_unshown(bs_txn txn) {
   bs_command command = bs_do_at(BS_DO_LOCK, txn, root, BS_X);
   long n = 0;
@@ -635,7 +635,7 @@ static void wait_unshown(bs_txn txn) {
   ANSWERS(BS_WAITING, command.reply);
 }
 
-/* The board of the last wait could not be shown, for want of memory: the thread reads it, and ends the deadlock. */
+/* The board of the last wait could not be shown, for lack of memory: the thread reads it, and ends the deadlock. */
 static void a_thread_takes_no_old_board(void) {
   struct sleeper one;
   bs_txn older, younger;
@@ -668,7 +668,7 @@ static void a_thread_sleeps_between_waits(void) {
   close_table();
 }
 
-/* A thread that could not be started keeps no seat of a watcher, and its caller blocks no signals after the call. */
+/* A thread that could not be started does not count as a watcher, and its caller blocks no signals after the call. */
 static void a_thread_that_cannot_be_started(void) {
   bs_watcher watchers[BS_MOST_WATCHERS];
   bs_watcher none = BS_NO_WATCHER_HERE;
@@ -698,7 +698,7 @@ static void notes_signals(struct heard *h) {
   if (h->end.status == BS_VICTIM) DONE(bs_table_abort(table, h->txn, NULL));
 }
 
-/* In a call of the function the thread that watches blocks all signals, but those that a fault of its own raises. */
+/* In the callback the thread that watches blocks all signals, except those that a fault of its own raises. */
 static void a_thread_blocks_signals_but_its_faults(void) {
   static const int faults[] = { SIGSEGV, SIGBUS, SIGFPE, SIGILL, SIGTRAP };
   static const int others[] = { SIGHUP, SIGINT, SIGQUIT, SIGTERM, SIGUSR1, SIGUSR2, SIGALRM, SIGCHLD, SIGPIPE };
@@ -849,8 +849,8 @@ static void sets_off_others(struct heard *h) {
   }
 }
 
-/* Ends that are set off by the function come after it, in their order, by the same thread, and before the first call
- * returns; three deep and more. */
+/* Ends that the callback sets off come after it, in their order, by the same thread, and before the first call returns;
+ * three deep and more. */
 static void ends_set_off_ends(void) {
   static const int order[ENDS] = { 0, 1, 2, 3, 4, 5, 6, 7, 8, 9, 10, 11 };
   int i;
@@ -906,7 +906,7 @@ static void wait_again(int way, bs_txn txn, bs_node node, struct sleeper *s, str
   leave_waiting(&command);
 }
 
-/* The wait is cancelled: it has not come, whatever came before. */
+/* The wait is cancelled: it was not granted, whatever was before. */
 static void is_nothing_to(int way) {
   bool is_row = way == 1 || way == 4 || way == 7;
   struct sleeper s;
@@ -932,7 +932,8 @@ static void an_instant_of_before_is_nothing_to_a_wait(void) {
   for (way = 0; way < LATER_WAITS; way++) is_nothing_to(way);
 }
 
-/* A path that waits on its way where an instant came before is cancelled there, and does not continue. */
+/* A path that waits on its way, where a lock for an instant was granted before, is cancelled there, and does not
+ * continue. */
 static void an_instant_of_before_is_nothing_to_a_way(void) {
   struct sleeper s;
   struct heard h;
@@ -962,7 +963,7 @@ static void an_instant_of_before_is_nothing_to_a_way(void) {
   close_table();
 }
 
-/* What came for an instant is no answer to the next transaction of the slot, nor about another node. */
+/* A lock for an instant that was granted is no answer to the next transaction of the slot, nor about another node. */
 static void an_instant_is_of_its_transaction_and_node(void) {
   bs_txn holder, waiter, next;
   set_up(BS_AT_BLOCK);

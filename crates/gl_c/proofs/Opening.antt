@@ -1,4 +1,4 @@
--- A watcher comes: the publisher that it finds, and what C is answered.
+-- A new watcher: its publisher, and the reply to C.
 use Rattle.std.specs.Prelude.{◌≡◌, ◌⊎◌, ◌≤◌, ℕ, Bool, false, [], ◌∷◌, Option, Some, None, Result, Ok, Err, IfSome, IfNone, IfOk, is_some}
 use Rattle.std.proofs.Common.{refl, sym, subst, inl, inr, arith}
 use Rattle.gl_waits.specs.declared.board.Board.{Board}
@@ -15,8 +15,7 @@ use Rattle.gl_c.specs.Numbers.{done, too_many_watchers}
 use Rattle.gl_c.specs.answers.Replies.{refused_reply, status_reply}
 use Rattle.gl_c.specs.watchers.Watching.{Attends, Continues, Knows, Watches}
 
--- the publisher that a watcher finds or that is made for it is no newer than the board of now, of the manager's way of detection, and goes on from
--- what was shown
+-- the publisher that existed or was made for a watcher is no newer than the present snapshot, has the manager's way of detection, and continues what was shown
 pub record IsOpened (o : Option Strip) (board : Board) (detect : Detect) (p : Strip) : Type 0 where
   pub epoch : last_epoch 0 p.list ≤ board.epoch
   pub way : p.detect ≡ detect
@@ -42,7 +41,7 @@ opened (Some q) x p board detect is same first low way =
       goes_on = (p, refl, subst (λ (s : Strip). GoesOn q s) pq (goes_on_self q));
     }
 
--- the same, in the words of the call that takes it
+-- the same, in the words of the call that uses it
 pub opened_by : {E : Type 0} (taken o : Option Strip) (x : Result Strip E) (p : Strip) (board : Board) (n : ℕ) (way detect : Detect) → taken ≡ o → x ≡ Ok p
     → IfSome taken (λ q. x ≡ Ok q)
     → IfNone taken (IfOk x (λ q. (q.list ≡ board ∷ []) × (q.detect ≡ detect))) → IfSome o (λ q. last_epoch 0 q.list ≤ n) → IfSome o (λ q. q.detect ≡ way)
@@ -53,7 +52,7 @@ opened_by {E} taken o x p board n way detect from is same first low ways at so =
     (subst (λ (z : Option Strip). IfNone z (IfOk x (λ q. (q.list ≡ board ∷ []) × (q.detect ≡ detect)))) from first))
     (subst (λ (m : ℕ). IfSome o (λ q. last_epoch 0 q.list ≤ m)) (sym at) low) ways
 
--- where it could not be made there was none
+-- if it could not be made there was none
 pub was_none : {E : Type 0} (o : Option Strip) (x : Result Strip E) (e : E) → IfSome o (λ q. x ≡ Ok q) → x ≡ Err e → o ≡ None
 was_none None x e same is = refl
 was_none (Some q) x e same is = absurd (cc (same, is))

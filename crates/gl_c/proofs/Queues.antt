@@ -1,4 +1,4 @@
--- What C is answered of a node's queue.
+-- Replies about a node's queue.
 use Rattle.std.specs.Prelude.{◌≡◌, List, Option, Some, None, Result, Ok, Err, IfOk, MatchResult}
 use Rattle.std.proofs.Common.{ap, ◌∙◌}
 use denote.Bor.{Bor}

@@ -1,4 +1,4 @@
--- What a call is to those who are told, who wait and who watch.
+-- Calls, for notices, waits and watchers.
 pub mod Serving
 pub mod Paths
 pub mod RowCalls

@@ -1,4 +1,4 @@
--- Boards in C's memory, and what is found on them.
+-- Waits-for snapshots in C's memory, and what is found on them.
 use Rattle.gl_slots.specs.Limit.{most_slots}
 use Rattle.std.specs.Prelude.{◌≡◌, ℕ, ◌<◌, ◌≤◌, ◌↔◌, IsTrue, Option, Some, None, map}
 use Rattle.gl_waits.specs.declared.board.Board.{Board as TheBoard}
@@ -17,29 +17,29 @@ use Rattle.gl_c.specs.managers.Guarded.{GuardedView}
 use Rattle.gl_c.specs.Numbers.{bad_number, done, no_manager, no_place}
 use Rattle.gl_c.specs.answers.Replies.{count_reply, status_reply}
 
--- a set of slots, as boards show it: bit s mod 64 of word s div 64 stands for slot s
+-- a set of slots, as in C's memory: bit s mod 64 of word s div 64 stands for slot s
 abbrev pub set_of : Slots → Bits
 set_of s = bits_of (in_words s.words)
 
--- and back
+-- the words of a set of slots
 abbrev pub slots_of : Bits → Slots
 slots_of set = record { words = words_of (has_bit set) }
 
--- what a board in C's memory says
+-- the snapshot in C's memory
 abbrev pub board_in : Board → TheBoard
 board_in b = record { epoch = b.epoch; ages = b.ages; rows = map set_of b.rows }
 
--- a call that asks for the board of this moment
+-- a call that asks for the snapshot of this moment
 abbrev pub Shows : Option GuardedView → Reply → Board → Board → Option GuardedView → Type 0
 Shows None r board board' s' = Declines None no_manager r s' × (board' ≡ board)
 Shows (Some g) r board board' s' = (r ≡ status_reply done) × (board_in board' ≡ board_of (state_of g.manager)) × (s' ≡ Some g)
 
--- the slots on a cycle with a slot of the board; a greater number is refused
+-- the slots on a cycle with a slot; a number that is no slot is refused
 pub record FindsCycle (b : Board) (slot : ℕ) (f : Found) : Type 0 where
   pub known : slot < most_slots → (f.status ≡ done) × ((u : ℕ) → IsTrue (has_bit (set_of f.slots) u) ↔ IsOnCycleOf (board_edge (board_in b)) slot u)
   pub other : most_slots ≤ slot → (f.status ≡ bad_number) × (f.slots ≡ slots_of no_bits)
 
--- the slots that are on some cycle
+-- the slots that are on any cycle
 pub record FindsSuspects (b : Board) (f : Found) : Type 0 where
   pub status : f.status ≡ done
   pub slots : (s : ℕ) → IsTrue (has_bit (set_of f.slots) s) ↔ IsOnCycle (board_edge (board_in b)) s
@@ -49,12 +49,12 @@ abbrev pub Picks : Board → Slots → Option ℕ → Type 0
 Picks b set None = HasNoBit (set_of set)
 Picks b set (Some slot) = IsLowestYoungest (λ u. IsTrue (has_bit (set_of set) u)) (age_in (board_in b)) slot
 
--- what C is answered then
+-- the reply with the youngest slot
 abbrev pub picked_reply : Option ℕ → Reply
 picked_reply None = status_reply no_place
 picked_reply (Some slot) = count_reply slot
 
--- the same, as C is answered
+-- the youngest slot of a set, as a reply
 pub record PicksFor (b : Board) (set : Slots) (r : Reply) : Type 0 where
   pub slot : Option ℕ
   pub picks : Picks b set slot

@@ -1,4 +1,4 @@
--- The names of nodes and transactions that C holds, and the manager's own.
+-- C's names of nodes and transactions, and the manager's own.
 use Rattle.gl_modes.specs.declared.node.NodeId.{NodeId}
 use Rattle.gl_model.specs.declared.txn.TxnId.{TxnId}
 use Rattle.gl_model.specs.State.{lives}
@@ -9,15 +9,15 @@ use Rattle.gl_registry.specs.declared.row.Row.{Row}
 use Rattle.gl_c.specs.declared.names.Node.{Node}
 use Rattle.gl_c.specs.declared.names.Txn.{Txn}
 
--- a node, as the manager names it
+-- the manager's name of a node
 abbrev pub node_id : Node → NodeId
 node_id n = record { key = n.key; birth = n.birth }
 
--- and back
+-- C's name of a node
 abbrev pub node_of : NodeId → Node
 node_of n = record { key = n.key; birth = n.birth }
 
--- a row of a file, by its number there
+-- a row of a file, by its number
 abbrev pub row_at : Node → ℕ → Row
 row_at f number = record { file = node_id f; number = number }
 
@@ -25,14 +25,14 @@ row_at f number = record { file = node_id f; number = number }
 abbrev pub no_txn : TxnId
 no_txn = record { slot = 0; age = 0 }
 
--- a transaction, as the manager names it; a number that is no slot's names none
+-- the manager's name of a transaction; a number that is no slot names none
 abbrev pub txn_id : Txn → TxnId
 txn_id t = if nat_lt t.slot most_slots then record { slot = t.slot; age = t.age } else no_txn
 
--- and back
+-- C's name of a transaction
 abbrev pub txn_of : TxnId → Txn
 txn_of t = record { slot = t.slot; age = t.age }
 
--- it names no transaction of any manager
+-- this names no transaction of any manager
 abbrev pub NamesNobody : TxnId → Type 0
 NamesNobody t = (m : ManagerView) → IsLawfulManager m → lives (state_of m) t ≡ false

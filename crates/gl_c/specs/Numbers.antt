@@ -1,4 +1,4 @@
--- The numbers by which C names modes, ways of detection, choices of victims and kinds of notices, and the statuses that are no refusals.
+-- The numbers that C uses for modes, ways of detection and choices of victims, and for the statuses that are no refusals.
 use Rattle.gl_slots.specs.Limit.{most_slots}
 use Rattle.std.specs.Prelude.{ℕ, Option, Some, None, ◌==◌, if◌then◌else◌, nat_lt}
 use Rattle.gl_modes.specs.declared.mode.Mode.{Mode}
@@ -10,7 +10,7 @@ use Rattle.gl_waits.specs.declared.victims.Victims.TheVariants.{Youngest, Fewest
 use Rattle.gl_model.specs.declared.answers.Effect.{Effect}
 use Rattle.gl_model.specs.declared.answers.Effect.TheVariants as effect
 
--- a mode's number
+-- the number of a mode
 abbrev pub mode_number : Mode → ℕ
 mode_number NL = 0
 mode_number IS = 1
@@ -19,7 +19,7 @@ mode_number S = 3
 mode_number SIX = 4
 mode_number X = 5
 
--- the mode of a number, if it is one's
+-- the mode with this number, if there is one
 abbrev pub mode_at : ℕ → Option Mode
 mode_at n =
     if n == 0 then Some NL else
@@ -29,33 +29,33 @@ mode_at n =
     if n == 4 then Some SIX else
     if n == 5 then Some X else None
 
--- an effective mode has the number of the mode that has its name
+-- the number of an effective mode, which is that of the mode with its name
 abbrev pub effect_number : Effect → ℕ
 effect_number effect.None = 0
 effect_number effect.S = 3
 effect_number effect.X = 5
 
--- the way of detection of a number, if it is one's
+-- the way of detection with this number, if there is one
 abbrev pub detect_at : ℕ → Option Detect
 detect_at n = if n == 0 then Some AtBlock else if n == 1 then Some ByWatcher else None
 
--- the choice of victims of a number, if it is one's
+-- the choice of victims with this number, if there is one
 abbrev pub victims_at : ℕ → Option Victims
 victims_at n = if n == 0 then Some Youngest else if n == 1 then Some Fewest else None
 
--- the slot of a number, if it is one's
+-- the slot with this number, if there is one
 abbrev pub slot_at : ℕ → Option ℕ
 slot_at n = if nat_lt n most_slots then Some n else None
 
--- it was done; refusals have their own numbers, 1 to 23
+-- the call was done; refusals have their own numbers, 1 to 23
 abbrev pub done : ℕ
 done = 0
 
--- the lock is waited for
+-- the transaction waits for the lock
 abbrev pub waiting : ℕ
 waiting = 32
 
--- the asker was condemned to end a deadlock
+-- the requester was condemned to end a deadlock
 abbrev pub victim : ℕ
 victim = 33
 
@@ -67,15 +67,15 @@ moved = 34
 abbrev pub gone : ℕ
 gone = 35
 
--- a path is locked as far as a node above, and others are told; 36 is a status of the header's functions
+-- the path is locked as far as a node above, and others were notified; 36 is a status of the header's functions
 abbrev pub on_the_way : ℕ
 on_the_way = 37
 
--- a row is held, by a node whose keys are others than those that were said
+-- the row is held, but its node's keys are not those that the caller named
 abbrev pub other_keys : ℕ
 other_keys = 38
 
--- there is no manager at this place; 64 is the null pointer of the header's functions
+-- no manager was made at this place, or it was ended; 64 is the null pointer of the header's functions
 abbrev pub no_manager : ℕ
 no_manager = 65
 
@@ -83,7 +83,7 @@ no_manager = 65
 abbrev pub bad_number : ℕ
 bad_number = 66
 
--- there is a manager at this place already
+-- this place has a manager or a watcher already
 abbrev pub in_use : ℕ
 in_use = 67
 
@@ -91,18 +91,18 @@ in_use = 67
 abbrev pub no_place : ℕ
 no_place = 68
 
--- there is no watcher at this place
+-- no watcher was made at this place, or it was ended
 abbrev pub no_watcher : ℕ
 no_watcher = 69
 
--- as many watch already as may
+-- the manager has as many watchers as it may
 abbrev pub too_many_watchers : ℕ
 too_many_watchers = 70
 
--- a record of a file of rows comes, goes and changes by the calls about rows alone
+-- a file of rows: its records are inserted, deleted and changed by calls about rows alone
 abbrev pub rows_by_number : ℕ
 rows_by_number = 71
 
--- the file is none of rows
+-- the file is not a file of rows
 abbrev pub not_rows : ℕ
 not_rows = 72

@@ -1,4 +1,4 @@
--- What calls of transactions do: paths, rows, savepoints, and what became of a wait.
+-- Calls of transactions: paths, rows, savepoints, and the outcome of a wait.
 pub mod Paths
 pub mod Rows
 pub mod Savepoints

@@ -1,4 +1,4 @@
--- Managers: what C keeps of each, what stands behind it, and what a command does to that.
+-- Managers: their places in C's memory, what a place holds, and what a command does to that.
 pub mod Carries
 pub mod Guarded
 pub mod Handle

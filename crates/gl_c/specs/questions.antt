@@ -1,4 +1,4 @@
--- What is answered to questions and listings.
+-- Replies to questions and listings.
 pub mod Counts
 pub mod Deadlocks
 pub mod Listings

@@ -1,4 +1,4 @@
--- Watchers: what C keeps of each, and what they see.
+-- Watchers: their places in C's memory, and what they see.
 pub mod Lookout
 pub mod Posted
 pub mod Watching

@@ -1,4 +1,4 @@
-//! What C is answered and told: the reply of a call, the slots that it asked after, and notices.
+//! What a call answers to C: replies, sets of slots, and notices.
 
 pub(crate) mod found;
 pub(crate) mod notices;

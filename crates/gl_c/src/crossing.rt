@@ -1,10 +1,10 @@
-//! What goes from one thread to another by C's hands.
+//! Values that C passes from one thread to another.
 
 ghost use Rattle.std.specs.Prelude.{◌≡◌};
 
 use std::marker::Send;
 
-/// Hands a value over to whatever thread takes it.
+/// Passes a value to the thread that receives it.
 pub(crate) fn hand_over<T: Send>(value: T) -> T
     ensures { result ≡ value }
 {

@@ -1,4 +1,4 @@
-//! Calls that change the lock graph: new nodes, records, and nodes that move or go.
+//! Calls that change the lock graph: they make, move and remove nodes.
 
 mod nodes;
 mod parents;

@@ -1,8 +1,8 @@
-//! The lock manager for C: exports over the manager, which `include/burlapslate.h` declares.
+//! The lock manager for C: exports over the manager, for the functions of `include/burlapslate.h`.
 //!
-//! What C keeps in each call: `manager` and `watcher` were zero before their first calls, and are used by
-//! this call alone; a list has as many as the count behind it says; `told` and `board` have room, apart
-//! from all else; a board that is read is written by nobody meanwhile.
+//! What C guarantees in each call: `manager` and `watcher` were zero before their first call, and no
+//! other call uses them meanwhile; a list has as many entries as its count says; `told` and `board`
+//! have room and overlap nothing else; nobody writes a board while it is read.
 #![tactic(auto)]
 
 mod answers;

@@ -1,4 +1,4 @@
-//! Calls of transactions: locks on nodes and on rows, and what became of a wait.
+//! Calls of transactions: locks on nodes and rows, and the outcome of a wait.
 
 mod rows;
 mod txns;

@@ -1,4 +1,4 @@
-//! Managers: how they come and go, the place that C keeps of each, and what stands behind it.
+//! Managers: how they are made and ended, their places in C's memory, and what a place holds.
 
 mod guarded;
 pub(crate) mod handle;

@@ -9,7 +9,7 @@ use gl_modes::NodeId;
 use gl_registry::Row;
 use gl_table::TxnId;
 
-/// A node's name. The name of a node that is gone names nothing, whatever was made since; zero in
+/// The name of a node. The name of a node that is gone names nothing, whatever was made since. Zero in
 /// both fields names no node.
 #[repr(C)]
 #[derive(Clone, Copy)]
@@ -48,8 +48,8 @@ impl Node {
     }
 }
 
-/// A transaction's name, as wide for any number of slots. The name of one that has ended names nothing; nor does a
-/// number that is no slot's, and age zero.
+/// The name of a transaction, of the same size for any number of slots. The name of one that has ended
+/// names nothing; nor does a number that is no slot, or age zero.
 #[repr(C)]
 #[derive(Clone, Copy)]
 pub struct Txn {

@@ -1,4 +1,4 @@
-//! The numbers by which C names modes, ways of detection and statuses.
+//! The numbers that C uses for modes, ways of detection and statuses.
 
 ghost use Rattle.std.specs.Prelude.{◌≡◌};
 ghost use Rattle.gl_c.specs.Numbers.{detect_at, effect_number, mode_at, mode_number, slot_at, victims_at};
@@ -8,13 +8,13 @@ use gl_slots::{SLOTS, Slot};
 use gl_table::{Detect, Effect};
 use gl_waits::Victims;
 
-/// It was done, or answered.
+/// The call was done, or the question answered.
 pub(crate) const DONE: u32 = 0;
 
-/// The lock is waited for.
+/// The transaction waits for the lock.
 pub(crate) const WAITING: u32 = 32;
 
-/// The asker was condemned to end a deadlock.
+/// The requester was condemned to end a deadlock.
 pub(crate) const VICTIM: u32 = 33;
 
 /// The node moved, and the wait is over.
@@ -23,37 +23,37 @@ pub(crate) const MOVED: u32 = 34;
 /// The node is gone, and the wait is over.
 pub(crate) const GONE: u32 = 35;
 
-/// A path is locked as far as a node above, and others are told.
+/// The path is locked as far as a node above, and others were notified.
 pub(crate) const ON_THE_WAY: u32 = 37;
 
-/// A row is held, by a node whose keys are others than those that were said.
+/// The row is held, but its node's keys are not those that the caller named.
 pub(crate) const OTHER_KEYS: u32 = 38;
 
-/// There is no manager at this place: none was made, or it was ended.
+/// No manager was made at this place, or it was ended.
 pub(crate) const NO_MANAGER: u32 = 65;
 
-/// A number names no mode, no way of detection or no lawful count.
+/// A number names no mode or no way of detection, or a count is out of range.
 pub(crate) const BAD_NUMBER: u32 = 66;
 
-/// There is a manager, or a watcher, at this place already.
+/// This place has a manager or a watcher already.
 pub(crate) const IN_USE: u32 = 67;
 
 /// There are fewer than that.
 pub(crate) const NO_PLACE: u32 = 68;
 
-/// There is no watcher at this place: none was made, or it was ended.
+/// No watcher was made at this place, or it was ended.
 pub(crate) const NO_WATCHER: u32 = 69;
 
-/// As many watch already as may.
+/// The manager has as many watchers as it may.
 pub(crate) const TOO_MANY_WATCHERS: u32 = 70;
 
-/// A record of a file of rows comes, goes and changes by the calls about rows alone.
+/// A file of rows: its records are inserted, deleted and changed by calls about rows alone.
 pub(crate) const ROWS_BY_NUMBER: u32 = 71;
 
-/// The file is none of rows.
+/// The file is not a file of rows.
 pub(crate) const NOT_ROWS: u32 = 72;
 
-/// A mode's number.
+/// The number of a mode.
 pub(crate) fn mode_number(mode: Mode) -> u32
     ensures { result ≡ mode_number mode }
 {
@@ -67,7 +67,7 @@ pub(crate) fn mode_number(mode: Mode) -> u32
     }
 }
 
-/// The mode of a number; `None` where it is no mode's.
+/// The mode with this number; `None` if there is none.
 pub(crate) fn mode_at(number: u32) -> Option<Mode>
     ensures { result ≡ mode_at number }
 {
@@ -82,7 +82,7 @@ pub(crate) fn mode_at(number: u32) -> Option<Mode>
     }
 }
 
-/// An effective mode's number, which is that of the mode with its name.
+/// The number of an effective mode, which is that of the mode with its name.
 pub(crate) fn effect_number(effect: Effect) -> u32
     ensures { result ≡ effect_number effect }
 {
@@ -93,7 +93,7 @@ pub(crate) fn effect_number(effect: Effect) -> u32
     }
 }
 
-/// The choice of victims of a number; `None` where it is no choice's.
+/// The choice of victims with this number; `None` if there is none.
 pub(crate) fn victims_at(number: u32) -> Option<Victims>
     ensures { result ≡ victims_at number }
 {
@@ -104,7 +104,7 @@ pub(crate) fn victims_at(number: u32) -> Option<Victims>
     }
 }
 
-/// The way of detection of a number; `None` where it is no way's.
+/// The way of detection with this number; `None` if there is none.
 pub(crate) fn detect_at(number: u32) -> Option<Detect>
     ensures { result ≡ detect_at number }
 {
@@ -115,7 +115,7 @@ pub(crate) fn detect_at(number: u32) -> Option<Detect>
     }
 }
 
-/// The slot of a number; `None` where it is no slot's.
+/// The slot with this number; `None` if there is none.
 pub(crate) fn slot_at(number: u32) -> Option<Slot>
     ensures { result ≡ slot_at number }
 {

@@ -1,4 +1,4 @@
-//! Questions and listings, which change nothing: the calls, what they answer, and what they write down.
+//! Questions and listings, which change nothing: the calls, their answers, and what they write.
 
 pub(crate) mod counts;
 pub(crate) mod deadlock;

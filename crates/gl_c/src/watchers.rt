@@ -1,4 +1,4 @@
-//! Watchers: how they come, look and go, and the place that C keeps of each.
+//! Watchers: how they are made, used and ended, and their places in C's memory.
 
 mod lookout;
 mod watcher;

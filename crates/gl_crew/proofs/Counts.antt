@@ -1,4 +1,4 @@
--- What shares count together, and what faults say of it.
+-- The sum of the shares, and what faults say of it.
 use Rattle.std.proofs.Common.{◌≡◌, ap, sym, subst, ℕ, suc, ◌+◌, ◌-◌, ◌*◌, ◌≤◌, List, [], ◌∷◌, ◌++◌, Option, Some, None, Result, Ok, Err, All, IfOk}
 use Rattle.std.proofs.Common.{MatchOption, sum, fold, length, arith, refl}
 use Rattle.std.proofs.lemmas.List.Elements.{All-cons, All-nil}
@@ -53,13 +53,13 @@ same_sessions ByWatcher n m h = omega (arith, h)
 not_none : (f : CrewFault) → Some f ≡ None → ⊥
 not_none f e = cc
 
--- where there is no first fault there is none
+-- if there is no first fault there is none
 pub faultless : (faults : List (Option CrewFault)) → first_fault faults ≡ None → IsFaultless faults
 faultless [] h = All-nil (λ f. f ≡ None)
 faultless (None ∷ faults) h = All-cons (λ f. f ≡ None) None faults refl (faultless faults h)
 faultless (Some f ∷ faults) h = absurd (not_none f h)
 
--- an answer is a count only where there is no first fault
+-- an answer is a count only if there is no first fault
 pub answer_count : (first : Option CrewFault) (answer : Result ℕ CrewFault) (count : ℕ) (P : ℕ → Type 0)
     → MatchOption first (answer ≡ Ok count) (λ fault. answer ≡ Err fault) → (first ≡ None → P count) → IfOk answer P
 answer_count None answer count P is holds = subst (λ a. IfOk a P) (sym is) (holds refl)

@@ -1,11 +1,11 @@
--- What is taken from seats, one after another.
+-- What is collected from the sessions, one after another.
 use Rattle.std.proofs.Common.{◌≡◌, ◌∙◌, ap, sym, ℕ, List, [], ◌∷◌, ◌++◌, All, map, Option, Some, None}
 use Rattle.std.proofs.lemmas.List.{map-append}
 use Rattle.std.proofs.lemmas.List.Elements.{All-cons, All-head, All-nil, All-tail}
 use Rattle.gl_crew.specs.Crews.{HasServed, IsFaultless}
 use Rattle.gl_crew.specs.declared.fault.CrewFault.{CrewFault}
 
--- one seat more, of which the same is taken
+-- one session more, of which the same is collected
 pub taken_more : {A X Y : Type 0} (f : X → Y) (h : A → Y) (xs zs : List X) (ys : List A) (x : X) (y : A) → zs ≡ xs ++ x ∷ [] → h y ≡ f x
     → map f xs ≡ map h ys → map f zs ≡ map h (ys ++ y ∷ [])
 taken_more f h xs zs ys x y is one same =
@@ -29,7 +29,7 @@ no_list n xs e = cc
 no_seat : (o : Option ℕ) (ys : List (Option ℕ)) → [] ≡ o ∷ ys → ⊥
 no_seat o ys e = cc
 
--- where no session met a fault, each share has this amount
+-- if no session met a fault, each share has this amount
 pub served_amounts :
     {A : Type 0} (share : A → Option ℕ) (fault : A → Option CrewFault) (amount : ℕ) (seats : List A) (ns : List ℕ) →
     All (λ s. HasServed amount (share s) (fault s)) seats → map (λ n. Some n) ns ≡ map share seats → IsFaultless (map fault seats) → All (λ n. n ≡ amount) ns

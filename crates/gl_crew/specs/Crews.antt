@@ -1,10 +1,10 @@
--- How much a crew of sessions counts, and how it ends.
+-- The count of a crew, and how it ends.
 use Rattle.std.specs.Prelude.{◌≡◌, ℕ, ◌+◌, ◌-◌, ◌*◌, ◌≤◌, true, List, [], ◌∷◌, Option, Some, None, All, is_some}
 use Rattle.gl_model.specs.declared.answers.Detect.{Detect}
 use Rattle.gl_model.specs.declared.answers.Detect.TheVariants.{AtBlock, ByWatcher}
 use Rattle.gl_crew.specs.declared.fault.CrewFault.{CrewFault}
 
--- so many commands for each round of each session; with detection by a watcher settles come on top
+-- this many commands for each round of each session; with detection by a watcher also settles
 abbrev pub IsCountOf : Detect → ℕ → ℕ → ℕ → ℕ → Type 0
 IsCountOf AtBlock commands sessions rounds count = count ≡ commands * (sessions * rounds)
 IsCountOf ByWatcher commands sessions rounds count = commands * (sessions * rounds) ≤ count
@@ -13,12 +13,12 @@ IsCountOf ByWatcher commands sessions rounds count = commands * (sessions * roun
 abbrev pub IsCount : Detect → ℕ → ℕ → ℕ → Type 0
 IsCount detect sessions rounds count = IsCountOf detect 7 sessions rounds count
 
--- a share for each session, and one for a watcher
+-- a share for each session, and with detection by a watcher one more
 abbrev pub shares_of : ℕ → Detect → ℕ
 shares_of sessions AtBlock = sessions
 shares_of sessions ByWatcher = sessions + 1
 
--- the sum of so many shares, each of this amount but for a watcher's, where there is one
+-- the sum of the shares, each of this amount, except a watcher's
 abbrev pub IsSumOf : Detect → ℕ → ℕ → ℕ → Type 0
 IsSumOf AtBlock shares amount sum = sum ≡ shares * amount
 IsSumOf ByWatcher shares amount sum = (shares - 1) * amount ≤ sum

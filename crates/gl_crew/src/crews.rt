@@ -1,4 +1,4 @@
-//! Sessions in threads of their own, over one table.
+//! Sessions, each in its own thread, over one table.
 
 ghost use Rattle.std.specs.Prelude.{◌≡◌, ◌<◌, ◌≤◌, IfOk};
 ghost use Rattle.gl_crew.specs.Crews.{IsCount};
@@ -14,12 +14,12 @@ use std::alloc::Global;
 use std::sync::Wait;
 use std::thread::Threads;
 
-/// Has so many sessions, 1 to 128, do so many rounds each over one new table, and answers how many
-/// commands were accepted. As `crew_with`, with a gate that everybody passes.
+/// Runs `sessions` sessions, 1 to 128, of `rounds` rounds each over one new table, and answers how many
+/// commands were accepted. As `crew_with`, with a gate that every session passes.
 ///
 /// # Errors
 ///
-/// Those of `crew_with`, but for `Gate`.
+/// Those of `crew_with`, except `Gate`.
 pub fn crew<R: Threads + Wait + Sync>(
     rt: &R,
     alloc: Global,
@@ -60,23 +60,23 @@ pub fn crew_choosing<R: Threads + Wait + Sync>(
     crew_through(rt, alloc, &Open, sessions, rounds, detect, victims)
 }
 
-/// Has so many sessions, 1 to 128, do so many rounds each over one new table, each in a thread of its
-/// own, and answers how many commands were accepted: seven a round, and with detection by a watcher
-/// those by which it settled deadlocks. The youngest on a cycle falls.
+/// Runs `sessions` sessions, 1 to 128, of `rounds` rounds each over one new table, each in its own
+/// thread, and answers how many commands were accepted: seven a round, and with detection by a watcher
+/// those by which it settled deadlocks. The victim is the youngest on a cycle.
 ///
-/// In each round a session begins a transaction, locks a data base, a file, an index and its first
-/// interval in IX and a record in X, in odd rounds its own record and in even ones that of all, and
-/// commits. It passes the gate behind the lock on the record and behind the commit.
+/// In each round a session begins a transaction, locks a database, a file, an index and its first
+/// interval in IX and a record in X, and commits. In odd rounds it locks its own record, in even ones
+/// the common record. It passes the gate after the lock on the record and after the commit.
 ///
-/// A session for which no thread can be started works on one that is there. With detection by a
-/// watcher one more thread looks for deadlocks until the sessions have ended; where it cannot be
-/// started it is left out.
+/// A session for which no thread can be started runs on one that exists. With detection by a watcher
+/// one more thread looks for deadlocks until the sessions have ended; if it cannot be started, there is
+/// none.
 ///
 /// # Errors
 ///
-/// A session that is refused or stopped aborts its transaction and ends, and one that the gate does not
-/// let pass commits and ends. Of several such faults that of the session with the least number is
-/// answered. Want of memory for the sessions comes before the first of them starts.
+/// A session that is refused or stopped aborts its transaction and ends; one that the gate stops
+/// commits and ends. Of several such faults, that of the session with the least number is answered.
+/// Lack of memory for the sessions is reported before the first of them starts.
 pub fn crew_with<G: Gate + Sync, R: Threads + Wait + Sync>(
     rt: &R,
     alloc: Global,
@@ -91,7 +91,7 @@ pub fn crew_with<G: Gate + Sync, R: Threads + Wait + Sync>(
     crew_through(rt, alloc, gate, sessions, rounds, detect, Victims::Youngest)
 }
 
-/// A crew behind this gate, with this choice of victims.
+/// A crew with this gate and this choice of victims.
 fn crew_through<G: Gate + Sync, R: Threads + Wait + Sync>(
     rt: &R,
     alloc: Global,

@@ -8,10 +8,10 @@ use gl_modes::Refusal;
 /// Why a crew did not do all its rounds.
 #[derive(Clone, Copy, Debug, PartialEq, Eq)]
 pub enum CrewFault {
-    /// A session was refused, or its lock ended without a grant, which counts as `TxnCondemned`; or
-    /// there was no memory to begin with.
+    /// A session was refused, or its lock ended without a grant, reported as `TxnCondemned`; or there
+    /// was no memory to begin with.
     Refused(Refusal),
-    /// The gate did not let a session pass.
+    /// The gate stopped a session.
     Gate,
 }
 

@@ -9,24 +9,24 @@ use gl_table::{Detect, TxnId};
 use gl_waits::Victims;
 use std::alloc::Global;
 
-/// How many transactions the table of a crew takes at once.
+/// How many transactions can live at once in the table of a crew.
 const MOST: usize = 128;
 
-/// The bound of the index. All keys of a crew lie below it.
+/// The bound of the index. All keys of a crew are below it.
 const BOUND: u64 = 1000;
 
 /// The nodes that the sessions of a crew lock.
 #[derive(Drop)]
 pub struct Field {
-    /// The data base, the file, the index and its first interval: what is locked above a record.
+    /// The database, the file, the index and its first interval: what is locked above a record.
     pub path: [NodeId; 4],
-    /// The records, by their keys: that of all has key 0, that of each session its number.
+    /// The records, by their keys: the common record has key 0, that of each session its number.
     pub records: Vec<NodeId>,
 }
 
 impl Field {
-    /// The record that a session locks in a round: in odd rounds its own, in even ones that of all. A
-    /// name that names nothing where there is no such record.
+    /// The record that a session locks in a round: in odd rounds its own, in even ones the common
+    /// record. If there is no such record, a name that names nothing.
     pub(crate) fn record(&self, session: u32, round: u32) -> NodeId
         ensures { result ≡ record_of self.now.records.items session round }
     {
@@ -38,7 +38,7 @@ impl Field {
     }
 }
 
-/// A manager with the nodes that so many sessions lock, and which they are. No transaction lives.
+/// A manager with the nodes that these sessions lock, and their names. No transaction lives.
 pub(crate) fn lay_out(
     alloc: Global,
     sessions: u32,
@@ -63,7 +63,7 @@ pub(crate) fn lay_out(
     Ok((manager, Field { path, records }))
 }
 
-/// Makes what lies above the records.
+/// Makes the nodes above the records.
 fn lay_path(manager: &mut Manager) -> Result<[NodeId; 4], Refusal>
     ensures { manager.new.table.detect ≡ manager.old.table.detect }
 {
@@ -81,7 +81,7 @@ fn lay_path(manager: &mut Manager) -> Result<[NodeId; 4], Refusal>
     }
 }
 
-/// A transaction that may insert.
+/// Begins a transaction that may insert.
 fn begin(manager: &mut Manager, path: &[NodeId; 4]) -> Result<TxnId, Refusal>
     ensures { manager.new.table.detect ≡ manager.old.table.detect }
 {
@@ -99,7 +99,7 @@ fn begin(manager: &mut Manager, path: &[NodeId; 4]) -> Result<TxnId, Refusal>
     Ok(txn)
 }
 
-/// A record with this key.
+/// Inserts a record with this key.
 fn insert(manager: &mut Manager, txn: TxnId, file: NodeId, key: u32) -> Result<NodeId, Refusal>
     ensures { manager.new.table.detect ≡ manager.old.table.detect }
 {
@@ -122,7 +122,7 @@ fn make(manager: &mut Manager, command: Command<'_>) -> Result<NodeId, Refusal>
     }
 }
 
-/// Carries out a command, and says if it was refused.
+/// Carries out a command; an error if it is refused.
 fn carry_out(manager: &mut Manager, command: Command<'_>) -> Result<Answer, Refusal>
     ensures { manager.new.table.detect ≡ manager.old.table.detect }
 {

@@ -1,8 +1,8 @@
-//! What the sessions of a crew pass in each round.
+//! The gate that the sessions of a crew pass in each round.
 
 use std::sync::Wait;
 
-/// Where a session of a crew stands in a round.
+/// A point in a round.
 #[derive(Clone, Copy, Debug, PartialEq, Eq)]
 pub enum Point {
     /// The record is locked.
@@ -11,14 +11,14 @@ pub enum Point {
     Committed,
 }
 
-/// What each session of a crew passes twice in a round: behind the lock on the record, and behind the
-/// commit. Several threads ask it at once.
+/// What each session of a crew passes twice in a round: after the lock on the record, and after the
+/// commit. Several threads may call it at once.
 pub trait Gate {
-    /// Whether the session goes on. Sessions and rounds are counted from 1.
+    /// Whether the session continues. Sessions and rounds are counted from 1.
     fn pass<R: Wait>(&self, rt: &R, session: u32, round: u32, at: Point) -> bool;
 }
 
-/// A gate that everybody passes.
+/// A gate that every session passes.
 pub(crate) struct Open;
 
 impl Gate for Open {

@@ -1,8 +1,8 @@
-//! Crews: sessions that share a table, each in a thread of its own.
+//! Crews: sessions that share a table, each in its own thread.
 //!
-//! Each session does so many rounds of seven commands, and [`crew_with`] answers how many commands
-//! were accepted. [`crew_over`] has them do other work, over a table of the caller's, and gives that
-//! back. What a crew counts and what it locks is defined in `specs/`.
+//! Each session does a number of rounds of seven commands, and [`crew_with`] answers how many commands
+//! were accepted. [`crew_over`] lets them do other work, over a table of the caller's, and returns
+//! that. `specs/` defines what a crew counts and what it locks.
 #![tactic(auto)]
 
 mod crews;

@@ -1,4 +1,4 @@
-//! Whoever looks for deadlocks while the sessions of a crew work.
+//! The watcher that looks for deadlocks while the sessions of a crew work.
 
 ghost use Rattle.std.specs.Prelude.{◌≡◌, ◌↔◌, ◌+◌, ℕ, IsNone, IfNone, IfSome};
 ghost use Rattle.gl_model.specs.Tellings.{Told};
@@ -17,8 +17,8 @@ use std::sync::Wait;
 use std::sync::atomic::{AtomicBool, Ordering};
 use std::thread::yield_now;
 
-/// Looks until the sessions have ended, and settles deadlocks by each board that it sees. That it looks,
-/// and how often, tests alone show.
+/// Looks until the sessions have ended, and settles deadlocks on each board that it sees. Only tests
+/// show that it looks, and how often.
 pub(crate) fn look_out<N: Naming, R: Wait>(
     rt: &R,
     shared: &Shared<N>,
@@ -40,8 +40,8 @@ pub(crate) fn look_out<N: Naming, R: Wait>(
     session.end()
 }
 
-/// Settles whoever is, on this board, the youngest of those on a cycle of waits, and says whom, and what
-/// was answered. Where nobody is, nothing is asked.
+/// Settles the youngest transaction on a cycle of waits of this board, and returns its name and the
+/// answer. If there is none, nothing is asked.
 fn settle_by<N: Naming, R: Wait>(
     rt: &R,
     session: &mut Session<'_, N>,
@@ -61,7 +61,7 @@ fn settle_by<N: Naming, R: Wait>(
     Some((txn, reply.answer))
 }
 
-/// The youngest of those who are on a cycle of waits, by slot and age; `None` exactly where nobody is.
+/// The youngest transaction on a cycle of waits, by slot and age; `None` exactly if nobody is on one.
 fn youngest_suspect(board: &Board) -> Option<TxnId>
     ensures none { IsNone result ↔ ((s : ℕ) → IsOnNoCycle (board_edge board.now) s) }
     ensures some { IfSome result (λ txn. IsLowestYoungest (IsOnCycle (board_edge board.now)) (age_in board.now) txn.slot) }

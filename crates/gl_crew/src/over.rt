@@ -1,4 +1,4 @@
-//! A crew over a table of its caller's: how it is shared, worked on and taken back.
+//! A crew over a table of its caller's: the table is shared, used and returned.
 
 ghost use Rattle.std.specs.Prelude.{◌≡◌, ◌+◌, ◌*◌, ◌<◌, ◌≤◌, ◌^◌, All, Err, IfErr, IfOk, MatchOption, Ok, sum, vec_capacity, vec_len};
 ghost use Rattle.gl_modes.specs.declared.refusal.Refusal.{Refusal as ARefusal};
@@ -26,9 +26,9 @@ use std::thread::{Threads, join};
 pub struct Ended {
     /// The manager, as its sessions left it.
     pub manager: Manager,
-    /// How many commands were accepted from them.
+    /// How many commands of the crew were accepted.
     pub count: u64,
-    /// By session, the one with number 1 first, what ended it early.
+    /// By session, from number 1 on, the fault that ended it early.
     pub faults: Vec<Option<CrewFault>>,
 }
 
@@ -37,7 +37,7 @@ impl Ended {
     ///
     /// # Errors
     ///
-    /// Of all faults that of the session with the least number.
+    /// The fault of the session with the least number.
     pub fn answer(&self) -> Result<u64, CrewFault>
         ensures { MatchOption (first_fault self.now.faults.items) (result ≡ Ok self.now.count) (λ fault. result ≡ Err fault) }
     {
@@ -48,9 +48,9 @@ impl Ended {
     }
 }
 
-/// Has so many sessions, 1 to 128, do so many rounds of this work over this manager, each in a thread
-/// of its own. Where the manager finds deadlocks by a watcher, one more thread looks for them until the
-/// sessions have ended, and what it settles counts too.
+/// Runs `sessions` sessions, 1 to 128, of `rounds` rounds of this work over this manager, each in its
+/// own thread. If the manager detects deadlocks by a watcher, one more thread looks for them until the
+/// sessions have ended, and its settles count too.
 ///
 /// # Errors
 ///
@@ -111,7 +111,7 @@ fn run_crew<N: Naming + Send + Sync, W: Work + Sync, R: Threads + Wait + Sync>(
     Ok(close(rt, shared, served))
 }
 
-/// Has all sessions do their rounds, with deadlocks found this way.
+/// Runs all sessions, with this way of detection.
 fn serve_by<N: Naming + Send + Sync, W: Work + Sync, R: Threads + Wait + Sync>(
     rt: &R,
     shared: &Shared<N>,
@@ -135,8 +135,7 @@ fn serve_by<N: Naming + Send + Sync, W: Work + Sync, R: Threads + Wait + Sync>(
     }
 }
 
-/// Has all sessions do their rounds while somebody looks for deadlocks. The last share is the
-/// watcher's.
+/// Runs all sessions and a watcher, which has the last share.
 fn serve_watched<N: Naming + Send + Sync, W: Work + Sync, R: Threads + Wait + Sync>(
     rt: &R,
     shared: &Shared<N>,
@@ -164,7 +163,7 @@ fn serve_watched<N: Naming + Send + Sync, W: Work + Sync, R: Threads + Wait + Sy
     served
 }
 
-/// Has all sessions do their rounds, and beside them whoever looks for deadlocks.
+/// Runs all sessions, and beside them the watcher.
 fn serve_beside<N: Naming + Send + Sync, W: Work + Sync, R: Threads + Wait + Sync>(
     rt: &R,
     shared: &Shared<N>,
@@ -202,7 +201,7 @@ fn serve_beside<N: Naming + Send + Sync, W: Work + Sync, R: Threads + Wait + Syn
     )
 }
 
-/// The end of a crew whose shares are all back.
+/// The end of a crew whose shares are all returned.
 fn close<N: Naming, R: Wait>(rt: &R, shared: Shared<N>, served: Served<N>) -> Ended
     requires all { vec_len served.shares ≡ N.shares }
     ensures count { result.count ≡ sum served.shares.items }

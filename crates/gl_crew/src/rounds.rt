@@ -1,4 +1,4 @@
-//! The rounds of a crew: each locks a record, and what lies above it.
+//! The rounds of a crew: each locks a record after what is above it.
 
 ghost use Rattle.std.specs.Prelude.{◌≡◌, ◌+◌, ◌*◌, [], IfOk};
 ghost use Rattle.gl_model.specs.declared.txn.TxnId.{TxnId as ATxnId};
@@ -14,12 +14,12 @@ use gl_shared::{Grant, Naming, Session, Stop};
 use gl_table::TxnId;
 use std::sync::Wait;
 
-/// Rounds of seven commands, which `crew_with` describes, over these nodes and behind this gate.
+/// Rounds of seven commands, as `crew_with` describes, over these nodes and with this gate.
 #[derive(Drop)]
 pub struct RecordRounds<'a, G: Gate> {
     /// The nodes that are locked.
     pub field: Field,
-    /// What a session passes behind the lock on the record and behind the commit.
+    /// What a session passes after the lock on the record and after the commit.
     pub gate: &'a G,
 }
 
@@ -38,7 +38,7 @@ impl<G: Gate> Work for RecordRounds<'_, G> {
     }
 }
 
-/// One round: a transaction that locks a record and commits. Answers what it had locked.
+/// One round: a transaction that locks a record and commits. Returns its grants.
 fn do_round<N: Naming, G: Gate, R: Wait>(
     rt: &R,
     gate: &G,
@@ -68,7 +68,7 @@ fn do_round<N: Naming, G: Gate, R: Wait>(
     }
 }
 
-/// A new transaction.
+/// Begins a transaction.
 fn begin<N: Naming, R: Wait>(rt: &R, session: &mut Session<'_, N>) -> Result<TxnId, CrewFault>
     ensures { IfOk result (λ _. session.new.share ≡ session.old.share + 1) }
 {
@@ -78,7 +78,7 @@ fn begin<N: Naming, R: Wait>(rt: &R, session: &mut Session<'_, N>) -> Result<Txn
     }
 }
 
-/// Locks a record in X, and before it what lies above in IX.
+/// Locks a record in X, after what is above it in IX.
 fn lock_all<N: Naming, R: Wait>(
     rt: &R,
     path: &[NodeId; 4],
@@ -115,7 +115,7 @@ fn commit<N: Naming, R: Wait>(
     }
 }
 
-/// What a crew answers where a lock gave no grant.
+/// The fault for a lock without a grant.
 fn fault_of(stop: Stop) -> CrewFault {
     match stop {
         Stop::Refused(refusal) => CrewFault::Refused(refusal),
@@ -123,7 +123,7 @@ fn fault_of(stop: Stop) -> CrewFault {
     }
 }
 
-/// What a crew answers where a command was answered so.
+/// The fault for a command with this answer.
 fn fault_in(answer: Answer) -> CrewFault {
     match answer {
         Answer::Refused(refusal) => CrewFault::Refused(refusal),

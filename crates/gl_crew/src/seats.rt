@@ -1,4 +1,4 @@
-//! The sessions of a crew, each in a thread of its own.
+//! The sessions of a crew, each in its own thread.
 
 ghost use Rattle.std.specs.Prelude.{◌≡◌, ◌*◌, ◌+◌, ◌≤◌, ◌<◌, ◌^◌, [], All, IfOk, IfSome, Some, None, is_some, length, map, true, vec_capacity, vec_len};
 ghost use Rattle.gl_crew.specs.Crews.{HasServed, IsFaultless};
@@ -11,24 +11,24 @@ use std::sync::Wait;
 use std::thread;
 use std::thread::Threads;
 
-/// A session's place in a crew. Sessions are numbered by their seats.
+/// A session of a crew, numbered by its place in the list.
 #[derive(Drop)]
 pub(crate) struct Seat<N: Naming> {
-    /// Its share, unless it is at work.
+    /// Its share, unless it is running.
     share: Option<Share<N>>,
-    /// What ended it early.
+    /// The fault that ended it early.
     fault: Option<CrewFault>,
 }
 
-/// What the sessions of a crew give back, in the order of their numbers.
+/// What the sessions of a crew return, by their numbers.
 #[derive(Drop)]
 pub(crate) struct Served<N: Naming> {
     pub(crate) shares: Vec<Share<N>>,
     pub(crate) faults: Vec<Option<CrewFault>>,
 }
 
-/// Room for so many sessions of a crew and for what they give back. It is made before the first of
-/// them starts, so none of them is lost where memory is wanting.
+/// Room for the sessions of a crew and for what they return. It is made before the first of them
+/// starts, so none of them is lost if memory runs out.
 #[derive(Drop)]
 pub(crate) struct Room<N: Naming> {
     count: usize,
@@ -39,7 +39,7 @@ pub(crate) struct Room<N: Naming> {
 }
 
 impl<N: Naming> Room<N> {
-    /// Room for so many shares.
+    /// Room for this many shares.
     pub(crate) fn new(alloc: Global, count: usize) -> Option<Room<N>>
         ensures { IfSome result (λ room. room.count ≡ count) }
     {
@@ -54,8 +54,8 @@ impl<N: Naming> Room<N> {
     }
 }
 
-/// Gives each share to a session, and has each session do its rounds. Gives the shares back, and what
-/// ended each session early.
+/// Gives each share to a session, and runs all sessions. Returns the shares, and what ended each
+/// session early.
 pub(crate) fn serve_all<N: Naming + Send + Sync, W: Work + Sync, R: Threads + Wait + Sync>(
     rt: &R,
     shared: &Shared<N>,
@@ -80,7 +80,7 @@ pub(crate) fn serve_all<N: Naming + Send + Sync, W: Work + Sync, R: Threads + Wa
     leave_all(serve_each(rt, shared, work, rounds, seats), back)
 }
 
-/// A seat for each share.
+/// A session for each share.
 fn seat_all<N: Naming>(mut seats: Vec<Seat<N>>, shares: Vec<Share<N>>) -> Vec<Seat<N>>
     requires new { All (λ n. n ≡ 0) shares.items }
     requires seats { (seats.items ≡ []) × (vec_len shares ≤ vec_capacity seats) }
@@ -96,7 +96,7 @@ fn seat_all<N: Naming>(mut seats: Vec<Seat<N>>, shares: Vec<Share<N>>) -> Vec<Se
     seats
 }
 
-/// Has all sessions do their rounds.
+/// Runs all sessions.
 fn serve_each<N: Naming + Send + Sync, W: Work + Sync, R: Threads + Wait + Sync>(
     rt: &R,
     shared: &Shared<N>,
@@ -125,7 +125,7 @@ fn serve_each<N: Naming + Send + Sync, W: Work + Sync, R: Threads + Wait + Sync>
     seats
 }
 
-/// Does the rounds of one session.
+/// Runs one session.
 fn serve<N: Naming, W: Work, R: Wait>(
     rt: &R,
     shared: &Shared<N>,
@@ -145,7 +145,7 @@ fn serve<N: Naming, W: Work, R: Wait>(
     seat.share = Some(session.end());
 }
 
-/// Does so many rounds, or those up to the first fault.
+/// Does these rounds, up to the first fault.
 fn do_rounds<N: Naming, W: Work, R: Wait>(
     rt: &R,
     work: &W,
@@ -161,7 +161,7 @@ fn do_rounds<N: Naming, W: Work, R: Wait>(
     Ok(())
 }
 
-/// Takes what the seats have, from the first on.
+/// Collects shares and faults, from the first session on.
 fn leave_all<N: Naming>(seats: Vec<Seat<N>>, mut back: Served<N>) -> Served<N>
     requires ended { All (λ seat. is_some seat.share ≡ true) seats.items }
     requires empty { (back.shares.items ≡ []) × (back.faults.items ≡ []) }

@@ -4,7 +4,7 @@ use crate::fault::CrewFault;
 use gl_shared::{Naming, Session};
 use std::sync::Wait;
 
-/// What each session of a crew does, round by round. Several threads ask it at once.
+/// What each session of a crew does, round by round. Several threads may call it at once.
 pub trait Work {
     ghost use Rattle.std.specs.Prelude.{◌≡◌, ◌+◌, ℕ, IfOk};
 
@@ -15,7 +15,7 @@ pub trait Work {
     ///
     /// # Errors
     ///
-    /// Why this session does no further round. It is to leave no transaction.
+    /// Why this session does no further round. It must leave no transaction.
     fn round<N: Naming, R: Wait>(
         &self,
         rt: &R,

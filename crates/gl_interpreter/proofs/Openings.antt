@@ -33,7 +33,7 @@ chooses v two s s' line ready says is names locks deadlock orders =
     subst (λ o. Opens c o line (codes "ok\n") (Going s')) (sym says)
     (refl, λ i. Going (record { language = is i; names = none i; locks = all i; deadlock = no_victim i; orders = nothing_held i }))
 
--- any other line is one of the script
+-- any other line is an ordinary line of the script
 pub goes_on : (two : Option ManagerView) (s s' : Script) (line text : List ℕ) → IsReadyWith two s
     → ((m : ManagerView) → two ≡ Some m → version_of line ≡ None) → Answers s line text s'
     → Prints (stage_with two s) line text (stage_with None s')

@@ -1,4 +1,4 @@
--- The order in which the nodes of a slot are kept.
+-- The order in which the nodes of a slot are stored.
 use Rattle.std.specs.Prelude.{◌≡◌, ℕ, suc, zero, ◌||◌, List, [], ◌∷◌, None, get_or, map, slice_get}
 use Rattle.std.specs.Map.{keys_of, lookup}
 use Rattle.std.specs.Option.{option_map_or}
@@ -32,11 +32,11 @@ module _ {A : Type 0} where
   found_in (es ∷ ls) zero n = refl
   found_in (es ∷ ls) (suc t) n = found_in ls t n
 
--- the rows of a slot stand in its order
+-- the rows of a slot are in its order
 pub nodes_in_order : (v : TableView) (t : ℕ) → map (λ (r : LockRow). r.node) (rows_of v t) ≡ nodes_of v t
 nodes_in_order v t = row_nodes row_of (λ x. refl) (get_or v.lists t [])
 
--- of a new manager no list has a node
+-- in a new manager no list has a node
 pub none_kept : (m : ManagerView) (c : Victims) (d : Detect) (most : ℕ) → state_of m ≡ choosing c (empty_state d most) → ListsAgree m.table
     → nodes_of m.table ≡ no_orders
 none_kept m c d most made agree = fun_ext (λ t.

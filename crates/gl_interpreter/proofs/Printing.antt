@@ -9,7 +9,7 @@ use Rattle.gl_script.specs.Views.{node_in}
 use Rattle.gl_interpreter.specs.Printed.{first_unused, place_text, some_unused, who_text}
 use Rattle.gl_interpreter.specs.Script.{Script, node_named}
 
--- a used node is spelt as its name, and behind it its place
+-- the text of a used node is its name, and then its place
 pub used_text : (name : List ℕ) (o : Option ℕ) → name ++ place_text o ≡ node_text (node_in name o)
 used_text name None = append-nil name
 used_text name (Some k) = refl
@@ -24,7 +24,7 @@ module _ (s : Script) where
     ap (λ b. b || some_unused s ns) h,
   )
 
-  -- one whose name is, and what follows it
+  -- one whose name is in use, and what follows it
   pub head_used : (n : Node) (ns : List Node) → is_none (node_named s n) ≡ false → (first_unused s (n ∷ ns) ≡ first_unused s ns)
       × (some_unused s (n ∷ ns) ≡ some_unused s ns)
   head_used n ns h = (ap (λ b. if b then 32 ∷ node_text n else first_unused s ns) h, ap (λ b. b || some_unused s ns) h)
@@ -48,11 +48,11 @@ module _ (s : Script) where
       by true some later = absurd (true≢false some)
       by false some later = later some
 
-  -- nothing is printed where all are in use
+  -- nothing is printed if all are in use
   pub none_unused : (ns : List Node) → some_unused s ns ≡ false → first_unused s ns ≡ []
   none_unused ns h = ap (first_unused s) (sym (append-nil ns)) ∙ unused_in_second ns [] h
 
-  -- the other refusals name nobody
+  -- the other refusals name nothing
   pub names_nobody : (c : Command) (r : Refusal) → ¬ (r ≡ no.NoSuchNode) → ¬ (r ≡ no.NoSuchTxn) → ¬ (r ≡ no.NameTaken)
       → ((n : NodeId) → ¬ (r ≡ no.NeedParents n)) → ((n : NodeId) → ¬ (r ≡ no.HeldChild n)) → ((n : NodeId) → ¬ (r ≡ no.Cycle n))
       → who_text s c r ≡ []

@@ -1,4 +1,4 @@
--- A script on its way through the tool: lines grow, are answered, and end.
+-- A script that the tool reads: lines grow, are answered, and end.
 use Rattle.std.proofs.Common.{◌≡◌, ◌≢◌, ℕ, zero, suc, ◌&&◌, ◌==◌, ◌+◌, ◌<◌, ◌≤◌, List, [], ◌∷◌, ◌++◌, Option, Some, None, if◌then◌else◌, Result, Ok}
 use Rattle.std.proofs.Common.{Err, OnOk, length, take, flat_map, refl, sym, ap, ◌∙◌, subst, append_assoc, append-nil, arith, inl, inr, length-take}
 use Rattle.std.proofs.Common.{min, take_all, true, false}
@@ -50,13 +50,13 @@ Run-more s [] text mid line more t r p =
 Run-more s (l ∷ lines) text mid line more t r p =
     (r.0, r.1, r.2 ++ more, r.3, Run-more r.0 lines r.2 mid line more t r.4 p, ap (λ x. x ++ more) r.5 ∙ append_assoc r.1 r.2 more)
 
--- the front of a line that goes on is seen from its front
+-- a prefix of a longer line is seen from its own prefix
 pub front-more : (n : ℕ) (rest bytes : List ℕ) → take n (take n rest ++ bytes) ≡ take n (rest ++ bytes)
 front-more zero rest bytes = refl
 front-more (suc n) [] bytes = refl
 front-more (suc n) (b ∷ rest) bytes = ap (λ l. b ∷ l) (front-more n rest bytes)
 
--- as many bytes are kept as there is room for
+-- as many bytes are stored as there is room for
 pub front-kept : (n room : ℕ) (line bytes : List ℕ) → room + length line ≡ n → line ++ take (min room (length bytes)) bytes ≡ take n (line ++ bytes)
 front-kept n room line bytes all =
     ap (λ l. line ++ l) (take_min room bytes) ∙ sym (take-append-add line bytes room) ∙ ap (λ k. take k (line ++ bytes)) (omega (arith, all))
@@ -64,7 +64,7 @@ front-kept n room line bytes all =
 pub front-short : (line : List ℕ) → length (take 257 line) ≤ 256 → take 257 line ≡ line
 front-short line h = take_all 257 line (omega (arith, length-take 257 line))
 
--- whether a line is another, shorter one can be seen from its front
+-- whether a line is another, shorter one can be seen from its prefix
 same-front : (n : ℕ) (line other : List ℕ) → length other < n → bytes_eq (take n line) other ≡ bytes_eq line other
 same-front zero line other h = absurd (omega arith)
 same-front (suc n) [] other h = refl
@@ -112,7 +112,7 @@ SoFar-newline d first read w w' tool tool' reported tool'' same sink line (lines
       },
     )
 
--- a line goes on
+-- a line continues
 pub Takes-open : (w : Option (List ℕ)) (tool tool' : Tool) (bytes : List ℕ) → IsOpen bytes → tool'.interpreter ≡ tool.interpreter → tool'.sink ≡ tool.sink
     → tool'.line.items ≡ take 257 (tool.line.items ++ bytes) → Takes w tool w tool' bytes
 unfolding Takes
@@ -129,7 +129,7 @@ Takes-open w tool tool' bytes open_ same sink line d first read (lines, rest, te
   },
 )
 
--- a line of which nothing was taken yet is answered whole
+-- a line of which nothing was stored yet is answered whole
 pub Takes-line : (w : Option (List ℕ)) (tool : Tool) (w' : Option (List ℕ)) (tool' : Tool) (line : List ℕ)
     → tool.line.items ≡ [] → tool'.line.items ≡ [] → IsOpen line → Answered w tool.sink tool.interpreter line w' tool'.sink tool'.interpreter
     → Takes w tool w' tool' (line ++ 10 ∷ [])
@@ -168,7 +168,7 @@ unfolding Takes
 Takes-then w t w' t' w'' t'' xs ys p q d first read h =
     subst (λ r. SoFar d first r w'' t'') (append_assoc read xs ys) (q d first (read ++ xs) (p d first read h))
 
--- the sink alone has moved
+-- only the sink has changed
 pub SoFar-flushed : (d : Choices) (first : Option (List ℕ)) (read : List ℕ) (w w' : Option (List ℕ)) (tool tool' : Tool)
     → tool'.interpreter ≡ tool.interpreter → tool'.line ≡ tool.line → Hands w tool.sink w' tool'.sink []
     → SoFar d first read w tool → SoFar d first read w' tool'

@@ -7,13 +7,13 @@ use Rattle.indexmap.specs.IndexMap.{IndexMap, Updates, get}
 use Rattle.arrayvec.specs.ArrayVec.{ArrayVec}
 use Rattle.gl_interpreter.specs.Views.{same_name, text_or_none}
 
--- what holds where there is a value
+-- what holds if there is a value
 pub on_ok : {T E P : Type 0} (r : Result T E) → IsOk r → OnOk r P → P
 on_ok (Ok x) ok p = p
 on_ok (Err e) ok p = absurd (true≢false (sym ok))
 
 module _ {I S : Type 0} (old new : IndexMap (ArrayVec ℕ) I S) (k : ArrayVec ℕ) (name : List ℕ) (is : k.items ≡ name) where
-  -- a name that was put in, or taken out
+  -- a name that was added, or removed
   pub ids-updated : (o : Option I) → Updates same_name old new k o
       → ◌≡◌ {A = List ℕ → Option I} (λ n. get same_name new (record { items = n }))
       (λ n. if bytes_eq name n then o else get same_name old (record { items = n }))

@@ -29,7 +29,7 @@ module _ {A : Type 0} (row : A → List ℕ) where
   more_rows xs i d e low = ap (λ x. flat_map row (take i xs) ++ row x) (get_or_default xs i e d low) ∙ one_more (take i xs) (get_or xs i d)
       ∙ ap (flat_map row) (sym (take_more xs i d low))
 
-  -- the row that stands at a place
+  -- the row at a place
   pub row_there : (xs : List A) (i : ℕ) (x : A) → slice_get xs i ≡ Some x → flat_map row (take i xs) ++ row x ≡ flat_map row (take (i + 1) xs)
   row_there xs i x at =
       one_more (take i xs) x ∙ ap (λ y. flat_map row (take i xs ++ y ∷ [])) (sym (get_or_from_slice_get xs i x x at))
@@ -61,7 +61,7 @@ listed_rows o who rows rows' none same = ap (λ r. codes "ok\n" ++ r) same ∙ a
 pub listed_refusal : (o : Option Refusal) (r : Refusal) (who rows : List ℕ) → o ≡ Some r → refusal_line r who ≡ listed o who rows
 listed_refusal o r who rows refused = ap (λ p. listed p who rows) (sym refused)
 
--- what a call answers says whether a test refuses
+-- the answer of a call shows whether a test refuses
 pub goes : {A : Type 0} (o : Option Refusal) (result : Result A Refusal) (x : A) → RefusesOnly o result → result ≡ Ok x → o ≡ None
 goes None result x h e = refl
 goes (Some r) result x h e = let both : Err r ≡ Ok x = sym h ∙ e in absurd (cc)
@@ -81,7 +81,7 @@ not_past [] i low e = absurd (omega arith)
 not_past (x ∷ xs) zero low e = none_some (sym e)
 not_past (x ∷ xs) (suc i) low e = not_past xs i (omega arith) e
 
--- what is answered by nothing shows that the test failed
+-- an answer of nothing shows that the test failed
 pub failed : {A : Type 0} (b : Bool) (x : A) → None ≡ (if b then Some x else None) → b ≡ false
 failed true x e = absurd (none_some e)
 failed false x e = refl

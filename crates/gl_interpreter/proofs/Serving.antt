@@ -1,4 +1,4 @@
--- A command of a script is refused here, or handed on.
+-- A command of a script is refused here, or passed to the manager.
 use Rattle.std.proofs.Common.{◌≡◌, Bool, true, Err, Ok, sym, subst, inl, inr}
 use Rattle.gl_table.specs.Table.{nodes_of}
 use Rattle.gl_catalog.specs.Manager.{state_of}
@@ -12,7 +12,7 @@ use Rattle.gl_interpreter.specs.Rooms.{IsRoomed}
 use Rattle.gl_interpreter.specs.Script.{DoesWhere, HandedOn, RefusedHere, Script, declared, is_name}
 use Rattle.gl_interpreter.specs.Views.{names_of, script_of}
 
--- the script is the same where language, names and manager are
+-- the script is the same if language, names and manager are
 pub same_script : (x y : Desk) → names_of x ≡ names_of y → x.language ≡ y.language → x.manager ≡ y.manager → script_of x ≡ script_of y
 same_script x y names language manager =
     λ i. record {
@@ -30,6 +30,6 @@ module _ (s : Script) (c : Command) (a : Said) (told : Told) (s' : Script) (take
   does_refused no.NoMemory is named h = subst (λ b. DoesWhere b s c a told s') (sym is) (inr (named, h))
   does_refused _ is named h = absurd is
 
-  -- there is
+  -- there is room
   pub does_handed : IsRoomed taken room (Ok tt) → HandedOn s c a told s' → DoesWhere taken s c a told s'
   does_handed is h = subst (λ b. DoesWhere b s c a told s') (sym is.0) (inl h)

@@ -1,4 +1,4 @@
--- What becomes of text on its way to a writer.
+-- Text that is buffered for a writer.
 use Rattle.std.proofs.Common.{◌≡◌, ℕ, List, [], ◌++◌, Bool, true, false, not, Option, Some, None, refl, sym, ap, ◌∙◌, subst, append_assoc, append-nil}
 use Rattle.std.proofs.Common.{take, drop, ◌+◌, take-append-drop}
 use Rattle.std.proofs.Math.Seq.{take-add}
@@ -22,7 +22,7 @@ Appends-kept (Some x) None c xs p q = absurd p
 Appends-kept (Some x) (Some y) None xs p q = absurd q
 Appends-kept (Some x) (Some y) (Some z) xs p q = q ∙ p
 
--- one more byte is held
+-- one more byte is buffered
 pub Handed-push : (first w : Option (List ℕ)) (held : List ℕ) (broken : Bool) (text more : List ℕ)
     → Handed first w held broken text → Handed first w (held ++ more) broken (text ++ more)
 Handed-push first w held false text more h =
@@ -30,7 +30,7 @@ Handed-push first w held false text more h =
 Handed-push first w held true text more h =
     (h.0, h.1, (h.2.0 ++ more, ap (λ l. l ++ more) h.2.1 ∙ append_assoc h.0 h.2.0 more))
 
--- what was held is sent, or a front of it
+-- what was buffered is sent, or a prefix of it
 pub Handed-sent : (first w w' : Option (List ℕ)) (held : List ℕ) (went : Bool) (text : List ℕ)
     → Handed first w held false text → Sends w w' held went → Handed first w' [] (not went) text
 Handed-sent first w w' held true text h s =
@@ -48,7 +48,7 @@ unfolding Hands
 Hands-then w s w' s' w'' s'' xs ys p q first before h =
     subst (Holds first w'' s'') (append_assoc before xs ys) (q first (before ++ xs) (p first before h))
 
--- one byte goes to what is held
+-- one byte is added to the buffer
 pub Hands-push : (w : Option (List ℕ)) (s s' : Sink) (more : List ℕ) → s'.held.items ≡ s.held.items ++ more → s'.broken ≡ s.broken → Hands w s w s' more
 unfolding Hands
 Hands-push w s s' more held broken first before h =

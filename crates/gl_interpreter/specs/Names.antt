@@ -6,22 +6,22 @@ use Rattle.gl_modes.specs.Nodes.{same_node}
 use Rattle.gl_model.specs.declared.txn.TxnId.{TxnId}
 use Rattle.gl_script.specs.Grammar.{Text}
 
--- one transaction
+-- the same transaction
 abbrev pub same_txn : TxnId → TxnId → Bool
 same_txn t u = (t.slot == u.slot) && (t.age == u.age)
 
--- what each name stands for, and under which name each was declared
+-- the id of each name, and the name of each id
 pub record Names : Type 0 where
   pub node : Text → Option NodeId
   pub node_name : NodeId → Text
   pub txn : Text → Option TxnId
   pub txn_name : TxnId → Text
 
--- nothing is declared
+-- no names
 abbrev pub no_names : Names
 no_names = record { node = λ n. None; node_name = λ x. []; txn = λ t. None; txn_name = λ x. [] }
 
--- the name stands for this node
+-- the names, and this one for this node
 abbrev pub with_node : Names → Text → NodeId → Names
 with_node names n x = record names {
   node = λ m. if bytes_eq n m then Some x else names.node m;
@@ -29,7 +29,7 @@ with_node names n x = record names {
       else names.node_name y;
 }
 
--- the name of this node is free again
+-- the names, without this node's
 abbrev pub without_node : Names → Text → NodeId → Names
 without_node names n x = record names {
   node = λ m. if bytes_eq n m then None else names.node m;
@@ -37,10 +37,10 @@ without_node names n x = record names {
       else names.node_name y;
 }
 
--- the name stands for this transaction
+-- the names, and this one for this transaction
 abbrev pub with_txn : Names → Text → TxnId → Names
 with_txn names t x = record names { txn = λ u. if bytes_eq t u then Some x else names.txn u; txn_name = λ y. if same_txn x y then t else names.txn_name y }
 
--- the name of this transaction is free again
+-- the names, without this transaction's
 abbrev pub without_txn : Names → Text → TxnId → Names
 without_txn names t x = record names { txn = λ u. if bytes_eq t u then None else names.txn u; txn_name = λ y. if same_txn x y then [] else names.txn_name y }

@@ -9,20 +9,20 @@ use Rattle.gl_words.specs.Planned.{AsksFor}
 use Rattle.gl_interpreter.specs.declared.drawing.PictureFault.{PictureFault}
 use Rattle.gl_interpreter.specs.declared.drawing.PictureFault.TheVariants.{Run, Words}
 
--- the word asks for a part of the picture alone
+-- the word asks for a part of the picture
 abbrev pub is_part : Text → Bool
 is_part word = bytes_eq word (codes "--graph") || bytes_eq word (codes "--waits")
 
--- the words behind such a first word; all of them where there is none
+-- the words after such a first word, or all
 abbrev pub behind_part : List Text → List Text
 behind_part [] = []
 behind_part (word ∷ rest) = if is_part word then rest else word ∷ rest
 
--- the words ask for a picture: they are those of a script, behind one that asks for a part or none
+-- the words ask for a picture: those of a script, after an optional word for a part
 abbrev pub AsksForPicture : List Text → Type 0
 AsksForPicture words = (choices : Choices) × AsksFor (behind_part words) (Script choices)
 
--- how much was read: at most a byte past a script's limit, and with status 0 no more than the limit
+-- how much was read: at most one byte more than a script's limit, and with status 0 no more than the limit
 abbrev pub DrawsWithin : Option Text → Option Text → ℕ → Type 0
 DrawsWithin had has status = (read : Text) × Consumes had has read × (length read ≤ 16777217) × (status ≡ 0 → length read ≤ 16777216)
 

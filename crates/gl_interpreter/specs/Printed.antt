@@ -1,4 +1,4 @@
--- What is printed for an answer: its line, and one line for each transaction that is told.
+-- The output for a command: the line of its answer, and one line for each notice.
 use Rattle.std.specs.Prelude.{ℕ, Bool, List, [], ◌∷◌, ◌++◌, codes, decimal, flat_map, Option, Some, None, is_none, if◌then◌else◌}
 use Rattle.std.specs.List.{list_any}
 use Rattle.gl_modes.specs.declared.node.NodeId.{NodeId}
@@ -32,11 +32,11 @@ abbrev pub called_at : Script → NodeId → Option ℕ → Text
 called_at s n None = s.names.node_name n
 called_at s n (Some place) = node_text (Interval (s.names.node_name (first_parent s.locks.graph n)) place)
 
--- how a node is printed
+-- the text of a node
 abbrev pub called : Script → NodeId → Text
 called s n = called_at s n (place_in (shape_of s.locks.graph n))
 
--- the nodes that a line uses, in order, the one that it declares left aside
+-- the nodes that a line uses, in order, without the one that it declares
 abbrev pub used_nodes : Command → List Node
 used_nodes (Inner n ps) = ps
 used_nodes (File n ps) = ps
@@ -93,7 +93,7 @@ declared_text (NodeName n) = n
 declared_text (TxnName t) = t
 declared_text Nothing = []
 
--- a space, and whom a refusal names, if anybody
+-- a space, and what a refusal names, if anything
 abbrev pub who_text : Script → Command → Refusal → Text
 who_text s c no.NoSuchNode = first_unused s (used_nodes c)
 who_text s c no.NoSuchTxn = 32 ∷ used_txn c
@@ -107,7 +107,7 @@ who_text s c r = []
 abbrev pub refusal_line : Refusal → Text → Text
 refusal_line r who = codes "no " ++ decimal (refusal_number r) ++ 32 ∷ [] ++ refusal_name r ++ who ++ 10 ∷ []
 
--- how an effective mode is spelt
+-- the text of an effective mode
 abbrev pub effect_text : Effect → Text
 effect_text effect.None = codes "none"
 effect_text effect.S = codes "S"
@@ -127,22 +127,22 @@ answer_line s c (answer.Escalated e) = codes "ok " ++ mode_text e.mode ++ codes 
 answer_line s c (answer.Effect e) = codes "ok " ++ effect_text e ++ 10 ∷ []
 answer_line s c (answer.Refused r) = refusal_line r (who_text s c r)
 
--- the line of what is answered
+-- the line of an answer
 abbrev pub said_line : Script → Command → Said → Text
 said_line s c (said.Answer a) = answer_line s c a
 said_line s c (said.Count k) = codes "ok " ++ decimal k ++ 10 ∷ []
 
--- what a transaction is told
+-- the text of a notice
 abbrev pub notice_text : Script → Notice → Text
 notice_text s (notice.Granted n m) = codes " granted " ++ mode_text m ++ 32 ∷ called s n
 notice_text s notice.Victim = codes " victim"
 notice_text s notice.Moved = codes " moved"
 notice_text s notice.Gone = codes " gone"
 
--- the line for a transaction that is told
+-- the line of a notice
 abbrev pub told_line : Script → TxnId × Notice → Text
 told_line s x = codes "told " ++ s.names.txn_name x.0 ++ notice_text s x.1 ++ 10 ∷ []
 
--- all that is printed for a command, in the state after it
+-- the whole output for a command, in the state after it
 abbrev pub printed : Script → Command → Said → Told → Text
 printed s c a told = said_line s c a ++ flat_map (told_line s) told

@@ -1,4 +1,4 @@
--- What is printed for a script, from all bytes read to all bytes written.
+-- The output for a script, from all bytes read to all bytes written.
 use Rattle.std.specs.Prelude.{◌≡◌, ◌≢◌, ◌<◌, ◌≤◌, ◌⊎◌, List, [], ◌∷◌, ◌++◌, length, slice_index, All, codes, flat_map, Option, Some, None}
 use Rattle.std.specs.Prelude.{if◌then◌else◌, Result, MatchResult, OnOk}
 use Rattle.std.specs.Io.KnownBytes.{Consumes, Appends}
@@ -19,11 +19,11 @@ use Rattle.gl_interpreter.specs.declared.script.RunFault.TheVariants.{Read, Writ
 abbrev pub IsSilent : Text → Type 0
 IsSilent line = (length line ≡ 0) ⊎ (slice_index line 0 ≡ 35)
 
--- what is printed for a line that says no command
+-- the output for a line that is no command
 abbrev pub bad_line : Text
 bad_line = codes "no 20 BadLine\n"
 
--- a command, and the text that is printed for what it does
+-- a command, and its output
 pub record Carries (s : Script) (line text : Text) (s' : Script) : Type 0 where
   pub command : Command
   pub says : Says s.language line (Orders command)
@@ -32,14 +32,14 @@ pub record Carries (s : Script) (line text : Text) (s' : Script) : Type 0 where
   pub does : Does s command said told s'
   pub text_is : text ≡ printed s' command said told
 
--- a listing, and the text that it shows; the script is as before
+-- a listing, and its output; the script is unchanged
 pub record Tells (s : Script) (line text : Text) (s' : Script) : Type 0 where
   pub listing : Listing
   pub says : Says s.language line (Lists listing)
   pub shows : Shows s listing text
   pub same : s' ≡ s
 
--- The text that is printed for a line, and the script after it. A line of more than 256 bytes is a bad line, whatever it holds.
+-- the output for a line, and the script after it; a line of more than 256 bytes is a bad line, whatever it contains
 abbrev pub Answers : Script → Text → Text → Script → Type 0
 Answers s line text s' =
     ((256 < length line) × (text ≡ bad_line) × (s' ≡ s))
@@ -48,12 +48,12 @@ Answers s line text s' =
     ⊎ ((length line ≤ 256) × ¬ (IsSilent line) × Tells s line text s')
     ⊎ ((length line ≤ 256) × ¬ (IsSilent line) × Carries s line text s')
 
--- where a script stands: before its first line, or behind a line
+-- the stage of a script: before its first line, or after a line
 pub data Stage : Type 0 where
   Opening : (choices : Choices) → Stage
   Going : (script : Script) → Stage
 
--- the version that a first line chooses, which is no command; one that chooses none is of version 1
+-- the version that a first line chooses, which is no command; if it chooses none, the version is 1
 abbrev pub version_of : Text → Option Version
 version_of line = if bytes_eq line (codes "granular 2") then Some version.Two else None
 
@@ -62,22 +62,22 @@ abbrev pub Opens : Choices → Option Version → Text → Text → Stage → Ty
 Opens c (Some v) line text stage = (text ≡ codes "ok\n") × (stage ≡ Going (begun c v))
 Opens c None line text stage = (s : Script) × Answers (begun c version.One) line text s × (stage ≡ Going s)
 
--- the text that is printed for a line, wherever it stands
+-- the output for a line, at any stage
 abbrev pub PrintsAt : Stage → Text → Text → Stage → Type 0
 PrintsAt (Opening c) line text stage = Opens c (version_of line) line text stage
 PrintsAt (Going s) line text stage = (s' : Script) × Answers s line text s' × (stage ≡ Going s')
 
--- the same, closed up
+-- the same, not unfolded
 unfoldable pub Prints : Stage → Text → Text → Stage → Type 0
 Prints stage line text stage' = PrintsAt stage line text stage'
 
--- the text that is printed for these lines, one after the other
+-- the output for these lines, in order
 abbrev pub Run : Stage → List Text → Text → Stage → Type 0
 Run s [] text t = (text ≡ []) × (t ≡ s)
 Run s (line ∷ lines) text t =
     (mid : Stage) × (first : Text) × (more : Text) × Prints s line first mid × Run mid lines more t × (text ≡ first ++ more)
 
--- a line has no newline in it
+-- the line has no newline
 abbrev pub IsOpen : Text → Type 0
 IsOpen line = All (λ b. b ≢ 10) line
 
@@ -85,23 +85,23 @@ IsOpen line = All (λ b. b ≢ 10) line
 abbrev pub ended : Text → Text
 ended line = line ++ 10 ∷ []
 
--- the bytes are whole lines, each before its newline, and a rest that has none
+-- the bytes are whole lines, each before its newline, and a rest without one
 pub record Splits (bytes : Text) (lines : List Text) (rest : Text) : Type 0 where
   pub whole : bytes ≡ flat_map ended lines ++ rest
   pub each : All IsOpen lines
   pub tail : IsOpen rest
 
--- a rest is a line where it has a byte
+-- the rest is a line if it has a byte
 abbrev pub last_line : Text → List Text
 last_line [] = []
 last_line (b ∷ bs) = (b ∷ bs) ∷ []
 
--- the text is printed for the lines of the bytes, the last one included
+-- the text is the output for the lines of the bytes, the last one included
 abbrev pub Report : Choices → Text → Text → Type 0
 Report c bytes text =
     (lines : List Text) × (rest : Text) × (t : Stage) × Splits bytes lines rest × Run (Opening c) (lines ++ last_line rest) text t
 
--- the text is printed for the lines of the bytes that a newline ends
+-- the text is the output for the lines of the bytes that end with a newline
 abbrev pub ReportOfWhole : Choices → Text → Text → Type 0
 ReportOfWhole c bytes text =
     (lines : List Text) × (rest : Text) × (t : Stage) × Splits bytes lines rest × Run (Opening c) lines text t
@@ -113,12 +113,12 @@ Left c TooMuch read written = (length read ≡ 16777217) × ReportOfWhole c read
 Left c Write read written = (rest : Text) × Report c read (written ++ rest)
 Left c Memory read written = (read ≡ []) × (written ≡ [])
 
--- what a run read, what it wrote, and how the two go together
+-- what a run read, what it wrote, and the relation of both
 abbrev pub Ran : Choices → Option Text → Option Text → Option Text → Option Text → Result Unit RunFault → Type 0
 Ran c had has held holds result =
     (read : Text) × (written : Text) × Consumes had has read × Appends held holds written
     × MatchResult result (λ _. Report c read written) (λ fault. Left c fault read written)
 
--- how much was read: at most a byte past the limit, and with Ok no more than the limit
+-- how much was read: at most one byte more than the limit, and with Ok no more than the limit
 abbrev pub ReadsWithin : Option Text → Option Text → Result Unit RunFault → Type 0
 ReadsWithin had has result = (read : Text) × Consumes had has read × (length read ≤ 16777217) × OnOk result (length read ≤ 16777216)

@@ -1,4 +1,4 @@
--- Room for a name that is declared, made before anything changes.
+-- Room for a declared name, made before anything changes.
 use Rattle.std.specs.Prelude.{◌≡◌, Bool, true, false, OnErr, Result, Ok, Err, is_some}
 use Rattle.gl_modes.specs.declared.refusal.Refusal.{Refusal}
 use Rattle.gl_modes.specs.declared.refusal.Refusal.TheVariants as no
@@ -9,23 +9,23 @@ use Rattle.gl_interpreter.specs.Names.{Names}
 use Rattle.gl_interpreter.specs.Script.{Declared, NodeName, TxnName, Nothing, is_in_use, is_name}
 use Rattle.gl_interpreter.specs.Views.{HasRoom, id_in}
 
--- there is room for what is declared
+-- there is room for the declared name
 abbrev pub HasRoomFor : Desk → Declared → Type 0
 HasRoomFor desk (NodeName n) = HasRoom desk.nodes
 HasRoomFor desk (TxnName t) = HasRoom desk.txns
 HasRoomFor desk Nothing = Unit
 
--- the name is free and there is room, or the refusal says what is wanting
+-- the name is free and there is room, or the refusal says which is not so
 abbrev pub IsRoomed : Bool → Type 0 → Result Unit Refusal → Type 0
 IsRoomed taken room (Ok u) = (taken ≡ false) × room
 IsRoomed taken room (Err no.NameTaken) = taken ≡ true
 IsRoomed taken room (Err no.NoMemory) = taken ≡ false
 IsRoomed taken room (Err r) = ⊥
 
--- in one set of names
+-- room in one set of names
 abbrev pub MakesRoomIn : {I : Type 0} → Register I → Text → Register I → Result Unit Refusal → Type 0
 MakesRoomIn old n new result = IsRoomed (is_some (id_in old n)) (HasRoom new) result
 
--- for what a line declares
+-- room for what a line declares
 abbrev pub MakesRoom : Names → Declared → Desk → Result Unit Refusal → Type 0
 MakesRoom names d desk result = IsRoomed (is_in_use names d) (HasRoomFor desk d) result × OnErr result (is_name d ≡ true)

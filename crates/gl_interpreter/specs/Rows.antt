@@ -1,4 +1,4 @@
--- What a listing prints: one line for each row, in the state of one moment.
+-- The output of a listing: one line for each row, in the state of one moment.
 use Rattle.std.specs.Prelude.{◌≡◌, ℕ, Bool, List, [], ◌∷◌, ◌++◌, codes, decimal, flat_map, map, Option, Some, None, if◌then◌else◌}
 use Rattle.std.specs.List.{filter, range_with_len}
 use Rattle.gl_modes.specs.declared.mode.Mode.{Mode}
@@ -24,7 +24,7 @@ use Rattle.gl_script.specs.Grammar.{Text, Node, Listing, Holders, Queue, Locks, 
 use Rattle.gl_interpreter.specs.Printed.{called, called_at, first_unused, refusal_line}
 use Rattle.gl_interpreter.specs.Script.{Script, node_id, txn_id}
 
--- the name of who lives
+-- the name of a living transaction
 abbrev pub name_of : Script → Option (TxnId × Status) → Text
 name_of s None = []
 name_of s (Some x) = s.names.txn_name x.0
@@ -41,11 +41,11 @@ slots_where test = filter test (range_with_len 0 slot_limit)
 abbrev pub holder_row : Script → NodeId → ℕ → Text
 holder_row s n t = codes "holder " ++ name_at s t ++ 32 ∷ [] ++ mode_text (s.locks.held t n) ++ 10 ∷ []
 
--- who waits in a queue, with the wanted mode
+-- a waiter in a queue, with the wanted mode
 abbrev pub waiter_row : Script → Waiter → Text
 waiter_row s w = codes "waiter " ++ name_at s w.0 ++ 32 ∷ [] ++ mode_text w.1 ++ 10 ∷ []
 
--- one for whom a transaction waits
+-- a transaction for which another waits
 abbrev pub blocker_row : Script → ℕ → Text
 blocker_row s t = codes "blocker " ++ name_at s t ++ 10 ∷ []
 
@@ -60,7 +60,7 @@ abbrev pub txn_row : Script → Option (TxnId × Status) → Text
 txn_row s None = []
 txn_row s (Some x) = codes "txn " ++ s.names.txn_name x.0 ++ 32 ∷ [] ++ decimal x.0.age ++ status_text s x.1 ++ 10 ∷ []
 
--- the wanted mode, on the node that is waited for
+-- the wanted mode, if the transaction waits for this node
 abbrev pub wanted_text : Option (NodeId × Mode) → NodeId → Text
 wanted_text None n = []
 wanted_text (Some x) n = if same_node x.0 n then codes " waits " ++ mode_text x.1 else []
@@ -69,24 +69,24 @@ wanted_text (Some x) n = if same_node x.0 n then codes " waits " ++ mode_text x.
 abbrev pub lock_row : Script → Option (NodeId × Mode) → LockRow → Text
 lock_row s wait r = codes "lock " ++ mode_text r.mode ++ 32 ∷ called s r.node ++ codes " children " ++ decimal r.children ++ wanted_text wait r.node ++ 10 ∷ []
 
--- a listing that is refused says why, and whom it does not know; any other is a line and the rows
+-- a refused listing says why, and names what is not in use; any other is a line and the rows
 abbrev pub listed : Option Refusal → Text → Text → Text
 listed None who rows = codes "ok\n" ++ rows
 listed (Some r) who rows = refusal_line r who
 
--- of a node
+-- the listing of a node
 abbrev pub node_listing : Script → Node → Text → Text
 node_listing s n rows = listed (first_refusal (group_tests s.locks (node_id s n))) (first_unused s (n ∷ [])) rows
 
--- of a transaction
+-- the listing of a transaction
 abbrev pub txn_listing : Script → Text → Text → Text
 txn_listing s t rows = listed (first_refusal (living_tests s.locks (txn_id s.names t))) (32 ∷ t) rows
 
--- who lives, by rising slot
+-- the living transactions, by rising slot
 abbrev pub txn_rows : Script → Text
 txn_rows s = flat_map (λ t. txn_row s (living_in s.locks t)) (range_with_len 0 s.locks.most)
 
--- a name, or a dash where it was given back
+-- a name, or a dash if it is no longer in use
 abbrev pub or_dash : Text → Text
 or_dash [] = 45 ∷ []
 or_dash (b ∷ bs) = b ∷ bs
@@ -103,23 +103,23 @@ kept_at s n (Some place) = called_at s n (Some place)
 abbrev pub kept_node : Script → NodeId → Text
 kept_node s n = 32 ∷ kept_at s n (place_in (shape_of s.locks.graph n))
 
--- one waited for the other
+-- a transaction of a deadlock waited for another
 abbrev pub wait_row : Script → Stuck → Stuck → Text
 wait_row s r q =
     if has_slot r.waits_for q.txn.slot
     then codes "stuck" ++ member_text s r.txn ++ codes " waits " ++ mode_text r.wanted ++ kept_node s r.node ++ codes " for" ++ member_text s q.txn ++ 10 ∷ []
     else []
 
--- for whom of these one waited
+-- the transactions of a deadlock for which this one waited
 abbrev pub stuck_rows : Script → List Stuck → Stuck → Text
 stuck_rows s all r = flat_map (wait_row s r) all
 
--- who fell of these, and who of them waited for whom; nothing where nobody ever fell
+-- the victim of a deadlock, and who waited for whom; empty if there was none
 abbrev pub deadlock_rows : Script → TxnId → List Stuck → Text
 deadlock_rows s victim [] = []
 deadlock_rows s victim (r ∷ rs) = codes "victim" ++ member_text s victim ++ 10 ∷ [] ++ flat_map (stuck_rows s (r ∷ rs)) (r ∷ rs)
 
--- what is printed for a listing; the locks of a transaction come in the order in which they are kept
+-- the output of a listing; the locks of a transaction are in the order in which they are stored
 abbrev pub Shows : Script → Listing → Text → Type 0
 Shows s (Holders n) text = text ≡ node_listing s n (flat_map (holder_row s (node_id s n)) (slots_where (holds (members s.locks (node_id s n)))))
 Shows s (Queue n) text = text ≡ node_listing s n (flat_map (waiter_row s) (s.locks.queue (node_id s n)))

@@ -1,4 +1,4 @@
--- A script between two lines, and what a command of it does: names become ids, and the command is a step of the manager, or steps of it (own).
+-- A script between two lines, and the effect of a command: names become ids, and the command is a step of the manager, or steps of it (own).
 use Rattle.std.specs.Prelude.{◌≡◌, ◌⊎◌, ℕ, Bool, true, false, List, [], length, map, Option, Some, None, is_some, unwrap_or, if◌then◌else◌}
 use Rattle.std.specs.Prelude.{IfOk, OnErr, Result, Ok, Err}
 use denote.Bor.{Bor}
@@ -34,8 +34,8 @@ use Rattle.gl_interpreter.specs.declared.request.Said.{Said}
 use Rattle.gl_interpreter.specs.declared.request.Said.TheVariants as said
 use Rattle.gl_interpreter.specs.Names.{Names, no_names, with_node, with_txn, without_node, without_txn}
 
--- its language, the names that it has declared, the locks, the deadlock of which the last victim fell, and for each slot the nodes that it holds or
--- waits for, in the order in which they are kept
+-- its language, its declared names, the locks, the deadlock of the last victim, and for each slot the nodes that it holds or waits for, in the order in which
+-- they are stored
 pub record Script : Type 0 where
   pub language : Language
   pub names : Names
@@ -43,7 +43,7 @@ pub record Script : Type 0 where
   pub deadlock : Deadlock
   pub orders : ℕ → List NodeId
 
--- nobody holds or waits for anything
+-- no transaction holds anything or waits
 abbrev pub no_orders : ℕ → List NodeId
 no_orders t = []
 
@@ -52,7 +52,7 @@ abbrev pub most_of : Version → ℕ
 most_of version.One = 64
 most_of version.Two = 128
 
--- a script of which no line was carried out
+-- a script before its first line
 abbrev pub begun : Choices → Version → Script
 begun c v = record {
   language = record { version = v; listings = c.listings; schema = c.schema; savepoints = c.savepoints };
@@ -63,17 +63,17 @@ begun c v = record {
   orders = no_orders;
 }
 
--- the interval of an index that stands for itself
+-- an interval of an index
 abbrev pub interval_named : Graph → Option NodeId → ℕ → Option NodeId
 interval_named g (Some i) k = interval_at g i k
 interval_named g None k = None
 
--- the node that is named, if one is
+-- the node with this name, if there is one
 abbrev pub node_named : Script → Node → Option NodeId
 node_named s (Plain n) = s.names.node n
 node_named s (Interval i k) = interval_named s.locks.graph (s.names.node i) k
 
--- the id of a node; one that names none, where the name is not in use
+-- the id of a node; if the name is not in use, an id of no node
 abbrev pub node_id : Script → Node → NodeId
 node_id s n = unwrap_or (node_named s n) (record { key = 0; birth = 0 })
 
@@ -81,7 +81,7 @@ node_id s n = unwrap_or (node_named s n) (record { key = 0; birth = 0 })
 abbrev pub node_ids : Script → List Node → List NodeId
 node_ids s ns = map (node_id s) ns
 
--- the id that a name of a node stands for; one that names none, where the name is not in use
+-- the id of a node's name; if it is not in use, an id of no node
 abbrev pub plain_id : Names → Text → NodeId
 plain_id names n = unwrap_or (names.node n) (record { key = 0; birth = 0 })
 
@@ -89,7 +89,7 @@ plain_id names n = unwrap_or (names.node n) (record { key = 0; birth = 0 })
 abbrev pub txn_id : Names → Text → TxnId
 txn_id names t = unwrap_or (names.txn t) (record { slot = 0; age = 0 })
 
--- what is asked of the manager: the same, with ids for names
+-- the request to the manager: the same, with ids for names
 abbrev pub Asks : Script → Command → Request → Type 0
 Asks s (Inner n ps) k = (xs : Bor (List NodeId)) × (xs.now ≡ node_ids s ps) × (k ≡ request.Apply (command.Inner xs))
 Asks s (File n ps) k = (xs : Bor (List NodeId)) × (xs.now ≡ node_ids s ps) × (k ≡ request.Apply (command.File xs))
@@ -139,24 +139,24 @@ is_in_use names (NodeName n) = is_some (names.node n)
 is_in_use names (TxnName t) = is_some (names.txn t)
 is_in_use names Nothing = false
 
--- there is such a name
+-- this is a name
 abbrev pub is_name : Declared → Bool
 is_name (NodeName n) = true
 is_name (TxnName t) = true
 is_name Nothing = false
 
--- what was made has the name that the line declares
+-- the names after a node or a transaction was made as the line declares
 abbrev pub named_as : Names → Declared → Answer → Names
 named_as names (NodeName n) (answer.Node x) = with_node names n x
 named_as names (TxnName t) (answer.Begun x) = with_txn names t x
 named_as names d a = names
 
--- the name of a transaction that has ended is free again
+-- the names after a transaction ended
 abbrev pub without_ended : Names → Text → Answer → Names
 without_ended names t answer.Done = without_txn names t (txn_id names t)
 without_ended names t a = names
 
--- the name of a node that was taken away is free again
+-- the names after a node was removed
 abbrev pub without_deleted : Names → Text → Answer → Names
 without_deleted names r answer.Done = without_node names r (plain_id names r)
 without_deleted names r a = names
@@ -169,7 +169,7 @@ renamed names (Delete t r) a = without_deleted names r a
 renamed names (Drop t n) a = without_deleted names n a
 renamed names c a = named_as names (declared c) a
 
--- what the manager is asked to apply is a step of it; the orders stay where it is not counted
+-- the manager's step; the orders are unchanged if it is not counted
 pub record Steps (s : Script) (c : Command) (asked : Asked) (a : Said) (told : Told) (s' : Script) : Type 0 where
   pub given : Answer
   pub said_is : a ≡ said.Answer given
@@ -178,35 +178,34 @@ pub record Steps (s : Script) (c : Command) (asked : Asked) (a : Said) (told : T
   pub orders : s'.locks.accepted ≡ s.locks.accepted → s'.orders ≡ s.orders
   pub names : s'.names ≡ renamed s.names c given
 
--- the manager stands for the locks of the script, its last deadlock and its orders: so each order has just the nodes that its slot holds or waits for,
--- each once
+-- the manager has the locks of the script, its last deadlock and its orders; so each order has exactly the nodes that its slot holds or waits for, each once
 pub record StandsFor (m : ManagerView) (s : Script) : Type 0 where
   pub lawful : IsLawfulManager m
   pub locks : state_of m ≡ s.locks
   pub deadlock : m.table.deadlock ≡ s.deadlock
   pub orders : (t : ℕ) → nodes_of m.table t ≡ s.orders t
 
--- some manager does
+-- some manager stands for the script
 abbrev pub IsStoodFor : Script → Type 0
 IsStoodFor s = (m : ManagerView) × StandsFor m s
 
--- a count of nodes, or why there is none
+-- a count of nodes, or the refusal
 abbrev pub counted : Result ℕ Refusal → Said
 counted (Ok k) = said.Count k
 counted (Err r) = said.Answer (answer.Refused r)
 
--- what is answered to a mark: how many nodes the transaction holds or waits for, where it lives
+-- the answer to a mark: how many nodes the transaction holds or waits for, if it lives
 abbrev pub mark_of : Script → TxnId → Said
 mark_of s t = if lives s.locks t then said.Count (length (s.orders t.slot)) else said.Answer (answer.Refused no.NoSuchTxn)
 
--- a mark changes nothing, and nobody is told
+-- a mark changes nothing, and there are no notices
 pub record Marks (s : Script) (t : TxnId) (a : Said) (told : Told) (s' : Script) : Type 0 where
   pub stood : IsStoodFor s
   pub said_is : a ≡ mark_of s t
   pub nobody_told : told ≡ []
   pub same : s' ≡ s
 
--- a transaction goes back to a mark, as its manager takes it back; refused, it changes nothing
+-- a transaction rolls back to a mark, as its manager does it; a refused one changes nothing
 pub record Releases (s : Script) (t : TxnId) (mark : ℕ) (a : Said) (told : Told) (s' : Script) : Type 0 where
   pub before : ManagerView
   pub after : ManagerView
@@ -220,13 +219,13 @@ pub record Releases (s : Script) (t : TxnId) (mark : ℕ) (a : Said) (told : Tol
   pub unchanged : OnErr result (s' ≡ s)
   pub names : s'.names ≡ s.names
 
--- what is asked is served
+-- the request is served
 abbrev pub Serves : Script → Command → Request → Said → Told → Script → Type 0
 Serves s c (request.Apply asked) a told s' = Steps s c asked a told s'
 Serves s c (request.Mark t) a told s' = Marks s t a told s'
 Serves s c (request.Release t mark) a told s' = Releases s t mark a told s'
 
--- the command is handed on, and served
+-- the command is passed to the manager, and served
 pub record HandedOn (s : Script) (c : Command) (a : Said) (told : Told) (s' : Script) : Type 0 where
   pub asked : Request
   pub asks : Asks s c asked
@@ -239,11 +238,11 @@ pub record RefusedHere (r : Refusal) (s : Script) (a : Said) (told : Told) (s' :
   pub nobody_told : told ≡ []
   pub same : s' ≡ s
 
--- A name that is in use cannot be declared again. Where memory for a new name is wanting, the command is not handed on either.
+-- a name that is in use cannot be declared again; without memory for a new name, the command is not passed on either
 abbrev pub DoesWhere : Bool → Script → Command → Said → Told → Script → Type 0
 DoesWhere true s c a told s' = RefusedHere no.NameTaken s a told s'
 DoesWhere false s c a told s' = HandedOn s c a told s' ⊎ ((is_name (declared c) ≡ true) × RefusedHere no.NoMemory s a told s')
 
--- what a command of the script does
+-- the effect of a command of the script
 abbrev pub Does : Script → Command → Said → Told → Script → Type 0
 Does s c a told s' = DoesWhere (is_in_use s.names (declared c)) s c a told s'

@@ -1,4 +1,4 @@
--- A script on its way through the tool.
+-- A script that the tool has read in part.
 use Rattle.std.specs.Prelude.{◌≡◌, ℕ, List, [], ◌++◌, false, take, Option, None, Some, Result, MatchResult}
 use Rattle.std.specs.Io.KnownBytes.{Appends}
 use Rattle.gl_words.specs.declared.requests.Choices.{Choices}
@@ -22,7 +22,7 @@ use Rattle.gl_interpreter.specs.Rows.{Shows}
 use Rattle.gl_interpreter.specs.Script.{Does, Script, begun, no_orders}
 use Rattle.gl_interpreter.specs.Views.{script_of}
 
--- how the script is answered
+-- the choices for the script
 abbrev pub choices_of : Script → Choices
 choices_of s =
     record {
@@ -33,16 +33,16 @@ choices_of s =
       savepoints = s.language.savepoints;
     }
 
--- a script has not begun where the manager of version 2 is still at hand
+-- the script has not begun if there still is a manager for version 2
 abbrev pub stage_with : Option ManagerView → Script → Stage
 stage_with None s = Going s
 stage_with (Some two) s = Opening (choices_of s)
 
--- where the script stands
+-- the stage of the script
 abbrev pub stage_of : Interpreter → Stage
 stage_of i = stage_with i.two (script_of i.desk)
 
--- as long as no version is chosen, both managers are as they were made
+-- until a version is chosen, both managers are as they were made
 abbrev pub IsReadyWith : Option ManagerView → Script → Type 0
 IsReadyWith None s = Unit
 IsReadyWith (Some two) s = let c = choices_of s in (state_of two ≡ choosing c.victims (empty_state c.detect 128))
@@ -56,13 +56,13 @@ pub record IsFresh (choices : Choices) (i : Interpreter) : Type 0 where
   pub stage : stage_of i ≡ Opening choices
   pub ready : IsReady i
 
--- a command was carried out, and what is printed for it was handed on
+-- a command was carried out, and its output written or buffered
 unfoldable pub Obeys : Option (List ℕ) → Sink → Interpreter → Command → Option (List ℕ) → Sink → Interpreter → Type 0
 Obeys w sink i command w' sink' i' =
     (said : Said) × (told : Told) × Does (script_of i.desk) command said told (script_of i'.desk) × (i'.two ≡ i.two)
     × Hands w sink w' sink' (printed (script_of i'.desk) command said told)
 
--- what a listing shows was handed on
+-- the output of a listing was written or buffered
 unfoldable pub IsShown : Option (List ℕ) → Sink → Script → Listing → Option (List ℕ) → Sink → Type 0
 IsShown w sink s listing w' sink' = (text : List ℕ) × Shows s listing text × Hands w sink w' sink' text
 
@@ -75,14 +75,14 @@ CarriesOut w sink i line w' sink' i' = (text : List ℕ) × Answers (script_of i
 unfoldable pub Answered : Option (List ℕ) → Sink → Interpreter → List ℕ → Option (List ℕ) → Sink → Interpreter → Type 0
 Answered w sink i line w' sink' i' = IsReady i → (text : List ℕ) × Prints (stage_of i) line text (stage_of i') × IsReady i' × Hands w sink w' sink' text
 
--- the tool has taken nothing
+-- the tool has read nothing
 pub record IsNew (choices : Choices) (tool : Tool) : Type 0 where
   pub fresh : IsFresh choices tool.interpreter
   pub line : tool.line.items ≡ []
   pub held : tool.sink.held.items ≡ []
   pub whole : tool.sink.broken ≡ false
 
--- Of the bytes read, the whole lines are answered; the answers were handed on; the tool has the front of the rest.
+-- the whole lines of the bytes read are answered; the answers are written or buffered; the tool has the first bytes of the rest
 pub record IsSoFar (c : Choices) (first : Option (List ℕ)) (read : List ℕ) (w : Option (List ℕ)) (tool : Tool) (lines : List (List ℕ))
     (rest text : List ℕ) : Type 0 where
   pub splits : Splits read lines rest
@@ -95,11 +95,11 @@ pub record IsSoFar (c : Choices) (first : Option (List ℕ)) (read : List ℕ) (
 abbrev pub SoFar : Choices → Option (List ℕ) → List ℕ → Option (List ℕ) → Tool → Type 0
 SoFar c first read w tool = (lines : List (List ℕ)) × (rest : List ℕ) × (text : List ℕ) × IsSoFar c first read w tool lines rest text
 
--- the tool has taken the bytes too
+-- the tool has also processed the bytes
 unfoldable pub Takes : Option (List ℕ) → Tool → Option (List ℕ) → Tool → List ℕ → Type 0
 Takes w tool w' tool' bytes = (c : Choices) (first : Option (List ℕ)) (read : List ℕ) → SoFar c first read w tool → SoFar c first (read ++ bytes) w' tool'
 
--- the line was answered, however it goes on after 257 bytes
+-- the line was answered, whatever follows its first 257 bytes
 unfoldable pub HasReported : Option (List ℕ) → Tool → Option (List ℕ) → Tool → Type 0
 HasReported w tool w' tool' =
     (line : List ℕ) → tool.line.items ≡ take 257 line → IsReady tool.interpreter
@@ -113,11 +113,11 @@ Finishes w tool w' result =
     → (written : List ℕ) × Appends first w' written
     × MatchResult result (λ _. Report c read written) (λ fault. (fault ≡ Write) × ((more : List ℕ) × Report c read (written ++ more)))
 
--- how a script is answered, wherever it stands
+-- the choices for a script, at any stage
 abbrev pub choices_in : Stage → Choices
 choices_in (Opening c) = c
 choices_in (Going s) = choices_of s
 
--- how the script is answered that the tool has
+-- the choices for the tool's script
 abbrev pub choices_now : Tool → Choices
 choices_now tool = choices_in (stage_of tool.interpreter)

@@ -1,4 +1,4 @@
--- What the code's values say.
+-- The meaning of the code's values.
 use Rattle.std.specs.Prelude.{ℕ, ◌<◌, Bool, [], Option, None, Some}
 use Rattle.std.specs.Str.{bytes_eq}
 use Rattle.indexmap.specs.IndexMap.{get, spare}
@@ -12,15 +12,15 @@ use Rattle.gl_interpreter.specs.declared.register.Register.{Register}
 use Rattle.gl_interpreter.specs.Names.{Names, same_txn}
 use Rattle.gl_interpreter.specs.Script.{Script}
 
--- names are the same where their bytes are
+-- names are equal if their bytes are
 abbrev pub same_name : ArrayVec ℕ → ArrayVec ℕ → Bool
 same_name a b = bytes_eq a.items b.items
 
--- what a name stands for
+-- the id of a name
 abbrev pub id_in : {I : Type 0} → Register I → Text → Option I
 id_in r n = get same_name r.ids (record { items = n })
 
--- the bytes of a name, none where there is none
+-- the bytes of a name, empty if there is none
 abbrev pub text_or_none : Option (ArrayVec ℕ) → Text
 text_or_none None = []
 text_or_none (Some name) = name.items
@@ -29,7 +29,7 @@ text_or_none (Some name) = name.items
 abbrev pub name_in : {I : Type 0} → (I → I → Bool) → Register I → I → Text
 name_in eq r x = text_or_none (get eq r.names x)
 
--- there is room for one name more
+-- there is room for one more name
 abbrev pub HasRoom : {I : Type 0} → Register I → Type 0
 HasRoom r = (0 < spare r.ids) × (0 < spare r.names)
 
@@ -43,7 +43,7 @@ names_of desk =
       txn_name = name_in same_txn desk.txns;
     }
 
--- the script that a desk stands for
+-- the script of a desk
 abbrev pub script_of : Desk → Script
 script_of desk =
     record {

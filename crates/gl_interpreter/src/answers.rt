@@ -1,4 +1,4 @@
-//! What is printed for a command: the line of its answer, and one for each transaction that is told.
+//! The output for a command: the line of its answer, and one for each transaction that is told.
 
 ghost use Rattle.std.specs.Prelude.{◌≡◌, ◌∷◌, ◌++◌, [], codes, decimal, flat_map, is_none};
 ghost use Rattle.gl_modes.specs.Modes.{mode_text};
@@ -36,8 +36,7 @@ use gl_table::{Effect, Notice, TxnId};
 use itoa::Buffer;
 use std::io::Write;
 
-/// Prints the lines of those who are told something, by rising slot. The desk is as it is after the
-/// command.
+/// Prints the lines of notices, by rising slot. The desk must be in its state after the command.
 pub(crate) fn put_notices<W: Write>(
     sink: &mut Sink,
     writer: &mut W,
@@ -51,7 +50,7 @@ pub(crate) fn put_notices<W: Write>(
     }
 }
 
-/// Prints the line of what is answered. The desk is as it is after the command.
+/// Prints the line of the answer. The desk must be in its state after the command.
 pub(crate) fn put_said<W: Write>(
     sink: &mut Sink,
     writer: &mut W,
@@ -110,7 +109,7 @@ fn put_ok<W: Write>(sink: &mut Sink, writer: &mut W, word: &str)
     put(sink, writer, b"\n");
 }
 
-/// How an effective mode is spelt.
+/// The text of an effective mode.
 fn effect_name(effect: Effect) -> &'static str
     ensures { result.now ≡ effect_text effect }
 {
@@ -152,7 +151,7 @@ fn put_refusal<W: Write>(
     put(sink, writer, b"\n");
 }
 
-/// Prints the line of a listing of a node that is refused: with the node, where its name is not in use.
+/// Prints the refusal of a node's listing; with the node, if its name is not in use.
 pub(crate) fn put_no_node<W: Write>(
     sink: &mut Sink,
     writer: &mut W,
@@ -168,7 +167,7 @@ pub(crate) fn put_no_node<W: Write>(
     put(sink, writer, b"\n");
 }
 
-/// Prints the line of a listing of a transaction that is refused.
+/// Prints the refusal of a transaction's listing.
 pub(crate) fn put_no_txn<W: Write>(sink: &mut Sink, writer: &mut W, name: &Name, refusal: Refusal)
     ensures { Hands (W.contents writer.old) sink.old (W.contents writer.new) sink.new (refusal_line refusal (32 ∷ name.now.items)) }
 {
@@ -188,7 +187,7 @@ fn put_no<W: Write>(sink: &mut Sink, writer: &mut W, refusal: Refusal)
     put(sink, writer, refusal.name().as_bytes());
 }
 
-/// Prints a space and whom a refusal names, if anybody.
+/// Prints a space and what a refusal names, if anything.
 fn put_who<W: Write>(
     sink: &mut Sink,
     writer: &mut W,
@@ -210,7 +209,7 @@ fn put_who<W: Write>(
     }
 }
 
-/// The name of the transaction that a line uses, empty where it uses none.
+/// The name of the transaction that a line uses, empty if it uses none.
 fn txn_name(form: &Form) -> &[u8]
     ensures { (lists : TheLists) → result.now ≡ used_txn (command_of form.entry.now lists) }
 {
@@ -237,7 +236,7 @@ fn txn_name(form: &Form) -> &[u8]
     }
 }
 
-/// The name that a line declares, empty where it declares none.
+/// The name that a line declares, empty if it declares none.
 fn declared_name(form: &Form) -> &[u8]
     ensures { (lists : TheLists) → result.now ≡ declared_text (declared (command_of form.entry.now lists)) }
 {
@@ -323,7 +322,7 @@ fn put_unused_of_index<W: Write>(
     }
 }
 
-/// Prints a space, and the first listed node whose name is not in use. Says whether there is one.
+/// Prints a space, and the first listed node whose name is not in use. Returns whether there is one.
 fn put_unused_listed<W: Write>(sink: &mut Sink, writer: &mut W, desk: &Desk, lists: &Lists) -> bool
     ensures text { Hands (W.contents writer.old) sink.old (W.contents writer.new) sink.new (first_unused (script_of desk.now) (nodes_of lists.now)) }
     ensures is { result ≡ some_unused (script_of desk.now) (nodes_of lists.now) }
@@ -336,7 +335,8 @@ fn put_unused_listed<W: Write>(sink: &mut Sink, writer: &mut W, desk: &Desk, lis
     false
 }
 
-/// Prints a space and a node as a line spells it, where its name is not in use. Says whether it is so.
+/// Prints a space and a node as the line writes it, if its name is not in use. Returns whether it
+/// printed.
 fn put_unused<W: Write>(sink: &mut Sink, writer: &mut W, desk: &Desk, node: &Used) -> bool
     ensures text { Hands (W.contents writer.old) sink.old (W.contents writer.new) sink.new (first_unused (script_of desk.now) (node_of node.now ∷ [])) }
     ensures is { result ≡ is_none (node_named (script_of desk.now) (node_of node.now)) }
@@ -349,7 +349,7 @@ fn put_unused<W: Write>(sink: &mut Sink, writer: &mut W, desk: &Desk, node: &Use
     true
 }
 
-/// Prints a space and a name, where it is not in use. Says whether it is so.
+/// Prints a space and a name, if it is not in use. Returns whether it printed.
 fn put_unused_name<W: Write>(sink: &mut Sink, writer: &mut W, desk: &Desk, name: &Name) -> bool
     ensures text { Hands (W.contents writer.old) sink.old (W.contents writer.new) sink.new (first_unused (script_of desk.now) (Plain name.now.items ∷ [])) }
     ensures is { result ≡ is_none (node_named (script_of desk.now) (Plain name.now.items)) }
@@ -392,7 +392,7 @@ pub(crate) fn put_called<W: Write>(sink: &mut Sink, writer: &mut W, desk: &Desk,
     }
 }
 
-/// Prints the line for a transaction that is told.
+/// Prints the line of a notice.
 fn put_told<W: Write>(sink: &mut Sink, writer: &mut W, desk: &Desk, txn: TxnId, notice: Notice)
     ensures { Hands (W.contents writer.old) sink.old (W.contents writer.new) sink.new (told_line (script_of desk.now) (txn, notice)) }
 {
@@ -402,7 +402,7 @@ fn put_told<W: Write>(sink: &mut Sink, writer: &mut W, desk: &Desk, txn: TxnId, 
     put(sink, writer, b"\n");
 }
 
-/// Prints what a transaction is told.
+/// Prints the text of a notice.
 fn put_notice<W: Write>(sink: &mut Sink, writer: &mut W, desk: &Desk, notice: Notice)
     ensures { Hands (W.contents writer.old) sink.old (W.contents writer.new) sink.new (notice_text (script_of desk.now) notice) }
 {

@@ -1,4 +1,4 @@
-//! A script between two lines: the names that it has declared, and the manager of its locks.
+//! The state of a script between two lines: the names that it has declared, and its lock manager.
 
 ghost use Rattle.std.specs.Prelude.{◌≡◌, [], is_some};
 ghost use Rattle.gl_graph.specs.Graph.{first_parent, shape_of};
@@ -39,7 +39,7 @@ use std::hash::Hash;
 /// The ids of the parents that a line lists.
 pub(crate) type Ids = ArrayVec<NodeId, 257>;
 
-/// What a script has declared, and the manager of its locks.
+/// What a script has declared, and its lock manager.
 #[derive(Drop)]
 pub(crate) struct Desk {
     pub(crate) language: Language,
@@ -49,7 +49,7 @@ pub(crate) struct Desk {
 }
 
 impl Desk {
-    /// A script of this language, of which no line was carried out.
+    /// A script of this language before its first line.
     pub(crate) fn new(alloc: Global, language: Language, manager: Manager) -> Desk
         ensures language { result.language ≡ language }
         ensures manager { result.manager ≡ manager }
@@ -63,7 +63,7 @@ impl Desk {
         }
     }
 
-    /// Goes on as a script of this version, of which no line was carried out.
+    /// Restarts as a script of this version before its first line.
     pub(crate) fn begin_version(&mut self, version: Version, manager: Manager)
         ensures language { self.new.language ≡ record (self.old.language) { version = version } }
         ensures manager { self.new.manager ≡ manager }
@@ -73,8 +73,8 @@ impl Desk {
         self.manager = manager;
     }
 
-    /// Carries out the command of a line. A name that is in use is not declared again, and the room
-    /// for a new one is made first.
+    /// Carries out the command of a line. A name that is in use cannot be declared again; room for a
+    /// new one is made first.
     pub(crate) fn serve(
         &mut self,
         form: &Form,
@@ -128,7 +128,7 @@ impl Desk {
         }
     }
 
-    /// What a line asks of the manager.
+    /// The request of a line to the manager.
     fn request<'a>(&self, form: &Form, lists: &'a Lists, ids: &'a [NodeId]) -> Request<'a>
         requires { ids.now ≡ node_ids (script_of self.now) (nodes_of lists.now) }
         ensures { Asks (script_of self.now) (command_of form.now lists.now) result }
@@ -224,7 +224,8 @@ impl Desk {
         }
     }
 
-    /// The names after a command: what was made has its name, and the name of what is gone is free.
+    /// Updates the names after a command: a new node or transaction has its name, and the name of one
+    /// that is gone is free.
     fn rename(&mut self, form: &Form, answer: Answer)
         requires room { (lists : TheLists) → HasRoomFor self.old (declared (command_of form.now lists)) }
         ensures names { (lists : TheLists) → names_of self.new ≡ renamed (names_of self.old) (command_of form.now lists) answer }
@@ -246,7 +247,7 @@ impl Desk {
         }
     }
 
-    /// What was made has this name.
+    /// Gives this name to the node that was made.
     fn name_node(&mut self, name: &Name, answer: Answer)
         requires room { HasRoom self.old.nodes }
         ensures names { names_of self.new ≡ named_as (names_of self.old) (NodeName name.now.items) answer }
@@ -258,7 +259,7 @@ impl Desk {
         }
     }
 
-    /// The transaction that began has this name.
+    /// Gives this name to the transaction that began.
     fn name_txn(&mut self, name: &Name, answer: Answer)
         requires room { HasRoom self.old.txns }
         ensures names { names_of self.new ≡ named_as (names_of self.old) (TxnName name.now.items) answer }
@@ -270,7 +271,7 @@ impl Desk {
         }
     }
 
-    /// The name of a transaction that has ended is free again.
+    /// Frees the name of a transaction that has ended.
     fn free_txn(&mut self, name: &Name, answer: Answer)
         ensures names { names_of self.new ≡ without_ended (names_of self.old) name.now.items answer }
         ensures language { self.new.language ≡ self.old.language }
@@ -282,7 +283,7 @@ impl Desk {
         }
     }
 
-    /// The name of a node that was taken away is free again.
+    /// Frees the name of a node that was removed.
     fn free_node(&mut self, name: &Name, answer: Answer)
         ensures names { names_of self.new ≡ without_deleted (names_of self.old) name.now.items answer }
         ensures language { self.new.language ≡ self.old.language }
@@ -294,7 +295,7 @@ impl Desk {
         }
     }
 
-    /// The node that is named, if one is.
+    /// The node with this name, if there is one.
     pub(crate) fn find(&self, node: &Used) -> Option<NodeId>
         ensures { result ≡ node_named (script_of self.now) (node_of node.now) }
     {
@@ -305,14 +306,14 @@ impl Desk {
         }
     }
 
-    /// Whether the name is a node's.
+    /// Whether this is the name of a node.
     pub(crate) fn is_node(&self, name: &Name) -> bool
         ensures { result ≡ is_some ((script_of self.now).names.node name.now.items) }
     {
         self.nodes.id(name).is_some()
     }
 
-    /// The name of a node that has one of its own, else nothing.
+    /// The name of a node; empty if it has none of its own.
     pub(crate) fn node_name(&self, node: NodeId) -> &[u8]
         ensures { result.now ≡ (script_of self.now).names.node_name node }
     {
@@ -353,7 +354,7 @@ impl Desk {
         self.nodes.id_at(place)
     }
 
-    /// The name of the transaction in a slot, empty for a free one.
+    /// The name of the transaction in a slot, empty if the slot is free.
     pub(crate) fn name_at(&self, slot: u8) -> &[u8]
         ensures { result.now ≡ name_at (script_of self.now) slot }
     {
@@ -363,7 +364,7 @@ impl Desk {
         }
     }
 
-    /// The id of a node; one that names none, where the name is not in use.
+    /// The id of a node; if the name is not in use, an id of no node.
     pub(crate) fn node_id(&self, node: &Used) -> NodeId
         ensures { result ≡ node_id (script_of self.now) (node_of node.now) }
     {
@@ -377,7 +378,7 @@ impl Desk {
         self.nodes.id(name).unwrap_or(NodeId::NONE)
     }
 
-    /// The id of a transaction; one that names none, where the name is not in use.
+    /// The id of a transaction; if the name is not in use, an id of none.
     pub(crate) fn txn_id(&self, name: &Name) -> TxnId
         ensures { result ≡ txn_id (names_of self.now) name.now.items }
     {

@@ -1,4 +1,4 @@
-//! A picture of the state in which a script ends, as text for Graphviz.
+//! A picture of the final state of a script, as text for Graphviz.
 
 ghost use Rattle.std.specs.Prelude.{◌≡◌, ◌≢◌, ◌≤◌, IfErr, OnOk, map};
 ghost use Rattle.std.specs.Io.KnownBytes.{IsAtEnd};
@@ -22,7 +22,7 @@ use std::io;
 use std::io::{Read, Write};
 use thiserror::Error as FaultText;
 
-/// The most intervals that an index has: one more than bounds.
+/// The most intervals of an index: one more than bounds.
 const MOST_INTERVALS: usize = 257;
 
 /// What a picture shows.
@@ -36,23 +36,22 @@ pub enum Shown {
     Waits,
 }
 
-/// What keeps a picture from being drawn.
+/// Why no picture was drawn.
 #[derive(Clone, Copy, Debug, PartialEq, Eq, FaultText)]
 pub enum PictureFault {
     /// The script's run met a fault, or the picture could not be written.
     #[error("{0}")]
     Run(RunFault),
-    /// The words ask for nothing that is drawn.
+    /// The words ask for no picture.
     #[error("bad words")]
     Words,
 }
 
-/// Draws the state in which the script that `reader` gives ends. The words are those of a script, and in
-/// front of them may stand `--graph` or `--waits`. `--listings` may be among them, and changes no
-/// picture: neither a listing nor a bad line changes the state. So may `--schema` and `--savepoints`: what
-/// was dropped or released is then not drawn. Answers the exit status: 0 at the end, 1
-/// after a fault, 2 for words that ask for nothing that is drawn; after anything but 0 one line that says
-/// why was given to `faults`.
+/// Draws the final state of the script that `reader` gives. The words are those of a script, after an
+/// optional `--graph` or `--waits`. They may include `--listings`, which changes no picture: neither a
+/// listing nor a bad line changes the state. They may include `--schema` and `--savepoints`: what was
+/// dropped or released is then not drawn. Returns the exit status: 0 at the end, 1 after a fault, 2 for
+/// words that ask for no picture. If it is not 0, one line that says why was written to `faults`.
 pub fn draw_script<S: AsStr, R: Read, W: Write, E: Write>(
     alloc: Global,
     words: &[S],
@@ -76,8 +75,8 @@ pub fn draw_script<S: AsStr, R: Read, W: Write, E: Write>(
     }
 }
 
-/// Says on the given stream what kept a picture from being drawn, and answers the status. A fault in
-/// saying it changes nothing.
+/// Writes to the given stream why no picture was drawn, and returns the status. A fault of that write
+/// changes nothing.
 pub fn complain_of_picture<E: Write>(fault: PictureFault, faults: &mut E) -> u8
     ensures { result ≡ status_of fault }
 {
@@ -90,7 +89,7 @@ pub fn complain_of_picture<E: Write>(fault: PictureFault, faults: &mut E) -> u8
     }
 }
 
-/// What the first word asks to be shown, and the words behind it.
+/// What the first word asks for, and the words after it.
 fn shown_by<S: AsStr>(words: &[S]) -> (Shown, &[S])
     ensures { map S.text result.1.now ≡ behind_part (map S.text words.now) }
 {
@@ -101,13 +100,13 @@ fn shown_by<S: AsStr>(words: &[S]) -> (Shown, &[S])
     }
 }
 
-/// Runs a script without writing its answers, and then draws the state in which it ends, as a graph in
-/// the language of Graphviz: the lock graph, each node with its holders and its queue, and the
-/// transactions, each with an arrow to whomever it waits for; arrows on a cycle are red.
+/// Runs a script without writing its answers, and then draws its final state as a graph for Graphviz:
+/// the lock graph, each node with its holders and its queue, and the transactions, each with an arrow
+/// to each for which it waits; arrows on a cycle are red.
 ///
 /// # Errors
 ///
-/// As `run`: nothing is drawn where the script does not end, and after any fault but one of a write
+/// As `run`: nothing is drawn if the script does not end, and after any fault except that of a write
 /// nothing was written.
 pub fn picture<R: Read, W: Write>(
     alloc: Global,
@@ -196,7 +195,7 @@ fn draw_parents<W: Write>(sink: &mut Sink, writer: &mut W, desk: &Desk, node: No
     }
 }
 
-/// Prints by what the picture knows a node.
+/// Prints the id of a node in the picture.
 fn put_node<W: Write>(sink: &mut Sink, writer: &mut W, node: NodeId) {
     put(sink, writer, b"n");
     put_number(sink, writer, node.birth);
@@ -224,7 +223,7 @@ fn put_holders<W: Write>(sink: &mut Sink, writer: &mut W, desk: &Desk, node: Nod
     }
 }
 
-/// Prints a line of a label for each who waits for a node, the first first.
+/// Prints a line of a label for each waiter of a node, in the order of the queue.
 fn put_waiters<W: Write>(sink: &mut Sink, writer: &mut W, desk: &Desk, node: NodeId) {
     let Ok(queue) = desk.manager.queue(node) else {
         return;
@@ -235,7 +234,7 @@ fn put_waiters<W: Write>(sink: &mut Sink, writer: &mut W, desk: &Desk, node: Nod
     }
 }
 
-/// Prints who holds or wants a node, and in what mode.
+/// Prints a holder or waiter of a node, and its mode.
 fn put_claim<W: Write>(sink: &mut Sink, writer: &mut W, desk: &Desk, slot: u8, mode: Mode) {
     put(sink, writer, desk.name_at(slot));
     put(sink, writer, b" ");
@@ -273,12 +272,12 @@ fn draw_txn<W: Write>(sink: &mut Sink, writer: &mut W, desk: &Desk, txn: TxnId, 
     }
 }
 
-/// Draws an arrow from a transaction to each for whom it waits.
+/// Draws an arrow from a transaction to each for which it waits.
 fn draw_waits<W: Write>(sink: &mut Sink, writer: &mut W, desk: &Desk, txn: TxnId, status: Status) {
     let (Status::Waiting { node, wanted }, Ok(slots)) = (status, desk.manager.waits_for(txn)) else {
         return;
     };
-    let at = (txn.slot as usize).min(SLOTS - 1); // A living transaction is in a slot below.
+    let at = (txn.slot as usize).min(SLOTS - 1); // A living transaction has a lower slot.
     let cycle = Slots::from_bits(on_cycle(&desk.manager.board(), at));
     for slot in slots.iter() {
         put(sink, writer, b"  ");
@@ -302,7 +301,7 @@ fn put_end<W: Write>(sink: &mut Sink, writer: &mut W, is_on_cycle: bool) {
     }
 }
 
-/// Prints by what the picture knows the transaction in a slot.
+/// Prints the id in the picture of the transaction in a slot.
 fn put_slot<W: Write>(sink: &mut Sink, writer: &mut W, slot: u8) {
     put(sink, writer, b"t");
     put_number(sink, writer, slot as u64);

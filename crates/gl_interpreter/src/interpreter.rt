@@ -1,4 +1,4 @@
-//! What answers the lines of a script, one after the other.
+//! The interpreter, which answers the lines of a script one by one.
 
 ghost use Rattle.std.specs.Prelude.{◌≡◌, IfSome};
 ghost use Rattle.gl_script.specs.Views.{command_of};
@@ -17,20 +17,20 @@ use gl_words::Choices;
 use std::alloc::Global;
 use std::io::Write;
 
-/// The longest line that can say a command, in bytes.
+/// The longest line that can be a command, in bytes.
 const LONGEST: usize = 256;
 
 /// The first line of a script of version 2.
 const VERSION_TWO: &[u8] = b"granular 2";
 
-/// What is printed for a line that says no command.
+/// The output for a line that is no command.
 const BAD_LINE: &[u8] = b"no 20 BadLine\n";
 
-/// A script that is being answered. The lists are filled anew for each line.
+/// A script that is being answered. Each line fills the lists anew.
 #[derive(Drop)]
 pub(crate) struct Interpreter {
     pub(crate) desk: Desk,
-    /// The manager of a script of version 2, until the first line has chosen.
+    /// The manager for a script of version 2, until the first line has chosen.
     two: Option<Manager>,
     lists: Lists,
     ids: Ids,
@@ -38,7 +38,7 @@ pub(crate) struct Interpreter {
 }
 
 impl Interpreter {
-    /// A script of which no line was answered. `None` where memory is wanting.
+    /// A script before its first line. `None` if out of memory.
     pub(crate) fn new(alloc: Global, choices: Choices) -> Option<Interpreter>
         ensures { IfSome result (λ interpreter. IsFresh choices interpreter) }
     {
@@ -61,7 +61,7 @@ impl Interpreter {
         let Ok(two) = Manager::choosing(alloc, detect, victims, 128) else {
             return None;
         };
-        one.law(); // Nothing stands in its lists.
+        one.law(); // Its lists are empty.
         two.law();
         Some(Interpreter {
             desk: Desk::new(alloc, language, one),
@@ -72,7 +72,7 @@ impl Interpreter {
         })
     }
 
-    /// Answers a line. Of a longer line it is enough to give 257 bytes.
+    /// Answers a line. Of a longer line the first 257 bytes are enough.
     pub(crate) fn answer<W: Write>(&mut self, sink: &mut Sink, writer: &mut W, line: &[u8])
         ensures { Answered (W.contents writer.old) sink.old self.old line.now (W.contents writer.new) sink.new self.new }
     {
@@ -117,7 +117,8 @@ impl Interpreter {
         }
     }
 
-    /// Carries out the command of a line. A bad line does not pay for what this takes of the stack.
+    /// Carries out the command of a line. A separate function, so that a bad line does not pay for its
+    /// stack.
     #[inline(never)]
     fn obey<W: Write>(&mut self, sink: &mut Sink, writer: &mut W, form: &Form)
         ensures { Obeys (W.contents writer.old) sink.old self.old (command_of form.now self.old.lists) (W.contents writer.new) sink.new self.new }

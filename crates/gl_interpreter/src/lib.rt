@@ -1,10 +1,10 @@
-//! Scripts for the lock manager, from the bytes that come in to the bytes that go out.
+//! Scripts for the lock manager, from the bytes read to the bytes written.
 //!
-//! A script has a command on each line; [`run`] answers each line as soon as it is read, and
-//! [`run_choosing`] does so with a choice of victims, and with or without listings, lines that change the
-//! schema and savepoints. What the lines say and what is printed for them is defined in `specs/`, and the
-//! contract of both is that what is written is the report of what is read. [`picture`] draws the state in
-//! which a script ends.
+//! A script has a command on each line. [`run`] answers each line as soon as it is read;
+//! [`run_choosing`] does so with a choice of victims, and optionally with listings, schema changes and
+//! savepoints. `specs/` defines what the lines mean and what is printed for them; the contract of both
+//! is that what is written is the report of what is read. [`picture`] draws the final state of a
+//! script.
 #![tactic(auto)]
 
 mod answers;

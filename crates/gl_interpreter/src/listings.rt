@@ -1,4 +1,4 @@
-//! What is printed for a listing: a line, and one for each row.
+//! The output for a listing: a line, and one for each row.
 
 ghost use Rattle.std.specs.Prelude.{◌≡◌, Some, flat_map, length, true};
 ghost use Rattle.gl_script.specs.Grammar as listing;
@@ -39,7 +39,7 @@ use std::io::Write;
 /// The line above the rows.
 const OK: &[u8] = b"ok\n";
 
-/// Prints what a listing shows.
+/// Prints a listing.
 pub(crate) fn put_listing<W: Write>(sink: &mut Sink, writer: &mut W, desk: &Desk, listing: &Listing)
     ensures { IsShown (W.contents writer.old) sink.old (script_of desk.now) (listing_of listing.now) (W.contents writer.new) sink.new }
 {
@@ -116,7 +116,7 @@ fn put_queue<W: Write>(sink: &mut Sink, writer: &mut W, desk: &Desk, node: &Used
     }
 }
 
-/// Prints a line for each of these who wait.
+/// Prints a line for each of these waiters.
 fn put_each_waiter<W: Write>(sink: &mut Sink, writer: &mut W, desk: &Desk, queue: &[(u8, Mode)])
     ensures { Hands (W.contents writer.old) sink.old (W.contents writer.new) sink.new (flat_map (waiter_row (script_of desk.now)) queue.now) }
 {
@@ -125,7 +125,7 @@ fn put_each_waiter<W: Write>(sink: &mut Sink, writer: &mut W, desk: &Desk, queue
     }
 }
 
-/// Prints the line of one who waits.
+/// Prints the line of a waiter.
 fn put_waiter<W: Write>(sink: &mut Sink, writer: &mut W, desk: &Desk, slot: u8, wanted: Mode)
     ensures { Hands (W.contents writer.old) sink.old (W.contents writer.new) sink.new (waiter_row (script_of desk.now) (slot, wanted)) }
 {
@@ -136,7 +136,7 @@ fn put_waiter<W: Write>(sink: &mut Sink, writer: &mut W, desk: &Desk, slot: u8, 
     put(sink, writer, b"\n");
 }
 
-/// Prints for whom a transaction waits, by rising slot.
+/// Prints the transactions for which a transaction waits, by rising slot.
 fn put_waits<W: Write>(sink: &mut Sink, writer: &mut W, desk: &Desk, name: &Name)
     ensures { IsShown (W.contents writer.old) sink.old (script_of desk.now) (listing.Waits name.now.items) (W.contents writer.new) sink.new }
 {
@@ -158,7 +158,7 @@ fn put_each_blocker<W: Write>(sink: &mut Sink, writer: &mut W, desk: &Desk, slot
     }
 }
 
-/// Prints the line of one who is waited for.
+/// Prints the line of a transaction that is waited for.
 fn put_blocker<W: Write>(sink: &mut Sink, writer: &mut W, desk: &Desk, slot: u8)
     ensures { Hands (W.contents writer.old) sink.old (W.contents writer.new) sink.new (blocker_row (script_of desk.now) slot) }
 {
@@ -263,7 +263,7 @@ fn put_lock<W: Write>(
     put(sink, writer, b"\n");
 }
 
-/// Prints the wanted mode, where the node is the one that is waited for.
+/// Prints the wanted mode, if the transaction waits for this node.
 fn put_wanted<W: Write>(sink: &mut Sink, writer: &mut W, wait: Option<(NodeId, Mode)>, node: NodeId)
     ensures { Hands (W.contents writer.old) sink.old (W.contents writer.new) sink.new (wanted_text wait node) }
 {
@@ -278,7 +278,7 @@ fn put_wanted<W: Write>(sink: &mut Sink, writer: &mut W, wait: Option<(NodeId, M
     }
 }
 
-/// Prints the deadlock of which the last victim fell, if one ever did.
+/// Prints the deadlock of the last victim, if there was one.
 fn put_deadlock<W: Write>(sink: &mut Sink, writer: &mut W, desk: &Desk)
     ensures { Hands (W.contents writer.old) sink.old (W.contents writer.new) sink.new
         (deadlock_rows (script_of desk.now) (script_of desk.now).deadlock.victim (script_of desk.now).deadlock.cycle.items) }
@@ -291,7 +291,7 @@ fn put_deadlock<W: Write>(sink: &mut Sink, writer: &mut W, desk: &Desk)
     }
 }
 
-/// Prints for each of these for whom of them it waited.
+/// Prints for each transaction of a deadlock those of it for which it waited.
 fn put_each_stuck<W: Write>(sink: &mut Sink, writer: &mut W, desk: &Desk, all: &[Stuck])
     ensures { Hands (W.contents writer.old) sink.old (W.contents writer.new) sink.new (flat_map (stuck_rows (script_of desk.now) all.now) all.now) }
 {
@@ -300,7 +300,7 @@ fn put_each_stuck<W: Write>(sink: &mut Sink, writer: &mut W, desk: &Desk, all: &
     }
 }
 
-/// Prints a line for each of these for whom one waited.
+/// Prints a line for each transaction of a deadlock for which this one waited.
 fn put_stuck<W: Write>(sink: &mut Sink, writer: &mut W, desk: &Desk, stuck: Stuck, all: &[Stuck])
     ensures { Hands (W.contents writer.old) sink.old (W.contents writer.new) sink.new (stuck_rows (script_of desk.now) all.now stuck) }
 {
@@ -325,7 +325,7 @@ fn put_stuck_for<W: Write>(sink: &mut Sink, writer: &mut W, desk: &Desk, stuck: 
     }
 }
 
-/// Prints a space and a transaction that may have ended, by name and age.
+/// Prints a space, and the name and age of a transaction, which may have ended.
 fn put_member<W: Write>(sink: &mut Sink, writer: &mut W, desk: &Desk, txn: TxnId)
     ensures { Hands (W.contents writer.old) sink.old (W.contents writer.new) sink.new (member_text (script_of desk.now) txn) }
 {
@@ -335,7 +335,7 @@ fn put_member<W: Write>(sink: &mut Sink, writer: &mut W, desk: &Desk, txn: TxnId
     put_number(sink, writer, txn.age);
 }
 
-/// Prints a space and a node that may be gone.
+/// Prints a space and a node, which may be gone.
 fn put_kept_node<W: Write>(sink: &mut Sink, writer: &mut W, desk: &Desk, node: NodeId)
     ensures { Hands (W.contents writer.old) sink.old (W.contents writer.new) sink.new (kept_node (script_of desk.now) node) }
 {
@@ -348,7 +348,7 @@ fn put_kept_node<W: Write>(sink: &mut Sink, writer: &mut W, desk: &Desk, node: N
     }
 }
 
-/// A name, or a dash where it was given back.
+/// A name, or a dash if it is no longer in use.
 fn or_dash(name: &[u8]) -> &[u8]
     ensures { result.now ≡ or_dash name.now }
 {

@@ -1,4 +1,4 @@
-//! Names that are in use, each with the id of what it names; and the name of each id.
+//! The names in use, each with its id, and the name of each id.
 
 ghost use Rattle.std.specs.Prelude.{◌≡◌, ◌<◌, [], Option, Some, None, if◌then◌else◌, true};
 ghost use Rattle.std.specs.Str.{bytes_eq};
@@ -9,7 +9,7 @@ use indexmap::IndexMap;
 use std::alloc::Global;
 use std::hash::Hash;
 
-/// The names of one set, of nodes or of transactions.
+/// The names of nodes, or those of transactions.
 #[derive(Drop)]
 pub(crate) struct Register<I: Eq + Hash> {
     ids: IndexMap<Name, I>,
@@ -17,7 +17,7 @@ pub(crate) struct Register<I: Eq + Hash> {
 }
 
 impl<I: Copy + Eq + Hash + Drop> Register<I> {
-    /// Nothing is declared.
+    /// A register without names.
     pub(crate) fn new(alloc: Global) -> Register<I>
         ensures ids { id_in result ≡ (λ n. None) }
         ensures names { name_in I.eq result ≡ (λ x. []) }
@@ -28,14 +28,14 @@ impl<I: Copy + Eq + Hash + Drop> Register<I> {
         }
     }
 
-    /// What the name stands for, if it is in use.
+    /// The id of a name, if it is in use.
     pub(crate) fn id(&self, name: &Name) -> Option<I>
         ensures { result ≡ id_in self.now name.now.items }
     {
         self.ids.get(name).copied()
     }
 
-    /// The name of what has this id, empty where none was declared.
+    /// The name of an id, empty if it has none.
     pub(crate) fn name(&self, id: I) -> &[u8]
         ensures { result.now ≡ name_in I.eq self.now id }
     {
@@ -50,13 +50,13 @@ impl<I: Copy + Eq + Hash + Drop> Register<I> {
         self.names.len()
     }
 
-    /// The id whose name stands at a place among those in use.
+    /// The id at a place among those with a name.
     pub(crate) fn id_at(&self, place: usize) -> Option<I> {
         let (id, _) = self.names.get_index(place)?;
         Some(*id)
     }
 
-    /// Makes room for one name more, and says whether there is.
+    /// Makes room for one more name, and returns whether there is.
     pub(crate) fn make_room(&mut self) -> bool
         ensures ids { id_in self.new ≡ id_in self.old }
         ensures names { name_in I.eq self.new ≡ name_in I.eq self.old }
@@ -65,7 +65,7 @@ impl<I: Copy + Eq + Hash + Drop> Register<I> {
         self.ids.reserve(1).is_ok() && self.names.reserve(1).is_ok()
     }
 
-    /// Puts a name into use. There is room for it.
+    /// Adds a name, for which there must be room.
     pub(crate) fn add(&mut self, name: &Name, id: I)
         requires room { HasRoom self.old }
         ensures ids { id_in self.new ≡ (λ n. if bytes_eq name.now.items n then Some id else id_in self.old n) }
@@ -75,7 +75,7 @@ impl<I: Copy + Eq + Hash + Drop> Register<I> {
         let _ = self.names.insert(id, copy_of(name));
     }
 
-    /// Makes the name of this id free again.
+    /// Frees the name of this id.
     pub(crate) fn remove(&mut self, name: &Name, id: I)
         ensures ids { id_in self.new ≡ (λ n. if bytes_eq name.now.items n then None else id_in self.old n) }
         ensures names { name_in I.eq self.new ≡ (λ x. if I.eq id x then [] else name_in I.eq self.old x) }
@@ -85,7 +85,7 @@ impl<I: Copy + Eq + Hash + Drop> Register<I> {
     }
 }
 
-/// The same name.
+/// A copy of the name.
 fn copy_of(name: &Name) -> Name
     ensures { result.items ≡ name.now.items }
 {

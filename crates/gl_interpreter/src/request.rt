@@ -1,4 +1,4 @@
-//! What a line asks of the manager, and what is answered to it.
+//! The request of a line to the manager, and the answer.
 
 use gl_catalog::{Answer, Command};
 use gl_table::TxnId;
@@ -6,19 +6,19 @@ use gl_table::TxnId;
 /// What a line asks of the manager: the same, with ids for names.
 #[derive(Clone, Copy)]
 pub(crate) enum Request<'a> {
-    /// To carry out a command.
+    /// Carry out a command.
     Apply(Command<'a>),
-    /// To say how many nodes a transaction holds or waits for.
+    /// Answer how many nodes a transaction holds or waits for.
     Mark(TxnId),
-    /// To take a transaction back to a mark.
+    /// Roll back a transaction to a savepoint.
     Release(TxnId, u64),
 }
 
-/// What is answered to a line.
+/// The answer to a line.
 #[derive(Clone, Copy)]
 pub(crate) enum Said {
-    /// What the manager answers to a command.
+    /// The manager's answer to a command.
     Answer(Answer),
-    /// So many nodes.
+    /// A number of nodes.
     Count(usize),
 }

@@ -1,4 +1,4 @@
-//! A transaction goes back to what it held.
+//! Savepoints of a script's transactions.
 
 ghost use Rattle.std.specs.Prelude.{◌≡◌, []};
 ghost use Rattle.gl_interpreter.specs.Script.{IsStoodFor, Releases, counted, mark_of};
@@ -11,7 +11,7 @@ use gl_modes::Refusal;
 use gl_table::{Told, TxnId};
 
 impl Desk {
-    /// How many nodes a transaction holds or waits for, where it lives.
+    /// How many nodes a transaction holds or waits for, if it lives.
     pub(crate) fn mark(&self, txn: TxnId) -> Said
         ensures stood { IsStoodFor (script_of self.now) }
         ensures mark { result ≡ mark_of (script_of self.now) txn }
@@ -23,7 +23,7 @@ impl Desk {
         }
     }
 
-    /// Takes a transaction back to a mark, and says how many nodes were unlocked.
+    /// Rolls back a transaction to a savepoint, and answers how many nodes were released.
     pub(crate) fn release(&mut self, txn: TxnId, mark: u64, told: &mut Told) -> Said
         requires empty { told.old.items ≡ [] }
         ensures releases { Releases (script_of self.old) txn mark result told.new.items (script_of self.new) }
@@ -37,7 +37,7 @@ impl Desk {
     }
 }
 
-/// A count of nodes, or why there is none.
+/// A count of nodes, or the refusal.
 fn said_of(count: Result<usize, Refusal>) -> Said
     ensures { result ≡ counted count }
 {

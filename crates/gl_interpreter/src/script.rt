@@ -22,10 +22,10 @@ pub enum RunFault {
     /// A read failed. The whole lines read before it are answered.
     #[error("read fault")]
     Read,
-    /// A write failed or took nothing. What was written is a beginning of the report.
+    /// A write failed or wrote nothing. What was written is a prefix of the report.
     #[error("write fault")]
     Write,
-    /// The script has more than 16,777,216 bytes. Its whole lines up to there are answered.
+    /// The script has more than 16,777,216 bytes. Its whole lines within these are answered.
     #[error("input too long")]
     TooMuch,
     /// There was no memory to begin with. Nothing was read or written.
@@ -33,13 +33,13 @@ pub enum RunFault {
     Memory,
 }
 
-/// The most bytes that a script may have.
+/// The most bytes of a script.
 const LIMIT: usize = 16_777_216;
 
 /// How many bytes are read at once.
 const BLOCK: usize = 65_536;
 
-/// What a run has made of the bytes so far.
+/// A run, after the bytes so far.
 #[derive(Drop)]
 pub(crate) struct Tool {
     pub(crate) interpreter: Interpreter,
@@ -48,8 +48,9 @@ pub(crate) struct Tool {
     pub(crate) sink: Sink,
 }
 
-/// Answers a script, line by line as it is read, with deadlocks found as `detect` says; the youngest
-/// falls, and there are none of the further lines. All else is as for [`run_choosing`].
+/// Answers a script, line by line as it is read, with deadlocks detected as `detect` says. The victim
+/// is the youngest, and there are no listings, schema changes or savepoints. All else is as for
+/// [`run_choosing`].
 ///
 /// # Errors
 ///
@@ -67,14 +68,14 @@ pub fn run<R: Read, W: Write>(
     run_choosing(alloc, reader, writer, Choices::plain(detect))
 }
 
-/// Answers a script, line by line as it is read, with deadlocks found, victims chosen, and listings, lines
-/// that change the schema and savepoints had as `choices` says.
+/// Answers a script, line by line as it is read. `choices` says how deadlocks are detected and victims
+/// chosen, and whether there are listings, schema changes and savepoints.
 ///
 /// What is written is the report of what is read; with `Ok` all of the reader was read. Whatever the
-/// outcome, at most 16,777,217 bytes were read, and with `Ok` at most 16,777,216. The answers
-/// to the lines at hand are written before the next read. The managers are made before the first
-/// read. Memory is taken beyond that for the names and locks of the script alone: a line that meets
-/// its want is answered `no 1 NoMemory`.
+/// outcome, at most 16,777,217 bytes were read, and with `Ok` at most 16,777,216. The answers to all
+/// lines read are written before the next read. The managers are made before the first read. After
+/// that, memory is taken only for the names and locks of the script: a line for which there is none is
+/// answered `no 1 NoMemory`.
 ///
 /// # Errors
 ///
@@ -98,14 +99,14 @@ pub fn run_choosing<R: Read, W: Write>(
     answer_script(&mut tool, reader, writer, &mut block)
 }
 
-/// Room for what one read gives.
+/// A buffer for one read.
 pub(crate) fn new_block(alloc: Global) -> Option<Vec<u8>>
     ensures { IfSome result (λ block. 0 < vec_len block) }
 {
     vec![in alloc; 0u8; BLOCK].ok()
 }
 
-/// A tool that has taken nothing. `None` where memory is wanting.
+/// A tool before its first byte. `None` if out of memory.
 pub(crate) fn new_tool(alloc: Global, choices: Choices) -> Option<Tool>
     ensures { IfSome result (λ tool. IsNew choices tool) }
 {
@@ -141,8 +142,8 @@ pub(crate) fn answer_script<R: Read, W: Write>(
         }
         take_block(tool, writer, &part[..count]);
         if tool.sink.broken {
-            // The last line is answered too, to the broken sink: what was written is then the
-            // beginning of a report on all that was read.
+            // The last line is answered too, to the broken sink: then what was written is a prefix of a
+            // report on all that was read.
             let _ = finish(tool, writer);
             return Err(RunFault::Write);
         }
@@ -151,7 +152,7 @@ pub(crate) fn answer_script<R: Read, W: Write>(
     Err(RunFault::TooMuch)
 }
 
-/// Takes the next bytes of the script, and writes the answers to the lines that they end.
+/// Processes the next bytes of the script, and writes the answers to the lines that they end.
 fn take_block<W: Write>(tool: &mut Tool, writer: &mut W, block: &[u8])
     ensures takes { Takes (W.contents writer.old) tool.old (W.contents writer.new) tool.new block.now }
     ensures empty { tool.new.sink.held.items ≡ [] }
@@ -165,7 +166,7 @@ fn take_block<W: Write>(tool: &mut Tool, writer: &mut W, block: &[u8])
     flush(&mut tool.sink, writer);
 }
 
-/// Takes bytes that end no line.
+/// Appends bytes without a newline.
 fn keep(tool: &mut Tool, bytes: &[u8])
     requires { IsOpen bytes.now }
     ensures { (written : Option (List ℕ)) → Takes written tool.old written tool.new bytes.now }
@@ -174,7 +175,8 @@ fn keep(tool: &mut Tool, bytes: &[u8])
     let _ = tool.line.try_extend_from_slice(&bytes[..count]);
 }
 
-/// Takes the last bytes of a line, and its newline. A line that is here whole is not copied.
+/// Processes the last bytes of a line, and its newline. A line that is whole in the block is not
+/// copied.
 fn take_line<W: Write>(tool: &mut Tool, writer: &mut W, bytes: &[u8])
     requires { IsOpen bytes.now }
     ensures { Takes (W.contents writer.old) tool.old (W.contents writer.new) tool.new (bytes.now ++ 10 ∷ []) }
@@ -197,7 +199,7 @@ fn answer_line<W: Write>(tool: &mut Tool, writer: &mut W)
         .answer(&mut tool.sink, writer, tool.line.as_slice());
 }
 
-/// Answers what is left after the last newline, if anything is.
+/// Answers what follows the last newline, if anything does.
 fn finish<W: Write>(tool: &mut Tool, writer: &mut W) -> Result<(), RunFault>
     ensures { Finishes (W.contents writer.old) tool.old (W.contents writer.new) result }
 {

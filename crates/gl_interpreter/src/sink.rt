@@ -1,4 +1,4 @@
-//! Text on its way to a writer.
+//! Text that is buffered for a writer.
 
 ghost use Rattle.std.specs.Prelude.{◌≡◌, [], ◌++◌, true, false};
 ghost use Rattle.gl_interpreter.specs.Held.{Sends, Hands};
@@ -6,14 +6,14 @@ ghost use Rattle.gl_interpreter.specs.Held.{Sends, Hands};
 use arrayvec::ArrayVec;
 use std::io::Write;
 
-/// Text that a writer is to take. Once a write has failed, the rest is thrown away.
+/// Text for a writer. After a failed write, the rest is discarded.
 #[derive(Drop)]
 pub struct Sink {
     pub held: ArrayVec<u8, 4096>,
     pub broken: bool,
 }
 
-/// A sink that holds nothing.
+/// An empty sink.
 pub fn new_sink() -> Sink
     ensures empty { result.held.items ≡ [] }
     ensures whole { result.broken ≡ false }
@@ -24,7 +24,7 @@ pub fn new_sink() -> Sink
     }
 }
 
-/// Hands text on, through what is held.
+/// Writes text through the buffer.
 pub fn put<W: Write>(sink: &mut Sink, writer: &mut W, text: &[u8])
     ensures { Hands (W.contents writer.old) sink.old (W.contents writer.new) sink.new text.now }
 {
@@ -33,7 +33,7 @@ pub fn put<W: Write>(sink: &mut Sink, writer: &mut W, text: &[u8])
     }
 }
 
-/// Hands on text for which there is no room beside what is held.
+/// Writes text for which the buffer has no room left.
 #[cold]
 fn put_by_bytes<W: Write>(sink: &mut Sink, writer: &mut W, text: &[u8])
     ensures { Hands (W.contents writer.old) sink.old (W.contents writer.new) sink.new text.now }
@@ -46,7 +46,7 @@ fn put_by_bytes<W: Write>(sink: &mut Sink, writer: &mut W, text: &[u8])
     }
 }
 
-/// Writes what is held.
+/// Writes what is buffered.
 pub fn flush<W: Write>(sink: &mut Sink, writer: &mut W)
     ensures text { Hands (W.contents writer.old) sink.old (W.contents writer.new) sink.new [] }
     ensures empty { sink.new.held.items ≡ [] }
@@ -57,8 +57,8 @@ pub fn flush<W: Write>(sink: &mut Sink, writer: &mut W)
     sink.held.clear();
 }
 
-/// Writes all of the text, and says whether that went well. No write is made again: an interrupted
-/// one is a fault, and so is one that takes nothing.
+/// Writes all of the text, and returns whether it did. A write is never retried: an interrupted one is
+/// a fault, and so is one that writes nothing.
 pub fn send<W: Write>(writer: &mut W, text: &[u8]) -> bool
     ensures { Sends (W.contents writer.old) (W.contents writer.new) text.now result }
 {

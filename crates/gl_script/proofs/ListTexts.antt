@@ -1,4 +1,4 @@
--- Lists are spelt in one way: a field that spells nothing stands in no list.
+-- A list has one text: a field that is no element is in no list.
 use Rattle.std.proofs.Common.{◌≡◌, ◌≢◌, List, [], ◌∷◌, ◌++◌, All, map, length, slice_index, codes, decimal, refl, sym, ap, ap₂, ◌∙◌, subst, append_assoc, arith}
 use Rattle.std.proofs.lemmas.List.{map_push}
 use Rattle.std.proofs.lemmas.List.Elements.{All-head, All-tail, All-cons, All-nil}
@@ -14,7 +14,7 @@ spelt_more spell all done x now field rest more before next spelt pushed =
     before ∙ ap (λ fs. map spell done ++ fs) (next ∙ ap (λ f. f ∷ more) spelt) ∙ sym (append_assoc (map spell done) (spell x ∷ []) more)
     ∙ ap (λ fs. fs ++ more) (sym (map_push spell done x) ∙ ap (map spell) (sym pushed))
 
--- behind what was read stands a field that spells nothing
+-- after what was read there is a field that is no element
 pub none_at : {X : Type 0} (spell : X → Text) (P : X → Type 0) (done : List Text) (field : Text) (more : List Text) (xs : List X)
     → ((x : X) → P x → field ≢ spell x) → All P xs → done ++ field ∷ more ≡ map spell xs → ⊥
 none_at spell P [] field more [] nay is e = cc
@@ -30,7 +30,7 @@ pub on_is_no_node : (n : Node) → IsNode n → node_text n ≢ codes "on"
 on_is_no_node (Plain m) is e = is.not_on e
 on_is_no_node (Interval m k) is e = has_byte 46 m (decimal k) (subst (All (λ b. b ≢ 46)) (sym e) on_no_dot)
 
--- the first word `on` parts nodes from what follows
+-- the first word `on` separates nodes from what follows
 on_parts_nodes : (ms ns : List Node) (x y : List Text) → All IsNode ms → All IsNode ns
     → map node_text ms ++ codes "on" ∷ x ≡ map node_text ns ++ codes "on" ∷ y → (map node_text ms ≡ map node_text ns) × (x ≡ y)
 on_parts_nodes [] [] x y p q e = (refl, cc)
@@ -49,12 +49,12 @@ on_parts (p ∷ ps) (q ∷ qs) x y h k e =
     let more = on_parts_nodes (p ∷ ps) (q ∷ qs) x y h.0 k.0 (cc) in
     (ap (λ fs. codes ":" ∷ fs) more.0, more.1)
 
--- so what follows it behind parents is known
+-- so what follows it after parents is known
 pub behind_on : (rest : List Text) (read : List Node) (after : List Text) (ps : List Node) (more : List Text)
     → rest ≡ parents read ++ codes "on" ∷ after → AreSomeNodes read → AreSomeNodes ps → rest ≡ parents ps ++ codes "on" ∷ more → after ≡ more
 behind_on rest read after ps more was had some e = (on_parts read ps after more had some (sym was ∙ e)).1
 
--- before the word `on` stands a field that is no node
+-- before the word `on` there is a field that is no node
 pub none_before_on : (done : List Node) (field : Text) (rest : List Text) (ns : List Node) (more : List Text)
     → field ≢ codes "on" → ((n : Node) → IsNode n → field ≢ node_text n) → All IsNode done → All IsNode ns
     → map node_text done ++ field ∷ rest ≡ map node_text ns ++ codes "on" ∷ more → ⊥
@@ -72,14 +72,14 @@ none_without_on [] rest (n ∷ ns) more end had e = cc
 none_without_on (d ∷ done) rest [] more end had e = on_is_no_node d (All-head IsNode d done had) (cc)
 none_without_on (d ∷ done) rest (n ∷ ns) more end had e = none_without_on done rest ns more end (All-tail IsNode d done had) (cc)
 
--- behind the colon stand no nodes with the word `on` behind them
+-- after the colon there are no nodes with the word `on` after them
 pub none_behind_colon : (colon : Text) (rest : List Text) (ps : List Node) (more : List Text)
     → ((ns : List Node) (m : List Text) → AreSomeNodes ns → rest ≢ map node_text ns ++ codes "on" ∷ m)
     → AreSomeNodes ps → colon ∷ rest ≡ parents ps ++ codes "on" ∷ more → ⊥
 none_behind_colon colon rest [] more nay some e = absurd (omega (arith, some.1))
 none_behind_colon colon rest (p ∷ ps) more nay some e = nay (p ∷ ps) more some (cc)
 
--- the word `on` stands first, where a node should
+-- the word `on` is first, in place of a node
 pub none_at_once : (read : List Used) (all rest : List Text) (field : Text) (after : List Text) (ns : List Node) (more : List Text)
     → length read ≡ 0 → all ≡ map node_text (map node_of read) ++ rest → rest ≡ field ∷ after → field ≡ codes "on"
     → AreSomeNodes ns → all ≡ map node_text ns ++ codes "on" ∷ more → ⊥
@@ -93,7 +93,7 @@ colon_is_no_name n is e =
     let first : IsLetter 58 = subst (λ (w : Text). IsLetter (slice_index w 0)) (sym e) is.first in
     omega (arith, first.0)
 
--- a name with the colon behind it is no two names
+-- a name with the colon after it is no two names
 pub one_before_colon : (m : Text) (ps : List Node) (x : List Text) (t n : Text) (y : List Text) → AreSomeNodes ps → IsName n
     → m ∷ (parents ps ++ x) ≡ t ∷ n ∷ y → ⊥
 one_before_colon m [] x t n y some is e = absurd (omega (arith, some.1))

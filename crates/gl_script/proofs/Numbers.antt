@@ -1,4 +1,4 @@
--- Numbers and their one spelling.
+-- Numbers and their one text.
 use Rattle.std.proofs.Common.{◌≡◌, ◌≢◌, ℕ, ◌<◌, ◌^◌, List, [], ◌∷◌, length, get_or, All, Result, Ok, Err, decimal, sym, ap, ◌∙◌, subst, arith}
 use Rattle.std.proofs.Common.{eq-zero-or-pos, inl, inr, ◌⊎◌, rules}
 use Rattle.std.specs.Str.Parse.{ParsesUnsigned, AllDigits, digits_value}

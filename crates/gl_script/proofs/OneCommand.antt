@@ -1,5 +1,4 @@
--- A line says at most one command or listing: its first field tells the verb or the topic, and names, modes, nodes, numbers and lists of them are
--- spelt in one way.
+-- A line is at most one command or listing: its first field is the verb or the topic, and names, modes, nodes, numbers and lists of them have one text.
 use Rattle.std.proofs.Common.{◌≡◌, ◌≢◌, ℕ, ◌==◌, List, [], ◌∷◌, ◌++◌, All, Bool, map, false, codes, decimal, refl, sym, ap, ap₂, ◌∙◌, subst}
 use Rattle.std.specs.List.{slice_split}
 use Rattle.std.specs.Str.{bytes_eq}
@@ -19,7 +18,7 @@ use Rattle.gl_script.proofs.NodeTexts.{name_no_dot}
 use Rattle.gl_script.proofs.ListTexts.{on_parts, one_before_colon}
 use Rattle.gl_script.proofs.Verbs.{first_verb, first_topic, told_apart, verb_no_topic}
 
--- a node is spelt in one way
+-- a node has one text
 one_node : (m n : Node) → IsNode m → IsNode n → node_text m ≡ node_text n → m ≡ n
 one_node (Plain a) (Plain b) p q e = ap Plain e
 one_node (Plain a) (Interval b k) p q e = absurd (has_byte 46 b (decimal k) (subst (All (λ u. u ≢ 46)) e (name_no_dot a p)))
@@ -28,7 +27,7 @@ one_node (Interval a j) (Interval b k) p q e =
     let cut = cut_once 46 a b (decimal j) (decimal k) (name_no_dot a p.0) (name_no_dot b q.0) e in
     ap₂ Interval cut.0 (decimal_injective j k p.1 q.1 cut.1)
 
--- so is a list
+-- so has a list
 one_list : {X : Type 0} (spell : X → Text) (P : X → Type 0) → ((x y : X) → P x → P y → spell x ≡ spell y → x ≡ y)
     → (xs ys : List X) → All P xs → All P ys → map spell xs ≡ map spell ys → xs ≡ ys
 one_list spell P one [] [] p q e = refl
@@ -53,7 +52,7 @@ abbrev first_field : List Text → Text
 first_field [] = []
 first_field (f ∷ fs) = f
 
--- fields with other first fields are others
+-- fields with different first fields are different
 apart : (fs gs : List Text) → fs ≡ gs → bytes_eq (first_field fs) (first_field gs) ≡ false → ⊥
 apart fs gs e f = told_apart (first_field fs) (first_field gs) f (ap first_field e)
 
@@ -62,7 +61,7 @@ differ : (g : Language) (all : List Text) (c d : Command) → SaysFields g all c
     → bytes_eq (first_field (fields c)) (first_field (fields d)) ≡ false → ⊥
 differ g all c d p q f = apart (fields c) (fields d) (sym p.2 ∙ q.2) f
 
--- what the forms with two parts and more have in common
+-- what the forms with two or more parts have in common
 same_of_txn_node : (f : Text) (s t : Text) (m n : Node) → IsNode m → IsNode n → f ∷ s ∷ node_text m ∷ [] ≡ f ∷ t ∷ node_text n ∷ [] → (s ≡ t) × (m ≡ n)
 same_of_txn_node f s t m n p q e = let spelt : node_text m ≡ node_text n = cc in (cc, one_node m n p q spelt)
 

@@ -1,4 +1,4 @@
--- A line falls into fields in one way.
+-- A line is split into fields in one way.
 use Rattle.std.proofs.Common.{◌≡◌, ◌≢◌, ℕ, ◌==◌, Bool, true, false, Decides, List, [], ◌∷◌, ◌++◌, All, refl, sym, ap, ◌∙◌, true≢false, length, arith}
 use Rattle.std.specs.List.{slice_split}
 use Rattle.std.proofs.lemmas.List.Elements.{All-head, All-tail, All-weaker}
@@ -25,7 +25,7 @@ split_last rest here = slice_split_none (λ b. b == 32) rest (passes_not 32 rest
 pub some_field : (rest : List ℕ) → slice_split (λ b. b == 32) rest ≢ []
 some_field rest e = omega (arith, ap length e, length-slice_split (λ b. b == 32) rest)
 
--- the front ends at the first such byte
+-- the text before the first such byte
 pub cut_once : (c : ℕ) (a b x y : List ℕ) → All (λ u. u ≢ c) a → All (λ u. u ≢ c) b → a ++ c ∷ x ≡ b ++ c ∷ y → (a ≡ b) × (x ≡ y)
 cut_once c [] [] x y p q e = (refl, cc)
 cut_once c [] (d ∷ b) x y p q e = absurd (All-head (λ u. u ≢ c) d b q (cc))

@@ -11,7 +11,7 @@ use Rattle.gl_script.specs.Grammar.{Text, Command, Listing, Line, LineFields, fi
 use Rattle.gl_script.specs.Grammar as grammar
 use Rattle.gl_script.specs.declared.form.Language.{Language}
 
--- the verb that a command's line begins with
+-- the verb at the beginning of a command's line
 pub first_verb : (f : Text) (rest : List Text) (c : Command) → f ∷ rest ≡ fields c → (v : Verb) × (f ≡ word v)
 first_verb g rest (grammar.Inner n ps) e = (verb.Inner, cc)
 first_verb g rest (grammar.File n ps) e = (verb.File, cc)
@@ -37,7 +37,7 @@ first_verb g rest (grammar.IndexBy t n ps f bs) e = (verb.Index, cc)
 first_verb g rest (grammar.Mark t) e = (verb.Mark, cc)
 first_verb g rest (grammar.Release t k) e = (verb.Release, cc)
 
--- the topic that a listing's line begins with
+-- the topic at the beginning of a listing's line
 pub first_topic : (f : Text) (rest : List Text) (l : Listing) → f ∷ rest ≡ listing_fields l → (t : Topic) × (f ≡ topic_word t)
 first_topic g rest (grammar.Holders n) e = (topic.Holders, cc)
 first_topic g rest (grammar.Queue n) e = (topic.Queue, cc)
@@ -46,7 +46,7 @@ first_topic g rest (grammar.Waits t) e = (topic.Waits, cc)
 first_topic g rest grammar.Txns e = (topic.Txns, cc)
 first_topic g rest grammar.Cycle e = (topic.Cycle, cc)
 
--- two words that a test tells apart are not one
+-- two words that a test distinguishes are different
 pub told_apart : (a b : Text) → bytes_eq a b ≡ false → a ≡ b → ⊥
 told_apart a b f e = true≢false (sym (subst (λ (w : Text). bytes_eq a w ≡ true) e (nat_list_eq_equiv.refl a)) ∙ f)
 
@@ -83,7 +83,7 @@ verb_no_topic v topic.Waits e = told_apart _ _ (not_waits v) e
 verb_no_topic v topic.Txns e = told_apart _ _ (not_txns v) e
 verb_no_topic v topic.Cycle e = told_apart _ _ (not_cycle v) e
 
--- a first field that is neither a verb nor a topic begins no line
+-- no line begins with a first field that is neither a verb nor a topic
 pub no_line : (g : Language) (all : List Text) (f : Text) (rest : List Text) → all ≡ f ∷ rest
     → ((w : Verb) → f ≢ word w) → ((t : Topic) → f ≢ topic_word t) → (l : Line) → LineFields g all l → ⊥
 no_line g all f rest e no_verb no_topic (grammar.Orders c) says = let named = first_verb f rest c (sym e ∙ says.2) in no_verb named.0 named.1

@@ -1,4 +1,4 @@
--- The lines of a script: which bytes say which command or listing. Each has fields, and a line says it where it falls into them.
+-- The lines of a script: which bytes are which command or listing. Each command and listing has fields; a line means it if it is split into them.
 use Rattle.std.specs.Prelude.{◌≡◌, ◌≢◌, ◌==◌, ℕ, ◌<◌, ◌≤◌, ◌^◌, ◌⊎◌, Bool, true, List, [], ◌∷◌, ◌++◌, length, map, slice_index, All, codes, decimal}
 use Rattle.std.specs.List.{slice_split}
 use Rattle.gl_modes.specs.declared.mode.Mode.{Mode}
@@ -15,7 +15,7 @@ pub data Node : Type 0 where
   Plain : (name : Text) → Node
   Interval : (index : Text) → (place : ℕ) → Node
 
--- What a line can ask for. The name that a line declares, and those of a transaction, a record, a file, an index and a node that is dropped, are plain.
+-- the commands; the name that a line declares, and those of a transaction, a record, a file, an index and a dropped node, are plain
 pub data Command : Type 0 where
   Inner : (name : Text) → (parents : List Node) → Command
   File : (name : Text) → (parents : List Node) → Command
@@ -41,7 +41,7 @@ pub data Command : Type 0 where
   Mark : (txn : Text) → Command
   Release : (txn : Text) → (mark : ℕ) → Command
 
--- What a line can want listed.
+-- the listings
 pub data Listing : Type 0 where
   Holders : (node : Node) → Listing
   Queue : (node : Node) → Listing
@@ -50,7 +50,7 @@ pub data Listing : Type 0 where
   Txns : Listing
   Cycle : Listing
 
--- What a line can say.
+-- the meanings of a line
 pub data Line : Type 0 where
   Orders : (command : Command) → Line
   Lists : (listing : Listing) → Line
@@ -72,11 +72,11 @@ pub record IsName (name : Text) : Type 0 where
   pub not_on : name ≢ codes "on"
   pub not_at : name ≢ codes "at"
 
--- what a `u64` can be
+-- the values of a `u64`
 abbrev pub IsNumber : ℕ → Type 0
 IsNumber n = n < 2 ^ 64
 
--- the names and numbers of a node are such
+-- the names and numbers of a node are valid
 abbrev pub IsNode : Node → Type 0
 IsNode (Plain n) = IsName n
 IsNode (Interval n k) = IsName n × IsNumber k
@@ -85,7 +85,7 @@ IsNode (Interval n k) = IsName n × IsNumber k
 abbrev pub AreSomeNodes : List Node → Type 0
 AreSomeNodes ps = All IsNode ps × (0 < length ps)
 
--- the names and numbers of a command are such; only an inner node, made or moved, may be without parents
+-- the names and numbers of a command are valid; only an inner node, made or moved, may have no parents
 abbrev pub IsCommand : Command → Type 0
 IsCommand (Inner n ps) = IsName n × All IsNode ps
 IsCommand (File n ps) = IsName n × AreSomeNodes ps
@@ -111,7 +111,7 @@ IsCommand (IndexBy t n ps f bs) = IsName t × IsName n × AreSomeNodes ps × IsN
 IsCommand (Mark t) = IsName t
 IsCommand (Release t k) = IsName t × IsNumber k
 
--- the names and numbers of a listing are such
+-- the names and numbers of a listing are valid
 abbrev pub IsListing : Listing → Type 0
 IsListing (Holders n) = IsNode n
 IsListing (Queue n) = IsNode n
@@ -120,7 +120,7 @@ IsListing (Waits t) = IsName t
 IsListing Txns = Unit
 IsListing Cycle = Unit
 
--- no node moves in a script of version 1; a schema changes, and transactions go back, where the language has the lines for it
+-- no node moves in a script of version 1; schema changes and savepoints need a language that has them
 abbrev pub IsOfLanguage : Language → Command → Type 0
 IsOfLanguage l (Move t n ps) = l.version ≢ version.One
 IsOfLanguage l (Drop t n) = l.schema ≡ true
@@ -129,12 +129,12 @@ IsOfLanguage l (Mark t) = l.savepoints ≡ true
 IsOfLanguage l (Release t k) = l.savepoints ≡ true
 IsOfLanguage l c = Unit
 
--- how a node is spelt: its name, or the index, a dot and the interval's number
+-- the text of a node: its name, or the index, a dot and the interval's number
 abbrev pub node_text : Node → Text
 node_text (Plain n) = n
 node_text (Interval n k) = n ++ 46 ∷ decimal k
 
--- parents stand behind a colon, where there are any
+-- a colon and the parents, if there are any
 abbrev pub parents : List Node → List Text
 parents [] = []
 parents (p ∷ ps) = codes ":" ∷ node_text p ∷ map node_text ps
@@ -178,7 +178,7 @@ listing_fields Cycle = codes "cycle" ∷ []
 abbrev pub SaysFields : Language → List Text → Command → Type 0
 SaysFields l all command = IsCommand command × IsOfLanguage l command × (all ≡ fields command)
 
--- the fields are those of the listing, where there are listings
+-- the fields are those of the listing, if there are listings
 abbrev pub ListsFields : Bool → List Text → Listing → Type 0
 ListsFields listings all listing = IsListing listing × (listings ≡ true) × (all ≡ listing_fields listing)
 
@@ -187,10 +187,10 @@ abbrev pub LineFields : Language → List Text → Line → Type 0
 LineFields l all (Orders command) = SaysFields l all command
 LineFields l all (Lists listing) = ListsFields l.listings all listing
 
--- the bytes say the line: exactly one space stands between two fields, and none at either end
+-- the bytes are the line: two fields are separated by exactly one space, and there is none at either end
 abbrev pub Says : Language → Text → Line → Type 0
 Says l text line = LineFields l (slice_split (λ b. b == 32) text) line
 
--- the bytes say at most one line
+-- the bytes are at most one line
 abbrev pub LineSaysOneCommand : Type 0
 LineSaysOneCommand = (l : Language) (text : Text) (c d : Line) → Says l text c → Says l text d → c ≡ d

@@ -1,4 +1,4 @@
--- What the values of the code say.
+-- The meaning of the code's values.
 use Rattle.std.specs.Prelude.{ℕ, List, map, Option, None, Some}
 use Rattle.gl_script.specs.declared.form.Form.{Form}
 use Rattle.gl_script.specs.declared.form.Form.TheVariants as form
@@ -16,7 +16,7 @@ abbrev pub node_in : Text → Option ℕ → Node
 node_in name None = Plain name
 node_in name (Some k) = Interval name k
 
--- the node that a used name is
+-- the node of a used name
 abbrev pub node_of : Used → Node
 node_of used = node_in used.name.items used.interval
 
@@ -24,7 +24,7 @@ node_of used = node_in used.name.items used.interval
 abbrev pub nodes_of : Lists → List Node
 nodes_of lists = map node_of lists.nodes.items
 
--- the command of a form, whose lists stand beside it
+-- the command of a form and its lists
 abbrev pub command_of : Form → Lists → Command
 command_of (form.Inner n) lists = grammar.Inner n.items (nodes_of lists)
 command_of (form.File n) lists = grammar.File n.items (nodes_of lists)
@@ -59,7 +59,7 @@ listing_of (listing.Waits t) = grammar.Waits t.items
 listing_of listing.Txns = grammar.Txns
 listing_of listing.Cycle = grammar.Cycle
 
--- the line of a value, whose lists stand beside it
+-- the line of a value and its lists
 abbrev pub line_of : Line → Lists → grammar.Line
 line_of (line.Order f) lists = grammar.Orders (command_of f lists)
 line_of (line.List l) lists = grammar.Lists (listing_of l)

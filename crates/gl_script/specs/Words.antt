@@ -1,4 +1,4 @@
--- How the verbs and topics are spelt.
+-- The words of verbs and topics.
 use Rattle.std.specs.Prelude.{codes}
 use Rattle.gl_script.specs.declared.topic.Topic.{Topic}
 use Rattle.gl_script.specs.declared.topic.Topic.TheVariants as topic

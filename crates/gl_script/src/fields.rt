@@ -5,7 +5,7 @@ ghost use Rattle.std.specs.List.{slice_split};
 ghost use Rattle.gl_script.specs.Grammar.{Text};
 ghost use Rattle.gl_script.specs.Left.{left};
 
-/// The fields of a line that are still to be read. Exactly one space stands between two of them, so
+/// The fields of a line that are still to be read. Two fields are separated by exactly one space, so
 /// two spaces in a row have an empty field between them.
 #[derive(Drop)]
 pub(crate) struct Fields<'a> {
@@ -59,7 +59,7 @@ impl<'a> Fields<'a> {
     }
 }
 
-/// What stands before the first such byte, and what after it.
+/// The bytes before the first such byte, and those after it.
 pub(crate) fn cut(text: &[u8], at: u8) -> Option<(&[u8], &[u8])>
     ensures found { IfSome result (λ parts. (text.entry.now ≡ parts.0.now ++ at ∷ parts.1.now) × All (λ b. b ≢ at) parts.0.now) }
     ensures none { IfNone result (All (λ b. b ≢ at) text.entry.now) }

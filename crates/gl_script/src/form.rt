@@ -18,54 +18,55 @@ use crate::verb::Verb;
 use arrayvec::ArrayVec;
 use gl_modes::Mode;
 
-/// Which commands a script may have.
+/// The version of a script, which says which commands it may have.
 #[derive(Clone, Copy, PartialEq, Eq, Debug)]
 pub enum Version {
-    /// All but `move`.
+    /// All except `move`.
     One,
     /// All.
     Two,
 }
 
-/// Which forms a script may have.
+/// Which lines a script may have.
 #[derive(Clone, Copy, PartialEq, Eq, Debug)]
 pub struct Language {
     pub version: Version,
-    /// Whether the listings are among them.
+    /// Whether it may have listings.
     pub listings: bool,
-    /// Whether those by which a schema changes are among them: `drop`, and `index` by a transaction.
+    /// Whether it may have schema changes: `drop`, and `index` by a transaction.
     pub schema: bool,
-    /// Whether those by which a transaction goes back are among them: `mark` and `release`.
+    /// Whether it may have savepoints: `mark` and `release`.
     pub savepoints: bool,
 }
 
-/// A command, as a line has it. The parents, bounds and keys of the line are [`Lists`] beside it.
+/// The command of a line, without the parents, bounds and keys that the line lists: those are in
+/// [`Lists`].
 #[derive(Drop)]
 pub enum Form {
-    /// A new inner node, and its parents.
+    /// Make an inner node under these parents.
     Inner {
         name: Name,
     },
-    /// A new file, and its parents.
+    /// Make a file under these parents.
     File {
         name: Name,
     },
-    /// A new index of a file, its parents, and its bounds.
+    /// Make an index of a file, with these parents and bounds.
     Index {
         name: Name,
         file: Name,
     },
-    /// A new transaction.
+    /// Begin a transaction.
     Begin {
         txn: Name,
     },
-    /// Ask for a lock, and wait if need be.
+    /// Request a lock, and wait if it cannot be granted at once.
     Lock {
         txn: Name,
         mode: Mode,
         node: Used,
     },
-    /// Ask for a lock, and be refused if it would wait.
+    /// Request a lock; refused if it cannot be granted at once.
     Try {
         txn: Name,
         mode: Mode,
@@ -76,34 +77,34 @@ pub enum Form {
         txn: Name,
         node: Used,
     },
-    /// Take a wait back.
+    /// Cancel a wait.
     Cancel {
         txn: Name,
     },
-    /// End.
+    /// Commit a transaction.
     Commit {
         txn: Name,
     },
-    /// End, also while waiting or condemned.
+    /// End a transaction whatever it is doing.
     Abort {
         txn: Name,
     },
-    /// Condemn until the transaction is on no cycle.
+    /// Condemn victims until the transaction is on no cycle.
     Settle {
         txn: Name,
     },
-    /// A new record of a file, and its keys.
+    /// Insert a record into a file, with these keys.
     Insert {
         txn: Name,
         name: Name,
         file: Name,
     },
-    /// Take a record away.
+    /// Delete a record.
     Delete {
         txn: Name,
         rec: Name,
     },
-    /// Give a record another key for an index.
+    /// Give a record another key for one index.
     Rekey {
         txn: Name,
         rec: Name,
@@ -129,35 +130,35 @@ pub enum Form {
         txn: Name,
         node: Used,
     },
-    /// What a transaction may do to a node by all its locks together.
+    /// The effective mode of a transaction on a node.
     Effective {
         txn: Name,
         node: Used,
     },
-    /// Take an inner node, a file or an index away.
+    /// Drop an inner node, a file or an index.
     Drop {
         txn: Name,
         node: Name,
     },
-    /// A new index of a file that may have had records, its parents, and its bounds.
+    /// Make an index of a file that may have had records, with these parents and bounds.
     IndexBy {
         txn: Name,
         name: Name,
         file: Name,
     },
-    /// How many nodes a transaction holds or waits for: a mark to which it can go back.
+    /// How many nodes a transaction holds or waits for: its savepoint.
     Mark {
         txn: Name,
     },
-    /// Go back to a mark.
+    /// Roll back to a savepoint.
     Release {
         txn: Name,
         mark: u64,
     },
 }
 
-/// What a line lists: the parents of a node, and the bounds of an index or the keys of a record. A
-/// line of 256 bytes has at most 257 fields.
+/// What a line lists: the parents of a node, and the bounds of an index or the keys of a record. A line
+/// of 256 bytes has at most 257 fields.
 #[derive(Drop)]
 pub struct Lists {
     pub nodes: ArrayVec<Used, MOST_LISTED>,
@@ -165,7 +166,7 @@ pub struct Lists {
 }
 
 impl Lists {
-    /// Lists without anything in them.
+    /// Empty lists.
     pub fn new() -> Lists
         ensures nodes { result.nodes.items ≡ [] }
         ensures numbers { result.numbers.items ≡ [] }
@@ -177,7 +178,7 @@ impl Lists {
     }
 }
 
-/// The command that a verb and the fields behind it say, if they say one.
+/// The command of a verb and the fields after it, if it is one.
 pub(crate) fn read_command(
     language: Language,
     verb: Verb,
@@ -224,7 +225,7 @@ pub(crate) fn read_command(
     }
 }
 
-/// What follows the word `move`, which version 1 does not have.
+/// The form after the word `move`, which version 1 does not have.
 fn read_move(language: Language, fields: &mut Fields, lists: &mut Lists) -> Option<Form>
     requires room { length (left fields.old) ≤ 257 }
     ensures says { IfSome result (λ form. SaysFields language (codes "move" ∷ left fields.old) (command_of form lists.new)) }
@@ -242,7 +243,7 @@ fn read_move(language: Language, fields: &mut Fields, lists: &mut Lists) -> Opti
     }
 }
 
-/// What follows the word `drop`, where a schema changes.
+/// The form after the word `drop`, if the script may have schema changes.
 fn read_drop(language: Language, fields: &mut Fields) -> Option<Form>
     ensures says { IfSome result (λ form. (lists : TheLists) → SaysFields language (codes "drop" ∷ left fields.old) (command_of form lists)) }
     ensures none { IfNone result ((c : Command) → SaysFields language (codes "drop" ∷ left fields.old) c → ⊥) }
@@ -254,7 +255,7 @@ fn read_drop(language: Language, fields: &mut Fields) -> Option<Form>
     }
 }
 
-/// What follows the word `mark`, where there are savepoints.
+/// The form after the word `mark`, if the script may have savepoints.
 fn read_mark(language: Language, fields: &mut Fields) -> Option<Form>
     ensures says { IfSome result (λ form. (lists : TheLists) → SaysFields language (codes "mark" ∷ left fields.old) (command_of form lists)) }
     ensures none { IfNone result ((c : Command) → SaysFields language (codes "mark" ∷ left fields.old) c → ⊥) }
@@ -266,7 +267,7 @@ fn read_mark(language: Language, fields: &mut Fields) -> Option<Form>
     }
 }
 
-/// What follows the word `release`, where there are savepoints.
+/// The form after the word `release`, if the script may have savepoints.
 fn read_release(language: Language, fields: &mut Fields) -> Option<Form>
     ensures says { IfSome result (λ form. (lists : TheLists) → SaysFields language (codes "release" ∷ left fields.old) (command_of form lists)) }
     ensures none { IfNone result ((c : Command) → SaysFields language (codes "release" ∷ left fields.old) c → ⊥) }
@@ -278,7 +279,8 @@ fn read_release(language: Language, fields: &mut Fields) -> Option<Form>
     }
 }
 
-/// What follows the word `index`: one name before the colon, or, where a schema changes, a transaction and a name.
+/// The form after the word `index`: one name before the colon, or, with schema changes, a transaction
+/// and a name.
 fn read_index(language: Language, fields: &mut Fields, lists: &mut Lists) -> Option<Form>
     requires room { length (left fields.old) ≤ 257 }
     ensures says { IfSome result (λ form. SaysFields language (codes "index" ∷ left fields.old) (command_of form lists.new)) }

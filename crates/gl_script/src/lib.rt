@@ -1,7 +1,7 @@
 //! The script language, as bytes: names, numbers, and the forms of a line.
 //!
-//! A line is its fields, parted by exactly one space; [`parse`] reads the command or the
-//! listing that they say. Which line says which is defined in `specs/`.
+//! A line consists of fields that are separated by exactly one space. [`parse`] reads its command or
+//! its listing. `specs/` defines the meaning of each line.
 #![tactic(auto)]
 
 mod fields;

@@ -10,17 +10,17 @@ use crate::listing::{Listing, read_listing};
 use crate::topic::read_topic;
 use crate::verb::read_verb;
 
-/// What a line says.
+/// The meaning of a line.
 #[derive(Drop)]
 pub enum Line {
-    /// To do something, or to answer what is the case.
+    /// A command or a question.
     Order(Form),
-    /// To list.
+    /// A listing.
     List(Listing),
 }
 
-/// What a line of at most 256 bytes says in the language, if it says anything. The parents, bounds and
-/// keys of its command are then in `lists`, whatever was there before.
+/// The meaning of a line of at most 256 bytes in the language, if it has one. The parents, bounds and
+/// keys of its command then replace the contents of `lists`.
 pub fn parse(language: Language, line: &[u8], lists: &mut Lists) -> Option<Line>
     requires short { length line.now ≤ 256 }
     ensures says { IfSome result (λ said. Says language line.now (line_of said lists.new)) }
@@ -37,7 +37,7 @@ pub fn parse(language: Language, line: &[u8], lists: &mut Lists) -> Option<Line>
     }
 }
 
-/// A line says at most one command, or one listing.
+/// A line has at most one meaning.
 pub fn one_command()
     ensures { LineSaysOneCommand }
 {}

@@ -11,12 +11,12 @@ use crate::reads::{Name, Used};
 use crate::shapes::{only_name, only_node};
 use crate::topic::Topic;
 
-/// What a line wants listed.
+/// What a line lists.
 #[derive(Drop)]
 pub enum Listing {
     /// The holders of a node.
     Holders { node: Used },
-    /// Who waits for a node.
+    /// The waiters of a node.
     Queue { node: Used },
     /// The locks of a transaction.
     Locks { txn: Name },
@@ -24,11 +24,11 @@ pub enum Listing {
     Waits { txn: Name },
     /// The transactions.
     Txns,
-    /// The cycle of which the last victim fell.
+    /// The deadlock of the last victim.
     Cycle,
 }
 
-/// The listing that a topic and the fields behind it say, if there are listings and they say one.
+/// The listing of a topic and the fields after it, if there are listings and it is one.
 pub(crate) fn read_listing(listings: bool, topic: Topic, fields: &mut Fields) -> Option<Listing>
     ensures says { IfSome result (λ listing. ListsFields listings (topic_word topic ∷ left fields.old) (listing_of listing)) }
     ensures none { IfNone result ((l : TheListing) → ListsFields listings (topic_word topic ∷ left fields.old) l → ⊥) }
@@ -40,7 +40,7 @@ pub(crate) fn read_listing(listings: bool, topic: Topic, fields: &mut Fields) ->
     }
 }
 
-/// What follows a topic, where there are listings.
+/// The listing after a topic, if there are listings.
 fn read_topic_parts(topic: Topic, fields: &mut Fields) -> Option<Listing>
     ensures says { IfSome result (λ listing. ListsFields true (topic_word topic ∷ left fields.old) (listing_of listing)) }
     ensures none { IfNone result ((l : TheListing) → ListsFields true (topic_word topic ∷ left fields.old) l → ⊥) }

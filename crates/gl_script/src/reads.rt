@@ -1,4 +1,4 @@
-//! Names, nodes and numbers, as a line spells them.
+//! Names, nodes and numbers, as a line writes them.
 
 ghost use Rattle.std.specs.Prelude.{◌≡◌, ◌≢◌, ℕ, ◌<◌, ◌^◌, ◌↔◌, ◌∷◌, List, decimal, IfSome, IfNone, IsTrue};
 ghost use Rattle.gl_script.specs.Grammar.{Text, IsName, Node, IsNode, node_text};
@@ -13,16 +13,16 @@ use std::str;
 /// A declared name: 1 to 16 bytes.
 pub type Name = ArrayVec<u8, 16>;
 
-/// A node as a line names it: by its own name, or as one interval of the index that is named.
+/// A node as a line names it: by its own name, or as an interval of an index.
 #[derive(Default, Drop)]
 pub struct Used {
-    /// The node's name, or that of the index.
+    /// The name of the node or of the index.
     pub name: Name,
-    /// Which interval of the index, where it is one.
+    /// The number of the interval, if it is one.
     pub interval: Option<u64>,
 }
 
-/// The name that the next field is, if it is one.
+/// The name in the next field, if it is one.
 pub(crate) fn next_name(fields: &mut Fields) -> Option<Name>
     ensures found { IfSome result (λ name. IsName name.items × (left fields.old ≡ name.items ∷ left fields.new)) }
     ensures none { IfNone result ((n : Text) (more : List Text) → IsName n → left fields.old ≢ n ∷ more) }
@@ -30,7 +30,7 @@ pub(crate) fn next_name(fields: &mut Fields) -> Option<Name>
     read_name(fields.next()?)
 }
 
-/// The node that the next field names, if it names one.
+/// The node in the next field, if it is one.
 pub(crate) fn next_node(fields: &mut Fields) -> Option<Used>
     ensures found { IfSome result (λ used. IsNode (node_of used) × (left fields.old ≡ node_text (node_of used) ∷ left fields.new)) }
     ensures none { IfNone result ((n : Node) (more : List Text) → IsNode n → left fields.old ≢ node_text n ∷ more) }
@@ -38,7 +38,7 @@ pub(crate) fn next_node(fields: &mut Fields) -> Option<Used>
     read_used(fields.next()?)
 }
 
-/// The node that the bytes name, if they name one.
+/// The node with this text, if it is one.
 pub(crate) fn read_used(text: &[u8]) -> Option<Used>
     ensures found { IfSome result (λ used. IsNode (node_of used) × (text.now ≡ node_text (node_of used))) }
     ensures none { IfNone result ((n : Node) → IsNode n → text.now ≢ node_text n) }
@@ -59,7 +59,7 @@ pub(crate) fn read_used(text: &[u8]) -> Option<Used>
     }
 }
 
-/// The number that the bytes spell, if they spell one.
+/// The number with this text, if it is one.
 #[tactic(auto, using(crate::proofs::Numbers::plain_unread))]
 pub(crate) fn read_number(text: &[u8]) -> Option<u64>
     ensures found { IfSome result (λ n. text.now ≡ decimal n) }
@@ -77,7 +77,7 @@ pub(crate) fn read_number(text: &[u8]) -> Option<u64>
     }
 }
 
-/// Whether the bytes are digits, the first of them no 0 unless it is the only one.
+/// Whether the bytes are digits, and the first is no 0 unless it is the only one.
 fn is_plain(text: &[u8]) -> bool
     ensures { IsTrue result ↔ IsPlain text.now }
 {
@@ -98,7 +98,7 @@ fn is_plain(text: &[u8]) -> bool
     true
 }
 
-/// The name that the bytes are, if they are one.
+/// The name with these bytes, if it is one.
 pub(crate) fn read_name(text: &[u8]) -> Option<Name>
     ensures found { IfSome result (λ name. IsName text.now × (name.items ≡ text.now)) }
     ensures none { IfNone result (IsName text.now → ⊥) }

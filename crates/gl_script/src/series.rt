@@ -1,4 +1,4 @@
-//! Fields in a series: nodes or numbers.
+//! Series of fields: nodes or numbers.
 
 ghost use Rattle.std.specs.Prelude.{◌≡◌, ◌≢◌, ℕ, ◌≤◌, ◌↔◌, [], ◌∷◌, ◌++◌, List, All, IfSome, IfNone, IsTrue, codes, decimal, length, map};
 ghost use Rattle.gl_script.specs.Grammar.{Text, Node, IsNode, IsNumber, AreSomeNodes, node_text, parents};
@@ -9,10 +9,10 @@ use crate::fields::Fields;
 use crate::reads::{Used, read_number, read_used};
 use arrayvec::ArrayVec;
 
-/// The most that a line of 256 bytes can list.
+/// The most fields that a line of 256 bytes can list.
 pub(crate) const MOST_LISTED: usize = 257;
 
-/// All fields that are left, each of them a number.
+/// All remaining fields, each of them a number.
 pub(crate) fn read_numbers(
     fields: &mut Fields,
     numbers: &mut ArrayVec<u64, MOST_LISTED>,
@@ -28,7 +28,7 @@ pub(crate) fn read_numbers(
     Some(())
 }
 
-/// Parents, if there are any, and nothing behind them.
+/// Parents, if there are any, and nothing after them.
 pub(crate) fn read_parents(
     fields: &mut Fields,
     nodes: &mut ArrayVec<Used, MOST_LISTED>,
@@ -48,7 +48,7 @@ pub(crate) fn read_parents(
     (!nodes.is_empty()).then_some(())
 }
 
-/// Parents, and the word `on` behind them.
+/// Parents, and the word `on` after them.
 #[tactic(auto, using(crate::proofs::ListTexts::none_behind_colon))]
 pub(crate) fn read_parents_on(
     fields: &mut Fields,
@@ -80,7 +80,7 @@ fn is_on(text: &[u8]) -> bool
     matches!(text, b"on")
 }
 
-/// All fields that are left, each of them a node.
+/// All remaining fields, each of them a node.
 fn read_nodes(fields: &mut Fields, nodes: &mut ArrayVec<Used, MOST_LISTED>) -> Option<()>
     requires room { length (left fields.old) ≤ 257 }
     requires empty { nodes.old.items ≡ [] }

@@ -1,7 +1,7 @@
-//! What follows a line's first word.
+//! What follows the first word of a line.
 //!
-//! Each of the public calls reads all fields that are left, and answers what is made of them;
-//! `None` where one is missing, one is too many, or one is not what stands in its place.
+//! Each of the public calls reads all remaining fields, and returns what `form` makes of them; `None`
+//! if a field is missing, is one too many, or is not what its place needs.
 
 ghost use Rattle.std.specs.Prelude.{◌≡◌, ◌≢◌, ℕ, ◌≤◌, [], ◌∷◌, ◌++◌, List, All, IfSome, IfNone, codes, decimal, length, map};
 ghost use Rattle.gl_modes.specs.declared.mode.Mode.{Mode};
@@ -194,7 +194,7 @@ pub(crate) fn index_parts(fields: &mut Fields, lists: &mut Lists) -> Option<Name
     file_bounds(fields, &mut lists.numbers)
 }
 
-/// The name that is left.
+/// The last field, a name.
 fn last_name(fields: &mut Fields) -> Option<Name>
     ensures found { IfSome result (λ name. IsName name.items × (left fields.old ≡ name.items ∷ [])) }
     ensures none { IfNone result ((n : Text) → IsName n → left fields.old ≢ n ∷ []) }
@@ -203,7 +203,7 @@ fn last_name(fields: &mut Fields) -> Option<Name>
     fields.is_done().then_some(name)
 }
 
-/// The node that is left.
+/// The last field, a node.
 fn last_node(fields: &mut Fields) -> Option<Used>
     ensures found { IfSome result (λ node. IsNode (node_of node) × (left fields.old ≡ node_text (node_of node) ∷ [])) }
     ensures none { IfNone result ((n : Node) → IsNode n → left fields.old ≢ node_text n ∷ []) }

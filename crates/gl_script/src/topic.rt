@@ -4,7 +4,7 @@ ghost use Rattle.std.specs.Prelude.{◌≡◌, ◌≢◌, IfSome, IfNone};
 ghost use Rattle.gl_script.specs.Words.{topic_word};
 ghost use Rattle.gl_script.specs.declared.topic.Topic.{Topic as TheTopic};
 
-/// What a listing is of, by its first word.
+/// The topic of a listing, by its first word.
 #[derive(Clone, Copy)]
 pub(crate) enum Topic {
     Holders,
@@ -15,7 +15,7 @@ pub(crate) enum Topic {
     Cycle,
 }
 
-/// The topic that the bytes are, if they are one.
+/// The topic with these bytes, if it is one.
 pub(crate) fn read_topic(text: &[u8]) -> Option<Topic>
     ensures says { IfSome result (λ topic. text.now ≡ topic_word topic) }
     ensures none { IfNone result ((topic : TheTopic) → text.now ≢ topic_word topic) }

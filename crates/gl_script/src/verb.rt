@@ -4,7 +4,7 @@ ghost use Rattle.std.specs.Prelude.{◌≡◌, ◌≢◌, IfSome, IfNone};
 ghost use Rattle.gl_script.specs.Words.{word};
 ghost use Rattle.gl_script.specs.declared.verb.Verb.{Verb as TheVerb};
 
-/// What a line asks for, by its first word.
+/// The verb of a line, by its first word.
 #[derive(Clone, Copy)]
 pub(crate) enum Verb {
     Inner,
@@ -31,7 +31,7 @@ pub(crate) enum Verb {
     Release,
 }
 
-/// The verb that the bytes are, if they are one.
+/// The verb with these bytes, if it is one.
 pub(crate) fn read_verb(text: &[u8]) -> Option<Verb>
     ensures says { IfSome result (λ verb. text.now ≡ word verb) }
     ensures none { IfNone result ((verb : TheVerb) → text.now ≢ word verb) }

@@ -37,7 +37,7 @@ serves_next s mid t cs xs k d a told is less run step = (
       (each_snoc s mid t (take k cs) run.0 (slice_index_or cs k d) a told (subst (λ (n : ℕ). ServesEach s (take n cs) run.0 mid) is run.2) step),
 )
 
--- and is counted where it is accepted
+-- and is counted if it is accepted
 accepted_next : (cs : List Command) (xs : List Answer) (d : Command) (a : Answer) → length xs < length cs
     → accepted_in cs (xs ++ a ∷ []) ≡ accepted_in cs xs + one_if (accepts (slice_index_or cs (length xs) d) a)
 accepted_next [] xs d a less = absurd (omega (arith, less))
@@ -54,7 +54,7 @@ accepted_more cs xs k d a is less =
     subst (λ (n : ℕ). accepted_in cs (xs ++ a ∷ []) ≡ accepted_in cs xs + one_if (accepts (slice_index_or cs n d) a)) is
     (accepted_next cs xs d a (omega (arith, less, is)))
 
--- all answers so far went on
+-- the list did not stop after any answer so far
 pub all_more : (xs : List Answer) (a : Answer) → list_all goes_on xs ≡ true → goes_on a ≡ true → list_all goes_on (xs ++ a ∷ []) ≡ true
 all_more [] a all on = ap (λ b. b && true) on
 all_more (x ∷ xs) a all on = let both = and_both (goes_on x) (list_all goes_on xs) all in ap (λ b. b && list_all goes_on (xs ++ a ∷ [])) both.0 ∙
@@ -69,7 +69,7 @@ stops_whole (c ∷ cs) (a ∷ xs) all same =
     let both = and_both (goes_on a) (list_all goes_on xs) all in
     subst (λ (b : Bool). MatchBool b (Stops cs xs) (xs ≡ [])) (sym both.0) (stops_whole cs xs both.1 (omega (arith, same)))
 
--- or the last does not go on
+-- or the list stops after the last
 pub stops_here : (cs : List Command) (xs : List Answer) (a : Answer) → list_all goes_on xs ≡ true → length xs < length cs → goes_on a ≡ false
     → Stops cs (xs ++ a ∷ [])
 stops_here [] xs a all less off = absurd (omega (arith, less))
@@ -86,7 +86,7 @@ one_accepted is = ap one_if is
 pub none_accepted : {yes : Bool} → yes ≡ false → one_if yes ≡ 0
 none_accepted is = ap one_if is
 
--- a command that is not accepted is served by leaving all as it is
+-- a command that is not accepted changes nothing
 pub serves_still : (g g' : GuardedView) (c : Command) (a : Answer) (told : Told) → Step (state_of g.manager) c a told (state_of g'.manager)
     → accepts c a ≡ false → g' ≡ g → told ≡ [] → ServesOne g c a told g'
 serves_still g g' c a told step unaccepted same none = record {

@@ -1,4 +1,4 @@
--- A table where nobody waits, and the boards that it published.
+-- A table without waiters, and the snapshots that it published.
 use Rattle.std.specs.Prelude.{◌≡◌, ◌||◌, Bool, false, List, ◌∷◌, [], ◌++◌}
 use Rattle.std.proofs.Common.{subst}
 use Rattle.gl_waits.specs.declared.board.Board.{Board}
@@ -15,11 +15,11 @@ use Rattle.gl_waits.specs.Boards.{ShowsNobody}
 use Rattle.gl_steps.specs.Served.{leaves_waiting}
 use Rattle.gl_window.proofs.Idle.{neither, nobody_on, nobody_shown}
 
--- what is known where nobody waited when watchers were last told, or a lock was left waiting since
+-- what is known if nobody waited when watchers were last told, or a lock was left waiting since
 abbrev pub IsQuiet : State → List Board → Bool → Type 0
 IsQuiet s list waited = waited ≡ false → NobodyWaits s × EndsIdle list
 
--- a step keeps it, where a lock that is left waiting is noted
+-- a step keeps it, if a lock that is left waiting is noted
 pub quiet_on : (s s' : State) (list : List Board) (waited waits : Bool) (c : Command) (a : Answer) (told : Told) → waits ≡ leaves_waiting a
     → IsQuiet s list waited → Step s c a told s' → IsQuiet s' list (waited || waits)
 quiet_on s s' list waited waits c a told is_so quiet step e =

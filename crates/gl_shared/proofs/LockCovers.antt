@@ -1,4 +1,4 @@
--- A lock that is answered with a mode holds one that covers what was asked, also where it had to wait and a victim's removal let it in.
+-- A lock that is answered with a mode holds one that covers the requested mode, even if it had to wait and was granted after a victim's wait ended.
 use Rattle.gl_waits.specs.declared.victims.Victims.{Victims}
 use Rattle.gl_waits.proofs.VictimLemmas.{candidate-on_cycle}
 use Rattle.std.specs.Prelude.{◌≡◌, ◌⊎◌, ℕ, zero, suc, Bool, true, false, ◌&&◌, ◌==◌, List, [], Option, Some, None, if◌then◌else◌}
@@ -37,7 +37,7 @@ use Rattle.gl_steps.specs.declared.command.Command.TheVariants as command
 use Rattle.gl_steps.specs.Step.{Goes, Step, Unchanged, lock_answer}
 use Rattle.gl_steps.specs.Tests.{may_want_memory, refusal_of, worn}
 
--- who does not wait is on no cycle, so it is settled as it stands
+-- a transaction that does not wait is on no cycle, so settling it changes nothing
 idle_done : (c : Victims) (k : ℕ) (s s' : State) (t : ℕ) → is_wait (status_of s t) ≡ false → SettledWithin c k s t s' → s' ≡ s
 idle_done c zero s s' t idle h = h.1
 idle_done c (suc k) s s' t idle h =
@@ -45,7 +45,7 @@ idle_done c (suc k) s s' t idle h =
     let on : IsOnCycleOf (waits_for s) h.0 t = record { there = chosen.back; back = chosen.there } in
     absurd (true≢false (sym (cycle_waits s h.0 t on) ∙ idle))
 
--- what becomes of one who waited on n for w
+-- the outcome for a transaction that waited on n for w
 abbrev Comes : State → ℕ → NodeId → Mode → Type 0
 Comes s t n w = (is_wait (status_of s t) ≡ true) ⊎ ((status_of s t ≡ Some Condemned) ⊎ (s.held t n ≡ w))
 
@@ -66,7 +66,7 @@ module _ (s : State) (law : IsLawful s) (v t : ℕ) (apart : (t == v) ≡ false)
   still : status_in (b.txns t) ≡ Some (Waiting n w)
   still = ap status_in same_txn ∙ waits
 
-  -- it waits on, where it is not among those that are granted
+  -- it still waits, if it is not among those that are granted
   sleeps : is_among_waiters t (granted_at b here n) ≡ false → status_of (condemned s v) t ≡ Some (Waiting n w)
   sleeps out = woken_sleeps (granted_at b here) t n w (b.txns t) still out
 
@@ -77,7 +77,7 @@ module _ (s : State) (law : IsLawful s) (v t : ℕ) (apart : (t == v) ≡ false)
     granted_mode (members b n) t (granted_at b here n) ∙ ap (last_mode (members b n t)) (one_of b here law_but t n w still among).0,
   )
 
--- who is condemned stays so while others are granted
+-- a condemned transaction stays condemned while others are granted
 stays_condemned : (g : NodeId → List Waiter) (u : ℕ) (x : Option Txn) → status_in x ≡ Some Condemned → status_in (woken g u x) ≡ Some Condemned
 stays_condemned g u None e = absurd (cc e)
 stays_condemned g u (Some y) e = let is : y.status ≡ Condemned = cc e in ap (λ z. Some (awake g u z)) is
@@ -105,11 +105,11 @@ settled_comes c (suc k) s s' t n w law waits h =
     inr (inr (ap (λ (x : State). x.held t n) done ∙ woke.1)))
     (λ out. settled_comes c k (condemned s v) s' t n w (condemned-lawful s law v) (sleeps s law v t apart n w waits out) h.2))
   where
-    -- the victim is condemned, and whoever is granted then is another
+    -- the victim is condemned, and each that is granted then is another
     victim : (v : ℕ) → t ≡ v → status_of (condemned s v) t ≡ Some Condemned
     victim v same = subst (λ (x : ℕ). status_of (condemned s x) t ≡ Some Condemned) same (self_condemned s t n w waits)
 
--- an answer that names a mode names the one that is held, of one who neither waits nor is condemned
+-- an answer with a mode names the held mode, of a transaction that neither waits nor is condemned
 record Answered (k held : Mode) (o : Option Status) : Type 0 where
   pub held_is : k ≡ held
   pub quiet : is_wait o ≡ false
@@ -134,7 +134,7 @@ module _ (s : State) (law : IsLawful s) (t : TxnId) (n : NodeId) (m k : Mode) wh
       ap (λ c. status_in (if c then restatus (Waiting n (wanted s t.slot n m)) (s.txns t.slot) else s.txns t.slot)) (number_same t.slot t.slot refl)
       ∙ restatus_is (Waiting n (wanted s t.slot n m)) Active (s.txns t.slot) active
 
-  -- or after a wait that others ended
+  -- or after a wait that other commands ended
   after_wait : (d : Detect) (next : State) → IsLawful (enqueued s t.slot n (wanted s t.slot n m)) → status_of s t.slot ≡ Some Active
       → WaitSettles d s.victims (enqueued s t.slot n (wanted s t.slot n m)) t.slot next
       → is_wait (status_of next t.slot) ≡ false → (status_of next t.slot ≡ Some Condemned → ⊥) → next.held t.slot n ≡ wanted s t.slot n m

@@ -1,4 +1,4 @@
--- What a lock does to a session's share, and what it gives.
+-- The effect of a lock on a session's share, and its result.
 use Rattle.std.proofs.Common.{◌≡◌, ℕ, ◌+◌, ◌≤◌, Bool, true, false, Result, Ok, Err, MatchResult, MatchBool, arith, refl}
 use Rattle.gl_modes.specs.declared.refusal.Refusal.{Refusal}
 use Rattle.gl_steps.specs.declared.command.Answer.{Answer}
@@ -32,12 +32,12 @@ stops : (b : Bool) (old new : ℕ) → new ≡ old + 1 → MatchBool b ((old ≤
 stops true old new is = (omega (arith, is), omega (arith, is))
 stops false old new is = is
 
--- an accepted lock raises the share by one, whatever comes of it
+-- an accepted lock raises the share by one, whatever its outcome
 pub shares_lock : (result : Result Grant Stop) (old new : ℕ) → new ≡ old + 1 → SharesLock result old new
 shares_lock (Ok g) old new is = is
 shares_lock (Err s) old new is = stops (is_refusal s) old new is
 
--- whoever is neither granted nor ended at once waits for a verdict
+-- a lock that is neither granted nor ended at once waits for a verdict
 pub gives_verdict : (t : TxnId) (n : NodeId) (k : Mode) (a : Answer) (x : Result Grant Stop) → ((m : Mode) → a ≡ answer.Granted m → ⊥)
     → (a ≡ answer.Victim → ⊥) → ((r : Refusal) → a ≡ answer.Refused r → ⊥) → IsVerdict t n k x → Gives t n k a x
 gives_verdict t n k (answer.Granted m) x granted victim refused later = absurd (granted m refl)

@@ -1,4 +1,4 @@
--- The last board of a list. For what is published.
+-- The last snapshot of a list. For what is published.
 use Rattle.std.proofs.Common.{◌≡◌, ◌++◌, ◌∷◌, ◌∙◌, [], List, Option, Some, None, ap, fold, refl}
 use Rattle.std.specs.Arc.{arc_value}
 use Rattle.std.specs.List.{last_or}
@@ -9,7 +9,7 @@ use Rattle.gl_shared.specs.declared.shown.Next.{Next}
 use Rattle.gl_shared.specs.declared.shown.Turn.{Turn}
 use Rattle.gl_shared.specs.Ties.{turned}
 
--- of a list and one more board it is that board
+-- of a list and one more snapshot it is that snapshot
 pub last-more : (o : Option Board) (xs : List Board) (b : Board) → last_or o (xs ++ b ∷ []) ≡ Some b
 last-more o [] b = refl
 last-more o (x ∷ xs) b = last-more (Some x) xs b
@@ -23,7 +23,7 @@ pub last-ends : (xs : List Board) (b : Board) → last_or None xs ≡ Some b →
 last-ends [] b h = absurd (none_some h)
 last-ends (x ∷ xs) b h = ends-from x xs b h
 
--- where one board is left to publish, it is the last then
+-- if one snapshot is left to publish, it is the last then
 pub turned-once : (start : Turn) (none left : List Next) (n : Next) (b : Board) → left ≡ none ++ n ∷ [] → none ≡ [] → arc_value n.board ≡ b
     → (fold (λ (t : Turn) (m : Next). turned m) start left).board ≡ Some b
 turned-once start none left n b more empty is =

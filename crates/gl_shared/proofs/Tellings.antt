@@ -1,11 +1,11 @@
--- What a telling leaves of the published list.
+-- The effect of a telling on the published list.
 use Rattle.std.proofs.Common.{◌≡◌, ◌⊎◌, ◌++◌, ◌∷◌, [], List, Bool, true, false, ap₂, ◌∙◌, inl, inr}
 use Rattle.gl_waits.specs.declared.board.Board.{Board}
 use Rattle.gl_shared.specs.declared.guarded.Tell.{Tell}
 use Rattle.gl_shared.specs.declared.guarded.Tell.TheVariants.{Published, NoMemory}
 use Rattle.gl_shared.specs.State.{GainsIf, Told}
 
--- the list as it was, or with the board behind it
+-- the list unchanged, or with the snapshot added
 pub told_either : (list : List Board) (board : Board) (t : Tell) (after : List Board) → Told list board t after → (after ≡ list) ⊎ (after ≡ list ++ board ∷ [])
 told_either list board (Published e) after h = inr h.0
 told_either list board NoMemory after h = inl h

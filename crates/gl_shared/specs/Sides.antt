@@ -4,7 +4,7 @@ use Rattle.gl_shared.specs.declared.boards.Side.{Side}
 use Rattle.gl_shared.specs.declared.boards.Side.TheVariants.{Open, Closed}
 use Rattle.gl_window.specs.Strip.{Strip}
 
--- the list that is shown, its book and the way of detection
+-- the list that is shown, with its book and its way of detection
 abbrev pub shown_by : Side → Strip
 shown_by (Open w) = w.desk.shown.value.line
 shown_by (Closed line) = line

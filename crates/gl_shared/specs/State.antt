@@ -1,4 +1,4 @@
--- What stands behind the latch.
+-- What the latch protects.
 use Rattle.std.specs.Prelude.{◌≡◌, ℕ, Bool, false, List, [], ◌∷◌, ◌++◌, MatchBool}
 use Rattle.gl_waits.specs.declared.board.Board.{Board}
 use Rattle.gl_model.specs.State.{State}
@@ -12,8 +12,8 @@ use Rattle.gl_window.specs.declared.telling.Telling.TheVariants.{WhileWaiting}
 use Rattle.gl_shared.specs.declared.guarded.Tell.{Tell}
 use Rattle.gl_shared.specs.declared.guarded.Tell.TheVariants.{Published, NoMemory}
 
--- the manager, the count of accepted commands that were served, one box a slot, the boards that were published, when they are told, and whether
--- somebody waited when they last were or a lock was left waiting since
+-- the manager, the count of accepted commands that were served, a box for each slot, the published snapshots, when they are told, and whether somebody waited
+-- when they last were or a lock was left waiting since
 pub record GuardedView : Type 0 where
   pub manager : ManagerView
   pub book : ℕ
@@ -22,22 +22,21 @@ pub record GuardedView : Type 0 where
   pub telling : Telling
   pub waited : Bool
 
--- the board stands behind the list, where it was published; else the list is as it was
+-- the list with the snapshot added, if it was published; else the list unchanged
 abbrev pub GainsIf : Bool → List Board → Board → List Board → Type 0
 GainsIf is_published list board after = MatchBool is_published (after ≡ list ++ board ∷ []) (after ≡ list)
 
--- the board stands behind the list, whole, and its epoch is answered; or nothing was published
+-- the snapshot is added to the list, whole, with its epoch as the answer; or nothing was published
 abbrev pub Told : List Board → Board → Tell → List Board → Type 0
 Told list board (Published e) after = (after ≡ list ++ board ∷ []) × (e ≡ board.epoch)
 Told list board NoMemory after = after ≡ list
 
--- what is kept of who waited when watchers were told of a board: that nobody did is kept only of a board that shows nobody, and of each such where
--- telling waits for waiters
+-- what is remembered after a publication: that nobody waited only if the snapshot shows no waiter, and then always if telling is WhileWaiting
 abbrev pub Remembers : Telling → Board → Tell → Bool → Bool → Type 0
 Remembers telling board (Published e) before after = (after ≡ false → ShowsNobody board) × (telling ≡ WhileWaiting → ShowsNobody board → after ≡ false)
 Remembers telling board NoMemory before after = after ≡ before
 
--- nothing was told: telling waits for waiters, nobody waits, and nobody waited when watchers were last told
+-- nothing was told: telling is WhileWaiting, nobody waits, and nobody waited when watchers were last told
 pub record StaysUntold (telling : Telling) (s : State) (list after : List Board) : Type 0 where
   pub by_choice : telling ≡ WhileWaiting
   pub nobody_waits : NobodyWaits s

@@ -19,11 +19,11 @@ use Rattle.logbook.specs.Pages.{Book}
 abbrev pub tie_of : Strip → Tie
 tie_of l = record { head = head_of l.book; detect = l.detect }
 
--- and the board that was last to stand behind the list
+-- that and the snapshot that was last to be added to the list
 abbrev pub turn_of : Shown → Turn
 turn_of s = record { tie = tie_of s.line; board = option_map arc_value s.board }
 
--- the same once a board is published
+-- the same after a snapshot is published
 abbrev pub turned : Next → Turn
 turned n = record { tie = tie_of n.line; board = Some (arc_value n.board) }
 
@@ -37,10 +37,10 @@ Kept x views = (by : ℕ) (v : Option Tie) → get_elem? views by ≡ some v →
 abbrev pub Publishes : Option Tie → Shown → Shown → Option Tie → Type 0
 Publishes v x y w = w ≡ Some (tie_of y.line)
 
--- what is found is of the book to which the reader is tied, and ties it
+-- a reader finds what is of its book, and is tied to that book
 abbrev pub Looks : Option Tie → Shown → Shown → Option Tie → Type 0
 Looks v x y w = (w ≡ Some (tie_of x.line)) × Fits x v
 
--- the list is of this book and way of detection, and lawful
+-- the list is lawful, and of this book and way of detection
 abbrev pub IsOf : Book → Detect → Board → Strip → Type 0
 IsOf book detect first l = (l.book ≡ book) × (l.detect ≡ detect) × IsLawful detect first l.list

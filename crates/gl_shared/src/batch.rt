@@ -1,4 +1,4 @@
-//! Lists of commands in one hold of the latch: what an engine locks a path with, from the root down.
+//! Lists of commands in one critical section: what an engine locks a path with, from the root down.
 
 ghost use Rattle.std.specs.Prelude.{◌≡◌, ◌+◌, ◌≤◌, [], true, IfErr, IfOk, OnErr, length, vec_capacity};
 ghost use Rattle.gl_modes.specs.Modes.{is_at_least};
@@ -19,7 +19,7 @@ use gl_wakes::{Grant, Stop, ended_by};
 use std::alloc::Global;
 use std::sync::{MutexGuard, Wait};
 
-/// Whether the next command of a list is served behind one that was answered so.
+/// Whether the next command of a list is served after this answer.
 fn goes_on(answer: &Answer) -> bool
     ensures { result ≡ goes_on answer.now }
 {
@@ -29,8 +29,8 @@ fn goes_on(answer: &Answer) -> bool
     )
 }
 
-/// Serves commands up to the first that does not go on, puts their answers into the list, and says
-/// whose wait they may have ended.
+/// Serves commands up to the first after which the list stops, adds their answers to the list, and
+/// returns the slots whose wait they may have ended.
 fn serve_all<N: Naming>(
     guarded: &mut Guarded<N>,
     share: &mut Share<N>,
@@ -62,10 +62,10 @@ fn serve_all<N: Naming>(
 }
 
 impl<'a, N: Naming> Session<'a, N> {
-    /// Serves commands one after the other with nobody's between them, up to the first that is
-    /// refused, is left waiting, or fells its transaction, and answers each that was served. Watchers
-    /// are told once. Room for all answers is made first, so that with `NoMemory`, the only refusal,
-    /// nothing was served. For a lock that was left waiting see `await_grant`.
+    /// Serves commands in order in one critical section, up to the first that is refused, is left
+    /// waiting, or makes its transaction a victim, and answers each that was served. Watchers are told
+    /// once. Room for all answers is made first: after `NoMemory`, the only refusal, nothing was
+    /// served. `await_grant` awaits a lock that was left waiting.
     pub fn ask_all<R: Wait>(
         &mut self,
         rt: &R,
@@ -102,7 +102,7 @@ impl<'a, N: Naming> Session<'a, N> {
         Ok(answers)
     }
 
-    /// Waits for what becomes of a lock that `ask_all` left waiting: its grant, or why there is none.
+    /// Waits for the end of a lock that `ask_all` left waiting: its grant, or why there is none.
     pub fn await_grant<R: Wait>(
         &self,
         rt: &R,

@@ -1,4 +1,4 @@
-//! The ends of `left_right`, under the rule.
+//! The two sides of `left_right`, with the rule of what is published.
 ghost use Rattle.std.specs.Prelude.{◌≡◌, [], ◌≤◌, ◌^◌, ◌<◌, drop, fold, IfOk, None, Some};
 ghost use Rattle.std.specs.Arc.{arc_value};
 ghost use Rattle.left_right.specs.Sides.{view};
@@ -24,12 +24,12 @@ pub type BoardReader = Reader<Shown, Option<Tie>, Published>;
 /// The side that publishes.
 pub enum Side {
     Open(BoardWriter),
-    /// It publishes no more, and stays at this list.
+    /// Publishes nothing more, and keeps showing this list.
     Closed(Line),
 }
 
 impl Side {
-    /// Publishes no more.
+    /// Ends publishing.
     pub(crate) fn end<R: Wait>(self, rt: &R) {
         match self {
             Side::Open(writer) => drop(writer.take(rt)),
@@ -38,7 +38,7 @@ impl Side {
     }
 }
 
-// Publishes what is pending, as often as it has to.
+// Publishes what is pending, retrying until that is done.
 fn publish_all<R: Wait>(rt: &R, writer: BoardWriter) -> BoardWriter
     requires same { (fold (λ turn next. turned next) (turn_of writer.desk.shown.value)
         (drop writer.behind writer.log.items)).tie ≡ tie_of writer.desk.shown.value.line }
@@ -58,8 +58,8 @@ fn publish_all<R: Wait>(rt: &R, writer: BoardWriter) -> BoardWriter
     unreachable!()
 }
 
-/// Publishes a board behind the list, and says whether it stands there. Where something else is shown
-/// than that list, which cannot be while `left_right` keeps its word, the side is closed.
+/// Publishes a snapshot at the end of the list, and says whether it was added. If anything but that
+/// list is shown, which cannot be if `left_right` keeps its contract, the side is closed.
 pub fn publish<R: Wait>(
     rt: &R,
     mut writer: BoardWriter,
@@ -124,7 +124,7 @@ pub fn open<R: Wait>(
     Err(AllocError)
 }
 
-/// A list behind which no board was to stand yet.
+/// A list to which no snapshot was added yet.
 fn unpublished(line: &Line) -> Result<Shown, AllocError>
     ensures { IfOk result (λ shown. (shown.line ≡ line.now) × (shown.board ≡ None)) }
 {

@@ -1,4 +1,4 @@
-//! What stands behind the latch.
+//! What the latch protects.
 
 ghost use Rattle.gl_slots.specs.Limit.{most_slots};
 ghost use Rattle.std.specs.Prelude.{◌≡◌, ◌+◌, ◌++◌, ◌∷◌, ◌≤◌, ◌⊎◌, [], true, false, None, Some, Ok, replicate, IfSome, is_some};
@@ -34,17 +34,17 @@ use std::marker::Model;
 use std::sync::Wait;
 use std::sync::ledger::Book;
 
-/// What became of a publication.
+/// The outcome of a publication.
 #[derive(Clone, Copy, PartialEq, Eq, Debug)]
 pub enum Tell {
-    /// The board of this epoch was published.
+    /// The snapshot of this epoch was published.
     Published(u64),
-    /// There was no memory for it.
+    /// It was not published for lack of memory.
     NoMemory,
 }
 
-/// What stands behind the latch: the manager, the count of accepted commands that were served, a
-/// notice box for each slot, and the writer of the published boards.
+/// What the latch protects: the manager, the count of accepted commands that were served, a notice box
+/// for each slot, and the writer of the published snapshots.
 pub struct Guarded<N: Naming> {
     pub(crate) manager: Manager,
     pub(crate) served: u64,
@@ -90,15 +90,15 @@ impl<N: Naming> Guarded<N> {
         self.publisher.law();
     }
 
-    /// What the table's manager has been doing since it was made.
+    /// What the table's manager has done since it was made.
     pub fn counters(&self) -> Counters
         ensures { result ≡ self.now.manager.counters }
     {
         self.manager.counters()
     }
 
-    /// How many commands the table has accepted: no fewer than when it was made, and what was served
-    /// for this share.
+    /// How many commands the table has accepted: at least those before it was made, and those that were
+    /// served for this share.
     pub(crate) fn accepted_beside(&mut self, share: &mut Share<N>) -> u64
         ensures count { result ≡ self.old.manager.accepted }
         ensures bound { N.opening + share.old ≤ result }
@@ -108,7 +108,7 @@ impl<N: Naming> Guarded<N> {
         self.manager.accepted()
     }
 
-    /// A table behind its lock, before its first command.
+    /// The contents of a table before its first command.
     pub(crate) fn new(
         manager: Manager,
         book: Book<N>,
@@ -134,7 +134,7 @@ impl<N: Naming> Guarded<N> {
         }
     }
 
-    /// The published list, the last board of which is the one of now where there was memory for it.
+    /// The published list, after publishing the present snapshot if there is memory for it.
     pub fn note<R: Wait>(&mut self, rt: &R) -> Note<N>
         ensures list { result ≡ self.new.list }
         ensures told { (self.new.list ≡ self.old.list) ⊎ (self.new.list ≡ self.old.list ++ board_of (state_of self.old.manager) ∷ []) }
@@ -145,10 +145,10 @@ impl<N: Naming> Guarded<N> {
         self.publisher.note(rt)
     }
 
-    /// Whether the transaction has its answer on this node, and which. The first that applies:
-    /// refused with `NoSuchTxn` where it does not live; none yet where it waits on the node; what its
-    /// slot's box has for it, a grant only of a mode that it holds there and that covers the asked
-    /// one; else refused with `NotWaiting`.
+    /// What became of a transaction's request for this node. The first that applies: refused with
+    /// `NoSuchTxn` if the transaction does not live; `None` if it waits for the node; the notice in its
+    /// slot's box, a grant only if it holds the node in that mode and the mode covers the requested
+    /// one; refused with `NotWaiting`.
     pub fn verdict(&self, txn: TxnId, node: NodeId, mode: Mode) -> Option<Result<Grant, Stop>>
         ensures verdict { result ≡ verdict_of (state_of self.now.manager) self.now.boxes txn node mode }
         ensures waits { lives (state_of self.now.manager) txn ≡ true → is_waiting_at (state_of self.now.manager) txn.slot node ≡ true → result ≡ None }
@@ -159,7 +159,7 @@ impl<N: Naming> Guarded<N> {
         self.boxes.verdict(&self.manager, txn, node, mode)
     }
 
-    /// Publishes the board of now.
+    /// Publishes the present snapshot.
     pub fn tell<R: Wait>(&mut self, rt: &R) -> Tell
         ensures kept { (self.new.manager ≡ self.old.manager) × (self.new.book ≡ self.old.book) × (self.new.boxes ≡ self.old.boxes)
             × (self.new.telling ≡ self.old.telling) }
@@ -174,8 +174,8 @@ impl<N: Naming> Guarded<N> {
         Tell::Published(board.epoch)
     }
 
-    /// Publishes the board of now, where it is to be told: always, or only where somebody waits or
-    /// waited when watchers were last told.
+    /// Publishes the present snapshot if it is due: always, or only if somebody waits or waited when
+    /// watchers were last told.
     pub fn tell_if_due<R: Wait>(&mut self, rt: &R) -> Option<Tell>
         ensures kept { (self.new.manager ≡ self.old.manager) × (self.new.book ≡ self.old.book) × (self.new.boxes ≡ self.old.boxes)
             × (self.new.telling ≡ self.old.telling) }
@@ -191,8 +191,8 @@ impl<N: Naming> Guarded<N> {
         Some(self.tell(rt))
     }
 
-    /// One command, its reply and its notices, which then stand in their boxes. An accepted lock empties
-    /// its own slot's, so that what stands there later is its own verdict.
+    /// Serves one command, and puts its notices into their boxes. An accepted lock empties the box of
+    /// its own slot, so a later notice there is about that lock.
     pub fn serve(&mut self, share: &mut Share<N>, command: Command<'_>) -> Reply
         ensures serves { ServesOne self.old command.entry result.answer result.told.items self.new }
         ensures share { share.new ≡ share.old + one_if (accepts command.entry result.answer) }
@@ -231,7 +231,7 @@ impl<N: Naming> Guarded<N> {
         answer
     }
 
-    /// As `serve_telling`, of a lock.
+    /// As `serve_telling`, for a lock.
     pub(crate) fn serve_lock(
         &mut self,
         share: &mut Share<N>,

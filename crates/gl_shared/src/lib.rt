@@ -1,4 +1,5 @@
-//! What stands behind the latch of a table, with sessions and watchers, over `left_right` and one history of boards.
+//! A table that sessions share behind one latch, with watchers, over `left_right` and one history of
+//! snapshots.
 #![tactic(auto)]
 
 mod batch;

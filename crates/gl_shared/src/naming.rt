@@ -1,9 +1,9 @@
-//! Which table it is, for contracts alone.
+//! The name of a table, for contracts alone.
 use std::marker::Brand;
 use std::sync::ledger::Ledger;
 
-/// The name of a table: how many commands were accepted when it was made, how many shares it has, its way of detection,
-/// its board at making and the book of its boards.
+/// The name of a table: how many commands were accepted when it was made, how many shares it has, its
+/// way of detection, its first snapshot and the book of its snapshots.
 pub trait Naming: Ledger {
     ghost use Rattle.std.specs.Prelude.{ℕ};
     ghost use Rattle.gl_model.specs.declared.answers.Detect.{Detect};

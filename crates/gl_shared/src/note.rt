@@ -7,7 +7,7 @@ use gl_waits::Board;
 use gl_window::Line;
 use std::marker::{Model, PhantomData};
 
-/// A beginning of the list that a table published. To a contract it is that list.
+/// A prefix of the list that a table published. To a contract it is that list.
 #[derive(Drop)]
 pub struct Note<N: Naming> {
     pub(crate) line: Line,
@@ -33,7 +33,7 @@ impl<N: Naming> Note<N> {
         self.line.board().epoch
     }
 
-    /// The last board.
+    /// The last snapshot.
     pub fn board(&self) -> Board
         ensures last { Ends self.now result }
         ensures lawful { IsLawful N.detect N.first self.now }

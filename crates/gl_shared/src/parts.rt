@@ -1,4 +1,4 @@
-//! A table that has no name yet.
+//! A table before it has a name.
 
 ghost use Rattle.std.specs.Prelude.{◌≡◌, ◌≤◌, ◌<◌, ◌∷◌, [], IfErr, IfOk, drop, Some};
 ghost use Rattle.std.specs.Arc.{arc_value};
@@ -38,7 +38,7 @@ pub struct Parts {
 }
 
 impl Parts {
-    /// The parts of a table with this manager, with so many shares and watchers. The only refusal is
+    /// The parts of a table with this manager, these many shares and watchers. The only refusal is
     /// `NoMemory`.
     pub fn new<R: Wait>(
         rt: &R,
@@ -73,7 +73,7 @@ impl Parts {
         })
     }
 
-    /// The same parts, with another choice of when sessions tell; `Always` where none is made.
+    /// The same parts, with another choice of when sessions tell watchers; the default is `Always`.
     pub fn with_telling(self, telling: Telling) -> Parts
         ensures choice { result.telling ≡ telling }
         ensures manager { (result.manager ≡ self.manager) × (result.blank ≡ self.blank) × (result.shares ≡ self.shares) × (result.watchers ≡ self.watchers) }

@@ -1,4 +1,4 @@
-//! The published boards, on the side that publishes.
+//! The published snapshots, on the side that publishes.
 
 ghost use Rattle.std.specs.Prelude.{◌≡◌, ◌≤◌, [], drop, Some};
 ghost use Rattle.std.specs.Arc.{arc_value};
@@ -17,7 +17,7 @@ use std::marker::{Model, PhantomData};
 use std::mem;
 use std::sync::{Arc, Wait};
 
-/// The writer of the published boards. To a contract it is the list that is shown.
+/// The writer of the published snapshots. To a contract it is the list that is shown.
 pub struct Publisher<N: Naming> {
     pub(crate) alloc: Global,
     pub(crate) head: Arc<Head>,
@@ -42,7 +42,7 @@ impl<N: Naming> Model for Publisher<N> {
 }
 
 impl<N: Naming> Publisher<N> {
-    /// The side that publishes, of a writer that shows a list of this table.
+    /// A publisher with the writer of a table's list.
     pub(crate) fn new(alloc: Global, head: Arc<Head>, writer: BoardWriter) -> Publisher<N>
         requires head { arc_value head ≡ head_of N.book }
         requires rest { (drop writer.behind writer.log.items ≡ []) × IsOf N.book N.detect N.first writer.desk.shown.value.line }
@@ -56,8 +56,8 @@ impl<N: Naming> Publisher<N> {
         }
     }
 
-    /// Publishes a board behind the list, whole, and says whether there was memory for it. A side that
-    /// is closed has none.
+    /// Publishes a snapshot at the end of the list, whole, and says whether there was memory for it; a
+    /// closed side has none.
     pub(crate) fn publish<R: Wait>(&mut self, rt: &R, board: Board) -> bool
         requires rises { last_epoch 0 self.old ≤ board.epoch }
         requires fine { Fine N.detect board }
@@ -77,7 +77,7 @@ impl<N: Naming> Publisher<N> {
         told
     }
 
-    /// The list that is shown. Where its last board has as many owners as can be counted, it waits
+    /// The list that is shown. If its last snapshot has as many owners as can be counted, this waits
     /// until there are fewer.
     pub(crate) fn note<R: Wait>(&self, rt: &R) -> Note<N>
         ensures same { result ≡ self.now }
@@ -113,7 +113,7 @@ impl<N: Naming> Publisher<N> {
         let _ = self.line();
     }
 
-    /// Publishes no more.
+    /// Ends publishing.
     pub(crate) fn end<R: Wait>(self, rt: &R) {
         let Publisher {
             alloc: _,

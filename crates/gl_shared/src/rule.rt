@@ -8,7 +8,8 @@ use left_right::Absorb;
 use std::alloc::AllocError;
 use std::sync::Arc;
 
-/// One operation is one board. The first copy adds it to the book, and the second, which no reader takes, goes to the list before it.
+/// One operation is one snapshot. The first copy adds it to the book; the second, which no reader uses,
+/// keeps the list before it.
 impl Absorb<Next> for Shown {
     type State = Turn;
 
@@ -57,21 +58,21 @@ impl Protocol<Shown, Option<Tie>> for Published {
     ghost first = { None };
 }
 
-/// The step of the writer.
+/// A step of the writer.
 pub struct Publish;
 
 impl Outcome<Shown, Option<Tie>> for Publish {
     ghost then = { Publishes };
 }
 
-/// The step of a watcher.
+/// A step of a watcher.
 pub struct Enter;
 
 impl Outcome<Shown, Option<Tie>> for Enter {
     ghost then = { Looks };
 }
 
-/// The writer tells a new watcher which book it is.
+/// The writer ties a new watcher to its book.
 pub struct Ties;
 
 impl Split<Option<Tie>> for Ties {

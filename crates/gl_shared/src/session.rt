@@ -25,8 +25,8 @@ use gl_table::{Told, TxnId};
 use gl_wakes::{Grant, Stop};
 use std::sync::{MutexGuard, Wait};
 
-/// Whoever asks the table. It keeps its share, the epoch of its last note, the count of accepted
-/// commands behind its last command, and a list for notices; and for contracts, whom it woke last.
+/// A user of the table. It has its share, the epoch of its last note, the count of accepted commands
+/// after its last command, a list for notices, and, for contracts, the slots that it last woke.
 pub struct Session<'a, N: Naming> {
     pub(crate) shared: &'a Shared<N>,
     pub(crate) share: Share<N>,
@@ -64,18 +64,17 @@ impl<'a, N: Naming> Session<'a, N> {
         share
     }
 
-    /// How many commands the table had accepted when the last one of this session had been served, or
-    /// the last of its last list; 0 before. It orders what sessions asked: an accepted command has a
-    /// count of its own. One that was refused or only asked has the count of the accepted command
-    /// before it.
+    /// How many commands the table had accepted after the last command, or list, of this session; 0
+    /// before. It orders commands of all sessions: each accepted command has its own count; one that
+    /// was refused or is a question has the count of the accepted command before it.
     pub fn served_at(&self) -> u64
         ensures { result ≡ self.now.served_at }
     {
         self.served_at
     }
 
-    /// Serves a command. Where it is accepted it tells watchers as the table was made to, and wakes the
-    /// sessions whose wait it may have ended.
+    /// Serves a command. If it is accepted, it tells watchers as the table's telling says, and wakes
+    /// the sessions whose wait it may have ended.
     pub fn ask<R: Wait>(&mut self, rt: &R, command: Command<'_>) -> Reply
         ensures accepted { accepts command.entry result.answer ≡ true → self.new.share ≡ self.old.share + 1 }
         ensures refused { accepts command.entry result.answer ≡ false → self.new.share ≡ self.old.share }
@@ -112,7 +111,7 @@ impl<'a, N: Naming> Session<'a, N> {
         answer
     }
 
-    /// What is published now. It is never of an epoch before that of an earlier note.
+    /// What is published now. Its epoch is never before that of an earlier note.
     pub fn note<R: Wait>(&mut self, rt: &R) -> Note<N>
         ensures later { self.old.last_epoch ≤ last_epoch 0 result }
         ensures noted { self.new.last_epoch ≡ last_epoch 0 result }
@@ -130,15 +129,15 @@ impl<'a, N: Naming> Session<'a, N> {
         unreachable!()
     }
 
-    /// What the table's manager has been doing since it was made: as `Shared::counters`. The session
-    /// stays as it is.
+    /// What the table's manager has done since it was made, as `Shared::counters`. The session is
+    /// unchanged.
     pub fn counters<R: Wait>(&self, rt: &R) -> Counters
         ensures { (g : GuardedView) × IsLawfulManager g.manager × (g.manager.accepted ≡ N.opening + g.book) × (result ≡ g.manager.counters) }
     {
         self.shared.counters(rt)
     }
 
-    /// Locks a node, and where it is left waiting, waits for its grant, or for why there is none.
+    /// Locks a node; if the lock is left waiting, waits for its grant, or for why there is none.
     pub fn lock<R: Wait>(
         &mut self,
         rt: &R,
@@ -186,7 +185,7 @@ impl<'a, N: Naming> Session<'a, N> {
     }
 }
 
-// Waits until the transaction has its answer on this node.
+// Waits until the request for this node is granted, or never will be.
 pub(crate) fn await_verdict<'a, N: Naming, R: Wait>(
     rt: &R,
     shared: &'a Shared<N>,

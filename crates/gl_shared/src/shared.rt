@@ -24,8 +24,8 @@ use std::alloc::{AllocError, Global};
 use std::marker::PhantomData;
 use std::sync::{Mutex, MutexGuard, Wait, ledger};
 
-/// A table that sessions share. The latch is its one mutex: whoever has it has the manager, the boxes
-/// and the side that publishes, for as long as one command takes.
+/// A table that sessions share. The latch is its one mutex: its holder has the manager, the boxes and
+/// the side that publishes, for one command or one list.
 pub struct Shared<N: Naming> {
     pub(crate) latch: Mutex<Guarded<N>>,
     pub(crate) wakes: Wakes,
@@ -33,7 +33,7 @@ pub struct Shared<N: Naming> {
     ghost counted: { (shares ≡ N.shares) × (0 < shares) },
 }
 
-// A share for each part.
+// `count` shares, of one part each.
 fn cut_shares<N: Naming>(
     alloc: Global,
     mut rest: ledger::Share<N>,
@@ -69,7 +69,7 @@ fn watch<N: Naming>(writer: &mut BoardWriter, line: &Line) -> Result<Watcher<N>,
     })
 }
 
-// So many watchers.
+// `count` such watchers.
 fn watch_all<N: Naming>(
     alloc: Global,
     writer: &mut BoardWriter,
@@ -90,7 +90,7 @@ fn watch_all<N: Naming>(
 }
 
 impl<N: Naming> Shared<N> {
-    /// The table under its name, its shares and its watchers. The only refusal is `NoMemory`.
+    /// The table with its name, its shares and its watchers. The only refusal is `NoMemory`.
     pub fn new<R: Wait>(
         rt: &R,
         alloc: Global,
@@ -133,8 +133,8 @@ impl<N: Naming> Shared<N> {
         Ok((shared, shares, watchers))
     }
 
-    /// What the table's manager has been doing since it was made, all of one moment. It takes the latch
-    /// for as long as a copy takes, and no memory.
+    /// What the table's manager has done since it was made, all of one moment. It holds the latch for
+    /// the time of a copy, and takes no memory.
     pub fn counters<R: Wait>(&self, rt: &R) -> Counters
         ensures { (g : GuardedView) × IsLawfulManager g.manager × (g.manager.accepted ≡ N.opening + g.book) × (result ≡ g.manager.counters) }
     {
@@ -145,7 +145,7 @@ impl<N: Naming> Shared<N> {
         counters
     }
 
-    /// Ends a table whose shares do not come back.
+    /// Ends a table whose shares are not returned.
     pub fn abandon<R: Wait>(self, rt: &R) {
         let Shared {
             latch,
@@ -165,7 +165,7 @@ impl<N: Naming> Shared<N> {
     }
 }
 
-/// What is left of a table once all shares are back.
+/// What remains of a table once all shares are returned.
 #[derive(Drop)]
 pub struct Closed {
     pub manager: Manager,
@@ -178,7 +178,7 @@ pub struct NotAll<N: Naming> {
     pub shares: Vec<Share<N>>,
 }
 
-// Adds the shares up to one token.
+// The sum of the shares, as one token.
 fn merge_all<N: Naming>(mut all: ledger::Share<N>, shares: Vec<Share<N>>) -> ledger::Share<N>
     ensures parts { result.parts ≡ all.parts + vec_len shares }
     ensures amount { result.amount ≡ all.amount + sum shares.items }
@@ -190,7 +190,7 @@ fn merge_all<N: Naming>(mut all: ledger::Share<N>, shares: Vec<Share<N>>) -> led
     all
 }
 
-/// The table's manager and book, where each share is back.
+/// The table's manager and the count of its book, if each share is returned.
 pub fn gather<N: Naming, R: Wait>(
     rt: &R,
     shared: Shared<N>,

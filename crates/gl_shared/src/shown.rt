@@ -11,30 +11,30 @@ use gl_waits::Board;
 use gl_window::{Head, Line};
 use std::sync::Arc;
 
-/// A list, and the board that was last to stand behind it: none, where nothing was published yet.
+/// A list, and the snapshot that was last to be added to it; `None` if none was published yet.
 #[derive(Drop)]
 pub struct Shown {
     pub line: Line,
     pub board: Option<Arc<Board>>,
-    /// Whether the list ends with the board. That of the copy which no reader takes does not.
+    /// Whether the list ends with the snapshot. In the copy that no reader uses it does not.
     pub is_added: bool,
     pub ghost ends: { is_added ≡ true → option_map arc_value board ≡ last_or None line.list },
 }
 
-/// Which book, and the way of detection. No value of it is made.
+/// The book and the way of detection. Only contracts have values of it.
 pub struct Tie {
     pub head: Head,
     pub detect: Detect,
 }
 
-/// What both copies have in common: the tie, and the board that was last to stand behind the list. No value
-/// of it is made.
+/// What both copies have in common: the tie, and the snapshot that was last to be added. Only contracts
+/// have values of it.
 pub struct Turn {
     pub tie: Tie,
     pub board: Option<Board>,
 }
 
-/// A board that is to stand behind a list.
+/// A snapshot to be added to a list.
 #[derive(Drop)]
 pub struct Next {
     pub line: Line,

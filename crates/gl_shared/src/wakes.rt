@@ -1,4 +1,4 @@
-//! Where sessions sleep, and how they are woken.
+//! How sessions sleep, and how they are woken.
 
 ghost use Rattle.gl_slots.specs.Limit.{most_slots};
 ghost use Rattle.std.specs.Prelude.{◌≡◌, ◌<◌};
@@ -15,13 +15,13 @@ use std::marker::Model;
 use std::snapshot::Snapshot;
 use std::sync::{Condvar, MutexGuard, Wait};
 
-/// A place to wait for each slot.
+/// A condition variable for each slot.
 #[derive(Drop)]
 pub(crate) struct Wakes {
     slots: [Condvar; SLOTS],
 }
 
-/// Whom a session woke last. To a contract it is their slots, as a set; it has no bytes.
+/// The slots that a session last woke. To a contract it is their set; it has no bytes.
 #[derive(Drop)]
 pub struct Woken {
     slots: Snapshot<Slots>,
@@ -52,7 +52,7 @@ impl Wakes {
         }
     }
 
-    /// Sleeps at the place of this slot. That it does, tests alone show.
+    /// Sleeps on this slot's condition variable. Only tests show that it sleeps.
     pub(crate) fn sleep<'b, R: Wait, T>(
         &self,
         rt: &R,
@@ -62,7 +62,7 @@ impl Wakes {
         self.slots[place_of(slot)].wait(rt, guard)
     }
 
-    /// Wakes those whose wait a command may have ended that told these.
+    /// Wakes the sessions whose wait a command with these notices may have ended.
     pub(crate) fn wake_ended(&self, command: &Command<'_>, told: &[(TxnId, Notice)]) -> Woken
         requires { RisingTo 0 told.now most_slots }
         ensures { AreWoken command.now told.now result }
@@ -70,7 +70,7 @@ impl Wakes {
         self.wake(ended_by(command, told))
     }
 
-    /// Wakes those who sleep at the places of these slots. That each place is notified, tests alone show.
+    /// Wakes the sessions that sleep in these slots. Only tests show that each is notified.
     pub(crate) fn wake(&self, slots: Slots) -> Woken
         ensures { result ≡ slots }
     {
@@ -85,7 +85,7 @@ impl Wakes {
     }
 }
 
-/// The place of a slot.
+/// The place of a slot's condition variable.
 fn place_of(slot: Slot) -> usize
     ensures within { result < most_slots }
     ensures own { slot < most_slots → result ≡ slot }

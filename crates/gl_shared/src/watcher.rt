@@ -1,4 +1,4 @@
-//! Watchers read boards with no lock, and learn notes.
+//! Watchers read snapshots without a lock, and learn notes.
 ghost use Rattle.std.specs.Prelude.{◌≡◌, ◌⊎◌, ◌≤◌, IfSome, IfNone, IfOk, Some};
 ghost use mathlib.Core.List.{IsPrefix};
 ghost use Rattle.gl_window.specs.Boards.{Ends, IsLawful, last_epoch};
@@ -14,7 +14,8 @@ use gl_window::Line;
 use std::alloc::AllocError;
 use std::marker::{Model, PhantomData};
 
-/// A reader of boards. To a contract it is the longest list that it saw or was told of, which all the others begin.
+/// A reader of snapshots. To a contract it is the longest list that it saw or was told; each other one
+/// is a prefix of it.
 #[derive(Drop)]
 pub struct Watcher<N: Naming> {
     pub(crate) reader: Option<BoardReader>,
@@ -37,7 +38,8 @@ impl<N: Naming> Model for Watcher<N> {
 }
 
 impl<N: Naming> Watcher<N> {
-    /// The last board of a list that begins with the list behind the last look and with the list of each note that was learned.
+    /// The last snapshot of a list that extends the list of the last look and that of each note
+    /// learned. `None` if it cannot be read now.
     pub fn look(&mut self) -> Option<Board>
         ensures board { IfSome result (λ board. Ends self.new board × IsPrefix self.old self.new × IsLawful N.detect N.first self.new) }
         ensures later { IfSome result (λ board. last_epoch 0 self.old ≤ board.epoch) }
@@ -63,7 +65,7 @@ impl<N: Naming> Watcher<N> {
         }
     }
 
-    /// From now on a look gives no less than the note.
+    /// From now on a look returns no less than the note.
     pub fn learn(&mut self, note: Note<N>)
         ensures old { IsPrefix self.old self.new }
         ensures note { IsPrefix note self.new }

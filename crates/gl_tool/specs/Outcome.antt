@@ -19,7 +19,7 @@ abbrev pub HasRun : Choices → Option (List ℕ) → Option (List ℕ) → Opti
 HasRun choices had has held holds =
     (read : List ℕ) × (written : List ℕ) × Consumes had has read × IsAtEnd has × Appends held holds written × Report choices read written
 
--- the run met this fault, and left what it leaves
+-- the run met this fault, and left what `Left` says
 abbrev pub HasFaulted : Choices → RunFault → Option (List ℕ) → Option (List ℕ) → Option (List ℕ) → Option (List ℕ) → Type 0
 HasFaulted choices fault had has held holds =
     (read : List ℕ) × (written : List ℕ) × Consumes had has read × Appends held holds written × Left choices fault read written
@@ -34,15 +34,15 @@ abbrev pub FaultsAsAsked : List Text → RunFault → Option (List ℕ) → Opti
 FaultsAsAsked words fault had has held holds =
     (choices : Choices) × AsksFor words (asked.Script choices) × HasFaulted choices fault had has held holds
 
--- the line that says how many commands a crew had accepted
+-- the line with the number of accepted commands of a crew
 abbrev pub count_line : ℕ → Text
 count_line count = codes "accepted " ++ decimal count ++ 10 ∷ []
 
--- a crew counted so much, and its line was written
+-- a crew counted this many, and its line was written
 abbrev pub HasCounted : ℕ → Option (List ℕ) → Option (List ℕ) → Type 0
 HasCounted count held holds = Appends held holds (count_line count)
 
--- a crew counted so much, and of its line a beginning was written
+-- a crew counted this many, and a prefix of its line was written
 abbrev pub HasBegunCount : ℕ → Option (List ℕ) → Option (List ℕ) → Type 0
 HasBegunCount count held holds = (front : List ℕ) × (rest : List ℕ) × Appends held holds front × (count_line count ≡ front ++ rest)
 
@@ -51,7 +51,7 @@ abbrev pub PutsCount : ℕ → Option (List ℕ) → Option (List ℕ) → Resul
 PutsCount count held holds (Ok _) = HasCounted count held holds
 PutsCount count held holds (Err fault) = (fault ≡ Run Write) × HasBegunCount count held holds
 
--- the words ask for a crew; it did all its rounds, and what it counted was written so far; nothing was read
+-- the words ask for a crew; it did all its rounds, and its count was written as far as this says; nothing was read
 abbrev pub CountsAsAsked : (ℕ → Option (List ℕ) → Option (List ℕ) → Type 0) → List Text → Option (List ℕ) → Option (List ℕ) → Option (List ℕ)
     → Option (List ℕ) → Type 0
 CountsAsAsked Puts words had has held holds =
@@ -79,7 +79,7 @@ StopsBy Words words had has held holds = ⊥
 abbrev pub Stops : List Text → Option (List ℕ) → Option (List ℕ) → Option (List ℕ) → Option (List ℕ) → Type 0
 Stops words had has held holds = (fault : ToolFault) × StopsBy fault words had has held holds
 
--- what the words ask for is done; where nothing was read in them nothing is done
+-- what the words ask for is done; if they could not be read, nothing is done
 abbrev pub Works : List Text → Option (List ℕ) → Option (List ℕ) → Option (List ℕ) → Option (List ℕ) → Result Unit ToolFault → Type 0
 Works words had has held holds (Ok _) = Ends words had has held holds
 Works words had has held holds (Err Words) = (has ≡ had) × (holds ≡ held)

@@ -1,4 +1,4 @@
-//! The whole program, over given words and streams.
+//! The whole program.
 
 ghost use Rattle.std.specs.Prelude.{◌≡◌, ◌≤◌, map};
 ghost use Rattle.gl_words.specs.Planned.{HasNoPlan};
@@ -16,7 +16,7 @@ use std::sync::Wait;
 use std::thread::Threads;
 use thiserror::Error as FaultText;
 
-/// What ends the program early.
+/// Why the program ended early.
 #[derive(Clone, Copy, Debug, PartialEq, Eq, FaultText)]
 pub enum ToolFault {
     /// The run met a fault, or the count of a crew could not be written.
@@ -25,17 +25,17 @@ pub enum ToolFault {
     /// The crew did not do all its rounds.
     #[error("crew stopped")]
     Crew(CrewFault),
-    /// Nothing that the program does was read in the words.
+    /// The words ask for nothing that the program does, or could not be read.
     #[error("bad words")]
     Words,
 }
 
-/// Does what the words after the program's name ask for, with deadlocks found as `--detect` says, which
-/// take whom `--victims` says: runs the script that `reader` gives, with listings where `--listings` is
-/// among the words, and with lines that change the schema where `--schema` is; or has a crew of sessions
-/// do its rounds, and writes how many commands they had accepted. Answers the exit status: 0 at the end, 1
-/// after a fault, 2 for words that ask for nothing that the program does; after anything but 0 one line
-/// that says why was given to `faults`.
+/// Does what the words after the program's name ask for. `--detect` says how deadlocks are detected,
+/// and `--victims` how victims are chosen. Runs the script that `reader` gives, with listings, schema
+/// changes and savepoints if `--listings`, `--schema` and `--savepoints` are among the words; or runs a
+/// crew of sessions, and writes how many of its commands were accepted. Returns the exit status: 0 at
+/// the end, 1 after a fault, 2 for words that ask for nothing that the program does. If it is not 0,
+/// one line that says why was written to `faults`.
 pub fn program<H: Threads + Wait + Sync, S: AsStr, R: Read, W: Write, E: Write>(
     rt: &H,
     alloc: Global,
@@ -57,7 +57,7 @@ pub fn program<H: Threads + Wait + Sync, S: AsStr, R: Read, W: Write, E: Write>(
     }
 }
 
-/// Says on the given stream what ended the program, and answers the status. A fault in saying it
+/// Writes to the given stream why the program ended, and returns the status. A fault of that write
 /// changes nothing.
 pub fn complain<E: Write>(fault: ToolFault, faults: &mut E) -> u8
     ensures { result ≡ status_of fault }
@@ -100,7 +100,7 @@ fn work<H: Threads + Wait + Sync, S: AsStr, R: Read, W: Write>(
     }
 }
 
-/// Writes how many commands a crew had accepted.
+/// Writes how many commands of a crew were accepted.
 fn put_count<W: Write>(writer: &mut W, count: u64) -> Result<(), ToolFault>
     ensures { PutsCount count (W.contents writer.old) (W.contents writer.new) result }
 {

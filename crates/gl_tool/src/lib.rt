@@ -1,7 +1,7 @@
-//! The program: over given words and streams it runs a script or a crew.
+//! The program: with given words and streams it runs a script or a crew.
 //!
-//! [`program`] does what its words say: it runs a script of `gl_interpreter`, or a crew of `gl_crew`. How
-//! it ends is defined in `specs/`. What else a user of scripts calls is passed on from there.
+//! [`program`] does what its words ask for: it runs a script of `gl_interpreter`, or a crew of
+//! `gl_crew`. `specs/` defines how it ends. What other users of scripts call is re-exported from there.
 #![tactic(auto)]
 
 mod entry;

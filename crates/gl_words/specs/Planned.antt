@@ -27,7 +27,7 @@ option_rule name = record (new_rule name) { long = Some name }
 abbrev pub flag_rule : Text → Rule
 flag_rule name = record (option_rule name) { action = Some SetTrue }
 
--- the words begin behind the program's name
+-- the words begin after the program's name
 abbrev pub bare_app : App
 bare_app = let app = new_app (codes "gltool") in record app { top = record app.top { no_binary_name = true } }
 
@@ -42,7 +42,7 @@ tool_app =
 unfoldable pub rows_in : List Text → List Row
 rows_in words = matches_of tool_app words
 
--- what clap has against the words: nothing where it takes them
+-- clap's faults in the words: none if it accepts them
 unfoldable pub faults_in : List Text → Kinds
 faults_in words = fault_of tool_app words
 
@@ -65,11 +65,11 @@ abbrev pub is_set : Option Text → Bool
 is_set None = false
 is_set (Some word) = bytes_eq word (codes "true")
 
--- the word is the number in decimal, as Rust reads numbers, and that is one from 1 to most
+-- the word is the number in decimal, as Rust reads numbers, from 1 to most
 abbrev pub IsNumberTo : ℕ → Text → ℕ → Type 0
 IsNumberTo most word n = IsNumeral 10 (without_leading_plus word) × (digits_value 10 (without_leading_plus word) ≡ n) × (1 ≤ n) × (n ≤ most)
 
--- what the values of the options ask for: both numbers, and none of the further lines, or neither number
+-- what the values of the options ask for: neither number, or both and none of the optional lines
 abbrev pub IsAsked : Option Text → Option Text → Bool → Bool → Bool → Option Text → Option Text → Asked → Type 0
 IsAsked way choice listings schema savepoints None None (Script choices) =
     IsWay way choices.detect × IsChoice choice choices.victims × (choices.listings ≡ listings) × (choices.schema ≡ schema)
@@ -85,11 +85,11 @@ IsAskedIn rows asked =
     (is_set (first_of (codes "schema") rows)) (is_set (first_of (codes "savepoints") rows)) (first_of (codes "crew") rows)
     (first_of (codes "rounds") rows) asked
 
--- clap takes the words, and they ask for this by what it finds in them
+-- clap accepts the words, and by what it finds in them they ask for this
 abbrev pub AsksFor : List Text → Asked → Type 0
 AsksFor words asked = (faults_in words ≡ []) × IsAskedIn (rows_in words) asked
 
--- the choices where no more than the way of detection is named: the youngest falls, and there are none of the further lines
+-- the choices if only the way of detection is given: the victim is the youngest, and there are no optional lines
 abbrev pub plain : Detect → Choices
 plain detect = record { detect = detect; victims = Youngest; listings = false; schema = false; savepoints = false }
 
@@ -98,7 +98,7 @@ abbrev pub plan_of : Asked → Plan
 plan_of (Script choices) = plan.Script choices.detect
 plan_of (Crew s r detect victims) = plan.Crew s r detect
 
--- the plan is that of what the words ask for
+-- the plan of what the words ask for
 abbrev pub IsPlanFor : List Text → Plan → Type 0
 IsPlanFor words p = (asked : Asked) × AsksFor words asked × (p ≡ plan_of asked)
 
@@ -106,7 +106,7 @@ IsPlanFor words p = (asked : Asked) × AsksFor words asked × (p ≡ plan_of ask
 abbrev pub HasNoPlan : List Text → Type 0
 HasNoPlan words = (asked : Asked) → ¬ (AsksFor words asked)
 
--- what the words ask for; a fault of theirs only where that is nothing
+-- what the words ask for; a fault of the words only if that is nothing
 abbrev pub Reads : List Text → Result Asked Unread → Type 0
 Reads words (Ok asked) = AsksFor words asked
 Reads words (Err Memory) = Unit {0}

@@ -1,7 +1,7 @@
 //! The words of the program: what they ask for, as `clap` reads them.
 //!
-//! What they can say is defined in `specs/`; the contract of [`asked`] is that its answer is what they
-//! ask for, and [`plan`] is the plan of that.
+//! `specs/` defines their meaning. The contract of [`asked`] is that its answer is what they ask for;
+//! [`plan`] is the plan of that.
 #![tactic(auto)]
 
 mod requests;

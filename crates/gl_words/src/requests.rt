@@ -1,4 +1,4 @@
-//! What the program can be asked for.
+//! What the program can do.
 
 ghost use Rattle.std.specs.Prelude.{◌≡◌};
 ghost use Rattle.gl_words.specs.Planned.{plain, plan_of};
@@ -6,8 +6,8 @@ ghost use Rattle.gl_words.specs.Planned.{plain, plan_of};
 use gl_model::Detect;
 use gl_waits::Victims;
 
-/// How a script is answered: how deadlocks are found, whom they take, and whether it has the listings, the
-/// lines by which a schema changes, and those by which a transaction goes back.
+/// The choices for a script: how deadlocks are detected and victims chosen, and whether there are
+/// listings, schema changes and savepoints.
 #[derive(Clone, Copy, Debug, PartialEq, Eq)]
 pub struct Choices {
     pub detect: Detect,
@@ -18,8 +18,8 @@ pub struct Choices {
 }
 
 impl Choices {
-    /// The choices where no more than the way of detection is named: the youngest falls, and there are
-    /// none of the further lines.
+    /// The choices if only the way of detection is given: the victim is the youngest, and there are no
+    /// listings, schema changes or savepoints.
     pub fn plain(detect: Detect) -> Choices
         ensures { result ≡ plain detect }
     {
@@ -33,12 +33,12 @@ impl Choices {
     }
 }
 
-/// What the words of the program ask for, in whole.
+/// All that the words of the program ask for.
 #[derive(Clone, Copy, Debug, PartialEq, Eq)]
 pub enum Asked {
-    /// To run the script that the reader gives.
+    /// Run the script that the reader gives.
     Script(Choices),
-    /// To have so many sessions, 1 to 128, do so many rounds, 1 to 100,000.
+    /// Run `sessions` sessions, 1 to 128, of `rounds` rounds each, 1 to 100,000.
     Crew {
         sessions: u32,
         rounds: u32,
@@ -48,7 +48,7 @@ pub enum Asked {
 }
 
 impl Asked {
-    /// The plan of what is asked: all but whom deadlocks take and which further lines there are.
+    /// The plan of this: all except how victims are chosen and which optional lines there are.
     pub fn plan(self) -> Plan
         ensures { result ≡ plan_of self }
     {
@@ -68,12 +68,13 @@ impl Asked {
     }
 }
 
-/// What the words of the program plan.
+/// The plan that the words of the program ask for.
 #[derive(Clone, Copy, Debug, PartialEq, Eq)]
 pub enum Plan {
-    /// To run the script that the reader gives, with deadlocks found so.
+    /// Run the script that the reader gives, with this way of detection.
     Script(Detect),
-    /// To have so many sessions, 1 to 128, do so many rounds, 1 to 100,000, with deadlocks found so.
+    /// Run `sessions` sessions, 1 to 128, of `rounds` rounds each, 1 to 100,000, with this way of
+    /// detection.
     Crew {
         sessions: u32,
         rounds: u32,

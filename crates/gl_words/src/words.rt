@@ -19,17 +19,17 @@ const MOST_SESSIONS: u32 = 128;
 /// The most rounds of a crew.
 const MOST_ROUNDS: u32 = 100_000;
 
-/// Why it is not known what the words ask for.
+/// Why the words could not be read.
 #[derive(Clone, Copy, Debug, PartialEq, Eq)]
 enum Unread {
-    /// There was no memory to read them in.
+    /// Out of memory.
     Memory,
     /// They ask for nothing that the program does.
     Words,
 }
 
-/// Reads the words after the program's name. `None` where they ask for nothing that the program
-/// does, or memory is wanting.
+/// Reads the words after the program's name. `None` if they ask for nothing that the program does, or
+/// if out of memory.
 pub fn asked<S: AsStr>(alloc: Global, words: &[S]) -> Option<Asked>
     ensures { IfSome result (λ asked. AsksFor (map S.text words.now) asked) }
 {
@@ -43,7 +43,7 @@ pub fn plan<S: AsStr>(alloc: Global, words: &[S]) -> Option<Plan>
     Some(asked(alloc, words)?.plan())
 }
 
-/// What the words ask for, or why that is not known.
+/// What the words ask for, or why they could not be read.
 fn read_words<S: AsStr>(alloc: Global, words: &[S]) -> Result<Asked, Unread>
     ensures { Reads (map S.text words.now) result }
 {
@@ -73,7 +73,7 @@ fn read_words<S: AsStr>(alloc: Global, words: &[S]) -> Result<Asked, Unread>
     }
 }
 
-/// What the command line can hold.
+/// The command line, for `clap`.
 fn command<'a>(alloc: Global) -> Result<Command<'a>, AllocError>
     ensures { IfOk result (λ command. app_of command ≡ tool_app) }
 {
@@ -111,7 +111,7 @@ fn flag<'a>(alloc: Global, name: &'a str) -> Arg<'a>
     option(alloc, name).action(ArgAction::SetTrue)
 }
 
-/// Why `clap` has refused the words.
+/// Why `clap` refused the words.
 fn cause(kind: ErrorKind) -> Unread
     ensures { (result ≡ Unread.Memory) ↔ (kind ≡ ErrorKind.OutOfMemory) }
 {
@@ -121,8 +121,8 @@ fn cause(kind: ErrorKind) -> Unread
     }
 }
 
-/// What these values ask for: a script where there is neither number, a crew where there are both, which
-/// has none of the further lines.
+/// What these values ask for: a script if neither number is given, a crew if both are, which has none
+/// of the optional lines.
 fn asked_of(
     detect: Option<&str>,
     victims: Option<&str>,
@@ -167,7 +167,7 @@ fn is_set(value: Option<&str>) -> bool
     }
 }
 
-/// The number that the word spells, in decimal, where it is one from 1 to `most`.
+/// The number with this text, in decimal, if it is one from 1 to `most`.
 fn number_to(most: u32, word: &str) -> Option<u32>
     ensures some { IfSome result (λ number. IsNumberTo most word.now number) }
     ensures none { IfNone result ((number : ℕ) → ¬ (IsNumberTo most word.now number)) }
@@ -182,7 +182,7 @@ fn number_to(most: u32, word: &str) -> Option<u32>
     }
 }
 
-/// The choice of victims that the word names; the youngest where there is none.
+/// The choice of victims with this name; without a word, the youngest.
 fn choice(word: Option<&str>) -> Option<Victims>
     ensures some { IfSome result (λ victims. IsChoice (text word.entry) victims) }
     ensures none { IfNone result ((victims : Victims) → ¬ (IsChoice (text word.entry) victims)) }
@@ -194,7 +194,7 @@ fn choice(word: Option<&str>) -> Option<Victims>
     }
 }
 
-/// The way of detection that the word names; at-block where there is none.
+/// The way of detection with this name; without a word, at-block.
 fn way(word: Option<&str>) -> Option<Detect>
     ensures some { IfSome result (λ detect. IsWay (text word.entry) detect) }
     ensures none { IfNone result ((detect : Detect) → ¬ (IsWay (text word.entry) detect)) }

@@ -1,4 +1,4 @@
-//! `glpicture`: draws the state in which a script of lock commands ends, from standard input to standard
+//! `glpicture`: draws the final state of a script of lock commands, from standard input to standard
 //! output.
 #![tactic(auto)]
 

@@ -1,8 +1,8 @@
-//! What is printed of the plays. Printing takes no memory.
+//! The output of the scenarios. Printing takes no memory.
 
 use std::alloc::Global;
 
-/// Tells how each play went, and remembers whether all went as wanted.
+/// Reports each scenario, and records whether all were as expected.
 #[derive(Drop)]
 pub(crate) struct Bill<'a> {
     rt: &'a HostRuntime,
@@ -18,7 +18,7 @@ impl<'a> Bill<'a> {
         self.rt.alloc()
     }
 
-    /// Tells how a play went: as wanted, or where it was first not.
+    /// Reports a scenario: as expected, or the first step that was not.
     pub(crate) fn tell(&mut self, play: &str, differs: Option<u32>) {
         let rt = self.rt;
         let printed = match differs {
@@ -30,7 +30,7 @@ impl<'a> Bill<'a> {
         }
     }
 
-    /// The exit status: 0 where all plays went as wanted.
+    /// The exit status: 0 if all scenarios were as expected.
     pub(crate) fn status(&self) -> u8 {
         u8::from(self.failed)
     }

@@ -1,4 +1,4 @@
-//! A graph grows.
+//! A growing graph.
 
 use crate::bill::Bill;
 use crate::watch::Watch;
@@ -11,16 +11,16 @@ pub(crate) fn play(bill: &mut Bill<'_>) {
     bill.tell("graph: it grows, and a node moves", differs);
 }
 
-/// How many steps the growth has.
+/// How many steps there are.
 const STEPS: usize = 20;
 
 /// The nodes by the step that made them.
 type Names = [NodeId; STEPS];
 
-/// What can be seen of a node: kind, number of parents, first parent, last key, number of indexes.
+/// What is compared of a node: kind, number of parents, first parent, last key, number of indexes.
 type NodeSeen = (Kind, usize, NodeId, u64, usize);
 
-/// What can be seen of all nodes.
+/// What is compared of all nodes.
 #[derive(Clone, Copy, PartialEq)]
 struct Seen {
     len: usize,
@@ -60,8 +60,9 @@ fn move_under(graph: &mut Graph, node: NodeId, parent: NodeId) -> Result<NodeId,
     }
 }
 
-/// One growth after the other: inner nodes below one another, a file under all of them, two indexes,
-/// records, and an inner node that moves; and files with three indexes and with four, each with a record.
+/// A step makes or moves one node: inner nodes below one another, a file under all of them, two
+/// indexes, records, and an inner node that moves; files with three indexes and with four, each with a
+/// record.
 fn grow(graph: &mut Graph, step: usize, names: &Names) -> Result<NodeId, Refusal> {
     let [db, x, y, file, _, _, _, _, _, three, _, _, _, _, four, ..] = *names;
     match step {
@@ -82,7 +83,7 @@ fn grow(graph: &mut Graph, step: usize, names: &Names) -> Result<NodeId, Refusal
     }
 }
 
-/// Takes a step, and takes it again where a growth was refused.
+/// Takes a step, and retries it if an allocation failed.
 fn take(graph: &mut Graph, step: usize, names: &Names, watch: &mut Watch) -> NodeId {
     watch.step();
     let before = look(graph, names);

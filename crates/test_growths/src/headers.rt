@@ -14,10 +14,10 @@ pub(crate) fn play(bill: &mut Bill<'_>) {
     bill.tell("header: many hold, and each is raised", differs);
 }
 
-/// How many slots take part.
+/// How many slots are used.
 const SLOTS: u8 = 24;
 
-/// All that can be asked of the slots that take part.
+/// All that can be asked of these slots.
 #[derive(Clone, Copy, PartialEq)]
 struct Seen {
     group: Mode,
@@ -38,7 +38,7 @@ fn look(header: &Header) -> Seen {
     seen
 }
 
-/// Asks where the call's conditions hold; else `None`.
+/// Requests a lock if the call's conditions hold; else `None`.
 #[tactic(auto, using(crate::proofs::Steps::caller_steps))]
 fn ask(header: &mut Header, slot: u8, mode: Mode) -> Result<Option<Asked>, Refusal> {
     if slot >= 128 || mode == Mode::NL || header.wanted_by(slot).is_some() {
@@ -47,7 +47,7 @@ fn ask(header: &mut Header, slot: u8, mode: Mode) -> Result<Option<Asked>, Refus
     Ok(Some(header.ask(slot, mode)?))
 }
 
-/// Tries where the call's conditions hold; else `None`.
+/// Tries if the call's conditions hold; else `None`.
 #[tactic(auto, using(crate::proofs::Steps::caller_steps))]
 fn try_ask(header: &mut Header, slot: u8, mode: Mode) -> Option<Try> {
     if slot >= 128 || mode == Mode::NL || header.wanted_by(slot).is_some() {
@@ -56,7 +56,7 @@ fn try_ask(header: &mut Header, slot: u8, mode: Mode) -> Option<Try> {
     Some(header.try_ask(slot, mode))
 }
 
-/// Drops a grant where there is one and the slot does not wait. Answers how many it granted.
+/// Drops a grant if there is one and the slot does not wait. Returns how many it granted.
 #[tactic(auto, using(crate::proofs::Steps::caller_steps))]
 fn drop_grant(header: &mut Header, slot: u8) -> Option<usize> {
     if header.mode_of(slot) == Mode::NL || header.wanted_by(slot).is_some() {
@@ -67,7 +67,7 @@ fn drop_grant(header: &mut Header, slot: u8) -> Option<usize> {
     Some(granted.len())
 }
 
-/// Asks. Where a growth was refused nothing may have changed, and it is asked again.
+/// Requests a lock. If an allocation failed, nothing may have changed, and the request is retried.
 fn ask_growing(
     header: &mut Header,
     slot: u8,
@@ -84,7 +84,7 @@ fn ask_growing(
     ask(header, slot, mode)
 }
 
-/// One holds, which takes no memory, and all others wait for it.
+/// One slot holds, which takes no memory, and all others wait for it.
 fn waits(alloc: Global) -> Option<u32> {
     let mut header = Header::new(alloc);
     let mut watch = Watch::new();
@@ -100,7 +100,7 @@ fn waits(alloc: Global) -> Option<u32> {
     watch.differs()
 }
 
-/// All hold, and each is raised as soon as it does. Neither takes memory.
+/// All hold, and each is raised at once. Neither takes memory.
 fn grants(alloc: Global) -> Option<u32> {
     let mut header = Header::new(alloc);
     let mut watch = Watch::new();

@@ -1,4 +1,4 @@
-//! Lists of commands, none of which wants memory: all that can be refused its room is the list.
+//! Lists of commands that need no memory: only the list itself can be refused its room.
 
 ghost use Rattle.std.specs.Prelude.{◌≤◌};
 
@@ -25,10 +25,10 @@ const B: TxnId = TxnId { slot: 1, age: 2 };
 
 const C: TxnId = TxnId { slot: 2, age: 3 };
 
-/// What is answered to a command, and who alone is told what.
+/// The answer to a command, and the only notice.
 type Said = (Answer, Option<(TxnId, Notice)>);
 
-/// A manager with a root, each asked for again where it is refused.
+/// A manager with a root; both are retried if refused.
 fn open(alloc: Global, detect: Detect, most: usize) -> Option<Manager>
     requires some { 1 ≤ most }
     requires few { most ≤ 128 }
@@ -43,7 +43,7 @@ fn open(alloc: Global, detect: Detect, most: usize) -> Option<Manager>
     Some(manager)
 }
 
-/// Locks the root, again where memory is refused.
+/// Locks the root; retried if memory is refused.
 fn asks(manager: &mut Manager, txn: TxnId, mode: Mode) -> Answer {
     let lock = Command::Lock {
         txn,
@@ -56,7 +56,8 @@ fn asks(manager: &mut Manager, txn: TxnId, mode: Mode) -> Answer {
     }
 }
 
-/// Runs a list, which must be answered so. Where its room was refused nothing may have been accepted, and it is run again.
+/// Runs a list, with these answers. If its room was refused, nothing may have been accepted, and it is
+/// retried.
 fn runs(
     alloc: Global,
     manager: &mut Manager,
@@ -80,7 +81,7 @@ fn runs(
     }
 }
 
-/// The replies must say this.
+/// The replies must be these.
 fn hears(replies: &[Reply], wanted: &[Said], watch: &mut Watch) {
     watch.same(replies.len(), wanted.len());
     for (reply, (answer, told)) in replies.iter().zip(wanted) {
@@ -90,7 +91,7 @@ fn hears(replies: &[Reply], wanted: &[Said], watch: &mut Watch) {
     }
 }
 
-/// Two begin, a third does not.
+/// Two begins are accepted, a third is not.
 fn answers_in_order(alloc: Global) -> Option<u32> {
     let mut watch = Watch::new();
     let Some(mut manager) = open(alloc, Detect::ByWatcher, 2) else {
@@ -114,7 +115,7 @@ fn answers_in_order(alloc: Global) -> Option<u32> {
     watch.differs()
 }
 
-/// A commit among others grants a wait.
+/// A commit in the middle of a list grants a wait.
 fn applies_a_list(alloc: Global) -> Option<u32> {
     let mut watch = Watch::new();
     let Some(mut manager) = open(alloc, Detect::AtBlock, 64) else {

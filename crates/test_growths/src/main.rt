@@ -1,7 +1,8 @@
-//! Plays of what a program in C does not reach, in which any one growth may be refused: a graph, a header, a list of
-//! commands and a shared table of Rattle. Each call that may want memory is made; where it was refused, all that can be
-//! asked is compared with what it was before, and the call is made again and must go on as wanted. A call that takes no
-//! memory is made once. So what is printed is the same whichever growth is refused: a line for each play, as wanted.
+//! Scenarios that a program in C cannot reach, in which any one allocation may be refused: a graph, a
+//! header, a list of commands and a shared table of Rattle. Each call that may need memory is made; if
+//! it was refused, all that can be asked is compared with its state before, and the call is retried and
+//! must succeed. A call that takes no memory is made once. So the output is the same whichever
+//! allocation is refused: a line for each scenario, as expected.
 #![tactic(auto)]
 
 mod bill;

@@ -1,4 +1,4 @@
-//! A shared table is made, told and ended. A telling that finds no memory leaves watchers the board
+//! A shared table is made, told and ended. If a telling finds no memory, watchers keep the board
 //! before, until the next command is told.
 
 ghost use Rattle.std.specs.Prelude.{◌≡◌};
@@ -30,14 +30,14 @@ pub(crate) fn play<R: Wait>(rt: &R, bill: &mut Bill<'_>) {
     bill.tell("sessions: a table is shared", Some(0));
 }
 
-/// A table from its making to its end; `NoMemory` where it could not be made.
+/// A table from start to end; `NoMemory` if it could not be made.
 fn share_table<R: Wait>(rt: &R, alloc: Global, watch: &mut Watch) -> Result<(), Refusal> {
     let manager = Manager::new(alloc, Detect::AtBlock, 8)?;
     let parts = Parts::new(rt, alloc, manager, 2, 2)?;
     share_under_name::<Brand, R>(rt, alloc, parts, watch)
 }
 
-/// A session, a watcher that looks behind each command, and what came of it.
+/// A session, a watcher that looks after each command, and the counts.
 struct Turns<'a, 'b, N: Naming, R: Wait> {
     rt: &'b R,
     session: Session<'a, N>,
@@ -49,13 +49,13 @@ struct Turns<'a, 'b, N: Naming, R: Wait> {
 }
 
 impl<N: Naming, R: Wait> Turns<'_, '_, N, R> {
-    /// The epoch of the board that a look gives.
+    /// The epoch of a look.
     fn epoch(&mut self) -> Option<u64> {
         self.watcher.look().map(|board| board.epoch)
     }
 
-    /// Counts what was accepted. It is told, or where there was no memory for that, which is once at
-    /// most, a look gives the board before.
+    /// Counts what was accepted. It is told; if there was no memory for that, which happens at most
+    /// once, a look returns the board before.
     fn count(&mut self, accepted: u64, before: Option<u64>, watch: &mut Watch) {
         self.accepted = self.accepted.saturating_add(accepted);
         let seen = self.epoch();
@@ -66,7 +66,7 @@ impl<N: Naming, R: Wait> Turns<'_, '_, N, R> {
         watch.holds(self.untold <= 1);
     }
 
-    /// Asks. Where a growth was refused nothing is told, and it is asked again.
+    /// Sends a command. If an allocation failed, nothing is told, and the command is retried.
     fn ask(&mut self, command: Command<'_>, watch: &mut Watch) -> Answer {
         watch.step();
         let before = self.epoch();
@@ -80,7 +80,7 @@ impl<N: Naming, R: Wait> Turns<'_, '_, N, R> {
         answer
     }
 
-    /// Asks for all at once, and for those again that were not served.
+    /// Sends all at once, and retries those that were not served.
     fn ask_all(&mut self, alloc: Global, commands: &[Command<'_>], watch: &mut Watch) {
         watch.step();
         let before = self.epoch();
@@ -104,7 +104,7 @@ impl<N: Naming, R: Wait> Turns<'_, '_, N, R> {
         }
     }
 
-    /// A transaction that begins.
+    /// Begins a transaction.
     fn begin(&mut self, watch: &mut Watch) -> TxnId {
         match self.ask(Command::Begin, watch) {
             Answer::Begun(txn) => txn,
@@ -112,7 +112,7 @@ impl<N: Naming, R: Wait> Turns<'_, '_, N, R> {
         }
     }
 
-    /// Two transactions lock a file, one behind the other.
+    /// Two transactions lock a file, one after the other.
     fn play(&mut self, alloc: Global, watch: &mut Watch) {
         let root = self.make(Command::Inner { parents: &[] }, watch);
         let file = self.make(Command::File { parents: &[root] }, watch);
@@ -130,7 +130,7 @@ impl<N: Naming, R: Wait> Turns<'_, '_, N, R> {
     }
 }
 
-/// IX on a root and X on a file of it.
+/// IX on a root and X on its file.
 fn path(txn: TxnId, root: NodeId, file: NodeId) -> [Command<'static>; 2] {
     [lock(txn, root, IX), lock(txn, file, X)]
 }
@@ -139,7 +139,7 @@ fn lock(txn: TxnId, node: NodeId, mode: Mode) -> Command<'static> {
     Command::Lock { txn, node, mode }
 }
 
-/// How many answers refuse nothing.
+/// How many answers are no refusals.
 fn accepted_of(answers: &[Answer]) -> usize {
     answers
         .iter()
@@ -186,7 +186,7 @@ fn share_under_name<N: Naming, R: Wait>(
     Ok(())
 }
 
-/// The book, where all shares are back.
+/// The count of the book, if all shares are returned.
 fn book_of<N: Naming, R: Wait>(rt: &R, shared: Shared<N>, shares: Vec<Share<N>>) -> Option<u64> {
     match gather(rt, shared, shares) {
         Ok(closed) => Some(closed.book),

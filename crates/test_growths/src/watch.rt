@@ -1,6 +1,6 @@
-//! What is wanted of a play, step by step.
+//! The expectations of a scenario, step by step.
 
-/// The steps that a play has taken, and the first of them that was not as wanted.
+/// The number of steps so far, and the first of them that was not as expected.
 #[derive(Clone, Copy)]
 pub(crate) struct Watch {
     steps: u32,
@@ -27,12 +27,12 @@ impl Watch {
         }
     }
 
-    /// What came at the step must be what is wanted.
+    /// The value must be the expected one.
     pub(crate) fn same<T: PartialEq + Drop>(&mut self, came: T, wanted: T) {
         self.holds(came == wanted);
     }
 
-    /// The first step that was not as wanted.
+    /// The first step that was not as expected.
     pub(crate) fn differs(&self) -> Option<u32> {
         self.differs
     }

@@ -1,4 +1,4 @@
-//! A session of a crowd: it asks what it draws, and writes down what it is answered.
+//! A session of a crowd: it sends random commands, and records the answers.
 
 ghost use Rattle.std.specs.Prelude.{◌<◌};
 
@@ -18,7 +18,7 @@ use std::process::Abort;
 use std::sync::Wait;
 use std::thread::yield_now;
 
-/// A command, with what it names in a list of its own.
+/// A command that owns the lists that it names.
 #[derive(Clone, Copy)]
 pub enum Act {
     Plain(Command<'static>),
@@ -53,8 +53,8 @@ pub struct Entry {
     pub answer: Answer,
 }
 
-/// A session with its transaction, the record that it inserted last and the place beside which that
-/// stands, and all that it asked.
+/// A session with its transaction, the record that it inserted last, a place under the same parents,
+/// and all that it asked.
 pub struct Actor<'a, 'b, N: Naming, R: Wait + Abort> {
     rt: &'a R,
     alloc: Global,
@@ -69,7 +69,7 @@ pub struct Actor<'a, 'b, N: Naming, R: Wait + Abort> {
 }
 
 impl<N: Naming, R: Wait + Abort> Actor<'_, '_, N, R> {
-    /// A number below this one.
+    /// A random number below this one.
     fn draw(&mut self, below: usize) -> usize
         requires { 0 < below }
         ensures { result < below }
@@ -115,7 +115,7 @@ impl<N: Naming, R: Wait + Abort> Actor<'_, '_, N, R> {
         self.begins();
     }
 
-    /// Locks a node, and waits for it. Whether it was granted.
+    /// Locks a node, and waits for it. Returns whether it was granted.
     fn locks(&mut self, node: NodeId, mode: Mode) -> bool {
         let txn = self.txn;
         let lock = Command::Lock { txn, node, mode };
@@ -131,7 +131,7 @@ impl<N: Naming, R: Wait + Abort> Actor<'_, '_, N, R> {
         }
     }
 
-    /// What is answered to a list of this command alone.
+    /// The answer to a list of this command alone.
     fn ask_in_list(&mut self, command: Command<'static>) -> Answer {
         let answers = self.session.ask_all(self.rt, self.alloc, &[command]);
         let answers = allowed(self.rt, answers);
@@ -153,7 +153,7 @@ impl<N: Naming, R: Wait + Abort> Actor<'_, '_, N, R> {
         }
     }
 
-    /// Locks what may be above a place, and then a node there. A reader goes by one pair of areas.
+    /// Locks what may be above a place, and then a node there. A reader locks one pair of areas.
     fn locks_down(&mut self, place: usize, node: NodeId, mode: Mode) -> bool {
         let reads = mode == IS || mode == S;
         let intent = if reads { IS } else { IX };
@@ -168,7 +168,7 @@ impl<N: Naming, R: Wait + Abort> Actor<'_, '_, N, R> {
         self.locks(node, mode)
     }
 
-    /// A record and a place beside which it stands: its own last, or one of the forest.
+    /// A record and a place under the same parents: its own last, or one of the forest.
     fn record(&mut self, own: bool) -> (usize, NodeId) {
         if own && self.made != NodeId::NONE {
             return (self.beside, self.made);
@@ -182,7 +182,7 @@ impl<N: Naming, R: Wait + Abort> Actor<'_, '_, N, R> {
         modes[self.draw(modes.len()) % modes.len()]
     }
 
-    /// Reads or writes somewhere, mostly a record.
+    /// Reads or writes at a random place, mostly a record.
     fn locks_somewhere(&mut self) {
         let place = if self.draw(4) == 0 {
             self.draw(NODES)
@@ -253,7 +253,7 @@ impl<N: Naming, R: Wait + Abort> Actor<'_, '_, N, R> {
         }
     }
 
-    /// Whatever takes one command, without the locks that it may need.
+    /// Sends one of the commands that need no path, without the locks that it may need.
     fn asks_one(&mut self) {
         let node = self.forest.nodes[self.draw(NODES) % NODES];
         let mode = self.mode();
@@ -285,7 +285,7 @@ impl<N: Naming, R: Wait + Abort> Actor<'_, '_, N, R> {
     }
 }
 
-/// A session that has begun a transaction.
+/// A session with a new transaction.
 fn begun<'a, 'b, N: Naming, R: Wait + Abort>(
     rt: &'a R,
     alloc: Global,
@@ -310,7 +310,7 @@ fn begun<'a, 'b, N: Naming, R: Wait + Abort>(
     actor
 }
 
-/// Its share and what it asked, once it has committed.
+/// Commits, and returns the share and what was asked.
 fn ended<N: Naming, R: Wait + Abort>(mut actor: Actor<'_, '_, N, R>) -> (Share<N>, Vec<Entry>) {
     actor.commits();
     let Actor {
@@ -328,7 +328,8 @@ fn ended<N: Naming, R: Wait + Abort>(mut actor: Actor<'_, '_, N, R>) -> (Share<N
     (session.end(), diary)
 }
 
-/// Has a session ask at least so many commands, and commit. Gives back its share and what it asked.
+/// Runs a session that asks at least this many commands, and commits. Returns its share and what it
+/// asked.
 pub fn acts<N: Naming, R: Wait + Abort>(
     rt: &R,
     alloc: Global,
@@ -344,13 +345,13 @@ pub fn acts<N: Naming, R: Wait + Abort>(
             break;
         }
         actor.goes_on();
-        yield_now(); // Else one after the other could do all its work, where processors are few.
+        yield_now(); // Else, with few processors, the sessions could do all their work one by one.
     }
     ended(actor)
 }
 
-/// Has a session that is alone with the table insert a record and escalate to its file. Gives back its
-/// share and what it asked. Among many an escalation is granted only by chance.
+/// Runs a session, alone on the table, that inserts a record and escalates to its file. Returns its
+/// share and what it asked. Among many sessions an escalation is granted only by chance.
 pub fn escalates_alone<N: Naming, R: Wait + Abort>(
     rt: &R,
     alloc: Global,

@@ -1,4 +1,4 @@
-//! A shared table and a manager beside it, to which the same commands are put.
+//! A shared table and a manager, which answer the same commands.
 
 use crate::stage::{new_manager, play_on};
 use crate::steps::{Alone, Made, Step, Through, take};
@@ -12,8 +12,7 @@ use std::process::Abort;
 use std::sync::Wait;
 use std::thread::Threads;
 
-/// Steps that are put to a session and to a manager beside it, which must answer alike: what is done first, and
-/// a row.
+/// Steps that a session and a manager must answer alike: those that prepare, and a row.
 #[derive(Clone, Copy)]
 pub struct Alike {
     pub detect: Detect,
@@ -21,8 +20,8 @@ pub struct Alike {
     pub row: &'static [Step],
 }
 
-/// Puts each step to a session and to the manager: the replies must be the same, and so must the counts of
-/// accepted commands and the counters behind each.
+/// Sends each step to a session and to the manager: the replies must be equal, and so must the counts
+/// of accepted commands and the counters after each.
 fn take_alike<N: Naming, R: Wait + Abort>(
     rt: &R,
     table: &Shared<N>,
@@ -42,7 +41,7 @@ fn take_alike<N: Naming, R: Wait + Abort>(
     }
 }
 
-/// The session and the table have counted what the manager has.
+/// The session and the table have the counts of the manager.
 fn counts_alike<N: Naming, R: Wait + Abort>(
     rt: &R,
     table: &Shared<N>,
@@ -55,7 +54,7 @@ fn counts_alike<N: Naming, R: Wait + Abort>(
     same(rt, table.counters(rt), counters);
 }
 
-/// Keeps the first two intervals behind an index.
+/// Adds the first two intervals of an index after it.
 pub fn keep_intervals(made: &mut Made, manager: &Manager, answer: Answer) {
     if let Answer::Node(node) = answer {
         for place in 0..2usize {
@@ -66,7 +65,7 @@ pub fn keep_intervals(made: &mut Made, manager: &Manager, answer: Answer) {
     }
 }
 
-/// Does steps with a manager alone.
+/// Carries out steps on a manager alone.
 pub fn prepare(manager: &mut Manager, made: &mut Made, steps: &[Step]) {
     for step in steps {
         let answer = take(&mut Alone(manager), made, *step).answer;
@@ -76,7 +75,7 @@ pub fn prepare(manager: &mut Manager, made: &mut Made, steps: &[Step]) {
 }
 
 impl Alike {
-    /// Plays with the share of a table.
+    /// Plays with a share of a table.
     pub fn plays<N: Naming, R: Wait + Abort>(
         &self,
         rt: &R,
@@ -99,8 +98,8 @@ impl Alike {
     }
 }
 
-/// A new table and a new manager answer these steps alike. In the end the share is the book, and the count of
-/// accepted commands is that of the manager.
+/// A new table and a new manager answer these steps alike. In the end the share is the book, and the
+/// count of accepted commands is that of the manager.
 pub fn answers_alike<R: Threads + Wait + Abort + Sync>(rt: &R, alloc: Global, story: Alike) {
     let mut beside = new_manager(rt, alloc, story.detect);
     let mut made = Made::new();

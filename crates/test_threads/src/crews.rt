@@ -1,4 +1,4 @@
-//! Crews: what they do at a gate, and how they end where sessions are stopped.
+//! Crews: what they do at a gate, and how they end if sessions are stopped.
 
 ghost use Rattle.std.specs.Prelude.{◌≡◌, ◌+◌, ◌<◌, ◌≤◌, IfOk};
 
@@ -13,14 +13,14 @@ use std::process::Abort;
 use std::sync::{Mutex, MutexGuard, Wait};
 use std::thread::{Threads, yield_now};
 
-/// How often each of two sessions has come to each point.
+/// How often each of two sessions has reached each point.
 #[derive(Clone, Copy, Debug, PartialEq, Eq, Drop)]
 struct Seen {
     locked: [u32; 2],
     committed: [u32; 2],
 }
 
-/// A gate that holds each of two sessions behind its lock until the other has come there too.
+/// A gate that stops each of two sessions after its lock until the other has its own.
 #[derive(Drop)]
 struct Meeting {
     seen: Mutex<Seen>,
@@ -51,7 +51,7 @@ fn note(seen: &mut Seen, session: u32, at: Point) {
     }
 }
 
-/// Whether both sessions have come behind their locks.
+/// Whether both sessions have their locks.
 fn have_met<R: Wait>(rt: &R, meeting: &Meeting) -> bool {
     let seen = meeting.seen.lock(rt);
     let met = seen.locked[0] > 0 && seen.locked[1] > 0;
@@ -77,7 +77,7 @@ impl Gate for Meeting {
     }
 }
 
-/// A gate that lets nobody pass at one point.
+/// A gate that is shut at one point.
 #[derive(Drop)]
 struct Shut {
     at: Point,
@@ -89,8 +89,8 @@ impl Gate for Shut {
     }
 }
 
-/// What a crew of two sessions behind a gate counts. It promises nothing, so that what `crew_with` promises is no part
-/// of a test's proof.
+/// What a crew of two sessions with a gate counts. It has no contract, so that the contract of
+/// `crew_with` is no part of a test's proof.
 fn counted_behind<G: Gate + Sync, R: Threads + Wait + Sync>(
     rt: &R,
     alloc: Global,
@@ -100,8 +100,8 @@ fn counted_behind<G: Gate + Sync, R: Threads + Wait + Sync>(
     crew_with(rt, alloc, gate, 2, 1, detect)
 }
 
-/// Two sessions hold their locks at the same time; a crew that runs one after the other does not come
-/// through. Each session comes once to each point.
+/// Two sessions hold their locks at the same time; a crew that ran them one by one would never end.
+/// Each session reaches each point once.
 fn meets<R: Threads + Wait + Sync + Abort>(rt: &R, alloc: Global, detect: Detect) {
     let meeting = Meeting::new();
     let ended = counted_behind(rt, alloc, &meeting, detect);
@@ -120,7 +120,7 @@ fn sessions_work_at_the_same_time(rt: HostRuntime) {
     meets(&rt, rt.alloc(), Detect::ByWatcher);
 }
 
-/// A crew that is not let pass says so, and ends.
+/// A crew that the gate stops says so, and ends.
 #[test]
 fn a_shut_gate_stops_a_crew(rt: HostRuntime) {
     for at in [Point::Locked, Point::Committed] {
@@ -132,7 +132,7 @@ fn a_shut_gate_stops_a_crew(rt: HostRuntime) {
     }
 }
 
-/// A new manager for so many transactions at once.
+/// A new manager for eight transactions at once.
 fn new_manager<R: Abort>(rt: &R, alloc: Global, detect: Detect) -> Manager {
     match Manager::new(alloc, detect, 8) {
         Ok(manager) => manager,
@@ -140,7 +140,7 @@ fn new_manager<R: Abort>(rt: &R, alloc: Global, detect: Detect) -> Manager {
     }
 }
 
-/// A new node without parents.
+/// A new root.
 fn add_root<R: Abort>(rt: &R, manager: &mut Manager) -> NodeId {
     match manager.apply(Command::Inner { parents: &[] }).answer {
         Answer::Node(node) => node,
@@ -148,7 +148,7 @@ fn add_root<R: Abort>(rt: &R, manager: &mut Manager) -> NodeId {
     }
 }
 
-/// How a crew of so many sessions ends that do one round of this work.
+/// How a crew of this many sessions ends after one round of this work.
 fn ended_after<W: Work + Sync, R: Threads + Wait + Sync + Abort>(
     rt: &R,
     alloc: Global,
@@ -174,7 +174,7 @@ fn nobody_lives(manager: &Manager) -> bool {
     true
 }
 
-/// Two sessions whose record is not there: each begins, locks what lies above, is refused and aborts.
+/// Two sessions without a record: each begins, locks what is above it, is refused and aborts.
 fn stops<R: Threads + Wait + Sync + Abort>(rt: &R, alloc: Global, detect: Detect) {
     let mut manager = new_manager(rt, alloc, detect);
     let root = add_root(rt, &mut manager);
@@ -197,7 +197,7 @@ fn a_session_that_is_stopped_aborts(rt: HostRuntime) {
     stops(&rt, rt.alloc(), Detect::ByWatcher);
 }
 
-/// Work in which all but the first session fail, each in its own way.
+/// Work in which all sessions except the first fail, each in its own way.
 struct Failing;
 
 impl Work for Failing {
@@ -218,7 +218,7 @@ impl Work for Failing {
     }
 }
 
-/// Of several faults that of the session with the least number is answered.
+/// Of several faults, that of the session with the least number is answered.
 #[test]
 fn the_first_fault_is_answered(rt: HostRuntime) {
     let manager = new_manager(&rt, rt.alloc(), Detect::AtBlock);
@@ -229,7 +229,7 @@ fn the_first_fault_is_answered(rt: HostRuntime) {
     same(&rt, ended.answer(), Err(refused));
 }
 
-/// Two sessions that lock the same two nodes in X, each the other's last first, and meet between.
+/// Two sessions that lock the same two nodes in X, in opposite orders, and meet in between.
 #[derive(Drop)]
 struct Crossing {
     nodes: [NodeId; 2],
@@ -257,7 +257,7 @@ impl Work for Crossing {
     }
 }
 
-/// A new transaction.
+/// Begins a transaction.
 fn begins<N: Naming, R: Wait>(rt: &R, session: &mut Session<'_, N>) -> Result<TxnId, CrewFault>
     ensures { IfOk result (λ _. session.new.share ≡ session.old.share + 1) }
 {
@@ -267,7 +267,7 @@ fn begins<N: Naming, R: Wait>(rt: &R, session: &mut Session<'_, N>) -> Result<Tx
     }
 }
 
-/// Locks the two nodes, the second of them once both sessions have locked their first.
+/// Locks the two nodes, the second of them after both sessions have locked their first.
 fn crosses<N: Naming, R: Wait>(
     rt: &R,
     work: &Crossing,
@@ -304,7 +304,7 @@ fn commits<N: Naming, R: Wait>(
     }
 }
 
-/// A deadlock of two sessions ends: one of them falls and aborts, and the other commits.
+/// A deadlock of two sessions ends: one is the victim and aborts, and the other commits.
 fn frees<R: Threads + Wait + Sync + Abort>(rt: &R, alloc: Global, detect: Detect) -> u64 {
     let mut manager = new_manager(rt, alloc, detect);
     let work = Crossing {
@@ -320,7 +320,7 @@ fn frees<R: Threads + Wait + Sync + Abort>(rt: &R, alloc: Global, detect: Detect
     ended.count
 }
 
-/// With detection by a watcher nobody but the lookout ends a deadlock, by a settle that counts.
+/// With detection by a watcher only the watcher ends a deadlock, by a settle that counts.
 #[test]
 fn the_lookout_settles_a_deadlock(rt: HostRuntime) {
     same(&rt, frees(&rt, rt.alloc(), Detect::AtBlock), 8);

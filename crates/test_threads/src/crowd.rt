@@ -1,4 +1,4 @@
-//! 128 sessions ask what they draw, and what they did was one run.
+//! 128 sessions send random commands, and one manager replays what they did.
 
 use crate::actor::{Act, Entry, acts, escalates_alone};
 use crate::forest::{Forest, add_forest};
@@ -19,13 +19,13 @@ use std::sync::Wait;
 use std::test::Fail;
 use std::thread::{Threads, yield_now};
 
-/// How many commands each session asks at least, where the environment has no other number.
+/// How many commands each session asks at least, unless the environment has another number.
 const COMMANDS: u32 = 200;
 
-/// How many sessions act.
+/// How many sessions there are.
 const ACTORS: usize = 128;
 
-/// Sessions over a forest, each of which asks at least so many commands.
+/// Sessions over a forest, each of which asks at least this many commands.
 #[derive(Drop)]
 pub struct Crowd {
     forest: Forest,
@@ -33,7 +33,7 @@ pub struct Crowd {
     commands: u32,
 }
 
-/// Settles a suspect, and says what it asked.
+/// Settles a suspect, and returns the entry.
 fn settle<N: Naming, R: Wait + Abort>(rt: &R, session: &mut Session<'_, N>, txn: TxnId) -> Entry {
     let command = Command::Settle { txn };
     let answer = session.ask(rt, command).answer;
@@ -44,7 +44,7 @@ fn settle<N: Naming, R: Wait + Abort>(rt: &R, session: &mut Session<'_, N>, txn:
     }
 }
 
-/// Settles the youngest suspect of each look until the others have ended, and writes down what it asked.
+/// Settles the youngest suspect of each look until the others have ended, and records that.
 fn settles_all<N: Naming, R: Wait + Abort>(
     rt: &R,
     alloc: Global,
@@ -68,7 +68,7 @@ fn settles_all<N: Naming, R: Wait + Abort>(
     Left { share, diary }
 }
 
-/// Escalates, and writes down what it asked behind what was asked before.
+/// Escalates, and appends that to what was asked before.
 fn escalate_last<N: Naming, R: Wait + Abort>(
     rt: &R,
     alloc: Global,
@@ -82,7 +82,7 @@ fn escalate_last<N: Naming, R: Wait + Abort>(
     Left { share, diary }
 }
 
-/// Parts the shares from what was asked.
+/// Separates the shares from what was asked.
 fn part_all<N: Naming>(alloc: Global, left: Vec<Left<N>>) -> (Vec<Share<N>>, Vec<Vec<Entry>>) {
     let mut shares = Vec::new(alloc);
     let mut diaries = Vec::new(alloc);
@@ -103,14 +103,14 @@ fn join_all(alloc: Global, diaries: &[Vec<Entry>]) -> Vec<Entry> {
 }
 
 impl Crowd {
-    /// Puts what was asked to a manager alone.
+    /// Replays what was asked on a manager alone.
     fn replay<R: Abort>(&self, rt: &R, alloc: Global, diary: Vec<Entry>) {
         let mut alone = new_manager(rt, alloc, self.detect);
         add_forest(rt, &mut alone);
         replays(rt, &mut alone, diary);
     }
 
-    /// Asks what it draws; the one with a watcher settles suspects until all others have ended.
+    /// Sends random commands; the session with a watcher settles suspects until all others have ended.
     pub fn plays<N: Naming, R: Wait + Abort>(
         &self,
         rt: &R,
@@ -143,7 +143,7 @@ impl Crowd {
         }
     }
 
-    /// A manager alone answers all that was asked alike; gives the shares back.
+    /// A manager alone answers all that was asked alike; returns the shares.
     pub fn ends<N: Naming, R: Wait + Abort>(
         &self,
         rt: &R,
@@ -161,7 +161,7 @@ impl Crowd {
     }
 }
 
-/// How many commands each session is to ask at least: the environment's CROWD_COMMANDS, if it is there.
+/// How many commands each session asks at least: the environment's CROWD_COMMANDS, if it is set.
 fn commands_wanted<R: Env + Alloc>(rt: &R) -> Result<u32, Fail> {
     match env::var(rt, "CROWD_COMMANDS") {
         Ok(number) => Ok(number.as_str().parse::<u32>()?),

@@ -11,7 +11,7 @@ use std::process::Abort;
 
 /// How many nodes there are before the sessions begin.
 pub const NODES: usize = 50;
-/// The first areas, files, indexes, intervals and records. Roots come first.
+/// The places of the first area, file, index, interval and record. Roots are first.
 const AREAS: usize = 2;
 
 pub const FILES: usize = 6;
@@ -22,7 +22,7 @@ const INTERVALS: usize = 14;
 
 pub const RECORDS: usize = 26;
 
-/// What stands in a place.
+/// The kind of node at a place.
 #[derive(Clone, Copy)]
 pub enum Rank {
     Root,
@@ -34,7 +34,7 @@ pub enum Rank {
 }
 
 /// The nodes by their places: two roots, four areas under both, four files and an index of each under
-/// two areas, three intervals an index, six records a file.
+/// two areas, three intervals for each index, six records for each file.
 #[derive(Drop)]
 pub struct Forest {
     pub nodes: [NodeId; NODES],
@@ -70,7 +70,7 @@ pub fn part(place: usize) -> usize
     part % 4
 }
 
-/// Whether one place may come to stand above another, whatever is moved and rekeyed.
+/// Whether the node at one place may ever be above another, whatever is moved and rekeyed.
 pub fn may_be_above(upper: usize, place: usize) -> bool {
     match (rank_of(upper), rank_of(place)) {
         (_, Rank::Root) | (Rank::Record, _) | (Rank::Area, Rank::Area) => false,
@@ -87,7 +87,7 @@ pub fn pair(forest: &Forest, second: bool) -> [NodeId; 2] {
     [forest.nodes[first], forest.nodes[first + 1]]
 }
 
-/// Makes what stands in a place, under the places before it. Records are inserted by this transaction.
+/// Makes the node of a place, under earlier ones. This transaction inserts records.
 fn plant(
     manager: &mut Manager,
     txn: TxnId,
@@ -107,13 +107,13 @@ fn plant(
     }
 }
 
-/// The interval of an index that stands in a place.
+/// The interval at a place of an index.
 fn interval(manager: &Manager, index: NodeId, place: usize) -> NodeId {
     let at = place.saturating_sub(INTERVALS) % 3;
     manager.graph().interval(index, at).unwrap_or(NodeId::NONE)
 }
 
-/// A new forest, on which nobody holds anything.
+/// A new forest without locks.
 pub fn add_forest<R: Abort>(rt: &R, manager: &mut Manager) -> Forest {
     let mut forest = Forest {
         nodes: [NodeId::NONE; NODES],

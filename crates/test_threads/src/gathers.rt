@@ -1,4 +1,4 @@
-//! A table is closed once each share is back, and not before.
+//! A table is closed after each share is returned, and not before.
 
 ghost use Rattle.std.specs.Prelude.{◌≡◌};
 ghost use Rattle.gl_table.specs.Table.{board_of};
@@ -14,7 +14,7 @@ use std::process::Abort;
 use std::sync::Wait;
 use std::test::Fail;
 
-/// Has a root made for this share.
+/// Makes a root with this share.
 fn makes_root<N: Naming, R: Wait + Abort>(rt: &R, table: &Shared<N>, share: Share<N>) -> Share<N> {
     let mut session = Session::new(table, share);
     let reply = session.ask(rt, Command::Inner { parents: &[] });
@@ -22,7 +22,7 @@ fn makes_root<N: Naming, R: Wait + Abort>(rt: &R, table: &Shared<N>, share: Shar
     session.end()
 }
 
-/// Closes the table: so many commands were accepted.
+/// Closes the table: this many commands were accepted.
 fn closes<N: Naming, R: Wait + Abort>(
     rt: &R,
     shared: Shared<N>,
@@ -42,8 +42,8 @@ fn closes<N: Naming, R: Wait + Abort>(
     }
 }
 
-/// With one share kept back the table and the other two shares come back, and serve on. With it the table
-/// is closed.
+/// If one share is missing, the table and the other two are returned, and can still be used. With it
+/// the table is closed.
 fn keeps_one_back<N: Naming, R: Wait + Abort>(
     rt: &R,
     alloc: Global,
@@ -75,7 +75,7 @@ fn keeps_one_back<N: Naming, R: Wait + Abort>(
     closes(rt, shared, shares, 2)
 }
 
-/// The same for whoever has a runtime.
+/// The same with any runtime.
 fn keep_back<R: Wait + Abort>(rt: &R, alloc: Global, detect: Detect) -> Result<(), Fail> {
     let Ok(manager) = Manager::new(alloc, detect, 128) else {
         return Err(Fail::from("no memory"));

@@ -1,6 +1,7 @@
-//! Tests alone: sessions of a shared table, in threads. Stories of players that ask, sleep, end each other's waits, look on
-//! and learn notes; steps put to one session and to a manager beside it; closing; watchers that look on while sessions work;
-//! a crowd of 128, beside a manager; and crews: what no clause can say of a call that takes the latch.
+//! Only tests: sessions of a shared table, in threads. Scenarios of players that ask, sleep, end each
+//! other's waits, look and learn notes; steps for one session and a manager; closing; watchers that
+//! look while sessions work; a crowd of 128, replayed on a manager; and crews: what no contract can say
+//! of a call that acquires the latch.
 #![tactic(auto)]
 
 #[cfg(test)]

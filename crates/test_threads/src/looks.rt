@@ -18,14 +18,14 @@ use std::thread::Threads;
 /// How often each session commits.
 const COMMITS: u32 = 100;
 
-/// Sessions lock one root in turn, and watchers look on until the last board.
+/// Sessions lock one root in turn, and watchers look until the last board.
 #[derive(Clone, Copy)]
 pub struct Watched {
     root: NodeId,
     last: u64,
 }
 
-/// The slots in which nobody lives.
+/// The free slots.
 fn free_slots(board: &Board) -> Slots {
     let mut free = Slots::empty();
     for slot in 0..SLOTS {
@@ -46,7 +46,7 @@ fn checks<R: Abort>(rt: &R, board: &Board) {
     }
 }
 
-/// The epoch of a look, which is none before the least; the least where there was no memory.
+/// The epoch of a look, which is at least `least`; `least` if there was no memory.
 fn looks<N: Naming, R: Abort>(rt: &R, watcher: &mut Watcher<N>, least: u64) -> u64 {
     match watcher.look() {
         Some(board) => {
@@ -76,7 +76,7 @@ fn learns<N: Naming, R: Wait + Abort>(
     looks(rt, watcher, seen)
 }
 
-/// Looks on until the last board, in at most a million turns.
+/// Looks until the last board, at most a million times.
 fn looks_on<N: Naming, R: Wait + Abort>(
     rt: &R,
     table: &Shared<N>,
@@ -97,7 +97,7 @@ fn looks_on<N: Naming, R: Wait + Abort>(
     session.end()
 }
 
-/// Begins.
+/// Begins a transaction.
 fn begins<N: Naming, R: Wait + Abort>(rt: &R, session: &mut Session<'_, N>) -> TxnId {
     let begun = match session.ask(rt, Command::Begin).answer {
         Answer::Begun(txn) => Some(txn),
@@ -122,7 +122,7 @@ fn works_once<N: Naming, R: Wait + Abort>(rt: &R, session: &mut Session<'_, N>, 
     );
 }
 
-/// The same again and again.
+/// Does that again and again.
 fn works<N: Naming, R: Wait + Abort>(
     rt: &R,
     table: &Shared<N>,
@@ -137,7 +137,7 @@ fn works<N: Naming, R: Wait + Abort>(
 }
 
 impl Watched {
-    /// Looks on where there is a watcher, and works where there is none.
+    /// Looks if it has a watcher, and works if not.
     pub fn plays<N: Naming, R: Wait + Abort>(
         &self,
         rt: &R,
@@ -161,11 +161,11 @@ impl Watched {
     }
 }
 
-/// Two look on while four work.
+/// Two sessions look while four work.
 fn look_on<R: Threads + Wait + Abort + Sync>(rt: &R, alloc: Global, detect: Detect) {
     let mut manager = new_manager(rt, alloc, detect);
     let root = allowed(rt, manager.add_inner(&[]));
-    // The root, and of each of four sessions the begins, locks and commits.
+    // The root, and the begins, locks and commits of four sessions.
     let story = Watched { root, last: 1201 };
     let closed = play_on(
         rt,

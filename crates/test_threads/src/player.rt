@@ -1,4 +1,4 @@
-//! A player of a tale: a session that does one deed after the other.
+//! A player of a scenario: a session that does one deed after the other.
 
 use crate::stage::suspect_on;
 use crate::steps::{Answers, Made, Step, command_of, take};
@@ -16,14 +16,15 @@ use std::process::Abort;
 use std::sync::Wait;
 use std::thread::yield_now;
 
-/// What a lock comes to.
+/// The outcome of a lock.
 #[derive(Clone, Copy)]
 pub enum End {
     Granted,
     Stops(Stop),
 }
 
-/// What one look shows: the epoch, the ages of the first two slots, and for whom the second waits; all else is 0.
+/// What one look shows: the epoch, the ages of the first two slots, and the slots for which the second
+/// waits; all else is 0.
 #[derive(Clone, Copy)]
 pub struct Shows {
     pub epoch: u64,
@@ -31,37 +32,38 @@ pub struct Shows {
     pub waits_for: u128,
 }
 
-/// A deed. Transactions, nodes and watchers stand in it by their places.
+/// A deed. It names transactions, nodes and watchers by their places.
 #[derive(Clone, Copy)]
 pub enum Deed {
-    /// Asks, and is not refused; keeps what that names.
+    /// Sends a command, which is not refused; records what the answer names.
     Takes(Step),
-    /// Asks, and is refused.
+    /// Sends a command, which is refused.
     IsRefused(Step),
-    /// Asks, and is answered so.
+    /// Sends a command, which has this answer.
     Answers(Step, Answer),
-    /// Asks, and so many are told.
+    /// Sends a command, which has this many notices.
     Tells(Step, usize),
-    /// Asks several in one hold of the latch, and is answered so.
+    /// Sends a list in one critical section, which has these answers.
     Lists(&'static [Step], &'static [Answer]),
-    /// Asks several, of which so many are answered.
+    /// Sends a list, of which this many are answered.
     Counts(&'static [Step], usize),
-    /// Locks a node, and sleeps until the lock comes to this.
+    /// Locks a node, and sleeps until the lock has this outcome.
     Locks(usize, Mode, usize, End),
-    /// Sleeps for a lock that waits by now.
+    /// Sleeps for a lock that already waits.
     Awaits(usize, Mode, usize, End),
-    /// Locks the root of the next player in X. A victim aborts and raises the second flag; others commit.
+    /// Locks the root of the next player in X. A victim aborts and raises the second flag; others
+    /// commit.
     LocksNext,
     Raises(Flag),
-    /// Goes on once a flag was raised so often.
+    /// Continues after a flag was raised this often.
     Reaches(Flag, usize),
-    /// Begins and commits so many transactions that lock nothing.
+    /// Begins and commits this many transactions without locks.
     WorksElsewhere(u32),
-    /// Goes on once a board shows that a transaction waits.
+    /// Continues after a board shows that a transaction waits.
     SeesWait(usize),
-    /// Once a board has suspects, settles the youngest, which is this transaction and alone is told.
+    /// After a board has suspects, settles the youngest, which is this transaction and alone is told.
     SettlesVictim(usize),
-    /// Goes on once the youngest suspect of a board is this transaction.
+    /// Continues after the youngest suspect of a board is this transaction.
     SeesSuspect(usize),
     /// Settles a transaction, which tells nobody and is counted.
     SettlesNobody(usize),
@@ -71,9 +73,9 @@ pub enum Deed {
     Looks(usize, u64, bool),
     /// A note has this epoch, which a watcher learns.
     Learns(usize, u64),
-    /// A note has this epoch, and is kept for later.
+    /// A note has this epoch, and is stored.
     KeepsNote(u64),
-    /// A watcher learns the kept note.
+    /// A watcher learns the stored note.
     LearnsKept(usize),
     /// A watcher's look shows this.
     Sees(usize, Shows),
@@ -88,7 +90,7 @@ struct Player<'a, 'b, N: Naming, R: Wait + Abort> {
     kept: Option<Note<N>>,
     made: Made,
     flags: &'a Flags,
-    /// The tale's name, and the places of the player and of the deed.
+    /// The scenario's name, and the places of the player and of the deed.
     at: (&'static str, usize, usize),
 }
 
@@ -98,7 +100,7 @@ impl<N: Naming, R: Wait + Abort> Answers for Player<'_, '_, N, R> {
     }
 }
 
-/// What is asked.
+/// Commands.
 impl<N: Naming, R: Wait + Abort> Player<'_, '_, N, R> {
     fn wants<T: PartialEq + Debug + Drop>(&self, came: T, wanted: T) {
         same(self.rt, (self.at, came), (self.at, wanted));
@@ -165,7 +167,7 @@ impl<N: Naming, R: Wait + Abort> Player<'_, '_, N, R> {
         self.comes_to(came, txn, mode, node, end);
     }
 
-    /// What a lock came to is what is wanted; a victim aborts.
+    /// The outcome of a lock must be this; a victim aborts.
     fn comes_to(
         &mut self,
         came: Result<Grant, Stop>,
@@ -204,13 +206,13 @@ impl<N: Naming, R: Wait + Abort> Player<'_, '_, N, R> {
     }
 }
 
-/// What is looked at.
+/// Looks.
 impl<N: Naming, R: Wait + Abort> Player<'_, '_, N, R> {
     fn look(&mut self, watcher: usize) -> Option<Board> {
         self.watchers.get_mut(watcher)?.look()
     }
 
-    /// Whether a board was seen on which the slot waits, in at most a million turns.
+    /// Whether a board showed that the slot waits, within a million looks.
     fn sees_wait(&mut self, slot: usize) -> bool {
         for _ in 0..1000000u32 {
             if let Some(board) = self.look(0) {
@@ -223,7 +225,7 @@ impl<N: Naming, R: Wait + Abort> Player<'_, '_, N, R> {
         false
     }
 
-    /// The youngest suspect of the first board that has one, of at most a million looks.
+    /// The youngest suspect of the first board that has one, within a million looks.
     fn youngest_suspect(&mut self) -> Option<TxnId> {
         for _ in 0..1000000u32 {
             let suspect = self.look(0).and_then(|board| suspect_on(&board));
@@ -293,7 +295,7 @@ impl<N: Naming, R: Wait + Abort> Player<'_, '_, N, R> {
     }
 }
 
-/// A board that shows this.
+/// The board of a look.
 fn board_of(shows: Shows) -> Board {
     let mut board = Board {
         epoch: shows.epoch,
@@ -335,7 +337,7 @@ impl<N: Naming, R: Wait + Abort> Player<'_, '_, N, R> {
         }
     }
 
-    /// What asks for no lock.
+    /// Deeds that request no lock.
     fn does_beside(&mut self, deed: Deed) {
         let made = self.made;
         match deed {
@@ -381,7 +383,7 @@ impl<N: Naming, R: Wait + Abort> Player<'_, '_, N, R> {
     }
 }
 
-/// Does the deeds of an entrant's part.
+/// Does the deeds of a player.
 pub fn performs<N: Naming, R: Wait + Abort>(
     rt: &R,
     alloc: Global,

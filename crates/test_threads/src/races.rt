@@ -1,5 +1,5 @@
-//! Two transactions hold S on one root, and their sessions wait for X on it; and a ring of waits: each session's
-//! transaction holds a root of its own in X, and waits for the root of the next.
+//! Two transactions hold S on one root, and their sessions wait for X on it; and a ring of waits: each
+//! session's transaction holds its own root in X, and waits for the next root.
 
 use crate::player::{Deed, End};
 use crate::stage::{new_manager, tell_all, tell_over};
@@ -60,8 +60,8 @@ fn the_younger_of_two_upgrades_gives_way(rt: HostRuntime) {
     }
 }
 
-/// Both are suspects on a board. One wait is cancelled before the suspect is settled, which tells nobody, and the other
-/// session's lock is granted.
+/// Both are suspects on a board. One wait is cancelled before the suspect is settled, which tells
+/// nobody, and the other session's lock is granted.
 const OLD_BOARDS: [Tale; 2] = [
     Tale {
         name: "the older of two suspects is cancelled before the younger is settled",
@@ -122,7 +122,7 @@ fn a_suspect_of_an_old_board_is_settled(rt: HostRuntime) {
     tell_all(&rt, rt.alloc(), &OLD_BOARDS)
 }
 
-/// Of a ring exactly one gives way.
+/// Of a ring exactly one is the victim.
 const RING: Tale = Tale {
     name: "one gives way in a ring",
     before: &[],
@@ -141,7 +141,7 @@ const SETTLED_RING: Tale = Tale {
     ..RING
 };
 
-/// Tells this of a ring in which each holds its root.
+/// Plays this scenario with a ring in which each holds its root.
 fn break_ring<R: Threads + Wait + Abort + Sync>(rt: &R, alloc: Global, detect: Detect, tale: Tale) {
     let mut manager = new_manager(rt, alloc, detect);
     let mut made = Made::new();

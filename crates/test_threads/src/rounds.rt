@@ -1,4 +1,4 @@
-//! Which rounds the sessions of a crew do.
+//! The rounds of a crew's sessions.
 
 ghost use Rattle.std.specs.Prelude.{◌≡◌};
 
@@ -19,9 +19,9 @@ const SESSIONS: usize = 3;
 /// How many rounds each does.
 const ROUNDS: u32 = 4;
 
-/// Work that counts its rounds, and is stopped by a session or a round out of turn.
+/// Work that counts its rounds, and fails for a session or a round out of order.
 struct Counting {
-    /// By session, the one with number 1 first, its last round.
+    /// By session, from number 1 on, its last round.
     last: Mutex<[u32; SESSIONS]>,
 }
 
@@ -55,7 +55,7 @@ impl Work for Counting {
     }
 }
 
-/// Each session does its rounds from the first to the last, in their order.
+/// Each session does its rounds from the first to the last, in order.
 fn rounds_in_turn<R: Threads + Wait + Abort + Sync>(
     rt: &R,
     alloc: Global,

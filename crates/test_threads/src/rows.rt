@@ -1,12 +1,12 @@
-//! The worked rows as commands through a session: the replies are those of a manager.
+//! The worked rows as commands of a session: the replies are those of a manager.
 
 use crate::alike::{Alike, answers_alike};
 use crate::steps::Step;
 use gl_modes::Mode::{IS, IX, S, SIX, X};
 use gl_table::Detect;
 
-/// A root 0, a file 1 under it, an index 2 with the intervals 3 and 4, and a record in each of these, 5
-/// and 6. They were made by transaction 0, which has ended.
+/// A root 0, a file 1 under it, an index 2 with the intervals 3 and 4, and in each of these a record, 5
+/// and 6. Transaction 0 made them, and has ended.
 pub const PRELUDE: &[Step] = &[
     Step::Root,
     Step::File(0),
@@ -108,7 +108,7 @@ const ROOTS: [&'static [Step]; 7] = [
     ],
 ];
 
-/// Rows over the prelude. Their transactions are numbered from 1.
+/// Rows with the prelude. Their transactions are numbered from 1.
 const RECORDS: [&'static [Step]; 7] = [
     &[
         Step::Begin,

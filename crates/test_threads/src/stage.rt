@@ -1,4 +1,4 @@
-//! A table over a manager that was prepared, with which sessions play in threads of their own.
+//! A table over a prepared manager, with sessions in threads.
 
 ghost use Rattle.std.specs.Prelude.{◌≡◌, ◌<◌};
 ghost use Rattle.gl_table.specs.Table.{board_of};
@@ -18,7 +18,7 @@ use std::process::Abort;
 use std::sync::Wait;
 use std::thread::Threads;
 
-/// The story on a table with its name.
+/// Plays on a table with its name.
 fn enact_under_name<N: Naming + Send + Sync, R: Threads + Wait + Abort + Sync>(
     rt: &R,
     alloc: Global,
@@ -44,8 +44,7 @@ fn enact_under_name<N: Naming + Send + Sync, R: Threads + Wait + Abort + Sync>(
     }
 }
 
-/// Plays a story on a table over this manager, whose sessions tell when this says, and closes it, where there is
-/// memory.
+/// Plays on a table over this manager, with this telling, and closes it, if there is memory.
 fn try_on<R: Threads + Wait + Abort + Sync>(
     rt: &R,
     alloc: Global,
@@ -65,7 +64,7 @@ fn try_on<R: Threads + Wait + Abort + Sync>(
     }
 }
 
-/// The same, for which there must be memory.
+/// The same; there must be memory.
 pub fn play_on<R: Threads + Wait + Abort + Sync>(
     rt: &R,
     alloc: Global,
@@ -87,13 +86,13 @@ pub fn play_on<R: Threads + Wait + Abort + Sync>(
     closed
 }
 
-/// Whether nobody lives.
+/// Whether no transaction lives.
 pub fn nobody_lives(closed: &Closed) -> bool {
     let board = closed.manager.board();
     board.ages == [0; SLOTS] && board.rows == [0; SLOTS]
 }
 
-/// Tells a tale over a manager in which this was made.
+/// Plays a scenario over a manager in which this was made.
 pub fn tell_over<R: Threads + Wait + Abort + Sync>(
     rt: &R,
     alloc: Global,
@@ -125,7 +124,7 @@ pub fn tell_over<R: Threads + Wait + Abort + Sync>(
     );
 }
 
-/// Tells tales, each in all of its ways.
+/// Plays scenarios, each with all its settings.
 pub fn tell_all<R: Threads + Wait + Abort + Sync>(rt: &R, alloc: Global, tales: &[Tale]) {
     for tale in tales {
         for (detect, telling) in tale.by {

@@ -1,4 +1,4 @@
-//! Commands by the places of what they name, so that a row is a table.
+//! Commands that name things by their places, so that a row is a table.
 
 use gl_catalog::{Answer, Command, Manager, Reply};
 use gl_modes::{Mode, NodeId};
@@ -6,7 +6,7 @@ use gl_shared::{Naming, Session};
 use gl_table::TxnId;
 use std::sync::Wait;
 
-/// A command. Nodes and transactions stand in it by their places in the order in which they were made.
+/// A command. It names nodes and transactions by their places in the order of making.
 #[derive(Clone, Copy)]
 pub enum Step {
     Root,
@@ -35,7 +35,7 @@ pub enum Step {
     Effective(usize, usize),
 }
 
-/// Whoever answers commands.
+/// What answers commands.
 pub trait Answers {
     fn answer(&mut self, command: Command<'_>) -> Reply;
 }
@@ -62,12 +62,12 @@ impl<N: Naming, R: Wait> Answers for Through<'_, '_, N, R> {
     }
 }
 
-/// How many nodes and transactions are kept.
+/// How many nodes and transactions are recorded.
 const NODES: usize = 128;
 
 const TXNS: usize = 128;
 
-/// What was made, in order. Behind an index stand its first two intervals.
+/// What was made, in order. An index is followed by its first two intervals.
 #[derive(Clone, Copy)]
 pub struct Made {
     nodes: [NodeId; NODES],
@@ -86,7 +86,7 @@ impl Made {
         }
     }
 
-    /// The node in a place.
+    /// The node at a place.
     pub fn node(&self, place: usize) -> NodeId {
         if place < NODES {
             self.nodes[place]
@@ -95,7 +95,7 @@ impl Made {
         }
     }
 
-    /// The transaction in a place.
+    /// The transaction at a place.
     pub fn txn(&self, place: usize) -> TxnId {
         if place < TXNS {
             self.txns[place]
@@ -104,7 +104,7 @@ impl Made {
         }
     }
 
-    /// Keeps what an answer names.
+    /// Records what an answer names.
     pub fn keep(&mut self, answer: Answer) {
         match answer {
             Answer::Node(node) => self.keep_node(node),
@@ -113,7 +113,7 @@ impl Made {
         }
     }
 
-    /// Keeps a transaction.
+    /// Records a transaction.
     pub fn keep_txn(&mut self, txn: TxnId) {
         if self.begun < TXNS {
             self.txns[self.begun] = txn;
@@ -121,7 +121,7 @@ impl Made {
         }
     }
 
-    /// Keeps a node.
+    /// Records a node.
     pub fn keep_node(&mut self, node: NodeId) {
         if self.made < NODES {
             self.nodes[self.made] = node;
@@ -130,7 +130,7 @@ impl Made {
     }
 }
 
-/// Asks for a node under one parent.
+/// Makes a node under one parent.
 fn answer_inner(to: &mut impl Answers, parent: NodeId) -> Reply {
     to.answer(Command::Inner { parents: &[parent] })
 }
@@ -163,7 +163,7 @@ fn answer_move(to: &mut impl Answers, txn: TxnId, node: NodeId, parent: NodeId) 
     })
 }
 
-/// The step's reply.
+/// The reply to the step.
 pub fn take(to: &mut impl Answers, made: &Made, step: Step) -> Reply {
     match step {
         Step::Inner(parent) => answer_inner(to, made.node(parent)),
@@ -181,7 +181,7 @@ pub fn take(to: &mut impl Answers, made: &Made, step: Step) -> Reply {
     }
 }
 
-/// The command of a step that names no list but an empty one; a group's for any other.
+/// The command of a step that needs no list or an empty one; for any other, a group's.
 pub fn command_of(made: &Made, step: Step) -> Command<'static> {
     match step {
         Step::Root => Command::Inner { parents: &[] },

@@ -1,4 +1,4 @@
-//! The stories that are told on a stage, and who takes part in them.
+//! The scenarios that are played on a table, and their players.
 
 use crate::actor::Entry;
 use crate::alike::Alike;
@@ -14,26 +14,26 @@ use std::sync::Wait;
 use std::sync::atomic::{AtomicUsize, Ordering};
 use std::thread::{Threads, map_vec, yield_now};
 
-/// A story of a few players: what was done before there were sessions, and what each player does.
+/// A scenario of a few players: what was done before there were sessions, and what each player does.
 #[derive(Clone, Copy)]
 pub struct Tale {
     pub name: &'static str,
     pub before: &'static [&'static [Step]],
     pub players: usize,
     pub parts: &'static [&'static [Deed]],
-    /// How many commands of the sessions are counted, where that is said.
+    /// How many commands of the sessions are counted, if this is given.
     pub counted: Option<u64>,
     /// How often the second flag is raised in the end.
     pub raised: usize,
-    /// Whether nobody lives in the end.
+    /// Whether no transaction lives in the end.
     pub is_over: bool,
-    /// By which ways of detection and of telling watchers it is played.
+    /// The settings: ways of detection and of telling watchers.
     pub by: &'static [(Detect, Telling)],
 }
 
 impl Tale {
-    /// The deeds of a player: the last part is the last player's, and the others have those before it by their places. Where
-    /// they are more, the rest of them do what the last of these does.
+    /// The deeds of a player: the last player has the last part, the others have those before it by
+    /// their places. Further players have the same part as the last of these.
     pub fn part(&self, place: usize) -> &'static [Deed] {
         let last = self.parts.len().saturating_sub(1);
         let at = if place.saturating_add(1) == self.players {
@@ -109,7 +109,7 @@ impl Flags {
         self.counter(flag).load(Ordering::SeqCst)
     }
 
-    /// Whether the counter was seen at this count, in at most a million turns.
+    /// Whether the counter reached this count, within a million looks.
     pub fn reaches(&self, flag: Flag, count: usize) -> bool {
         for _ in 0..1000000u32 {
             if self.count(flag) == count {
@@ -121,7 +121,7 @@ impl Flags {
     }
 }
 
-/// Whoever takes part, by its place: it has a share, and watchers where it looks.
+/// A player by its place, with a share, and watchers if it looks.
 #[derive(Drop)]
 pub struct Entrant<N: Naming> {
     pub share: Share<N>,
@@ -129,14 +129,15 @@ pub struct Entrant<N: Naming> {
     pub place: usize,
 }
 
-/// What an entrant gives back: its share, and what it asked where that is compared.
+/// What a player returns: its share, and what it asked if that is compared.
 #[derive(Drop)]
 pub struct Left<N: Naming> {
     pub share: Share<N>,
     pub diary: Vec<Entry>,
 }
 
-/// An entrant for each share. The last one has all watchers where few take part, and else each has one while there are any.
+/// A player for each share. The last one has all watchers if few take part, otherwise each has one
+/// while there are any.
 fn entrants<N: Naming>(
     alloc: Global,
     shares: Vec<Share<N>>,
@@ -169,7 +170,7 @@ fn entrants<N: Naming>(
 }
 
 impl Story {
-    /// What one does who takes part.
+    /// The part of one player.
     fn takes_part<N: Naming, R: Wait + Abort>(
         &self,
         rt: &R,
@@ -186,7 +187,7 @@ impl Story {
         }
     }
 
-    /// All at once, each in a thread.
+    /// Runs all players at once, each in a thread.
     fn take_part_all<N: Naming + Send + Sync, R: Threads + Wait + Abort + Sync>(
         &self,
         rt: &R,
@@ -202,7 +203,7 @@ impl Story {
         )
     }
 
-    /// Plays with the shares and the watchers of a table, and gives the shares back.
+    /// Plays with the shares and the watchers of a table, and returns the shares.
     pub fn play<N: Naming + Send + Sync, R: Threads + Wait + Abort + Sync>(
         &self,
         rt: &R,

@@ -1,4 +1,4 @@
-//! What a crowd did, put to a manager alone.
+//! A crowd's commands, replayed on a manager.
 
 use crate::actor::Entry;
 use crate::wanted::same;
@@ -31,7 +31,8 @@ impl Done {
         }
     }
 
-    /// Which of these were done: a victim fell, an escalation, an insertion, a deletion, a rekey, a move, a wait.
+    /// Which of these were done: a victim, an escalation, an insertion, a deletion, a rekey, a move, a
+    /// wait.
     fn all(&self) -> [bool; 7] {
         [
             self.victim,
@@ -64,14 +65,14 @@ fn is_counted(entry: &Entry) -> bool {
     is_accepted(&entry.act.command(), &entry.answer)
 }
 
-/// Puts the entries into the order in which they were served. Those that were not counted changed
-/// nothing, so they may stand in any order behind the one of their count that was.
+/// Sorts the entries by the order in which they were served. Those that were not counted changed
+/// nothing, so their order after the counted one of their count does not matter.
 fn put_in_order(diary: &mut [Entry]) {
     diary.sort_unstable_by_key(|entry: &Entry| (entry.at, !is_counted(entry)));
 }
 
-/// A manager alone gives the same answers in the order in which they were given, and counts as many;
-/// and each kind of command was done.
+/// A manager alone gives the same answers in the same order, and the same counts; and each kind of
+/// command was done.
 pub fn replays<R: Abort>(rt: &R, manager: &mut Manager, mut diary: Vec<Entry>) {
     put_in_order(diary.as_mut_slice());
     let mut done = Done::nothing();

@@ -1,5 +1,6 @@
-//! What looks show: of a table that tells while somebody waits each wait and its end, and else the board that was told
-//! last; what notes show that a watcher learns; and lists of commands, up to the first that stops.
+//! What looks show: each wait and its end, if the table tells while somebody waits, and else the board
+//! that was last told; what the notes show that a watcher learns; and lists of commands, up to the
+//! first that stops.
 
 use crate::player::{Deed, End, Shows};
 use crate::stage::tell_all;
@@ -95,8 +96,8 @@ fn what_looks_and_notes_show(rt: HostRuntime) {
     tell_all(&rt, rt.alloc(), &TELLINGS)
 }
 
-/// A path is locked whole, another's waits at its second lock, and gets it at the commit. A refusal ends a list, and what
-/// stands behind it is not served.
+/// A path is locked whole; another's waits at its second lock, and is granted at the commit. A refusal
+/// ends a list, and what follows it is not served.
 const LISTS: [Tale; 1] = [Tale {
     name: "a list is served up to the first that stops",
     before: &[&[Step::Root, Step::File(0), Step::Begin, Step::Begin]],

@@ -1,5 +1,5 @@
-//! What ends the wait of a session that sleeps in `lock` in a thread of its own: what it comes to is told to it, whoever
-//! ended it and however.
+//! The end of a wait, for a session that sleeps in `lock` in its own thread: it is told the outcome,
+//! whatever ended the wait.
 
 use crate::player::{Deed, End};
 use crate::rows::PRELUDE;
@@ -11,10 +11,10 @@ use gl_modes::Mode::{IS, IX, S, X};
 use gl_modes::Refusal;
 use gl_shared::Stop;
 
-/// Transaction 0 holds a root, for which 1 is to wait.
+/// Transaction 0 holds a root, for which 1 will wait.
 const HELD: &[&[Step]] = &[&[Step::Root, Step::Begin, Step::Begin, Step::Lock(0, X, 0)]];
 
-/// Both hold the root in S, and 1 is to wait for X.
+/// Both hold the root in S, and 1 will wait for X.
 const BOTH_READ: &[&[Step]] = &[&[
     Step::Root,
     Step::Begin,
@@ -23,7 +23,7 @@ const BOTH_READ: &[&[Step]] = &[&[
     Step::Lock(1, S, 0),
 ]];
 
-/// Transaction 1 waits for X on the root, gets it, and holds it.
+/// Transaction 1 waits for X on the root, is granted it, and holds it.
 const GETS_IT: &[Deed] = &[
     Deed::Locks(1, X, 0, End::Granted),
     Deed::Answers(Step::Held(1, 0), Answer::Mode(X)),

@@ -1,5 +1,6 @@
-//! Who is woken: whoever sleeps for a transaction whose wait has ended, by whichever command of a list, however many they
-//! are. Sessions sleep, each for a wait that another transaction's lock made, and one more ends all waits at once.
+//! Each session is woken that sleeps for a transaction whose wait has ended, whichever command of a
+//! list ended it, and however many there are. Each sleeps for a wait that another transaction's lock
+//! began; one more session ends all waits at once.
 
 use crate::player::{Deed, End};
 use crate::stage::tell_all;
@@ -7,7 +8,7 @@ use crate::steps::Step;
 use crate::story::{EACH_DETECTION, Flag, Tale};
 use gl_modes::Mode::{S, X};
 
-/// A sleeper for a transaction that waits for a mode of the root.
+/// A session that sleeps for a transaction that waits for a mode of the root.
 macro_rules! sleeper {
     ($txn:expr, $mode:expr) => {
         &[
@@ -18,8 +19,8 @@ macro_rules! sleeper {
     };
 }
 
-/// Once all sleep for long, ends their waits by this list, of which so many are answered, and once all are awake, their
-/// transactions.
+/// After all have slept for long, ends their waits by this list, of which this many commands are
+/// answered; after all are awake, ends their transactions.
 macro_rules! waker {
     ($list:expr, $answered:expr) => {
         &[

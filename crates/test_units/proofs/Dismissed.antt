@@ -1,4 +1,4 @@
--- Who can be dismissed.
+-- Waits that can be dismissed.
 use Rattle.std.proofs.Common.{◌≡◌, ℕ, Bool, true, false, not, List, [], ◌∷◌, refl, ap, ◌∙◌, arith}
 use Rattle.std.specs.Prelude.{◌==◌, if◌then◌else◌}
 use Rattle.std.proofs.lemmas.Bool.Decides.{nat_tests}
@@ -17,7 +17,7 @@ stays-first most g w q r h =
     taken ws true h e = cc
     taken ws false h e = cc
 
--- a waiter behind another one can be dismissed
+-- a waiter after another one can be dismissed
 pub dismissed-behind : (most : ℕ) (g : Members) (q : List Waiter) (t u : ℕ) → is_ahead q t u ≡ true → front most g q ≡ []
     → front most g (without_waiter t q) ≡ []
 dismissed-behind most g [] t u a h = refl

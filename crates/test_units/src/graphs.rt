@@ -1,4 +1,4 @@
-//! Values from outside, and limits, as tables. Nodes are born in the order of their numbers.
+//! Calls and limits of a graph, as tables. Nodes are born in the order of their numbers.
 
 use crate::wanted::same;
 use gl_graph::laws::root_path_laws;
@@ -27,7 +27,7 @@ const N9: NodeId = NodeId { key: 8, birth: 9 };
 
 const N10: NodeId = NodeId { key: 9, birth: 10 };
 
-/// A place in a story, by the story's name and the number of the step in its part.
+/// A place in a scenario: its name, and the number of the step in its part.
 type Place = (&'static str, usize);
 
 /// A call that makes a node.
@@ -41,14 +41,14 @@ enum Make {
     Record(NodeId, &'static [u64]),
 }
 
-/// What is done, and what it comes to.
+/// A step and its outcome.
 #[derive(Clone, Copy)]
 enum Step {
     Makes(Make, Result<NodeId, Refusal>),
-    /// So many are made.
+    /// Makes this many.
     Many(u32, Make),
     Removes(NodeId),
-    /// So many records of a file with one index are made and removed.
+    /// Makes and removes this many records of a file with one index.
     ComeAndGo(u32, NodeId),
     Moves(NodeId, NodeId, Result<(), Refusal>),
     Len(usize),
@@ -60,7 +60,7 @@ enum Step {
     Keys(NodeId, &'static [u64]),
     Parents(NodeId, &'static [NodeId]),
     Interval(NodeId, usize, Option<NodeId>),
-    /// The interval of an index in which a key lies.
+    /// The interval of an index to which a key belongs.
     Lies(NodeId, u64, NodeId),
     /// Whether a file has records, and how many indexes.
     File(NodeId, bool, usize),
@@ -160,7 +160,7 @@ fn take(rt: &impl Abort, alloc: Global, graph: &mut Graph, place: Place, step: S
     }
 }
 
-/// Looks at what is asked, in a place of a story.
+/// Checks the answer to a question, at a place in a scenario.
 fn look(rt: &impl Abort, graph: &Graph, place: Place, step: Step) {
     match step {
         Step::Len(len) => same(rt, (place, graph.len()), (place, len)),
@@ -189,13 +189,13 @@ fn look(rt: &impl Abort, graph: &Graph, place: Place, step: Step) {
     }
 }
 
-/// What a story is called, how many nodes and bounds there may be where that is chosen, and its parts.
+/// A scenario: its name, the limits of nodes and bounds if these are chosen, and its parts.
 type Story = (&'static str, Option<(u32, u32)>, &'static [&'static [Step]]);
 
-/// The greatest limit of nodes that may be chosen.
+/// The greatest limit of nodes.
 const HIGHEST: u32 = 0x8000_0000;
 
-/// A graph within the limits that are chosen, or the usual ones.
+/// A graph with these limits, or the defaults.
 fn open(alloc: Global, limits: Option<(u32, u32)>) -> Graph {
     match limits {
         Some((most, bounds)) if most <= HIGHEST => Graph::with_limits(alloc, most, bounds),
@@ -203,7 +203,7 @@ fn open(alloc: Global, limits: Option<(u32, u32)>) -> Graph {
     }
 }
 
-/// Plays a story over a new graph.
+/// Plays a scenario on a new graph.
 fn play(rt: &impl Abort, alloc: Global, story: Story) {
     let (name, limits, parts) = story;
     let mut graph = open(alloc, limits);
@@ -215,7 +215,7 @@ fn play(rt: &impl Abort, alloc: Global, story: Story) {
     graph.law();
 }
 
-/// Plays each story over a graph of its own.
+/// Plays each scenario on its own graph.
 fn play_all(rt: &impl Abort, alloc: Global, stories: &[Story]) {
     for story in stories {
         play(rt, alloc, *story);
@@ -464,7 +464,7 @@ fn graphs_grow_within_their_limits(rt: HostRuntime) {
     root_path_laws();
 }
 
-/// A key for each of seven indexes, on either side of a bound at 100 in turn.
+/// A key for each of seven indexes, alternately on either side of the bound 100.
 const KEYS: &[u64] = &[50, 150, 50, 150, 50, 150, 50];
 
 /// The parents of a record with these keys: its file, and the interval of each key.
@@ -479,7 +479,7 @@ const UNDER: &[NodeId] = &[
     NodeId { key: 21, birth: 22 },
 ];
 
-/// A graph with a record of a file with so many indexes of one bound, and the record.
+/// A graph with a record of a file with this many indexes of one bound, and the record.
 fn graph_with_keys(alloc: Global, keys: &[u64]) -> Result<(Graph, NodeId), Refusal> {
     let mut graph = Graph::new(alloc);
     let db = graph.add_inner(&[])?;

@@ -11,7 +11,7 @@ use gl_modes::{Mode, Refusal};
 use std::alloc::Global;
 use std::process::Abort;
 
-/// Whether a slot may ask for a mode: it does not wait, and the mode is one to hold.
+/// Whether a slot may request a mode: it does not wait, and the mode can be held.
 #[tactic(auto, using(crate::proofs::Steps::caller_steps))]
 fn may_ask(header: &Header, slot: u8, mode: Mode) -> bool
     ensures below { result ≡ true → slot < 128 }
@@ -21,7 +21,7 @@ fn may_ask(header: &Header, slot: u8, mode: Mode) -> bool
     slot < 128 && mode != Mode::NL && header.wanted_by(slot).is_none()
 }
 
-/// Asks where the call's conditions hold.
+/// Requests a lock if the call's conditions hold.
 fn ask(header: &mut Header, slot: u8, mode: Mode) -> Result<Option<Asked>, Refusal> {
     if !may_ask(header, slot, mode) {
         return Ok(None);
@@ -29,12 +29,12 @@ fn ask(header: &mut Header, slot: u8, mode: Mode) -> Result<Option<Asked>, Refus
     Ok(Some(header.ask(slot, mode)?))
 }
 
-/// An ask that comes to this.
+/// A request with this outcome.
 fn asks(rt: &impl Abort, header: &mut Header, slot: u8, mode: Mode, wanted: Asked) {
     same(rt, ask(header, slot, mode), Ok(Some(wanted)));
 }
 
-/// Tries where the call's conditions hold.
+/// Tries if the call's conditions hold.
 fn try_ask(header: &mut Header, slot: u8, mode: Mode) -> Option<Try> {
     if !may_ask(header, slot, mode) {
         return None;
@@ -42,7 +42,7 @@ fn try_ask(header: &mut Header, slot: u8, mode: Mode) -> Option<Try> {
     Some(header.try_ask(slot, mode))
 }
 
-/// Drops a grant where there is one and the slot does not wait.
+/// Drops a grant if there is one and the slot does not wait.
 #[tactic(auto, using(crate::proofs::Steps::caller_steps))]
 fn drop_grant(header: &mut Header, slot: u8) -> Option<GrantList> {
     if header.mode_of(slot) == Mode::NL || header.wanted_by(slot).is_some() {
@@ -53,7 +53,7 @@ fn drop_grant(header: &mut Header, slot: u8) -> Option<GrantList> {
     Some(granted)
 }
 
-/// Drops a wait where there is one.
+/// Drops a wait if there is one.
 #[tactic(auto, using(crate::proofs::Steps::caller_steps))]
 fn drop_wait(header: &mut Header, slot: u8) -> Option<GrantList> {
     if header.wanted_by(slot).is_none() {
@@ -64,7 +64,7 @@ fn drop_wait(header: &mut Header, slot: u8) -> Option<GrantList> {
     Some(granted)
 }
 
-/// Dismisses a wait behind another one, which cannot let anybody in.
+/// Dismisses a wait after another one, which cannot grant anything.
 #[tactic(auto, using(crate::proofs::Steps::caller_steps))]
 fn dismiss_behind(header: &mut Header, slot: u8, other: u8) -> bool {
     if !header.ahead(slot, other) {
@@ -75,7 +75,7 @@ fn dismiss_behind(header: &mut Header, slot: u8, other: u8) -> bool {
     true
 }
 
-/// Something was dropped, and these were let in.
+/// Something was dropped, and these were granted.
 fn lets_in(rt: &impl Abort, granted: Option<GrantList>, wanted: &[(u8, Mode)]) {
     let granted = granted.expect(rt, "nothing is dropped");
     same(rt, granted.as_slice(), wanted);
@@ -101,7 +101,7 @@ fn a_conversion_passes_the_queue(rt: HostRuntime) {
     asks(&rt, &mut header, 0, Mode::S, Asked::Granted(Mode::S));
 }
 
-/// The slots from 1 on ask for S one after the other, and wait.
+/// The slots from 1 on request S one after the other, and wait.
 fn readers_wait(rt: &impl Abort, header: &mut Header, last: u8) {
     for slot in 1..=last {
         asks(rt, header, slot, Mode::S, Asked::Waiting);
@@ -116,7 +116,7 @@ fn readers_are_granted(rt: &impl Abort, granted: &GrantList, last: u8) {
     }
 }
 
-/// A writer holds the node, and releases it when so many readers wait.
+/// A writer holds the node, and releases it when this many readers wait.
 fn let_readers_in(rt: &impl Abort, alloc: Global, last: u8) {
     let mut header = Header::new(alloc);
     asks(rt, &mut header, 0, Mode::X, Asked::Granted(Mode::X));
@@ -155,7 +155,7 @@ fn the_group_falls(rt: HostRuntime) {
     same(&rt, header.group(), Mode::IS);
 }
 
-/// Three wait behind a reader, in this order.
+/// Three wait for a reader, in this order.
 fn three_wait(rt: &impl Abort, header: &mut Header) {
     for (slot, mode) in [(1, Mode::X), (2, Mode::IX), (3, Mode::IS)] {
         same(rt, header.would_grant(slot, mode), false);

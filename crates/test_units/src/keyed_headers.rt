@@ -1,4 +1,4 @@
-//! The headers of all nodes: found by the node's key, put in and taken out.
+//! The headers of all nodes: found by the node's key, inserted and removed.
 
 ghost use Rattle.std.specs.Prelude.{◌≡◌, ◌≢◌, ◌<◌, false, true};
 ghost use Rattle.gl_modes.specs.declared.mode.Mode.TheVariants.{NL};
@@ -28,7 +28,7 @@ fn is_alone(headers: &Headers, node: NodeId) -> bool
     !headers.is_idle(node) || headers.is_free(node.key)
 }
 
-/// Whether a slot may ask for a mode on a node.
+/// Whether a slot may request a mode on a node.
 fn may_ask(headers: &Headers, slot: u8, node: NodeId, mode: Mode) -> bool
     ensures below { result ≡ true → slot < 128 }
     ensures not_waiting { result ≡ true → is_among_waiters slot (queue_of headers.now.entries node) ≡ false }
@@ -38,7 +38,7 @@ fn may_ask(headers: &Headers, slot: u8, node: NodeId, mode: Mode) -> bool
     slot < 128 && mode != Mode::NL && !waits(headers, slot, node) && is_alone(headers, node)
 }
 
-/// Asks where the call's conditions hold.
+/// Requests a lock if the call's conditions hold.
 fn ask(
     headers: &mut Headers,
     slot: u8,
@@ -52,7 +52,7 @@ fn ask(
     Ok(Some(headers.ask(slot, node, held, mode)?))
 }
 
-/// An ask that comes to this.
+/// A request with this outcome.
 fn asks(
     rt: &impl Abort,
     headers: &mut Headers,
@@ -64,7 +64,7 @@ fn asks(
     same(rt, ask(headers, slot, node, mode), Ok(wanted));
 }
 
-/// Whether an ask would be granted at once.
+/// Whether a request would be granted at once.
 fn would_grant(headers: &Headers, slot: u8, node: NodeId, mode: Mode) -> bool {
     headers.would_grant(slot, node, headers.mode_of(slot, node), mode)
 }
@@ -74,7 +74,7 @@ fn new_headers(rt: &impl Abort, alloc: Global) -> Headers {
     Headers::new(alloc).expect(rt, "no memory")
 }
 
-/// Drops a grant where there is one and the slot does not wait.
+/// Drops a grant if there is one and the slot does not wait.
 fn drop_grant(headers: &mut Headers, slot: u8, node: NodeId) -> Option<GrantList> {
     if waits(headers, slot, node) || !headers.holders(node).contains(slot) {
         return None;
@@ -84,7 +84,7 @@ fn drop_grant(headers: &mut Headers, slot: u8, node: NodeId) -> Option<GrantList
     Some(granted)
 }
 
-/// Drops a wait where there is one.
+/// Drops a wait if there is one.
 fn drop_wait(headers: &mut Headers, slot: u8, node: NodeId) -> Option<GrantList> {
     if !waits(headers, slot, node) {
         return None;
@@ -94,7 +94,7 @@ fn drop_wait(headers: &mut Headers, slot: u8, node: NodeId) -> Option<GrantList>
     Some(granted)
 }
 
-/// Gives a node to a slot by a header that is prepared for it, where its key is free.
+/// Gives a node to a slot by a header that is prepared for it, if its key is free.
 fn place(headers: &mut Headers, slot: u8, node: NodeId) -> Result<bool, Refusal> {
     if slot >= 128 || !headers.is_free(node.key) {
         return Ok(false);
@@ -114,7 +114,7 @@ fn gets(rt: &impl Abort, headers: &mut Headers, slot: u8, node: NodeId, mode: Mo
     asks(rt, headers, slot, node, mode, Some(Asked::Granted(mode)));
 }
 
-/// Something was dropped, and these were let in.
+/// Something was dropped, and these were granted.
 fn lets_in(rt: &impl Abort, granted: Option<GrantList>, wanted: &[(u8, Mode)]) {
     let granted = granted.expect(rt, "nothing is dropped");
     same(rt, granted.as_slice(), wanted);

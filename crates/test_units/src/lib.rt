@@ -1,5 +1,5 @@
-//! The calls of the lower crates: modes, sets of slots, boards, the lock graph, headers, and lists under nodes. Each on
-//! its happy path, and at its limits.
+//! The calls of the lower crates: modes, sets of slots, boards, the lock graph, headers, and lists
+//! under nodes. Each in its normal case, and at its limits.
 #![tactic(auto)]
 
 #[cfg(test)]

@@ -1,4 +1,4 @@
-//! A list under nodes beside an `IndexMap` that is asked the same.
+//! A list under nodes, compared with an `IndexMap`.
 
 use crate::wanted::same;
 use gl_modes::NodeId;
@@ -14,14 +14,14 @@ fn node(number: u64) -> NodeId {
     }
 }
 
-/// A list, and a map of the same.
+/// A list, and a map of the same rows.
 #[derive(Drop)]
 struct Pair {
     list: NodeMap<u32>,
     map: IndexMap<NodeId, u32>,
 }
 
-/// Puts a value last, unless the node has one.
+/// Adds a value at the end, unless the node has one.
 fn put(list: &mut NodeMap<u32>, number: u64, value: u32) -> Result<(), AllocError> {
     let node = node(number);
     list.reserve_one()?;
@@ -31,20 +31,20 @@ fn put(list: &mut NodeMap<u32>, number: u64, value: u32) -> Result<(), AllocErro
     Ok(())
 }
 
-/// Puts a value into both.
+/// Adds a value to both.
 fn put_in_both(rt: &impl Abort, pair: &mut Pair, number: u64, value: u32) {
     same(rt, put(&mut pair.list, number, value).is_ok(), true);
     same(rt, pair.map.insert(node(number), value).is_ok(), true);
 }
 
-/// Both hold the same rows in the same order.
+/// Both have the same rows in the same order.
 fn rows_are_alike(rt: &impl Abort, pair: &Pair) {
     for place in 0..=pair.map.len() {
         same(rt, pair.list.get_index(place), pair.map.get_index(place));
     }
 }
 
-/// Both are as long, hold the same rows in the same order, and find each of these nodes alike.
+/// Both have the same length and the same rows in the same order, and find each of these nodes alike.
 fn are_alike(rt: &impl Abort, pair: &Pair) {
     same(rt, pair.list.len(), pair.map.len());
     same(rt, pair.list.is_empty(), pair.map.is_empty());
@@ -55,7 +55,7 @@ fn are_alike(rt: &impl Abort, pair: &Pair) {
     }
 }
 
-/// A list of as many rows, beside the map of the same.
+/// A list of this many rows, and the map of the same.
 fn filled(rt: &impl Abort, alloc: Global, rows: u64) -> Pair {
     let mut pair = Pair {
         list: NodeMap::new(alloc),
@@ -67,7 +67,7 @@ fn filled(rt: &impl Abort, alloc: Global, rows: u64) -> Pair {
     pair
 }
 
-/// Writes a value into both where they have the node.
+/// Writes a value into both if they have the node.
 fn write(pair: &mut Pair, number: u64, value: u32) {
     if let Some(place) = pair.list.get_mut(node(number)) {
         *place = value;
@@ -98,7 +98,7 @@ fn a_list_is_what_a_map_is(rt: HostRuntime) {
     are_alike(&rt, &pair);
 }
 
-/// Writes the first value, the last one and one that is not there, and takes all away.
+/// Writes the first value, the last one and one that is missing, and removes all.
 fn writes_and_clears(rt: &impl Abort, alloc: Global, rows: u64) {
     let mut pair = filled(rt, alloc, rows);
     for number in [0, rows.saturating_sub(1), rows] {

@@ -1,4 +1,4 @@
-//! Spellings, order and compatibility of modes; numbers and names of refusals.
+//! Names, order and compatibility of modes; numbers and names of refusals.
 
 use crate::wanted::same;
 use gl_modes::{Mode, NodeId, Refusal, compatible, covers, mode_laws, sup};

@@ -3,7 +3,7 @@
 use crate::wanted::same;
 use gl_slots::{Slots, from_words, to_words};
 
-/// Which of these slots a set has: those at its ends, some between, and two that are none.
+/// Which of these a set has: slots at its ends, some between, and two numbers that are no slots.
 fn seen_in(set: Slots) -> [bool; 8] {
     [
         set.contains(0),
@@ -17,7 +17,7 @@ fn seen_in(set: Slots) -> [bool; 8] {
     ]
 }
 
-/// Slots from both ends and between.
+/// Slots at both ends and between.
 fn four() -> Slots {
     let mut set = Slots::empty();
     for slot in [127, 64, 0, 5] {

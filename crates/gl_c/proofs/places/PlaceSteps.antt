@@ -40,13 +40,13 @@ module _
 module _
     {M : Type 1} {𝓤 : Ura M} {𝓛 : Logic 𝓤} {K : Type 0}
     {Γ : List (Item 𝓤)} {G : Goal 𝓤 𝓛.H} where
-  -- what is true may be said
+  -- a true fact may be added
   pub said : K → (φ : Type 0) → φ → Step K 𝓛 (raw (fact 𝓤 φ) ∷ Γ) G Γ G
   said t φ x = step (λ s.
       use0 𝓛 (raw (fact 𝓤 φ)) (fact_i 𝓤 φ (emp 𝓤) x) $
       s)
 
-  -- of a parameter that was used up nothing is left
+  -- nothing is left of a parameter that was used up
   pub used_up : K → Step K 𝓛 (‵ (fsep ftrue ftrue) ∷ Γ) G Γ G
   used_up t = step (λ s.
       nothing t $
@@ -73,7 +73,7 @@ module _
       join t $
       rest α β))
 
-  -- what a call asks of them, where its types live forever, before the rest that it asks
+  -- what a call needs, if its types live forever, before its other conditions
   pub outlived : K → (α β : Lft) {P : Item 𝓤}
       → Step K 𝓛
       ((raw (fact 𝓤 (α ⊑ [])) ⊛ raw (fact 𝓤 (β ⊑ [])) ⊛ P) ∷ Γ) G
@@ -93,7 +93,7 @@ module _
       (‵ P ∷ Γ) G
   with_pointer t P p = step (λ s.
       let word : List Val = ptr_val p ∷ [] in
-      -- after it nothing comes
+      -- there is nothing after it
       nothing t $
       feq_i t (List Val) word word refl $
       fjoin t $
@@ -101,7 +101,7 @@ module _
       fjoin t $
       s)
 
-  -- a call is back: what it returned, the two things that it says, and the tokens
+  -- a call returns: its result, its two facts, and the tokens
   pub is_back : K → Soaks G → {R L : Type 0} {i : Item 𝓤}
       → (Toks : Item 𝓤) (Own : R → Item 𝓤) (Left : L → Item 𝓤) (P Q : R → Item 𝓤)
       → ent 𝓤 (mean 𝓛 i) (mean 𝓛 (later (some (λ (r : R).
@@ -121,9 +121,9 @@ module _
       pick t (λ l.
       split t $
       drop t $
-      -- the two things that it says
+      -- its two facts
       split t $
-      -- what it returned, and the tokens last
+      -- its result, and the tokens last
       move t (2 ∷ []) $
       split t $
       move t (1 ∷ 2 ∷ 3 ∷ []) $

@@ -78,7 +78,7 @@ module _
       -- the pointer's word says all of the pointer
       fsplit t $
       feq_l t (λ first.
-      -- after the handle nothing comes
+      -- there is nothing after the handle
       fsplit t $
       move t (1 ∷ []) $
       drop t $
@@ -93,7 +93,7 @@ module _
   together t a p x h = step (λ s.
       let first = ptr_val p ∷ [] in
       let all = place p h ∷ [] in
-      -- after the handle nothing comes
+      -- there is nothing after the handle
       nothing t $
       move t (1 ∷ []) $
       fjoin t $

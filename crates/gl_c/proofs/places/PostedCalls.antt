@@ -19,7 +19,7 @@ use Rattle.std.proofs.BoxSteps.Steps.{box_out, box_in}
 use Rattle.gl_c.specs.contracts.watchers.watcher.Watcher as session
 use Rattle.gl_c.proofs.watchers.watcher.Watcher.TheLaws as session_laws
 
--- a session
+-- a watcher
 abbrev pub Sess : RattleType
 Sess = arg (bare (layout session.the_row)) no session.the_row
 
@@ -41,7 +41,7 @@ heap_laws_passed =
 abbrev pub no_drop : Dict
 no_drop = impl ("gl_c::Destruct++none::drop" ∷ []) (tcons (layout Heap) tnil) dnil
 
--- a session's box
+-- a watcher's box
 abbrev pub Boxing : box.Bx
 Boxing = record {
   row = Sess;

@@ -1,4 +1,4 @@
--- What it is to go back to a savepoint, to those who are told, who wait and who watch. For Guarded.serve_back.
+-- Rolling back to a savepoint, for notices, waits and watchers. For Guarded.serve_back.
 use Rattle.gl_slots.specs.declared.slots.Slots.{Slots}
 use Rattle.gl_slots.specs.Limit.{most_slots}
 use Rattle.std.specs.Prelude.{◌≡◌, ℕ, ◌+◌, ◌<◌, ◌≤◌, ◌==◌, ◌||◌, false, List, [], ◌∷◌, Option, Some, None, Ok, map, is_none}
@@ -45,7 +45,7 @@ use Rattle.gl_c.proofs.serving.RowCalls.{leaves_idle, low}
 use Rattle.gl_c.proofs.serving.Serving.{Knows}
 use Rattle.gl_window.specs.Tellings.{still_known}
 
--- One node after the other is unlocked: all live on, nobody begins to wait, and the limit and the way of detection stay.
+-- One node after the other is unlocked: all live on, nobody begins to wait, and the limit and the way of detection are unchanged.
 
 goes_on : (ns : List NodeId) (s s' : State) (t u : ℕ) → Unlocks s t ns s' → GoesOn s s' u
 goes_on [] s s' t u h = lives_on_same (s.txns u) (s'.txns u) (ap (λ (x : State). x.txns u) h)
@@ -57,7 +57,7 @@ same_detect : (ns : List NodeId) (s s' : State) (t : ℕ) → Unlocks s t ns s' 
 same_detect [] s s' t h = ap (λ (x : State). x.detect) h
 same_detect (n ∷ ns) s s' t h = same_detect ns (unlocked s t n) s' t h.2
 
--- a step counts none less
+-- a step never lowers the count
 step_more : (s : State) (c : Command) (a : Answer) (list : Told) (s' : State) → Step s c a list s' → s.accepted ≤ s'.accepted
 step_more s c a list s' step =
     split (accepts c a)
@@ -93,7 +93,7 @@ module _ (m mid : ManagerView) (t : TxnId) (mark k : ℕ) (list : Told) (h : Tak
       by (Some Condemned) e = refl
       by (Some (Waiting n w)) e = ap is_wait (sym ((on u).waits n w e)) ∙ none u
 
-  -- whoever waits no more is told
+  -- each transaction whose wait ends is told
   ended : (slots : Slots) → ((u : ℕ) → u < most_slots → has_slot slots u ≡ (false || list_any (λ x. x.0.slot == u) list))
       → HasEnded (state_of m) (state_of mid) slots
   ended slots is law u n below was gone =
@@ -102,13 +102,13 @@ module _ (m mid : ManagerView) (t : TxnId) (mark k : ℕ) (list : Told) (h : Tak
       told_wakes list slots u is below
       (ap (is_told u) h.tells ∙ told_over (state_of m) law u b.0 n w.0 w.1 (state_of mid) (on u.slot) gone)
 
--- The same, with the rows that are let go behind it.
+-- The same, with the rows that are then let go.
 module _ (g : RegistryView) (v : RegistryView) (t : TxnId) (mark k : ℕ) (list : Told)
     (h : GoesBackTo t mark g.manager g.rows (Ok k) list v.manager v.rows) where
   left : LeavesAll (state_of h.0) (state_of v.manager)
   left = upkeep_leaves (state_of h.0) (state_of v.manager) (each_goes (state_of h.0) (state_of v.manager) g.rows.names v.rows.names _ h.2.goes)
 
-  -- the count of commands does not fall
+  -- the count of commands is not lowered
   pub back_counts : g.manager.accepted ≤ v.manager.accepted
   back_counts =
       let more = run_counts t h.1.nodes h.1.replies (state_of g.manager) (state_of h.0) h.1.run in
@@ -130,7 +130,7 @@ module _ (g : RegistryView) (v : RegistryView) (t : TxnId) (mark k : ℕ) (list 
   back_ended slots is law u n below was gone =
       ended g.manager h.0 t mark k list h.1 slots is law u n below was (sym (ap (λ (x : State). waits_on x u n) left.is) ∙ gone)
 
--- a transaction has gone back: its notices stand in their boxes, and the board is shown
+-- a transaction was rolled back: its notices are in their boxes, and the snapshot is shown
 pub back_some : (g after : GuardedView) (t : TxnId) (mark k : ℕ) (list : Told) (v : RegistryView) (boxes : List Slot) (ended : Slots)
     → GoesBackTo t mark g.manager g.rows (Ok k) list v.manager v.rows → Delivers g.boxes list boxes
     → (after.manager ≡ v.manager) × (after.boxes ≡ boxes) × (after.ended ≡ ended) × (after.rows ≡ v.rows)

@@ -1,4 +1,4 @@
--- What a path is to those who are told, who wait and who watch. For Guarded.serve_path.
+-- A path, for notices, waits and watchers. For Guarded.serve_path.
 use Rattle.gl_slots.specs.declared.slots.Slots.{Slots}
 use Rattle.gl_slots.specs.Limit.{most_slots}
 use Rattle.std.specs.Prelude.{◌≡◌, ◌⊎◌, ℕ, zero, suc, ◌+◌, ◌<◌, ◌≤◌, ◌==◌, ◌||◌, not, Bool, true, false, [], length, OnErr, Option, Result}
@@ -54,7 +54,7 @@ use Rattle.gl_c.proofs.serving.Showing.{knows_if}
 use Rattle.gl_c.specs.managers.Serving.{KnowsWaits}
 use Rattle.gl_c.specs.locks.Paths.{ends_waiting, goes_well, is_left_waiting, leaves_on_path}
 
--- a lock leaves the limit of transactions
+-- a lock does not change the limit of transactions
 settled_most : (c : Victims) (k : ℕ) (s s' : State) (t : ℕ) → SettledWithin c k s t s' → s'.most ≡ s.most
 settled_most c zero s s' t h = ap (λ z. z.most) h.1
 settled_most c (suc k) s s' t h = settled_most c k (condemned s h.0) s' t h.2
@@ -95,7 +95,7 @@ grant_is (answer.Escalated x) e = absurd (cc e)
 grant_is (answer.Mode m) e = absurd (cc e)
 grant_is (answer.Effect x) e = absurd (cc e)
 
--- behind an ask that the path goes on from, nobody is told
+-- after a request that does not end the path, nobody is told
 module _ (node asked : NodeId) (r : Says) (on : goes_on node asked r ≡ true) where
   both : (grants r.0 ≡ true) × ((length r.1 == 0) ≡ true)
   both = and_both (grants r.0) (length r.1 == 0) (and_both _ _ on).0
@@ -110,7 +110,7 @@ module _ (t : TxnId) (ask : Ask) (m : ManagerView) (first : Ask) (r : Says) (m' 
   counts : Counts (state_of m) (lock_of t first) r.0 r.1 (state_of m')
   counts = step_counts (state_of m) (lock_of t first) r.0 r.1 (state_of m') asks.step
 
-  -- an ask is refused and changes nothing, or is counted
+  -- a request is refused and changes nothing, or is counted
   same_or_more : ((m' ≡ m) × (r.1 ≡ [])) ⊎ (m'.accepted ≡ m.accepted + 1)
   same_or_more = by (is_refused r.0) refl
     where
@@ -135,19 +135,19 @@ module _ (t : TxnId) (ask last : Ask) (r : Says) (m' : ManagerView) where
       (λ (same : (m' ≡ path.2) × (r.1 ≡ [])). let is : m'.accepted ≡ path.2.accepted = ap (λ (x : ManagerView). x.accepted) same.0 in omega (arith, more, is))
       (λ (later : path.2.accepted < m'.accepted). omega (arith, more, later)) (path_counts k path.2 path.5))
 
-  -- it leaves the way of detection
+  -- it does not change the way of detection
   pub path_detect : (k : ℕ) (m : ManagerView) → IsPath k t ask m last r m' → (state_of m').detect ≡ (state_of m).detect
   path_detect zero m path = steps_keep_detect (state_of m) (state_of m') (lock_of t last) r.0 r.1 path.0.step
   path_detect (suc k) m path = path_detect k path.2 path.5 ∙ steps_keep_detect (state_of m) (state_of path.2) (lock_of t path.0) path.1.0 path.1.1 path.3.step
 
-  -- who is told stands by rising slot
+  -- the notices are sorted by slot
   pub path_rises : (k : ℕ) (m : ManagerView) → (state_of m).most ≤ most_slots → IsPath k t ask m last r m' → RisingTo 0 r.1 most_slots
   path_rises zero m few path = step_rises (state_of m) (lock_of t last) r.0 r.1 (state_of m') few path.0.step
   path_rises (suc k) m few path =
       path_rises k path.2
       (subst (λ n. n ≤ most_slots) (sym (lock_most t path.0 (state_of m) (state_of path.2) path.1.0 path.1.1 path.3.step)) few) path.5
 
-  -- where nobody waits and it leaves nobody waiting, nobody waits behind it
+  -- if nobody waited and it leaves nobody waiting, nobody waits after it
   pub path_quiet : (k : ℕ) (m : ManagerView) → NobodyWaits (state_of m) → (r.0 ≡ answer.Waiting → ⊥) → IsPath k t ask m last r m' → NobodyWaits (state_of m')
   path_quiet zero m idle goes path = nobody_waits_on (state_of m) (state_of m') (lock_of t last) r.0 r.1 idle goes path.0.step
   path_quiet (suc k) m idle goes path =
@@ -155,7 +155,7 @@ module _ (t : TxnId) (ask last : Ask) (r : Says) (m' : ManagerView) where
       path_quiet k path.2
       (nobody_waits_on (state_of m) (state_of path.2) (lock_of t path.0) path.1.0 path.1.1 idle (λ is. absurd (cc (is, yes.1))) path.3.step) goes path.5
 
-  -- where its transaction is no party to a wait, and its last ask is refused, or is granted and tells nobody, it spares all waits
+  -- if its transaction is no party to a wait, and its last request is refused, or is granted and tells nobody, it spares all waits
   path_spares : (set : Slots) (k : ℕ) (m : ManagerView) → IsLawful (state_of m) → (state_of m).most ≤ most_slots → HasParties (state_of m) set
       → has_slot set t.slot ≡ false → (refuses r.0 ≡ true) ⊎ ((grants r.0 ≡ true) × (r.1 ≡ [])) → IsPath k t ask m last r m'
       → Spares set (state_of m) (state_of m')
@@ -174,7 +174,7 @@ module _ (t : TxnId) (ask last : Ask) (r : Says) (m' : ManagerView) where
       (steps_keep_law (state_of m) (state_of path.2) (lock_of t path.0) path.1.0 path.1.1 law path.3.step)
       (subst (λ n. n ≤ most_slots) (sym (lock_most t path.0 (state_of m) (state_of path.2) path.1.0 path.1.1 path.3.step)) few) first.parties out well path.5)
 
-  -- whose wait it ends is told by its last ask
+  -- its last request tells each transaction whose wait it ends
   pub path_ended : (k : ℕ) (m : ManagerView) (slots : Slots) → ((u : ℕ) → u < most_slots → has_slot slots u ≡ (false || list_any (λ x. x.0.slot == u) r.1))
       → IsPath k t ask m last r m' → HasEnded (state_of m) (state_of m') slots
   path_ended zero m slots is path law u n below was gone =
@@ -191,14 +191,14 @@ module _ (t : TxnId) (ask last : Ask) (r : Says) (m' : ManagerView) where
           let told = ends_waits (state_of m) (state_of path.2) (lock_of t path.0) path.1.0 path.1.1 u n law path.3.step was e in
           absurd (true≢false (sym told ∙ ap (λ (l : Told). is_told u l || false) (none_told ask.0 path.0.0 path.1 path.4)))
 
--- The same of a call that locks a path.
+-- The same for a call that locks a path.
 module _ (t : TxnId) (ask : Ask) (m m' : ManagerView) (told : Told) where
-  -- what is told, also where it is refused
+  -- the notices, even if it is refused
   told_is : (result : Result Reached Refusal) → OnErr result (told ≡ []) → (said (reaching told) result).1 ≡ told
   told_is (Ok x) none = refl
   told_is (Err r) none = sym none
 
-  -- a path that leaves nobody waiting is not answered so
+  -- a path that leaves nobody waiting is not answered with a wait
   none_waiting : (result : Result Reached Refusal) → ends_waiting result ≡ false → (said (reaching told) result).0 ≡ answer.Waiting → ⊥
   none_waiting (Ok x) not_so is = by x.locked not_so is
     where
@@ -238,7 +238,7 @@ module _ (t : TxnId) (ask : Ask) (m m' : ManagerView) (told : Told) where
     pub stays_quiet : NobodyWaits (state_of m) → ends_waiting result ≡ false → NobodyWaits (state_of m')
     stays_quiet idle goes = path_quiet t ask path.1 says m' path.0 m idle (none_waiting result goes) path.2
 
-    -- what is known of the waits behind it
+    -- what is known of the waits after it
     pub path_known : IsLawful (state_of m) → (state_of m).most ≤ most_slots → (shown : Option Strip) (parties : Option Slots)
         → KnowsWaits (state_of m) shown parties → KnowsWaits (state_of m') shown (still_known parties (λ known. leaves_on_path known t result told))
     path_known law few shown parties =

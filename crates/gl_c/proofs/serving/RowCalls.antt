@@ -1,4 +1,4 @@
--- What a call about rows is to those who are told, who wait and who watch. For Guarded.serve_row.
+-- A call about rows, for notices, waits and watchers. For Guarded.serve_row.
 use Rattle.gl_slots.specs.declared.slots.Slots.{Slots}
 use Rattle.gl_slots.specs.Limit.{most_slots}
 use Rattle.std.specs.Prelude.{◌≡◌, ◌⊎◌, ℕ, ◌<◌, ◌≤◌, ◌==◌, ◌||◌, ◌&&◌, not, true, false, List, []}
@@ -62,7 +62,7 @@ use Rattle.gl_header.specs.Header.{is_empty}
 use Rattle.gl_model.specs.Lawful.{IsLawful}
 use Rattle.gl_c.proofs.serving.Serving.{Knows, same_view, shows_same}
 
--- which node it is makes no difference to boxes, and to whose wait is taken back
+-- which node it is makes no difference to boxes, and to whose wait is cancelled
 emptied_as : (v u : RowsView) (c : RowCall) (boxes : List Slot) → emptied (own_command v c) boxes ≡ emptied (own_command u c) boxes
 emptied_as v u (call.File ps) boxes = refl
 emptied_as v u (call.Lock t row keys m) boxes = refl
@@ -83,7 +83,7 @@ names_as v u (call.Abort t) k = refl
 names_as v u (call.Cancel t) k = refl
 names_as v u (call.Escalate t n) k = refl
 
--- and to whether its waits are left
+-- and to whether its waits are spared
 spares_as : (v u : RowsView) (c : RowCall) (set : Slots) (a : Answer) → spares_waits set (own_command v c) a ≡ spares_waits set (own_command u c) a
 spares_as v u (call.File ps) set a = refl
 spares_as v u (call.Lock t row keys m) set a = refl
@@ -128,7 +128,7 @@ lock_not_refused (locked.Granted m) = refl
 lock_not_refused locked.Waiting = refl
 lock_not_refused locked.Victim = refl
 
--- A call that comes to nothing changes nothing.
+-- A call that is refused, or whose file is not a file of rows, changes nothing.
 module _ (m : ManagerView) (v : RowsView) (a : RowAnswer) (told : Told) (m' : ManagerView) (v' : RowsView) (so : comes_to_nothing (answer_in a) ≡ true) where
   abbrev Same : Type 0
   Same = (told ≡ []) × (m' ≡ m) × (v' ≡ v)
@@ -194,7 +194,7 @@ module _ (m : ManagerView) (v : RowsView) (a : RowAnswer) (told : Told) (m' : Ma
 
 -- Any other is a step of its own command.
 
--- records that come and go leave who waits
+-- records that are made and removed do not change who waits
 pub leaves_idle : (s s' : State) → LeavesAll s s' → NobodyWaits s → NobodyWaits s'
 leaves_idle s s' left idle t = ap (λ (x : State). is_wait (status_of x t)) left.is ∙ idle t
 
@@ -213,7 +213,7 @@ low s s' (inl same) = let as_many = ap (λ (x : State). x.accepted) same in omeg
 low s s' (inr later) = omega (arith, later)
 
 module _ (m : ManagerView) (c : Command) (told : Told) (m' : ManagerView) where
-  -- where it was not refused it is a step
+  -- if it was not refused it is a step
   steps : (o : Option Answer) (x : Answer) → o ≡ Some x → is_refused x ≡ false → CarriesOut m c o told m' → StepsAmid m c x told m'
   steps None x is came h = absurd (none-some x is)
   steps (Some a) x is came (inl amid) = subst (λ y. StepsAmid m c y told m') (same_Some a x is) amid
@@ -241,7 +241,7 @@ module _ (m : ManagerView) (c : Command) (told : Told) (m' : ManagerView) where
     told_rises few =
         step_rises h.ahead c x told h.behind (subst (λ n. n ≤ most_slots) (sym (ap (λ (x : State). x.most) left_before.is)) few) h.step
 
-    -- what is known of the waits behind it
+    -- what is known of the waits after it
     known_still : IsLawful (state_of m) → (state_of m).most ≤ most_slots → (shown : Option Strip) (parties : Option Slots)
         → KnowsWaits (state_of m) shown parties → KnowsWaits (state_of m') shown (still_known parties (λ known. leaves_waits known c x told))
     known_still law few shown parties known =
@@ -286,7 +286,7 @@ module _ (g : RegistryView) (c : RowCall) (a : RowAnswer) (told : Told) (v : Reg
       → HasEnded (state_of g.manager) (state_of v.manager) slots
   row_ends = ends g.manager command told v.manager x came amid
 
--- A call that came to nothing.
+-- A call that was refused, or whose file is not a file of rows.
 pub row_none : (g : GuardedView) (c : RowCall) (a : RowAnswer) (told : Told) (v : RegistryView)
     → AppliesCall (registry_in g) c a told v → CarriesOut g.manager (own_command (naming c g.rows v.rows) c) (answer_in a) told v.manager
     → comes_to_nothing (answer_in a) ≡ true → Knows g.manager g.shown g.parties
@@ -311,7 +311,7 @@ row_none g c a told v applies own so knows =
     by (Some x) = shows_same (is_none (still_known g.parties (λ known. leaves_waits known (own_command (naming c g.rows v.rows) c) x told)))
         (board_of (state_of v.manager)) g.shown
 
--- One that came to something. Its notices went by the command that names no node.
+-- Any other call. Its notices are delivered by the command that names no node.
 pub row_some : (g after : GuardedView) (c : RowCall) (a : RowAnswer) (told : Told) (v : RegistryView) (boxes : List Slot) (ended : Slots)
     → AppliesCall (registry_in g) c a told v → CarriesOut g.manager (own_command (naming c g.rows v.rows) c) (answer_in a) told v.manager
     → (x : Answer) → answer_in a ≡ Some x → is_refused x ≡ false

@@ -1,4 +1,4 @@
--- What a command does, put together: of one that is not accepted, and of one that is; and what a path does.
+-- The effect of a command, put together: one that is not accepted, one that is, and a path.
 use Rattle.gl_slots.specs.declared.slots.Slots.{Slots}
 use Rattle.std.specs.Prelude.{◌≡◌, ℕ, ◌<◌, Bool, true, false, List, [], Option, Some, None, Result, is_none}
 use Rattle.std.proofs.Common.{refl, sym, ap, subst, ◌∙◌, inl, arith}
@@ -26,7 +26,7 @@ use Rattle.gl_c.specs.managers.Guarded.{GuardedView, registry_in}
 use Rattle.gl_c.specs.locks.Paths.{ServesPath, leaves_on_path}
 use Rattle.gl_c.specs.managers.Serving.{KnowsWaits, Serves, ServesUnless, ShowsOn, Wakes}
 
--- where nothing is shown
+-- nothing is shown
 pub shows_same : (due : Bool) (board : Board) (shown : Option Strip) → ShowsOn due board shown shown
 shows_same due board None = refl
 shows_same due board (Some s) = (s, refl, record { book = refl; detect = refl; list = inl refl })
@@ -38,7 +38,7 @@ Knows m shown parties = KnowsWaits (state_of m) shown parties
 some_is : (a b : Answer) → Some a ≡ Some b → a ≡ b
 some_is a b e = cc e
 
--- a command that the registry makes
+-- a command that the registry carries out
 pub record Made (v : RegistryView) (c : Command) (a : Answer) (told : Told) (v' : RegistryView) : Type 0 where
   pub untouched : touches_rows v c ≡ false
   pub applies : Applies v.manager c a told v'.manager
@@ -55,12 +55,12 @@ made v v' c a told = by (touches_rows v c) refl
       rows = subst (λ (x : Answer). LeavesRows (dropped_by c x) v.rows v'.rows) (sym (some_is a h.0 h.1)) h.3;
     }
 
--- so it is for C
+-- the same for C
 pub serves_some : (b : Bool) (g g' : GuardedView) (c : Command) (a : Answer) (told : Told) → b ≡ false → Serves g c a told g'
     → ServesUnless b g c (Some a) told g'
 serves_some b g g' c a told is h = subst (λ (x : Bool). ServesUnless x g c (Some a) told g') (sym is) (a, refl, h)
 
--- where manager and rows are the same the registry is, and so is all
+-- if manager and rows are the same, so is the registry, and so is everything
 pub same_registry : (v u : RegistryView) → v.manager ≡ u.manager → v.rows ≡ u.rows → u ≡ v
 same_registry v u same rows = λ i. record { manager = sym same i; rows = sym rows i }
 

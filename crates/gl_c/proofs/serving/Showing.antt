@@ -1,4 +1,4 @@
--- What watchers are shown, for whoever shows: epochs, the way of detection, and lists that go on.
+-- What watchers are shown: epochs, the way of detection, and lists that are continued.
 use Rattle.gl_slots.specs.Limit.{most_slots}
 use Rattle.std.specs.Prelude.{◌≡◌, ◌⊎◌, ◌≤◌, ℕ, List, [], ◌∷◌, ◌++◌, Option, Some, None, Result, Ok, Err, IfSome, IfOk, Bool, true, false}
 use Rattle.std.specs.Prelude.{if◌then◌else◌, is_none, is_some}
@@ -50,16 +50,16 @@ either_epoch list after board n is low at = ⊎_elim
     (λ (t : after ≡ list ++ board ∷ []). told_epoch true list after board n t low at)
     is
 
--- what a show leaves of a list
+-- the effect of a show on a list
 abbrev pub ShowsBoard : List Board → ManagerView → List Board → Type 0
 ShowsBoard list m after = (after ≡ list) ⊎ (after ≡ list ++ board_of (state_of m) ∷ [])
 
--- the waits are spared, so what was known of them is known still
+-- the waits are spared, so what was known of them is still known
 pub knows_on : (s s' : State) (shown : Option Strip) (set : Slots) → Spares set s s' → KnowsWaits s shown (Some set) → KnowsWaits s' shown (Some set)
 knows_on s s' None set spares known = (spares.parties, tt)
 knows_on s s' (Some p) set spares known = (spares.parties, ends_still s s' spares.same p.list known.1)
 
--- what is known still
+-- what is still known
 pub knows_if : (s s' : State) (shown : Option Strip) (parties : Option Slots) (leaves : Slots → Bool)
     → ((set : Slots) → HasParties s set → leaves set ≡ true → Spares set s s') → KnowsWaits s shown parties
     → KnowsWaits s' shown (still_known parties leaves)
@@ -70,20 +70,20 @@ knows_if s s' shown (Some set) leaves spares known = by (leaves set) (spares set
     by true spared = knows_on s s' shown set (spared refl) known
     by false spared = tt
 
--- behind a step
+-- after a step
 pub knows_still : (s s' : State) (shown : Option Strip) (parties : Option Slots) (c : Command) (a : Answer) (told : Told) → IsLawful s
     → s.most ≤ most_slots → Step s c a told s' → KnowsWaits s shown parties
     → KnowsWaits s' shown (still_known parties (λ known. leaves_waits known c a told))
 knows_still s s' shown parties c a told law few step =
     knows_if s s' shown parties (λ known. leaves_waits known c a told) (λ set has. waits_left set s s' c a told law few has step)
 
--- and behind a call that leaves nobody waiting where nobody waited
+-- and after a call that leaves nobody waiting if nobody waited
 pub knows_nobody : (s s' : State) (shown : Option Strip) (parties : Option Slots) → (NobodyWaits s → NobodyWaits s') → KnowsWaits s shown parties
     → KnowsWaits s' shown (still_known parties has_none)
 knows_nobody s s' shown parties stays =
     knows_if s s' shown parties has_none (λ set has e. let idle = none_waits s set has e in nobody_spared set s s' idle (stays idle))
 
--- what is known where the board of now was shown last
+-- what is known if the present snapshot was the last to be shown
 pub shown_known : (m n : ManagerView) (list : List Board) (p : Strip) (parties : Option Slots) → n ≡ m → IsLawfulManager n
     → IfSome parties (λ set. (p.list ≡ list ++ board_of (state_of n) ∷ []) × HasParties (state_of n) set) → KnowsWaits (state_of m) (Some p) parties
 shown_known m n list p None same law shown = tt
@@ -96,11 +96,11 @@ pub none_known : (parties : Option Slots) → is_some parties ≡ false → is_n
 none_known None none = refl
 none_known (Some set) none = absurd (true≢false none)
 
--- the same board by another name
+-- the same snapshot by another name
 pub either_board : (list after : List Board) (b c : Board) → (after ≡ list) ⊎ (after ≡ list ++ b ∷ []) → b ≡ c → (after ≡ list) ⊎ (after ≡ list ++ c ∷ [])
 either_board list after b c either is = subst (λ (x : Board). (after ≡ list) ⊎ (after ≡ list ++ x ∷ [])) is either
 
--- what watchers are shown, where it is due
+-- what watchers are shown, if it is due
 pub shows_on : (due : Bool) (board : Board) (p q : Strip) → due ≡ true → (q.list ≡ p.list) ⊎ (q.list ≡ p.list ++ board ∷ []) → q.book ≡ p.book
     → q.detect ≡ p.detect → ShowsOn due board (Some p) (Some q)
 shows_on due board p q on either book detect = (
@@ -116,7 +116,7 @@ shows_on due board p q on either book detect = (
   },
 )
 
--- a list with the board or without goes on
+-- a list with or without the snapshot continues
 pub either_goes_on : (p q : Strip) (board : Board) → (q.list ≡ p.list) ⊎ (q.list ≡ p.list ++ board ∷ []) → q.book ≡ p.book → q.detect ≡ p.detect → GoesOn p q
 either_goes_on p q board is book detect = record {
   book = book;
@@ -141,7 +141,7 @@ pub continues_on : (o : Option Strip) (p q : Strip) → Continues o (Some p) →
 continues_on None p q h on = tt
 continues_on (Some b) p q h on = (q, refl, goes_further b p q (subst (λ (s : Strip). GoesOn b s) (sym (some_is p h.0 h.1)) h.2) on)
 
--- a watcher that knows what is shown, the board of now the last of it
+-- a watcher that knows what is shown, with the present snapshot last
 pub knows_last : (x : Result Strip WatchFault) (p q : Strip) (board now : Board) → IfOk x (λ w. (w ≡ q) × (q.list ≡ p.list ++ board ∷ [])) → board ≡ now
     → IfOk x (λ w. (Some q ≡ Some w) × Ends w.list now)
 knows_last (Err e) p q board now h is = h
@@ -154,7 +154,7 @@ knows_last (Ok w) p q board now h is = (
   ),
 )
 
--- what is known still, by the words of what is guarded
+-- what is still known, in terms of the guarded fields
 module _ (g : Inside) (v : RegistryView) (boxes : List Slot) (ended : Slots) (showing : Option Showing) (leaves : Slots → Bool)
     (shown : shown_in showing ≡ shown_in g.showing) (parties : parties_in showing ≡ still_known (parties_in g.showing) leaves) where
   pub sound_behind : IsSound g → g.registry.manager.accepted ≤ v.manager.accepted → v.manager.table.detect ≡ g.registry.manager.table.detect

@@ -1,4 +1,4 @@
--- What C is told.
+-- Notices in C's memory.
 use Rattle.std.specs.Prelude.{◌≡◌, ℕ, length, map, take}
 use Rattle.gl_model.specs.declared.txn.TxnId.{TxnId}
 use Rattle.gl_model.specs.declared.answers.Notice.{Notice as TableNotice}
@@ -10,11 +10,11 @@ use Rattle.gl_c.specs.Names.{node_of, txn_of}
 use Rattle.gl_c.specs.Numbers.{mode_number}
 use Rattle.gl_c.specs.answers.Replies.{nobody}
 
--- a notice without node and mode
+-- a notice without a node and a mode
 abbrev pub bare_notice : TxnId → ℕ → Notice
 bare_notice t kind = record { txn = txn_of t; node = nobody; kind = kind; mode = 0 }
 
--- a notice, by the number of its kind
+-- a notice, with the number of its kind
 abbrev pub notice_of : TxnId × TableNotice → Notice
 notice_of (t, notice.Granted n m) = record { txn = txn_of t; node = node_of n; kind = 1; mode = mode_number m }
 notice_of (t, notice.Victim) = bare_notice t 2

@@ -1,4 +1,4 @@
--- What C is answered.
+-- Replies to C.
 use Rattle.std.specs.Prelude.{ℕ, Option, Some, None}
 use Rattle.gl_modes.specs.declared.refusal.Refusal.{Refusal}
 use Rattle.gl_modes.specs.declared.refusal.Refusal.TheVariants as no
@@ -10,7 +10,7 @@ use Rattle.gl_c.specs.declared.answers.reply.Reply.{Reply}
 use Rattle.gl_c.specs.Names.{node_of, txn_of}
 use Rattle.gl_c.specs.Numbers.{done, effect_number, mode_number, rows_by_number, victim, waiting}
 
--- no node's name
+-- the name of no node
 abbrev pub nobody : Node
 nobody = record { key = 0; birth = 0 }
 
@@ -18,7 +18,7 @@ nobody = record { key = 0; birth = 0 }
 abbrev pub status_reply : ℕ → Reply
 status_reply n = record { status = n; mode = 0; node = nobody; txn = record { slot = 0; age = 0 }; released = 0; kept = 0; count = 0; wanted = 0 }
 
--- a number that was asked after
+-- a number that was asked about
 abbrev pub count_reply : ℕ → Reply
 count_reply n = record (status_reply done) { count = n }
 
@@ -29,11 +29,11 @@ refused_at (no.HeldChild n) = node_of n
 refused_at (no.Cycle n) = node_of n
 refused_at r = nobody
 
--- a refusal's own number, and the node that it names
+-- the number of a refusal, and the node that it names
 abbrev pub refused_reply : Refusal → Reply
 refused_reply r = record (status_reply (refusal_number r)) { node = refused_at r }
 
--- what C is answered for an answer
+-- the reply for an answer
 abbrev pub reply_of : Answer → Reply
 reply_of answer.Done = status_reply done
 reply_of (answer.Node n) = record (status_reply done) { node = node_of n }
@@ -46,7 +46,7 @@ reply_of (answer.Mode m) = record (status_reply done) { mode = mode_number m }
 reply_of (answer.Effect e) = record (status_reply done) { mode = effect_number e }
 reply_of (answer.Refused r) = refused_reply r
 
--- the same where the command may be one that is not made, since it would make, take away or change a record of a file of rows
+-- the reply for a command that is not made if it would insert, delete or change a record of a file of rows
 abbrev pub served_reply : Option Answer → Reply
 served_reply None = status_reply rows_by_number
 served_reply (Some a) = reply_of a

@@ -1,4 +1,4 @@
--- What a call does that locks a node with what has to be held above it.
+-- A call that locks a node after what must be held above it.
 use Rattle.std.specs.Prelude.{◌≡◌, ◌<◌, ◌&&◌, not, Bool, true, false, [], List, Option, Some, None, Result, Ok, Err, if◌then◌else◌, is_none}
 use Rattle.gl_modes.specs.declared.node.NodeId.{NodeId}
 use Rattle.gl_modes.specs.declared.refusal.Refusal.{Refusal}
@@ -30,32 +30,32 @@ use Rattle.gl_c.specs.Numbers.{no_manager, on_the_way, victim, waiting}
 use Rattle.gl_c.specs.answers.Replies.{refused_reply, reply_of, status_reply}
 use Rattle.gl_c.specs.managers.Serving.{KnowsWaits, ShowsOn, Wakes}
 
--- a status, and the node that was asked for last
+-- a reply with this node
 abbrev pub reply_at : NodeId → Reply → Reply
 reply_at n r = record r { node = node_of n }
 
--- what C is answered for the last ask of a path to n: the mode of n itself, or what the ask came to and for which node
+-- the reply for the last request of a path to n: the mode of n itself, or the node and the outcome of its request
 abbrev pub reached_reply : NodeId → NodeId → Locked → Reply
 reached_reply n at (locked.Granted m) = if same_node at n then reply_of (answer.Granted m) else reply_at at (status_reply on_the_way)
 reached_reply n at locked.Waiting = reply_at at (status_reply waiting)
 reached_reply n at locked.Victim = reply_at at (status_reply victim)
 
--- the same where the path may be refused
+-- the reply for a path, which may be refused
 abbrev pub path_reply : NodeId → Result Reached Refusal → Reply
 path_reply n (Ok x) = reached_reply n x.node x.locked
 path_reply n (Err r) = refused_reply r
 
--- a lock that is left waiting
+-- the lock is left waiting
 abbrev pub is_left_waiting : Locked → Bool
 is_left_waiting locked.Waiting = true
 is_left_waiting x = false
 
--- a path that leaves its transaction waiting
+-- the path leaves its transaction waiting
 abbrev pub ends_waiting : Result Reached Refusal → Bool
 ends_waiting (Ok x) = is_left_waiting x.locked
 ends_waiting (Err r) = false
 
--- a path that goes well: its last ask is granted, or refused
+-- the last request of the path is granted or refused
 abbrev pub goes_well : Result Reached Refusal → Bool
 goes_well (Ok x) = grants (answer_of_lock x.locked)
 goes_well (Err r) = true
@@ -65,9 +65,8 @@ abbrev pub leaves_on_path : Slots → TxnId → Result Reached Refusal → Told 
 leaves_on_path parties t result told =
     if has_none parties then not (ends_waiting result) else is_empty told && (goes_well result && not (has_slot parties t.slot))
 
--- a path is locked, as one command after the other; the notices stand in their boxes, but that the transaction's own is empty; whose wait was ended
--- is known; watchers are shown the board behind it, whole, or nothing, and nothing where it is known to leave all waits; where no ask was accepted
--- nothing changed
+-- a path is locked, one command after the other; the boxes have its notices, and the transaction's own is empty; the ended waits are noted; watchers are shown
+-- the snapshot after it or nothing, and nothing if it is known to leave all waits; if no request was accepted, nothing changed
 pub record ServesPath (g : GuardedView) (t : TxnId) (ask : Ask) (result : Result Reached Refusal) (told : Told) (g' : GuardedView) : Type 0 where
   pub way : LocksWay t ask (registry_in g) result told (registry_in g')
   pub none_accepted : g'.manager.accepted ≡ g.manager.accepted → (g' ≡ g) × (told ≡ [])
@@ -76,7 +75,7 @@ pub record ServesPath (g : GuardedView) (t : TxnId) (ask : Ask) (result : Result
   pub shown : ShowsOn (is_none (still_known g.parties (λ known. leaves_on_path known t result told))) (board_of (state_of g'.manager)) g.shown g'.shown
   pub known : KnowsWaits (state_of g'.manager) g'.shown g'.parties
 
--- a path is locked, and C is answered how far it came, and told whom it tells
+-- a path is locked, and C gets the reply and the notices
 pub record RepliesPath (g : GuardedView) (t : TxnId) (ask : Ask) (r : Reply) (notices : Notices) (g' : GuardedView) : Type 0 where
   pub result : Result Reached Refusal
   pub told : Told
@@ -84,7 +83,7 @@ pub record RepliesPath (g : GuardedView) (t : TxnId) (ask : Ask) (r : Reply) (no
   pub replied : r ≡ path_reply ask.0 result
   pub tells : Tells notices told
 
--- a call that locks a path: it does so where there is a manager
+-- a call that locks a path, if there is a manager
 abbrev pub CarriesPath : Option GuardedView → TxnId → Ask → Reply → Notices → Option GuardedView → Type 0
 CarriesPath None t ask r notices s' = Declines None no_manager r s' × Tells notices []
 CarriesPath (Some g) t ask r notices s' = (g' : GuardedView) × (s' ≡ Some g') × RepliesPath g t ask r notices g'

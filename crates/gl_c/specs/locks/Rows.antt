@@ -1,4 +1,4 @@
--- What a call about rows does to all that C's mutex guards.
+-- What a call about rows does to all that C's mutex protects.
 use Rattle.std.specs.Prelude.{◌≡◌, ◌<◌, Bool, true, false, [], List, Option, Some, None, IfSome, is_none}
 use Rattle.gl_modes.specs.declared.node.NodeId.{NodeId}
 use Rattle.gl_modes.specs.declared.refusal.Refusal.TheVariants as no
@@ -29,18 +29,17 @@ use Rattle.gl_c.specs.answers.Replies.{refused_reply, reply_of, status_reply}
 use Rattle.gl_c.specs.managers.Serving.{KnowsWaits, ShowsOn, Wakes}
 use Rattle.gl_window.specs.Tellings.{leaves_waits, still_known}
 
--- why a call comes to nothing: its command is refused, or its file is none of rows
+-- a call about rows is refused, or its file is not a file of rows
 abbrev pub comes_to_nothing : Option Answer → Bool
 comes_to_nothing None = true
 comes_to_nothing (Some a) = is_refused a
 
--- the command that a call carries out, by the names behind it
+-- the command that a call carries out, on the nodes of its rows
 abbrev pub own_of : GuardedView → RowCall → GuardedView → Command
 own_of g c g' = own_command (naming c g.rows g'.rows) c
 
--- a call about rows is carried out, by one step of its own command; its notices stand in their boxes, but that a lock empties its own slot's; whose wait
--- was ended is known; watchers are shown the board behind it, whole, or nothing, and nothing where it is known to leave all waits; one that comes
--- to nothing changes nothing, any other is counted
+-- a call about rows is carried out, by one step of its own command; the boxes have its notices, but a lock empties its own slot's; the ended waits are noted;
+-- watchers are shown the snapshot after it or nothing, and nothing if it is known to leave all waits; a refused call changes nothing, any other is counted
 pub record ServesRow (g : GuardedView) (c : RowCall) (a : RowAnswer) (told : Told) (g' : GuardedView) : Type 0 where
   pub applies : AppliesCall (registry_in g) c a told (registry_in g')
   pub own : CarriesOut g.manager (own_of g c g') (answer_in a) told g'.manager
@@ -52,20 +51,20 @@ pub record ServesRow (g : GuardedView) (c : RowCall) (a : RowAnswer) (told : Tol
       (board_of (state_of g'.manager)) g.shown g'.shown)
   pub known : KnowsWaits (state_of g'.manager) g'.shown g'.parties
 
--- what C is answered for the lock of a row's node: one that is granted is held, also where the node's keys are others than those that were said
+-- the reply for the lock of a row's node: if granted, the row is held, even if the node's keys are not those that the caller named
 abbrev pub row_lock_status : Locked → Bool → Reply
 row_lock_status (locked.Granted m) true = reply_of (answer.Granted m)
 row_lock_status (locked.Granted m) false = record (reply_of (answer.Granted m)) { status = other_keys }
 row_lock_status locked.Waiting own = status_reply waiting
 row_lock_status locked.Victim own = status_reply victim
 
--- what C is answered for a call about rows: of a lock that is not refused also the node by which its row is named
+-- the reply for a call about rows; if it is a lock that is not refused, with the row's node
 abbrev pub call_reply : RowAnswer → Reply
 call_reply (row_answer.Locked x) = reply_at x.node (row_lock_status x.locked x.own_keys)
 call_reply (row_answer.Answered a) = reply_of a
 call_reply row_answer.NotRows = status_reply not_rows
 
--- a call about rows is carried out, and C is answered, and told whom it tells
+-- a call about rows is carried out, and C gets the reply and the notices
 pub record RepliesRow (g : GuardedView) (c : RowCall) (r : Reply) (notices : Notices) (g' : GuardedView) : Type 0 where
   pub answer : RowAnswer
   pub told : Told
@@ -73,24 +72,24 @@ pub record RepliesRow (g : GuardedView) (c : RowCall) (r : Reply) (notices : Not
   pub replied : r ≡ call_reply answer
   pub tells : Tells notices told
 
--- the same of a call that tells nobody, so that nothing is left out
+-- the same of a call that notifies nobody, so that no notice is lost
 pub record AnswersRow (g : GuardedView) (c : RowCall) (r : Reply) (g' : GuardedView) : Type 0 where
   pub answer : RowAnswer
   pub told : Told
   pub serves : ServesRow g c answer told g'
   pub replied : r ≡ call_reply answer
 
--- a call from C about rows: it is carried out where there is a manager
+-- a call from C about rows: it is carried out if there is a manager
 abbrev pub CarriesRow : Option GuardedView → RowCall → Reply → Notices → Option GuardedView → Type 0
 CarriesRow None c r notices s' = Declines None no_manager r s' × Tells notices []
 CarriesRow (Some g) c r notices s' = (g' : GuardedView) × (s' ≡ Some g') × RepliesRow g c r notices g'
 
--- the same of one that tells nobody
+-- the same of a call that notifies nobody
 abbrev pub AsksRow : Option GuardedView → RowCall → Reply → Option GuardedView → Type 0
 AsksRow None c r s' = Declines None no_manager r s'
 AsksRow (Some g) c r s' = (g' : GuardedView) × (s' ≡ Some g') × AnswersRow g c r g'
 
--- the node by which a row is named
+-- the reply with a row's node
 abbrev pub named_reply : Option NodeId → Reply
 named_reply (Some n) = reply_of (answer.Node n)
 named_reply None = refused_reply no.NoSuchNode

@@ -1,4 +1,4 @@
--- What a call does by which a transaction goes back to a savepoint.
+-- A call by which a transaction rolls back to a savepoint.
 use Rattle.std.specs.Prelude.{◌≡◌, ℕ, [], Option, Some, None, Result, Ok, Err, is_none}
 use Rattle.gl_modes.specs.declared.refusal.Refusal.{Refusal}
 use Rattle.gl_model.specs.declared.txn.TxnId.{TxnId}
@@ -20,29 +20,29 @@ use Rattle.gl_c.specs.Numbers.{no_manager}
 use Rattle.gl_c.specs.answers.Notices.{Tells}
 use Rattle.gl_c.specs.answers.Replies.{count_reply, refused_reply}
 
--- each of its commands unlocks a node; who is told of one is the same whatever the node
+-- each of its commands unlocks a node; the notices do not depend on the node
 abbrev pub unlocking : TxnId → Command
 unlocking t = command.Unlock t no_node
 
--- a transaction goes back to a mark; the notices stand in their boxes; whose wait was ended is known; watchers are shown the board behind it, whole, or
--- nothing, and nothing where it is known that nobody waited
+-- a transaction rolls back; the boxes have the notices; the ended waits are noted; watchers are shown the snapshot after it or nothing, and nothing if it is
+-- known that nobody waited
 pub record GoesBackThere (g : GuardedView) (t : TxnId) (told : Told) (g' : GuardedView) : Type 0 where
   pub boxes : Delivers g.boxes told g'.boxes
   pub wakes : Wakes (unlocking t) g.manager told g'.manager g'.ended
   pub shown : ShowsOn (is_none (still_known g.parties has_none)) (board_of (state_of g'.manager)) g.shown g'.shown
   pub known : KnowsWaits (state_of g'.manager) g'.shown g'.parties
 
--- so it is where that is not refused; else nothing changes, and nobody is told
+-- a rollback to a savepoint; if it is refused, nothing changes and there are no notices
 abbrev pub ServesBack : GuardedView → TxnId → ℕ → Result ℕ Refusal → Told → GuardedView → Type 0
 ServesBack g t mark (Ok k) told g' = GoesBackTo t mark g.manager g.rows (Ok k) told g'.manager g'.rows × GoesBackThere g t told g'
 ServesBack g t mark (Err r) told g' = GoesBackTo t mark g.manager g.rows (Err r) told g'.manager g'.rows × (g' ≡ g)
 
--- what C is answered: how many nodes were unlocked
+-- the reply: how many nodes were released
 abbrev pub back_reply : Result ℕ Refusal → Reply
 back_reply (Ok k) = count_reply k
 back_reply (Err r) = refused_reply r
 
--- a transaction goes back, and C is answered, and told whom it tells
+-- a transaction rolls back, and C gets the reply and the notices
 pub record RepliesBack (g : GuardedView) (t : TxnId) (mark : ℕ) (r : Reply) (notices : Notices) (g' : GuardedView) : Type 0 where
   pub result : Result ℕ Refusal
   pub told : Told
@@ -50,7 +50,7 @@ pub record RepliesBack (g : GuardedView) (t : TxnId) (mark : ℕ) (r : Reply) (n
   pub replied : r ≡ back_reply result
   pub tells : Tells notices told
 
--- a call that goes back: it does so where there is a manager
+-- a call that rolls back, if there is a manager
 abbrev pub CarriesBack : Option GuardedView → TxnId → ℕ → Reply → Notices → Option GuardedView → Type 0
 CarriesBack None t mark r notices s' = Declines None no_manager r s' × Tells notices []
 CarriesBack (Some g) t mark r notices s' = (g' : GuardedView) × (s' ≡ Some g') × RepliesBack g t mark r notices g'

@@ -1,4 +1,4 @@
--- What became of a wait, and whose waits were ended.
+-- What became of a wait.
 use Rattle.std.specs.Prelude.{◌≡◌, Option, Some, None, Result, Ok, Err}
 use Rattle.gl_modes.specs.declared.mode.Mode.{Mode}
 use Rattle.gl_modes.specs.declared.node.NodeId.{NodeId}
@@ -15,7 +15,7 @@ use Rattle.gl_c.specs.managers.Guarded.{GuardedView}
 use Rattle.gl_c.specs.Numbers.{gone, moved, no_manager, victim, waiting}
 use Rattle.gl_c.specs.answers.Replies.{refused_reply, reply_of, status_reply}
 
--- a verdict, as C is answered: the wait goes on; a grant, with the mode now held; or why there is none
+-- the reply for a verdict: the wait continues; a grant, with the mode now held; or why there is none
 abbrev pub verdict_reply : Option (Result Grant Stop) → Reply
 verdict_reply None = status_reply waiting
 verdict_reply (Some (Ok g)) = reply_of (answer.Granted g.mode)

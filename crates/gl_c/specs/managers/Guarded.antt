@@ -1,4 +1,4 @@
--- What a contract sees of all that C's mutex guards.
+-- What a contract sees of all that C's mutex protects.
 use Rattle.std.specs.Prelude.{List, Option}
 use Rattle.gl_slots.specs.declared.slots.Slots.{Slots}
 use Rattle.gl_catalog.specs.Manager.{ManagerView}
@@ -6,8 +6,8 @@ use Rattle.gl_registry.specs.Rows.{RegistryView, RowsView}
 use Rattle.gl_wakes.specs.Boxes.{Slot}
 use Rattle.gl_window.specs.Strip.{Strip}
 
--- the manager, one notice box a slot, the slots whose wait the last accepted command may have ended, the boards that watchers were shown, if there
--- ever was a watcher, all parties to waits, where it is known that the last board shows the waits, and the files of rows with the rows that are locked
+-- the manager, a notice box for each slot, the slots whose wait the last accepted command may have ended, the snapshots that watchers were shown, if there ever
+-- was one, all parties to waits, if it is known that the last snapshot has every wait, and the files of rows with the locked rows
 pub record GuardedView : Type 0 where
   pub manager : ManagerView
   pub boxes : List Slot

@@ -1,4 +1,4 @@
--- What is owned by the place of a session.
+-- What the place of a session owns.
 use Rattle.std.specs.Prelude.{Option, Some, None}
 use Rattle.std.specs.Box.Ownership.{box_owns}
 use Rattle.std.specs.contracts.impls.GlobalAllocator.TheImpl.{ghosts}
@@ -8,7 +8,7 @@ use denote.RawPtr.{Ptr}
 use Rattle.gl_c.specs.contracts.managers.session.Session.{the_row}
 use Rattle.gl_c.specs.managers.Guarded.{GuardedView}
 
--- at the place of a session its box, at that of none nothing
+-- the place of a session owns its box, a place without one nothing
 abbrev pub owns_session : Global → Ptr → Option GuardedView → Fml
 owns_session a p None = ftrue
 owns_session a p (Some g) = box_owns (ghosts.dealloc_token a) the_row p g

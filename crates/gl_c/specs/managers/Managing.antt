@@ -1,4 +1,4 @@
--- Managers come and go.
+-- Calls that make and end managers.
 use Rattle.gl_slots.specs.Slots.{no_slots}
 use Rattle.gl_slots.specs.Limit.{most_slots}
 use Rattle.std.specs.Prelude.{◌≡◌, ◌⊎◌, ℕ, ◌+◌, Bool, false, ◌&&◌, Option, Some, None, if◌then◌else◌, nat_lt, replicate}
@@ -16,15 +16,15 @@ use Rattle.gl_c.specs.managers.Guarded.{GuardedView}
 use Rattle.gl_c.specs.Numbers.{bad_number, detect_at, done, in_use, no_manager, victims_at}
 use Rattle.gl_c.specs.answers.Replies.{refused_reply, status_reply}
 
--- nodes, or bounds of an index, can be limited by this number
+-- this can be the limit of nodes, or of an index's bounds
 abbrev pub can_be_limit : ℕ → Bool
 can_be_limit number = nat_lt 0 number && nat_lt number 2147483649
 
--- so many transactions and nodes can be had at once, and an index can have so many bounds
+-- these limits are allowed
 abbrev pub can_have : ℕ → ℕ → ℕ → Bool
 can_have most nodes bounds = (nat_lt 0 most && nat_lt most (most_slots + 1)) && (can_be_limit nodes && can_be_limit bounds)
 
--- a manager without nodes and transactions, with empty boxes, that no watcher was shown, and no file of rows, and no row named or asked for
+-- a manager without nodes, transactions, files of rows and rows, with empty boxes, and with no watchers yet
 pub record IsNew (detect : Detect) (victims : Victims) (most nodes bounds : ℕ) (g : GuardedView) : Type 0 where
   pub manager : state_of g.manager ≡ with_limits nodes bounds (choosing victims (empty_state detect most))
   pub boxes : g.boxes ≡ replicate most_slots None
@@ -34,17 +34,17 @@ pub record IsNew (detect : Detect) (victims : Victims) (most nodes bounds : ℕ)
   pub unnamed : (row : Row) → name_of g.rows row ≡ None
   pub unasked : (slot : ℕ) (row : Row) → has_asked g.rows slot row ≡ false
 
--- there is a new manager from now on, or memory was wanting, and there is none
+-- there is a new manager, or none for lack of memory
 abbrev pub Begins : Detect → Victims → ℕ → ℕ → ℕ → Reply → Option GuardedView → Type 0
 Begins detect victims most nodes bounds r s' =
     ((r ≡ status_reply done) × (g : GuardedView) × (s' ≡ Some g) × IsNew detect victims most nodes bounds g)
     ⊎ ((r ≡ refused_reply no.NoMemory) × (s' ≡ None))
 
--- the way of detection, where its number names one and so many transactions, nodes and bounds can be had
+-- the way of detection, if it has this number and the limits are allowed
 abbrev pub wanted : ℕ → ℕ → ℕ → ℕ → Option Detect
 wanted detect most nodes bounds = if can_have most nodes bounds then detect_at detect else None
 
--- what comes of asking for a manager
+-- the outcome of a call that makes a manager
 abbrev pub Makes : Option GuardedView → ℕ → ℕ → ℕ → ℕ → ℕ → Reply → Option GuardedView → Type 0
 Makes (Some g) detect victims most nodes bounds r s' = Declines (Some g) in_use r s'
 Makes None detect victims most nodes bounds r s' =
@@ -52,7 +52,7 @@ Makes None detect victims most nodes bounds r s' =
     (λ way. Where (victims_at victims) (λ choice. Begins way choice most nodes bounds r s') (Declines None bad_number r s'))
     (Declines None bad_number r s')
 
--- what the end of a manager is answered
+-- the reply for the end of a manager
 abbrev pub ended : Option GuardedView → Reply
 ended (Some g) = status_reply done
 ended None = status_reply no_manager

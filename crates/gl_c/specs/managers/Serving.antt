@@ -1,4 +1,4 @@
--- What a command does to all that C's mutex guards.
+-- What a command does to all that C's mutex protects.
 use Rattle.gl_slots.specs.Limit.{most_slots}
 use Rattle.std.specs.Prelude.{◌≡◌, ◌⊎◌, ℕ, ◌<◌, ◌||◌, ◌==◌, Bool, true, false, List, [], ◌∷◌, ◌++◌, Option, Some, None, IfSome, is_none}
 use Rattle.std.specs.List.{list_any}
@@ -21,11 +21,11 @@ use Rattle.gl_window.specs.Strip.{Strip}
 use Rattle.gl_wakes.specs.Wakes.{HasEnded}
 use Rattle.gl_c.specs.managers.Guarded.{GuardedView, registry_in}
 
--- where the parties to waits are known, these are all, and the last board that was shown, if one was, shows the waits
+-- if the parties to waits are known, these are all, and the last snapshot that was shown, if one was, has every wait
 abbrev pub KnowsWaits : State → Option Strip → Option Slots → Type 0
 KnowsWaits s shown parties = IfSome parties (λ set. HasParties s set × IfSome shown (λ p. EndsWithWaits s p.list))
 
--- a list of the same book and way of detection: what was shown, or that and then this board, which is shown only where it is due
+-- a list of the same book and way of detection: what was shown, or that and then this snapshot, which is shown only if it is due
 pub record GoesOnBy (due : Bool) (board : Board) (before after : Strip) : Type 0 where
   pub book : after.book ≡ before.book
   pub detect : after.detect ≡ before.detect
@@ -36,14 +36,14 @@ abbrev pub ShowsOn : Bool → Board → Option Strip → Option Strip → Type 0
 ShowsOn due board None after = after ≡ None
 ShowsOn due board (Some before) after = (s : Strip) × (after ≡ Some s) × GoesOnBy due board before s
 
--- whose wait the command ended is in the set: exactly whom it told, and whom a cancel or an abort names
+-- the set has each slot whose wait the command ended: exactly those that it told, and the slot that a cancel or an abort names
 pub record Wakes (c : Command) (m : ManagerView) (told : Told) (m' : ManagerView) (ended : Slots) : Type 0 where
   pub all : HasEnded (state_of m) (state_of m') ended
   pub slots : (u : ℕ) → u < most_slots → has_slot ended u ≡ (names_slot c u || list_any (λ x. x.0.slot == u) told)
 
--- a command is carried out; its notices stand in their boxes, but that an accepted lock empties its own slot's; whose wait it ended is known;
--- watchers are shown the board behind it, whole, or nothing, and nothing where it is known to leave all waits; one that is not accepted changes
--- nothing; no row gets or loses its node, and of the files of rows one that is dropped is none any more
+-- a command is carried out; the boxes have its notices, but an accepted lock empties its own slot's; the ended waits are noted; watchers are shown the snapshot
+-- after it or nothing, and nothing if it is known to leave all waits; a command that is not accepted changes nothing; no row gets or loses its node, and a file
+-- of rows that is dropped is one no more
 pub record Serves (g : GuardedView) (c : Command) (a : Answer) (told : Told) (g' : GuardedView) : Type 0 where
   pub applies : Applies g.manager c a told g'.manager
   pub boxes : (mid : List Slot) × Delivers g.boxes told mid × (g'.boxes ≡ cleared c a mid)
@@ -53,11 +53,11 @@ pub record Serves (g : GuardedView) (c : Command) (a : Answer) (told : Told) (g'
   pub known : KnowsWaits (state_of g'.manager) g'.shown g'.parties
   pub rows : LeavesRows (dropped_by c a) g.rows g'.rows
 
--- one that would make, take away or change a record of a file of rows is not made: nobody is told, and nothing changes; any other is carried out
+-- a command that would insert, delete or change a record of a file of rows is not made: no notices, and nothing changes; any other is carried out
 abbrev pub ServesUnless : Bool → GuardedView → Command → Option Answer → Told → GuardedView → Type 0
 ServesUnless true g c result told g' = (result ≡ None) × (told ≡ []) × (g' ≡ g)
 ServesUnless false g c result told g' = (a : Answer) × (result ≡ Some a) × Serves g c a told g'
 
--- so it is with each command
+-- the same for each command
 abbrev pub ServesNodes : GuardedView → Command → Option Answer → Told → GuardedView → Type 0
 ServesNodes g c result told g' = ServesUnless (touches_rows (registry_in g) c) g c result told g'

@@ -1,9 +1,9 @@
--- What a contract sees of a session, and what holds of every session.
+-- What a contract sees of a session, and what every session guarantees.
 use Rattle.std.specs.Prelude.{◌≡◌, []}
 use Rattle.gl_c.specs.declared.managers.session.Session.TheInside.{Inside}
 use Rattle.gl_c.specs.managers.Guarded.{GuardedView}
 
--- what C's mutex guards
+-- what C's mutex protects
 abbrev pub guarded_of : Inside → GuardedView
 guarded_of s = s.guarded
 

@@ -1,4 +1,4 @@
--- What a contract sees of the fields that C's mutex guards, and what holds of them always.
+-- What a contract sees of the fields that C's mutex protects, and their invariant.
 use Rattle.std.specs.Prelude.{◌≡◌, ◌≤◌, IfSome}
 use Rattle.gl_catalog.specs.Manager.{state_of}
 use Rattle.gl_window.specs.Boards.{last_epoch}
@@ -7,7 +7,7 @@ use Rattle.gl_c.specs.managers.Guarded.{GuardedView}
 use Rattle.gl_c.specs.managers.Serving.{KnowsWaits}
 use Rattle.gl_c.specs.managers.Showing.{parties_in, shown_in}
 
--- what a contract sees
+-- the contract's view of the fields
 abbrev pub view_of : Inside → GuardedView
 view_of g = record {
   manager = g.registry.manager;
@@ -18,8 +18,7 @@ view_of g = record {
   rows = g.registry.rows;
 }
 
--- what is shown is no newer than the manager, and of its way of detection; where the parties to waits are known, the last board that was shown shows
--- the waits
+-- what is shown is no newer than the manager, and has its way of detection; if the parties to waits are known, the last snapshot that was shown has every wait
 pub record IsSound (g : Inside) : Type 0 where
   pub epoch : IfSome (shown_in g.showing) (λ p. last_epoch 0 p.list ≤ g.registry.manager.accepted)
   pub detect : IfSome (shown_in g.showing) (λ p. p.detect ≡ g.registry.manager.table.detect)

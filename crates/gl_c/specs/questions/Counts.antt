@@ -1,4 +1,4 @@
--- What a manager has been doing, as C is told.
+-- What a manager has done, in C's memory.
 use Rattle.std.specs.Prelude.{◌≡◌, ℕ, Option, Some, None}
 use Rattle.gl_catalog.specs.declared.counters.Counters.{Counters}
 use Rattle.gl_c.specs.declared.questions.counts.Counts.{Counts}
@@ -8,7 +8,7 @@ use Rattle.gl_c.specs.managers.Guarded.{GuardedView}
 use Rattle.gl_c.specs.Numbers.{done, no_manager}
 use Rattle.gl_c.specs.answers.Replies.{status_reply}
 
--- the count of accepted commands, and what else is counted
+-- the count of accepted commands, and the other counts
 abbrev pub counts_of : ℕ → Counters → Counts
 counts_of accepted c = record {
   accepted = accepted;

@@ -1,4 +1,4 @@
--- What is answered to a question.
+-- Replies to questions.
 use Rattle.std.specs.Prelude.{◌≡◌, ℕ, ◌&&◌, Option, Some, None, if◌then◌else◌, length}
 use Rattle.std.specs.List.{slice_get}
 use Rattle.std.specs.Option.{option_map}
@@ -31,7 +31,7 @@ use Rattle.gl_c.specs.Names.{node_of}
 use Rattle.gl_c.specs.Numbers.{mode_number, no_manager, no_place, waiting}
 use Rattle.gl_c.specs.answers.Replies.{count_reply, refused_reply, reply_of, status_reply}
 
--- a kind's number
+-- the number of a kind
 abbrev pub kind_number : Kind → ℕ
 kind_number kind.Inner = 1
 kind_number kind.File = 2
@@ -68,15 +68,15 @@ waited None = refused_reply no.NotWaiting
 abbrev pub index_at : Graph → NodeId → ℕ → Reply
 index_at g file place = if is_file_shape (shape_of g file) then found (slice_get (indexes_of g file) place) else refused_reply no.NoSuchNode
 
--- the interval of an index in which a key lies
+-- the interval of an index to which a key belongs
 abbrev pub interval_with : Graph → NodeId → ℕ → Reply
 interval_with g index key = if is_index_shape (shape_of g index) then reply_of (answer.Node (interval_of g index key)) else refused_reply no.NoSuchNode
 
--- whether a file has records: 1 where it has, else 0
+-- whether a file has records: 1 or 0
 abbrev pub records_of : Graph → NodeId → Reply
 records_of g file = if is_file_shape (shape_of g file) then count_reply (if has_records g file then 1 else 0) else refused_reply no.NoSuchNode
 
--- what is answered to a question
+-- the reply to a question
 abbrev pub looked : ManagerView → Query → Reply
 looked m (query.Waiting t) = waited (if lives (state_of m) t then wait_of (status_of (state_of m) t.slot) else None)
 looked m (query.Children t n) = counted (refused_reply no.NotHeld)
@@ -111,7 +111,7 @@ looked m (query.QueueLen n) = of_queue (first_refusal (group_tests (state_of m) 
 looked m (query.QueueAt n place) = of_queue (first_refusal (group_tests (state_of m) n)) (λ queue. waiter_reply (state_of m) (slice_get queue place))
     ((state_of m).queue n)
 
--- a call that asks a question: it is answered where there is a manager, and nothing changes
+-- a call that asks a question: it is answered if there is a manager, and nothing changes
 abbrev pub Looks : Option GuardedView → Query → Reply → Option GuardedView → Type 0
 Looks None q r s' = Declines None no_manager r s'
 Looks (Some g) q r s' = (r ≡ looked g.manager q) × (s' ≡ Some g)

@@ -1,4 +1,4 @@
--- What is owned by the place of a watcher.
+-- What the place of a watcher owns.
 use Rattle.std.specs.Prelude.{Option, Some, None}
 use Rattle.std.specs.Box.Ownership.{box_owns}
 use Rattle.std.specs.contracts.impls.GlobalAllocator.TheImpl.{ghosts}
@@ -8,7 +8,7 @@ use denote.RawPtr.{Ptr}
 use Rattle.gl_window.specs.Strip.{Strip}
 use Rattle.gl_c.specs.contracts.watchers.watcher.Watcher.{the_row}
 
--- at the place of a watcher its box, at that of none nothing
+-- the place of a watcher owns its box, a place without one nothing
 abbrev pub owns_watcher : Global → Ptr → Option Strip → Fml
 owns_watcher a p None = ftrue
 owns_watcher a p (Some w) = box_owns (ghosts.dealloc_token a) the_row p w

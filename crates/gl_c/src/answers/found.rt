@@ -1,4 +1,4 @@
-//! Slots that were asked after.
+//! The slots that a question asks for.
 
 ghost use Rattle.std.specs.Prelude.{◌≡◌, ℕ, MatchResult};
 ghost use Rattle.gl_c.specs.Boards.{set_of};
@@ -19,7 +19,7 @@ use gl_modes::{NodeId, Refusal};
 use gl_slots::{Bits, NO_BITS};
 use gl_table::TxnId;
 
-/// Slots that were asked after; none, where the status refuses.
+/// The slots that a question asks for; none if it was refused.
 #[repr(C)]
 #[derive(Clone, Copy)]
 pub struct Found {
@@ -39,7 +39,7 @@ impl Found {
         }
     }
 
-    /// None, with this status.
+    /// No slots, with this status.
     pub(crate) fn none(status: u32) -> Found
         ensures { result ≡ none_found status }
     {
@@ -49,7 +49,7 @@ impl Found {
         }
     }
 
-    /// These slots, or why they are not found.
+    /// These slots, or the refusal.
     pub(crate) fn of_result(slots: Result<gl_slots::Slots, Refusal>) -> Found
         ensures { MatchResult slots (λ s. (result.status ≡ done) × ((u : ℕ) → has_bit (set_of result.slots) u ≡ has_slot s u))
             (λ refusal. result ≡ none_found (refusal_number refusal)) }
@@ -61,14 +61,14 @@ impl Found {
     }
 }
 
-/// The slots of those who hold a node.
+/// The slots of the transactions that hold a node.
 pub(crate) fn holders(manager: &Manager, node: NodeId) -> Found
     ensures { Finds (first_refusal (group_tests (state_of manager.now) node)) (λ u. holds (members (state_of manager.now) node) u) result }
 {
     Found::of_result(manager.holders(node))
 }
 
-/// The slots of those for whom a transaction waits.
+/// The slots for which a transaction waits.
 pub(crate) fn waits_for(manager: &Manager, txn: TxnId) -> Found
     ensures { Finds (first_refusal (living_tests (state_of manager.now) txn)) (λ u. waits_for (state_of manager.now) txn.slot u) result }
 {

@@ -1,4 +1,4 @@
-//! What is told to C.
+//! Notices in C's memory.
 
 ghost use Rattle.gl_slots.specs.Limit.{most_slots};
 ghost use Rattle.std.specs.Prelude.{◌≡◌, ◌≤◌, [], length};
@@ -14,13 +14,13 @@ use gl_table::{Notice as TableNotice, TxnId};
 #[repr(C)]
 #[derive(Clone, Copy)]
 pub struct Notice {
-    /// Who is told.
+    /// The transaction that is told.
     pub txn: Txn,
-    /// The node that was granted; zero of the other kinds.
+    /// The node that was granted; zero in notices of other kinds.
     pub node: Node,
     /// 1: granted, 2: condemned, 3: the node moved, 4: the node is gone.
     pub kind: u32,
-    /// The number of the mode that was granted; zero of the other kinds.
+    /// The number of the mode that was granted; zero in notices of other kinds.
     pub mode: u32,
 }
 
@@ -63,14 +63,14 @@ pub struct Notices {
 }
 
 impl Notices {
-    /// Forgets what it has.
+    /// Removes all notices.
     pub(crate) fn clear(&mut self)
         ensures { Tells self.new [] }
     {
         self.count = 0;
     }
 
-    /// Has these, and nothing that it had before.
+    /// Replaces all notices by these.
     pub(crate) fn put(&mut self, told: &[(TxnId, TableNotice)])
         requires { length told.now ≤ most_slots }
         ensures { Tells self.new told.now }

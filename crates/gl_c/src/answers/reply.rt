@@ -1,4 +1,4 @@
-//! What is answered to C.
+//! Replies to C.
 
 ghost use Rattle.std.specs.Prelude.{◌≡◌};
 ghost use Rattle.gl_steps.specs.declared.command.Answer.TheVariants as answer;
@@ -19,25 +19,25 @@ use gl_registry::RowAnswer;
 use gl_table::{Locked, TxnId};
 use gl_wakes::{Grant, Stop};
 
-/// An answer. Beside the status it has what the call answers, and zero in all other fields.
+/// The answer of a call: a status, what the call answers, and zero in all other fields.
 #[repr(C)]
 #[derive(Clone, Copy)]
 pub struct Reply {
-    /// Zero where it was done, a refusal's number from 1 to 23, or one of the numbers above.
+    /// Zero if it was done, the number of a refusal, 1 to 23, or one of the numbers above.
     pub status: u32,
-    /// A mode's number.
+    /// The number of a mode.
     pub mode: u32,
-    /// The node that was made or asked after, or that the refusal names.
+    /// The node that was made or asked about, or that the refusal names.
     pub node: Node,
-    /// The transaction that began or was asked after.
+    /// The transaction that began or was asked about.
     pub txn: Txn,
     /// How many children an escalation released.
     pub released: u32,
     /// How many held children an escalation kept.
     pub kept: u32,
-    /// The number that was asked after.
+    /// The number that was asked about.
     pub count: u64,
-    /// The number of the mode in which a listed node is waited for.
+    /// The number of the mode in which the transaction waits for a listed node.
     pub wanted: u32,
 }
 
@@ -68,7 +68,7 @@ impl Reply {
         }
     }
 
-    /// What C is answered for an answer.
+    /// The reply for an answer.
     pub(crate) fn of(answer: Answer) -> Reply
         ensures { result ≡ reply_of answer }
     {
@@ -96,8 +96,8 @@ impl Reply {
         }
     }
 
-    /// What C is answered where a command may be one that is not made by nodes. Inlined, so that a call
-    /// for one kind of command makes no choice.
+    /// The reply for a command; `None` is one that would insert, delete or change a record of a file of
+    /// rows. Inlined, so that a call for one kind of command makes no choice.
     #[inline(always)]
     pub(crate) fn of_served(answer: Option<Answer>) -> Reply
         ensures { result ≡ served_reply answer }
@@ -108,7 +108,7 @@ impl Reply {
         }
     }
 
-    /// What C is answered for a verdict.
+    /// The reply for a verdict.
     pub(crate) fn of_verdict(verdict: Option<Result<Grant, Stop>>) -> Reply
         ensures { result ≡ verdict_reply verdict }
     {
@@ -122,7 +122,7 @@ impl Reply {
         }
     }
 
-    /// What C is answered for a path to a node. Inlined, so that the reply is copied once.
+    /// The reply for a path to a node. Inlined, so that the reply is copied once.
     #[inline(always)]
     pub(crate) fn of_path(node: NodeId, reached: Result<Reached, Refusal>) -> Reply
         ensures { result ≡ path_reply node reached }
@@ -133,7 +133,7 @@ impl Reply {
         }
     }
 
-    /// What C is answered for the last ask of a path to a node.
+    /// The reply for the last request of a path to a node.
     fn of_reached(node: NodeId, at: NodeId, locked: Locked) -> Reply
         ensures { result ≡ reached_reply node at locked }
     {
@@ -145,7 +145,7 @@ impl Reply {
         }
     }
 
-    /// What C is answered for a transaction that goes back.
+    /// The reply for a transaction that rolls back to a savepoint.
     pub(crate) fn of_back(released: Result<usize, Refusal>) -> Reply
         ensures { result ≡ back_reply released }
     {
@@ -155,7 +155,7 @@ impl Reply {
         }
     }
 
-    /// What C is answered for a call about rows: of a lock that is not refused also its row's node.
+    /// The reply for a call about rows; if it is a lock that is not refused, with the row's node.
     /// Inlined for the same reason.
     #[inline(always)]
     pub(crate) fn of_row_call(answer: RowAnswer) -> Reply
@@ -168,7 +168,7 @@ impl Reply {
         }
     }
 
-    /// What C is answered for the lock of a row's node, the node aside.
+    /// The reply for the lock of a row's node, without the node.
     fn of_row_lock(locked: Locked, own_keys: bool) -> Reply
         ensures { result ≡ row_lock_status locked own_keys }
     {
@@ -193,7 +193,7 @@ impl Reply {
         }
     }
 
-    /// A number that was asked after.
+    /// A number that was asked about.
     pub(crate) fn with_count(count: u64) -> Reply
         ensures { result ≡ count_reply count }
     {
@@ -203,14 +203,14 @@ impl Reply {
         }
     }
 
-    /// A node that was made or asked after.
+    /// A node that was made or asked about.
     pub(crate) fn with_node(node: NodeId) -> Reply
         ensures { result ≡ reply_of (answer.Node node) }
     {
         Reply::about(DONE, node)
     }
 
-    /// A mode that was asked after.
+    /// A mode that was asked about.
     pub(crate) fn with_mode(mode: Mode) -> Reply
         ensures { result ≡ reply_of (answer.Mode mode) }
     {
@@ -220,7 +220,7 @@ impl Reply {
         }
     }
 
-    /// A refusal's own number, and the node that it names.
+    /// The number of a refusal, and the node that it names.
     pub(crate) fn refused(refusal: Refusal) -> Reply
         ensures { result ≡ refused_reply refusal }
     {

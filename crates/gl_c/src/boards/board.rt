@@ -1,4 +1,4 @@
-//! Boards in C's memory.
+//! Waits-for snapshots in C's memory.
 
 ghost use Rattle.std.specs.Prelude.{◌≡◌};
 ghost use Rattle.gl_c.specs.Boards.{board_in, set_of, slots_of};
@@ -29,20 +29,20 @@ impl Slots {
     }
 }
 
-/// Who waits for whom at one moment, in the caller's memory.
+/// A snapshot in the caller's memory: who waits for whom at one moment.
 #[repr(C)]
 #[derive(Clone, Copy)]
 pub struct Board {
-    /// How many commands had been accepted by then.
+    /// How many commands had been accepted by that moment.
     pub epoch: u64,
-    /// By slot, the age of its transaction; a free slot has age 0.
+    /// By slot, the age of its transaction; 0 if the slot is free.
     pub ages: [u64; SLOTS],
-    /// By slot, for whom it waits.
+    /// By slot, the slots for which it waits.
     pub rows: [Slots; SLOTS],
 }
 
 impl Board {
-    /// Says what this board says. It is given by value: of that it is known how many rows it has.
+    /// Copies this board. It is passed by value: then the proof knows how many rows it has.
     #[tactic(auto, using(crate::proofs::BoardRows::put_more, crate::proofs::BoardRows::put_all))]
     pub(crate) fn put(&mut self, board: gl_waits::Board)
         ensures { board_in self.new ≡ board }
@@ -54,7 +54,7 @@ impl Board {
         }
     }
 
-    /// What it says.
+    /// This board as a value.
     #[tactic(auto, using(crate::proofs::BoardRows::read_more, crate::proofs::BoardRows::put_all))]
     pub(crate) fn read(&self) -> gl_waits::Board
         ensures { result ≡ board_in self.now }

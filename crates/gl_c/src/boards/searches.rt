@@ -1,4 +1,4 @@
-//! Boards, and what is found on them: a board is a value, which any thread may read.
+//! Boards, and what is found on them: a board is a value that any thread may read.
 
 ghost use Rattle.std.specs.Prelude.{◌≡◌, ℕ};
 ghost use Rattle.gl_c.specs.Boards.{FindsCycle, FindsSuspects, PicksFor, Shows};
@@ -12,7 +12,7 @@ use crate::numbers::{BAD_NUMBER, NO_PLACE};
 use gl_slots::SLOTS;
 use gl_waits::{on_cycle, suspects, youngest};
 
-/// Writes down who waits for whom at this moment; the epoch is the count of accepted commands.
+/// Writes the board of this moment; its epoch is the count of accepted commands.
 #[unsafe(no_mangle)]
 pub extern "C" fn bs_call_board(manager: &mut Handle, board: &mut Board) -> Reply
     ensures { Shows (guarded_in manager.old) result board.old board.new (guarded_in manager.new) }
@@ -20,7 +20,7 @@ pub extern "C" fn bs_call_board(manager: &mut Handle, board: &mut Board) -> Repl
     manager.show(board)
 }
 
-/// The slots on a cycle of waits with a slot.
+/// The slots on a cycle of waits with this slot.
 #[unsafe(no_mangle)]
 pub extern "C" fn bs_call_on_cycle(board: &Board, slot: u32) -> Found
     ensures { FindsCycle board.now slot result }
@@ -34,7 +34,7 @@ pub extern "C" fn bs_call_on_cycle(board: &Board, slot: u32) -> Found
     }
 }
 
-/// The slots that are on a cycle of waits with any slot.
+/// The slots that are on any cycle of waits.
 #[unsafe(no_mangle)]
 pub extern "C" fn bs_call_suspects(board: &Board) -> Found
     ensures { FindsSuspects board.now result }
@@ -42,7 +42,7 @@ pub extern "C" fn bs_call_suspects(board: &Board) -> Found
     Found::of(suspects(&board.read()))
 }
 
-/// The youngest of these slots, of equal ages the lowest.
+/// The youngest of these slots; of equal ages, the lowest slot.
 #[unsafe(no_mangle)]
 pub extern "C" fn bs_call_youngest(board: &Board, slots: &Slots) -> Reply
     ensures { PicksFor board.now slots.now result }

@@ -1,4 +1,4 @@
-//! New nodes of the graph.
+//! Calls that make nodes.
 
 ghost use Rattle.gl_steps.specs.declared.command.Command.TheVariants as command;
 ghost use Rattle.gl_registry.specs.declared.call.RowCall.TheVariants as call;
@@ -16,7 +16,7 @@ use crate::numbers::BAD_NUMBER;
 use gl_catalog::Command;
 use gl_registry::RowCall;
 
-/// A new inner node, under 0 to 8 inner nodes; without parents it is a root.
+/// Makes an inner node under 0 to 8 inner nodes; without parents it is a root.
 #[unsafe(no_mangle)]
 pub extern "C" fn bs_call_add_inner(manager: &mut Handle, parents: &[Node]) -> Reply
     ensures { Under parents.now (λ ids. Asks (guarded_in manager.old) (command.Inner ids) result (guarded_in manager.new))
@@ -30,7 +30,7 @@ pub extern "C" fn bs_call_add_inner(manager: &mut Handle, parents: &[Node]) -> R
     }
 }
 
-/// A new file, under 1 to 8 inner nodes.
+/// Makes a file of records under 1 to 8 inner nodes.
 #[unsafe(no_mangle)]
 pub extern "C" fn bs_call_add_file(manager: &mut Handle, parents: &[Node]) -> Reply
     ensures { Under parents.now (λ ids. Asks (guarded_in manager.old) (command.File ids) result (guarded_in manager.new))
@@ -44,8 +44,8 @@ pub extern "C" fn bs_call_add_file(manager: &mut Handle, parents: &[Node]) -> Re
     }
 }
 
-/// A new file of rows, under 1 to 8 inner nodes. Its records come, go and change by the calls about rows
-/// alone.
+/// Makes a file of rows under 1 to 8 inner nodes. Calls about rows alone make a row, remove it and
+/// change its keys.
 #[unsafe(no_mangle)]
 pub extern "C" fn bs_call_row_file(manager: &mut Handle, parents: &[Node]) -> Reply
     ensures { Under parents.now (λ ids. AsksRow (guarded_in manager.old) (call.File ids) result (guarded_in manager.new))
@@ -59,8 +59,8 @@ pub extern "C" fn bs_call_row_file(manager: &mut Handle, parents: &[Node]) -> Re
     }
 }
 
-/// A new index of a file without records, of which no row was adopted, under 1 to 8 inner nodes, with
-/// rising bounds above 0 that part its intervals: at most 256, or as many as were chosen.
+/// Makes an index, under 1 to 8 inner nodes, of a file that has no records and whose rows never had a
+/// node. It has up to 256 bounds, or up to the number that was chosen. Bounds rise from above 0.
 #[unsafe(no_mangle)]
 pub extern "C" fn bs_call_add_index(
     manager: &mut Handle,

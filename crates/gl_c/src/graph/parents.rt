@@ -1,4 +1,4 @@
-//! Parents that C gives.
+//! The parents that C names.
 
 ghost use Rattle.std.specs.Prelude.{◌≡◌, ◌<◌, ◌≤◌, IfNone, IfSome, length, map};
 ghost use Rattle.gl_c.specs.Names.{node_id};
@@ -7,7 +7,7 @@ use crate::names::Node;
 use arrayvec::ArrayVec;
 use gl_modes::{MOST_PARENTS, NodeId};
 
-/// The names of these parents; `None` where there are more than a node may have.
+/// The names of these parents; `None` if there are more than a node may have.
 pub(crate) fn parent_ids(parents: &[Node]) -> Option<ArrayVec<NodeId, MOST_PARENTS>>
     ensures names { IfSome result (λ ids. ids.items ≡ map node_id parents.now) }
     ensures few { IfSome result (λ ids. length parents.now ≤ 8) }

@@ -1,4 +1,4 @@
-//! Records, and nodes that move. Each call that tells somebody fills `told`, whatever it had before.
+//! Records, and nodes that move. A call with `told` overwrites it with its notices.
 
 ghost use Rattle.std.specs.Prelude.{[]};
 ghost use Rattle.gl_steps.specs.declared.command.Command.TheVariants as command;
@@ -16,7 +16,7 @@ use crate::names::{Node, Txn};
 use crate::numbers::BAD_NUMBER;
 use gl_catalog::Command;
 
-/// A new record of a file, with a key for each of its indexes, held in X.
+/// Inserts a record into a file, with a key for each of its indexes; it is held in X.
 #[unsafe(no_mangle)]
 pub extern "C" fn bs_call_insert(manager: &mut Handle, txn: Txn, file: Node, keys: &[u64]) -> Reply
     ensures { Asks (guarded_in manager.old) (command.Insert (txn_id txn) (node_id file) keys.entry) result (guarded_in manager.new) }
@@ -28,8 +28,8 @@ pub extern "C" fn bs_call_insert(manager: &mut Handle, txn: Txn, file: Node, key
     })
 }
 
-/// A new record of a file, with a key for each of its indexes, which nobody holds: a row that is to be
-/// locked. From then on no index of the file is made.
+/// Makes a record of a file for no transaction: nobody holds it. After it, only `bs_call_index_by`
+/// makes an index of the file.
 #[unsafe(no_mangle)]
 pub extern "C" fn bs_call_adopt(manager: &mut Handle, file: Node, keys: &[u64]) -> Reply
     ensures { Asks (guarded_in manager.old) (command.Adopt (node_id file) keys.entry) result (guarded_in manager.new) }
@@ -40,7 +40,7 @@ pub extern "C" fn bs_call_adopt(manager: &mut Handle, file: Node, keys: &[u64]) 
     })
 }
 
-/// Takes a record away that nobody holds or waits for.
+/// Removes a record that nobody holds and nobody waits for.
 #[unsafe(no_mangle)]
 pub extern "C" fn bs_call_forget(manager: &mut Handle, rec: Node) -> Reply
     ensures { Asks (guarded_in manager.old) (command.Forget (node_id rec)) result (guarded_in manager.new) }
@@ -48,7 +48,7 @@ pub extern "C" fn bs_call_forget(manager: &mut Handle, rec: Node) -> Reply
     manager.ask(Command::Forget { rec: rec.id() })
 }
 
-/// Takes a record away.
+/// Deletes a record.
 #[unsafe(no_mangle)]
 pub extern "C" fn bs_call_delete(
     manager: &mut Handle,

@@ -1,4 +1,4 @@
-//! Nodes that go, and indexes of files that have been in use: what a schema changes.
+//! Schema changes: dropped nodes, and indexes of files that have been in use.
 
 ghost use Rattle.gl_steps.specs.declared.command.Command.TheVariants as command;
 ghost use Rattle.gl_c.specs.managers.Carries.{Asks, Carries, Declines, Under};
@@ -14,8 +14,7 @@ use crate::names::{Node, Txn};
 use crate::numbers::BAD_NUMBER;
 use gl_catalog::Command;
 
-/// Takes an inner node, a file or an index away, an index with its intervals. It fills `told`, whatever
-/// that had before.
+/// Drops an inner node, a file, or an index with its intervals. It overwrites `told`.
 #[unsafe(no_mangle)]
 pub extern "C" fn bs_call_drop(
     manager: &mut Handle,
@@ -32,7 +31,7 @@ pub extern "C" fn bs_call_drop(
     manager.carry_out(command, told)
 }
 
-/// A new index of a file of which no record stands, whatever it had before. Its maker holds it in X.
+/// Makes an index of a file that has no record now. The transaction holds it in X.
 #[unsafe(no_mangle)]
 pub extern "C" fn bs_call_index_by(
     manager: &mut Handle,

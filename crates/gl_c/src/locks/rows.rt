@@ -17,9 +17,9 @@ use crate::names::{Node, Txn};
 use crate::numbers::{BAD_NUMBER, mode_at};
 use gl_registry::RowCall;
 
-/// Locks a row whose keys are these, one for each index of its file in order of their making. A row that
-/// is to be inserted or taken away is locked in X. Where the row's node has other keys the lock is held
-/// as well, and the status says so.
+/// Locks a row by its node, with these keys, one for each index of its file in the order of making. To
+/// insert or delete a row, lock it in X. If the row's node has other keys, the lock is held as well,
+/// and the status says so.
 #[unsafe(no_mangle)]
 pub extern "C" fn bs_call_lock_row(
     manager: &mut Handle,
@@ -87,7 +87,7 @@ pub extern "C" fn bs_call_rekey_row(
     manager.carry_out_row(call, told)
 }
 
-/// Ends a transaction, and releases everything. Rows that nobody holds any more lose their nodes.
+/// Ends a transaction and releases everything. Rows that nobody holds any more lose their nodes.
 #[unsafe(no_mangle)]
 pub extern "C" fn bs_call_commit_rows(manager: &mut Handle, txn: Txn, told: &mut Notices) -> Reply
     ensures { CarriesRow (guarded_in manager.old) (call.Commit (txn_id txn)) result told.new (guarded_in manager.new) }
@@ -95,8 +95,8 @@ pub extern "C" fn bs_call_commit_rows(manager: &mut Handle, txn: Txn, told: &mut
     manager.carry_out_row(RowCall::Commit { txn: txn.id() }, told)
 }
 
-/// Ends a transaction and releases everything, also while it waits or is condemned. Rows that nobody
-/// holds any more lose their nodes.
+/// Ends a transaction whatever it is doing, and releases everything. Rows that nobody holds any more
+/// lose their nodes.
 #[unsafe(no_mangle)]
 pub extern "C" fn bs_call_abort_rows(manager: &mut Handle, txn: Txn, told: &mut Notices) -> Reply
     ensures { CarriesRow (guarded_in manager.old) (call.Abort (txn_id txn)) result told.new (guarded_in manager.new) }
@@ -104,7 +104,7 @@ pub extern "C" fn bs_call_abort_rows(manager: &mut Handle, txn: Txn, told: &mut 
     manager.carry_out_row(RowCall::Abort { txn: txn.id() }, told)
 }
 
-/// Takes a wait back. A row that nobody holds or waits for any more loses its node.
+/// Cancels the wait of a transaction. A row that nobody holds or waits for any more loses its node.
 #[unsafe(no_mangle)]
 pub extern "C" fn bs_call_cancel_rows(manager: &mut Handle, txn: Txn, told: &mut Notices) -> Reply
     ensures { CarriesRow (guarded_in manager.old) (call.Cancel (txn_id txn)) result told.new (guarded_in manager.new) }
@@ -112,7 +112,7 @@ pub extern "C" fn bs_call_cancel_rows(manager: &mut Handle, txn: Txn, told: &mut
     manager.carry_out_row(RowCall::Cancel { txn: txn.id() }, told)
 }
 
-/// Raises the lock of a node, and releases the children whose locks it then implies. Rows that nobody
+/// Raises the lock of a node, and releases the children whose locks that implies. Rows that nobody
 /// holds any more lose their nodes.
 #[unsafe(no_mangle)]
 pub extern "C" fn bs_call_escalate_rows(
@@ -130,7 +130,7 @@ pub extern "C" fn bs_call_escalate_rows(
     manager.carry_out_row(call, told)
 }
 
-/// The node by which a row is named, which somebody holds or waits for.
+/// The node of a row, if it has one.
 #[unsafe(no_mangle)]
 pub extern "C" fn bs_call_row_node(manager: &mut Handle, file: Node, number: u64) -> Reply
     ensures { FindsRow (guarded_in manager.old) (row_at file number) result (guarded_in manager.new) }

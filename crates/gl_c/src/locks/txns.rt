@@ -1,4 +1,4 @@
-//! Transactions and their locks. Each call that tells somebody fills `told`, whatever it had before.
+//! Transactions and their locks. A call with `told` overwrites it with its notices.
 
 ghost use Rattle.std.specs.Prelude.{[]};
 ghost use Rattle.gl_steps.specs.declared.command.Command.TheVariants as command;
@@ -17,7 +17,7 @@ use crate::names::{Node, Txn};
 use crate::numbers::{BAD_NUMBER, mode_at};
 use gl_catalog::Command;
 
-/// A new transaction.
+/// Begins a transaction.
 #[unsafe(no_mangle)]
 pub extern "C" fn bs_call_begin(manager: &mut Handle) -> Reply
     ensures { Asks (guarded_in manager.old) command.Begin result (guarded_in manager.new) }
@@ -25,7 +25,8 @@ pub extern "C" fn bs_call_begin(manager: &mut Handle) -> Reply
     manager.ask(Command::Begin)
 }
 
-/// A new transaction for work that wants to be done since an earlier begin.
+/// Begins a transaction for work that an earlier one did not finish; `since` is the age of the first of
+/// them.
 #[unsafe(no_mangle)]
 pub extern "C" fn bs_call_begin_again(manager: &mut Handle, since: u64) -> Reply
     ensures { Asks (guarded_in manager.old) (command.BeginAgain since) result (guarded_in manager.new) }
@@ -33,7 +34,7 @@ pub extern "C" fn bs_call_begin_again(manager: &mut Handle, since: u64) -> Reply
     manager.ask(Command::BeginAgain { since })
 }
 
-/// Asks for a lock, and waits where it cannot be granted at once.
+/// Requests a mode on a node, and waits if it cannot be granted at once.
 #[unsafe(no_mangle)]
 pub extern "C" fn bs_call_lock(
     manager: &mut Handle,
@@ -57,7 +58,7 @@ pub extern "C" fn bs_call_lock(
     manager.carry_out(command, told)
 }
 
-/// Locks a node with what has to be held above it.
+/// Locks a node after what must be held above it.
 #[unsafe(no_mangle)]
 pub extern "C" fn bs_call_lock_path(
     manager: &mut Handle,
@@ -76,7 +77,7 @@ pub extern "C" fn bs_call_lock_path(
     manager.lock_path(txn.id(), node.id(), mode, told)
 }
 
-/// Asks for a lock, and is refused where it cannot be granted at once.
+/// Requests a mode on a node; a lock that cannot be granted at once is refused.
 #[unsafe(no_mangle)]
 pub extern "C" fn bs_call_try(manager: &mut Handle, txn: Txn, node: Node, mode: u32) -> Reply
     ensures { Where (mode_at mode) (λ wanted. Asks (guarded_in manager.old) (command.Try (txn_id txn) (node_id node) wanted) result
@@ -92,7 +93,7 @@ pub extern "C" fn bs_call_try(manager: &mut Handle, txn: Txn, node: Node, mode: 
     })
 }
 
-/// Releases one node, of which no child is held.
+/// Releases a node if the transaction holds no child of it.
 #[unsafe(no_mangle)]
 pub extern "C" fn bs_call_unlock(
     manager: &mut Handle,
@@ -109,7 +110,7 @@ pub extern "C" fn bs_call_unlock(
     manager.carry_out(command, told)
 }
 
-/// Goes back to a savepoint: unlocks what was locked since the transaction had so many locks.
+/// Rolls back to a savepoint: releases what was locked since the transaction had this many locks.
 #[unsafe(no_mangle)]
 pub extern "C" fn bs_call_release_since(
     manager: &mut Handle,
@@ -122,7 +123,7 @@ pub extern "C" fn bs_call_release_since(
     manager.release_since(txn.id(), mark, told)
 }
 
-/// Raises the lock of a node, and releases the children whose locks it then implies.
+/// Raises the lock of a node, and releases the children whose locks that implies.
 #[unsafe(no_mangle)]
 pub extern "C" fn bs_call_escalate(
     manager: &mut Handle,
@@ -139,7 +140,7 @@ pub extern "C" fn bs_call_escalate(
     manager.carry_out(command, told)
 }
 
-/// Takes a wait back.
+/// Cancels the wait of a transaction.
 #[unsafe(no_mangle)]
 pub extern "C" fn bs_call_cancel(manager: &mut Handle, txn: Txn, told: &mut Notices) -> Reply
     ensures { Carries (guarded_in manager.old) (command.Cancel (txn_id txn)) result told.new (guarded_in manager.new) }
@@ -147,7 +148,7 @@ pub extern "C" fn bs_call_cancel(manager: &mut Handle, txn: Txn, told: &mut Noti
     manager.carry_out(Command::Cancel { txn: txn.id() }, told)
 }
 
-/// Ends a transaction, and releases everything.
+/// Ends a transaction and releases everything.
 #[unsafe(no_mangle)]
 pub extern "C" fn bs_call_commit(manager: &mut Handle, txn: Txn, told: &mut Notices) -> Reply
     ensures { Carries (guarded_in manager.old) (command.Commit (txn_id txn)) result told.new (guarded_in manager.new) }
@@ -155,7 +156,7 @@ pub extern "C" fn bs_call_commit(manager: &mut Handle, txn: Txn, told: &mut Noti
     manager.carry_out(Command::Commit { txn: txn.id() }, told)
 }
 
-/// Ends a transaction and releases everything, also while it waits or is condemned.
+/// Ends a transaction whatever it is doing, and releases everything.
 #[unsafe(no_mangle)]
 pub extern "C" fn bs_call_abort(manager: &mut Handle, txn: Txn, told: &mut Notices) -> Reply
     ensures { Carries (guarded_in manager.old) (command.Abort (txn_id txn)) result told.new (guarded_in manager.new) }
@@ -163,8 +164,7 @@ pub extern "C" fn bs_call_abort(manager: &mut Handle, txn: Txn, told: &mut Notic
     manager.carry_out(Command::Abort { txn: txn.id() }, told)
 }
 
-/// Condemns those who lie on a cycle with a transaction, by the manager's choice of victims, until it
-/// is on none.
+/// Condemns victims, by the choice of victims, until the transaction is on no cycle of waits.
 #[unsafe(no_mangle)]
 pub extern "C" fn bs_call_settle(manager: &mut Handle, txn: Txn, told: &mut Notices) -> Reply
     ensures { Carries (guarded_in manager.old) (command.Settle (txn_id txn)) result told.new (guarded_in manager.new) }

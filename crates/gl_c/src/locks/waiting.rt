@@ -1,4 +1,4 @@
-//! What became of a wait, and whose waits were ended: what whoever lets threads sleep asks.
+//! What became of a wait, and whose waits ended: questions for a caller that lets threads sleep.
 
 ghost use Rattle.gl_c.specs.managers.Carries.{Declines, Where};
 ghost use Rattle.gl_c.specs.answers.Finding.{FindsEnded};
@@ -13,7 +13,7 @@ use crate::managers::handle::Handle;
 use crate::names::{Node, Txn};
 use crate::numbers::{BAD_NUMBER, mode_at};
 
-/// What became of a lock that was left waiting: that the wait goes on, its grant, or why there is none.
+/// What became of a lock that was left waiting: the wait continues, it was granted, or why it was not.
 #[unsafe(no_mangle)]
 pub extern "C" fn bs_call_verdict(manager: &mut Handle, txn: Txn, node: Node, mode: u32) -> Reply
     ensures { Where (mode_at mode) (λ wanted. Judges (guarded_in manager.old) (txn_id txn) (node_id node) wanted result (guarded_in manager.new))
@@ -25,7 +25,7 @@ pub extern "C" fn bs_call_verdict(manager: &mut Handle, txn: Txn, node: Node, mo
     }
 }
 
-/// The slots whose wait the last accepted command may have ended: whose sleepers are to be woken.
+/// The slots whose wait the last accepted command may have ended: wake their sleepers.
 #[unsafe(no_mangle)]
 pub extern "C" fn bs_call_ended(manager: &mut Handle) -> Found
     ensures { FindsEnded (guarded_in manager.old) result (guarded_in manager.new) }

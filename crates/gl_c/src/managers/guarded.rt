@@ -1,4 +1,4 @@
-//! All that C's mutex guards.
+//! All that C's mutex protects.
 
 ghost use Rattle.gl_slots.specs.Limit.{most_slots};
 ghost use Rattle.std.specs.Prelude.{◌≡◌, ◌≤◌, ◌^◌, [], IfErr, IfOk, Some, is_none};
@@ -31,8 +31,8 @@ use gl_window::{WatchFault, Watcher};
 use std::alloc::Global;
 use std::marker::Model;
 
-/// The manager with its files of rows, a notice box for each slot, the slots whose wait the last accepted
-/// command may have ended, and what watchers are shown, once there was one.
+/// The manager with its files of rows, a notice box for each slot, the slots whose wait the last
+/// accepted command may have ended, and what watchers were shown, if there ever was one.
 #[derive(Drop)]
 pub(crate) struct Guarded {
     registry: Registry,
@@ -54,8 +54,8 @@ impl Model for Guarded {
 }
 
 impl Guarded {
-    /// A new manager, for at most so many transactions and nodes at once, and bounds of an index. The only
-    /// refusal is `NoMemory`.
+    /// A new manager, with limits for living transactions, living nodes and bounds of an index. The
+    /// only refusal is `NoMemory`.
     pub(crate) fn new(
         alloc: Global,
         detect: Detect,
@@ -87,7 +87,7 @@ impl Guarded {
         self.registry.manager()
     }
 
-    /// The node by which a row is named; `None` where nobody holds it or waits for it.
+    /// The node of a row; `None` if it has none.
     pub(crate) fn node(&self, row: Row) -> Option<NodeId>
         ensures { result ≡ name_of self.now.rows row }
     {
@@ -101,7 +101,7 @@ impl Guarded {
         self.ended
     }
 
-    /// Whether the transaction has its answer on this node, and which.
+    /// What became of the transaction's wait for this node; `None` if it still waits.
     pub(crate) fn verdict(
         &self,
         txn: TxnId,
@@ -113,8 +113,8 @@ impl Guarded {
         self.boxes.verdict(self.registry.manager(), txn, node, mode)
     }
 
-    /// Carries out a command, with its notices put into an empty list. `None` where it would make, take
-    /// away or change a record of a file of rows by its node: then nothing has changed.
+    /// Carries out a command, and puts its notices into an empty list. `None` if it would insert,
+    /// delete or change a record of a file of rows by its node: then nothing has changed.
     #[inline(always)]
     pub(crate) fn serve(&mut self, command: Command<'_>, told: &mut Told) -> Option<Answer>
         requires empty { told.old.items ≡ [] }
@@ -134,8 +134,8 @@ impl Guarded {
         Some(answer)
     }
 
-    /// Locks a node with what has to be held above it, with the notices put into an empty list.
-    /// Watchers are shown one board behind all of it.
+    /// Locks a node after what must be held above it, and puts the notices into an empty list. Watchers
+    /// are shown one snapshot after all of it.
     pub(crate) fn serve_path(
         &mut self,
         txn: TxnId,
@@ -160,8 +160,8 @@ impl Guarded {
         reached
     }
 
-    /// Carries out a call about rows, with its notices put into an empty list. Watchers are shown one
-    /// board behind all of it.
+    /// Carries out a call about rows, and puts its notices into an empty list. Watchers are shown one
+    /// snapshot after all of it.
     #[inline(always)]
     pub(crate) fn serve_row(&mut self, call: RowCall<'_>, told: &mut Told) -> RowAnswer
         requires empty { told.old.items ≡ [] }
@@ -180,8 +180,8 @@ impl Guarded {
         answer
     }
 
-    /// Goes back to a savepoint, with the notices put into an empty list. Watchers are shown one board
-    /// behind all of it.
+    /// Rolls back to a savepoint, and puts the notices into an empty list. Watchers are shown one
+    /// snapshot after all of it.
     pub(crate) fn serve_back(
         &mut self,
         txn: TxnId,
@@ -204,7 +204,7 @@ impl Guarded {
         Ok(released)
     }
 
-    /// Shows watchers the board of now, where there is one who watches and the last may lack a wait.
+    /// Shows watchers the present snapshot if there is a watcher and the last snapshot may lack a wait.
     #[inline(always)]
     fn show_if_due(&mut self)
         ensures kept { (self.new.manager ≡ self.old.manager) × (self.new.boxes ≡ self.old.boxes) × (self.new.ended ≡ self.old.ended)
@@ -217,7 +217,7 @@ impl Guarded {
         }
     }
 
-    /// A watcher that knows the board of now.
+    /// A watcher that starts with the present snapshot.
     pub(crate) fn watch(&mut self, alloc: Global) -> Result<Watcher, WatchFault>
         ensures kept { OnlyShows self.old self.new }
         ensures watcher { IfOk result (λ watcher. (self.new.shown ≡ Some watcher) × Ends watcher.list (board_of (state_of self.old.manager))) }
@@ -226,7 +226,7 @@ impl Guarded {
     }
 }
 
-/// Whether a call about rows comes to nothing: its command is refused, or its file is none of rows.
+/// Whether a call about rows is refused, or its file is not a file of rows.
 fn comes_to_nothing(answer: RowAnswer) -> bool
     ensures { result ≡ comes_to_nothing (answer_in answer) }
 {

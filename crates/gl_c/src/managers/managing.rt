@@ -1,4 +1,4 @@
-//! Managers come and go.
+//! Calls that make and end managers.
 
 ghost use Rattle.gl_slots.specs.Limit.{most_slots};
 ghost use Rattle.std.specs.Prelude.{◌≡◌, ◌≤◌, ◌^◌, None};
@@ -15,16 +15,16 @@ use gl_table::Detect;
 use gl_waits::Victims;
 use std::alloc::Global;
 
-/// How many nodes may live at once where no number is given.
+/// How many nodes may live at once, by default.
 const USUAL_NODES: u32 = 65_536;
 
-/// How many bounds an index may have where no number is given.
+/// How many bounds an index may have, by default.
 const USUAL_BOUNDS: u32 = 256;
 
-/// What the numbers of nodes and of bounds may be at most.
+/// The greatest limit of nodes or of bounds.
 const GREATEST_LIMIT: u32 = 2_147_483_648;
 
-/// How many slots there are. C's structs have places for so many.
+/// How many slots there are, as in the arrays of C's structs.
 #[unsafe(no_mangle)]
 pub extern "C" fn bs_call_slots() -> u32
     ensures { result ≡ most_slots }
@@ -32,8 +32,8 @@ pub extern "C" fn bs_call_slots() -> u32
     SLOTS as u32
 }
 
-/// Makes a manager at a place that has none, for `most` transactions at once, 1 to `SLOTS`, with the way
-/// of detection of this number. Of those in a deadlock the youngest falls. It takes memory.
+/// Makes a manager at a place that has none, for `most` transactions at once, 1 to `SLOTS`, with the
+/// way of detection of this number. The victim is the youngest on a cycle. Takes memory.
 #[unsafe(no_mangle)]
 pub extern "C" fn bs_call_make(manager: &mut Handle, alloc: Global, detect: u32, most: u32) -> Reply
     ensures { Makes (guarded_in manager.old) detect 0 most 65536 256 result (guarded_in manager.new) }
@@ -63,8 +63,8 @@ pub extern "C" fn bs_call_make_choosing(
     )
 }
 
-/// As `bs_call_make_choosing`, with the numbers of nodes that may live at once and of bounds that an index
-/// may have, each 1 to 2^31.
+/// As `bs_call_make_choosing`, with how many nodes may live at once and how many bounds an index may
+/// have, each 1 to 2^31.
 #[unsafe(no_mangle)]
 pub extern "C" fn bs_call_make_with(
     manager: &mut Handle,
@@ -80,7 +80,7 @@ pub extern "C" fn bs_call_make_with(
     make_by_numbers(manager, alloc, detect, victims, most, nodes, bounds)
 }
 
-/// Makes a manager by what the numbers name.
+/// Makes a manager by these numbers.
 fn make_by_numbers(
     manager: &mut Handle,
     alloc: Global,
@@ -111,14 +111,14 @@ fn make_by_numbers(
     }
 }
 
-/// Whether so many transactions and nodes can be had at once, and an index can have so many bounds.
+/// Whether these limits are allowed.
 fn can_have(most: u32, nodes: u32, bounds: u32) -> bool
     ensures { result ≡ can_have most nodes bounds }
 {
     (most >= 1 && most as usize <= SLOTS) && (can_be_limit(nodes) && can_be_limit(bounds))
 }
 
-/// Whether nodes, or bounds of an index, can be limited by this number.
+/// Whether this can be the limit of nodes, or of an index's bounds.
 fn can_be_limit(number: u32) -> bool
     ensures { result ≡ can_be_limit number }
 {
@@ -151,7 +151,7 @@ fn make(
     Reply::with_status(DONE)
 }
 
-/// Ends a manager, and gives back all the memory that it took; its place has none from then on.
+/// Ends a manager, and frees all memory that it took. The place then has no manager.
 #[unsafe(no_mangle)]
 pub extern "C" fn bs_call_end(manager: &mut Handle) -> Reply
     ensures replied { result ≡ ended (guarded_in manager.old) }

@@ -31,8 +31,8 @@ use gl_window::{WatchFault, Watcher};
 use std::alloc::Global;
 use std::marker::Model;
 
-/// A manager with all that is guarded with it, and the list that its commands fill, which is empty
-/// between them: it is some six kilobytes large, so that it is made once.
+/// A manager with all that is protected with it, and a list for notices, which is empty between
+/// commands. The list has some six kilobytes, so it is made once.
 #[derive(Drop)]
 pub(crate) struct Session {
     guarded: Guarded,
@@ -52,7 +52,7 @@ impl Model for Session {
 }
 
 impl Session {
-    /// A session of a new manager, for at most so many transactions and nodes at once, and bounds of an
+    /// A session of a new manager, with limits for living transactions, living nodes and bounds of an
     /// index. The only refusal is `NoMemory`.
     pub(crate) fn new(
         alloc: Global,
@@ -75,7 +75,7 @@ impl Session {
         })
     }
 
-    /// Carries out a command, and writes down whom it tells.
+    /// Carries out a command, and writes its notices.
     #[inline(always)]
     pub(crate) fn carry_out(&mut self, command: Command<'_>, notices: &mut Notices) -> Reply
         ensures { Replies self.old command.entry result notices.new self.new }
@@ -86,7 +86,7 @@ impl Session {
         Reply::of_served(answer)
     }
 
-    /// Locks a node with what has to be held above it, and writes down whom it tells. Inlined as `carry_out`
+    /// Locks a node after what must be held above it, and writes the notices. Inlined as `carry_out`
     /// is.
     #[inline(always)]
     pub(crate) fn lock_path(
@@ -104,7 +104,7 @@ impl Session {
         Reply::of_path(node, reached)
     }
 
-    /// Goes back to a savepoint, and writes down whom it tells.
+    /// Rolls back to a savepoint, and writes the notices.
     pub(crate) fn release_since(&mut self, txn: TxnId, mark: usize, notices: &mut Notices) -> Reply
         ensures { RepliesBack self.old txn mark result notices.new self.new }
     {
@@ -114,7 +114,7 @@ impl Session {
         Reply::of_back(released)
     }
 
-    /// Carries out a call about rows, and writes down whom it tells.
+    /// Carries out a call about rows, and writes its notices.
     #[inline(always)]
     pub(crate) fn carry_out_row(&mut self, call: RowCall<'_>, notices: &mut Notices) -> Reply
         ensures { RepliesRow self.old call.entry result notices.new self.new }
@@ -125,7 +125,7 @@ impl Session {
         Reply::of_row_call(answer)
     }
 
-    /// Carries out a call about rows of which nobody is to be told.
+    /// Carries out a call about rows that notifies nobody.
     pub(crate) fn ask_row(&mut self, call: RowCall<'_>) -> Reply
         ensures { AnswersRow self.old call.entry result self.new }
     {
@@ -134,7 +134,7 @@ impl Session {
         Reply::of_row_call(answer)
     }
 
-    /// Carries out a command of which nobody is to be told.
+    /// Carries out a command that notifies nobody.
     #[inline(always)]
     pub(crate) fn ask(&mut self, command: Command<'_>) -> Reply
         ensures { Answers self.old command.entry result self.new }
@@ -144,7 +144,7 @@ impl Session {
         Reply::of_served(answer)
     }
 
-    /// The node by which a row is named.
+    /// The node of a row.
     pub(crate) fn row_node(&self, row: Row) -> Reply
         ensures { result ≡ named_reply (name_of self.now.rows row) }
     {
@@ -164,14 +164,14 @@ impl Session {
         look(manager, query)
     }
 
-    /// Who waits for whom at this moment.
+    /// The snapshot of this moment.
     pub(crate) fn board(&self) -> gl_waits::Board
         ensures { result ≡ board_of (state_of self.now.manager) }
     {
         self.guarded.manager().board()
     }
 
-    /// What became of the wait of a transaction for a node.
+    /// What became of the transaction's wait for a node.
     pub(crate) fn verdict(&self, txn: TxnId, node: NodeId, mode: Mode) -> Reply
         ensures { result ≡ verdict_reply (verdict_of (state_of self.now.manager) self.now.boxes txn node mode) }
     {
@@ -185,7 +185,7 @@ impl Session {
         self.guarded.ended()
     }
 
-    /// A watcher that knows the board of now.
+    /// A watcher that starts with the present snapshot.
     pub(crate) fn watch(&mut self, alloc: Global) -> Result<Watcher, WatchFault>
         ensures kept { OnlyShows self.old self.new }
         ensures watcher { IfOk result (λ watcher. (self.new.shown ≡ Some watcher) × Ends watcher.list (board_of (state_of self.old.manager))) }
@@ -193,7 +193,7 @@ impl Session {
         self.guarded.watch(alloc)
     }
 
-    /// The manager, to be asked.
+    /// The manager, for questions.
     pub(crate) fn manager(&self) -> &Manager
         ensures { result.now ≡ self.now.manager }
     {

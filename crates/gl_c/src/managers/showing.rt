@@ -1,4 +1,4 @@
-//! What watchers are shown, and what is known of the waits that the last board shows.
+//! What watchers are shown, and what is known of the waits on the last snapshot.
 
 ghost use Rattle.std.specs.Prelude.{◌≡◌, ◌≤◌, ◌⊎◌, ◌∷◌, ◌++◌, ◌↔◌, [], true, IfNone, IfOk, IfSome, IsSomeAnd, IsTrue, None, Ok, Some, is_none};
 ghost use Rattle.gl_slots.specs.Slots.{HasNoSlot, has_none};
@@ -23,18 +23,18 @@ use gl_waits::Board;
 use gl_window::{Publisher, WatchFault, Watcher, board_now, leaves_waits, parties_of};
 use std::alloc::{AllocError, Global};
 
-/// The side that shows boards, once there was a watcher.
+/// The side that shows snapshots, made with the first watcher.
 #[derive(Drop)]
 pub(crate) struct Showing {
     publisher: Publisher,
-    /// All parties to waits, where it is known that the board that watchers were shown last shows the
-    /// waits: then another would tell them nothing.
+    /// All parties to waits, if it is known that the last snapshot that was shown has every wait; then
+    /// watchers need no other.
     parties: Option<Slots>,
 }
 
 impl Showing {
-    /// Notes what is known of the waits, behind an accepted command. Where nobody waited and nobody waits
-    /// there is nothing to note.
+    /// Updates what is known of the waits, after an accepted command. If nobody waited and nobody
+    /// waits, nothing changes.
     #[inline(always)]
     fn keep(&mut self, command: &Command<'_>, answer: &Answer, told: &[(TxnId, Notice)])
         ensures shown { self.new.publisher ≡ self.old.publisher }
@@ -57,8 +57,8 @@ impl Showing {
         }
     }
 
-    /// Notes what is known of the waits, behind an accepted command. It takes copies, so that a caller with
-    /// one kind of command needs none in memory.
+    /// Updates what is known of the waits, after an accepted command. It takes copies, so that a caller
+    /// with one kind of command needs none in memory.
     #[inline(never)]
     fn keep_waits(&mut self, command: Command<'_>, answer: Answer, told: &[(TxnId, Notice)])
         ensures shown { self.new.publisher ≡ self.old.publisher }
@@ -71,7 +71,7 @@ impl Showing {
         }
     }
 
-    /// Shows the board of a manager where somebody watches and the last may lack a wait.
+    /// Shows a manager's snapshot if there is a watcher and the last snapshot may lack a wait.
     #[inline(always)]
     pub(crate) fn show_if_due(&mut self, manager: &Manager)
         requires rises { last_epoch 0 self.old.publisher.list ≤ manager.now.accepted }
@@ -87,8 +87,8 @@ impl Showing {
         }
     }
 
-    /// Shows the board of a manager where somebody watches. No command whose waits are known comes by here,
-    /// and none is to pay for the room that this takes: so it is not inlined.
+    /// Shows a manager's snapshot if there is a watcher. Not inlined: a command whose waits are known
+    /// never gets here, and should not pay for the stack that this needs.
     #[inline(never)]
     fn show_if_watched(&mut self, manager: &Manager)
         requires rises { last_epoch 0 self.old.publisher.list ≤ manager.now.accepted }
@@ -105,7 +105,8 @@ impl Showing {
     }
 }
 
-/// Notes what is known of the waits, behind an accepted command. Where nobody ever watched nothing is.
+/// Updates what is known of the waits, after an accepted command. Without a first watcher nothing is
+/// known.
 #[inline(always)]
 pub(crate) fn keep(
     showing: &mut Option<Showing>,
@@ -121,7 +122,7 @@ pub(crate) fn keep(
     }
 }
 
-/// The same behind a call about rows that carried out this command, which may name no node.
+/// The same after a call about rows that carried out this command, which may name no node.
 #[inline(always)]
 pub(crate) fn keep_row(
     showing: &mut Option<Showing>,
@@ -140,7 +141,7 @@ pub(crate) fn keep_row(
     }
 }
 
-/// The same behind a path.
+/// The same after a path.
 #[inline(always)]
 pub(crate) fn keep_on_path(
     showing: &mut Option<Showing>,
@@ -158,7 +159,7 @@ pub(crate) fn keep_on_path(
     }
 }
 
-/// The same behind a call of which it is known alone that it leaves nobody waiting where nobody waited.
+/// The same after a call that is only known to leave nobody waiting if nobody waited.
 #[inline(always)]
 pub(crate) fn keep_nobody(showing: &mut Option<Showing>)
     ensures shown { shown_in showing.new ≡ shown_in showing.old }
@@ -169,7 +170,7 @@ pub(crate) fn keep_nobody(showing: &mut Option<Showing>)
     }
 }
 
-/// What the command of a call about rows is answered; `None` where its file is none of rows.
+/// The answer to the command of a call about rows; `None` if its file is not a file of rows.
 #[inline(always)]
 pub(crate) fn answer_of(answer: RowAnswer) -> Option<Answer>
     ensures { result ≡ answer_in answer }
@@ -197,7 +198,7 @@ fn leaves_on_path(
     }
 }
 
-/// Whether the last ask of a path is granted, or refused.
+/// Whether the last request of a path is granted, or refused.
 fn goes_well(reached: Result<Reached, Refusal>) -> bool
     ensures { result ≡ goes_well reached }
 {
@@ -220,8 +221,8 @@ fn ends_waiting(reached: Result<Reached, Refusal>) -> bool
     )
 }
 
-/// Shows the board of a manager, and says who are the parties to its waits; `None` for want of memory.
-/// A command that shows nothing is not to pay for the room that a board takes, so it is not inlined.
+/// Shows a manager's snapshot, and answers the parties to its waits; `None` if out of memory. Not
+/// inlined: a command that shows nothing should not pay for the stack that a snapshot needs.
 #[inline(never)]
 fn show(manager: &Manager, publisher: &mut Publisher) -> Option<Slots>
     requires rises { last_epoch 0 publisher.old.list ≤ manager.now.accepted }
@@ -240,7 +241,7 @@ fn show(manager: &Manager, publisher: &mut Publisher) -> Option<Slots>
     }
 }
 
-/// A watcher that knows the board of now.
+/// A watcher that starts with the present snapshot.
 pub(crate) fn watch(
     showing: &mut Option<Showing>,
     manager: &Manager,
@@ -266,7 +267,7 @@ pub(crate) fn watch(
     watcher
 }
 
-/// The publisher, or where there is none yet, one that shows this board.
+/// The publisher; if there is none yet, a new one that shows this board.
 fn publisher_of(
     showing: Option<Showing>,
     alloc: Global,

@@ -1,12 +1,12 @@
-//! What a manager has been doing, in the caller's memory.
+//! What a manager has done, in the caller's memory.
 
 ghost use Rattle.std.specs.Prelude.{◌≡◌};
 ghost use Rattle.gl_c.specs.questions.Counts.{counts_of};
 
 use gl_catalog::Counters;
 
-/// What a manager has been doing since it was made, in commands that it accepted. Each is a count that
-/// stops at the greatest `u64`; what each counts stands at `gl_catalog::Counters`.
+/// What a manager has done since it was made, in commands that it accepted. Each count stops at the
+/// greatest `u64`; `gl_catalog::Counters` says what each one counts.
 #[repr(C)]
 #[derive(Clone, Copy)]
 pub struct Counts {

@@ -11,7 +11,7 @@ use crate::numbers::{DONE, NO_PLACE, mode_number};
 use gl_catalog::Manager;
 use gl_slots::SLOTS;
 
-/// One who waits on a cycle.
+/// A transaction that waits on a cycle.
 #[repr(C)]
 #[derive(Clone, Copy)]
 pub struct Stuck {
@@ -20,7 +20,7 @@ pub struct Stuck {
     pub node: Node,
     /// The number of the mode in which it wants that node.
     pub mode: u32,
-    /// The slots of those on the cycle for whom it waits.
+    /// The slots of the transactions on the cycle for which it waits.
     pub waits_for: Slots,
 }
 
@@ -41,16 +41,16 @@ impl Stuck {
 #[repr(C)]
 #[derive(Clone, Copy)]
 pub struct Deadlock {
-    /// Who was condemned to end it.
+    /// The transaction that was condemned to end it.
     pub victim: Txn,
     /// How many places are used, from the first on.
     pub count: usize,
-    /// Each transaction on a cycle with the one that was settled, by rising slot.
+    /// Each transaction on a cycle with the settled one, by rising slot.
     pub at: [Stuck; SLOTS],
 }
 
 impl Deadlock {
-    /// Says what this deadlock was, and nothing that it said before.
+    /// Replaces its contents by this deadlock.
     pub(crate) fn put(&mut self, deadlock: &gl_table::Deadlock)
         ensures { Says self.new deadlock.now }
     {
@@ -58,7 +58,7 @@ impl Deadlock {
         self.put_all(deadlock.cycle.as_slice());
     }
 
-    /// Has these places, and no more.
+    /// Replaces the used places by these.
     fn put_all(&mut self, cycle: &[gl_table::Stuck])
         requires { length cycle.now ≤ most_slots }
         ensures victim { self.new.victim ≡ self.old.victim }
@@ -71,7 +71,7 @@ impl Deadlock {
         self.count = cycle.len();
     }
 
-    /// Says what the last deadlock of a manager was, where there was one.
+    /// Copies the last deadlock of a manager, if there was one.
     pub(crate) fn recall(&mut self, manager: &Manager) -> Reply
         ensures { RecallsLast manager.now.table.deadlock result self.old self.new }
     {

@@ -1,4 +1,4 @@
-//! What is answered to the questions of a listing.
+//! Replies to the questions of a listing.
 
 ghost use Rattle.std.specs.Prelude.{◌≡◌, ℕ, List, Result, Ok, Err, MatchResult, length};
 ghost use Rattle.std.specs.List.{slice_get};
@@ -17,7 +17,7 @@ use gl_modes::{Mode, NodeId, Refusal};
 use gl_slots::Slot;
 use gl_table::{LockRow, Status, TxnId};
 
-/// Who lives in a slot.
+/// The transaction in a slot.
 pub(crate) fn living_reply(living: Option<(TxnId, Status)>) -> Reply
     ensures { result ≡ lived living }
 {
@@ -71,7 +71,7 @@ pub(crate) fn row_reply(wait: Option<(NodeId, Mode)>, row: Option<LockRow>) -> R
     }
 }
 
-/// The wanted mode, on the node that is waited for.
+/// The wanted mode, if this is the node that the transaction waits for; otherwise NL.
 fn wanted_on(wait: Option<(NodeId, Mode)>, node: NodeId) -> Mode
     ensures { result ≡ wanted_on wait node }
 {
@@ -81,7 +81,7 @@ fn wanted_on(wait: Option<(NodeId, Mode)>, node: NodeId) -> Mode
     }
 }
 
-/// How many wait for a node.
+/// How many transactions wait for a node.
 pub(crate) fn queue_len_reply(queue: Result<&[(Slot, Mode)], Refusal>) -> Reply
     ensures { MatchResult queue.entry (λ waiters. result ≡ count_reply (length waiters.now)) (λ refusal. result ≡ refused_reply refusal) }
 {
@@ -91,7 +91,7 @@ pub(crate) fn queue_len_reply(queue: Result<&[(Slot, Mode)], Refusal>) -> Reply
     }
 }
 
-/// Who waits for a node, by its place in the queue.
+/// A transaction that waits for a node, by its place in the queue.
 pub(crate) fn queue_at_reply(
     manager: &Manager,
     queue: Result<&[(Slot, Mode)], Refusal>,
@@ -119,7 +119,7 @@ fn waiter_reply(manager: &Manager, waiter: Option<(Slot, Mode)>) -> Reply
     }
 }
 
-/// The name of the transaction in a slot, of age 0 where the slot is free.
+/// The transaction in a slot, with age 0 if the slot is free.
 fn name_at(manager: &Manager, slot: Slot) -> TxnId
     ensures { result ≡ name_at (state_of manager.now) slot }
 {

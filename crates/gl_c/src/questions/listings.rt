@@ -1,4 +1,4 @@
-//! Listings: who lives, who holds what and who waits where, one after the other. They change nothing and
+//! Listings: which transactions live, what each holds, and which wait where. They change nothing and
 //! take no memory.
 
 ghost use Rattle.std.specs.Prelude.{IfSome};
@@ -71,7 +71,7 @@ pub extern "C" fn bs_call_doing(manager: &mut Handle, txn: Txn) -> Reply
     manager.look(Query::Doing { txn: txn.id() })
 }
 
-/// How many stand ahead of a transaction in the queue of the node that it waits for.
+/// How many waiters are ahead of a waiting transaction in the queue of its node.
 #[unsafe(no_mangle)]
 pub extern "C" fn bs_call_ahead(manager: &mut Handle, txn: Txn) -> Reply
     ensures { Looks (guarded_in manager.old) (query.Ahead (txn_id txn)) result (guarded_in manager.new) }
@@ -99,7 +99,7 @@ pub extern "C" fn bs_call_lock_at(manager: &mut Handle, txn: Txn, place: usize) 
     })
 }
 
-/// The slots of those who hold a node.
+/// The slots of the transactions that hold a node.
 #[unsafe(no_mangle)]
 pub extern "C" fn bs_call_holders(manager: &mut Handle, node: Node) -> Found
     ensures { FindsIn (guarded_in manager.old) (λ s. first_refusal (group_tests s (node_id node))) (λ s u. holds (members s (node_id node)) u) result
@@ -123,7 +123,7 @@ pub extern "C" fn bs_call_mode_at(manager: &mut Handle, slot: u32, node: Node) -
     }
 }
 
-/// How many wait for a node.
+/// How many transactions wait for a node.
 #[unsafe(no_mangle)]
 pub extern "C" fn bs_call_queue_len(manager: &mut Handle, node: Node) -> Reply
     ensures { Looks (guarded_in manager.old) (query.QueueLen (node_id node)) result (guarded_in manager.new) }
@@ -131,7 +131,7 @@ pub extern "C" fn bs_call_queue_len(manager: &mut Handle, node: Node) -> Reply
     manager.look(Query::QueueLen { node: node.id() })
 }
 
-/// Who waits for a node, by its place in the queue.
+/// A transaction that waits for a node, by its place in the queue.
 #[unsafe(no_mangle)]
 pub extern "C" fn bs_call_queue_at(manager: &mut Handle, node: Node, place: usize) -> Reply
     ensures { Looks (guarded_in manager.old) (query.QueueAt (node_id node) place) result (guarded_in manager.new) }
@@ -142,7 +142,7 @@ pub extern "C" fn bs_call_queue_at(manager: &mut Handle, node: Node, place: usiz
     })
 }
 
-/// The slots of those for whom a transaction waits.
+/// The slots for which a transaction waits.
 #[unsafe(no_mangle)]
 pub extern "C" fn bs_call_waits_for(manager: &mut Handle, txn: Txn) -> Found
     ensures { FindsIn (guarded_in manager.old) (λ s. first_refusal (living_tests s (txn_id txn))) (λ s u. waits_for s (txn_id txn).slot u) result
@@ -151,7 +151,7 @@ pub extern "C" fn bs_call_waits_for(manager: &mut Handle, txn: Txn) -> Found
     manager.waits_for(txn.id())
 }
 
-/// Writes down the deadlock of which the last victim fell, as it was when that was condemned.
+/// Writes the deadlock of the last victim, as it was when the victim was condemned.
 #[unsafe(no_mangle)]
 pub extern "C" fn bs_call_last_deadlock(manager: &mut Handle, deadlock: &mut Deadlock) -> Reply
     ensures { Recalls (guarded_in manager.old) result deadlock.old deadlock.new (guarded_in manager.new) }
@@ -159,7 +159,7 @@ pub extern "C" fn bs_call_last_deadlock(manager: &mut Handle, deadlock: &mut Dea
     manager.recall(deadlock)
 }
 
-/// Writes down what the manager has been doing since it was made.
+/// Writes what the manager has done since it was made.
 #[unsafe(no_mangle)]
 pub extern "C" fn bs_call_counters(manager: &mut Handle, counts: &mut Counts) -> Reply
     ensures { Counting (guarded_in manager.old) result counts.old counts.new (guarded_in manager.new) }

@@ -1,4 +1,4 @@
-//! What can be asked beside the commands, and changes nothing.
+//! Questions, which are not commands and change nothing.
 
 ghost use Rattle.std.specs.Prelude.{◌≡◌};
 ghost use Rattle.std.specs.Option.{option_map};
@@ -39,7 +39,7 @@ pub(crate) enum Query {
     Index { file: NodeId, place: usize },
     /// An interval of an index.
     Interval { index: NodeId, place: usize },
-    /// The interval of an index in which a key lies.
+    /// The interval of an index to which a key belongs.
     IntervalOf { index: NodeId, key: u64 },
     /// The place of an interval in its index.
     Place { node: NodeId },
@@ -49,9 +49,9 @@ pub(crate) enum Query {
     Len,
     /// How many commands were accepted.
     Accepted,
-    /// How deadlocks are found.
+    /// How deadlocks are detected.
     Detect,
-    /// Whom a deadlock takes.
+    /// How victims are chosen.
     Victims,
     /// How many transactions may live at once.
     Most,
@@ -59,11 +59,11 @@ pub(crate) enum Query {
     MostNodes,
     /// How many bounds an index may have.
     MostBounds,
-    /// Who lives in a slot.
+    /// The transaction in a slot.
     Living { slot: Slot },
     /// What a transaction is doing.
     Doing { txn: TxnId },
-    /// How many stand ahead of a transaction in the queue of the node that it waits for.
+    /// How many waiters are ahead of a waiting transaction in the queue of its node.
     Ahead { txn: TxnId },
     /// How many nodes a transaction holds or waits for.
     LockCount { txn: TxnId },
@@ -71,9 +71,9 @@ pub(crate) enum Query {
     LockAt { txn: TxnId, place: usize },
     /// The mode in which the transaction of a slot holds a node.
     ModeAt { slot: Slot, node: NodeId },
-    /// How many wait for a node.
+    /// How many transactions wait for a node.
     QueueLen { node: NodeId },
-    /// Who waits for a node.
+    /// A transaction that waits for a node.
     QueueAt { node: NodeId, place: usize },
 }
 
@@ -210,7 +210,7 @@ fn records_reply(graph: &Graph, file: NodeId) -> Reply
     }
 }
 
-/// A kind's number, from 1 on.
+/// The number of a kind, from 1 on.
 fn kind_number(kind: Kind) -> u64
     ensures { result ≡ kind_number kind }
 {

@@ -1,4 +1,4 @@
-//! Questions, which change nothing. They take no memory, but for the effective mode.
+//! Questions, which change nothing and, except the effective mode, take no memory.
 
 ghost use Rattle.gl_steps.specs.declared.command.Command.TheVariants as command;
 ghost use Rattle.gl_c.specs.declared.questions.look.Query.TheVariants as query;
@@ -13,7 +13,7 @@ use crate::names::{Node, Txn};
 use crate::questions::look::Query;
 use gl_catalog::Command;
 
-/// The group mode of a node, which is the supremum of the modes in which it is held.
+/// The group mode of a node: the least that covers all modes held on it.
 #[unsafe(no_mangle)]
 pub extern "C" fn bs_call_group(manager: &mut Handle, node: Node) -> Reply
     ensures { Asks (guarded_in manager.old) (command.Group (node_id node)) result (guarded_in manager.new) }
@@ -32,7 +32,7 @@ pub extern "C" fn bs_call_held(manager: &mut Handle, txn: Txn, node: Node) -> Re
     })
 }
 
-/// What a transaction may do to a node by all its locks together. It takes memory.
+/// The effective mode of a transaction on a node: what all its locks together permit. Takes memory.
 #[unsafe(no_mangle)]
 pub extern "C" fn bs_call_effective(manager: &mut Handle, txn: Txn, node: Node) -> Reply
     ensures { Asks (guarded_in manager.old) (command.Effective (txn_id txn) (node_id node)) result (guarded_in manager.new) }
@@ -43,7 +43,7 @@ pub extern "C" fn bs_call_effective(manager: &mut Handle, txn: Txn, node: Node) 
     })
 }
 
-/// The node for which a transaction waits, and the wanted mode.
+/// The node that a transaction waits for, and the wanted mode.
 #[unsafe(no_mangle)]
 pub extern "C" fn bs_call_waiting(manager: &mut Handle, txn: Txn) -> Reply
     ensures { Looks (guarded_in manager.old) (query.Waiting (txn_id txn)) result (guarded_in manager.new) }
@@ -81,7 +81,7 @@ pub extern "C" fn bs_call_parent(manager: &mut Handle, node: Node, place: usize)
     })
 }
 
-/// A key of a record, by the place of the index.
+/// A key of a record, by the place of its index.
 #[unsafe(no_mangle)]
 pub extern "C" fn bs_call_key(manager: &mut Handle, rec: Node, place: usize) -> Reply
     ensures { Looks (guarded_in manager.old) (query.Key (node_id rec) place) result (guarded_in manager.new) }
@@ -114,7 +114,7 @@ pub extern "C" fn bs_call_interval(manager: &mut Handle, index: Node, place: usi
     })
 }
 
-/// The interval of an index in which a key lies.
+/// The interval of an index to which a key belongs.
 #[unsafe(no_mangle)]
 pub extern "C" fn bs_call_interval_of(manager: &mut Handle, index: Node, key: u64) -> Reply
     ensures { Looks (guarded_in manager.old) (query.IntervalOf (node_id index) key) result (guarded_in manager.new) }
@@ -159,7 +159,7 @@ pub extern "C" fn bs_call_accepted(manager: &mut Handle) -> Reply
     manager.look(Query::Accepted)
 }
 
-/// How deadlocks are found.
+/// How deadlocks are detected.
 #[unsafe(no_mangle)]
 pub extern "C" fn bs_call_detect(manager: &mut Handle) -> Reply
     ensures { Looks (guarded_in manager.old) query.Detect result (guarded_in manager.new) }
@@ -167,7 +167,7 @@ pub extern "C" fn bs_call_detect(manager: &mut Handle) -> Reply
     manager.look(Query::Detect)
 }
 
-/// Whom a deadlock takes.
+/// How victims are chosen.
 #[unsafe(no_mangle)]
 pub extern "C" fn bs_call_victims(manager: &mut Handle) -> Reply
     ensures { Looks (guarded_in manager.old) query.Victims result (guarded_in manager.new) }

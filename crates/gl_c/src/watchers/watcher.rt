@@ -1,4 +1,4 @@
-//! A watcher, as it lies behind C's pointer.
+//! The watcher that C's pointer points to.
 
 ghost use Rattle.std.specs.Prelude.{◌≡◌};
 ghost use Rattle.gl_c.specs.watchers.Watching.{IsLook};
@@ -27,7 +27,7 @@ impl Watcher {
         Watcher { eye }
     }
 
-    /// The last board that was shown, never an older one than before.
+    /// The last board that was shown, never older than one before.
     pub(crate) fn look(&mut self) -> Board
         ensures { IsLook self.old result self.new }
     {

@@ -1,4 +1,4 @@
-//! Watchers come, look and go.
+//! Calls that make, use and end watchers.
 
 ghost use Rattle.std.specs.Prelude.{◌≡◌, None};
 ghost use Rattle.gl_c.specs.managers.Handle.{guarded_in};
@@ -15,8 +15,8 @@ use gl_modes::Refusal;
 use gl_window::WatchFault;
 use std::alloc::Global;
 
-/// Makes a watcher of a manager at a place that has none, which knows the board of now. At most eight
-/// there are at once. It takes memory.
+/// Makes a watcher of a manager at a place that has none; it starts with the board of this moment.
+/// There are at most eight at once. Takes memory.
 #[unsafe(no_mangle)]
 pub extern "C" fn bs_call_watch(manager: &mut Handle, watcher: &mut Lookout, alloc: Global) -> Reply
     ensures { Watches (guarded_in manager.old) (watcher_in watcher.old) result (guarded_in manager.new) (watcher_in watcher.new) }
@@ -40,7 +40,7 @@ pub extern "C" fn bs_call_watch(manager: &mut Handle, watcher: &mut Lookout, all
     Reply::with_status(DONE)
 }
 
-/// Writes down the last board that was shown, with no lock: never an older one than this watcher was
+/// Writes the last board that was shown, without a lock: never older than one that this watcher was
 /// given before.
 #[unsafe(no_mangle)]
 pub extern "C" fn bs_call_look(watcher: &mut Lookout, board: &mut Board) -> Reply
@@ -49,7 +49,7 @@ pub extern "C" fn bs_call_look(watcher: &mut Lookout, board: &mut Board) -> Repl
     watcher.look(board)
 }
 
-/// Ends a watcher, and gives back its memory; its place has none from then on.
+/// Ends a watcher, and frees its memory. The place then has no watcher.
 #[unsafe(no_mangle)]
 pub extern "C" fn bs_call_watch_end(watcher: &mut Lookout) -> Reply
     ensures replied { result ≡ left (watcher_in watcher.old) }

@@ -1,4 +1,4 @@
-//! The session of a manager: put to its place, taken out, and used.
+//! The session at the place of a manager: put there, removed, and used.
 
 ghost use Rattle.std.specs.Prelude.{◌≡◌, [], IfSome, None, Some, is_some};
 ghost use Rattle.std.specs.Option.{option_map};
@@ -43,7 +43,7 @@ use gl_window::{WatchFault, Watcher};
 use std::alloc::Global;
 use std::mem::replace;
 
-/// The reply where there is no manager, and nobody is told.
+/// The reply if there is no manager; there are no notices.
 fn declined(told: &mut Notices) -> Reply
     ensures replied { result ≡ status_reply no_manager }
     ensures tells { Tells told.new [] }
@@ -81,7 +81,7 @@ impl Handle {
         self.is_open
     }
 
-    /// Takes the session out, if there is one.
+    /// Removes the session, if there is one.
     pub(crate) fn take(&mut self) -> Option<Box<Session, Global>>
         ensures taken { option_map (λ session. session.value) result ≡ guarded_in self.old }
         ensures none { guarded_in self.new ≡ None }
@@ -95,8 +95,8 @@ impl Handle {
         }
     }
 
-    /// Carries out a command, and writes down whom it tells. Inlined, as all below it, so that a call for
-    /// one kind of command makes no choice.
+    /// Carries out a command, and writes its notices. Inlined, as all below it, so that a call for one
+    /// kind of command makes no choice.
     #[inline(always)]
     pub(crate) fn carry_out(&mut self, command: Command<'_>, told: &mut Notices) -> Reply
         ensures { Carries (guarded_in self.old) command.entry result told.new (guarded_in self.new) }
@@ -110,7 +110,7 @@ impl Handle {
         reply
     }
 
-    /// Locks a node with what has to be held above it, and writes down whom it tells. Inlined, so that the
+    /// Locks a node after what must be held above it, and writes the notices. Inlined, so that the
     /// reply is copied once.
     #[inline(always)]
     pub(crate) fn lock_path(
@@ -131,7 +131,7 @@ impl Handle {
         reply
     }
 
-    /// Goes back to a savepoint, and writes down whom it tells.
+    /// Rolls back to a savepoint, and writes the notices.
     pub(crate) fn release_since(&mut self, txn: TxnId, mark: usize, told: &mut Notices) -> Reply
         ensures { CarriesBack (guarded_in self.old) txn mark result told.new (guarded_in self.new) }
     {
@@ -144,7 +144,7 @@ impl Handle {
         reply
     }
 
-    /// Carries out a call about rows, and writes down whom it tells.
+    /// Carries out a call about rows, and writes its notices.
     #[inline(always)]
     pub(crate) fn carry_out_row(&mut self, call: RowCall<'_>, told: &mut Notices) -> Reply
         ensures { CarriesRow (guarded_in self.old) call.entry result told.new (guarded_in self.new) }
@@ -158,7 +158,7 @@ impl Handle {
         reply
     }
 
-    /// Carries out a call about rows that tells nobody.
+    /// Carries out a call about rows that notifies nobody.
     pub(crate) fn ask_row(&mut self, call: RowCall<'_>) -> Reply
         ensures { AsksRow (guarded_in self.old) call.entry result (guarded_in self.new) }
     {
@@ -171,7 +171,7 @@ impl Handle {
         reply
     }
 
-    /// Carries out a command that tells nobody.
+    /// Carries out a command that notifies nobody.
     #[inline(always)]
     pub(crate) fn ask(&mut self, command: Command<'_>) -> Reply
         ensures { Asks (guarded_in self.old) command.entry result (guarded_in self.new) }
@@ -199,7 +199,7 @@ impl Handle {
         reply
     }
 
-    /// The node by which a row is named.
+    /// The node of a row.
     pub(crate) fn row_node(&mut self, row: Row) -> Reply
         ensures { FindsRow (guarded_in self.old) row result (guarded_in self.new) }
     {
@@ -212,7 +212,7 @@ impl Handle {
         reply
     }
 
-    /// Writes the board of this moment down.
+    /// Writes the snapshot of this moment.
     pub(crate) fn show(&mut self, board: &mut Board) -> Reply
         ensures { Shows (guarded_in self.old) result board.old board.new (guarded_in self.new) }
     {
@@ -225,7 +225,7 @@ impl Handle {
         Reply::with_status(DONE)
     }
 
-    /// What became of the wait of a transaction for a node.
+    /// What became of the transaction's wait for a node.
     pub(crate) fn verdict(&mut self, txn: TxnId, node: NodeId, mode: Mode) -> Reply
         ensures { Judges (guarded_in self.old) txn node mode result (guarded_in self.new) }
     {
@@ -251,7 +251,7 @@ impl Handle {
         found
     }
 
-    /// A watcher that knows the board of now; `None` where there is no manager.
+    /// A watcher that starts with the present snapshot; `None` if there is no manager.
     pub(crate) fn watch(&mut self) -> Option<Result<Watcher, WatchFault>>
         ensures { Attends (guarded_in self.old) result (guarded_in self.new) }
     {
@@ -264,7 +264,7 @@ impl Handle {
         Some(watcher)
     }
 
-    /// The slots of those who hold a node.
+    /// The slots of the transactions that hold a node.
     pub(crate) fn holders(&mut self, node: NodeId) -> Found
         ensures { FindsIn (guarded_in self.old) (λ s. first_refusal (group_tests s node)) (λ s u. holds (members s node) u) result (guarded_in self.new) }
     {
@@ -277,7 +277,7 @@ impl Handle {
         found
     }
 
-    /// The slots of those for whom a transaction waits.
+    /// The slots for which a transaction waits.
     pub(crate) fn waits_for(&mut self, txn: TxnId) -> Found
         ensures { FindsIn (guarded_in self.old) (λ s. first_refusal (living_tests s txn)) (λ s u. waits_for s txn.slot u) result (guarded_in self.new) }
     {
@@ -290,7 +290,7 @@ impl Handle {
         found
     }
 
-    /// Writes the last deadlock down.
+    /// Writes the last deadlock.
     pub(crate) fn recall(&mut self, deadlock: &mut Deadlock) -> Reply
         ensures { Recalls (guarded_in self.old) result deadlock.old deadlock.new (guarded_in self.new) }
     {
@@ -303,7 +303,7 @@ impl Handle {
         reply
     }
 
-    /// Writes down what the manager has been doing.
+    /// Writes what the manager has done.
     pub(crate) fn count(&mut self, counts: &mut Counts) -> Reply
         ensures { Counting (guarded_in self.old) result counts.old counts.new (guarded_in self.new) }
     {

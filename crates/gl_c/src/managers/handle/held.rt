@@ -8,7 +8,7 @@ use crate::managers::session::Session;
 use std::alloc::Global;
 use std::marker::{Model, Send};
 
-/// The place of a session, or of none: what C keeps of a manager.
+/// The place of a session, or of none: what C stores of a manager.
 #[repr(C)]
 #[derive(Drop)]
 pub struct Held {
@@ -21,11 +21,11 @@ impl Model for Held {
     ghost also_owns = { λ held. owns_session held.alloc held.at held.guarded };
 }
 
-// A session may go to another thread, and so may its place.
+// A session may move to another thread, and so may its place.
 unsafe impl Send for Held {}
 
 impl Held {
-    /// The place of no session.
+    /// A place without a session.
     pub(crate) fn none(alloc: Global) -> Held
         ensures { result.guarded ≡ None }
     {
@@ -35,7 +35,7 @@ impl Held {
         }
     }
 
-    /// The place of this session, which the caller gives up.
+    /// The place of this session, which then owns it.
     pub(crate) fn of(session: Box<Session, Global>) -> Held
         ensures { result.guarded ≡ Some session.value }
     {
@@ -46,7 +46,7 @@ impl Held {
         }
     }
 
-    /// The session at this place, of which there is one.
+    /// The session at this place, which must have one.
     pub(crate) fn into_session(self) -> Box<Session, Global>
         requires { is_some self.guarded ≡ true }
         ensures { Some result.value ≡ self.guarded }

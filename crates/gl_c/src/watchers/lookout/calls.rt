@@ -1,4 +1,4 @@
-//! The watcher of a place: put there, taken out, and used.
+//! The watcher at its place: put there, removed, and used.
 
 ghost use Rattle.std.specs.Prelude.{◌≡◌, None, Some, is_some};
 ghost use Rattle.std.specs.Option.{option_map};
@@ -44,7 +44,7 @@ impl Lookout {
         self.is_open
     }
 
-    /// Takes the watcher out, if there is one.
+    /// Removes the watcher, if there is one.
     pub(crate) fn take(&mut self) -> Option<Box<Watcher, Global>>
         ensures taken { option_map (λ watcher. watcher.value) result ≡ watcher_in self.old }
         ensures none { watcher_in self.new ≡ None }
@@ -62,7 +62,7 @@ impl Lookout {
         }
     }
 
-    /// Writes the board down that a look gives.
+    /// Writes the board of a look.
     pub(crate) fn look(&mut self, board: &mut Board) -> Reply
         ensures { Sees (watcher_in self.old) result board.old board.new (watcher_in self.new) }
     {

@@ -8,7 +8,7 @@ use crate::watchers::watcher::Watcher;
 use std::alloc::Global;
 use std::marker::{Model, Send};
 
-/// The place of a watcher, or of none: what C keeps of one.
+/// The place of a watcher, or of none: what C stores of one.
 #[repr(C)]
 #[derive(Drop)]
 pub struct Posted {
@@ -21,11 +21,11 @@ impl Model for Posted {
     ghost also_owns = { λ posted. owns_watcher posted.alloc posted.at posted.known };
 }
 
-// A watcher may go to another thread, and so may its place.
+// A watcher may move to another thread, and so may its place.
 unsafe impl Send for Posted {}
 
 impl Posted {
-    /// The place of no watcher.
+    /// A place without a watcher.
     pub(crate) fn none(alloc: Global) -> Posted
         ensures { result.known ≡ None }
     {
@@ -35,7 +35,7 @@ impl Posted {
         }
     }
 
-    /// The place of this watcher, which the caller gives up.
+    /// The place of this watcher, which then owns it.
     pub(crate) fn of(watcher: Box<Watcher, Global>) -> Posted
         ensures { result.known ≡ Some watcher.value }
     {
@@ -46,7 +46,7 @@ impl Posted {
         }
     }
 
-    /// The watcher at this place, of which there is one.
+    /// The watcher at this place, which must have one.
     pub(crate) fn into_watcher(self) -> Box<Watcher, Global>
         requires { is_some self.known ≡ true }
         ensures { Some result.value ≡ self.known }

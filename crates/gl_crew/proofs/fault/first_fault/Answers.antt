@@ -4,7 +4,7 @@ use Rattle.gl_crew.specs.declared.fault.CrewFault.{CrewFault}
 use Rattle.gl_crew.specs.Crews.{first_fault}
 use Rattle.gl_crew.proofs.fault.first_fault.Goals as goal
 
--- what is no fault is passed over
+-- an entry without a fault is skipped
 passed : (x : Option CrewFault) (rest : List (Option CrewFault)) → is_some x ≡ false → first_fault (x ∷ rest) ≡ first_fault rest
 passed None rest none = refl
 passed (Some fault) rest none = absurd (cc none)

@@ -8,7 +8,7 @@ use Rattle.gl_interpreter.proofs.Printing.{head_unused, head_used, none_unused}
 use Rattle.gl_interpreter.proofs.Writing.{Hands-none, Hands-then}
 use Rattle.gl_interpreter.proofs.answers.put_unused_listed.Goals as goal
 
--- of the nodes that are left the first is the one at hand
+-- of the remaining nodes the first is the present one
 left : (used slice : List Used) (i : ℕ) (u d : Used) → slice ≡ used → i < length slice → u ≡ get_or slice i d → drop i (map node_of used) ≡ node_of u
     ∷ drop (i + 1) (map node_of used)
 left used slice i u d value low is =

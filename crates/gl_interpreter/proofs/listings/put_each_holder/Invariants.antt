@@ -5,7 +5,7 @@ use Rattle.gl_interpreter.specs.Rows.{holder_row}
 use Rattle.gl_interpreter.specs.Views.{script_of}
 use Rattle.gl_interpreter.proofs.listings.put_each_holder.Given as goal
 
--- the rows of the slots so far; these and those that are left are all
+-- the rows of the slots so far; these and the remaining ones are all
 abbrev pub invariant-loop-slot : goal.invariant-loop-slot
 invariant-loop-slot g l =
     Hands (g.W.Write.contents l.fn.writer) l.fn.sink (g.W.Write.contents l.writer) l.sink (flat_map (holder_row (script_of l.desk) l.node) l.yielded)

@@ -6,7 +6,7 @@ use Rattle.gl_shared.specs.Batches.{Serves, accepted_in, goes_on}
 use Rattle.gl_wakes.specs.Wakes.{HasEnded}
 use Rattle.gl_shared.proofs.batch.serve_all.Given as goal
 
--- the commands taken so far were served, and went on; each has its answer, there is room for the others', and whose wait they ended is known
+-- the commands so far were served, and the list did not stop; each has its answer, there is room for the others', and the ended waits are known
 abbrev pub invariant-loop-command : goal.invariant-loop-command
 invariant-loop-command g l = record {
   ran : Serves l.fn.guarded l.commands l.answers.items l.guarded;

@@ -5,7 +5,7 @@ use Rattle.gl_interpreter.specs.Held.{Hands, Handed, Holds}
 use Rattle.gl_interpreter.proofs.Writing.{Appends-nil, Hands-then}
 use Rattle.gl_tool.proofs.entry.put_count.Goals as goal
 
--- what an empty sink has handed on
+-- what was written or buffered through an empty sink
 from_empty : (w w' : Option (List ℕ)) (s s' : Sink) (text : List ℕ) → s.held.items ≡ [] → s.broken ≡ false → Hands w s w' s' text → Holds w w' s' text
 unfolding Hands
 from_empty w w' s s' text empty whole h = h w [] (subst (λ b. Handed w w s.held.items b []) (sym whole) ([], Appends-nil w, sym empty))

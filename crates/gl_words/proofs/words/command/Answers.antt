@@ -5,7 +5,7 @@ use Rattle.clap.specs.Simple.{app_of_fields}
 use Rattle.gl_words.specs.Planned.{bare_app}
 use Rattle.gl_words.proofs.words.command.Goals as goal
 
--- the command line with one option more
+-- the command line with one more option
 more : (a b : App) (r s : Rule) → a ≡ b → r ≡ s → with_rule a r ≡ with_rule b s
 more a b r s e f = ap₂ with_rule e f
 

@@ -24,7 +24,7 @@ is_free_tool : is_simple_and_free tool_app ≡ true
 unfolding clap_on_literals
 is_free_tool = refl
 
--- what clap found is what the words hold
+-- what clap found is in the words
 rows_are : (app : App) (words : List Text) (m : ArgMatches) → app ≡ tool_app → HasMatchesOf app words m → rows_of (found_of m) ≡ rows_in words
 unfolding rows_in
 rows_are app words m is h = (h (ap is_simple is ∙ is_simple_tool)).0 ∙ ap (λ a. matches_of a words) is
@@ -33,7 +33,7 @@ faults_are : (app : App) (words : List Text) → app ≡ tool_app → fault_of a
 unfolding faults_in
 faults_are app words is = ap (λ a. fault_of a words) is
 
--- where clap refuses the words, and not for memory, they ask for nothing
+-- if clap refuses the words, and not for lack of memory, they ask for nothing
 refused : (kinds : Kinds) (words : List Text) (e : Error) (u : Unread) → (u ≡ Memory) ↔ (kind_of e ≡ OutOfMemory) → kinds ≡ faults_in words
     → HasKind kinds e → Reads words (Err u)
 refused kinds words e Memory why are h = tt
@@ -48,7 +48,7 @@ returns-in-Err g c =
     refused _ words c.in-Err.error c.cause.result (search rules) (faults_are _ words app_is)
     (c.in-Err.ensures.kinds (ap is_simple_and_free app_is ∙ is_free_tool))
 
--- the values of the options, as the words hold them
+-- the values of the options in the words
 module _ (words : List Text) (way choice : Option Text) (listings schema savepoints : Bool) (crew rounds : Option Text)
     (way_is : way ≡ first_of (codes "detect") (rows_in words))
     (choice_is : choice ≡ first_of (codes "victims") (rows_in words)) (listings_is : listings ≡ is_set (first_of (codes "listings") (rows_in words)))
@@ -58,7 +58,7 @@ module _ (words : List Text) (way choice : Option Text) (listings schema savepoi
   asked_is : (asked : Asked) → IsAsked way choice listings schema savepoints crew rounds asked ≡ IsAskedIn (rows_in words) asked
   asked_is asked = λ z. IsAsked (way_is z) (choice_is z) (listings_is z) (schema_is z) (savepoints_is z) (crew_is z) (rounds_is z) asked
 
-  -- where they ask for nothing, so do the words
+  -- if they ask for nothing, so do the words
   nothing : ((asked : Asked) → ¬ (IsAsked way choice listings schema savepoints crew rounds asked)) → HasNoPlan words
   nothing none asked p = none asked (transport (sym (asked_is asked)) p.1)
 

@@ -10,7 +10,7 @@ use Rattle.gl_interpreter.proofs.Writing.{Hands-none}
 use Rattle.gl_interpreter.proofs.interpreter.Interpreter.carry_out.Goals.{then-is_empty-via-then-is_empty, then-is_empty-via-else-is_empty+then-line-eq35}
 use Rattle.gl_interpreter.proofs.interpreter.Interpreter.carry_out.Goals as goal
 
--- a line has an answer where it is neither empty nor a comment
+-- a line has an answer if it is neither empty nor a comment
 not_silent : (line : List ℕ) → length line ≢ 0 → slice_index line 0 ≢ 35 → ¬ (IsSilent line)
 not_silent line some other (inl e) = some e
 not_silent line some other (inr e) = other e

@@ -22,7 +22,7 @@ use Rattle.gl_c.proofs.serving.Showing.{knows_nobody, shows_behind, sound_behind
 use Rattle.gl_c.proofs.managers.guarded.Guarded.serve_back.Goals.{After-from_residual}
 use Rattle.gl_c.proofs.managers.guarded.Guarded.serve_back.Goals as goal
 
--- it is refused, and all is as it was
+-- it is refused, and everything is unchanged
 
 same : (c : After-from_residual) → c.release_since.new.self ≡ c.self.inside.registry
 same c = λ i. record { manager = c.in_err-released.ensures.1.same_manager i; rows = c.in_err-released.ensures.1.same_rows i }
@@ -39,7 +39,7 @@ returns-in_err-released c =
     (view_of (record (c.self.inside) { registry = c.release_since.new.self }))) c.self.view_is
     (c.in_err-released.ensures, λ i. view_of (record (c.self.inside) { registry = same c i })))
 
--- it has gone back
+-- it was rolled back
 
 pub deliver-requires : goal.deliver-requires
 deliver-requires c =

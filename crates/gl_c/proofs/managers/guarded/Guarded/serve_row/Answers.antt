@@ -30,7 +30,7 @@ use Rattle.gl_c.proofs.serving.RowCalls.{nothing_done, row_counts, row_detect, r
 use Rattle.gl_c.proofs.serving.Showing.{shows_behind, sound_behind}
 use Rattle.gl_c.proofs.managers.guarded.Guarded.serve_row.Goals as goal
 
--- it comes to nothing
+-- it is refused, or the file is not a file of rows
 
 pub invariant_of-self : goal.invariant_of-self
 invariant_of-self c =
@@ -48,7 +48,7 @@ returns-then-comes_to_nothing c =
     (row_none (view_of c.self.inside) c.args.call c.apply-answer.result c.apply-answer.new.told.items c.apply-answer.new.self
     c.apply-answer.ensures.applies c.apply-answer.ensures.own (sym c.comes_to_nothing.ensures ∙ c.if-comes_to_nothing.true) c.self.invariant.known)
 
--- it comes to something
+-- it is neither
 
 came_to : (o : Option Answer) → comes_to_nothing o ≡ false → (x : Answer) × (o ≡ Some x) × (is_refused x ≡ false)
 came_to None e = absurd (true≢false e)
@@ -68,7 +68,7 @@ ended_by-self-inside-requires c =
     (row_rises c.self.inside.registry c.args.call c.apply-answer.result c.apply-answer.new.told.items c.apply-answer.new.self c.apply-answer.ensures.own
     found.0 found.1 found.2 c.law.ensures.manager.few)
 
--- what is known of the waits is so by the call's own command
+-- what is known of the waits depends on the call's own command
 noted : (parties : Option Slots) (call : RowCall) (a : Answer) (own : Command) (l told : Told) (o : Option Slots)
     → o ≡ still_known parties (λ known. leaves_waits known own a l) → own ≡ own_command unnamed call → l ≡ told
     → o ≡ still_known parties (λ known. leaves_waits known (own_command unnamed call) a told)

@@ -11,7 +11,7 @@ use Rattle.gl_steps.specs.declared.command.Command.{Command}
 use Rattle.gl_window.specs.Tellings.{leaves_waits, spares_waits, still_known}
 use Rattle.gl_c.proofs.managers.showing.Showing.keep.Goals as goal
 
--- where nobody waited and nobody waits, what was known is known still
+-- if nobody waited and nobody waits, what was known is still known
 idle_still : (parties : Option Slots) (c : Command) (a : Answer) (told : Told) → IsSomeAnd parties HasNoSlot → leaves_waiting a ≡ false
     → parties ≡ still_known parties (λ known. leaves_waits known c a told)
 idle_still None c a told idle goes = absurd idle

@@ -1,4 +1,4 @@
--- A place may go to another thread: its session may, and its allocator.
+-- A place may move to another thread: its session may, and its allocator.
 use base.Fraction.{full_share}
 use base.Shift.{Keyless}
 use denote.Builtin.{RawPtr}
@@ -24,12 +24,12 @@ lying m null_ptr = tt
 lying m (block_ptr b o) =
     part_keyless session.the_row session_crosses.the_send full_share m b o
 
--- and with the right to free its block
+-- and the right to free its block
 boxed : (a : Global) (m : GuardedView) (p : Ptr)
     → Keyless (box_owns (ghosts.dealloc_token a) session.the_row p m)
 boxed a m p = (lying m p, frees.frees a (raw (lone (session.the_row).mir)) p)
 
--- what a place owns, of somebody or of nobody
+-- what a place owns, with a session or without
 owned : (a : Global) (p : Ptr) (o : Option GuardedView) → Keyless (owns_session a p o)
 owned a p None = tt
 owned a p (Some m) = boxed a m p

@@ -1,4 +1,4 @@
--- `into_session` makes a box of the place of somebody.
+-- `into_session` makes a box of a place that has a session.
 use Rattle.std.proofs.Common.{◌≡◌, [], ◌∷◌, refl, sym, ap, ◌∙◌, subst}
 use lib.Dec.{T}
 use mir.Val.{Val, has_ty, WT}
@@ -47,7 +47,7 @@ use Rattle.gl_c.specs.contracts.managers.handle.held.Held.into_session.Key.{name
 use Rattle.gl_c.proofs.managers.handle.held.Held.into_session.Statement.{statement}
 use Rattle.gl_c.proofs.managers.handle.held.Held.into_session.Code as code
 
--- who is there
+-- the session at the place
 there : (o : Option GuardedView) → is_some o ≡ true → (m : GuardedView) × (o ≡ Some m)
 there (Some m) e = (m, refl)
 there None e = absurd (false≢true e)
@@ -72,7 +72,7 @@ into_session_spec {M} 𝓤 𝓛 𝓜 𝓡 wired =
     ⊛ ‵ (owns (types_at ended.signature.params κs) z.0.3 z.0.4))
     ∷ raw (fact 𝓤 (is_some d.guarded ≡ true))
     ∷ []) ∵
-    -- somebody is there
+    -- there is a session
     move ! (1 ∷ []) $
     heard ! (is_some d.guarded ≡ true) (λ somebody.
     let m = (there d.guarded somebody).0 in
@@ -95,7 +95,7 @@ into_session_spec {M} 𝓤 𝓛 𝓜 𝓡 wired =
     alloc_all ! (λ l.
     pass_all ! refl (place_typed p h fits, tt) $
     let here = env code.function.locals l in
-    -- the pointer to a local, the handle to another
+    -- the pointer to one local, the handle to another
     sets ! (of_opd ! (get_in !
     (fld ! refl (stop !)) (sub ! 0 refl (whole !))))
     refl (tt, tt) $
@@ -104,7 +104,7 @@ into_session_spec {M} 𝓤 𝓛 𝓜 𝓡 wired =
     refl fits $
     first ! $
     blocks ! $
-    -- what `from_raw` asks: that types outlive, the box, the handle and the pointer
+    -- what `from_raw` needs: that types outlive, the box, the handle and the pointer
     two_lives ! tt (λ α β.
     let κ : Lft = α ∷ [] in
     let ι : Lft = β ∷ [] in
@@ -159,7 +159,7 @@ into_session_spec {M} 𝓤 𝓛 𝓜 𝓡 wired =
     let typed : T (has_ty (layout B) u) × WT u =
     subst (λ (x : Val). T (has_ty (layout B) x) × WT x)
     (sym (ap only word)) (box.box_typed Boxing h' b' o' fits') in
-    -- what is ensured: who was there is in it
+    -- what is ensured: the box has the session of the place
     move ! (1 ∷ []) $
     heard ! (r.value ≡ m) (λ same.
     said ! (Some r.value ≡ d.guarded) (ap Some same ∙ sym is) $

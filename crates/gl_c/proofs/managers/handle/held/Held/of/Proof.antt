@@ -99,7 +99,7 @@ of_spec {M} 𝓤 𝓛 𝓜 𝓡 wired =
     alloc_all ! (λ l.
     pass_all ! refl (typed, tt) $
     sets ! (of_opd ! (get ! refl)) refl typed $
-    -- what `into_raw_with_allocator` asks: the box, and that types outlive
+    -- what `into_raw_with_allocator` needs: the box, and that types outlive
     fjoin ! $
     two_lives ! tt (λ α β.
     let κ : Lft = α ∷ [] in
@@ -192,7 +192,7 @@ of_spec {M} 𝓤 𝓛 𝓜 𝓡 wired =
     let p : Ptr = block_ptr b' o' in
     let made = place_typed p h' fits' in
     lands_as ! (ap only spelled ∙ ap (λ (q : Ptr). place q h') at) refl made $
-    -- the pointer to a local, the handle to another, and both to the result
+    -- the pointer to one local, the handle to another, and both to the result
     sets ! (of_opd ! (get_in !
     (fld ! refl (stop !)) (sub ! 0 refl (whole !))))
     refl (tt, tt) $

@@ -1,4 +1,4 @@
--- A place may go to another thread: its session may, and its allocator.
+-- A place may move to another thread: its watcher may, and its allocator.
 use base.Fraction.{full_share}
 use base.Shift.{Keyless}
 use denote.Builtin.{RawPtr}
@@ -18,18 +18,18 @@ use Rattle.gl_c.specs.contracts.watchers.lookout.posted.Posted.{the_row, the_typ
 use Rattle.gl_c.specs.contracts.watchers.watcher.Watcher as session
 use Rattle.gl_c.proofs.watchers.watcher.Watcher.TheSendSync as session_crosses
 
--- a session in memory; at null there is none
+-- a watcher in memory; at null there is none
 lying : (m : Strip) (p : Ptr) → Keyless (lies_at session.the_row full_share p m)
 lying m null_ptr = tt
 lying m (block_ptr b o) =
     part_keyless session.the_row session_crosses.the_send full_share m b o
 
--- and with the right to free its block
+-- and the right to free its block
 boxed : (a : Global) (m : Strip) (p : Ptr)
     → Keyless (box_owns (ghosts.dealloc_token a) session.the_row p m)
 boxed a m p = (lying m p, frees.frees a (raw (lone (session.the_row).mir)) p)
 
--- what a place owns, of somebody or of nobody
+-- what a place owns, with a watcher or without
 owned : (a : Global) (p : Ptr) (o : Option Strip) → Keyless (owns_watcher a p o)
 owned a p None = tt
 owned a p (Some m) = boxed a m p

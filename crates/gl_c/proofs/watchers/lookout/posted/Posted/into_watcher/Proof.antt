@@ -1,4 +1,4 @@
--- `into_watcher` makes a box of the place of somebody.
+-- `into_watcher` makes a box of a place that has a watcher.
 use Rattle.std.proofs.Common.{◌≡◌, [], ◌∷◌, refl, sym, ap, ◌∙◌, subst}
 use lib.Dec.{T}
 use mir.Val.{Val, has_ty, WT}
@@ -48,7 +48,7 @@ use Rattle.gl_c.specs.contracts.watchers.lookout.posted.Posted.into_watcher.Key.
 use Rattle.gl_c.proofs.watchers.lookout.posted.Posted.into_watcher.Statement.{statement}
 use Rattle.gl_c.proofs.watchers.lookout.posted.Posted.into_watcher.Code as code
 
--- who is there
+-- the watcher at the place
 there : (o : Option Strip) → is_some o ≡ true → (m : Strip) × (o ≡ Some m)
 there (Some m) e = (m, refl)
 there None e = absurd (false≢true e)
@@ -73,7 +73,7 @@ into_watcher_spec {M} 𝓤 𝓛 𝓜 𝓡 wired =
     ⊛ ‵ (owns (types_at ended.signature.params κs) z.0.3 z.0.4))
     ∷ raw (fact 𝓤 (is_some d.known ≡ true))
     ∷ []) ∵
-    -- somebody is there
+    -- there is a watcher
     move ! (1 ∷ []) $
     heard ! (is_some d.known ≡ true) (λ somebody.
     let m = (there d.known somebody).0 in
@@ -96,7 +96,7 @@ into_watcher_spec {M} 𝓤 𝓛 𝓜 𝓡 wired =
     alloc_all ! (λ l.
     pass_all ! refl (place_typed p h fits, tt) $
     let here = env code.function.locals l in
-    -- the pointer to a local, the handle to another
+    -- the pointer to one local, the handle to another
     sets ! (of_opd ! (get_in !
     (fld ! refl (stop !)) (sub ! 0 refl (whole !))))
     refl (tt, tt) $
@@ -105,7 +105,7 @@ into_watcher_spec {M} 𝓤 𝓛 𝓜 𝓡 wired =
     refl fits $
     first ! $
     blocks ! $
-    -- what `from_raw` asks: that types outlive, the box, the handle and the pointer
+    -- what `from_raw` needs: that types outlive, the box, the handle and the pointer
     two_lives ! tt (λ α β.
     let κ : Lft = α ∷ [] in
     let ι : Lft = β ∷ [] in
@@ -160,7 +160,7 @@ into_watcher_spec {M} 𝓤 𝓛 𝓜 𝓡 wired =
     let typed : T (has_ty (layout B) u) × WT u =
     subst (λ (x : Val). T (has_ty (layout B) x) × WT x)
     (sym (ap only word)) (box.box_typed Boxing h' b' o' fits') in
-    -- what is ensured: who was there is in it
+    -- what is ensured: the box has the watcher of the place
     move ! (1 ∷ []) $
     heard ! (r.value ≡ m) (λ same.
     said ! (Some r.value ≡ d.known) (ap Some same ∙ sym is) $

@@ -1,4 +1,4 @@
--- `none` puts null and the handle together: of a session it owns nothing.
+-- `none` puts null and the handle together: it owns no watcher.
 use Rattle.std.proofs.Common.{◌≡◌, [], ◌∷◌, refl}
 use mir.Val.{Val}
 use base.Logic.{SProp}

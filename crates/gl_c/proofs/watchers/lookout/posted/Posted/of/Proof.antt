@@ -63,7 +63,7 @@ use Rattle.gl_c.proofs.watchers.lookout.posted.Posted.of.Code as code
 abbrev Boxed : RattleType
 Boxed = boxed.the_row session.the_row heap.the_row ghosts
 
--- how a session is dropped
+-- how a watcher is dropped
 abbrev dropper : Dict
 dropper = impl ("gl_c::gl_c++watchers++watcher++Watcher+Destruct::drop" ∷ []) tnil dnil
 
@@ -100,7 +100,7 @@ of_spec {M} 𝓤 𝓛 𝓜 𝓡 wired =
     alloc_all ! (λ l.
     pass_all ! refl (typed, tt) $
     sets ! (of_opd ! (get ! refl)) refl typed $
-    -- what `into_raw_with_allocator` asks: the box, and that types outlive
+    -- what `into_raw_with_allocator` needs: the box, and that types outlive
     fjoin ! $
     two_lives ! tt (λ α β.
     let κ : Lft = α ∷ [] in
@@ -138,7 +138,7 @@ of_spec {M} 𝓤 𝓛 𝓜 𝓡 wired =
     (glues "gl_c::Destruct++none::drop" 𝓡.env
     (code.calls-gl_c::Destruct++none::drop 𝓡.env wired)
     Heap heap_laws_passed M 𝓤 𝓛 𝓜 𝓡)
-    -- a session is dropped by the drop of its own
+    -- a watcher is dropped by its own drop
     (let drop_it = code.calls-gl_c::gl_c++watchers++watcher++Watcher+Destruct::drop 𝓡.env wired in
     let world : World = record { M = M; 𝓤 = 𝓤; 𝓛 = 𝓛; 𝓜 = 𝓜; 𝓡 = 𝓡 } in
     let D = ended_of 0 drops.ps drops.r in
@@ -193,7 +193,7 @@ of_spec {M} 𝓤 𝓛 𝓜 𝓡 wired =
     let p : Ptr = block_ptr b' o' in
     let made = place_typed p h' fits' in
     lands_as ! (ap only spelled ∙ ap (λ (q : Ptr). place q h') at) refl made $
-    -- the pointer to a local, the handle to another, and both to the result
+    -- the pointer to one local, the handle to another, and both to the result
     sets ! (of_opd ! (get_in !
     (fld ! refl (stop !)) (sub ! 0 refl (whole !))))
     refl (tt, tt) $
