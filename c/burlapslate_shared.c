@@ -6,7 +6,7 @@
  * wait (bs_verdict), whose sleepers must be woken (bs_ended), that a look gives a whole board and never an older one.
  * Written in C here, and tested: the mutex and the condition variables, and the begin queue. They are in table_enter
  * and table_release, around each call; table_wake, after each command; table_hand_on, after what may have ended a
- * transaction; table_sleep, when a lock waits; table_sleep_in_line, when a begin does; bs_table_end; and
+ * transaction; table_sleep, when a lock waits; table_sleep_in_begin_queue, when a begin does; bs_table_end; and
  * table_watch_over, the thread that watches. So is what several calls of the manager, each of them proved, do together:
  * table_try_up and table_give_back, for a path that is tried, table_row_tried, for a row, and table_register, for a
  * wait, which may be for an instant and is then released when it is granted. And so are asks, whose end comes by a
@@ -22,21 +22,21 @@
 #include <unistd.h>
 
 /* A thread that sleeps for a slot, in its call's frame: its place in the queue, and what its begin was answered. */
-typedef struct table_turn {
-  struct table_turn *ahead, *behind;
+typedef struct table_queued_begin {
+  struct table_queued_begin *ahead, *behind;
   uint64_t since;      /* when its work began, or TABLE_NEW_WORK */
   bs_reply begun;      /* BS_WAITING: its turn has not come */
   pthread_cond_t came;
-} table_turn;
+} table_queued_begin;
 
 /* A thread that sleeps on a path, in the frame of its own call. */
-typedef struct table_way {
+typedef struct table_path {
   bs_txn txn;
   bs_node at;        /* the node that it waits for: that of the path, or one above it */
   bs_mode mode;      /* the mode in which it wants that */
   bool is_last;      /* it is that of the path */
   bool is_cancelled;
-} table_way;
+} table_path;
 
 /* What a call was left waiting for. */
 typedef struct table_wait {
@@ -115,9 +115,9 @@ struct bs_table {
   bs_manager manager;
   table_stage stage;
   bool is_due;                    /* this hold may have ended waits: waiters are woken or told as it ends */
-  table_turn *first;              /* the begin queue, by order of arrival, up to `last` */
+  table_queued_begin *first;      /* the begin queue, by order of arrival, up to `last` */
   bs_notices told;                /* by the last command whose caller wanted no list */
-  table_turn *last;
+  table_queued_begin *last;
   table_asks *asks;               /* null if nobody can ask without a sleep */
   size_t sleepers;                /* how many threads sleep, for a lock or for a slot */
   uint64_t waited;                /* how many commands had been accepted when the last lock was left waiting */
@@ -125,7 +125,7 @@ struct bs_table {
   bs_table *held_before;          /* if bs_table_hold holds this one: what its holder held before */
   uint32_t looks;                 /* how often a thread that finds the latch held retries before it sleeps */
   pthread_cond_t ended[BS_SLOTS]; /* by slot: a wait may be over */
-  table_way *ways[BS_SLOTS];      /* by slot: the thread that sleeps on a path */
+  table_path *paths[BS_SLOTS];    /* by slot: the thread that sleeps on a path */
   table_deadline deadlines[BS_SLOTS]; /* by slot: of the transaction of this age, and of no later one */
   bs_slots instantly;             /* the slots that wait for a lock for an instant */
   table_instant instants[BS_SLOTS]; /* by slot: for which, up to its next wait */
@@ -439,7 +439,7 @@ static inline bs_reply table_begin_since(bs_table *table, uint64_t since) {
   return since == TABLE_NEW_WORK ? bs_begin(&table->manager) : bs_begin_again(&table->manager, since);
 }
 
-static void table_join_line(bs_table *table, table_turn *own) {
+static void table_join_begin_queue(bs_table *table, table_queued_begin *own) {
   own->ahead = table->last;
   own->behind = NULL;
   if (table->last == NULL) table->first = own;
@@ -447,7 +447,7 @@ static void table_join_line(bs_table *table, table_turn *own) {
   table->last = own;
 }
 
-static void table_leave_line(bs_table *table, table_turn *own) {
+static void table_leave_begin_queue(bs_table *table, table_queued_begin *own) {
   if (own->ahead == NULL) table->first = own->behind;
   else own->ahead->behind = own->behind;
   if (own->behind == NULL) table->last = own->ahead;
@@ -457,36 +457,36 @@ static void table_leave_line(bs_table *table, table_turn *own) {
 /* After what may have ended a transaction: begins for the threads in the begin queue, in order, while a slot is free.
  * So no critical section leaves a slot free while a thread sleeps for one. And no turn can be lost: a thread whose time
  * is over has begun by then, or is in the queue still. */
-static TABLE_APART void table_serve_line(bs_table *table) {
+static TABLE_APART void table_serve_begin_queue(bs_table *table) {
   while (table->first != NULL) {
-    table_turn *next = table->first;
+    table_queued_begin *next = table->first;
     bs_reply begun = table_begin_since(table, next->since);
     if (begun.status == BS_TOO_MANY_TXNS) return;
     next->begun = begun;
-    table_leave_line(table, next);
+    table_leave_begin_queue(table, next);
     pthread_cond_signal(&next->came);
   }
 }
 
 static inline void table_hand_on(bs_table *table) {
-  if (table->first != NULL) table_serve_line(table);
+  if (table->first != NULL) table_serve_begin_queue(table);
 }
 
 /* Sleeps for a slot, with the latch held before and after, until another thread has begun for this one, or the time is
  * over, or the table ends. It asks whether it has begun before it looks at the clock. */
-static TABLE_APART bs_reply table_sleep_in_line(bs_table *table, uint64_t since, const struct timespec *until) {
-  table_turn own;
+static TABLE_APART bs_reply table_sleep_in_begin_queue(bs_table *table, uint64_t since, const struct timespec *until) {
+  table_queued_begin own;
   int late = 0;
   own.since = since;
   own.begun = bs_call_only(BS_WAITING);
   table_make_steady(&own.came);
-  table_join_line(table, &own);
+  table_join_begin_queue(table, &own);
   table->sleepers++;
   while (own.begun.status == BS_WAITING && late != ETIMEDOUT && table->stage == TABLE_OPEN) {
     late = table_doze(table, &own.came, until);
   }
   if (own.begun.status == BS_WAITING) {
-    table_leave_line(table, &own);
+    table_leave_begin_queue(table, &own);
     own.begun.status = BS_TIMED_OUT;
   }
   if (table->stage == TABLE_ENDING) own.begun = table_no_table(table);
@@ -623,7 +623,7 @@ bs_reply bs_call_table_make(bs_table **table, const bs_options *options, size_t 
 
 /* Wakes all sleepers of a table that ends. */
 static void table_wake_all(bs_table *table) {
-  table_turn *each;
+  table_queued_begin *each;
   size_t slot;
   for (slot = 0; slot < BS_SLOTS; slot++) pthread_cond_broadcast(&table->ended[slot]);
   for (each = table->first; each != NULL; each = each->behind) pthread_cond_signal(&each->came);
@@ -727,7 +727,7 @@ bs_reply bs_table_begin_again_in_turn(bs_table *table, uint64_t since, const str
   bs_reply reply;
   if (!table_enter_to_sleep(table, until)) return table_no_sleep(table);
   reply = table_begin_since(table, since);
-  if (reply.status == BS_TOO_MANY_TXNS) reply = table_sleep_in_line(table, since, until);
+  if (reply.status == BS_TOO_MANY_TXNS) reply = table_sleep_in_begin_queue(table, since, until);
   table_release(table);
   return reply;
 }
@@ -863,7 +863,7 @@ bs_reply bs_table_unlock(bs_table *table, bs_txn txn, bs_node node, bs_notices *
 /* After a cancel: if the wait was over by then, but its sleeper would wake to wait for the next node of its path, the
  * path must end instead. */
 static bs_reply table_cancel_path(bs_table *table, bs_txn txn, bs_reply cancelled) {
-  table_way *path = cancelled.status == BS_NOT_WAITING && txn.slot < BS_SLOTS ? table->ways[txn.slot] : NULL;
+  table_path *path = cancelled.status == BS_NOT_WAITING && txn.slot < BS_SLOTS ? table->paths[txn.slot] : NULL;
   bs_status end;
   if (path == NULL || path->txn.age != txn.age) return cancelled;
   end = bs_call_verdict(&table->manager, txn, path->at, path->mode).status;
@@ -898,16 +898,16 @@ static bs_reply table_path_inside(bs_table *table, bs_txn txn, bs_node node, bs_
                                   const struct timespec *until) {
   table_wait wait;
   bs_reply reply = table_path_now(table, txn, node, mode, &table->told, &wait);
-  table_way path;
+  table_path path;
   if (reply.status != BS_WAITING) return reply;
   path.txn = txn;
   path.at = wait.node;
   path.mode = wait.mode;
   path.is_last = table_is_same_node(path.at, node);
   path.is_cancelled = false;
-  table->ways[txn.slot] = &path;
+  table->paths[txn.slot] = &path;
   reply = table_sleep(table, txn, path.at, path.mode, until);
-  if (table->ways[txn.slot] == &path) table->ways[txn.slot] = NULL;
+  if (table->paths[txn.slot] == &path) table->paths[txn.slot] = NULL;
   if (reply.status != BS_MOVED && (reply.status != BS_DONE || path.is_last)) return reply;
   return bs_call_only(path.is_cancelled ? BS_NOT_WAITING : BS_ON_THE_WAY);
 }

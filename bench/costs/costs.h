@@ -10,7 +10,7 @@
 
 /* The other living transactions. */
 enum crowd {
-  ON_THE_WAY, /* so many that hold the nodes above the record in IX */
+  ON_THE_PATH, /* so many that hold the nodes above the record in IX */
   ELSEWHERE,  /* so many, of which half hold a root of their own each, and half wait for it */
   QUEUED      /* so many that wait for one root, and its holder */
 };
@@ -38,12 +38,12 @@ void close_scene(const struct scene *scene);
 
 /* The nodes that a round locks, from the root down to the record. Each thread has its own. */
 enum { ABOVE = 4 };
-struct way {
+struct path {
   bs_node above[ABOVE];
   bs_node record;
 };
 
-extern struct way ways[MOST_TOGETHER];
+extern struct path paths[MOST_TOGETHER];
 extern bs_manager manager;
 extern bs_notices told;
 extern bs_table *table;

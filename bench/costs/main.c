@@ -29,15 +29,15 @@ struct line {
   { "locks", word, title, piece, 0, { &door, crowd, others, false }, 1, BEST }
 
 #define ROUNDS(door, piece, word, title)                                  \
-  ROUND(door, piece, word, title ", alone", ON_THE_WAY, 0),               \
-  ROUND(door, piece, word "-8", title ", beside 8", ON_THE_WAY, 8),       \
-  ROUND(door, piece, word "-32", title ", beside 32", ON_THE_WAY, 32),    \
-  ROUND(door, piece, word "-64", title ", beside 64", ON_THE_WAY, 64),    \
-  ROUND(door, piece, word "-127", title ", beside 127", ON_THE_WAY, 127), \
+  ROUND(door, piece, word, title ", alone", ON_THE_PATH, 0),              \
+  ROUND(door, piece, word "-8", title ", beside 8", ON_THE_PATH, 8),      \
+  ROUND(door, piece, word "-32", title ", beside 32", ON_THE_PATH, 32),   \
+  ROUND(door, piece, word "-64", title ", beside 64", ON_THE_PATH, 64),   \
+  ROUND(door, piece, word "-127", title ", beside 127", ON_THE_PATH, 127), \
   ROUND(door, piece, word "-elsewhere", title ", 100 elsewhere", ELSEWHERE, 100)
 
 /* A piece that makes what it needs. */
-#define ITSELF { NULL, ON_THE_WAY, 0, false }
+#define ITSELF { NULL, ON_THE_PATH, 0, false }
 #define BY_ITSELF(group, word, title, piece, number, share) \
   { group, word, title, piece, number, ITSELF, share, BEST }
 #define RELEASE(word, title, piece, number) BY_ITSELF("locks", word, title, piece, number, 1000)
@@ -48,12 +48,12 @@ struct line {
   { "sessions", word, title, piece, 0, { &door, crowd, others, is_watched }, 1, BEST }
 
 #define CROWDS(door, piece, word, title, is_watched)                                          \
-  CROWD(door, piece, word, title ", alone", ON_THE_WAY, 0, is_watched),                       \
+  CROWD(door, piece, word, title ", alone", ON_THE_PATH, 0, is_watched),                      \
   CROWD(door, piece, word "-elsewhere", title ", 100 elsewhere", ELSEWHERE, 100, is_watched), \
   CROWD(door, piece, word "-queued", title ", 126 in a queue", QUEUED, 126, is_watched)
 
 #define THREADS(word, title, count) \
-  { "sessions", word, title, rounds_in_threads, count, { &by_table, ON_THE_WAY, 0, false }, 1, MEDIAN }
+  { "sessions", word, title, rounds_in_threads, count, { &by_table, ON_THE_PATH, 0, false }, 1, MEDIAN }
 
 static const struct line lines[] = {
   ROUNDS(by_manager, rounds_by_manager, "round", "round, one list"),

@@ -4,7 +4,7 @@
  */
 #include "costs.h"
 
-struct way ways[MOST_TOGETHER];
+struct path paths[MOST_TOGETHER];
 bs_manager manager = BS_NO_MANAGER_HERE;
 bs_notices told;
 bs_table *table;
@@ -67,23 +67,23 @@ static void lock(const struct door *door, bs_txn txn, bs_node node, bs_mode mode
   DONE(door->serve(bs_do_at(BS_DO_LOCK, txn, node, mode)));
 }
 
-static void lock_above(const struct door *door, bs_txn txn, const struct way *way) {
+static void lock_above(const struct door *door, bs_txn txn, const struct path *path) {
   size_t i;
-  for (i = 0; i < ABOVE; i++) lock(door, txn, way->above[i], BS_IX);
+  for (i = 0; i < ABOVE; i++) lock(door, txn, path->above[i], BS_IX);
 }
 
 /* Makes the nodes of a path, and holds none of them. The index has two intervals. */
-static void make_way(const struct door *door, struct way *way) {
+static void make_path(const struct door *door, struct path *path) {
   static const uint64_t bound = 100, key = 50;
-  bs_node *above = way->above;
+  bs_node *above = path->above;
   bs_txn txn = begun_by(door);
   above[0] = made(door, (bs_command){ .kind = BS_DO_ADD_INNER });
   above[1] = made(door, (bs_command){ .kind = BS_DO_ADD_FILE, .parents = &above[0], .parent_count = 1 });
   above[2] = made(door, (bs_command){ .kind = BS_DO_ADD_INDEX, .parents = &above[0], .parent_count = 1,
                                       .file = above[1], .bounds = &bound, .bound_count = 1 });
   above[3] = DONE(door->interval(above[2], 0)).node;
-  lock_above(door, txn, way);
-  way->record = made(door, (bs_command){ .kind = BS_DO_INSERT, .txn = txn, .file = above[1], .keys = &key,
+  lock_above(door, txn, path);
+  path->record = made(door, (bs_command){ .kind = BS_DO_INSERT, .txn = txn, .file = above[1], .keys = &key,
                                          .key_count = 1 });
   DONE(door->serve(bs_do(BS_DO_COMMIT, txn)));
 }
@@ -98,8 +98,8 @@ static void queue_up(const struct door *door, size_t waiters) {
 static void join(const struct scene *scene) {
   size_t i;
   switch (scene->crowd) {
-    case ON_THE_WAY:
-      for (i = 0; i < scene->others; i++) lock_above(scene->door, begun_by(scene->door), &ways[0]);
+    case ON_THE_PATH:
+      for (i = 0; i < scene->others; i++) lock_above(scene->door, begun_by(scene->door), &paths[0]);
       break;
     case ELSEWHERE:
       for (i = 0; i < scene->others; i += 2) queue_up(scene->door, 1);
@@ -114,7 +114,7 @@ void open_scene(const struct scene *scene) {
   size_t i;
   if (scene->door == NULL) return;
   scene->door->open();
-  for (i = 0; i < MOST_TOGETHER; i++) make_way(scene->door, &ways[i]);
+  for (i = 0; i < MOST_TOGETHER; i++) make_path(scene->door, &paths[i]);
   join(scene);
   if (scene->is_watched) DONE(bs_table_watch(table, &watcher));
 }

@@ -238,7 +238,7 @@ static void commit(struct session *me) {
 }
 
 /* Requests X on a node and sleeps while it waits. Answers whether it was granted; otherwise it is the victim. */
-static bool lock_or_fall(struct session *me, bs_node node) {
+static bool lock_or_be_victim(struct session *me, bs_node node) {
   bs_reply reply = bs_lock(&manager, me->txn, node, BS_X, &me->notices);
   wake(&me->notices);
   if (reply.status == BS_VICTIM) return false;
@@ -255,7 +255,7 @@ static void take_turns(size_t number) {
   while (left-- > 0) {
     commit(me);
     begin(me);
-    WANT(lock_or_fall(me, inner[0]));
+    WANT(lock_or_be_victim(me, inner[0]));
   }
   commit(me);
   latch_off();
@@ -271,7 +271,7 @@ uint64_t ours_wait_paired(long rounds) {
   return together(2, take_turns);
 }
 
-static void fall_out(size_t number) {
+static void close_a_cycle(size_t number) {
   struct session *me = &sessions[number], *other = &sessions[1 - number];
   bs_node first = number == 0 ? inner[0] : other_root;
   bs_node second = number == 0 ? other_root : inner[0];
@@ -283,7 +283,7 @@ static void fall_out(size_t number) {
     latch_off();
     meet();
     latch_on();
-    if (lock_or_fall(me, second)) {
+    if (lock_or_be_victim(me, second)) {
       WANT(me->txn.age < other->txn.age);
       commit(me);
     } else {
@@ -299,7 +299,7 @@ static void fall_out(size_t number) {
 
 uint64_t ours_deadlock_paired(long rounds) {
   rounds_each = rounds;
-  return together(2, fall_out);
+  return together(2, close_a_cycle);
 }
 
 /* ------------------------------------------------------------------------------------------------

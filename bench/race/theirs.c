@@ -202,7 +202,7 @@ uint64_t theirs_wait_paired(long rounds) {
 }
 
 /* The second has the greater locker id, and so is the younger. */
-static void fall_out(size_t number) {
+static void close_a_cycle(size_t number) {
   size_t first = number == 0 ? 0 : OTHER_ROOT, second = number == 0 ? OTHER_ROOT : 0;
   u_int32_t locker = lockers[number];
   long left = rounds_each;
@@ -222,7 +222,7 @@ uint64_t theirs_deadlock_paired(long rounds) {
   uint64_t taken;
   WANT(lockers[0] < lockers[1]);
   rounds_each = rounds;
-  taken = together(2, fall_out);
+  taken = together(2, close_a_cycle);
   WANT(statistics().st_ndeadlocks == (uintmax_t)rounds);
   return taken;
 }

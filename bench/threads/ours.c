@@ -121,7 +121,7 @@ static bool short_in_list(struct worker *worker, const struct touch *touches) {
  */
 
 /* Ends a transaction that was chosen as victim after so many rows. */
-static bool fallen(struct worker *worker, bs_txn txn, const struct touch *touches, size_t count) {
+static bool ended_as_victim(struct worker *worker, bs_txn txn, const struct touch *touches, size_t count) {
   undo_rows(touches, count);
   DONE(bs_table_abort(table, txn, NULL));
   worker->commands++;
@@ -158,7 +158,7 @@ static bool nodes_by_calls(struct worker *worker, const struct touch *touches) {
   size_t i;
   worker->commands++;
   for (i = 0; i < TOUCHES; i++) {
-    if (!lock_node(worker, txn, &touches[i])) return fallen(worker, txn, touches, i);
+    if (!lock_node(worker, txn, &touches[i])) return ended_as_victim(worker, txn, touches, i);
     touch_row(&touches[i]);
   }
   return committed(worker, txn);
@@ -192,7 +192,7 @@ static bool nodes_in_lists(struct worker *worker, const struct touch *touches) {
   list[1] = bs_do_at(BS_DO_LOCK_PATH, txn, rows[touches[0].row], mode_of(&touches[0]));
   for (i = 0; i < TOUCHES; i++) {
     bool is_done = i == 0 ? run_through(worker, list, 2, &txn) : lock_node(worker, txn, &touches[i]);
-    if (!is_done) return fallen(worker, txn, touches, i);
+    if (!is_done) return ended_as_victim(worker, txn, touches, i);
     touch_row(&touches[i]);
   }
   return committed(worker, txn);
@@ -216,7 +216,7 @@ static bool numbers_by_calls(struct worker *worker, const struct touch *touches)
   size_t i;
   worker->commands++;
   for (i = 0; i < TOUCHES; i++) {
-    if (!lock_number(worker, txn, &touches[i])) return fallen(worker, txn, touches, i);
+    if (!lock_number(worker, txn, &touches[i])) return ended_as_victim(worker, txn, touches, i);
     touch_row(&touches[i]);
   }
   return committed(worker, txn);
@@ -239,7 +239,7 @@ static bool numbers_in_lists(struct worker *worker, const struct touch *touches)
     list[count].keys = &row;
     list[count].key_count = 1;
     list[count++].mode = mode_of(touch);
-    if (!run_through(worker, list, count, &txn)) return fallen(worker, txn, touches, i);
+    if (!run_through(worker, list, count, &txn)) return ended_as_victim(worker, txn, touches, i);
     touch_row(touch);
   }
   return committed(worker, txn);

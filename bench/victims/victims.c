@@ -32,7 +32,7 @@ struct locker {
   bs_txn txn;
   bool waits;
   uint64_t since; /* the first begin of its work */
-  long falls;     /* how often it was chosen as victim since then */
+  long times_victim; /* how often it was chosen as victim since then */
 };
 
 struct mix {
@@ -41,7 +41,7 @@ struct mix {
   struct locker lockers[BS_SLOTS]; /* by slot */
   uint64_t state;
   bool keeps_turns; /* a victim's work begins again with its first number */
-  long deadlocks, victims, worst, aborts, commits, most_falls;
+  long deadlocks, victims, worst, aborts, commits, most_times_victim;
 };
 
 /* The next random number (xorshift). */
@@ -53,14 +53,14 @@ static uint32_t chance(struct mix *x, uint32_t below) {
 }
 
 /* Ends waits as told, and answers the number of victims. These must still be aborted. */
-static long take_notices(struct mix *x, bool fell[BS_SLOTS]) {
+static long take_notices(struct mix *x, bool is_victim[BS_SLOTS]) {
   long victims = 0;
   size_t i;
   for (i = 0; i < told.count; i++) {
     uint32_t slot = told.at[i].txn.slot;
     x->lockers[slot].waits = false;
     if (told.at[i].kind != BS_TOLD_VICTIM) continue;
-    fell[slot] = true;
+    is_victim[slot] = true;
     victims++;
   }
   return victims;
@@ -70,7 +70,7 @@ static void begin_work(struct mix *x, size_t slot) {
   struct locker *l = &x->lockers[slot];
   l->txn = begun(&x->manager);
   l->since = l->txn.age;
-  l->falls = 0;
+  l->times_victim = 0;
   WANT(l->txn.slot == slot);
 }
 
@@ -80,30 +80,30 @@ static void abort_and_begin(struct mix *x, size_t slot) {
   DONE(bs_abort(&x->manager, l->txn, &told));
   WANT(take_notices(x, none) == 0);
   x->aborts++;
-  l->falls++;
-  if (l->falls > x->most_falls) x->most_falls = l->falls;
+  l->times_victim++;
+  if (l->times_victim > x->most_times_victim) x->most_times_victim = l->times_victim;
   l->txn = x->keeps_turns ? DONE(bs_begin_again(&x->manager, l->since)).txn : begun(&x->manager);
   WANT(l->txn.slot == slot);
 }
 
 static void ask(struct mix *x, size_t slot) {
   static const bs_mode modes[] = { BS_IS, BS_IX, BS_S, BS_SIX, BS_X };
-  bool fell[BS_SLOTS] = { false };
+  bool is_victim[BS_SLOTS] = { false };
   bs_node node = x->nodes[chance(x, NODES)];
   bs_status status = bs_lock(&x->manager, x->lockers[slot].txn, node, modes[chance(x, 5)], &told).status;
-  long victims = take_notices(x, fell);
+  long victims = take_notices(x, is_victim);
   size_t i;
   WANT(status == BS_DONE || status == BS_WAITING || status == BS_VICTIM);
   x->lockers[slot].waits = status == BS_WAITING;
   if (status == BS_VICTIM) {
-    fell[slot] = true;
+    is_victim[slot] = true;
     victims++;
   }
   x->deadlocks += victims > 0;
   x->victims += victims;
   if (victims > x->worst) x->worst = victims;
   for (i = 0; i < BS_SLOTS; i++) {
-    if (fell[i]) abort_and_begin(x, i);
+    if (is_victim[i]) abort_and_begin(x, i);
   }
 }
 
@@ -146,7 +146,7 @@ static void play(uint32_t choice, bool keeps_turns, size_t lockers, long steps) 
   printf("%3zu lockers, %-8s, %-14s: %5ld deadlocks, %5ld victims, %3ld at worst, %.2f aborts a commit, %5ld commits, "
          "one work fell %ld times\n",
          lockers, name_of(choice), keeps_turns ? "turns are kept" : "begins anew", x.deadlocks, x.victims, x.worst,
-         x.commits == 0 ? 0.0 : (double)x.aborts / (double)x.commits, x.commits, x.most_falls);
+         x.commits == 0 ? 0.0 : (double)x.aborts / (double)x.commits, x.commits, x.most_times_victim);
   DONE(bs_end(&x.manager));
 }
 
@@ -169,7 +169,7 @@ enum shape { RING, QUEUE };
 
 struct cycle {
   bs_manager manager;
-  bs_txn asker;
+  bs_txn requester;
   bs_node node;
 };
 
@@ -189,7 +189,7 @@ static void lay_ring(struct cycle *c) {
     DONE(bs_lock(&c->manager, txns[i], nodes[i], BS_X, &told));
   }
   for (i = 0; i + 1 < BS_SLOTS; i++) waits(c, txns[i], nodes[i + 1]);
-  c->asker = txns[BS_SLOTS - 1];
+  c->requester = txns[BS_SLOTS - 1];
   c->node = nodes[0];
 }
 
@@ -198,9 +198,9 @@ static void lay_queue(struct cycle *c) {
   bs_node queued = made_root(&c->manager);
   bs_txn txn;
   size_t i;
-  c->asker = begun(&c->manager);
+  c->requester = begun(&c->manager);
   c->node = made_root(&c->manager);
-  DONE(bs_lock(&c->manager, c->asker, queued, BS_X, &told));
+  DONE(bs_lock(&c->manager, c->requester, queued, BS_X, &told));
   for (i = 1; i < BS_SLOTS; i++) {
     txn = begun(&c->manager);
     if (i + 1 == BS_SLOTS) DONE(bs_lock(&c->manager, txn, c->node, BS_X, &told));
@@ -209,7 +209,7 @@ static void lay_queue(struct cycle *c) {
 }
 
 static MEASURED bs_status measured_lock(struct cycle *c) {
-  return bs_lock(&c->manager, c->asker, c->node, BS_X, &told).status;
+  return bs_lock(&c->manager, c->requester, c->node, BS_X, &told).status;
 }
 
 /* The nanoseconds of one closing block. */

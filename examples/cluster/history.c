@@ -30,7 +30,7 @@ struct deed {
   size_t count;
   struct item items[MOST_ITEMS];
   bool is_decided;
-  enum { NEW, ON_THE_WAY, CLEARED } mark; /* of the search for cycles */
+  enum { NEW, ON_THE_PATH, CLEARED } mark; /* of the search for cycles */
 };
 
 static struct deed deeds[MOST_TXNS];
@@ -213,9 +213,9 @@ static void visit_readers(const struct deed *writer, const struct item *item) {
 
 static void visit(struct deed *d) {
   size_t i;
-  if (d->mark == ON_THE_WAY) fail("a cycle of transactions: %" PRIu64 " is on it", d->number);
+  if (d->mark == ON_THE_PATH) fail("a cycle of transactions: %" PRIu64 " is on it", d->number);
   if (d->mark == CLEARED) return;
-  d->mark = ON_THE_WAY;
+  d->mark = ON_THE_PATH;
   for (i = 0; i < d->count; i++) {
     const struct item *item = &d->items[i];
     if (item->version > 0) visit(writers[item->account][item->version]);

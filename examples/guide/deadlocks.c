@@ -12,7 +12,7 @@ static bs_status close_cycle(bs_manager *m, const struct shop *s, bs_txn first, 
   return bs_lock_path(m, last, one, BS_X, &told).status;
 }
 
-/* The youngest falls: the asker, who is answered so, or another, who is told so. */
+/* The youngest falls: the requester, who is answered so, or another, who is told so. */
 void deadlocks_at_block(void) {
   bs_manager m;
   struct shop s;
@@ -37,16 +37,16 @@ void deadlocks_at_block(void) {
 void a_victim_keeps_its_turn(void) {
   bs_manager m;
   struct shop s;
-  bs_txn fell, other, again;
+  bs_txn victim, other, again;
   open_manager(&m, BS_AT_BLOCK, BS_YOUNGEST);
   s = make_shop(&m);
   other = begin(&m);
-  fell = begin(&m);
-  WANT(close_cycle(&m, &s, other, fell) == BS_VICTIM);
-  DONE(bs_abort(&m, fell, &told));
+  victim = begin(&m);
+  WANT(close_cycle(&m, &s, other, victim) == BS_VICTIM);
+  DONE(bs_abort(&m, victim, &told));
   DONE(bs_commit(&m, other, &told));
   other = begin(&m);
-  again = DONE(bs_begin_again(&m, fell.age)).txn;
+  again = DONE(bs_begin_again(&m, victim.age)).txn;
   WANT(close_cycle(&m, &s, other, again) == BS_WAITING && is_told(0, other, BS_TOLD_VICTIM));
   DONE(bs_abort(&m, other, &told));
   WANT(is_told(0, again, BS_TOLD_GRANTED));
@@ -88,7 +88,7 @@ void whom_a_deadlock_takes(void) {
 /* How many fall where all suspects of a board are settled, one after the other. */
 static size_t settle_all(bs_manager *m, const bs_board *board) {
   bs_slots suspects = bs_suspects(board).slots;
-  size_t fallen = 0;
+  size_t condemned = 0;
   uint32_t slot;
   for (slot = 0; slot < BS_SLOTS; slot++) {
     bs_txn suspect = { slot, board->ages[slot] };
@@ -96,9 +96,9 @@ static size_t settle_all(bs_manager *m, const bs_board *board) {
     if (!bs_has(suspects, slot)) continue;
     status = bs_settle(m, suspect, &told).status;
     WANT(status == BS_DONE || status == BS_NO_SUCH_TXN);
-    fallen += told.count;
+    condemned += told.count;
   }
-  return fallen;
+  return condemned;
 }
 
 /* Suspects of whom one has given way, and suspects that have ended. */

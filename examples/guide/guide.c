@@ -81,7 +81,7 @@ static void tell(const char *name, void (*topic)(void)) {
 int main(void) {
   setvbuf(stdout, NULL, _IONBF, 0);
   TELL(sessions_in_threads);
-  TELL(several_in_one_hold);
+  TELL(several_in_one_section);
   TELL(more_clients_than_slots);
   TELL(locks_that_do_not_wait);
   TELL(jobs_in_a_table);

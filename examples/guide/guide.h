@@ -39,7 +39,7 @@ uint64_t roll(uint64_t *dice);
 
 /* tables.c */
 void sessions_in_threads(void);
-void several_in_one_hold(void);
+void several_in_one_section(void);
 void more_clients_than_slots(void);
 
 /* tries.c */

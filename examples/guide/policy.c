@@ -1,6 +1,6 @@
 /*
  * A watcher with a choice of victims of its own: whoever holds the fewest rows gives way. The store has
- * the latch and the seats.
+ * the latch and the transactions' entries.
  */
 #include "guide.h"
 
@@ -32,11 +32,11 @@ static bs_txn with_fewest_rows(struct policy *p, const bs_board *board, bs_slots
 
 /* Its wait alone is taken away: its owner is told, undoes what it wrote, and aborts. */
 static void give_way(struct store *s, bs_txn txn) {
-  struct seat *seat = &s->seats[txn.slot];
+  struct txn_entry *entry = &s->txn_entries[txn.slot];
   DONE(bs_cancel(&s->manager, txn, &s->told));
   store_deliver(s);
-  seat->ending = VICTIM;
-  pthread_cond_signal(&seat->wake);
+  entry->ending = VICTIM;
+  pthread_cond_signal(&entry->wake);
 }
 
 /* The slots on a cycle with the lowest that is on one. */
@@ -77,7 +77,7 @@ static void *watch(void *arg) {
 }
 
 /* A transaction that asks for one more row. */
-struct asker {
+struct requester {
   struct policy *policy;
   bs_txn txn;
   bs_node wanted;
@@ -86,7 +86,7 @@ struct asker {
 };
 
 static void *ask(void *arg) {
-  struct asker *a = arg;
+  struct requester *a = arg;
   struct store *s = &a->policy->store;
   store_latch(s);
   a->ending = store_lock(s, a->txn, a->wanted, BS_X, PATIENCE);
@@ -109,8 +109,8 @@ static void stop(struct store *s, pthread_t thread) {
   WANT(pthread_join(thread, NULL) == 0);
 }
 
-static struct asker begin_asker(struct policy *p, bs_node has, bs_node wants) {
-  struct asker a = { .policy = p, .wanted = wants };
+static struct requester begin_requester(struct policy *p, bs_node has, bs_node wants) {
+  struct requester a = { .policy = p, .wanted = wants };
   bs_manager *m = &p->store.manager;
   a.txn = begin(m);
   DONE(bs_lock_path(m, a.txn, has, BS_X, &told));
@@ -121,15 +121,15 @@ static struct asker begin_asker(struct policy *p, bs_node has, bs_node wants) {
 void another_choice_of_victims(void) {
   static struct policy p;
   bs_manager *m = &p.store.manager;
-  struct asker light, heavy;
+  struct requester light, heavy;
   pthread_t watcher;
   bs_node left, right;
   store_open(&p.store, BS_BY_WATCHER);
   p.shop = make_shop(m);
   left = add_order(m, &p.shop, 20);
   right = add_order(m, &p.shop, 21);
-  light = begin_asker(&p, left, right);
-  heavy = begin_asker(&p, right, left);
+  light = begin_requester(&p, left, right);
+  heavy = begin_requester(&p, right, left);
   DONE(bs_lock_path(m, heavy.txn, add_order(m, &p.shop, 22), BS_X, &told));
   start(&watcher, watch, &p);
   start(&light.thread, ask, &light);

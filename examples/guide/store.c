@@ -19,7 +19,7 @@ void store_open(struct store *s, enum bs_detects detect) {
   pthread_condattr_setclock(&by_steady_clock, CLOCK_MONOTONIC);
   pthread_mutex_init(&s->latch, NULL);
   pthread_cond_init(&s->news, NULL);
-  for (slot = 0; slot < BS_SLOTS; slot++) pthread_cond_init(&s->seats[slot].wake, &by_steady_clock);
+  for (slot = 0; slot < BS_SLOTS; slot++) pthread_cond_init(&s->txn_entries[slot].wake, &by_steady_clock);
   pthread_condattr_destroy(&by_steady_clock);
   s->manager = none;
   options.detect = detect;
@@ -29,7 +29,7 @@ void store_open(struct store *s, enum bs_detects detect) {
 void store_close(struct store *s) {
   size_t slot;
   MUST(bs_end(&s->manager));
-  for (slot = 0; slot < BS_SLOTS; slot++) pthread_cond_destroy(&s->seats[slot].wake);
+  for (slot = 0; slot < BS_SLOTS; slot++) pthread_cond_destroy(&s->txn_entries[slot].wake);
   pthread_cond_destroy(&s->news);
   pthread_mutex_destroy(&s->latch);
 }
@@ -45,10 +45,10 @@ void store_unlatch(struct store *s) {
 void store_deliver(struct store *s) {
   size_t i;
   for (i = 0; i < s->told.count; i++) {
-    struct seat *seat = &s->seats[s->told.at[i].txn.slot];
-    seat->ending = (enum ending)s->told.at[i].kind;
-    s->ended[seat->ending]++;
-    pthread_cond_signal(&seat->wake);
+    struct txn_entry *entry = &s->txn_entries[s->told.at[i].txn.slot];
+    entry->ending = (enum ending)s->told.at[i].kind;
+    s->ended[entry->ending]++;
+    pthread_cond_signal(&entry->wake);
   }
 }
 
@@ -74,21 +74,21 @@ static enum ending give_up(struct store *s, bs_txn txn) {
 
 /* Nobody but a notice ends the wait: a wake without one is none, and goes on sleeping. */
 static enum ending sleep_until_told(struct store *s, bs_txn txn, unsigned patience) {
-  struct seat *seat = &s->seats[txn.slot];
+  struct txn_entry *entry = &s->txn_entries[txn.slot];
   struct timespec until = moment_in(patience);
   int status = 0;
   s->waits++;
   store_tell_news(s);
-  while (seat->ending == NOT_YET && status != ETIMEDOUT) {
-    if (patience == FOR_EVER) status = pthread_cond_wait(&seat->wake, &s->latch);
-    else status = pthread_cond_timedwait(&seat->wake, &s->latch, &until);
+  while (entry->ending == NOT_YET && status != ETIMEDOUT) {
+    if (patience == FOR_EVER) status = pthread_cond_wait(&entry->wake, &s->latch);
+    else status = pthread_cond_timedwait(&entry->wake, &s->latch, &until);
   }
-  return seat->ending == NOT_YET ? give_up(s, txn) : seat->ending;
+  return entry->ending == NOT_YET ? give_up(s, txn) : entry->ending;
 }
 
 enum ending store_lock(struct store *s, bs_txn txn, bs_node node, bs_mode mode, unsigned patience) {
   bs_reply reply;
-  s->seats[txn.slot].ending = NOT_YET;
+  s->txn_entries[txn.slot].ending = NOT_YET;
   reply = bs_lock(&s->manager, txn, node, mode, &s->told);
   store_deliver(s); /* With detection at block an ask can condemn others. */
   switch (reply.status) {

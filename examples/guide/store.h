@@ -19,7 +19,7 @@ enum ending {
   VICTIM = BS_TOLD_VICTIM, /* to end a deadlock: roll back, abort, and begin again */
   MOVED = BS_TOLD_MOVED,   /* the node has other parents now: ask again, from the root down */
   GONE = BS_TOLD_GONE,     /* the node is no more */
-  GAVE_UP = 5,             /* it took longer than the asker's patience */
+  GAVE_UP = 5,             /* it took longer than the requester's patience */
   ENDINGS = 6
 };
 
@@ -30,7 +30,7 @@ const char *ending_text(enum ending ending);
 enum { FOR_EVER = 0 };
 
 /* Where the transaction of a slot sleeps, and how its wait ended. */
-struct seat {
+struct txn_entry {
   pthread_cond_t wake;
   enum ending ending;
 };
@@ -40,7 +40,7 @@ struct store {
   pthread_cond_t news; /* somebody began to wait, came to a gate, or closes the store */
   bs_manager manager;
   bs_notices told; /* by the last call */
-  struct seat seats[BS_SLOTS];
+  struct txn_entry txn_entries[BS_SLOTS];
   uint64_t waits;          /* how many waits have begun */
   uint64_t ended[ENDINGS]; /* and how many have ended, by their endings */
   bool is_closing;

@@ -76,7 +76,7 @@ void sessions_in_threads(void) {
 }
 
 /* All but the begin is done in one hold of the latch. Where somebody has a row it is awaited, and the list goes on. */
-void several_in_one_hold(void) {
+void several_in_one_section(void) {
   bs_command list[3];
   bs_txn t, other;
   open_table(BS_AT_BLOCK, BS_SLOTS);

@@ -1,5 +1,5 @@
 /*
- * A thread that takes back the waits that are too old. The store has the latch and the seats.
+ * A thread that takes back the waits that are too old. The store has the latch and the transactions' entries.
  */
 #include "guide.h"
 
@@ -30,11 +30,11 @@ static enum ending timed_lock(struct patrol *p, bs_txn txn, bs_node node, bs_mod
 /* Whoever cancels is told nothing, and nor is the one whose wait it was: its owner is told here. */
 static void take_back(struct patrol *p, bs_txn txn) {
   struct store *s = &p->store;
-  struct seat *seat = &s->seats[txn.slot];
+  struct txn_entry *entry = &s->txn_entries[txn.slot];
   DONE(bs_cancel(&s->manager, txn, &s->told));
   store_deliver(s);
-  seat->ending = GAVE_UP;
-  pthread_cond_signal(&seat->wake);
+  entry->ending = GAVE_UP;
+  pthread_cond_signal(&entry->wake);
   p->ended++;
 }
 

@@ -387,7 +387,7 @@ static void ask_as_younger(struct heard *h, bs_txn *a, bs_txn *b) {
 }
 
 /* A lock that sleeps tells its victim before it sleeps: nothing else would ever end its wait here. */
-static void a_lock_fells_an_ask(void) {
+static void a_lock_condemns_an_ask(void) {
   struct heard h;
   bs_txn a, b;
   set_up(BS_AT_BLOCK);
@@ -398,7 +398,7 @@ static void a_lock_fells_an_ask(void) {
   close_table();
 }
 
-static void a_path_fells_an_ask(void) {
+static void a_path_condemns_an_ask(void) {
   struct heard h;
   bs_txn a, b;
   set_up(BS_AT_BLOCK);
@@ -409,7 +409,7 @@ static void a_path_fells_an_ask(void) {
 }
 
 /* An ask whose wait ends while it tells others is answered that end, and has no call. */
-static void an_ask_fells_an_ask(void) {
+static void an_ask_condemns_an_ask(void) {
   struct heard h, own;
   bs_txn a, b;
   set_up(BS_AT_BLOCK);
@@ -422,7 +422,7 @@ static void an_ask_fells_an_ask(void) {
 
 static bs_txn to_end;
 
-static void aborts_the_asker(struct heard *h) {
+static void aborts_the_requester(struct heard *h) {
   (void)h;
   DONE(bs_table_abort(table, to_end, NULL));
 }
@@ -432,7 +432,7 @@ static void an_ask_is_ended_by_what_it_tells(void) {
   bs_txn a, b;
   set_up(BS_AT_BLOCK);
   ask_as_younger(&h, &a, &b);
-  h.does = aborts_the_asker;
+  h.does = aborts_the_requester;
   to_end = a;
   ANSWERS(BS_NO_SUCH_TXN, ask(&own, a, root, BS_X));
   HEARD_BY_NOW(&h, BS_VICTIM);
@@ -441,7 +441,7 @@ static void an_ask_is_ended_by_what_it_tells(void) {
 }
 
 /* The requester itself is the victim, and is answered so. */
-static void an_asker_falls(void) {
+static void a_requester_is_victim(void) {
   struct heard one, two;
   bs_txn a, b;
   set_up(BS_AT_BLOCK);
@@ -571,7 +571,7 @@ static void paths_meet_on_their_ways(void) {
 }
 
 /* Others become victims for a lock above, which is then granted: the path continues, and they are told. */
-static void a_path_goes_on_where_others_fall(void) {
+static void a_path_goes_on_where_others_are_victims(void) {
   struct heard one, two, own;
   bs_node other;
   bs_txn a, b, c;
@@ -977,10 +977,10 @@ static void a_table_without_a_function(void) {
   ANSWERS(BS_NULL_POINTER, ask(&h, a, root, BS_S));
   ANSWERS(BS_NULL_POINTER, ask_path(&h, a, root, BS_S));
   WANT(DONE(bs_table_expire(table, NULL)).count == 0);
-  refused_growth = 1;
+  refused_allocation = 1;
   ANSWERS(BS_NO_MEMORY, bs_table_on_end(table, hear, &context_word));
   DONE(bs_table_on_end(table, hear, &context_word));
-  refused_growth = 1;
+  refused_allocation = 1;
   ANSWERS(BS_NO_MEMORY, ask(&h, a, root, BS_S));
   DONE(ask(&h, a, root, BS_S));
   WANT(calls == 0);
@@ -997,9 +997,9 @@ static void asks_without_memory(void) {
   DONE(bs_table_lock_path(table, a, low, BS_X, NULL));
   for (n = 1;; n++) {
     bs_reply reply;
-    refused_growth = n;
+    refused_allocation = n;
     reply = ask_path(&h, b, low, BS_X);
-    refused_growth = 0;
+    refused_allocation = 0;
     if (reply.status == BS_WAITING) break;
     ANSWERS(BS_NO_MEMORY, reply);
     WANT(wait_in(table, b).status == BS_NOT_WAITING);
@@ -1613,11 +1613,11 @@ static void an_event_loop(void) {
 
 static unsigned patience = 20;
 
-static void tell(const char *name, void (*play)(void)) {
+static void tell(const char *name, void (*body)(void)) {
   long before = blocks_out();
   story = name;
   feed(patience);
-  play();
+  body();
   WANT(blocks_out() == before);
   printf("%s\n", name);
 }
@@ -1634,18 +1634,18 @@ int main(int count, char **words) {
   TELL(a_savepoint_ends_asks_for_an_instant);
   TELL(an_escalation_ends_an_ask);
   TELL(a_move_and_a_drop_end_asks);
-  TELL(a_lock_fells_an_ask);
-  TELL(a_path_fells_an_ask);
-  TELL(an_ask_fells_an_ask);
+  TELL(a_lock_condemns_an_ask);
+  TELL(a_path_condemns_an_ask);
+  TELL(an_ask_condemns_an_ask);
   TELL(an_ask_is_ended_by_what_it_tells);
-  TELL(an_asker_falls);
+  TELL(a_requester_is_victim);
   TELL(a_settle_ends_an_ask);
   TELL(a_watching_thread_ends_asks);
   TELL(a_path_goes_on);
   TELL(a_path_comes_to_its_end);
   TELL(a_path_begins_anew);
   TELL(paths_meet_on_their_ways);
-  TELL(a_path_goes_on_where_others_fall);
+  TELL(a_path_goes_on_where_others_are_victims);
   TELL(a_path_ends_on_its_way);
   TELL(a_row_is_asked_for);
   TELL(a_row_with_too_many_keys);

@@ -964,7 +964,7 @@ static void compare_additions(const struct session *sessions) {
 static void crowd(const char *name, uint32_t detect, uint32_t victims, uint32_t most, unsigned patience) {
   static struct session sessions[THREADS];
   struct looker lookers[WATCHERS];
-  long fell = 0, slept = 0, late = 0, others = 0, changed_indexes = 0, looks = 0;
+  long times_victim = 0, slept = 0, late = 0, others = 0, changed_indexes = 0, looks = 0;
   size_t i;
   story = name;
   feed(patience);
@@ -987,7 +987,7 @@ static void crowd(const char *name, uint32_t detect, uint32_t victims, uint32_t 
   for (i = 0; i < WATCHERS; i++) join(lookers[i].thread);
   for (i = 0; i < WATCHERS; i++) looks += lookers[i].looks;
   for (i = 0; i < THREADS; i++) {
-    fell += sessions[i].victims;
+    times_victim += sessions[i].victims;
     slept += sessions[i].slept;
     late += sessions[i].late;
     others += sessions[i].others;
@@ -998,7 +998,7 @@ static void crowd(const char *name, uint32_t detect, uint32_t victims, uint32_t 
   DONE(bs_table_end(table));
   DONE(bs_table_free(&table));
   fprintf(stderr, "%s: %lu calls, %ld sleeps, %ld too late, %ld victims, %ld other keys, %ld new indexes, %ld looks\n",
-          name, (unsigned long)log_count, slept, late, fell, others, changed_indexes, looks);
+          name, (unsigned long)log_count, slept, late, times_victim, others, changed_indexes, looks);
   printf("%s\n", name);
 }
 

@@ -27,7 +27,7 @@ faults() {
   cat <<'FAULTS'
 row-is-not-asked-again	s/  if (table_ask_row(table, txn, row, mode).status != BS_DONE) .*//
 try-path-joins-the-queue	s/  reply = bs_try(m, path->txn, node, mode);/  reply = bs_lock(m, path->txn, node, mode, \&table->told);/
-try-path-fells	s/  reply = bs_try(m, path->txn, node, mode);/&\n  if (reply.status == BS_WOULD_BLOCK) bs_lock(m, path->txn, node, mode, \&table->told), bs_cancel(m, path->txn, \&table->told);/
+try-path-condemns	s/  reply = bs_try(m, path->txn, node, mode);/&\n  if (reply.status == BS_WOULD_BLOCK) bs_lock(m, path->txn, node, mode, \&table->told), bs_cancel(m, path->txn, \&table->told);/
 try-path-keeps-what-it-took	s/  if (reply.status != BS_DONE) table_give_back(table, &path);//
 try-path-gives-back-what-was-held	s/ \&\& bs_held(m, path->txn, node).mode == BS_NL;/;/
 try-path-gives-back-what-is-to-stay	s/  bool is_noted = !path->is_kept \&\& /  bool is_noted = /
@@ -120,23 +120,23 @@ last-sleeper-says-nothing	s/  if (table->stage == TABLE_ENDING && table->sleeper
 free-does-not-ask	s/  if (!is_ended) return bs_call_only(BS_IN_USE);//
 free-keeps-the-pointer	s/^  \*table = NULL;$//
 make-does-not-look	s/  if (\*table != NULL) return bs_call_only(BS_IN_USE);//
-hold-is-nobodys	s/^  table_held = table;//
-hold-is-anybodys	s/^static __thread [^ ]* bs_table/static bs_table/
-hold-forgets-the-one-before	s/^  table->held_before = table_held;/  table->held_before = NULL;/
+section-is-nobodys	s/^  table_held = table;//
+section-is-anybodys	s/^static __thread [^ ]* bs_table/static bs_table/
+section-forgets-the-one-before	s/^  table->held_before = table_held;/  table->held_before = NULL;/
 let-go-holds-on	s/^  \*at = table->held_before;//
-begin-passes-the-line	s/table->first != NULL ? table_no_slot() : bs_begin(m);/bs_begin(m);/
-begin-again-passes-the-line	s/table->first != NULL ? table_no_slot() : bs_begin_again(m, c->number);/bs_begin_again(m, c->number);/
+begin-passes-the-queue	s/table->first != NULL ? table_no_slot() : bs_begin(m);/bs_begin(m);/
+begin-again-passes-the-queue	s/table->first != NULL ? table_no_slot() : bs_begin_again(m, c->number);/bs_begin_again(m, c->number);/
 listed-work-is-new	s/bs_begin_again(m, c->number);/bs_begin(m);/
-work-in-the-line-is-new	s/    bs_reply begun = table_begin_since(table, next->since);/    bs_reply begun = bs_begin(\&table->manager);/
+work-in-the-queue-is-new	s/    bs_reply begun = table_begin_since(table, next->since);/    bs_reply begun = bs_begin(\&table->manager);/
 work-in-turn-is-new	s/  reply = table_begin_since(table, since);/  reply = bs_begin(\&table->manager);/
 work-again-is-new	s/  TABLE_ASK(table, bs_begin_again(&table->manager, since));/  TABLE_ASK(table, bs_begin(\&table->manager));/
-last-comes-first	s/    table_turn \*next = table->first;/    table_turn *next = table->last;/
+last-comes-first	s/    table_queued_begin \*next = table->first;/    table_queued_begin *next = table->last;/
 call-keeps-the-slot	s/  table_hand_on(table);  *\\$/ \\/
 run-keeps-the-slot	/^size_t bs_table_run(/,/^}/s/^  table_hand_on(table);$//
-hold-keeps-the-slot	/^bs_reply bs_table_let_go(/,/^}/s/^  table_hand_on(table);$//
+section-keeps-the-slot	/^bs_reply bs_table_let_go(/,/^}/s/^  table_hand_on(table);$//
 one-slot-is-handed-on	s/  while (table->first != NULL) {/  if (table->first != NULL) {/
-time-before-turn	s/  if (own.begun.status == BS_WAITING) {/  if (late == ETIMEDOUT) {/
-turn-wakes-nobody	s/    pthread_cond_signal(&next->came);//
+time-before-queued-begin	s/  if (own.begun.status == BS_WAITING) {/  if (late == ETIMEDOUT) {/
+queued-begin-wakes-nobody	s/    pthread_cond_signal(&next->came);//
 deadline-is-forgotten	s/  until = table_earlier(table, txn, until);//
 deadline-is-of-the-slot	s/  if (own->age != txn.age) return until;/  if (own->age == 0) return until;/
 deadline-hides-the-call	s/  return own->time.tv_sec == until->tv_sec .*/  return \&own->time;/
@@ -184,7 +184,7 @@ a-list-tells-nobody	/^size_t bs_table_run(/,/^}/s/  table_release(table);/  pthr
 a-call-tells-nobody	s/  table_release(table);                                         \\/  pthread_mutex_unlock(\&(table)->latch); \\/
 on-end-is-given-twice	s/  if (table->asks != NULL) return table_leave(table, bs_call_only(BS_IN_USE));//
 spare-asks-are-kept	s/  while (table->asks != NULL \&\& table->asks->spare != NULL) {/  while (false) {/
-end-leaves-the-line	s/  for (each = table->first; each != NULL; .*//
+end-leaves-the-queue	s/  for (each = table->first; each != NULL; .*//
 sleeper-follows-a-later-deadline	s/^    until = &time;//
 path-forgets-its-time-on-its-way	/^bs_reply bs_table_lock_path(/,/^}/s/node, mode, until);/node, mode, until), until = NULL;/
 path-forgets-its-deadline-on-its-way	/^bs_reply bs_table_lock_path(/,/^}/s/    reply = table_path_inside(.*/&\n    table->deadlines[txn.slot].age = 0;/
@@ -193,12 +193,12 @@ later-by-nanoseconds-is-taken	s/ own->time.tv_nsec < until->tv_nsec ? &own->time
 times-within-a-second-are-one	/^static bool table_is_later(/,/^}/s/ || (one->tv_sec == .*/;/
 a-time-of-now-is-later	/^static bool table_is_later(/,/^}/s/one->tv_nsec > other->tv_nsec/one->tv_nsec >= other->tv_nsec/
 later-by-nanoseconds-alone	/^static bool table_is_later(/,/^}/s/(one->tv_sec == other->tv_sec && one->tv_nsec > other->tv_nsec)/one->tv_nsec > other->tv_nsec/
-way-of-another-is-cleared	s/  if (table->ways\[txn.slot\] == &path) table->ways/  table->ways/
-way-of-before-stays	s/  table->ways\[txn.slot\] = &path;/  if (table->ways[txn.slot] == NULL) &/
+path-of-another-is-cleared	s/  if (table->paths\[txn.slot\] == &path) table->paths/  table->paths/
+path-of-before-stays	s/  table->paths\[txn.slot\] = &path;/  if (table->paths[txn.slot] == NULL) &/
 cancel-takes-any-path	s/path == NULL || path->txn.age != txn.age) return/path == NULL) return/
-last-in-line-is-the-first	/^static void table_leave_line(/,/^}/s/table->last = own->ahead;/table->last = table->first;/
-last-in-line-stays	/^static void table_leave_line(/,/^}/s/  if (own->behind == NULL) table->last = own->ahead;/  if (own->behind == NULL \&\& own->ahead == NULL) table->last = NULL; else if (own->behind == NULL) own->ahead->behind = NULL;/
-who-is-behind-forgets-who-is-ahead	/^static void table_leave_line(/,/^}/s/own->behind->ahead = own->ahead;/own->behind->ahead = NULL;/
+last-in-queue-is-the-first	/^static void table_leave_begin_queue(/,/^}/s/table->last = own->ahead;/table->last = table->first;/
+last-in-queue-stays	/^static void table_leave_begin_queue(/,/^}/s/  if (own->behind == NULL) table->last = own->ahead;/  if (own->behind == NULL \&\& own->ahead == NULL) table->last = NULL; else if (own->behind == NULL) own->ahead->behind = NULL;/
+who-is-behind-forgets-who-is-ahead	/^static void table_leave_begin_queue(/,/^}/s/own->behind->ahead = own->ahead;/own->behind->ahead = NULL;/
 end-wakes-the-first-word	/^static void table_wake_all(/,/^}/s/slot < BS_SLOTS/slot < 64/
 late-asks-are-of-the-first-word	/^static size_t table_end_late(/,/^}/s/slot < BS_SLOTS/slot < 64/
 next-time-is-of-the-first-word	/^static uint64_t table_next_time(/,/^}/s/slot < BS_SLOTS/slot < 64/
@@ -233,7 +233,7 @@ end-of-a-table-keeps-cancels-off	/^bs_reply bs_table_end(/,/^}/s/^  pthread_setc
 dump-keeps-cancels-off	/^static bs_reply dump_of(/,/^}/s/^  pthread_setcancelstate(state, &state);//
 a-holder-ends-a-table	s/  if (table != NULL \&\& !table_may_sleep()) return bs_call_only(BS_IN_USE);/  if (table != NULL \&\& table_telling != NULL) return bs_call_only(BS_IN_USE);/
 what-is-held-outside-is-forgotten	s/^  table_held_outside = NULL;//
-watch-settles-all-in-one-hold	/^static void table_settle_all(/,/^}/{s/^    table_release(table);$//;s/^    table_take(table);$//;s/^}/  table_tell_between(table);\n}/}
+watch-settles-all-in-one-section	/^static void table_settle_all(/,/^}/{s/^    table_release(table);$//;s/^    table_take(table);$//;s/^}/  table_tell_between(table);\n}/}
 list-settles-once	/ table_settle_made(/,/^}/s/  } while (c->reply.status == BS_WAITING);/  } while (false);/
 list-path-says-not-how-it-waits	/ table_path_made_on(/,/^}/s/^    if (reply.status == BS_WAITING) reply.mode = wait.mode;//
 FAULTS

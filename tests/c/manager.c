@@ -1102,10 +1102,10 @@ static void sees(bs_watcher *watcher) {
 static bool is_watched(void) {
   bool asks;
   if (!is_waiting) change();
-  refused_growth = 1000;
+  refused_allocation = 1000;
   change();
-  asks = refused_growth != 1000;
-  refused_growth = 0;
+  asks = refused_allocation != 1000;
+  refused_allocation = 0;
   return asks;
 }
 
@@ -1201,10 +1201,10 @@ static void eight_watch_and_no_ninth(void) {
 
 /* ------------------------------------------------------------------------------------------------ */
 
-static void tell(const char *name, void (*play)(void)) {
+static void tell(const char *name, void (*body)(void)) {
   long before = blocks_out();
   story = name;
-  play();
+  body();
   WANT(blocks_out() == before);
   printf("%s\n", name);
 }

@@ -72,9 +72,9 @@ static void insert_last(bs_node *records, uint32_t count) {
   bs_reply last;
   long refused;
   for (refused = 1;; refused++) {
-    refused_growth = refused;
+    refused_allocation = refused;
     last = bs_insert(&m, t, file, &key, 1);
-    refused_growth = 0;
+    refused_allocation = 0;
     if (last.status == BS_DONE) break;
     WANT(last.status == BS_NO_MEMORY && bs_len(&m).count == count - 1 + ABOVE && refused < 20);
   }

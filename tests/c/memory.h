@@ -12,7 +12,7 @@
 
 /* Which allocation of this thread is refused, counted from now on, 0 for none; and how many blocks and bytes are in
  * use. */
-static __thread long refused_growth;
+static __thread long refused_allocation;
 static long blocks, bytes;
 static pthread_mutex_t count_latch = PTHREAD_MUTEX_INITIALIZER;
 
@@ -32,7 +32,7 @@ static bool is_refused(void) {
   pthread_mutex_lock(&count_latch);
   all = has_refused_thread && pthread_equal(pthread_self(), refused_thread);
   pthread_mutex_unlock(&count_latch);
-  return all || (refused_growth > 0 && --refused_growth == 0);
+  return all || (refused_allocation > 0 && --refused_allocation == 0);
 }
 
 static __attribute__((unused)) void refuse_thread(pthread_t thread) {

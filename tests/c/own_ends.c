@@ -1206,7 +1206,7 @@ static void *crowds(void *arg) {
 }
 
 /* Each call has its end, and no lock stays. */
-static void a_crowd(uint32_t detect, size_t askers) {
+static void a_crowd(uint32_t detect, size_t requesters) {
   static struct member all[MEMBERS];
   size_t i;
   DONE(make_table(&table, detect, BS_YOUNGEST, BS_SLOTS));
@@ -1217,7 +1217,7 @@ static void a_crowd(uint32_t detect, size_t askers) {
   WANT(pthread_barrier_init(&crowd_gate, NULL, MEMBERS) == 0);
   for (i = 0; i < MEMBERS; i++) {
     memset(&all[i], 0, sizeof all[i]);
-    all[i].asks = i < askers;
+    all[i].asks = i < requesters;
     all[i].dice = 88172645463325252u + i;
     WANT(pthread_cond_init(&all[i].ended, NULL) == 0);
     start(&all[i].thread, crowds, &all[i]);
@@ -1229,11 +1229,11 @@ static void a_crowd(uint32_t detect, size_t askers) {
 }
 
 static void a_crowd_of_instants(void) {
-  size_t askers;
+  size_t requesters;
   for (wanted_nodes = CROWDED - 1; wanted_nodes <= CROWDED; wanted_nodes++) {
-    for (askers = 0; askers <= MEMBERS; askers += MEMBERS / 2) {
-      a_crowd(BS_AT_BLOCK, askers);
-      a_crowd(BS_BY_WATCHER, askers);
+    for (requesters = 0; requesters <= MEMBERS; requesters += MEMBERS / 2) {
+      a_crowd(BS_AT_BLOCK, requesters);
+      a_crowd(BS_BY_WATCHER, requesters);
     }
   }
 }

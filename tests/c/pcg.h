@@ -1,5 +1,5 @@
 /*
- * pcg.h: random numbers for the plays: PCG32, as O'Neill's reference code makes them from a state and a stream.
+ * pcg.h: random numbers for the scenarios: PCG32, as O'Neill's reference code makes them from a state and a stream.
  */
 #ifndef PCG_H
 #define PCG_H

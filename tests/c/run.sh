@@ -1,6 +1,6 @@
 #!/usr/bin/env bash
 # run.sh [--slots N]: compiles the stories over the C library, and runs them. Prints a line for each story, of one thread
-# and of a shared table, for each play against a naive lock manager, and for each setting of a crowd. A program with the
+# and of a shared table, for each scenario against a naive lock manager, and for each setting of a crowd. A program with the
 # headers of another library is refused, and one that passes a lent manager to a command does not compile. Then it plants
 # eight faults in the shared table, which the stories must find. Ends with status 1 if anything is not as expected; without
 # a C compiler it says so, and ends with status 77: not tried. CC names another compiler than cc. N is the number of slots
@@ -31,7 +31,7 @@ compile() {
   local with=("${libraries[@]}")
   case $1 in
     shared | crowd | asks | waits | own_ends) with=(-I"$top/c" "${libraries[@]:1}") ;;
-    schemas | twins | play) with=("$top/tests/c/naive.c" "${libraries[@]}") ;;
+    schemas | twins | scenarios) with=("$top/tests/c/naive.c" "${libraries[@]}") ;;
   esac
   # shellcheck disable=SC2086 # CC may have words after the name.
   $compiler -std=c99 -D_POSIX_C_SOURCE=200809L -pthread -Wall -Wextra -Werror -O1 -I"$headers" -o "$work/$1" \
@@ -81,8 +81,8 @@ compile schemas -Wl,--wrap=malloc,--wrap=realloc,--wrap=free || exit 1
 timeout 60 "$work/schemas" || exit 1
 compile twins || exit 1
 timeout 60 "$work/twins" || exit 1
-compile play || exit 1
-timeout 60 "$work/play" || exit 1
+compile scenarios || exit 1
+timeout 60 "$work/scenarios" || exit 1
 compile many -Wl,--wrap=malloc,--wrap=realloc,--wrap=free || exit 1
 timeout 100 "$work/many" || exit 1
 compile shared -Wl,--wrap=malloc,--wrap=realloc,--wrap=free || exit 1
@@ -119,6 +119,6 @@ with MAJOR 9 && refused BS_OTHER_VERSION
 with PATCH 999 && compile stories -Wl,--wrap=malloc,--wrap=realloc,--wrap=free || exit 1
 timeout 60 "$work/stories" >"$work/log" || fails "a library of another last number is refused"
 [ "$slots" = 128 ] || exit 0
-"$top/tests/c/faults.sh" commit-forgets-to-wake early-return row-is-not-asked-again begin-passes-the-line \
+"$top/tests/c/faults.sh" commit-forgets-to-wake early-return row-is-not-asked-again begin-passes-the-queue \
   try-path-keeps-what-it-took try-row-joins-the-queue asks-are-told-under-the-latch asked-path-does-not-go-on \
   "${libraries[@]:1}" || exit 1

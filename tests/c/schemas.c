@@ -5,11 +5,11 @@
  * node, with its parents, keys, indexes and intervals. Neither knows a removed node. By the end each kind of command
  * was accepted and refused, and every answer to a drop and to an index by a transaction has occurred.
  *
- *   schemas [DRAWS]   how many times each play draws its work, 6000 if none is given
+ *   schemas [DRAWS]   how many times each scenario draws its work, 6000 if none is given
  *
- * The plays have both ways of detection and both choices of victims. Half of them also draw rows, paths, savepoints,
- * escalations, rekeys, cancels, settles and verdicts (`goes_further`). In the last two an allocation of each command is
- * refused, if it has enough of them: nothing has changed then, and the command is repeated.
+ * The scenarios have both ways of detection and both choices of victims. Half of them also draw rows, paths,
+ * savepoints, escalations, rekeys, cancels, settles and verdicts (`goes_further`). In the last two an allocation of
+ * each command is refused, if it has enough of them: nothing has changed then, and the command is repeated.
  *
  * It is linked with the calls for memory of memory.h.
  */
@@ -24,7 +24,7 @@ enum { TXNS = 3, MOST_NODES = 36, MOST_BOUNDS = 3, KEYS = 30, ROWS = 4 };
 /* How many kinds of commands and how many statuses there are. */
 enum { KINDS = BS_DO_RELEASE_SINCE + 1, STATUSES = 75 };
 
-/* A play: how the manager is made, the seed for its work, and whether it has all kinds of work. */
+/* A scenario: how the manager is made, the seed for its work, and whether it has all kinds of work. */
 typedef struct setting {
   uint32_t detect, victims;
   uint64_t seed;
@@ -42,7 +42,7 @@ static const setting settings[] = {
 /* How many draws a manager lives if memory is refused: an older one rarely allocates. */
 enum { FEW_DRAWS = 60 };
 
-static const setting *played;
+static const setting *scenario;
 static bs_manager m = BS_NO_MANAGER_HERE;
 static naive n;
 static bs_notices told;
@@ -60,7 +60,7 @@ static unsigned long refusals[KINDS];
 /* Ends the program at a difference. */
 static void wanted(const char *differs, const bs_command *c) {
   if (differs == NULL) return;
-  fprintf(stderr, "schemas.c: seed %lu, command %lu, of kind %u by slot %u: %s\n", (unsigned long)played->seed, asked,
+  fprintf(stderr, "schemas.c: seed %lu, command %lu, of kind %u by slot %u: %s\n", (unsigned long)scenario->seed, asked,
           c == NULL ? 0 : c->kind, c == NULL ? 0 : c->txn.slot, differs);
   exit(1);
 }
@@ -193,14 +193,14 @@ static bool takes_no_memory(const bs_command *c) {
   }
 }
 
-/* Makes a command with the manager. In a play that refuses memory the first, second or third allocation of the call is
- * refused: then nothing has changed, and the command is repeated. */
+/* Makes a command with the manager. In a scenario that refuses memory the first, second or third allocation of the call
+ * is refused: then nothing has changed, and the command is repeated. */
 static bs_reply made_in_spite(const bs_command *c) {
   uint64_t accepted = accepted_by(&m);
   bs_reply came;
-  refused_growth = played->is_refused ? (long)(asked % 3 + 1) : 0;
+  refused_allocation = scenario->is_refused ? (long)(asked % 3 + 1) : 0;
   came = made(c);
-  refused_growth = 0;
+  refused_allocation = 0;
   if (came.status != BS_NO_MEMORY) return came;
   refusals[c->kind]++;
   wanted(takes_no_memory(c) ? "a command that takes no memory is refused it" : NULL, c);
@@ -635,7 +635,7 @@ static void asks_for_a_verdict(bs_txn txn) {
   wanted(same_reply(bs_verdict(&m, txn, c.node, c.mode), naive_verdict(&n, txn, c.node, c.mode)), &c);
 }
 
-/* Work of kinds that the plays of seeds 1 to 3 do not have. */
+/* Work of kinds that the scenarios of seeds 1 to 3 do not have. */
 static void goes_further(void) {
   bs_txn txn = name(txns[draw(TXNS)]);
   switch (draw(24)) {
@@ -655,7 +655,7 @@ static void goes_further(void) {
 }
 
 /* ------------------------------------------------------------------------------------------------
- * The plays.
+ * The scenarios.
  */
 
 /* Opens both, and draws from this stream from now on. */
@@ -664,31 +664,31 @@ static void opens(uint64_t stream) {
   bs_options options = { 0, 0, TXNS, MOST_NODES, MOST_BOUNDS };
   size_t i;
   ended = nobody;
-  options.detect = played->detect;
-  options.victims = played->victims;
+  options.detect = scenario->detect;
+  options.victims = scenario->victims;
   wanted(same_number("make", bs_make(&m, &options).status, BS_DONE), NULL);
   naive_open(&n, &options);
-  rng = pcg_new(played->seed, stream);
+  rng = pcg_new(scenario->seed, stream);
   for (i = 0; i < TXNS; i++) txns[i] = begins();
   asks(bs_do(BS_DO_ADD_INNER, ended));
 }
 
-static void plays(unsigned long draws, uint64_t stream) {
+static void run_scenario(unsigned long draws, uint64_t stream) {
   unsigned long i;
   opens(stream);
   for (i = 0; i < draws; i++) {
     goes_on();
-    if (played->is_wide && seldom(2)) goes_further();
+    if (scenario->is_wide && seldom(2)) goes_further();
   }
   wanted(same_number("end", bs_end(&m).status, BS_DONE), NULL);
   wanted(same_number("how many blocks of memory are left", (uint64_t)blocks_out(), 0), NULL);
 }
 
 /* Plays with one manager, or with many if memory is refused. */
-static void plays_all(unsigned long draws) {
+static void run_scenarios(unsigned long draws) {
   unsigned long rest = draws;
-  for (; played->is_refused && rest > FEW_DRAWS; rest -= FEW_DRAWS) plays(FEW_DRAWS, 54 + rest);
-  plays(rest, 54);
+  for (; scenario->is_refused && rest > FEW_DRAWS; rest -= FEW_DRAWS) run_scenario(FEW_DRAWS, 54 + rest);
+  run_scenario(rest, 54);
 }
 
 /* What must be answered to a drop, and to an index by a transaction, at least once. */
@@ -743,11 +743,11 @@ int main(int argc, char **argv) {
   unsigned long draws = argc > 1 ? strtoul(argv[1], NULL, 10) : 6000;
   pcg reference = pcg_new(42, 54);
   size_t i;
-  played = &settings[0];
+  scenario = &settings[0];
   wanted(same_number("first word of the reference", pcg_word(&reference), 0xa15c02b7), NULL);
   for (i = 0; i < sizeof settings / sizeof settings[0]; i++) {
-    played = &settings[i];
-    plays_all(draws);
+    scenario = &settings[i];
+    run_scenarios(draws);
   }
   tally_is_full();
   printf("random_schemas_come_and_go: %lu commands\n", asked);

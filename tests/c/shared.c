@@ -176,7 +176,7 @@ static void set_up(uint32_t detect) {
   DONE(bs_table_commit(table, t, NULL));
 }
 
-struct asker {
+struct requester {
   bs_txn txn;
   bs_node node;
   bs_mode mode;
@@ -187,7 +187,7 @@ struct asker {
 };
 
 static void *ask(void *arg) {
-  struct asker *a = (struct asker *)arg;
+  struct requester *a = (struct requester *)arg;
   if (a->by_path) a->reply = bs_table_lock_path(table, a->txn, a->node, a->mode, a->until);
   else a->reply = bs_table_lock(table, a->txn, a->node, a->mode, a->until);
   return NULL;
@@ -206,7 +206,7 @@ static void await_wait(bs_txn txn) {
   while (wait_in(table, txn).status != BS_WAITING) nap();
 }
 
-static void ask_in_thread(struct asker *a, bs_txn txn, bs_node node, bs_mode mode, bool by_path) {
+static void ask_in_thread(struct requester *a, bs_txn txn, bs_node node, bs_mode mode, bool by_path) {
   memset(a, 0, sizeof *a);
   a->txn = txn;
   a->node = node;
@@ -216,23 +216,23 @@ static void ask_in_thread(struct asker *a, bs_txn txn, bs_node node, bs_mode mod
 }
 
 /* A transaction requests a lock in a thread. */
-static void start_asking_for(struct asker *a, bs_txn txn, bs_node node, bs_mode mode) {
+static void start_asking_for(struct requester *a, bs_txn txn, bs_node node, bs_mode mode) {
   ask_in_thread(a, txn, node, mode, false);
 }
 
 /* The same, and it has to wait. */
-static void send(struct asker *a, bs_txn txn, bs_node node, bs_mode mode) {
+static void send(struct requester *a, bs_txn txn, bs_node node, bs_mode mode) {
   start_asking_for(a, txn, node, mode);
   await_wait(txn);
 }
 
-static void send_by_path(struct asker *a, bs_txn txn, bs_node node, bs_mode mode) {
+static void send_by_path(struct requester *a, bs_txn txn, bs_node node, bs_mode mode) {
   ask_in_thread(a, txn, node, mode, true);
   await_wait(txn);
 }
 
 /* The thread has returned, with this status. */
-static bs_reply back(struct asker *a, bs_status status) {
+static bs_reply back(struct requester *a, bs_status status) {
   join(a->thread);
   return ANSWERS(status, a->reply);
 }
@@ -250,7 +250,7 @@ static void holds(bs_txn txn, bs_node node, bs_mode mode) {
  */
 
 static void a_commit_grants(void) {
-  struct asker one, two;
+  struct requester one, two;
   bs_txn a, b, c;
   set_up(BS_AT_BLOCK);
   a = begin(), b = begin(), c = begin();
@@ -265,7 +265,7 @@ static void a_commit_grants(void) {
 }
 
 static void an_unlock_grants(void) {
-  struct asker one;
+  struct requester one;
   bs_txn a, b;
   set_up(BS_AT_BLOCK);
   a = begin(), b = begin();
@@ -278,7 +278,7 @@ static void an_unlock_grants(void) {
 
 /* One commit wakes all, also in slots from 64 on. */
 static void a_commit_wakes_all(void) {
-  static struct asker all[BS_SLOTS - 1];
+  static struct requester all[BS_SLOTS - 1];
   bs_txn a;
   size_t i;
   set_up(BS_AT_BLOCK);
@@ -292,8 +292,8 @@ static void a_commit_wakes_all(void) {
 }
 
 /* The younger sleeps, and the older closes the cycle in this way. */
-static void closes_a_cycle(void (*asks)(struct asker *a, bs_txn txn, bs_node node, bs_mode mode)) {
-  struct asker one, two;
+static void closes_a_cycle(void (*asks)(struct requester *a, bs_txn txn, bs_node node, bs_mode mode)) {
+  struct requester one, two;
   bs_txn a, b;
   set_up(BS_AT_BLOCK);
   a = begin(), b = begin();
@@ -317,8 +317,8 @@ static void a_path_condemns(void) {
 }
 
 /* The requester itself is the victim, and does not sleep. */
-static void an_asker_falls(void) {
-  struct asker one;
+static void a_requester_is_victim(void) {
+  struct requester one;
   bs_txn a, b;
   set_up(BS_AT_BLOCK);
   a = begin(), b = begin();
@@ -333,7 +333,7 @@ static void an_asker_falls(void) {
 }
 
 static void a_settle_condemns(void) {
-  struct asker one, two;
+  struct requester one, two;
   bs_txn a, b;
   set_up(BS_BY_WATCHER);
   a = begin(), b = begin();
@@ -350,7 +350,7 @@ static void a_settle_condemns(void) {
 }
 
 static void a_rekey_moves(void) {
-  struct asker one;
+  struct requester one;
   bs_txn a, b;
   set_up(BS_AT_BLOCK);
   a = begin(), b = begin();
@@ -367,7 +367,7 @@ static void a_rekey_moves(void) {
 }
 
 static void a_file_moves(void) {
-  struct asker one;
+  struct requester one;
   bs_node other;
   bs_txn a, b;
   set_up(BS_AT_BLOCK);
@@ -384,7 +384,7 @@ static void a_file_moves(void) {
 }
 
 static void a_record_goes(void) {
-  struct asker one;
+  struct requester one;
   bs_txn a, b;
   set_up(BS_AT_BLOCK);
   a = begin(), b = begin();
@@ -399,7 +399,7 @@ static void a_record_goes(void) {
 
 /* A sleeper for a node that is dropped is woken, also on the way of a path; later requests do not find the node. */
 static void a_drop_ends_sleeps(void) {
-  struct asker one, two;
+  struct requester one, two;
   bs_node area, under;
   bs_txn a, b, c;
   set_up(BS_AT_BLOCK);
@@ -426,7 +426,7 @@ static void a_drop_ends_sleeps(void) {
 
 /* An escalation releases a child, for which a reader with another parent waits. */
 static void grants_by(bs_reply (*escalate)(bs_table *, bs_txn, bs_node, bs_notices *)) {
-  struct asker one;
+  struct requester one;
   bs_node parents[2], child;
   bs_reply reply;
   bs_txn a, b;
@@ -451,7 +451,7 @@ static void an_escalation_grants(void) {
 
 /* Another thread cancels the wait: the transaction is active then. */
 static void a_cancel_ends_a_sleep(void) {
-  struct asker one;
+  struct requester one;
   bs_txn a, b;
   set_up(BS_AT_BLOCK);
   a = begin(), b = begin();
@@ -467,7 +467,7 @@ static void a_cancel_ends_a_sleep(void) {
 
 /* And the waiter after it is granted. */
 static void a_cancel_grants(void) {
-  struct asker one, two;
+  struct requester one, two;
   bs_txn a, b, c;
   set_up(BS_AT_BLOCK);
   a = begin(), b = begin(), c = begin();
@@ -482,7 +482,7 @@ static void a_cancel_grants(void) {
 
 /* Another thread ends the transaction, and one that begins then may have its slot. */
 static void an_abort_ends_a_sleep(void) {
-  struct asker one;
+  struct requester one;
   bs_txn a, b, c;
   set_up(BS_AT_BLOCK);
   a = begin(), b = begin();
@@ -504,7 +504,7 @@ static void *leave_open(void *arg) {
 }
 
 static void a_thread_dies(void) {
-  struct asker one;
+  struct requester one;
   bs_txn left, b;
   pthread_t thread;
   set_up(BS_AT_BLOCK);
@@ -519,7 +519,7 @@ static void a_thread_dies(void) {
 
 /* It sleeps on through wakes without a reason, and while others use other nodes. */
 static void an_idle_wake(void) {
-  struct asker one;
+  struct requester one;
   bs_txn a, b, c;
   int i;
   set_up(BS_AT_BLOCK);
@@ -615,7 +615,7 @@ static void a_time_ahead(void) {
 
 static void a_time_comes(void) {
   struct timespec until = moment_in(2000), wrong = moment_in(0);
-  struct asker two;
+  struct requester two;
   bs_txn a, b, c;
   set_up(BS_AT_BLOCK);
   a = begin(), b = begin(), c = begin();
@@ -641,7 +641,7 @@ static void a_time_comes(void) {
 /* Each wait of a transaction ends at its deadline at the latest; no wait of the next transaction in its slot does. */
 static void a_deadline_of_its_own(void) {
   struct timespec soon = moment_in(2000), far = moment_in(60000000), wrong = far;
-  struct asker two;
+  struct requester two;
   bs_txn a, b, c;
   set_up(BS_AT_BLOCK);
   a = begin(), b = begin();
@@ -678,7 +678,7 @@ static void a_deadline_of_its_own(void) {
 /* A waiter whose time is over lets the waiter after it be granted. */
 static void a_time_comes_and_grants(void) {
   struct timespec until = moment_in(100000);
-  struct asker one, two;
+  struct requester one, two;
   bs_txn a, b, c;
   set_up(BS_AT_BLOCK);
   a = begin(), b = begin(), c = begin();
@@ -714,7 +714,7 @@ static bs_manager *hold_in_wait(bs_txn txn) {
  * slow to see it wait. */
 static bool grants_behind_the_time(long microseconds) {
   struct timespec until;
-  struct asker one;
+  struct requester one;
   bs_manager *m;
   bs_txn a, b;
   set_up(BS_AT_BLOCK);
@@ -751,7 +751,7 @@ static void times_and_grants(void) {
   for (i = 0; i < 200; i++) {
     bs_txn a = begin(), b = begin();
     struct timespec until = moment_in(60 + (long)roll(&dice, 60)), pause = { 0, 0 };
-    struct asker one;
+    struct requester one;
     DONE(bs_table_lock(table, a, root, BS_X, NULL));
     memset(&one, 0, sizeof one);
     one.txn = b, one.node = root, one.mode = BS_X, one.until = &until;
@@ -807,7 +807,7 @@ static void start_to_begin(struct beginner *b, uint64_t since, const struct time
 }
 
 /* A thread enters the begin queue, the last of this many. */
-static void line_up(struct beginner *b, size_t count) {
+static void enter_begin_queue(struct beginner *b, size_t count) {
   start_to_begin(b, 0, NULL);
   await_sleepers(count);
 }
@@ -846,7 +846,7 @@ static void a_begin_sleeps_for_a_slot(void) {
   set_up_slots(1);
   holder = DONE(bs_table_begin_in_turn(table, NULL)).txn;
   for (way = 0; way < WAYS_TO_END; way++) {
-    line_up(&one, 1);
+    enter_begin_queue(&one, 1);
     end_by(way, holder);
     next = begun(&one);
     WANT(next.slot == holder.slot && next.age == holder.age + 1);
@@ -895,7 +895,7 @@ static int by_age(const void *one, const void *other) {
 
 /* Many threads over fewer slots do their work once each. Half of them sleep; while the others arrive, one slot after
  * the other is freed. Those that slept began in the order of their arrival, and no two had the same age. */
-static void turns_over(uint32_t most) {
+static void begins_over(uint32_t most) {
   static struct worker all[MOST_BEGINNERS];
   bs_txn held[BS_SLOTS];
   long before = 0;
@@ -921,12 +921,12 @@ static void turns_over(uint32_t most) {
   close_table();
 }
 
-static void turns_over_all_slots(void) {
-  turns_over(BS_SLOTS);
+static void begins_over_all_slots(void) {
+  begins_over(BS_SLOTS);
 }
 
-static void turns_over_four_slots(void) {
-  turns_over(4);
+static void begins_over_four_slots(void) {
+  begins_over(4);
 }
 
 /* Not even while the earlier one is still asleep with its slot. */
@@ -938,8 +938,8 @@ static void a_later_begin_does_not_pass(void) {
   int i;
   set_up_slots(2);
   a = begin(), b = begin();
-  line_up(&one, 1);
-  line_up(&two, 2);
+  enter_begin_queue(&one, 1);
+  enter_begin_queue(&two, 2);
   ANSWERS(BS_TOO_MANY_TXNS, bs_table_begin(table));
   list[0] = bs_do(BS_DO_COMMIT, a), list[1] = bs_do(BS_DO_BEGIN, bs_begun());
   WANT(bs_table_run(table, list, 2) == 1 && list[1].reply.status == BS_TOO_MANY_TXNS);
@@ -958,15 +958,15 @@ static void a_later_begin_does_not_pass(void) {
   close_table();
 }
 
-/* Of two transactions that read the root and both want to write it, the one in `falls` is the victim. Both end. */
-static void falls_behind(bs_txn falls, bs_txn stays) {
+/* Of two transactions that read the root and both want to write it, the one in `victim` is the victim. Both end. */
+static void is_victim_to(bs_txn victim, bs_txn stays) {
   bs_command list[1];
-  ANSWERS(BS_DONE, bs_table_lock(table, falls, root, BS_S, NULL));
+  ANSWERS(BS_DONE, bs_table_lock(table, victim, root, BS_S, NULL));
   ANSWERS(BS_DONE, bs_table_lock(table, stays, root, BS_S, NULL));
   list[0] = bs_do_at(BS_DO_LOCK, stays, root, BS_X);
   WANT(bs_table_run(table, list, 1) == 0 && list[0].reply.status == BS_WAITING);
-  ANSWERS(BS_VICTIM, bs_table_lock(table, falls, root, BS_X, NULL));
-  DONE(bs_table_abort(table, falls, NULL));
+  ANSWERS(BS_VICTIM, bs_table_lock(table, victim, root, BS_X, NULL));
+  DONE(bs_table_abort(table, victim, NULL));
   WANT(DONE(bs_table_await(table, stays, root, BS_X, NULL)).mode == BS_X);
   DONE(bs_table_commit(table, stays, NULL));
 }
@@ -980,20 +980,20 @@ static void a_victim_keeps_its_turn(void) {
   DONE(bs_table_abort(table, first, NULL));
   other = begin(), again = DONE(bs_table_begin_again(table, first.age)).txn;
   WANT(again.age == other.age + 1);
-  falls_behind(other, again);
+  is_victim_to(other, again);
   other = begin(), again = DONE(bs_table_begin_again(table, other.age)).txn;
-  falls_behind(again, other);
+  is_victim_to(again, other);
   other = begin(), again = DONE(bs_table_begin_again(table, UINT64_MAX)).txn;
-  falls_behind(again, other);
+  is_victim_to(again, other);
   other = begin(), again = DONE(bs_table_begin_again(table, 0)).txn;
-  falls_behind(other, again);
+  is_victim_to(other, again);
   other = begin(), again = DONE(bs_table_begin_again_in_turn(table, first.age, NULL)).txn;
-  falls_behind(other, again);
+  is_victim_to(other, again);
   other = begin();
   list[0] = bs_do(BS_DO_BEGIN_AGAIN, bs_begun()), list[0].number = first.age;
   list[1] = bs_do_at(BS_DO_LOCK, bs_begun(), root, BS_S);
   WANT(bs_table_run(table, list, 2) == 2 && list[0].reply.txn.age == other.age + 1);
-  falls_behind(other, list[0].reply.txn);
+  is_victim_to(other, list[0].reply.txn);
   close_table();
 }
 
@@ -1004,7 +1004,7 @@ static void a_begin_again_sleeps_for_a_slot(void) {
   bs_txn a, b, new_work, old_work;
   set_up_slots(2);
   a = begin(), b = begin();
-  line_up(&one, 1);
+  enter_begin_queue(&one, 1);
   start_to_begin(&two, a.age, NULL);
   await_sleepers(2);
   ANSWERS(BS_TOO_MANY_TXNS, bs_table_begin_again(table, a.age));
@@ -1015,7 +1015,7 @@ static void a_begin_again_sleeps_for_a_slot(void) {
   DONE(bs_table_commit(table, b, NULL));
   old_work = begun(&two);
   WANT(new_work.age == b.age + 1 && old_work.age == new_work.age + 1);
-  falls_behind(new_work, old_work);
+  is_victim_to(new_work, old_work);
   close_table();
 }
 
@@ -1026,8 +1026,8 @@ static void a_list_frees_slots(void) {
   bs_txn a, b;
   set_up_slots(2);
   a = begin(), b = begin();
-  line_up(&one, 1);
-  line_up(&two, 2);
+  enter_begin_queue(&one, 1);
+  enter_begin_queue(&two, 2);
   list[0] = bs_do(BS_DO_COMMIT, a), list[1] = bs_do(BS_DO_ABORT, b);
   WANT(bs_table_run(table, list, 2) == 2);
   a = begun(&one);
@@ -1036,13 +1036,13 @@ static void a_list_frees_slots(void) {
 }
 
 /* Whether the last of this many has entered the begin queue before a time. */
-static bool comes_into_line(size_t count, const struct timespec *until) {
+static bool enters_begin_queue(size_t count, const struct timespec *until) {
   while (sleepers() != count && !is_over(until)) nap();
   return sleepers() == count;
 }
 
 /* Of five the first, the third and the last have this much time. False: this machine was too slow for that. */
-static bool some_leave_the_line_in(long microseconds) {
+static bool some_leave_the_begin_queue_in(long microseconds) {
   struct timespec until;
   struct beginner all[5];
   bool is_in_time = true;
@@ -1053,7 +1053,7 @@ static bool some_leave_the_line_in(long microseconds) {
   until = moment_in(microseconds);
   for (i = 0; i < 5; i++) {
     start_to_begin(&all[i], 0, i % 2 == 0 ? &until : NULL);
-    is_in_time = comes_into_line(i + 1, &until) && is_in_time;
+    is_in_time = enters_begin_queue(i + 1, &until) && is_in_time;
   }
   for (i = 0; i < 5; i += 2) {
     join(all[i].thread);
@@ -1078,9 +1078,9 @@ static bool some_leave_the_line_in(long microseconds) {
 
 /* Begins whose time is over leave the begin queue at its front, in the middle and at its end; the others keep their
  * order. */
-static void some_leave_the_line(void) {
+static void some_leave_the_begin_queue(void) {
   long microseconds = 50000;
-  while (!some_leave_the_line_in(microseconds)) microseconds *= 2;
+  while (!some_leave_the_begin_queue_in(microseconds)) microseconds *= 2;
 }
 
 /* The time is over, and then, before the sleeper has the latch again, a slot is free. False: this machine was too slow
@@ -1088,37 +1088,37 @@ static void some_leave_the_line(void) {
 static bool begins_behind_the_time(long microseconds) {
   struct timespec until;
   struct beginner one;
-  bool is_in_line = false;
+  bool is_in_begin_queue = false;
   bs_txn a;
   set_up_slots(1);
   a = begin();
   until = moment_in(microseconds);
   start_to_begin(&one, 0, &until);
-  while (!is_in_line && !is_over(&until)) {
+  while (!is_in_begin_queue && !is_over(&until)) {
     nap();
     WANT(bs_table_hold(table) != NULL);
-    is_in_line = table->first != NULL;
-    if (!is_in_line) bs_table_let_go(table);
+    is_in_begin_queue = table->first != NULL;
+    if (!is_in_begin_queue) bs_table_let_go(table);
   }
-  if (is_in_line) {
+  if (is_in_begin_queue) {
     while (!is_over(&until)) nap();
     nap();
     DONE(bs_commit(&table->manager, a, &told));
     bs_table_let_go(table);
   }
   join(one.thread);
-  WANT(one.reply.status == (is_in_line ? BS_DONE : BS_TIMED_OUT));
+  WANT(one.reply.status == (is_in_begin_queue ? BS_DONE : BS_TIMED_OUT));
   close_table();
-  return is_in_line;
+  return is_in_begin_queue;
 }
 
-static void a_turn_behind_the_time(void) {
+static void a_begin_behind_the_time(void) {
   long microseconds = 20000;
   while (!begins_behind_the_time(microseconds)) microseconds *= 2;
 }
 
 /* Times and turns at the same moment, again and again: one has begun, or its slot is free. */
-static void times_and_turns(void) {
+static void times_and_begins(void) {
   uint64_t dice = 88172645463325252u;
   int i;
   set_up_slots(1);
@@ -1141,23 +1141,23 @@ static void times_and_turns(void) {
 }
 
 /* A table that ends wakes the begin queue and the sleepers for locks, and waits until all have left. */
-static void an_end_with_a_line(void) {
-  static struct beginner line[200];
+static void an_end_with_a_begin_queue(void) {
+  static struct beginner queued[200];
   struct timespec until = moment_in(60000000);
-  struct asker asker;
+  struct requester requester;
   bs_txn a, b;
   size_t i;
   set_up_slots(2);
   a = begin(), b = begin();
   DONE(bs_table_lock(table, a, root, BS_X, NULL));
-  send(&asker, b, root, BS_X);
-  for (i = 0; i < 200; i++) start_to_begin(&line[i], 0, i % 2 == 0 ? &until : NULL);
+  send(&requester, b, root, BS_X);
+  for (i = 0; i < 200; i++) start_to_begin(&queued[i], 0, i % 2 == 0 ? &until : NULL);
   await_sleepers(201);
   end_as_all_leave();
-  back(&asker, BS_NO_MANAGER);
+  back(&requester, BS_NO_MANAGER);
   for (i = 0; i < 200; i++) {
-    join(line[i].thread);
-    ANSWERS(BS_NO_MANAGER, line[i].reply);
+    join(queued[i].thread);
+    ANSWERS(BS_NO_MANAGER, queued[i].reply);
   }
   DONE(bs_table_free(&table));
 }
@@ -1196,7 +1196,7 @@ static void paths(void) {
 
 /* Each lock of a path is waited for in turn. */
 static void a_path_waits_twice(void) {
-  struct asker one;
+  struct requester one;
   bs_txn a, b, c;
   set_up(BS_AT_BLOCK);
   a = begin(), b = begin(), c = begin();
@@ -1214,7 +1214,7 @@ static void a_path_waits_twice(void) {
 
 /* A record that moves while its path waits is locked at its new place. */
 static void a_path_moves(void) {
-  struct asker one;
+  struct requester one;
   bs_txn a, b;
   set_up(BS_AT_BLOCK);
   a = begin(), b = begin();
@@ -1231,7 +1231,7 @@ static void a_path_moves(void) {
 
 /* A cancel after a lock on the way was granted, and before its sleeper is awake, is not lost: the path ends. */
 static void a_path_is_cancelled_on_its_way(void) {
-  struct asker one;
+  struct requester one;
   bs_command list[3];
   bs_txn a, b, c;
   set_up(BS_AT_BLOCK);
@@ -1251,7 +1251,7 @@ static void a_path_is_cancelled_on_its_way(void) {
 
 /* If that was the last lock of the path, the path is done, and there is nothing to cancel. */
 static void a_path_is_cancelled_at_its_end(void) {
-  struct asker one;
+  struct requester one;
   bs_command list[2];
   bs_txn a, b;
   set_up(BS_AT_BLOCK);
@@ -1266,7 +1266,7 @@ static void a_path_is_cancelled_at_its_end(void) {
 
 /* The record of a path has moved, and its sleeper would begin the path again. */
 static void a_path_that_moved_is_cancelled(void) {
-  struct asker one;
+  struct requester one;
   bs_command list[2];
   bs_txn a, b;
   set_up(BS_AT_BLOCK);
@@ -1369,7 +1369,7 @@ static bs_reply ask_row_by(bs_txn t, uint64_t number, uint64_t key) {
 }
 
 /* A thread that requests a row, and begins again if its key is another after the grant. */
-struct row_asker {
+struct row_requester {
   bs_txn txn;
   uint64_t number, key; /* for row 7 the key that the page has first */
   const struct timespec *until;
@@ -1381,7 +1381,7 @@ struct row_asker {
 };
 
 static void *ask_for_row(void *arg) {
-  struct row_asker *a = (struct row_asker *)arg;
+  struct row_requester *a = (struct row_requester *)arg;
   if (!a->looks) {
     a->reply = ask_row(a->txn, a->number, a->key, a->until);
     return NULL;
@@ -1396,7 +1396,7 @@ static void *ask_for_row(void *arg) {
   }
 }
 
-static void start_asking(struct row_asker *a, bs_txn txn, uint64_t number, uint64_t key, bool looks) {
+static void start_asking(struct row_requester *a, bs_txn txn, uint64_t number, uint64_t key, bool looks) {
   memset(a, 0, sizeof *a);
   a->txn = txn;
   a->number = number;
@@ -1406,12 +1406,12 @@ static void start_asking(struct row_asker *a, bs_txn txn, uint64_t number, uint6
 }
 
 /* The same, and it has to wait. */
-static void send_for_row(struct row_asker *a, bs_txn txn, uint64_t number, uint64_t key) {
+static void send_for_row(struct row_requester *a, bs_txn txn, uint64_t number, uint64_t key) {
   start_asking(a, txn, number, key, false);
   await_wait(txn);
 }
 
-static bs_reply back_with_row(struct row_asker *a, bs_status status) {
+static bs_reply back_with_row(struct row_requester *a, bs_status status) {
   join(a->thread);
   return ANSWERS(status, a->reply);
 }
@@ -1430,7 +1430,7 @@ static bool holds_row(bs_txn t, uint64_t number) {
 }
 
 static void a_row_is_slept_for(void) {
-  struct row_asker one;
+  struct row_requester one;
   bs_node row;
   bs_txn a, b;
   set_up_rows(BS_AT_BLOCK);
@@ -1449,7 +1449,7 @@ static void a_row_is_slept_for(void) {
 
 /* A thread that slept for a row by other keys than its node's holds it too, and is told so. */
 static void a_row_with_other_keys_is_slept_for(void) {
-  struct row_asker one;
+  struct row_requester one;
   bs_node row;
   bs_txn a, b;
   set_up_rows(BS_AT_BLOCK);
@@ -1468,7 +1468,7 @@ static void a_row_with_other_keys_is_slept_for(void) {
 /* A sleep for a row ends as any sleep does. */
 static void how_a_sleep_for_a_row_ends(void) {
   static const struct timespec wrong = { 0, -1 };
-  struct row_asker one;
+  struct row_requester one;
   struct timespec until;
   bs_txn a, b, c;
   set_up_rows(BS_AT_BLOCK);
@@ -1500,7 +1500,7 @@ static void how_a_sleep_for_a_row_ends(void) {
 /* A file of rows is dropped and made again in one list, while a writer sleeps for it: the writer is told, and the
  * numbers of its rows are free in the new file. */
 static void a_file_of_rows_is_dropped(void) {
-  struct asker one, two;
+  struct requester one, two;
   bs_command list[4];
   bs_txn a, b, c;
   set_up_rows(BS_AT_BLOCK);
@@ -1532,7 +1532,7 @@ static void a_file_of_rows_is_dropped(void) {
  * is granted after the list. */
 static void an_index_is_made_again(void) {
   static const uint64_t finer[3] = { 50, 100, 150 };
-  struct asker one, two;
+  struct requester one, two;
   bs_command list[3];
   bs_node days;
   bs_txn a, b, c;
@@ -1581,9 +1581,9 @@ static void rows_that_change(void) {
 }
 
 /* A victim sleeps for a row, and is woken though the requester that made it a victim is told of other keys. */
-static void other_keys_by_the_fall_of_another(void) {
-  struct row_asker one;
-  struct asker two;
+static void other_keys_granted_by_a_victim(void) {
+  struct row_requester one;
+  struct requester two;
   uint64_t key = OLD_KEY;
   bs_node other;
   bs_txn a, b, c;
@@ -1636,7 +1636,7 @@ static void *add_by_number(void *arg) {
   return arg;
 }
 
-static void two_ways_to_one_row(void) {
+static void two_paths_to_one_row(void) {
   pthread_t threads[4];
   uint64_t nodes;
   size_t i;
@@ -1671,7 +1671,7 @@ static void *delete_row(void *arg) {
 
 /* Nobody gets the row, or its number, before that. */
 static void a_row_is_deleted(bool commits) {
-  struct row_asker one;
+  struct row_requester one;
   struct deleter d;
   set_up_rows(BS_AT_BLOCK);
   d.txn = begin_writer(OLD_KEY), d.other = begin_writer(OLD_KEY);
@@ -1720,7 +1720,7 @@ static bool is_rekeyed(void) {
 
 /* A thread that read the old key waits for the row, is told of other keys after the grant, and begins again. */
 static void a_mover_beside_an_old_key(void) {
-  struct row_asker one;
+  struct row_requester one;
   struct mover m;
   set_up_rows(BS_AT_BLOCK);
   m.txn = begin(), m.other = begin(), m.asks = false;
@@ -1737,7 +1737,7 @@ static void a_mover_beside_an_old_key(void) {
 
 /* The two wait for each other, and the younger is the victim. */
 static void a_mover_in_a_cycle(uint32_t detect) {
-  struct row_asker one;
+  struct row_requester one;
   struct mover m;
   set_up_rows(detect);
   m.txn = begin(), m.other = begin(), m.asks = true;
@@ -1781,7 +1781,7 @@ static void await_stage(int wanted_stage) {
 
 /* A writer that reads the key, and locks the row by it only after the row has moved and the move is committed. */
 static void *write_late(void *arg) {
-  struct row_asker *w = (struct row_asker *)arg;
+  struct row_requester *w = (struct row_requester *)arg;
   uint64_t key = read_key();
   reach(1);
   await_stage(2);
@@ -1798,7 +1798,7 @@ static void *write_late(void *arg) {
 
 /* Reading the keys again after the grant keeps the writer from a row in an interval that another transaction reads. */
 static void a_row_that_moved_unseen(void) {
-  struct row_asker writer;
+  struct row_requester writer;
   struct mover m;
   bs_txn reader;
   long before;
@@ -1835,7 +1835,7 @@ static void a_row_that_moved_unseen(void) {
 
 static void lists_of_commands(void) {
   static bs_notices first;
-  struct asker one;
+  struct requester one;
   bs_command list[6];
   bs_txn a, b;
   set_up(BS_AT_BLOCK);
@@ -1895,7 +1895,7 @@ static void lists_that_begin(void) {
 
 /* A list wakes the transactions that it names. */
 static void lists_that_name(void) {
-  struct asker one, two;
+  struct requester one, two;
   bs_command list[2];
   bs_txn a, b, c;
   set_up(BS_AT_BLOCK);
@@ -2011,7 +2011,7 @@ static void a_row_waits_in_a_list(void) {
  * that is told later is in the lower slot. */
 static void a_path_goes_on_in_a_list(void) {
   static bs_notices all;
-  struct asker one, two, three;
+  struct requester one, two, three;
   bs_node other, third;
   bs_command list[2];
   bs_txn a, b, c, d;
@@ -2231,7 +2231,7 @@ static void a_reader_skips_a_parent(void) {
 }
 
 /* A try that would block on its last node, or above it, keeps its path or releases it. */
-static void a_try_gives_back_its_way(void) {
+static void a_try_gives_back_its_path(void) {
   bs_txn a, b, t;
   told_by_release = 0;
   set_up(BS_AT_BLOCK);
@@ -2299,7 +2299,7 @@ static void a_parent_of_what_was_read_stays(void) {
 
 /* A newcomer passes no waiter; a transaction that holds the node does, as by any lock. */
 static void a_try_does_not_pass(void) {
-  struct asker one;
+  struct requester one;
   bs_txn a, b, c;
   set_up(BS_AT_BLOCK);
   a = begin(), b = begin(), c = begin();
@@ -2315,8 +2315,8 @@ static void a_try_does_not_pass(void) {
 }
 
 /* A try that would have closed a cycle of waits makes no victim, and is none. */
-static void a_try_fells_nobody(void) {
-  struct asker one;
+static void a_try_condemns_nobody(void) {
+  struct requester one;
   bs_txn older, younger;
   bs_counts counts;
   bs_command list[1];
@@ -2342,7 +2342,7 @@ static void a_try_fells_nobody(void) {
 /* A try of a path is refused as the path is, before anything is locked. */
 static void a_path_is_refused(void) {
   bs_node nowhere = { 7, 7 };
-  struct asker one;
+  struct requester one;
   bs_txn a, b, c, d, gone = { 3, 99 };
   uint32_t keep;
   set_up(BS_AT_BLOCK);
@@ -2390,7 +2390,7 @@ static void set_up_deep(uint32_t detect) {
 }
 
 /* All that was acquired on such a path is released, and all of it is acquired if nobody has the node. */
-static void long_ways_are_tried(void) {
+static void long_paths_are_tried(void) {
   bs_txn a, t;
   set_up_deep(BS_AT_BLOCK);
   a = begin(), t = begin();
@@ -2429,9 +2429,9 @@ static void a_try_without_memory(void) {
       bs_txn t;
       set_up_deep(BS_AT_BLOCK);
       t = begin();
-      refused_growth = n;
+      refused_allocation = n;
       status = try_path(t, chain[DEEP - 1], BS_X, keep).status;
-      refused_growth = 0;
+      refused_allocation = 0;
       kept = locks_of(t);
       WANT(status == BS_DONE ? kept == DEEP : status == BS_NO_MEMORY && (kept == 0 || keep == BS_KEEP_WAY));
       if (kept > 0 && kept < DEEP) refused++;
@@ -2498,7 +2498,7 @@ static void a_row_is_tried(void) {
 
 /* A row that others hold: in a compatible mode it is held too, and let go in the end; else nothing is changed. */
 static void a_row_of_others_is_tried(void) {
-  struct row_asker one;
+  struct row_requester one;
   bs_reply reply;
   bs_node node;
   bs_txn a, b, c, d;
@@ -2537,8 +2537,8 @@ static void a_row_of_others_is_tried(void) {
 }
 
 /* A try of a row that would have closed a cycle makes no victim. */
-static void a_try_of_a_row_fells_nobody(void) {
-  struct row_asker one;
+static void a_try_of_a_row_condemns_nobody(void) {
+  struct row_requester one;
   bs_txn older, younger;
   bs_counts counts;
   set_up_rows(BS_AT_BLOCK);
@@ -2581,7 +2581,7 @@ static size_t refuses_alike(bs_txn t, bs_node of, uint64_t number) {
 static void a_row_is_refused(void) {
   bs_txn txns[5], holder, gone = { 3, 99 };
   bs_node files[4], other;
-  struct asker one;
+  struct requester one;
   size_t i, j, refused = 0;
   set_up_rows(BS_AT_BLOCK);
   files[0] = rows, files[1] = file, files[2] = root, files[3] = low;
@@ -2617,9 +2617,9 @@ static void a_row_without_memory(void) {
     set_up_rows(BS_AT_BLOCK);
     a = begin_writer(OLD_KEY), b = begin_writer(OLD_KEY);
     DONE(try_row(a, 7, OLD_KEY, BS_S));
-    refused_growth = n;
+    refused_allocation = n;
     status = try_row(b, 7, OLD_KEY, BS_S).status;
-    refused_growth = 0;
+    refused_allocation = 0;
     WANT(locks_of(b) == (status == BS_DONE ? 5 : 4));
     DONE(try_row(b, 7, OLD_KEY, BS_S));
     DONE(bs_table_commit(table, a, NULL));
@@ -2866,7 +2866,7 @@ static void each_job_is_done_once(void) {
  */
 
 static void a_savepoint_wakes(void) {
-  struct asker one;
+  struct requester one;
   bs_txn a, b;
   uint64_t mark;
   set_up(BS_AT_BLOCK);
@@ -2929,7 +2929,7 @@ static void a_lock_for_an_instant(void) {
 /* Those that wait are released in the critical section that grants them: so one commit grants all of them, up to a lock
  * that stays, and a caller's list has them all. */
 static void instants_in_a_row(void) {
-  struct asker one, two, three, last;
+  struct requester one, two, three, last;
   bs_txn a, b, c, d, e;
   set_up(BS_AT_BLOCK);
   a = begin(), b = begin(), c = begin(), d = begin(), e = begin();
@@ -2950,7 +2950,7 @@ static void instants_in_a_row(void) {
 
 /* If a wait for an instant ends in another way, there is nothing to release, and the transaction's next lock stays. */
 static void an_instant_that_never_comes(void) {
-  struct asker one;
+  struct requester one;
   struct timespec until;
   bs_txn a, b, c;
   set_up(BS_AT_BLOCK);
@@ -2978,7 +2978,7 @@ static void an_instant_that_never_comes(void) {
 
 /* A lock for an instant that was granted is no answer to the next wait, even for the same node. */
 static void an_instant_that_came_is_over(void) {
-  struct asker one;
+  struct requester one;
   bs_txn a, b;
   set_up(BS_AT_BLOCK);
   a = begin(), b = begin();
@@ -2997,8 +2997,8 @@ static void an_instant_that_came_is_over(void) {
 }
 
 /* A transaction that waits for an instant may be a victim, as any waiter; its locks stay until it aborts. */
-static void an_instant_falls(void) {
-  struct asker one, two;
+static void an_instant_is_victim(void) {
+  struct requester one, two;
   bs_txn a, b;
   set_up(BS_AT_BLOCK);
   a = begin(), b = begin();
@@ -3094,7 +3094,7 @@ static bool waits_on_board(const bs_board *board, bs_txn one, bs_txn other) {
 static void a_watcher_looks(void) {
   static bs_board board;
   bs_watcher watcher = BS_NO_WATCHER_HERE;
-  struct asker one;
+  struct requester one;
   bs_txn a, b;
   set_up(BS_AT_BLOCK);
   DONE(bs_table_watch(table, &watcher));
@@ -3119,7 +3119,7 @@ static void a_watcher_looks(void) {
 static void a_watcher_is_shown_changes(void) {
   static bs_board board;
   bs_watcher watcher = BS_NO_WATCHER_HERE;
-  struct asker one, two;
+  struct requester one, two;
   bs_txn a, b, c;
   uint64_t seen;
   set_up(BS_AT_BLOCK);
@@ -3187,7 +3187,7 @@ static void one_of_two_watchers_goes_on(void) {
   for (ends = 0; ends < 2; ends++) {
     static const bs_watcher none = BS_NO_WATCHER_HERE;
     bs_watcher both[2];
-    struct asker one;
+    struct requester one;
     bs_txn a, b;
     both[0] = both[1] = none;
     set_up(BS_BY_WATCHER);
@@ -3210,7 +3210,7 @@ static void one_of_two_watchers_goes_on(void) {
 static void watchers_come_and_go(void) {
   static bs_board board;
   bs_watcher stays = BS_NO_WATCHER_HERE;
-  struct asker one;
+  struct requester one;
   bs_txn a, b;
   int i;
   set_up(BS_BY_WATCHER);
@@ -3247,10 +3247,10 @@ static void refused_watchers(void) {
     DONE(bs_watch_end(&all[0]));
     for (i = 0; i < BS_MOST_WATCHERS && refused; i++) {
       bs_reply reply;
-      refused_growth = n;
+      refused_allocation = n;
       reply = bs_table_watch(table, &all[0]);
-      refused = refused_growth == 0;
-      refused_growth = 0;
+      refused = refused_allocation == 0;
+      refused_allocation = 0;
       ANSWERS(refused ? BS_NO_MEMORY : BS_DONE, reply);
       if (!refused) DONE(bs_watch_end(&all[0]));
     }
@@ -3269,7 +3269,7 @@ static void a_thread_watches(uint64_t pace) {
   DONE(bs_table_watch_thread(table, pace));
   for (i = 0; i < 20; i++) {
     bs_txn a = begin(), b = begin();
-    struct asker one, two;
+    struct requester one, two;
     DONE(bs_table_lock(table, a, root, BS_S, NULL));
     DONE(bs_table_lock(table, b, root, BS_S, NULL));
     memset(&one, 0, sizeof one);
@@ -3297,7 +3297,7 @@ static void a_thread_watches_and_rests(void) {
 
 /* It does not delay the end of the table, however long it rests. */
 static void a_thread_rests_long(void) {
-  struct asker one;
+  struct requester one;
   bs_txn a, b;
   set_up(BS_BY_WATCHER);
   DONE(bs_table_watch_thread(table, UINT64_C(3600000000000)));
@@ -3340,7 +3340,7 @@ static void a_thread_watches_without_signals(void) {
 /* It is refused the memory to show what it did itself: it settles once, and sleeps. */
 static void a_thread_watches_without_memory(void) {
   struct timespec pause = { 0, 20000000 };
-  struct asker one, two;
+  struct requester one, two;
   uint64_t accepted;
   bs_txn a, b;
   set_up(BS_BY_WATCHER);
@@ -3364,7 +3364,7 @@ static void a_thread_watches_without_memory(void) {
 /* Two deadlocks are on one board: both are ended before it rests, for an hour. A third that closes then stays. */
 static void a_thread_ends_all_it_sees(void) {
   struct timespec pause = { 0, 5000000 };
-  struct asker one, two;
+  struct requester one, two;
   bs_node both[2];
   bs_txn t[4], a, b;
   size_t i;
@@ -3410,7 +3410,7 @@ static bool has_one(bs_slots set, uint32_t slot) {
 static void listings(void) {
   static bs_deadlock last;
   bs_counts counts;
-  struct asker one, two;
+  struct requester one, two;
   const bs_manager *m;
   bs_txn a, b, c;
   size_t place, rows = 0;
@@ -3464,7 +3464,7 @@ static size_t lines_with(FILE *text, const char *start_of_line) {
 }
 
 static void a_dump(void) {
-  struct asker one;
+  struct requester one;
   FILE *text = tmpfile();
   bs_txn a, b;
   WANT(text != NULL);
@@ -3521,7 +3521,7 @@ static void a_long_dump(void) {
   is_held = false;
   WANT(same_text(text, whole));
   WANT(lines_with(text, "   0 ") == 1 + MANY_LOCKS && lines_with(text, "   1 ") == 1 + DUMP_PART);
-  refused_growth = 1;
+  refused_allocation = 1;
   ANSWERS(BS_NO_MEMORY, bs_table_dump(table, text));
   DONE(bs_table_end(table));
   ANSWERS(BS_NO_MANAGER, bs_table_dump(table, text));
@@ -3580,16 +3580,16 @@ static void a_dump_is_cancelled(void) {
 enum { SLEEPERS = 40 };
 
 static void an_end_with_sleepers(void) {
-  static struct asker askers[SLEEPERS];
+  static struct requester requesters[SLEEPERS];
   bs_txn a;
   size_t i;
   set_up(BS_AT_BLOCK);
   a = begin();
   DONE(bs_table_lock(table, a, root, BS_X, NULL));
-  for (i = 0; i < SLEEPERS; i++) send_by_path(&askers[i], begin(), i % 2 == 0 ? low : high, BS_X);
+  for (i = 0; i < SLEEPERS; i++) send_by_path(&requesters[i], begin(), i % 2 == 0 ? low : high, BS_X);
   end_as_all_leave();
-  for (i = 0; i < SLEEPERS; i++) back(&askers[i], BS_NO_MANAGER);
-  for (i = 0; i < SLEEPERS; i++) ANSWERS(BS_NO_MANAGER, bs_table_abort(table, askers[i].txn, NULL));
+  for (i = 0; i < SLEEPERS; i++) back(&requesters[i], BS_NO_MANAGER);
+  for (i = 0; i < SLEEPERS; i++) ANSWERS(BS_NO_MANAGER, bs_table_abort(table, requesters[i].txn, NULL));
   DONE(bs_table_free(&table));
 }
 
@@ -3804,9 +3804,9 @@ static void refused_tables(void) {
   long n;
   for (n = 1; made.status == BS_NO_MEMORY; n++) {
     bs_table *t = NULL;
-    refused_growth = n;
+    refused_allocation = n;
     made = bs_table_make(&t, NULL);
-    refused_growth = 0;
+    refused_allocation = 0;
     WANT((t != NULL) == (made.status == BS_DONE));
     if (t == NULL) continue;
     DONE(bs_table_end(t));
@@ -3824,7 +3824,7 @@ static bool refuses(long n) {
   bs_reply reply;
   set_up(BS_BY_WATCHER);
   t = begin();
-  refused_growth = n;
+  refused_allocation = n;
   reply = bs_table_lock_path(table, t, low, BS_X, NULL);
   if (reply.status == BS_NO_MEMORY) reply = bs_table_lock_path(table, t, low, BS_X, NULL);
   DONE(reply);
@@ -3837,15 +3837,15 @@ static bool refuses(long n) {
   reply = bs_table_watch_thread(table, 0);
   if (reply.status == BS_NO_MEMORY) reply = bs_table_watch_thread(table, 0);
   DONE(reply);
-  refused = refused_growth == 0;
-  refused_growth = 0;
+  refused = refused_allocation == 0;
+  refused_allocation = 0;
   DONE(bs_table_commit(table, t, NULL));
   close_table();
   DONE(bs_watch_end(&watcher));
   return refused;
 }
 
-static void refused_growths(void) {
+static void refused_allocations(void) {
   long n = 1;
   while (refuses(n)) n++;
   WANT(n > 2);
@@ -3853,26 +3853,26 @@ static void refused_growths(void) {
 
 /* A begin for a sleeping thread is refused memory, in the thread that ends a transaction: the sleeper is told, and the
  * next in the begin queue has the slot. If there is none the slot is free. */
-static void refused_turns(void) {
-  struct beginner line[3];
+static void refused_queued_begins(void) {
+  struct beginner queued[3];
   bs_txn holder;
   size_t i;
   set_up_slots(1);
   holder = begin();
-  for (i = 0; i < 3; i++) line_up(&line[i], i + 1);
+  for (i = 0; i < 3; i++) enter_begin_queue(&queued[i], i + 1);
   refused_begins = 2;
   DONE(bs_table_commit(table, holder, NULL));
   for (i = 0; i < 2; i++) {
-    join(line[i].thread);
-    ANSWERS(BS_NO_MEMORY, line[i].reply);
+    join(queued[i].thread);
+    ANSWERS(BS_NO_MEMORY, queued[i].reply);
   }
-  holder = begun(&line[2]);
+  holder = begun(&queued[2]);
   ANSWERS(BS_TOO_MANY_TXNS, bs_table_begin(table));
-  line_up(&line[0], 1);
+  enter_begin_queue(&queued[0], 1);
   refused_begins = 1;
   DONE(bs_table_commit(table, holder, NULL));
-  join(line[0].thread);
-  ANSWERS(BS_NO_MEMORY, line[0].reply);
+  join(queued[0].thread);
+  ANSWERS(BS_NO_MEMORY, queued[0].reply);
   refused_begins = 1;
   ANSWERS(BS_NO_MEMORY, bs_table_begin_in_turn(table, NULL));
   begin();
@@ -3885,11 +3885,11 @@ static void refused_turns(void) {
 
 static unsigned patience = 20;
 
-static void tell(const char *name, void (*play)(void)) {
+static void tell(const char *name, void (*body)(void)) {
   long before = blocks_out();
   story = name;
   feed(patience);
-  play();
+  body();
   WANT(blocks_out() == before);
   printf("%s\n", name);
 }
@@ -3906,7 +3906,7 @@ int main(int count, char **words) {
   TELL(a_commit_wakes_all);
   TELL(a_lock_condemns);
   TELL(a_path_condemns);
-  TELL(an_asker_falls);
+  TELL(a_requester_is_victim);
   TELL(a_settle_condemns);
   TELL(a_rekey_moves);
   TELL(a_file_moves);
@@ -3928,14 +3928,14 @@ int main(int count, char **words) {
   TELL(a_begin_sleeps_for_a_slot);
   TELL(a_victim_keeps_its_turn);
   TELL(a_begin_again_sleeps_for_a_slot);
-  TELL(turns_over_all_slots);
-  TELL(turns_over_four_slots);
+  TELL(begins_over_all_slots);
+  TELL(begins_over_four_slots);
   TELL(a_later_begin_does_not_pass);
   TELL(a_list_frees_slots);
-  TELL(some_leave_the_line);
-  TELL(a_turn_behind_the_time);
-  TELL(times_and_turns);
-  TELL(an_end_with_a_line);
+  TELL(some_leave_the_begin_queue);
+  TELL(a_begin_behind_the_time);
+  TELL(times_and_begins);
+  TELL(an_end_with_a_begin_queue);
   TELL(paths);
   TELL(a_path_waits_twice);
   TELL(a_path_moves);
@@ -3949,8 +3949,8 @@ int main(int count, char **words) {
   TELL(a_file_of_rows_is_dropped);
   TELL(an_index_is_made_again);
   TELL(rows_that_change);
-  TELL(other_keys_by_the_fall_of_another);
-  TELL(two_ways_to_one_row);
+  TELL(other_keys_granted_by_a_victim);
+  TELL(two_paths_to_one_row);
   TELL(a_delete_that_commits);
   TELL(a_delete_that_aborts);
   TELL(a_mover_beside_an_old_key);
@@ -3969,18 +3969,18 @@ int main(int count, char **words) {
   TELL(commands_that_are_none);
   TELL(a_path_is_tried);
   TELL(a_reader_skips_a_parent);
-  TELL(a_try_gives_back_its_way);
+  TELL(a_try_gives_back_its_path);
   TELL(a_raised_parent_stays);
   TELL(a_parent_of_what_was_read_stays);
   TELL(a_try_does_not_pass);
-  TELL(a_try_fells_nobody);
+  TELL(a_try_condemns_nobody);
   TELL(a_path_is_refused);
-  TELL(long_ways_are_tried);
+  TELL(long_paths_are_tried);
   TELL(a_try_without_memory);
   TELL(a_try_without_numbers);
   TELL(a_row_is_tried);
   TELL(a_row_of_others_is_tried);
-  TELL(a_try_of_a_row_fells_nobody);
+  TELL(a_try_of_a_row_condemns_nobody);
   TELL(a_row_is_refused);
   TELL(a_row_without_memory);
   TELL(a_list_of_tries);
@@ -3994,7 +3994,7 @@ int main(int count, char **words) {
   TELL(instants_in_a_row);
   TELL(an_instant_that_never_comes);
   TELL(an_instant_that_came_is_over);
-  TELL(an_instant_falls);
+  TELL(an_instant_is_victim);
   TELL(an_instant_of_what_is_held);
   TELL(an_instant_in_a_list);
   TELL(an_instant_in_a_list_tells_all);
@@ -4022,7 +4022,7 @@ int main(int count, char **words) {
   TELL(two_tables_are_lent);
   TELL(a_holder_of_a_table_does_not_sleep);
   TELL(refused_tables);
-  TELL(refused_growths);
-  TELL(refused_turns);
+  TELL(refused_allocations);
+  TELL(refused_queued_begins);
   return 0;
 }

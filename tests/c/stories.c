@@ -228,7 +228,7 @@ static void a_choice_of_victims(void) {
   WANT(bs_limits(&m, &options).status == BS_NO_MANAGER && bs_limits(NULL, &options).status == BS_NULL_POINTER);
 }
 
-static void an_older_asker_condemns_the_younger(void) {
+static void an_older_requester_condemns_the_younger(void) {
   bs_manager m = BS_NO_MANAGER_HERE;
   bs_node root = begin_manager(&m, BS_AT_BLOCK);
   bs_txn a = begin(&m), b = begin(&m);
@@ -308,7 +308,7 @@ static void a_path_of_locks(void) {
   DONE(bs_end(&m));
 }
 
-static void a_path_by_the_fall_of_another(void) {
+static void a_path_granted_by_a_victim(void) {
   bs_manager m = BS_NO_MANAGER_HERE;
   bs_node root = begin_manager(&m, BS_AT_BLOCK), other = DONE(bs_add_inner(&m, NULL, 0)).node;
   struct file f = make_file(&m, root);
@@ -670,7 +670,7 @@ static void a_deadlock_over_rows(void) {
 }
 
 /* The requester is granted because another becomes a victim, which is told; and it is told that the keys are others. */
-static void other_keys_by_the_fall_of_another(void) {
+static void other_keys_granted_by_a_victim(void) {
   bs_manager m = BS_NO_MANAGER_HERE;
   bs_node root = begin_manager(&m, BS_AT_BLOCK), other = DONE(bs_add_inner(&m, NULL, 0)).node, row;
   struct file f = make_row_file(&m, root);
@@ -1519,24 +1519,24 @@ static bool refuses(long n) {
   bool refused;
   int i;
   DONE(bs_lock(&m, a, root, BS_IX, &told));
-  refused_growth = n;
+  refused_allocation = n;
   for (i = 0; i < 40; i++) locked_in_spite(&m, a, made_in_spite(&m, root));
-  refused = refused_growth == 0;
-  refused_growth = 0;
+  refused = refused_allocation == 0;
+  refused_allocation = 0;
   DONE(bs_commit(&m, a, &told));
   DONE(bs_end(&m));
   return refused;
 }
 
 /* One more than the number of allocations, each of which was refused in turn. */
-static long growths_of(bool (*refuses_nth)(long n)) {
+static long allocations_of(bool (*refuses_nth)(long n)) {
   long n = 1;
   while (refuses_nth(n)) n++;
   return n;
 }
 
-static void refused_growths(void) {
-  WANT(growths_of(refuses) > 4);
+static void refused_allocations(void) {
+  WANT(allocations_of(refuses) > 4);
 }
 
 static bs_node index_in_spite(bs_manager *m, bs_txn t, bs_node root, bs_node file) {
@@ -1552,11 +1552,11 @@ static bs_node index_in_spite(bs_manager *m, bs_txn t, bs_node root, bs_node fil
 
 /* A drop takes no memory: a refusal of an allocation is still due after it. */
 static void drop_without_memory(bs_manager *m, bs_txn t, bs_node node) {
-  long left = refused_growth;
-  refused_growth = 1;
+  long left = refused_allocation;
+  refused_allocation = 1;
   DONE(bs_drop(m, t, node, &told));
-  WANT(refused_growth == 1);
-  refused_growth = left;
+  WANT(refused_allocation == 1);
+  refused_allocation = left;
 }
 
 /* Whether there is an nth allocation of indexes that are made and dropped, which is refused. */
@@ -1568,19 +1568,19 @@ static bool refuses_an_index(long n) {
   size_t i;
   for (i = 0; i < 8; i++) files[i] = DONE(bs_add_file(&m, &root, 1)).node;
   for (i = 0; i < 8; i++) DONE(bs_lock_path(&m, a, files[i], BS_X, &told));
-  refused_growth = n;
+  refused_allocation = n;
   for (i = 0; i < 8; i++) index_in_spite(&m, a, root, files[i]);
   for (i = 0; i < 8; i++) drop_without_memory(&m, a, bs_index(&m, files[i], 0).node);
   for (i = 0; i < 8; i++) drop_without_memory(&m, a, files[i]);
-  refused = refused_growth == 0;
-  refused_growth = 0;
+  refused = refused_allocation == 0;
+  refused_allocation = 0;
   WANT(bs_len(&m).count == 1 && bs_lock_count(&m, a).count == 1);
   DONE(bs_end(&m));
   return refused;
 }
 
-static void refused_growths_of_indexes(void) {
-  WANT(growths_of(refuses_an_index) > 2);
+static void refused_allocations_of_indexes(void) {
+  WANT(allocations_of(refuses_an_index) > 2);
 }
 
 /* A transaction that may write rows in the lower interval. */
@@ -1616,14 +1616,14 @@ static bool refuses_row(long n) {
   DONE(bs_commit(&m, first, &told));
   a = begin_writer(&m, f);
   told.count = 0;
-  refused_growth = n;
+  refused_allocation = n;
   for (number = 0; number < 40; number++) row_in_spite(&m, a, f, number, 70, number < 20 ? BS_S : BS_X, BS_DONE);
   for (number = 0; number < 40; number++) row_in_spite(&m, a, f, number, 80, BS_S, BS_OTHER_KEYS);
   for (number = 0; number < 20; number++) row_in_spite(&m, b, f, number, 70, BS_S, BS_DONE);
   row_in_spite(&m, b, f, 30, 70, BS_X, BS_WAITING);
   row_in_spite(&m, c, f, 19, 80, BS_X, BS_WAITING);
-  refused = refused_growth == 0;
-  refused_growth = 0;
+  refused = refused_allocation == 0;
+  refused_allocation = 0;
   DONE(bs_commit(&m, a, &told));
   WANT(told.count == 1 && is_told(0, b, BS_TOLD_GRANTED));
   DONE(bs_commit(&m, b, &told));
@@ -1633,8 +1633,8 @@ static bool refuses_row(long n) {
   return refused;
 }
 
-static void refused_growths_of_rows(void) {
-  WANT(growths_of(refuses_row) > 8);
+static void refused_allocations_of_rows(void) {
+  WANT(allocations_of(refuses_row) > 8);
 }
 
 /* The same for files of rows. */
@@ -1644,7 +1644,7 @@ static bool refuses_row_file(long n) {
   bool refused;
   int i;
   told.count = 0;
-  refused_growth = n;
+  refused_allocation = n;
   for (i = 0; i < 20; i++) {
     struct seen before = see(&m);
     bs_reply made = bs_add_row_file(&m, &root, 1);
@@ -1654,14 +1654,14 @@ static bool refuses_row_file(long n) {
     }
     DONE(made);
   }
-  refused = refused_growth == 0;
-  refused_growth = 0;
+  refused = refused_allocation == 0;
+  refused_allocation = 0;
   DONE(bs_end(&m));
   return refused;
 }
 
-static void refused_growths_of_row_files(void) {
-  WANT(growths_of(refuses_row_file) > 2);
+static void refused_allocations_of_row_files(void) {
+  WANT(allocations_of(refuses_row_file) > 2);
 }
 
 /* The bytes in use after a thousand rows are locked, from this one on; and they are released. */
@@ -1715,9 +1715,9 @@ static void refused_managers(void) {
   bs_reply made = { BS_NO_MEMORY, BS_NL, { 0, 0 }, { 0, 0 }, 0, 0, 0, BS_NL };
   for (n = 1; made.status == BS_NO_MEMORY; n++) {
     bs_manager m = BS_NO_MANAGER_HERE;
-    refused_growth = n;
+    refused_allocation = n;
     made = make_manager(&m, BS_AT_BLOCK, 128);
-    refused_growth = 0;
+    refused_allocation = 0;
     WANT(bs_begin(&m).status == (made.status == BS_DONE ? BS_DONE : BS_NO_MANAGER));
     WANT(bs_end(&m).status == made.status || made.status == BS_NO_MEMORY);
   }
@@ -1795,10 +1795,10 @@ static void a_ring_of_all(void) {
   DONE(bs_end(&m));
 }
 
-static void tell(const char *name, void (*play)(void)) {
+static void tell(const char *name, void (*body)(void)) {
   long before = blocks_out();
   story = name;
-  play();
+  body();
   WANT(blocks_out() == before);
   printf("%s\n", name);
 }
@@ -1813,13 +1813,13 @@ int main(void) {
   TELL(a_conversion_passes);
   TELL(a_deadlock_has_a_victim);
   TELL(a_choice_of_victims);
-  TELL(an_older_asker_condemns_the_younger);
+  TELL(an_older_requester_condemns_the_younger);
   TELL(a_watcher_settles);
   TELL(a_board_shows_a_cycle);
   TELL(a_ring_of_all);
   TELL(the_rule_of_the_graph);
   TELL(a_path_of_locks);
-  TELL(a_path_by_the_fall_of_another);
+  TELL(a_path_granted_by_a_victim);
   TELL(a_record_moves);
   TELL(a_record_goes);
   TELL(a_record_is_adopted);
@@ -1833,7 +1833,7 @@ int main(void) {
   TELL(rows_are_refused);
   TELL(rows_with_nodes_are_refused);
   TELL(a_deadlock_over_rows);
-  TELL(other_keys_by_the_fall_of_another);
+  TELL(other_keys_granted_by_a_victim);
   TELL(rows_come_and_go);
   TELL(an_escalation_of_rows);
   TELL(an_escalation);
@@ -1865,10 +1865,10 @@ int main(void) {
   TELL(a_refused_call_tells_nobody);
   TELL(null_pointers);
   TELL(everybody_is_told);
-  TELL(refused_growths);
-  TELL(refused_growths_of_indexes);
-  TELL(refused_growths_of_rows);
-  TELL(refused_growths_of_row_files);
+  TELL(refused_allocations);
+  TELL(refused_allocations_of_indexes);
+  TELL(refused_allocations_of_rows);
+  TELL(refused_allocations_of_row_files);
   TELL(rows_that_nobody_locks);
   TELL(tables_come_and_go);
   TELL(refused_managers);

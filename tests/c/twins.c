@@ -5,9 +5,9 @@
  * the transaction holds each row in the same mode in both, and has the same effective mode on it. Now and then a
  * transaction names keys that are not the row's own: the row is locked by the node that it has, and the answer says so.
  *
- *   twins [STEPS]   how many steps each play has, 6000 if none is given
+ *   twins [STEPS]   how many steps each scenario has, 6000 if none is given
  *
- * The plays have both ways of detection and both choices of victims. By their end each kind of work has occurred.
+ * The scenarios have both ways of detection and both choices of victims. By their end each kind of work has occurred.
  */
 #include "burlapslate.h"
 #include "pcg.h"
@@ -47,7 +47,7 @@ typedef struct act {
   uint64_t key;
 } act;
 
-/* What occurs in each play. */
+/* What occurs in each scenario. */
 typedef enum sight {
   A_WAIT, KEYS_OF_ANOTHER, A_REKEY, AN_ESCALATION, A_HELD_CHILD, A_LATER_GRANT, A_VICTIM, A_MOVE, SIGHTS
 } sight;
@@ -450,7 +450,7 @@ static void ends_all(void) {
 }
 
 /* This many steps, in which all has occurred. */
-static void play(uint32_t detect, uint32_t victims, unsigned long of, unsigned long count) {
+static void run_scenario(uint32_t detect, uint32_t victims, unsigned long of, unsigned long count) {
   size_t i;
   seed = of;
   rng = pcg_new(seed, 54);
@@ -466,10 +466,10 @@ int main(int argc, char **argv) {
   unsigned long count = argc > 1 ? strtoul(argv[1], NULL, 10) : 6000;
   uint32_t victims;
   for (victims = BS_YOUNGEST; victims <= BS_FEWEST; victims++) {
-    play(BS_AT_BLOCK, victims, 1, count);
-    play(BS_AT_BLOCK, victims, 2, count);
-    play(BS_BY_WATCHER, victims, 3, count);
-    play(BS_BY_WATCHER, victims, 4, count);
+    run_scenario(BS_AT_BLOCK, victims, 1, count);
+    run_scenario(BS_AT_BLOCK, victims, 2, count);
+    run_scenario(BS_BY_WATCHER, victims, 3, count);
+    run_scenario(BS_BY_WATCHER, victims, 4, count);
   }
   printf("engines_answer_alike: 8 times %lu steps\n", count);
   return 0;

@@ -314,11 +314,11 @@ static inline void await_sleepers(size_t count) {
 
 static unsigned patience = 20;
 
-static void tell(const char *name, void (*play)(void)) {
+static void tell(const char *name, void (*body)(void)) {
   long before = blocks_out();
   story = name;
   feed(patience);
-  play();
+  body();
   WANT(blocks_out() == before);
   printf("%s\n", name);
 }

@@ -190,15 +190,15 @@ static void a_deadline_set_meanwhile_is_of_later_waits(void) {
   struct timespec past = moment_in(0), far = moment_in(60000000), next;
   struct sleeper one;
   struct heard h;
-  bs_txn holder, sleeper, asker;
+  bs_txn holder, sleeper, requester;
   set_up(BS_AT_BLOCK);
-  holder = begin_holder(), sleeper = begin_writer(), asker = begin_writer();
+  holder = begin_holder(), sleeper = begin_writer(), requester = begin_writer();
   DONE(bs_table_deadline(table, sleeper, &far));
-  DONE(bs_table_deadline(table, asker, &far));
+  DONE(bs_table_deadline(table, requester, &far));
   send(&one, BY_LOCK, sleeper, low, BS_X);
-  WAITS(ask_row(&h, asker, LOW_KEY, BS_X));
+  WAITS(ask_row(&h, requester, LOW_KEY, BS_X));
   DONE(bs_table_deadline(table, sleeper, &past));
-  DONE(bs_table_deadline(table, asker, &past));
+  DONE(bs_table_deadline(table, requester, &past));
   WANT(DONE(bs_table_expire(table, &next)).count == 1 && same_time(next, far));
   pthread_mutex_lock(&table->latch);
   while (one.sleeps < 3) { /* It is woken, and nothing has ended its wait. */
@@ -212,7 +212,7 @@ static void a_deadline_set_meanwhile_is_of_later_waits(void) {
   DONE(bs_table_commit(table, holder, NULL));
   BACK(&one, BS_DONE);
   HEARD_BY_NOW(&h, BS_DONE);
-  DONE(bs_table_lock(table, asker, high, BS_X, NULL));
+  DONE(bs_table_lock(table, requester, high, BS_X, NULL));
   ANSWERS(BS_TIMED_OUT, bs_table_lock(table, sleeper, high, BS_X, NULL));
   close_table();
 }
@@ -386,10 +386,10 @@ static void a_path_that_ended_takes_no_cancel(void) {
  * The begin queue.
  */
 
-enum { IN_LINE = 4 };
+enum { IN_BEGIN_QUEUE = 4 };
 
 /* A thread enters the begin queue, the last of this many. Its time may be over: then it is held up before it leaves. */
-static void line_up(struct sleeper *s, size_t count, const struct timespec *until) {
+static void enter_begin_queue(struct sleeper *s, size_t count, const struct timespec *until) {
   *s = sleeper_of(BY_BEGIN, bs_begun(), root, BS_NL);
   s->until = until;
   s->is_held_up = until != NULL;
@@ -397,7 +397,7 @@ static void line_up(struct sleeper *s, size_t count, const struct timespec *unti
   await_sleepers(count);
 }
 
-static void leave_line(struct sleeper *s) {
+static void leave_begin_queue(struct sleeper *s) {
   set_held_up(s, false);
   BACK(s, BS_TIMED_OUT);
 }
@@ -415,19 +415,19 @@ static bs_txn begins_behind(struct sleeper *s, bs_txn holder) {
  * others begin in their order, and the fifth begins last. */
 static void two_leave(size_t first, size_t second, int moment) {
   struct timespec past = moment_in(0);
-  struct sleeper all[IN_LINE + 1];
+  struct sleeper all[IN_BEGIN_QUEUE + 1];
   bs_txn holder;
   size_t i;
   DONE(make_table(&table, BS_AT_BLOCK, BS_YOUNGEST, 1));
   holder = begin();
-  for (i = 0; i < IN_LINE; i++) line_up(&all[i], i + 1, i == first || i == second ? &past : NULL);
-  if (moment == 0) line_up(&all[IN_LINE], IN_LINE + 1, NULL);
-  leave_line(&all[first]);
-  if (moment == 1) line_up(&all[IN_LINE], IN_LINE, NULL);
-  leave_line(&all[second]);
-  if (moment == 2) line_up(&all[IN_LINE], IN_LINE - 1, NULL);
+  for (i = 0; i < IN_BEGIN_QUEUE; i++) enter_begin_queue(&all[i], i + 1, i == first || i == second ? &past : NULL);
+  if (moment == 0) enter_begin_queue(&all[IN_BEGIN_QUEUE], IN_BEGIN_QUEUE + 1, NULL);
+  leave_begin_queue(&all[first]);
+  if (moment == 1) enter_begin_queue(&all[IN_BEGIN_QUEUE], IN_BEGIN_QUEUE, NULL);
+  leave_begin_queue(&all[second]);
+  if (moment == 2) enter_begin_queue(&all[IN_BEGIN_QUEUE], IN_BEGIN_QUEUE - 1, NULL);
   ANSWERS(BS_TOO_MANY_TXNS, bs_table_begin(table));
-  for (i = 0; i <= IN_LINE; i++) {
+  for (i = 0; i <= IN_BEGIN_QUEUE; i++) {
     if (i != first && i != second) holder = begins_behind(&all[i], holder);
   }
   DONE(bs_table_commit(table, holder, NULL));
@@ -435,33 +435,33 @@ static void two_leave(size_t first, size_t second, int moment) {
   close_table();
 }
 
-static void some_leave_the_line_while_one_comes(void) {
+static void some_leave_the_begin_queue_while_one_comes(void) {
   size_t first, second;
   int moment;
-  for (first = 0; first < IN_LINE; first++) {
-    for (second = 0; second < IN_LINE; second++) {
+  for (first = 0; first < IN_BEGIN_QUEUE; first++) {
+    for (second = 0; second < IN_BEGIN_QUEUE; second++) {
       for (moment = 0; moment < 3 && second != first; moment++) two_leave(first, second, moment);
     }
   }
 }
 
 /* The last one leaves while another arrives, until the begin queue is empty; and then it is used again. */
-static void a_line_ends_and_begins_anew(void) {
+static void a_begin_queue_ends_and_begins_anew(void) {
   struct timespec past = moment_in(0);
   struct sleeper one, two;
   bs_txn holder;
   DONE(make_table(&table, BS_AT_BLOCK, BS_YOUNGEST, 1));
   holder = begin();
-  line_up(&one, 1, &past);
-  line_up(&two, 2, &past);
-  leave_line(&two);
-  line_up(&two, 2, &past);
-  leave_line(&one);
-  line_up(&one, 2, &past);
-  leave_line(&one);
-  leave_line(&two);
-  line_up(&one, 1, NULL);
-  line_up(&two, 2, NULL);
+  enter_begin_queue(&one, 1, &past);
+  enter_begin_queue(&two, 2, &past);
+  leave_begin_queue(&two);
+  enter_begin_queue(&two, 2, &past);
+  leave_begin_queue(&one);
+  enter_begin_queue(&one, 2, &past);
+  leave_begin_queue(&one);
+  leave_begin_queue(&two);
+  enter_begin_queue(&one, 1, NULL);
+  enter_begin_queue(&two, 2, NULL);
   holder = begins_behind(&one, holder);
   begins_behind(&two, holder);
   close_table();
@@ -627,10 +627,10 @@ static void wait_unshown(bs_txn txn) {
   bs_command command = bs_do_at(BS_DO_LOCK, txn, root, BS_X);
   long n = 0;
   do {
-    refused_growth = ++n;
+    refused_allocation = ++n;
     bs_table_run(table, &command, 1);
-    WANT(command.reply.status == BS_NO_MEMORY || refused_growth == 0);
-    refused_growth = 0;
+    WANT(command.reply.status == BS_NO_MEMORY || refused_allocation == 0);
+    refused_allocation = 0;
   } while (command.reply.status == BS_NO_MEMORY);
   ANSWERS(BS_WAITING, command.reply);
 }
@@ -934,7 +934,7 @@ static void an_instant_of_before_is_nothing_to_a_wait(void) {
 
 /* A path that waits on its way, where a lock for an instant was granted before, is cancelled there, and does not
  * continue. */
-static void an_instant_of_before_is_nothing_to_a_way(void) {
+static void an_instant_of_before_is_nothing_to_a_path(void) {
   struct sleeper s;
   struct heard h;
   bs_command command;
@@ -1167,8 +1167,8 @@ int main(int count, char **words) {
   TELL(a_late_sleeper_and_the_next_path);
   TELL(a_path_of_before_takes_no_cancel);
   TELL(a_path_that_ended_takes_no_cancel);
-  TELL(some_leave_the_line_while_one_comes);
-  TELL(a_line_ends_and_begins_anew);
+  TELL(some_leave_the_begin_queue_while_one_comes);
+  TELL(a_begin_queue_ends_and_begins_anew);
   TELL(an_end_wakes_the_sleepers_of_all_slots);
   TELL(asks_of_all_slots_expire);
   TELL(an_ask_ends_beside_other_words);
@@ -1181,7 +1181,7 @@ int main(int count, char **words) {
   TELL(waits_that_are_left_are_watched);
   TELL(ends_set_off_ends);
   TELL(an_instant_of_before_is_nothing_to_a_wait);
-  TELL(an_instant_of_before_is_nothing_to_a_way);
+  TELL(an_instant_of_before_is_nothing_to_a_path);
   TELL(an_instant_is_of_its_transaction_and_node);
   TELL(a_row_of_many_keys_is_asked_for_again);
   TELL(a_row_is_not_locked_for_an_instant);

@@ -18,7 +18,7 @@ use Rattle.gl_c.specs.watchers.Watching.{Attends, Continues, Knows, Watches}
 -- the publisher that existed or was made for a watcher is no newer than the present snapshot, has the manager's way of detection, and continues what was shown
 pub record IsOpened (o : Option Strip) (board : Board) (detect : Detect) (p : Strip) : Type 0 where
   pub epoch : last_epoch 0 p.list ≤ board.epoch
-  pub way : p.detect ≡ detect
+  pub detection : p.detect ≡ detect
   pub goes_on : Continues o (Some p)
 
 goes_on_self : (s : Strip) → GoesOn s s
@@ -30,27 +30,28 @@ same_ok x p q a b = cc (a, b)
 opened : {E : Type 0} (o : Option Strip) (x : Result Strip E) (p : Strip) (board : Board) (detect : Detect) → x ≡ Ok p → IfSome o (λ q. x ≡ Ok q)
     → IfNone o (IfOk x (λ q. (q.list ≡ board ∷ []) × (q.detect ≡ detect)))
     → IfSome o (λ q. last_epoch 0 q.list ≤ board.epoch) → IfSome o (λ q. q.detect ≡ detect) → IsOpened o board detect p
-opened {E} None x p board detect is same first low way =
+opened {E} None x p board detect is same first low detection =
     let made = subst (λ (y : Result Strip E). IfOk y (λ q. (q.list ≡ board ∷ []) × (q.detect ≡ detect))) is first in
-    record { epoch = rw made.0 (omega arith); way = made.1; goes_on = tt }
-opened (Some q) x p board detect is same first low way =
+    record { epoch = rw made.0 (omega arith); detection = made.1; goes_on = tt }
+opened (Some q) x p board detect is same first low detection =
     let pq : q ≡ p = same_ok x q p same is in
     record {
       epoch = subst (λ (s : Strip). last_epoch 0 s.list ≤ board.epoch) pq low;
-      way = subst (λ (s : Strip). s.detect ≡ detect) pq way;
+      detection = subst (λ (s : Strip). s.detect ≡ detect) pq detection;
       goes_on = (p, refl, subst (λ (s : Strip). GoesOn q s) pq (goes_on_self q));
     }
 
 -- the same, in the words of the call that uses it
-pub opened_by : {E : Type 0} (taken o : Option Strip) (x : Result Strip E) (p : Strip) (board : Board) (n : ℕ) (way detect : Detect) → taken ≡ o → x ≡ Ok p
+pub opened_by : {E : Type 0} (taken o : Option Strip) (x : Result Strip E) (p : Strip) (board : Board) (n : ℕ) (detection detect : Detect) → taken ≡ o
+    → x ≡ Ok p
     → IfSome taken (λ q. x ≡ Ok q)
-    → IfNone taken (IfOk x (λ q. (q.list ≡ board ∷ []) × (q.detect ≡ detect))) → IfSome o (λ q. last_epoch 0 q.list ≤ n) → IfSome o (λ q. q.detect ≡ way)
-    → board.epoch ≡ n → detect ≡ way → IsOpened o board way p
-opened_by {E} taken o x p board n way detect from is same first low ways at so =
-    opened o x p board way is (subst (λ (z : Option Strip). IfSome z (λ q. x ≡ Ok q)) from same)
+    → IfNone taken (IfOk x (λ q. (q.list ≡ board ∷ []) × (q.detect ≡ detect))) → IfSome o (λ q. last_epoch 0 q.list ≤ n) → IfSome o (λ q. q.detect ≡ detection)
+    → board.epoch ≡ n → detect ≡ detection → IsOpened o board detection p
+opened_by {E} taken o x p board n detection detect from is same first low detections at so =
+    opened o x p board detection is (subst (λ (z : Option Strip). IfSome z (λ q. x ≡ Ok q)) from same)
     (subst (λ (d : Detect). IfNone o (IfOk x (λ q. (q.list ≡ board ∷ []) × (q.detect ≡ d)))) so
     (subst (λ (z : Option Strip). IfNone z (IfOk x (λ q. (q.list ≡ board ∷ []) × (q.detect ≡ detect)))) from first))
-    (subst (λ (m : ℕ). IfSome o (λ q. last_epoch 0 q.list ≤ m)) (sym at) low) ways
+    (subst (λ (m : ℕ). IfSome o (λ q. last_epoch 0 q.list ≤ m)) (sym at) low) detections
 
 -- if it could not be made there was none
 pub was_none : {E : Type 0} (o : Option Strip) (x : Result Strip E) (e : E) → IfSome o (λ q. x ≡ Ok q) → x ≡ Err e → o ≡ None

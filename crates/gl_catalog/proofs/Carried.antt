@@ -12,7 +12,7 @@ use Rattle.gl_steps.specs.declared.command.Answer.TheVariants as answer
 use Rattle.gl_steps.specs.declared.command.Command.{Command}
 use Rattle.gl_catalog.specs.Replies.{CallSteps, Says}
 use Rattle.gl_steps.specs.Step.{Accepts, Answers, Goes, query_answer}
-use Rattle.gl_steps.specs.Tests.{is_cycle, lists_memory, may_want_memory, refusal_of, tests_of, worn}
+use Rattle.gl_steps.specs.Tests.{is_cycle, lists_memory, may_lack_memory, refusal_of, tests_of, worn}
 
 ok_err : {A : Type 0} {x : A} {r : Refusal} → Ok x ≡ Err r → ⊥
 ok_err e = cc
@@ -26,7 +26,7 @@ module _ {A : Type 0} (says : A → Says) (c : Command) where
   refused_step s r e = inl (subst (λ o. Goes s c o (answer.Refused r) [] s) (sym e) (record { answer_is = refl; nobody_told = refl; same = refl }))
 
   -- lack of memory, if it is permitted
-  pub memory_step : (s : State) (r : Refusal) → may_want_memory s c ≡ true → r ≡ refusal.NoMemory → CallSteps s c says (Err r) s
+  pub memory_step : (s : State) (r : Refusal) → may_lack_memory s c ≡ true → r ≡ refusal.NoMemory → CallSteps s c says (Err r) s
   memory_step s r may e = inr (may, record { answer_is = ap answer.Refused e; nobody_told = refl; same = refl })
 
   -- a command that succeeds, and is counted

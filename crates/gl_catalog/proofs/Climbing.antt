@@ -125,15 +125,15 @@ module _ (s : State) (t : TxnId) where
       rule_in (s.held t.slot) (parents_of s.graph ask.0) (wanted s t.slot ask.0 ask.1) p (sym (wanted_by_rule ask (passes ask p h)) ∙ h)
 
   -- a climb is a route in the graph
-  pub climb_route : (ask : Ask) (way : List NodeId) (top : Ask) → ClimbsTo s t ask way top → IsRoute s.graph ask.0 way top.0
+  pub climb_route : (ask : Ask) (path : List NodeId) (top : Ask) → ClimbsTo s t ask path top → IsRoute s.graph ask.0 path top.0
   climb_route ask [] top h = sym (ap (λ (x : Ask). x.0) h)
-  climb_route ask (p ∷ way) top h = (up ask p h.0, climb_route (p, intention ask.1) way top h.1)
+  climb_route ask (p ∷ path) top h = (up ask p h.0, climb_route (p, intention ask.1) path top h.1)
 
   -- a climb with one step more
-  pub climb_on : (ask : Ask) (way : List NodeId) (top : Ask) (p : NodeId) → ClimbsTo s t ask way top → parent_wanted s t top ≡ Some p
-      → ClimbsTo s t ask (way ++ p ∷ []) (p, intention top.1)
+  pub climb_on : (ask : Ask) (path : List NodeId) (top : Ask) (p : NodeId) → ClimbsTo s t ask path top → parent_wanted s t top ≡ Some p
+      → ClimbsTo s t ask (path ++ p ∷ []) (p, intention top.1)
   climb_on ask [] top p h w = (ap (parent_wanted s t) (sym h) ∙ w, ap (λ (x : Ask). (p, intention x.1)) h)
-  climb_on ask (q ∷ way) top p h w = (h.0, climb_on (q, intention ask.1) way top p h.1 w)
+  climb_on ask (q ∷ path) top p h w = (h.0, climb_on (q, intention ask.1) path top p h.1 w)
 
   child_lives : (ask : Ask) (p : NodeId) → parent_wanted s t ask ≡ Some p → is_live s.graph ask.0 ≡ true
   child_lives ask p h = by (node_at s.graph ask.0) (up ask p h)
@@ -142,19 +142,19 @@ module _ (s : State) (t : TxnId) where
       by None h' = absurd (never h')
       by (Some x) h' = refl
 
-  starts_live : (ask : Ask) (way : List NodeId) (top : Ask) (p : NodeId) → ClimbsTo s t ask way top → parent_wanted s t top ≡ Some p
+  starts_live : (ask : Ask) (path : List NodeId) (top : Ask) (p : NodeId) → ClimbsTo s t ask path top → parent_wanted s t top ≡ Some p
       → is_live s.graph ask.0 ≡ true
   starts_live ask [] top p h w = child_lives ask p (ap (parent_wanted s t) (sym h) ∙ w)
-  starts_live ask (q ∷ way) top p h w = child_lives ask q h.0
+  starts_live ask (q ∷ path) top p h w = child_lives ask q h.0
 
   -- no climb leaves a request that needs no parent
-  pub stays_at : (ask : Ask) (way : List NodeId) (top : Ask) → ClimbsTo s t ask way top → parent_wanted s t ask ≡ None → top ≡ ask
+  pub stays_at : (ask : Ask) (path : List NodeId) (top : Ask) → ClimbsTo s t ask path top → parent_wanted s t ask ≡ None → top ≡ ask
   stays_at ask [] top h none = h
-  stays_at ask (p ∷ way) top h none = absurd (none_some (sym none ∙ h.0))
+  stays_at ask (p ∷ path) top h none = absurd (none_some (sym none ∙ h.0))
 
   -- after as many steps as there are nodes no parent is needed
-  pub climb_ends : IsLawfulGraph s.graph → (ask : Ask) (way : List NodeId) (top : Ask) → ClimbsTo s t ask way top → length way ≡ node_count s.graph
+  pub climb_ends : IsLawfulGraph s.graph → (ask : Ask) (path : List NodeId) (top : Ask) → ClimbsTo s t ask path top → length path ≡ node_count s.graph
       → parent_wanted s t top ≡ None
-  climb_ends law ask way top h e =
+  climb_ends law ask path top h e =
       cases_of (parent_wanted s t top) (λ none. none)
-      (λ p w. let short = route_short s.graph law ask.0 top.0 way (starts_live ask way top p h w) (climb_route ask way top h) in absurd (omega arith))
+      (λ p w. let short = route_short s.graph law ask.0 top.0 path (starts_live ask path top p h w) (climb_route ask path top h) in absurd (omega arith))

@@ -20,7 +20,7 @@ pub mod Relocations
 pub mod Rekeyings
 -- locks along a path
 pub mod Climbing
-pub mod KeptWays
+pub mod KeptPaths
 pub mod OwnGrants
 pub mod StillWanted
 pub mod PathSteps

@@ -19,7 +19,7 @@ use Rattle.gl_catalog.specs.Manager.{ManagerView, state_of}
 use Rattle.gl_catalog.specs.Paths.{Ask, AsksFirst, AsksOnce, IsPath, LocksPath, goes_on, lock_of, parent_missed, parent_wanted, path_tests, reaching}
 use Rattle.gl_catalog.specs.Replies.{Says, said}
 use Rattle.gl_steps.specs.Step.{Goes, Step, answer_of_lock}
-use Rattle.gl_steps.specs.Tests.{is_cycle, lists_memory, may_want_memory, refusal_of}
+use Rattle.gl_steps.specs.Tests.{is_cycle, lists_memory, may_lack_memory, refusal_of}
 use Rattle.gl_catalog.proofs.Climbing.{first_stays, plain_tests, stays_at}
 
 -- what a path was at its beginning, once it continues from a later manager
@@ -73,7 +73,7 @@ module _ (t : TxnId) (ask : Ask) (m : ManagerView) (q : Refusal) (found : first_
   wants_none : parent_wanted s t ask ≡ None
   wants_none = ap parent_missed (refused_so ∙ sym found) ∙ (plain_tests s t ask.0 ask.1).0
 
-  no_memory : may_want_memory s (lock_of t ask) ≡ false
+  no_memory : may_lack_memory s (lock_of t ask) ≡ false
   no_memory =
       ap (λ o. lists_memory s (lock_of t ask) && (is_none o || is_cycle o)) refused_so
       ∙ ap (λ b. lists_memory s (lock_of t ask) && b) plain ∙ and_false (lists_memory s (lock_of t ask))

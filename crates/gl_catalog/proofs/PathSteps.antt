@@ -17,14 +17,14 @@ use Rattle.gl_steps.specs.declared.command.Answer.TheVariants as answer
 use Rattle.gl_catalog.specs.Completes.{Completes}
 use Rattle.gl_catalog.specs.Counters.{grants, refuses}
 use Rattle.gl_catalog.specs.Manager.{ManagerView, state_of}
-use Rattle.gl_catalog.specs.Paths.{Ask, AsksOnce, ClimbsTo, ComesFirst, KeepsBelow, KeepsWay, intention, lock_of}
+use Rattle.gl_catalog.specs.Paths.{Ask, AsksOnce, ClimbsTo, ComesFirst, KeepsBelow, KeepsPath, intention, lock_of}
 use Rattle.gl_catalog.specs.Paths.{missing_parent, next_ask, parent_missed, parent_wanted}
 use Rattle.gl_catalog.specs.Replies.{CallSteps, asking}
 use Rattle.gl_steps.specs.Step.{Goes, Step, answer_of_lock}
-use Rattle.gl_steps.specs.Tests.{is_cycle, lists_memory, may_want_memory, refusal_of, worn}
+use Rattle.gl_steps.specs.Tests.{is_cycle, lists_memory, may_lack_memory, refusal_of, worn}
 use Rattle.gl_table.proofs.inside.Lists.{length-more}
 use Rattle.gl_catalog.proofs.Climbing.{climb_on}
-use Rattle.gl_catalog.proofs.KeptWays.{way_climbs}
+use Rattle.gl_catalog.proofs.KeptPaths.{path_climbs}
 use Rattle.gl_catalog.proofs.OwnGrants.{GrantsOwn, grants_own}
 use Rattle.gl_catalog.proofs.StillWanted.{below_kept}
 
@@ -47,8 +47,8 @@ memory_alone None h = refl
 memory_alone (Some q) h = cases_of (missing_parent q) (λ none. none) (λ p e. absurd (never (sym (no_cycle q p e) ∙ h)))
 
 module _ (s s' : State) (t : TxnId) (ask : Ask) (told : Told) where
-  wanting_memory : may_want_memory s (lock_of t ask) ≡ true → parent_wanted s t ask ≡ None
-  wanting_memory h = memory_alone (refusal_of s (lock_of t ask)) (and_both (lists_memory s (lock_of t ask)) _ h).1
+  lacking_memory : may_lack_memory s (lock_of t ask) ≡ true → parent_wanted s t ask ≡ None
+  lacking_memory h = memory_alone (refusal_of s (lock_of t ask)) (and_both (lists_memory s (lock_of t ask)) _ h).1
 
   -- a lock that is refused for lack of a parent needs that one, and one that is refused otherwise needs none
   pub refused_wants : (r : Refusal) → Step s (lock_of t ask) (answer.Refused r) told s' → parent_wanted s t ask ≡ missing_parent r
@@ -57,7 +57,7 @@ module _ (s s' : State) (t : TxnId) (ask : Ask) (told : Told) where
       by : (o : Option Refusal) → Goes s (lock_of t ask) o (answer.Refused r) told s' → parent_missed o ≡ missing_parent r
       by (Some q) un = ap missing_parent (refused_is q r un.answer_is)
       by None went = absurd (not_refused _ r (sym went.1.1))
-  refused_wants r (inr memory) = wanting_memory memory.0 ∙ ap missing_parent (refused_is no.NoMemory r memory.1.answer_is)
+  refused_wants r (inr memory) = lacking_memory memory.0 ∙ ap missing_parent (refused_is no.NoMemory r memory.1.answer_is)
 
   -- one that is not refused needs none
   pub locked_wants : (x : Locked) → Step s (lock_of t ask) (answer_of_lock x) told s' → parent_wanted s t ask ≡ None
@@ -79,7 +79,7 @@ looked s t ask counts = ap (λ o. parent_missed (first_refusal (o ∷ lock_tests
 
 -- a climb of so many steps, and one step more
 abbrev pub ClimbsIn : State → TxnId → Ask → ℕ → Ask → Type 0
-ClimbsIn s t ask k top = (way : List NodeId) × ClimbsTo s t ask way top × (length way ≡ k)
+ClimbsIn s t ask k top = (path : List NodeId) × ClimbsTo s t ask path top × (length path ≡ k)
 
 pub one_up : (s : State) (t : TxnId) (ask : Ask) (k : ℕ) (top : Ask) (p : NodeId) → ClimbsIn s t ask k top → parent_wanted s t top ≡ Some p
     → ClimbsIn s t ask (k + 1) (p, intention top.1)
@@ -120,13 +120,13 @@ not_full s s' t ask x told step = cases_of (worn s) (λ none. none) (λ q e. abs
     full q e (inr memory) = not_refused x no.NoMemory memory.1.answer_is
 
 -- the next request of a path with these nodes above, as lock_first makes it
-module _ (m₀ m m' : ManagerView) (same : m ≡ m₀) (t : TxnId) (ask top : Ask) (above : List NodeId) (kept : KeepsWay (state_of m₀) t ask above)
+module _ (m₀ m m' : ManagerView) (same : m ≡ m₀) (t : TxnId) (ask top : Ask) (above : List NodeId) (kept : KeepsPath (state_of m₀) t ask above)
     (is : top ≡ next_ask ask above) (told : Told) where
   abbrev s₀ : State
   s₀ = state_of m₀
 
-  climbs : worn s₀ ≡ None → (way : List NodeId) × ClimbsTo s₀ t ask way top
-  climbs counts = let to = way_climbs s₀ t ask above (kept counts) in (to.0, subst (ClimbsTo s₀ t ask to.0) (sym is) to.1)
+  climbs : worn s₀ ≡ None → (path : List NodeId) × ClimbsTo s₀ t ask path top
+  climbs counts = let to = path_climbs s₀ t ask above (kept counts) in (to.0, subst (ClimbsTo s₀ t ask to.0) (sym is) to.1)
 
   module _ (x : Locked) (step : CallSteps (state_of m) (lock_of t top) (asking told) (Ok x) (state_of m')) where
     locks₀ : CallSteps s₀ (lock_of t top) (asking told) (Ok x) (state_of m')

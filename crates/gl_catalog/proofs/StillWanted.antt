@@ -22,10 +22,10 @@ use Rattle.gl_model.specs.declared.txn.TxnId.{TxnId}
 use Rattle.gl_model.specs.Calls.{condemned_test, first_not_ix, first_of_all, rule_refusal, waiting_test, wanted}
 use Rattle.gl_model.specs.Lawful.{IsLawful}
 use Rattle.gl_model.specs.State.{State, is_write, no_parents}
-use Rattle.gl_catalog.specs.Paths.{Ask, ClimbsTo, IsWay, KeepsBelow, KeepsWay, intention, next_ask, parent_missed, parent_wanted, path_tests}
+use Rattle.gl_catalog.specs.Paths.{Ask, ClimbsTo, IsPathUp, KeepsBelow, KeepsPath, intention, next_ask, parent_missed, parent_wanted, path_tests}
 use Rattle.gl_steps.specs.Tests.{worn}
 use Rattle.gl_catalog.proofs.Climbing.{climb_route, passes, rule_of, wanted_by_rule}
-use Rattle.gl_catalog.proofs.KeptWays.{next_last}
+use Rattle.gl_catalog.proofs.KeptPaths.{next_last}
 use Rattle.gl_steps.proofs.OneStep.{AllNone, all_none}
 use Rattle.gl_catalog.proofs.OwnGrants.{GrantsOwn}
 
@@ -95,16 +95,16 @@ still_write a m write = at_least-transitive (supremum a m) m IX (supremum-above_
 
 -- Routes in the graph.
 module _ (g : Graph) where
-  route_join : (n : NodeId) (way : List NodeId) (m : NodeId) (more : List NodeId) (x : NodeId) → IsRoute g n way m → IsRoute g m more x
-      → IsRoute g n (way ++ more) x
+  route_join : (n : NodeId) (path : List NodeId) (m : NodeId) (more : List NodeId) (x : NodeId) → IsRoute g n path m → IsRoute g m more x
+      → IsRoute g n (path ++ more) x
   route_join n [] m more x h k = subst (λ y. IsRoute g y more x) (sym h) k
-  route_join n (p ∷ way) m more x h k = (h.0, route_join p way m more x h.1 k)
+  route_join n (p ∷ path) m more x h k = (h.0, route_join p path m more x h.1 k)
 
-  no_return : IsLawfulGraph g → (n : NodeId) (way : List NodeId) (q : NodeId) (more : List NodeId) (x : NodeId) → IsRoute g n (way ++ q ∷ more) x
+  no_return : IsLawfulGraph g → (n : NodeId) (path : List NodeId) (q : NodeId) (more : List NodeId) (x : NodeId) → IsRoute g n (path ++ q ∷ more) x
       → same_node n x ≡ false
   no_return law n [] q more x h = same_node-differ n x (λ e. law.acyclic n q more (subst (λ y. IsRoute g n (q ∷ more) y) (sym e) h))
-  no_return law n (p ∷ way) q more x h =
-      same_node-differ n x (λ e. law.acyclic n p (way ++ q ∷ more) (subst (λ y. IsRoute g n (p ∷ way ++ q ∷ more) y) (sym e) h))
+  no_return law n (p ∷ path) q more x h =
+      same_node-differ n x (λ e. law.acyclic n p (path ++ q ∷ more) (subst (λ y. IsRoute g n (p ∷ path ++ q ∷ more) y) (sym e) h))
 
 -- x was granted, and a further command can be counted
 module _ (s s' : State) (law : IsLawful s) (t : TxnId) (x : NodeId) (own : GrantsOwn s s' t x) (counts : worn s' ≡ None) where
@@ -160,18 +160,18 @@ module _ (s s' : State) (law : IsLawful s) (t : TxnId) (x : NodeId) (own : Grant
   abbrev g : Graph
   g = s.graph
 
-  climb_still : (a : Ask) (way : List NodeId) (b : Ask) (q : NodeId) (more : List NodeId) → is_write a.1 ≡ true → ClimbsTo s t a way b
-      → IsRoute g b.0 (q ∷ more) x → ClimbsTo s' t a way b
+  climb_still : (a : Ask) (path : List NodeId) (b : Ask) (q : NodeId) (more : List NodeId) → is_write a.1 ≡ true → ClimbsTo s t a path b
+      → IsRoute g b.0 (q ∷ more) x → ClimbsTo s' t a path b
   climb_still a [] b q more write h k = h
-  climb_still a (p ∷ way) b q more write h k =
-      let above = route_join g p way b.0 (q ∷ more) x (climb_route s t (p, intention a.1) way b h.1) k in
-      let here = route_join g a.0 (p ∷ way) b.0 (q ∷ more) x (climb_route s t a (p ∷ way) b h) k in (
-        wanted_still a p write (no_return g law.graph a.0 (p ∷ way) q more x here) (no_return g law.graph p way q more x above) h.0,
-        climb_still (p, intention a.1) way b q more (intends_write a.1 write) h.1 k,
+  climb_still a (p ∷ path) b q more write h k =
+      let above = route_join g p path b.0 (q ∷ more) x (climb_route s t (p, intention a.1) path b h.1) k in
+      let here = route_join g a.0 (p ∷ path) b.0 (q ∷ more) x (climb_route s t a (p ∷ path) b h) k in (
+        wanted_still a p write (no_return g law.graph a.0 (p ∷ path) q more x here) (no_return g law.graph p path q more x above) h.0,
+        climb_still (p, intention a.1) path b q more (intends_write a.1 write) h.1 k,
       )
 
   -- the route to the last
-  route_up : (ask : Ask) (ps : List NodeId) → IsWay s t ask (ps ++ x ∷ []) → (q : NodeId) × (more : List NodeId) × IsRoute g ask.0 (q ∷ more) x
+  route_up : (ask : Ask) (ps : List NodeId) → IsPathUp s t ask (ps ++ x ∷ []) → (q : NodeId) × (more : List NodeId) × IsRoute g ask.0 (q ∷ more) x
   route_up ask [] h = (h.0.0, h.0.1, climb_route s t ask (h.0.0 ∷ h.0.1) (x, intention ask.1) h.0.2)
   route_up ask (p ∷ ps) h =
       let rest = route_up (p, intention ask.1) ps h.1 in (
@@ -180,17 +180,17 @@ module _ (s s' : State) (law : IsLawful s) (t : TxnId) (x : NodeId) (own : Grant
         route_join g ask.0 (h.0.0 ∷ h.0.1) p (rest.0 ∷ rest.1) x (climb_route s t ask (h.0.0 ∷ h.0.1) (p, intention ask.1) h.0.2) rest.2,
       )
 
-  way_still : (ask : Ask) (ps : List NodeId) → is_write ask.1 ≡ true → IsWay s t ask (ps ++ x ∷ []) → IsWay s' t ask ps
-  way_still ask [] write h = tt
-  way_still ask (p ∷ ps) write h =
+  path_still : (ask : Ask) (ps : List NodeId) → is_write ask.1 ≡ true → IsPathUp s t ask (ps ++ x ∷ []) → IsPathUp s' t ask ps
+  path_still ask [] write h = tt
+  path_still ask (p ∷ ps) write h =
       let rest = route_up (p, intention ask.1) ps h.1 in (
         (h.0.0, h.0.1, climb_still ask (h.0.0 ∷ h.0.1) (p, intention ask.1) rest.0 rest.1 write h.0.2 rest.2),
-        way_still (p, intention ask.1) ps (intends_write ask.1 write) h.1,
+        path_still (p, intention ask.1) ps (intends_write ask.1 write) h.1,
       )
 
 -- the nodes below a granted one are kept
-pub below_kept : (s s' : State) → IsLawful s → (t : TxnId) (ask : Ask) (above : List NodeId) → GrantsOwn s s' t (next_ask ask above).0 → KeepsWay s t ask above
+pub below_kept : (s s' : State) → IsLawful s → (t : TxnId) (ask : Ask) (above : List NodeId) → GrantsOwn s s' t (next_ask ask above).0 → KeepsPath s t ask above
     → KeepsBelow s' t ask above
 below_kept s s' law t ask above own kept below last is write counts =
     let at : (next_ask ask above).0 ≡ last = ap (λ ps. (next_ask ask ps).0) is ∙ ap (λ (a : Ask). a.0) (next_last ask below last) in
-    way_still s s' law t last (subst (λ n. GrantsOwn s s' t n) at own) counts ask below write (subst (IsWay s t ask) is (kept own.counted))
+    path_still s s' law t last (subst (λ n. GrantsOwn s s' t n) at own) counts ask below write (subst (IsPathUp s t ask) is (kept own.counted))

@@ -52,11 +52,11 @@ parent_wanted s t ask = parent_missed (refusal_of s (lock_of t ask))
 -- from one request up to another: each next one is the intention on the parent that the one before needs
 abbrev pub ClimbsTo : State → TxnId → Ask → List NodeId → Ask → Type 0
 ClimbsTo s t ask [] top = top ≡ ask
-ClimbsTo s t ask (p ∷ way) top = (parent_wanted s t ask ≡ Some p) × ClimbsTo s t (p, intention ask.1) way top
+ClimbsTo s t ask (p ∷ path) top = (parent_wanted s t ask ≡ Some p) × ClimbsTo s t (p, intention ask.1) path top
 
 -- the first request on the path to another: the climb to it ends there, since it needs no parent
 pub record ComesFirst (s : State) (t : TxnId) (ask first : Ask) : Type 0 where
-  pub climb : (way : List NodeId) × ClimbsTo s t ask way first
+  pub climb : (path : List NodeId) × ClimbsTo s t ask path first
   pub top : parent_wanted s t first ≡ None
 
 -- one request of a path: the first one in this state, and a step; refused, it changes nothing
@@ -105,20 +105,20 @@ next_ask ask (p ∷ ps) = next_ask (p, intention ask.1) ps
 
 -- from one request up to another, in a step at least
 abbrev pub ClimbsUp : State → TxnId → Ask → Ask → Type 0
-ClimbsUp s t ask top = (p : NodeId) × (way : List NodeId) × ClimbsTo s t ask (p ∷ way) top
+ClimbsUp s t ask top = (p : NodeId) × (path : List NodeId) × ClimbsTo s t ask (p ∷ path) top
 
 -- nodes above a request, upwards: each is climbed up to from the one before
-abbrev pub IsWay : State → TxnId → Ask → List NodeId → Type 0
-IsWay s t ask [] = Unit {0}
-IsWay s t ask (p ∷ ps) = ClimbsUp s t ask (p, intention ask.1) × IsWay s t (p, intention ask.1) ps
+abbrev pub IsPathUp : State → TxnId → Ask → List NodeId → Type 0
+IsPathUp s t ask [] = Unit {0}
+IsPathUp s t ask (p ∷ ps) = ClimbsUp s t ask (p, intention ask.1) × IsPathUp s t (p, intention ask.1) ps
 
 -- the nodes that a path keeps are such nodes, if a command can still be counted
-abbrev pub KeepsWay : State → TxnId → Ask → List NodeId → Type 0
-KeepsWay s t ask above = worn s ≡ None → IsWay s t ask above
+abbrev pub KeepsPath : State → TxnId → Ask → List NodeId → Type 0
+KeepsPath s t ask above = worn s ≡ None → IsPathUp s t ask above
 
 -- and so are, to write, those below the last
 abbrev pub KeepsBelow : State → TxnId → Ask → List NodeId → Type 0
-KeepsBelow s t ask above = (below : List NodeId) (last : NodeId) → above ≡ below ++ last ∷ [] → is_write ask.1 ≡ true → KeepsWay s t ask below
+KeepsBelow s t ask above = (below : List NodeId) (last : NodeId) → above ≡ below ++ last ∷ [] → is_write ask.1 ≡ true → KeepsPath s t ask below
 
 -- the tests of a lock without those of parents
 abbrev pub path_tests : State → TxnId → NodeId → Mode → List (Option Refusal)

@@ -26,21 +26,21 @@ tail_equal n o xs ys e = cc
 no_list : (n : Option ℕ) (xs : List (Option ℕ)) → n ∷ xs ≡ [] → ⊥
 no_list n xs e = cc
 
-no_seat : (o : Option ℕ) (ys : List (Option ℕ)) → [] ≡ o ∷ ys → ⊥
-no_seat o ys e = cc
+no_place : (o : Option ℕ) (ys : List (Option ℕ)) → [] ≡ o ∷ ys → ⊥
+no_place o ys e = cc
 
 -- if no session met a fault, each share has this amount
 pub served_amounts :
-    {A : Type 0} (share : A → Option ℕ) (fault : A → Option CrewFault) (amount : ℕ) (seats : List A) (ns : List ℕ) →
-    All (λ s. HasServed amount (share s) (fault s)) seats → map (λ n. Some n) ns ≡ map share seats → IsFaultless (map fault seats) → All (λ n. n ≡ amount) ns
+    {A : Type 0} (share : A → Option ℕ) (fault : A → Option CrewFault) (amount : ℕ) (places : List A) (ns : List ℕ) →
+    All (λ s. HasServed amount (share s) (fault s)) places → map (λ n. Some n) ns ≡ map share places → IsFaultless (map fault places) → All (λ n. n ≡ amount) ns
 served_amounts share fault amount [] [] had same none = All-nil (λ n. n ≡ amount)
 served_amounts share fault amount [] (n ∷ ns) had same none = absurd (no_list (Some n) (map (λ n. Some n) ns) same)
-served_amounts share fault amount (s ∷ seats) [] had same none = absurd (no_seat (share s) (map share seats) same)
-served_amounts share fault amount (s ∷ seats) (n ∷ ns) had same none =
+served_amounts share fault amount (s ∷ places) [] had same none = absurd (no_place (share s) (map share places) same)
+served_amounts share fault amount (s ∷ places) (n ∷ ns) had same none =
     let Q : Option CrewFault → Type 0 = λ f. f ≡ None in
-    let here = head_equal n (share s) (map (λ n. Some n) ns) (map share seats) same in
+    let here = head_equal n (share s) (map (λ n. Some n) ns) (map share places) same in
     let one = some_equal n amount (share s) here
-    ((All-head (λ s. HasServed amount (share s) (fault s)) s seats had).1 (All-head Q (fault s) (map fault seats) none)) in
-    let rest = served_amounts share fault amount seats ns (All-tail (λ s. HasServed amount (share s) (fault s)) s seats had)
-    (tail_equal n (share s) (map (λ n. Some n) ns) (map share seats) same) (All-tail Q (fault s) (map fault seats) none) in
+    ((All-head (λ s. HasServed amount (share s) (fault s)) s places had).1 (All-head Q (fault s) (map fault places) none)) in
+    let rest = served_amounts share fault amount places ns (All-tail (λ s. HasServed amount (share s) (fault s)) s places had)
+    (tail_equal n (share s) (map (λ n. Some n) ns) (map share places) same) (All-tail Q (fault s) (map fault places) none) in
     All-cons (λ n. n ≡ amount) n ns one rest

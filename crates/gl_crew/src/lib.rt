@@ -11,8 +11,8 @@ mod field;
 mod gate;
 mod lookout;
 mod over;
+mod places;
 mod rounds;
-mod seats;
 mod work;
 
 pub use crews::{crew, crew_choosing, crew_with};

@@ -9,7 +9,7 @@ ghost use Rattle.gl_crew.specs.Crews.{IsCountOf, IsFaultless, IsSumOf, first_fau
 
 use crate::fault::{CrewFault, first_fault};
 use crate::lookout::look_out;
-use crate::seats::{Room, Served, serve_all};
+use crate::places::{Room, Served, serve_all};
 use crate::work::Work;
 use gl_catalog::Manager;
 use gl_modes::Refusal;

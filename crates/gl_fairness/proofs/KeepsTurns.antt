@@ -14,9 +14,10 @@ use Rattle.gl_steps.specs.Step.{Step}
 use Rattle.gl_steps.proofs.Detection.{steps_keep_settings}
 use Rattle.gl_steps.proofs.LivesOn.{SameTurn}
 use Rattle.gl_steps.proofs.StepsKeepLaw.{steps_keep_law}
-use Rattle.gl_fairness.specs.Turns.{AreKnown, ComesFirst, EmptyIsKnown, Falls, FirstNeverFalls, NoMoreComeBefore, RunsKeepKnown, begins_ahead, comes_before}
+use Rattle.gl_fairness.specs.Turns.{AreKnown, ComesFirst, EmptyIsKnown, BecomesVictim, FirstIsNeverVictim, NoMoreComeBefore, RunsKeepKnown, begins_ahead}
+use Rattle.gl_fairness.specs.Turns.{comes_before}
 use Rattle.gl_fairness.specs.Waiting.{SameTxn}
-use Rattle.gl_fairness.proofs.Falls.{falls_behind_a_living}
+use Rattle.gl_fairness.proofs.VictimOrder.{victim_after_a_living}
 use Rattle.gl_fairness.proofs.Turns.{IsNew, one_turn, step_turn}
 
 pub empty_is_known : EmptyIsKnown
@@ -76,20 +77,20 @@ no_more_come_before s s' c a told v law known ahead step stays =
         let parts = and_both _ _ h in let was = came_before s s' c a told v law known ahead step stays u parts.0 parts.1 in
         both _ _ was.0 was.1
 
-pub first_never_falls : FirstNeverFalls
-first_never_falls s s' [] [] v law known young first run =
-    (subst (λ x. ComesFirst x v) (sym run.1) first, λ falls. falls.not_before (ap (λ (x : State). status_of x v) (sym run.1) ∙ falls.after))
-first_never_falls s s' [] (r ∷ rs) v law known young first run = absurd run
-first_never_falls s s' (c ∷ cs) [] v law known young first run = absurd run
-first_never_falls s s' (c ∷ cs) (r ∷ rs) v law known young first run =
+pub first_is_never_victim : FirstIsNeverVictim
+first_is_never_victim s s' [] [] v law known young first run =
+    (subst (λ x. ComesFirst x v) (sym run.1) first, λ becomes. becomes.not_before (ap (λ (x : State). status_of x v) (sym run.1) ∙ becomes.after))
+first_is_never_victim s s' [] (r ∷ rs) v law known young first run = absurd run
+first_is_never_victim s s' (c ∷ cs) [] v law known young first run = absurd run
+first_is_never_victim s s' (c ∷ cs) (r ∷ rs) v law known young first run =
     let mid = run.0 in
-    let rest = first_never_falls mid s' cs rs v (steps_keep_law s mid c r.0 r.1 law run.1) (step_keeps_known s mid c r.0 r.1 known run.1)
+    let rest = first_is_never_victim mid s' cs rs v (steps_keep_law s mid c r.0 r.1 law run.1) (step_keeps_known s mid c r.0 r.1 known run.1)
     (ap (λ x. x.1) (steps_keep_settings s mid c r.0 r.1 run.1) ∙ young) stays_first run.4 in
-    (rest.0, λ falls. rest.1 (record { not_before = λ e. not_now (record { not_before = falls.not_before; after = e }); after = falls.after }))
+    (rest.0, λ becomes. rest.1 (record { not_before = λ e. not_now (record { not_before = becomes.not_before; after = e }); after = becomes.after }))
   where
     stays_first : ComesFirst run.0 v
     stays_first u lives = split (comes_before run.0 u v)
         (λ h. let was = came_before s run.0 c r.0 r.1 v law known run.3 run.1 run.2 u lives h in clash was.1 (first u was.0)) (λ h. h)
 
-    not_now : Falls s run.0 v → ⊥
-    not_now falls = let one = falls_behind_a_living s run.0 c r.0 r.1 v law young run.1 falls in clash one.2 (first one.0 one.1)
+    not_now : BecomesVictim s run.0 v → ⊥
+    not_now becomes = let one = victim_after_a_living s run.0 c r.0 r.1 v law young run.1 becomes in clash one.2 (first one.0 one.1)

@@ -7,5 +7,5 @@ mod Served
 mod Passes
 mod Ends
 -- victims, and what comes before them
-mod Falls
+mod VictimOrder
 mod KeepsTurns

@@ -21,8 +21,8 @@ abbrev pub comes_before : State → ℕ → ℕ → Bool
 comes_before s u v = is_earlier (since_of s) (age_of s) u v
 
 -- each other candidate comes before the victim
-abbrev pub FallsBehindOthers : Type 0
-FallsBehindOthers =
+abbrev pub VictimAfterOthers : Type 0
+VictimAfterOthers =
     (c : Victims) (s : State) (t v u : ℕ) → IsLawful s → IsVictim c s t v → IsCandidate c (waits_for s) t u → u ≢ v → comes_before s u v ≡ true
 
 -- u is on a cycle with t, lives, and comes before v
@@ -32,18 +32,18 @@ pub record StaysBefore (s : State) (t u v : ℕ) : Type 0 where
   pub before : comes_before s u v ≡ true
 
 -- by `Youngest`, a victim leaves one on the cycle that comes before it
-abbrev pub FallsBehindSomebody : Type 0
-FallsBehindSomebody = (s : State) (t v : ℕ) → IsLawful s → IsVictim Youngest s t v → (u : ℕ) × StaysBefore s t u v
+abbrev pub VictimAfterSomebody : Type 0
+VictimAfterSomebody = (s : State) (t v : ℕ) → IsLawful s → IsVictim Youngest s t v → (u : ℕ) × StaysBefore s t u v
 
 -- the transaction in slot v is condemned between the states
-pub record Falls (s s' : State) (v : ℕ) : Type 0 where
+pub record BecomesVictim (s s' : State) (v : ℕ) : Type 0 where
   pub not_before : status_of s v ≢ Some Condemned
   pub after : status_of s' v ≡ Some Condemned
 
 -- by `Youngest`, a living transaction comes before each that a step condemns
-abbrev pub FallsBehindALiving : Type 0
-FallsBehindALiving =
-    (s s' : State) (c : Command) (a : Answer) (told : Told) (v : ℕ) → IsLawful s → s.victims ≡ Youngest → Step s c a told s' → Falls s s' v
+abbrev pub VictimAfterALiving : Type 0
+VictimAfterALiving =
+    (s s' : State) (c : Command) (a : Answer) (told : Told) (v : ℕ) → IsLawful s → s.victims ≡ Youngest → Step s c a told s' → BecomesVictim s s' v
     → (u : ℕ) × (is_some (s.txns u) ≡ true) × (comes_before s u v ≡ true)
 
 -- how many living transactions come before v
@@ -87,8 +87,8 @@ LivesThrough v s [] (r ∷ rs) s' = ⊥
 LivesThrough v s (c ∷ cs) [] s' = ⊥
 
 -- along such a run one that comes first stays first, and is never a victim
-abbrev pub FirstNeverFalls : Type 0
-FirstNeverFalls =
+abbrev pub FirstIsNeverVictim : Type 0
+FirstIsNeverVictim =
     (s s' : State) (cs : List Command) (rs : List (Answer × Told)) (v : ℕ) → IsLawful s → AreKnown s → s.victims ≡ Youngest → ComesFirst s v
     → LivesThrough v s cs rs s'
-    → ComesFirst s' v × (Falls s s' v → ⊥)
+    → ComesFirst s' v × (BecomesVictim s s' v → ⊥)

@@ -2,8 +2,8 @@
 
 ghost use Rattle.gl_fairness.specs.Ends.{WaitsEnd, WaitsForOneBefore, WaitsForSomebody};
 ghost use Rattle.gl_fairness.specs.Passed.{PassedAtMost, PassesAreSpent, RaisesEnd};
-ghost use Rattle.gl_fairness.specs.Turns.{EmptyIsKnown, FallsBehindALiving, FallsBehindOthers, FallsBehindSomebody};
-ghost use Rattle.gl_fairness.specs.Turns.{FirstNeverFalls, NoMoreComeBefore, RunsKeepKnown};
+ghost use Rattle.gl_fairness.specs.Turns.{EmptyIsKnown, VictimAfterALiving, VictimAfterOthers, VictimAfterSomebody};
+ghost use Rattle.gl_fairness.specs.Turns.{FirstIsNeverVictim, NoMoreComeBefore, RunsKeepKnown};
 ghost use Rattle.gl_fairness.specs.Waiting.{FirstComeFirstServed, NobodyComesBetween};
 
 /// No step puts a new transaction before a waiter: each that is before it after the step was before
@@ -47,11 +47,11 @@ pub fn waits_end()
 /// that come before one that lives on, unless a transaction begins again for earlier work. So along
 /// a run without such, the first is never a victim.
 pub fn keeps_its_turn()
-    ensures others { FallsBehindOthers }
-    ensures somebody { FallsBehindSomebody }
-    ensures living { FallsBehindALiving }
+    ensures others { VictimAfterOthers }
+    ensures somebody { VictimAfterSomebody }
+    ensures living { VictimAfterALiving }
     ensures known { RunsKeepKnown }
     ensures start { EmptyIsKnown }
     ensures no_more { NoMoreComeBefore }
-    ensures first { FirstNeverFalls }
+    ensures first { FirstIsNeverVictim }
 {}

@@ -103,7 +103,7 @@ module _ (g : Graph) (n : NodeId) (was is : Node) (there : node_at g n ≡ Some 
 
     module _ (law : IsLawfulGraph g) (well : IsWellFormed after n is)
         (up : (p : NodeId) → list_any (same_node p) is.parents ≡ true → is_live g p ≡ true)
-        (clear : (p : NodeId) (way : List NodeId) → list_any (same_node p) is.parents ≡ true → IsRoute g p way n → ⊥) where
+        (clear : (p : NodeId) (path : List NodeId) → list_any (same_node p) is.parents ≡ true → IsRoute g p path n → ⊥) where
       child_other : (p q : NodeId) → q ≢ n → is_child after p q ≡ true → is_child g p q ≡ true
       child_other p q ne h = sym (ap (λ o. list_any (same_node p) (parents_in o)) (at_other q ne)) ∙ h
 
@@ -121,7 +121,7 @@ module _ (g : Graph) (n : NodeId) (was is : Node) (there : node_at g n ≡ Some 
         parents_live = λ q p h. live_same p ∙ split (same_node q n)
             (λ same. up p (child_here p (subst (λ x. is_child after p x ≡ true) (same_node-equal q n same) h)))
             (λ other. law.parents_live q p (child_other p q (same_node-other q n other) h));
-        acyclic = acyclic_moved g after n (λ p q ne h. child_other p q ne h) (λ p way h route. clear p way (child_here p h) route) law.acyclic;
+        acyclic = acyclic_moved g after n (λ p q ne h. child_other p q ne h) (λ p path h route. clear p path (child_here p h) route) law.acyclic;
         keys_differ = λ a b h k e. law.keys_differ a b (sym (live_same a) ∙ h) (sym (live_same b) ∙ k) e;
         born = λ b h. split (b == n.birth)
             (λ e. law.born b (ap (λ x. is_some (g.at x)) (same_number b n.birth e) ∙ there_is _ was (found_at g n was there).0))

@@ -110,9 +110,9 @@ module _ (g : Graph) (stops : NodeId → Bool) where
   -- a route from n to a wanted node, past no node that stops it
   pub record Leads (sought : NodeId → Bool) (n : NodeId) : Type 0 where
     pub end : NodeId
-    pub way : List NodeId
-    pub route : IsRoute g n way end
-    pub free : list_any stops (n ∷ way) ≡ false
+    pub walk : List NodeId
+    pub route : IsRoute g n walk end
+    pub free : list_any stops (n ∷ walk) ≡ false
     pub meets : sought end ≡ true
 
   -- the nodes to which the search climbs from n
@@ -131,9 +131,9 @@ module _ (g : Graph) (stops : NodeId → Bool) where
       split (stops n) (λ s. absurd (no (sym (ap (λ b. among q (if b then [] else parents_of g n)) s) ∙ h)))
       (λ s. record {
         end = l.end;
-        way = q ∷ l.way;
+        walk = q ∷ l.walk;
         route = (sym (ap (λ b. among q (if b then [] else parents_of g n)) s) ∙ h, l.route);
-        free = ap (λ b. b || list_any stops (q ∷ l.way)) s ∙ l.free;
+        free = ap (λ b. b || list_any stops (q ∷ l.walk)) s ∙ l.free;
         meets = l.meets;
       })
 
@@ -155,17 +155,17 @@ module _ (g : Graph) (stops : NodeId → Bool) where
   pub climb_meets : (sought : NodeId → Bool) (from : NodeId) (found : List NodeId) (i : ℕ) (n : NodeId) → among n found ≡ true → IsClimb from found i
       → stops n ≡ false → sought n ≡ true → Leads sought from
   climb_meets sought from found i n there s on it =
-      s.leads sought n there (record { end = n; way = []; route = refl; free = ap (λ b. b || false) on; meets = it })
+      s.leads sought n there (record { end = n; walk = []; route = refl; free = ap (λ b. b || false) on; meets = it })
 
   -- if nothing is left to search, each route that is not stopped ends at a found node
   pub climb_ends : (from : NodeId) (found : List NodeId) (i : ℕ) → slice_get found i ≡ None → IsClimb from found i
-      → (q m : NodeId) (way : List NodeId) → among q found ≡ true → IsRoute g q way m → list_any stops (q ∷ way) ≡ false
+      → (q m : NodeId) (walk : List NodeId) → among q found ≡ true → IsRoute g q walk m → list_any stops (q ∷ walk) ≡ false
       → (among m (take i found) ≡ true) × (stops m ≡ false)
   climb_ends from found i none s q m [] h route free =
       (ap (λ z. among z (take i found)) (sym route) ∙ ap (among q) (take_all i found (none_left found i none)) ∙ h, ap stops (sym route) ∙ (or_no _ _ free).0)
-  climb_ends from found i none s q m (p ∷ way) h route free =
+  climb_ends from found i none s q m (p ∷ walk) h route free =
       let free' = or_no _ _ free in
-      climb_ends from found i none s p m way
+      climb_ends from found i none s p m walk
       (s.climbed q p (ap (among q) (take_all i found (none_left found i none)) ∙ h)
       (ap (λ b. among p (if b then [] else parents_of g q)) free'.0 ∙ route.0)) route.1 free'.1
 
@@ -174,9 +174,9 @@ module _ (g : Graph) (stops : NodeId → Bool) where
 abbrev pub never : NodeId → Bool
 never n = false
 
-pub never_stops : (way : List NodeId) → list_any never way ≡ false
+pub never_stops : (walk : List NodeId) → list_any never walk ≡ false
 never_stops [] = refl
-never_stops (n ∷ way) = never_stops way
+never_stops (n ∷ walk) = never_stops walk
 
 -- if nothing is left to search, the test of the found nodes is the test of routes
 pub finds_routes : (g : Graph) (law : IsLawfulGraph g) (from target : NodeId) (found : List NodeId) (i : ℕ) → is_live g from ≡ true
@@ -185,9 +185,9 @@ pub finds_routes : (g : Graph) (law : IsLawfulGraph g) (from target : NodeId) (f
 finds_routes g law from target found i live none s =
     split (among target found)
     (λ e. e ∙ sym (let l = climb_meets g never (same_node target) from found i target e s refl (same_node-refl target) in
-    below_complete g law target from l.way live (subst (IsRoute g from l.way) (sym (same_node-equal target l.end l.meets)) l.route)))
+    below_complete g law target from l.walk live (subst (IsRoute g from l.walk) (sym (same_node-equal target l.end l.meets)) l.route)))
     (λ e. e ∙ sym (split (is_at_or_below (node_count g) g target from)
-    (λ t. absurd (let way = below_route g target (node_count g) from t in
+    (λ t. absurd (let walk = below_route g target (node_count g) from t in
     no (sym e ∙ ap (among target) (sym (take_all i found (none_left found i none)))
-    ∙ (climb_ends g never from found i none s from target way.0 s.starts way.1 (never_stops (from ∷ way.0))).0)))
+    ∙ (climb_ends g never from found i none s from target walk.0 s.starts walk.1 (never_stops (from ∷ walk.0))).0)))
     (λ t. t)))

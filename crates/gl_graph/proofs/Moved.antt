@@ -26,12 +26,12 @@ some_at q (x ∷ xs) p h k = or_elim _ _ h (λ here. or_left (q x) _ (ap q (sym 
     (λ there. or_right (q x) _ (some_at q xs p there k))
 
 -- p is n or has a route to n: by at most k steps, both ways
-pub below_found : (g : Graph) (n : NodeId) (k : ℕ) (p : NodeId) (way : List NodeId) → length way ≤ k → IsRoute g p way n → is_at_or_below k g n p ≡ true
+pub below_found : (g : Graph) (n : NodeId) (k : ℕ) (p : NodeId) (path : List NodeId) → length path ≤ k → IsRoute g p path n → is_at_or_below k g n p ≡ true
 below_found g n zero p [] few r = same_node-from_equal n p (sym r)
-below_found g n zero p (q ∷ way) few r = absurd (omega arith)
+below_found g n zero p (q ∷ path) few r = absurd (omega arith)
 below_found g n (suc k) p [] few r = or_left _ _ (same_node-from_equal n p (sym r))
-below_found g n (suc k) p (q ∷ way) few r =
-    or_right (same_node n p) _ (some_at (is_at_or_below k g n) (parents_of g p) q r.0 (below_found g n k q way (omega arith) r.1))
+below_found g n (suc k) p (q ∷ path) few r =
+    or_right (same_node n p) _ (some_at (is_at_or_below k g n) (parents_of g p) q r.0 (below_found g n k q path (omega arith) r.1))
 
 -- if some pass, one is found
 pub any_found : (q : NodeId → Bool) (ps : List NodeId) → list_any q ps ≡ true → (p : NodeId) × (list_any (same_node p) ps ≡ true) × (q p ≡ true)
@@ -39,7 +39,7 @@ any_found q [] h = absurd (no h)
 any_found q (x ∷ xs) h =
     or_elim _ _ h (λ here. (x, or_left _ _ (same_node-refl x), here)) (λ there. let f = any_found q xs there in (f.0, or_right (same_node f.0 x) _ f.1, f.2))
 
-pub below_route : (g : Graph) (n : NodeId) (k : ℕ) (p : NodeId) → is_at_or_below k g n p ≡ true → (way : List NodeId) × IsRoute g p way n
+pub below_route : (g : Graph) (n : NodeId) (k : ℕ) (p : NodeId) → is_at_or_below k g n p ≡ true → (path : List NodeId) × IsRoute g p path n
 below_route g n zero p h = ([], sym (same_node-equal n p h))
 below_route g n (suc k) p h =
     or_elim _ _ h (λ here. ([], sym (same_node-equal n p here))) (λ up.
@@ -48,9 +48,9 @@ below_route g n (suc k) p h =
     (step.0 ∷ rest.0, (step.1, rest.1)))
 
 -- with as many steps as there are nodes nothing is missed
-pub below_complete : (g : Graph) (law : IsLawfulGraph g) (n p : NodeId) (way : List NodeId) → is_live g p ≡ true → IsRoute g p way n
+pub below_complete : (g : Graph) (law : IsLawfulGraph g) (n p : NodeId) (path : List NodeId) → is_live g p ≡ true → IsRoute g p path n
     → is_at_or_below (node_count g) g n p ≡ true
-below_complete g law n p way live r = below_found g n (node_count g) p way (let few = route_short g law p n way live r in omega arith) r
+below_complete g law n p path live r = below_found g n (node_count g) p path (let few = route_short g law p n path live r in omega arith) r
 
 -- a graph with one place changed
 pub graph_at : (g : Graph) (f : ℕ → Option Node) (n : NodeId) (is : Node) → ((b : ℕ) → b ≡ n.birth → f b ≡ Some is)
@@ -117,13 +117,13 @@ module _ (g : Graph) (law : IsLawfulGraph g) (n : NodeId) (was : Node) (there : 
       (move_well ps (with_node g n.birth (record was { parents = ps })) was.shape refl movable
       (changed_frames g n was (record was { parents = ps }) there refl alike) inner (law.well_formed n was there))
       (λ p h. all_at (is_live g) ps p h live)
-      (λ p way h r. no (sym (ap not (below_complete g law n p way (all_at (is_live g) ps p h live) r))
+      (λ p path h r. no (sym (ap not (below_complete g law n p path (all_at (is_live g) ps p h live) r))
       ∙ all_at (λ q. not (is_at_or_below (node_count g) g n q)) ps p h clear)))
 
   -- no route leads to a record from a node that is none
-  pub record_end : (p : NodeId) (way : List NodeId) → is_record_shape (shape_of g n) ≡ true → is_plain (shape_of g p) ≡ true → IsRoute g p way n → ⊥
+  pub record_end : (p : NodeId) (path : List NodeId) → is_record_shape (shape_of g n) ≡ true → is_plain (shape_of g p) ≡ true → IsRoute g p path n → ⊥
   record_end p [] rec plain r = rec_not_plain (shape_of g n) rec (ap (λ q. is_plain (shape_of g q)) (sym r) ∙ plain)
-  record_end p (q ∷ way) rec plain r = record_end q way rec (parent_plain g law p q r.0) r.1
+  record_end p (q ∷ path) rec plain r = record_end q path rec (parent_plain g law p q r.0) r.1
 
   pub file_of_record : (keys : List ℕ) → was.shape ≡ Rec keys → (is_file_shape (shape_of g (first_parent g n)) ≡ true)
       × (length keys ≡ length (indexes_of g (first_parent g n))) × (is_child g (first_parent g n) n ≡ true)
@@ -161,4 +161,4 @@ module _ (g : Graph) (law : IsLawfulGraph g) (n : NodeId) (was : Node) (there : 
         },
       )
       (λ p h. plain_live g p (record_parent_plain g law (first_parent g n) p (rekeyed_keys g n index key) file.0 h))
-      (λ p way h r. record_end p way rec (record_parent_plain g law (first_parent g n) p (rekeyed_keys g n index key) file.0 h) r))
+      (λ p path h r. record_end p path rec (record_parent_plain g law (first_parent g n) p (rekeyed_keys g n index key) file.0 h) r))

@@ -14,37 +14,37 @@ use Rattle.gl_graph.proofs.RouteLengths.{live_end, route_short}
 -- a route up to a node without parents, or of k steps
 record GoesUp (g : Graph) (k : ℕ) (n : NodeId) : Type 0 where
   pub end : NodeId
-  pub way : List NodeId
-  pub route : IsRoute g n way end
-  pub done : (parents_of g end ≡ []) ⊎ (length way ≡ k)
+  pub walk : List NodeId
+  pub route : IsRoute g n walk end
+  pub done : (parents_of g end ≡ []) ⊎ (length walk ≡ k)
 
 goes_up : (g : Graph) (k : ℕ) (n : NodeId) → GoesUp g k n
-goes_up g zero n = record { end = n; way = []; route = refl; done = inr refl }
+goes_up g zero n = record { end = n; walk = []; route = refl; done = inr refl }
 goes_up g (suc k) n = by (parents_of g n) refl (goes_up g k)
   where
     by : (ps : List NodeId) → parents_of g n ≡ ps → ((p : NodeId) → GoesUp g k p) → GoesUp g (suc k) n
-    by [] e rest = record { end = n; way = []; route = refl; done = inl e }
+    by [] e rest = record { end = n; walk = []; route = refl; done = inl e }
     by (p ∷ ps) e rest =
         let up = rest p in
         record {
           end = up.end;
-          way = p ∷ up.way;
+          walk = p ∷ up.walk;
           route = (ap (list_any (same_node p)) e ∙ or_left _ _ (same_node-refl p), up.route);
           done =
-              ⊎_elim (λ (r : parents_of g up.end ≡ []). inl r) (λ (l : length up.way ≡ k). inr (ap suc l)) up.done;
+              ⊎_elim (λ (r : parents_of g up.end ≡ []). inl r) (λ (l : length up.walk ≡ k). inr (ap suc l)) up.done;
         }
 
 pub root_path_there : NodesHaveRootPaths
 root_path_there g law n live =
     let up = goes_up g (node_count g) n in (
-      up.way,
+      up.walk,
       (
         up.end,
         up.route,
         (
-          live_end g law n up.end up.way live up.route,
+          live_end g law n up.end up.walk live up.route,
           ⊎_elim (λ (r : parents_of g up.end ≡ []). r)
-              (λ (l : length up.way ≡ node_count g). absurd (let short = route_short g law n up.end up.way live up.route in omega arith)) up.done,
+              (λ (l : length up.walk ≡ node_count g). absurd (let short = route_short g law n up.end up.walk live up.route in omega arith)) up.done,
         ),
       ),
     )

@@ -56,24 +56,25 @@ module _ (g : Graph) (law : IsLawfulGraph g) where
   no_return s p [] route same = law.acyclic s p [] (route.0, sym same)
   no_return s p (q ∷ pre) route same = law.acyclic s q (pre ++ p ∷ []) (route.0, subst (IsRoute g q (pre ++ p ∷ [])) (sym same) route.1)
 
-  apart : (s m r : NodeId) (pre way : List NodeId) → IsRoute g s pre m → IsRoute g m way r → AllByRecursion (λ y. same_node s y ≡ false) way
+  apart : (s m r : NodeId) (pre path : List NodeId) → IsRoute g s pre m → IsRoute g m path r → AllByRecursion (λ y. same_node s y ≡ false) path
   apart s m r pre [] before route = tt
-  apart s m r pre (p ∷ way) before route =
-      let on = longer s m p pre before route.0 in (by (same_node s p) refl on, apart s p r (pre ++ p ∷ []) way on route.1)
+  apart s m r pre (p ∷ path) before route =
+      let on = longer s m p pre before route.0 in (by (same_node s p) refl on, apart s p r (pre ++ p ∷ []) path on route.1)
     where
       by : (b : Bool) → same_node s p ≡ b → IsRoute g s (pre ++ p ∷ []) p → same_node s p ≡ false
       by true e on = absurd (no_return s p pre on (same_node-equal s p e))
       by false e on = e
 
-  pub distinct : (n r : NodeId) (way : List NodeId) → IsRoute g n way r → IsDistinct same_node (n ∷ way)
+  pub distinct : (n r : NodeId) (path : List NodeId) → IsRoute g n path r → IsDistinct same_node (n ∷ path)
   unfolding IsDistinct
   distinct n r [] route = (tt, tt)
-  distinct n r (p ∷ way) route = (apart n n r [] (p ∷ way) refl route, distinct p r way route.1)
+  distinct n r (p ∷ path) route = (apart n n r [] (p ∷ path) refl route, distinct p r path route.1)
 
-  pub live_way : (n r q : NodeId) (way : List NodeId) → is_live g n ≡ true → IsRoute g n way r → list_any (same_node q) (n ∷ way) ≡ true → is_live g q ≡ true
-  live_way n r q [] live route h = or_elim _ _ h (λ here. ap (is_live g) (same_node-equal q n here) ∙ live) (λ no. absurd (true≢false (sym no)))
-  live_way n r q (p ∷ way) live route h =
-      or_elim _ _ h (λ here. ap (is_live g) (same_node-equal q n here) ∙ live) (λ there. live_way p r q way (law.parents_live n p route.0) route.1 there)
+  pub live_path : (n r q : NodeId) (path : List NodeId) → is_live g n ≡ true → IsRoute g n path r → list_any (same_node q) (n ∷ path) ≡ true
+      → is_live g q ≡ true
+  live_path n r q [] live route h = or_elim _ _ h (λ here. ap (is_live g) (same_node-equal q n here) ∙ live) (λ no. absurd (true≢false (sym no)))
+  live_path n r q (p ∷ path) live route h =
+      or_elim _ _ h (λ here. ap (is_live g) (same_node-equal q n here) ∙ live) (λ there. live_path p r q path (law.parents_live n p route.0) route.1 there)
 
   listed_from : (q : NodeId) (k n : ℕ) → k ≤ q.birth → q.birth < k + n → is_live g q ≡ true
       → list_any (same_node q) (filter_map (λ b. id_of b (g.at b)) (range_with_len k n)) ≡ true
@@ -88,16 +89,18 @@ module _ (g : Graph) (law : IsLawfulGraph g) where
       listed_from q 1 g.births within.0 (omega arith) live
 
   -- a route has fewer steps than the graph has nodes
-  pub route_short : (n r : NodeId) (way : List NodeId) → is_live g n ≡ true → IsRoute g n way r → length way < node_count g
-  route_short n r way live route =
-      let few = length-le_from_is_member node_equivalence (n ∷ way) (nodes g) (distinct n r way route) (λ q h. listed q (live_way n r q way live route h)) in
+  pub route_short : (n r : NodeId) (path : List NodeId) → is_live g n ≡ true → IsRoute g n path r → length path < node_count g
+  route_short n r path live route =
+      let few = length-le_from_is_member node_equivalence (n ∷ path) (nodes g) (distinct n r path route)
+      (λ q h. listed q (live_path n r q path live route h)) in
       omega arith
 
-  too_long : (n r : NodeId) (way : List NodeId) → is_live g n ≡ true → IsRoute g n way r → length way ≡ node_count g → ⊥
-  too_long n r way live route e =
-      let few = length-le_from_is_member node_equivalence (n ∷ way) (nodes g) (distinct n r way route) (λ q h. listed q (live_way n r q way live route h)) in
+  too_long : (n r : NodeId) (path : List NodeId) → is_live g n ≡ true → IsRoute g n path r → length path ≡ node_count g → ⊥
+  too_long n r path live route e =
+      let few = length-le_from_is_member node_equivalence (n ∷ path) (nodes g) (distinct n r path route)
+      (λ q h. listed q (live_path n r q path live route h)) in
       omega arith
 
-  pub live_end : (n r : NodeId) (way : List NodeId) → is_live g n ≡ true → IsRoute g n way r → is_live g r ≡ true
+  pub live_end : (n r : NodeId) (path : List NodeId) → is_live g n ≡ true → IsRoute g n path r → is_live g r ≡ true
   live_end n r [] live route = ap (is_live g) (sym route) ∙ live
-  live_end n r (p ∷ way) live route = live_end p r way (law.parents_live n p route.0) route.1
+  live_end n r (p ∷ path) live route = live_end p r path (law.parents_live n p route.0) route.1

@@ -82,7 +82,7 @@ pub use Rattle.gl_model.specs.Calls.{first_not_ix, first_of_all, freed, freed_un
 pub use Rattle.gl_model.specs.Calls.{need_exclusive, need_new_parents, need_parents, no_txn, none_but, raised, released, rule_refusal, shed, some_given}
 pub use Rattle.gl_model.specs.Calls.{moved_to, stays, unlocked, waiting_test, WaitSettles, wanted}
 pub use Rattle.gl_model.specs.Lawful.{CondemningFrees, CutSetLaw, eff_s, eff_x, effective, EffX, EmptyHasNoCycle, is_read, IsCut, IsLawful, LawfulCutSet}
-pub use Rattle.gl_model.specs.Lawful.{LawfulNoConflict, ModeFitsKind, NoConflictLaw, OneFalls, SameBelow, SettlingEnds, SettlingFrees}
+pub use Rattle.gl_model.specs.Lawful.{LawfulNoConflict, ModeFitsKind, NoConflictLaw, OneIsVictim, SameBelow, SettlingEnds, SettlingFrees}
 pub use Rattle.gl_model.specs.Deadlocks.{has_row, IsDeadlock, IsStuck, name_at, RowsLeadOn, SettlesKeeping, SettlesKeepingWithin, VictimHasRow}
 pub use Rattle.gl_model.specs.Tellings.{grant_notice, is_rising, IsBySlot, mode_given, notices_in, WakesTold}
 pub use Rattle.gl_model.specs.State.{age_in, age_of, awake, blocks, choosing, condemned, empty_state, front_at, granted_at, HasNoCycle, intends, intends_over}
@@ -90,7 +90,7 @@ pub use Rattle.gl_model.specs.State.{is_wait, is_waiting_at, is_write, IsVictim,
 pub use Rattle.gl_model.specs.State.{since_of, slots, State, status_in, status_of, Txn, waits_at, waits_for, with_grant, with_graph, with_txn}
 pub use Rattle.gl_model.specs.State.{without_wait, woken}
 pub use Rattle.gl_model.specs.Lawful.{IsOrderly, WaitWell}
-pub use Rattle.gl_model.specs.Tellings.{addressed, children_that, IsOnWay, notice_of, stripped, Told, told, told_but, told_from, told_to}
+pub use Rattle.gl_model.specs.Tellings.{addressed, children_that, IsBetween, notice_of, stripped, Told, told, told_but, told_from, told_to}
 pub use Rattle.gl_model.specs.declared.deadlock.Deadlock.{Deadlock}
 pub use Rattle.gl_model.specs.declared.deadlock.Stuck.{Stuck}
 pub use Rattle.gl_model.specs.declared.answers.Detect.{Detect}

@@ -1,6 +1,6 @@
 -- What is told.
 pub mod Follows
-pub mod Ways
+pub mod Between
 pub mod Lists
 pub mod Fronts
 pub mod GivenUp

@@ -93,7 +93,7 @@ effective s t n = effect_on s.graph (s.held t) n
 
 -- X on some node of every path to the root
 abbrev pub IsCut : State → ℕ → NodeId → Type 0
-IsCut s t n = (way : List NodeId) → IsRootPath s.graph n way → list_any (λ p. same_mode (s.held t p) X) (n ∷ way) ≡ true
+IsCut s t n = (path : List NodeId) → IsRootPath s.graph n path → list_any (λ p. same_mode (s.held t p) X) (n ∷ path) ≡ true
 
 -- two transactions of which one may write a node and the other read it
 pub record Conflict (s : State) (t u : ℕ) (r : NodeId) : Type 0 where
@@ -154,8 +154,8 @@ abbrev pub CondemningFrees : Type 0
 CondemningFrees = (s : State) → IsLawful s → (v x y : ℕ) → waits_for (condemned s v) x y ≡ true → without (waits_for s) v x y ≡ true
 
 -- by `Fewest`, one victim is enough
-abbrev pub OneFalls : Type 0
-OneFalls = (k : ℕ) (s s' : State) → IsLawful s → (t : ℕ) → SettledWithin Fewest k s t s' → k ≤ 1
+abbrev pub OneIsVictim : Type 0
+OneIsVictim = (k : ℕ) (s s' : State) → IsLawful s → (t : ℕ) → SettledWithin Fewest k s t s' → k ≤ 1
 
 -- the empty state is lawful, by both ways of detection and choices of victims, and with every limit
 abbrev pub EmptyIsLawful : Type 0

@@ -41,7 +41,7 @@ told s s' = filter_map (λ t. addressed (record { slot = t; age = age_of s t }) 
 
 -- all notices but the caller's, whose answer says it
 abbrev pub told_but : ℕ → State → State → List (TxnId × Notice)
-told_but asker s s' = filter (λ x. not (x.0.slot == asker)) (told s s')
+told_but requester s s' = filter (λ x. not (x.0.slot == requester)) (told s s')
 
 -- a list of notices
 abbrev pub Told : Type 0
@@ -54,7 +54,7 @@ abbrev pub told_to : State → State → ℕ → Option (TxnId × Notice)
 told_to s now u = addressed (record { slot = u; age = age_of s u }) (told_from now u (status_of s u))
 
 -- from a state to a later one by releases and removed waits: nobody began to wait, and each waiter is in one queue, once
-pub record IsOnWay (s now : State) : Type 0 where
+pub record IsBetween (s now : State) : Type 0 where
   pub graph : now.graph ≡ s.graph
   pub ages : (u : ℕ) → age_of now u ≡ age_of s u
   pub waited : (u : ℕ) (q : NodeId) (m : Mode) → status_of now u ≡ Some (Waiting q m) → status_of s u ≡ Some (Waiting q m)

@@ -8,7 +8,7 @@ ghost use Rattle.gl_model.specs.Lawful.{
   LawfulCutSet,
   LawfulNoConflict,
   NoConflictLaw,
-  OneFalls,
+  OneIsVictim,
   SettlingEnds,
   SettlingFrees,
 };
@@ -42,9 +42,9 @@ pub fn settling_ends()
 
 /// To condemn a transaction removes its waits and adds none. So by `Fewest` at most one victim is
 /// condemned each time that a transaction is settled.
-pub fn one_falls()
+pub fn one_is_victim()
     ensures condemning { CondemningFrees }
-    ensures one { OneFalls }
+    ensures one { OneIsVictim }
 {}
 
 /// To settle and record the last deadlock is to settle. A recorded deadlock has a row of its

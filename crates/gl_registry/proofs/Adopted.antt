@@ -29,7 +29,7 @@ use Rattle.gl_steps.specs.Tests.{refusal_of, worn}
 pub accepted_of : (s : State) (c : Command) (a : Answer) (told : Told) (s' : State) → query_answer s c ≡ None
     → ((r : Refusal) → a ≢ answer.Refused r) → Step s c a told s'
     → (next : State) × Accepts s c a told next × (s' ≡ accepted_once next) × (refusal_of s c ≡ None)
-accepted_of s c a told s' plain said (inr want) = absurd (said no.NoMemory want.1.answer_is)
+accepted_of s c a told s' plain said (inr lack) = absurd (said no.NoMemory lack.1.answer_is)
 accepted_of s c a told s' plain said (inl goes) = by (refusal_of s c) refl goes
   where
     by : (o : Option Refusal) → refusal_of s c ≡ o → Goes s c o a told s' → (next : State) × Accepts s c a told next × (s' ≡ accepted_once next) × (o ≡ None)
@@ -40,7 +40,7 @@ accepted_of s c a told s' plain said (inl goes) = by (refusal_of s c) refl goes
 pub forget_ok : (s s' : State) (n : NodeId) (result : Result (Unit {0}) Refusal) → refusal_of s (command.Forget n) ≡ None
     → CallSteps s (command.Forget n) (doing []) result s' → IsOk result
 forget_ok s s' n (Ok u) free step = refl
-forget_ok s s' n (Err r) free (inr want) = absurd (never want.0)
+forget_ok s s' n (Err r) free (inr lack) = absurd (never lack.0)
 forget_ok s s' n (Err r) free (inl goes) =
     let it = subst (λ o. Goes s (command.Forget n) o (answer.Refused r) [] s') free goes in
     let is : answer.Refused r ≡ answer.Done = it.1.0 in absurd (cc is)

@@ -64,7 +64,7 @@ pub record Settled (s : State) (was now : Option NodeId) : Type 0 where
 
 -- a refused forget changes nothing, and is refused by a test
 pub refused_stuck : (s s' : State) (n : NodeId) (r : Refusal) → Step s (command.Forget n) (answer.Refused r) [] s' → (s' ≡ s) × Stuck s n
-refused_stuck s s' n r (inr want) = absurd (never want.0)
+refused_stuck s s' n r (inr lack) = absurd (never lack.0)
 refused_stuck s s' n r (inl goes) = by (refusal_of s (command.Forget n)) refl goes
   where
     by : (o : Option Refusal) → refusal_of s (command.Forget n) ≡ o → Goes s (command.Forget n) o (answer.Refused r) [] s' → (s' ≡ s) × Stuck s n

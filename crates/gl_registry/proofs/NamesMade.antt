@@ -99,7 +99,7 @@ adopted_node_comes s s' law f n keys is =
 -- a refused command leaves the state
 pub refused_same : (s : State) (c : Command) (r : Refusal) (told : Told) (s' : State) → query_answer s c ≡ None → Step s c (answer.Refused r) told s'
     → ((next : State) → Accepts s c (answer.Refused r) told next → ⊥) → s' ≡ s
-refused_same s c r told s' plain (inr want) never = want.1.same
+refused_same s c r told s' plain (inr lack) never = lack.1.same
 refused_same s c r told s' plain (inl goes) never = by (refusal_of s c) goes
   where
     by : (o : Option Refusal) → Goes s c o (answer.Refused r) told s' → s' ≡ s

@@ -164,7 +164,7 @@ unnamed_all t (l ∷ lines) is =
 
 -- and tell nobody
 tells_none : (s : State) (c : Command) (a : Answer) (told : Told) (s' : State) → is_upkeep c ≡ true → Step s c a told s' → told ≡ []
-tells_none s c a told s' is (inr want) = want.1.nobody_told
+tells_none s c a told s' is (inr lack) = lack.1.nobody_told
 tells_none s c a told s' is (inl goes) = by (refusal_of s c) goes
   where
     accepted : (c : Command) → is_upkeep c ≡ true → Goes s c None a told s' → told ≡ []

@@ -60,7 +60,7 @@ leaves_counted s next s' graph counted =
     }
 
 step_leaves : (s s' : State) (c : Command) (a : Answer) (told : Told) → is_upkeep c ≡ true → Step s c a told s' → LeavesAll s s'
-step_leaves s s' c a told is (inr want) = leaves_same s s' want.1.same
+step_leaves s s' c a told is (inr lack) = leaves_same s s' lack.1.same
 step_leaves s s' c a told is (inl goes) = by (refusal_of s c) goes
   where
     accepted : (c : Command) → is_upkeep c ≡ true → Goes s c None a told s' → LeavesAll s s'

@@ -27,7 +27,7 @@ use Rattle.gl_registry.specs.Applying.{AppliesCall, own_command, unnamed}
 use Rattle.gl_registry.specs.Names.{NamesHold}
 use Rattle.gl_registry.specs.Releasing.{GoesBackTo}
 use Rattle.gl_registry.specs.Rows.{RegistryView, name_of}
-use Rattle.gl_registry.specs.Serving.{LocksWay, ServesBy, touches_rows}
+use Rattle.gl_registry.specs.Serving.{PathLeavesRows, ServesBy, touches_rows}
 
 -- f is a file, and there is a key for each of its indexes
 pub record IsRow (g : Graph) (f : NodeId) (keys : List ℕ) : Type 0 where
@@ -173,7 +173,8 @@ CommandsKeepOnRows =
 -- locking a path keeps that for each other living transaction
 abbrev pub PathsKeepOnRows : Type 0
 PathsKeepOnRows =
-    (v v' : RegistryView) (u : TxnId) (ask : Ask) (result : Result Reached Refusal) (told : Told) (t : TxnId) → IsRegistry v → LocksWay u ask v result told v'
+    (v v' : RegistryView) (u : TxnId) (ask : Ask) (result : Result Reached Refusal) (told : Told) (t : TxnId) → IsRegistry v
+    → PathLeavesRows u ask v result told v'
     → lives (state_of v.manager) t ≡ true → same_txn t u ≡ false → KeepsOnRows v v' t (is_granted t told)
 
 -- rolling back to a savepoint keeps that for each other living transaction

@@ -64,7 +64,7 @@ ServesBy false v c result told v' =
     (a : Answer) × (result ≡ Some a) × Applies v.manager c a told v'.manager × LeavesRows (dropped_by c a) v.rows v'.rows
 
 -- the manager locks a path, and the rows stay the same
-pub record LocksWay (t : TxnId) (ask : Ask) (v : RegistryView) (result : Result Reached Refusal) (told : Told) (v' : RegistryView) : Type 0 where
+pub record PathLeavesRows (t : TxnId) (ask : Ask) (v : RegistryView) (result : Result Reached Refusal) (told : Told) (v' : RegistryView) : Type 0 where
   pub path : LocksPath t ask v.manager told result v'.manager
   pub tests : (r : Refusal) → first_refusal (path_tests (state_of v.manager) t ask.0 ask.1) ≡ Some r → (result ≡ Err r) × (v'.manager ≡ v.manager)
   pub others : LeavesAllBut t (state_of v.manager) (said (reaching told) result) (state_of v'.manager)

@@ -11,7 +11,7 @@ ghost use Rattle.gl_registry.specs.Applying.{AppliesCall, AppliesRow, CarriesOut
 ghost use Rattle.gl_registry.specs.Names.{NameWell, NamesHold};
 ghost use Rattle.gl_registry.specs.Releasing.{GoesBackTo};
 ghost use Rattle.gl_registry.specs.Rows.{has_asked, has_rows, name_of};
-ghost use Rattle.gl_registry.specs.Serving.{LocksWay, ServesBy, touches_rows};
+ghost use Rattle.gl_registry.specs.Serving.{PathLeavesRows, ServesBy, touches_rows};
 
 use crate::answer::{RowAnswer, done_row, lock_answer};
 use crate::call::RowCall;
@@ -128,7 +128,7 @@ impl Registry {
         told: &mut Told,
     ) -> Result<Reached, Refusal>
         requires empty { told.old.items ≡ [] }
-        ensures { LocksWay t (node, mode) self.old result told.new.items self.new }
+        ensures { PathLeavesRows t (node, mode) self.old result told.new.items self.new }
     {
         self.manager.lock_path_telling(t, node, mode, told)
     }

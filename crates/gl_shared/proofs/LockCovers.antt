@@ -28,14 +28,14 @@ use Rattle.gl_model.specs.Tellings.{Told}
 use Rattle.gl_model.proofs.law.Keeps.{less-lawful, one_of, woken_sleeps, IsLawfulBut}
 use Rattle.gl_model.proofs.law.Lock.{may_lock, waiting-lawful}
 use Rattle.gl_model.proofs.law.Takes.{condemned-lawful, restatus_is, without_wait-less}
-use Rattle.gl_model.proofs.telling.Ways.{woken_up}
+use Rattle.gl_model.proofs.telling.Between.{woken_up}
 use Rattle.gl_table.proofs.inside.Boards.{cycle_waits}
 use Rattle.gl_model.proofs.queues.Waiters.{granted_mode, last_mode}
 use Rattle.gl_steps.specs.declared.command.Answer.{Answer}
 use Rattle.gl_steps.specs.declared.command.Answer.TheVariants as answer
 use Rattle.gl_steps.specs.declared.command.Command.TheVariants as command
 use Rattle.gl_steps.specs.Step.{Goes, Step, Unchanged, lock_answer}
-use Rattle.gl_steps.specs.Tests.{may_want_memory, refusal_of, worn}
+use Rattle.gl_steps.specs.Tests.{may_lack_memory, refusal_of, worn}
 
 -- a transaction that does not wait is on no cycle, so settling it changes nothing
 idle_done : (c : Victims) (k : ℕ) (s s' : State) (t : ℕ) → is_wait (status_of s t) ≡ false → SettledWithin c k s t s' → s' ≡ s
@@ -165,8 +165,8 @@ module _ (s : State) (law : IsLawful s) (t : TxnId) (n : NodeId) (m k : Mode) wh
   pub lock_covers : (told : Told) (s' : State) → Step s (command.Lock t n m) (answer.Granted k) told s' → is_at_least k m ≡ true
   lock_covers told s' step =
       ⊎_elim (λ h. goes told s' (refusal_of s (command.Lock t n m)) refl h)
-      (λ (want : (may_want_memory s (command.Lock t n m) ≡ true) × Unchanged s (answer.Granted k) told s' (answer.Refused no.NoMemory)). absurd
-      (cc (want.1.answer_is))) step
+      (λ (lack : (may_lack_memory s (command.Lock t n m) ≡ true) × Unchanged s (answer.Granted k) told s' (answer.Refused no.NoMemory)). absurd
+      (cc (lack.1.answer_is))) step
 
 -- the same of any answer
 pub answer_covers : (s : State) → IsLawful s → (t : TxnId) (n : NodeId) (m : Mode) (told : Told) (s' : State) (a : Answer)

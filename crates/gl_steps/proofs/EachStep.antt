@@ -9,7 +9,7 @@ use Rattle.gl_steps.specs.declared.command.Command.{Command}
 use Rattle.gl_model.specs.State.{State}
 use Rattle.gl_model.specs.Calls.{accepted_once}
 use Rattle.gl_model.specs.Tellings.{Told}
-use Rattle.gl_steps.specs.Tests.{refusal_of, may_want_memory}
+use Rattle.gl_steps.specs.Tests.{refusal_of, may_lack_memory}
 use Rattle.gl_steps.specs.Step.{Accepts, Answers, Goes, Step, Unchanged, query_answer}
 
 -- a relation of the state before and after that holds if nothing changes, and that does not read the count of accepted commands
@@ -18,7 +18,7 @@ pub each_step : (After : State → Type 0) (s : State) (c : Command) (a : Answer
     → (refusal_of s c ≡ None → (next : State) → Accepts s c a told next → After next) → Step s c a told s' → After s'
 each_step After s c a told s' stays counted accepted step =
     ⊎_elim (λ goes. by (refusal_of s c) refl goes)
-    (λ (want : (may_want_memory s c ≡ true) × Unchanged s a told s' (answer.Refused no.NoMemory)). subst After (sym want.1.same) stays) step
+    (λ (lack : (may_lack_memory s c ≡ true) × Unchanged s a told s' (answer.Refused no.NoMemory)). subst After (sym lack.1.same) stays) step
   where
     answered : refusal_of s c ≡ None → (q : Option Answer) → Answers s c q a told s' → After s'
     answered free (Some x) same = subst After (sym same.same) stays

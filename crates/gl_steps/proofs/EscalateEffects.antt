@@ -140,15 +140,15 @@ module _ (s : State) (law : IsLawful s) (t : ℕ) (n : NodeId) (active : status_
   x_kept p e h = ap (λ m. same_mode m X) (held_kept p e) ∙ x_more (s.held t p) (up.held t p) (grew p) h
 
   -- a cut stays one
-  path_x : (q r : NodeId) (way : List NodeId) → IsRoute s.graph q way r → parents_of s.graph r ≡ []
-      → list_any (λ p. same_mode (s.held t p) X) (q ∷ way) ≡ true → list_any (λ p. same_mode (after.held t p) X) (q ∷ way) ≡ true
+  path_x : (q r : NodeId) (walk : List NodeId) → IsRoute s.graph q walk r → parents_of s.graph r ≡ []
+      → list_any (λ p. same_mode (s.held t p) X) (q ∷ walk) ≡ true → list_any (λ p. same_mode (after.held t p) X) (q ∷ walk) ≡ true
   path_x q r [] route root h =
       or_elim (same_mode (s.held t q) X) false h
       (λ here. or_left (same_mode (after.held t q) X) false
       (x_kept q (split (gone q) (λ e. absurd (no (sym (ap (list_any (same_node n)) (ap (parents_of s.graph) route ∙ root)) ∙ (covers q e).0)))
       (λ e. e)) here)) (λ none. absurd (no none))
-  path_x q r (p ∷ way) route root h =
-      or_elim (same_mode (s.held t q) X) (list_any (λ y. same_mode (s.held t y) X) (p ∷ way)) h
+  path_x q r (p ∷ walk) route root h =
+      or_elim (same_mode (s.held t q) X) (list_any (λ y. same_mode (s.held t y) X) (p ∷ walk)) h
       (λ here. split (gone q)
       (λ e.
       let at_q = x_more (s.held t q) (up.held t q) (grew q) here in
@@ -158,10 +158,11 @@ module _ (s : State) (law : IsLawful s) (t : ℕ) (n : NodeId) (active : status_
       or_right (same_mode (after.held t q) X) _
       (or_left (same_mode (after.held t p) X) _ (ap (λ m. same_mode m X) (held_kept p (above_stays q p e route.0)) ∙ at_p)))
       (λ e. or_left (same_mode (after.held t q) X) _ (x_kept q e here)))
-      (λ there. or_right (same_mode (after.held t q) X) _ (path_x p r way route.1 root there))
+      (λ there. or_right (same_mode (after.held t q) X) _ (path_x p r walk route.1 root there))
 
   x_later : (q : NodeId) → is_live s.graph q ≡ true → EffX s t q → EffX after t q
-  x_later q live h = (cut_set_on after law.graph t q live).1 (λ way path. path_x q path.0 way path.1 path.2.1 ((cut_set_on s law.graph t q live).0 h way path))
+  x_later q live h = (cut_set_on after law.graph t q live).1
+      (λ walk path. path_x q path.0 walk path.1 path.2.1 ((cut_set_on s law.graph t q live).0 h walk path))
 
   s_later : (q : NodeId) → is_live s.graph q ≡ true → eff_s (node_count s.graph) s.graph (s.held t) q ≡ true
       → eff_s (node_count s.graph) s.graph (after.held t) q ≡ true
@@ -169,13 +170,13 @@ module _ (s : State) (law : IsLawful s) (t : ℕ) (n : NodeId) (active : status_
       let old = eff_s_route s.graph (s.held t) (node_count s.graph) q h in
       split (gone old.0)
       (λ e.
-      let way = join s.graph q old.0 n old.1 (n ∷ []) old.2 ((covers old.0 e).0, refl) in
-      found n (old.1 ++ n ∷ []) way (ap is_read (held_kept n node_stays) ∙ node_reads))
+      let walk = join s.graph q old.0 n old.1 (n ∷ []) old.2 ((covers old.0 e).0, refl) in
+      found n (old.1 ++ n ∷ []) walk (ap is_read (held_kept n node_stays) ∙ node_reads))
       (λ e. found old.0 old.1 old.2 (ap is_read (held_kept old.0 e) ∙ read_more (s.held t old.0) (up.held t old.0) (grew old.0) old.3))
     where
-      found : (r : NodeId) (way : List NodeId) → IsRoute s.graph q way r → is_read (after.held t r) ≡ true
+      found : (r : NodeId) (walk : List NodeId) → IsRoute s.graph q walk r → is_read (after.held t r) ≡ true
           → eff_s (node_count s.graph) s.graph (after.held t) q ≡ true
-      found r way route reads = read_on_eff s.graph law.graph (after.held t) q live (r, way, route, reads)
+      found r walk route reads = read_on_eff s.graph law.graph (after.held t) q live (r, walk, route, reads)
 
   pub lowers_none : (q : NodeId) → is_at_least_effect (effective after t q) (effective s t q) ≡ true
   lowers_none q =

@@ -143,9 +143,9 @@ module _ (s : State) (law : IsLawful s) (t : TxnId) (alive : lives s t ≡ true)
       absent : node_at next.graph x ≡ None
       absent = ap (λ g. node_at g x) graph ∙ changed_here s.graph x (λ o. None)
 
-      unread : (m : NodeId) (way : List NodeId) → IsRoute next.graph x way m → is_read (s.held t.slot m) ≡ true → ⊥
+      unread : (m : NodeId) (path : List NodeId) → IsRoute next.graph x path m → is_read (s.held t.slot m) ≡ true → ⊥
       unread m [] route read = true≢false (sym read ∙ ap (λ y. is_read (s.held t.slot y)) (sym route) ∙ ap is_read nothing)
-      unread m (p ∷ way) route read = true≢false (sym route.0 ∙ ap (λ o. list_any (same_node p) (parents_in o)) absent)
+      unread m (p ∷ path) route read = true≢false (sym route.0 ∙ ap (λ o. list_any (same_node p) (parents_in o)) absent)
 
       gone : ReadOn next.graph (s.held t.slot) x → ⊥
       gone r = unread r.0 r.1 r.2 r.3

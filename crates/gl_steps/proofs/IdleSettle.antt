@@ -16,7 +16,7 @@ use Rattle.gl_steps.specs.declared.command.Command.{Command}
 use Rattle.gl_steps.specs.declared.command.Command.TheVariants as command
 use Rattle.gl_steps.specs.Promises.{SettlesIdle, SettlesNobody}
 use Rattle.gl_steps.specs.Step.{Goes, Step, Unchanged}
-use Rattle.gl_steps.specs.Tests.{may_want_memory, refusal_of}
+use Rattle.gl_steps.specs.Tests.{may_lack_memory, refusal_of}
 
 module _ (s s' : State) (t : TxnId) (a : Answer) (told : Told) (law : IsLawful s) (none : IsOnNoCycle (waits_for s) t.slot) where
   abbrev Quiet : Type 0
@@ -37,7 +37,7 @@ module _ (s s' : State) (t : TxnId) (a : Answer) (told : Told) (law : IsLawful s
   pub quiet_step : Step s (command.Settle t) a told s' → Quiet
   quiet_step step =
       ⊎_elim (λ h. goes (refusal_of s (command.Settle t)) h)
-      (λ (want : (may_want_memory s (command.Settle t) ≡ true) × Unchanged s a told s' (answer.Refused no.NoMemory)). unchanged no.NoMemory want.1) step
+      (λ (lack : (may_lack_memory s (command.Settle t) ≡ true) × Unchanged s a told s' (answer.Refused no.NoMemory)). unchanged no.NoMemory lack.1) step
 
 pub settles_nobody : SettlesNobody
 settles_nobody s s' t a told law step none = quiet_step s s' t a told law none step

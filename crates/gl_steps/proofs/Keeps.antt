@@ -140,10 +140,10 @@ parent_lives p None h = h
 parent_lives p (Some n) h = refl
 
 -- what is read over a route lives
-pub read_lives : (s : State) → IsLawful s → (t : ℕ) (n m : NodeId) (way : List NodeId) → IsRoute s.graph n way m → is_read (s.held t m) ≡ true
+pub read_lives : (s : State) → IsLawful s → (t : ℕ) (n m : NodeId) (path : List NodeId) → IsRoute s.graph n path m → is_read (s.held t m) ≡ true
     → is_live s.graph n ≡ true
 read_lives s law t n m [] route read = ap (is_live s.graph) route ∙ (law.grants_live t m (read_holds _ read)).1
-read_lives s law t n m (p ∷ way) route read = parent_lives p (node_at s.graph n) route.0
+read_lives s law t n m (p ∷ path) route read = parent_lives p (node_at s.graph n) route.0
 
 -- the slot's grants stay, and the graph makes a step
 pub keeps_graph : (s s' : State) (t : TxnId) (told' : Told) (changed : NodeId → Bool) → IsLawful s → IsLawful s' → lives s' t ≡ true

@@ -42,8 +42,8 @@ pub mod IdleSettle
 pub mod LivesOn
 pub mod WaitsEnd
 pub mod WaitsBegin
-pub mod Play
-pub mod PlayIsStep
+pub mod Execute
+pub mod ExecuteIsStep
 pub mod RowWords
 mod LockRows
 mod RecordRows

@@ -22,8 +22,8 @@ use Rattle.gl_steps.specs.Step.{Run}
 use Rattle.gl_graph.proofs.Counts.{count_grown}
 use Rattle.gl_model.proofs.law.Takes.{empty-lawful}
 use Rattle.gl_steps.proofs.Made.{made}
-use Rattle.gl_steps.proofs.Play.{Outcome, after, new_node, play, replies, tested}
-use Rattle.gl_steps.proofs.PlayIsStep.{play_runs, play_steps}
+use Rattle.gl_steps.proofs.Execute.{Outcome, after, new_node, execute, replies, tested}
+use Rattle.gl_steps.proofs.ExecuteIsStep.{execute_runs, execute_steps}
 use Rattle.gl_steps.proofs.StepsKeepLaw.{steps_keep_law}
 use Rattle.gl_steps.proofs.RowWords.{Line, Rows, begins, commands, answers, computed, done, ref, refuses, txn}
 
@@ -32,13 +32,13 @@ t = txn 0 1
 
 -- one transaction lives, and so many commands were accepted
 abbrev worn_at : ℕ → State
-worn_at k = record (play (empty_state AtBlock 1) command.Begin).2 { accepted = k }
+worn_at k = record (execute (empty_state AtBlock 1) command.Begin).2 { accepted = k }
 
 abbrev settles : Line
 settles = done (command.Settle t)
 
 -- settling one that waits for nobody changes the count alone
-one_more : (k : ℕ) → (k == max_count) ≡ false → play (worn_at k) (command.Settle t) ≡ (answer.Done, [], worn_at (k + 1))
+one_more : (k : ℕ) → (k == max_count) ≡ false → execute (worn_at k) (command.Settle t) ≡ (answer.Done, [], worn_at (k + 1))
 one_more k e =
     let F : Bool → Outcome = λ b. tested (worn_at k) (command.Settle t) (first_refusal (where_true b no.WornOut ∷ no_txn (worn_at k) t ∷ [])) in
     ap F e
@@ -85,15 +85,15 @@ root_tested s k low at =
     same true = refl
     same false = refl
 
-one_root : (s : State) (k : ℕ) → k < 65536 → HasFilled s k → HasFilled (play s root).2 (k + 1)
+one_root : (s : State) (k : ℕ) → k < 65536 → HasFilled s k → HasFilled (execute s root).2 (k + 1)
 one_root s k low at =
     let room : nat_lt 65536 (k + 1) ≡ false = grind (arith, nat_tests) in
     let free : refusal_of s root ≡ None = root_tested s k (omega arith) at ∙ ap (λ b. where_true b no.TooManyNodes) room in
-    let is : (play s root).2 ≡ accepted_once (made s (new_node s Inner [])) = ap (λ r. (tested s root r).2) free in
+    let is : (execute s root).2 ≡ accepted_once (made s (new_node s Inner [])) = ap (λ r. (tested s root r).2) free in
     let count : node_count (made s (new_node s Inner [])).graph ≡ node_count s.graph + 1 = count_grown s.graph at.law.graph (new_node s Inner [] ∷ []) in
     let accepted = at.accepted in let births = at.births in let old = at.count in
     record {
-      law = steps_keep_law s (play s root).2 root (play s root).0 (play s root).1 at.law (play_steps s at.law root);
+      law = steps_keep_law s (execute s root).2 root (execute s root).0 (execute s root).1 at.law (execute_steps s at.law root);
       accepted = ap (λ x. x.accepted) is ∙ ap (λ x. x + 1) accepted;
       births = ap (λ x. x.graph.births) is ∙ ap (λ x. x + 1) births;
       count = ap (λ x. node_count x.graph) is ∙ count ∙ ap (λ x. x + 1) old;
@@ -102,7 +102,7 @@ one_root s k low at =
 
 many_roots : (n k : ℕ) (s : State) → k + n ≡ 65536 → HasFilled s k → HasFilled (after s (replicate n root)) 65536
 many_roots zero k s e at = let full : k ≡ 65536 = omega arith in subst (HasFilled s) full at
-many_roots (suc n) k s e at = many_roots n (k + 1) (play s root).2 (omega arith) (one_root s k (omega arith) at)
+many_roots (suc n) k s e at = many_roots n (k + 1) (execute s root).2 (omega arith) (one_root s k (omega arith) at)
 
 -- a run from the empty state to a graph in which another root is refused
 record HasFullGraph : Type 0 where
@@ -121,6 +121,6 @@ row_too_many_nodes n e =
       state = after start (replicate n root);
       before = replicate n root;
       said = replies start (replicate n root);
-      run = play_runs (replicate n root) start (empty-lawful AtBlock Youngest 1);
+      run = execute_runs (replicate n root) start (empty-lawful AtBlock Youngest 1);
       refused = root_tested (after start (replicate n root)) 65536 (omega arith) full;
     }

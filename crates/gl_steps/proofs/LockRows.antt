@@ -65,7 +65,7 @@ row_conversion_ahead : Rows AtBlock 3 (
 row_conversion_ahead = computed refl
 
 -- two conversions that wait for each other: the youngest is the victim, here the requester
-row_asker_is_victim : Rows AtBlock 2 (
+row_requester_is_victim : Rows AtBlock 2 (
     roots db ∷ begins a ∷ begins b
     ∷ locks a S db
     ∷ locks b S db
@@ -73,7 +73,7 @@ row_asker_is_victim : Rows AtBlock 2 (
     ∷ says (command.Lock b db X) answer.Victim
     ∷ refuses (command.Commit b) no.TxnCondemned
     ∷ tells (command.Abort b) a (notice.Granted db X) ∷ [])
-row_asker_is_victim = computed refl
+row_requester_is_victim = computed refl
 
 -- and here the one that waited first
 row_other_is_victim : Rows AtBlock 2 (

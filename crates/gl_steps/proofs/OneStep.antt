@@ -104,7 +104,7 @@ module _ (s : State) (law : IsLawful s) (t : TxnId) (alive : lives s t ≡ true)
 
   -- each command, and a step that changes nothing
   pub step_keeps : (c : Command) → names t c ≡ false → Step s c a told' s' → Kept (is_of_rows c) s'
-  step_keeps c apart (inr want) = same_keeps s law t alive s' told' s' want.1.same
+  step_keeps c apart (inr lack) = same_keeps s law t alive s' told' s' lack.1.same
   step_keeps c apart (inl goes) = by (refusal_of s c) refl goes
     where
       by : (o : Option Refusal) → refusal_of s c ≡ o → Goes s c o a told' s' → Kept (is_of_rows c) s'

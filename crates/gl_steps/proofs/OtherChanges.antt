@@ -118,9 +118,9 @@ blocks_waits s v u (Some (Waiting n m)) h = (n, m, refl)
 edge_waits : (s : State) (v u : ℕ) → waits_for s v u ≡ true → Waits s v
 edge_waits s v u h = blocks_waits s v u (status_of s v) (and_both _ _ h).1
 
-walk_waits : (s : State) (v u : ℕ) (way : List ℕ) → IsWalk (waits_for s) v way u → Waits s v
+walk_waits : (s : State) (v u : ℕ) (path : List ℕ) → IsWalk (waits_for s) v path u → Waits s v
 walk_waits s v u [] walk = edge_waits s v u walk
-walk_waits s v u (x ∷ way) walk = edge_waits s v x walk.0
+walk_waits s v u (x ∷ path) walk = edge_waits s v x walk.0
 
 pub settled_within_follows : (c : Victims) (k : ℕ) (s : State) (u : ℕ) (s' : State) (t : ℕ) → SettledWithin c k s u s' → WaitsWell s t → Follows s s' t
 settled_within_follows c zero s u s' t done well = subst (λ x. Follows s x t) (sym done.1) (follows_same s s t well refl refl (λ q. refl) (λ q. refl))

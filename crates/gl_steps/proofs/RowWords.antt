@@ -18,8 +18,8 @@ use Rattle.gl_model.specs.State.{State, empty_state}
 use Rattle.gl_model.specs.Tellings.{Told}
 use Rattle.gl_steps.specs.Step.{Run}
 use Rattle.gl_model.proofs.law.Takes.{empty-lawful}
-use Rattle.gl_steps.proofs.Play.{after, replies}
-use Rattle.gl_steps.proofs.PlayIsStep.{play_runs}
+use Rattle.gl_steps.proofs.Execute.{after, replies}
+use Rattle.gl_steps.proofs.ExecuteIsStep.{execute_runs}
 
 -- a command, its answer, and its notices
 abbrev pub Line : Type 0
@@ -45,7 +45,7 @@ computed {detect = detect} {most = most} {lines = lines} same =
     record {
       state = after start (commands lines);
       run = subst (λ rs. Run start (commands lines) rs (after start (commands lines))) same
-          (play_runs (commands lines) start (empty-lawful detect Youngest most));
+          (execute_runs (commands lines) start (empty-lawful detect Youngest most));
     }
 
 -- a borrowed list, as a command has it

@@ -104,9 +104,9 @@ module _ (s : State) (law : IsLawful s) (t : TxnId) (alive : lives s t ≡ true)
     unread : (c : NodeId) → goes_with s.graph x c ≡ true → ReadOn next.graph (s.held t.slot) c → ⊥
     unread c e r = by r.1 r.2 r.3
       where
-        by : (way : List NodeId) → IsRoute next.graph c way r.0 → is_read (s.held t.slot r.0) ≡ true → ⊥
+        by : (path : List NodeId) → IsRoute next.graph c path r.0 → is_read (s.held t.slot r.0) ≡ true → ⊥
         by [] route read = no (sym (sym read ∙ ap (λ y. is_read (s.held t.slot y)) (sym route) ∙ ap is_read (nothing c e)))
-        by (p ∷ way) route read = clash (parent_there (node_at next.graph c) route.0) (off_graph c e)
+        by (p ∷ path) route read = clash (parent_there (node_at next.graph c) route.0) (off_graph c e)
           where
             parent_there : (o : Option Node) → list_any (same_node p) (parents_in o) ≡ true → is_some o ≡ true
             parent_there None h = h

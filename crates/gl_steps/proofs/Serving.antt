@@ -13,7 +13,7 @@ use Rattle.gl_steps.specs.declared.command.Answer.TheVariants as answer
 use Rattle.gl_steps.specs.declared.command.Command.{Command}
 use Rattle.gl_steps.specs.declared.command.Command.TheVariants as command
 use Rattle.gl_steps.specs.Step.{Accepts, Answers, Goes, Step, Unchanged, lock_answer, query_answer}
-use Rattle.gl_steps.specs.Tests.{may_want_memory, refusal_of}
+use Rattle.gl_steps.specs.Tests.{may_lack_memory, refusal_of}
 use Rattle.gl_steps.proofs.Accepting.{accepting_keeps_count}
 use Rattle.gl_steps.specs.Served.{Counts, accepts, is_query, is_refused}
 
@@ -136,5 +136,5 @@ module _ (s : State) (c : Command) (a : Answer) (told : Told) (s' : State) where
   pub step_counts : Step s c a told s' → Counts s c a told s'
   step_counts step =
       ⊎_elim (λ h. goes (refusal_of s c) h)
-      (λ (want : (may_want_memory s c ≡ true) × Unchanged s a told s' (answer.Refused no.NoMemory)).
-      unchanged (answer.Refused no.NoMemory) (and_false (not (is_query c))) want.1) step
+      (λ (lack : (may_lack_memory s c ≡ true) × Unchanged s a told s' (answer.Refused no.NoMemory)).
+      unchanged (answer.Refused no.NoMemory) (and_false (not (is_query c))) lack.1) step

@@ -28,9 +28,9 @@ use Rattle.gl_steps.proofs.RowNames.{names_rows}
 -- All that a record is below lives, and so does the record with its file.
 
 module _ (g : Graph) (law : IsLawfulGraph g) where
-  end_stands : (n r : NodeId) (way : List NodeId) → is_live g r ≡ true → IsRoute g r way n → is_live g n ≡ true
+  end_stands : (n r : NodeId) (path : List NodeId) → is_live g r ≡ true → IsRoute g r path n → is_live g n ≡ true
   end_stands n r [] live route = ap (is_live g) (sym route) ∙ live
-  end_stands n r (p ∷ way) live route = end_stands n p way (law.parents_live r p route.0) route.1
+  end_stands n r (p ∷ path) live route = end_stands n p path (law.parents_live r p route.0) route.1
 
   pub below_stands : (n r : NodeId) → IsBelow g n r → is_live g r ≡ true
   below_stands n r on = rec_live g law r on.is_record
@@ -77,17 +77,17 @@ pub record StepBelow (s : State) (c : Command) (x : Answer × Told) (s' : State)
 -- if what lives on keeps its parents, a route up from it is one before and after
 module _ (g g' : Graph) (law : IsLawfulGraph g) (law' : IsLawfulGraph g')
     (parents : (n : NodeId) → is_live g n ≡ true → is_live g' n ≡ true → parents_of g' n ≡ parents_of g n) where
-  way_kept : (n r : NodeId) (way : List NodeId) → is_live g r ≡ true → is_live g' r ≡ true → IsRoute g r way n → IsRoute g' r way n
-  way_kept n r [] live live' route = route
-  way_kept n r (p ∷ way) live live' route =
+  path_kept : (n r : NodeId) (path : List NodeId) → is_live g r ≡ true → is_live g' r ≡ true → IsRoute g r path n → IsRoute g' r path n
+  path_kept n r [] live live' route = route
+  path_kept n r (p ∷ path) live live' route =
       let up : is_child g' p r ≡ true = ap (list_any (same_node p)) (parents r live live') ∙ route.0 in
-      (up, way_kept n p way (law.parents_live r p route.0) (law'.parents_live r p up) route.1)
+      (up, path_kept n p path (law.parents_live r p route.0) (law'.parents_live r p up) route.1)
 
-  way_back : (n r : NodeId) (way : List NodeId) → is_live g r ≡ true → is_live g' r ≡ true → IsRoute g' r way n → IsRoute g r way n
-  way_back n r [] live live' route = route
-  way_back n r (p ∷ way) live live' route =
+  path_back : (n r : NodeId) (path : List NodeId) → is_live g r ≡ true → is_live g' r ≡ true → IsRoute g' r path n → IsRoute g r path n
+  path_back n r [] live live' route = route
+  path_back n r (p ∷ path) live live' route =
       let up : is_child g p r ≡ true = ap (list_any (same_node p)) (sym (parents r live live')) ∙ route.0 in
-      (up, way_back n p way (law.parents_live r p up) (law'.parents_live r p route.0) route.1)
+      (up, path_back n p path (law.parents_live r p up) (law'.parents_live r p route.0) route.1)
 
 module _ (s s' : State) (law : IsLawful s) (law' : IsLawful s') (c : Command) (x : Answer × Told) (n : NodeId) where
   -- of an adopt or a forget
@@ -102,13 +102,13 @@ module _ (s s' : State) (law : IsLawful s) (law' : IsLawful s') (c : Command) (x
           kept = λ on. (
             record {
               is_record = (kinds r live live').record_same ∙ on.is_record;
-              route = (on.route.0, way_kept s.graph s'.graph law.graph law'.graph parents n r on.route.0 live live' on.route.1);
+              route = (on.route.0, path_kept s.graph s'.graph law.graph law'.graph parents n r on.route.0 live live' on.route.1);
             },
             (idle.stays r live live').keys,
           );
           no_more = λ on. record {
             is_record = sym (kinds r live live').record_same ∙ on.is_record;
-            route = (on.route.0, way_back s.graph s'.graph law.graph law'.graph parents n r on.route.0 live live' on.route.1);
+            route = (on.route.0, path_back s.graph s'.graph law.graph law'.graph parents n r on.route.0 live live' on.route.1);
           };
         };
         came = λ r dead on. named.came r dead (below_stands s'.graph law'.graph n r on);

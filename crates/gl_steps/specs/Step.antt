@@ -13,7 +13,7 @@ use Rattle.gl_modes.specs.declared.mode.Mode.TheVariants.{X}
 use Rattle.gl_modes.specs.declared.refusal.Refusal.TheVariants as no
 use Rattle.gl_steps.specs.declared.command.Answer.TheVariants as answer
 use Rattle.gl_steps.specs.declared.command.Command.TheVariants as command
-use Rattle.gl_steps.specs.Tests.{may_want_memory, refusal_of}
+use Rattle.gl_steps.specs.Tests.{may_lack_memory, refusal_of}
 use Rattle.gl_graph.specs.Changes.{IsAdopted, IsBorn, IsIndexBorn, rekeyed, rekeyed_parents, with_parents, without_node}
 use Rattle.gl_graph.specs.Graph.{record_parents}
 use Rattle.gl_graph.specs.Shapes.{File, Inner, Rec}
@@ -104,7 +104,7 @@ Goes s c None a told' s' = Answers s c (query_answer s c) a told' s'
 abbrev pub Step : State → Command → Answer → Told → State → Type 0
 Step s c a told' s' =
     Goes s c (refusal_of s c) a told' s'
-    ⊎ ((may_want_memory s c ≡ true) × Unchanged s a told' s' (answer.Refused no.NoMemory))
+    ⊎ ((may_lack_memory s c ≡ true) × Unchanged s a told' s' (answer.Refused no.NoMemory))
 
 -- steps along a list of commands, with a reply to each
 abbrev pub Run : State → List Command → List (Answer × Told) → State → Type 0

@@ -124,5 +124,5 @@ lists_memory s (command.IndexBy t ps f bs) = true
 lists_memory s c = false
 
 -- lack of memory is a permitted reason if there is no other; for a move also in place of a closed cycle, since the search for it may run out
-abbrev pub may_want_memory : State → Command → Bool
-may_want_memory s c = lists_memory s c && (is_none (refusal_of s c) || is_cycle (refusal_of s c))
+abbrev pub may_lack_memory : State → Command → Bool
+may_lack_memory s c = lists_memory s c && (is_none (refusal_of s c) || is_cycle (refusal_of s c))

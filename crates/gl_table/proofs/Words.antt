@@ -97,10 +97,10 @@ pub use Rattle.gl_table.specs.inside.Locks.{state_at}
 pub use Rattle.gl_table.specs.inside.Steps.{adds_to, AreAgreed, AreExactFor, AreShutOut, CanAsk, CanEndAt, CanRecount, CanTellWaiters, HasAsked, HasGrant}
 pub use Rattle.gl_table.specs.inside.Steps.{HasMoved, HasWoken, IsBranchLeftTo, IsFresh, IsLeftTo, IsPrepared, IsReleased, IsTurnedAway, MayAct, Recounts}
 pub use Rattle.gl_table.specs.inside.Steps.{TellsGone}
-pub use Rattle.gl_table.specs.inside.Seating.{IsSeating}
-pub use Rattle.gl_table.specs.inside.Seats.{is_free, is_free_at, SeatList, txn_in, txns_of}
+pub use Rattle.gl_table.specs.inside.TxnEntrySets.{AreTxnEntries}
+pub use Rattle.gl_table.specs.inside.TxnEntries.{is_free, is_free_at, TxnEntryList, txn_in, txns_of}
 pub use Rattle.gl_table.specs.inside.Sound.{IsSafe, IsSound, view_of}
-pub use Rattle.gl_model.specs.Tellings.{addressed, children_that, IsOnWay, notice_of, stripped, Told, told, told_but, told_from, told_to}
+pub use Rattle.gl_model.specs.Tellings.{addressed, children_that, IsBetween, notice_of, stripped, Told, told, told_but, told_from, told_to}
 pub use Rattle.gl_model.specs.declared.deadlock.Deadlock.{Deadlock}
 pub use Rattle.gl_model.specs.declared.deadlock.Stuck.{Stuck}
 pub use Rattle.gl_model.specs.declared.answers.Detect.{Detect}
@@ -109,7 +109,7 @@ pub use Rattle.gl_lock_lists.specs.declared.list.Entry.{Entry}
 pub use Rattle.gl_lock_lists.specs.declared.list.LockList.{LockList}
 pub use Rattle.gl_model.specs.declared.answers.LockRow.{LockRow}
 pub use Rattle.gl_model.specs.declared.answers.Notice.{Notice}
-pub use Rattle.gl_table.specs.declared.seat.Seat.{Seat}
+pub use Rattle.gl_table.specs.declared.txn_entry.TxnEntry.{TxnEntry}
 pub use Rattle.gl_model.specs.declared.txn.Status.{Status}
 pub use Rattle.gl_model.specs.declared.txn.Status.TheVariants.{Active, Condemned, Waiting}
 pub use Rattle.gl_model.specs.declared.txn.TxnId.{TxnId}

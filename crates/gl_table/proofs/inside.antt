@@ -2,7 +2,7 @@
 pub mod Slots
 pub mod Lists
 pub mod Orders
-pub mod Seats
+pub mod TxnEntries
 pub mod Woken
 pub mod Boards
 pub mod Granted

@@ -14,12 +14,12 @@ use Rattle.gl_slots.specs.Slots.{bits_of}
 use Rattle.gl_model.specs.declared.deadlock.Deadlock.{Deadlock}
 use Rattle.gl_model.specs.declared.answers.Detect.{Detect}
 use Rattle.gl_lock_lists.specs.declared.list.Entry.{Entry}
-use Rattle.gl_table.specs.declared.seat.Seat.{Seat}
+use Rattle.gl_table.specs.declared.txn_entry.TxnEntry.{TxnEntry}
 use Rattle.gl_model.specs.Calls.{held_children}
 use Rattle.gl_header.specs.Headers.{Entries, held_of, queue_of}
 use Rattle.gl_lock_lists.specs.Lists.{mode_in}
 use Rattle.gl_model.specs.State.{is_waiting_at, State, members, Txn, age_of, empty_state, slots, waits_for}
-use Rattle.gl_table.specs.inside.Seats.{txns_of}
+use Rattle.gl_table.specs.inside.TxnEntries.{txns_of}
 use Rattle.gl_model.specs.declared.answers.LockRow.{LockRow}
 use Rattle.gl_model.specs.declared.txn.Status.{Status}
 use Rattle.gl_model.specs.declared.txn.Status.TheVariants.{Waiting}
@@ -30,7 +30,7 @@ use Rattle.gl_model.specs.declared.answers.Detect.TheVariants.{ByWatcher}
 pub record TableView : Type 0 where
   pub graph : View
   pub headers : Entries
-  pub seats : List (Option Seat)
+  pub txn_entries : List (Option TxnEntry)
   pub lists : List (List (NodeId × Entry))
   pub detect : Detect
   pub victims : Victims
@@ -42,12 +42,12 @@ abbrev pub state_of : TableView → State
 state_of v =
     record {
       graph = graph_of v.graph;
-      txns = txns_of v.seats;
+      txns = txns_of v.txn_entries;
       held = held_of v.headers;
       queue = queue_of v.headers;
       detect = v.detect;
       victims = v.victims;
-      most = length v.seats;
+      most = length v.txn_entries;
       begins = v.begins;
       accepted = 0;
     }
@@ -121,6 +121,6 @@ board_of s =
     }
 
 -- what headers and transaction entries show of a state: who lives and waits, who holds what, and the queues
-abbrev pub shown : Entries → List (Option Seat) → ℕ → State
-shown hs seats epoch =
-    record (empty_state ByWatcher (length seats)) { txns = txns_of seats; held = held_of hs; queue = queue_of hs; accepted = epoch }
+abbrev pub shown : Entries → List (Option TxnEntry) → ℕ → State
+shown hs txn_entries epoch =
+    record (empty_state ByWatcher (length txn_entries)) { txns = txns_of txn_entries; held = held_of hs; queue = queue_of hs; accepted = epoch }

@@ -1,5 +1,5 @@
-pub mod Seats
-pub mod Seating
+pub mod TxnEntries
+pub mod TxnEntrySets
 pub mod Slots
 pub mod Ledger
 pub mod Steps

@@ -9,11 +9,11 @@ ghost use Rattle.gl_slots.specs.Slots.{HasNoBit, bits_of, has_slot, no_bits};
 ghost use Rattle.gl_table.specs.Table.{board_of, shown};
 ghost use Rattle.gl_model.specs.declared.txn.Status.TheVariants.{Waiting};
 ghost use Rattle.gl_header.specs.Headers.{held_of, queue_of};
-ghost use Rattle.gl_table.specs.inside.Seats.{txns_of};
+ghost use Rattle.gl_table.specs.inside.TxnEntries.{txns_of};
 ghost use Rattle.gl_model.specs.State.{age_in, is_wait, status_in, waits_for};
 
-use crate::seat::Seat;
-use crate::seats::Seats;
+use crate::txn_entries::TxnEntries;
+use crate::txn_entry::TxnEntry;
 use gl_header::{Header, Headers};
 use gl_model::Status;
 use gl_modes::{Mode, NodeId};
@@ -22,25 +22,25 @@ use gl_waits::{Ages, Board, WaitsFor};
 
 /// The snapshot of this moment. Only the ages of living transactions and the rows of waiters are
 /// written.
-pub(crate) fn board(headers: &Headers, seats: &Seats, epoch: u64) -> Board
-    requires few { length seats.now.items ≤ most_slots }
-    ensures { result ≡ board_of (shown headers.now.entries seats.now.items epoch) }
+pub(crate) fn board(headers: &Headers, txn_entries: &TxnEntries, epoch: u64) -> Board
+    requires few { length txn_entries.now.items ≤ most_slots }
+    ensures { result ≡ board_of (shown headers.now.entries txn_entries.now.items epoch) }
 {
     let mut board = Board::idle(epoch);
-    write_ages(seats, &mut board.ages);
-    write_rows(headers, seats, &mut board.rows);
+    write_ages(txn_entries, &mut board.ages);
+    write_rows(headers, txn_entries, &mut board.rows);
     board
 }
 
 /// Writes the age of each living transaction; all are 0 before.
-fn write_ages(seats: &Seats, ages: &mut [u64; SLOTS])
+fn write_ages(txn_entries: &TxnEntries, ages: &mut [u64; SLOTS])
     requires none { (u : ℕ) → get_or ages.old u 0 ≡ 0 }
     ensures len { length ages.new ≡ length ages.old }
-    ensures ages { (u : ℕ) → get_or ages.new u 0 ≡ age_in (txns_of seats.now.items u) }
+    ensures ages { (u : ℕ) → get_or ages.new u 0 ≡ age_in (txns_of txn_entries.now.items u) }
 {
-    let mut left = seats.living();
+    let mut left = txn_entries.living();
     while let Some(slot) = left.take_lowest() {
-        if let Some(Seat { age, .. }) = seats.get(slot) {
+        if let Some(TxnEntry { age, .. }) = txn_entries.get(slot) {
             ages[slot as usize] = age;
         }
     }
@@ -48,15 +48,15 @@ fn write_ages(seats: &Seats, ages: &mut [u64; SLOTS])
 
 /// Writes the row of each waiter; all are empty before. Each queue with a waiter is read once,
 /// however many it has.
-fn write_rows(headers: &Headers, seats: &Seats, rows: &mut [Bits; SLOTS])
+fn write_rows(headers: &Headers, txn_entries: &TxnEntries, rows: &mut [Bits; SLOTS])
     requires none { (t : ℕ) → get_or rows.old t no_bits ≡ no_bits }
     ensures len { length rows.new ≡ length rows.old }
-    ensures rows { (t : ℕ) → get_or rows.new t no_bits ≡ bits_of (waits_for (shown headers.now.entries seats.now.items 0) t) }
+    ensures rows { (t : ℕ) → get_or rows.new t no_bits ≡ bits_of (waits_for (shown headers.now.entries txn_entries.now.items 0) t) }
 {
-    let mut left = seats.waiting();
+    let mut left = txn_entries.waiting();
     while let Some(slot) = left.take_lowest() {
         if is_unwritten(rows, slot) {
-            show_waiter(headers, seats, slot, rows);
+            show_waiter(headers, txn_entries, slot, rows);
         }
     }
 }
@@ -70,18 +70,18 @@ fn is_unwritten(rows: &[Bits; SLOTS], slot: Slot) -> bool
 }
 
 /// Writes the row of a slot, and those of all that wait for the same node.
-fn show_waiter(headers: &Headers, seats: &Seats, slot: Slot, rows: &mut [Bits; SLOTS])
+fn show_waiter(headers: &Headers, txn_entries: &TxnEntries, slot: Slot, rows: &mut [Bits; SLOTS])
     requires below { slot < most_slots }
     requires none { get_or rows.old slot no_bits ≡ no_bits }
     ensures len { length rows.new ≡ length rows.old }
-    ensures own { get_or rows.new slot no_bits ≡ bits_of (waits_for (shown headers.now.entries seats.now.items 0) slot) }
+    ensures own { get_or rows.new slot no_bits ≡ bits_of (waits_for (shown headers.now.entries txn_entries.now.items 0) slot) }
     ensures rows { (t : ℕ) → (get_or rows.new t no_bits ≡ get_or rows.old t no_bits)
-        ⊎ (get_or rows.new t no_bits ≡ bits_of (waits_for (shown headers.now.entries seats.now.items 0) t)) }
+        ⊎ (get_or rows.new t no_bits ≡ bits_of (waits_for (shown headers.now.entries txn_entries.now.items 0) t)) }
 {
-    let Some((node, wanted)) = wait_of(seats, slot) else {
+    let Some((node, wanted)) = wait_of(txn_entries, slot) else {
         return;
     };
-    show_queue(headers, seats.as_slice(), node, rows);
+    show_queue(headers, txn_entries.as_slice(), node, rows);
     // A waiter is in the queue, so its row is written by now.
     if is_unwritten(rows, slot) {
         rows[slot as usize] = row(headers, slot, node, wanted).bits();
@@ -89,11 +89,11 @@ fn show_waiter(headers: &Headers, seats: &Seats, slot: Slot, rows: &mut [Bits; S
 }
 
 /// The node that a slot waits for, and the wanted mode; `None` if it does not wait.
-fn wait_of(seats: &Seats, slot: Slot) -> Option<(NodeId, Mode)>
-    ensures { MatchOption result (is_wait (status_in (txns_of seats.now.items slot)) ≡ false)
-        (λ wait. status_in (txns_of seats.now.items slot) ≡ Some (Waiting wait.0 wait.1)) }
+fn wait_of(txn_entries: &TxnEntries, slot: Slot) -> Option<(NodeId, Mode)>
+    ensures { MatchOption result (is_wait (status_in (txns_of txn_entries.now.items slot)) ≡ false)
+        (λ wait. status_in (txns_of txn_entries.now.items slot) ≡ Some (Waiting wait.0 wait.1)) }
 {
-    match seats.get(slot)?.status {
+    match txn_entries.get(slot)?.status {
         Status::Waiting { node, wanted } => Some((node, wanted)),
         _ => None,
     }
@@ -101,10 +101,15 @@ fn wait_of(seats: &Seats, slot: Slot) -> Option<(NodeId, Mode)>
 
 /// Writes the rows of a node's waiters, in one pass over its queue: ahead of each are those passed
 /// so far. A slot's first place counts.
-fn show_queue(headers: &Headers, seats: &[Option<Seat>], node: NodeId, rows: &mut [Bits; SLOTS])
+fn show_queue(
+    headers: &Headers,
+    txn_entries: &[Option<TxnEntry>],
+    node: NodeId,
+    rows: &mut [Bits; SLOTS],
+)
     ensures len { length rows.new ≡ length rows.old }
     ensures rows { (t : ℕ) → (get_or rows.new t no_bits ≡ get_or rows.old t no_bits)
-        ⊎ (get_or rows.new t no_bits ≡ bits_of (waits_for (shown headers.now.entries seats.now 0) t)) }
+        ⊎ (get_or rows.new t no_bits ≡ bits_of (waits_for (shown headers.now.entries txn_entries.now 0) t)) }
 {
     let Some(header) = headers.shared(node) else {
         return;
@@ -112,7 +117,7 @@ fn show_queue(headers: &Headers, seats: &[Option<Seat>], node: NodeId, rows: &mu
     header.law();
     let mut passed = Slots::empty();
     for &(slot, _) in header.queue() {
-        if let Some(wanted) = wanted_on(seats, slot, node) {
+        if let Some(wanted) = wanted_on(txn_entries, slot, node) {
             if !passed.contains(slot) {
                 rows[slot as usize] = row_behind(header, passed, slot, wanted).bits();
             }
@@ -122,10 +127,10 @@ fn show_queue(headers: &Headers, seats: &[Option<Seat>], node: NodeId, rows: &mu
 }
 
 /// The mode in which a slot waits for a node.
-fn wanted_on(seats: &[Option<Seat>], slot: Slot, node: NodeId) -> Option<Mode>
-    ensures { IfSome result (λ m. status_in (txns_of seats.now slot) ≡ Some (Waiting node m)) }
+fn wanted_on(txn_entries: &[Option<TxnEntry>], slot: Slot, node: NodeId) -> Option<Mode>
+    ensures { IfSome result (λ m. status_in (txns_of txn_entries.now slot) ≡ Some (Waiting node m)) }
 {
-    let Seat { status, .. } = (*seats.get(slot as usize)?)?;
+    let TxnEntry { status, .. } = (*txn_entries.get(slot as usize)?)?;
     match status {
         Status::Waiting { node: at, wanted } if at == node => Some(wanted),
         _ => None,
@@ -136,20 +141,20 @@ fn wanted_on(seats: &[Option<Seat>], slot: Slot, node: NodeId) -> Option<Mode>
 #[derive(Clone, Copy)]
 pub(crate) struct Waits<'a> {
     pub(crate) headers: &'a Headers,
-    pub(crate) seats: &'a [Option<Seat>],
+    pub(crate) txn_entries: &'a [Option<TxnEntry>],
 }
 
 impl WaitsFor for Waits<'_> {
     ghost use Rattle.gl_table.specs.Table.{shown};
     ghost use Rattle.gl_model.specs.State.{waits_for};
 
-    ghost edge = { λ it. waits_for (shown it.headers.now.entries it.seats.now 0) };
+    ghost edge = { λ it. waits_for (shown it.headers.now.entries it.txn_entries.now 0) };
 
     fn row(&self, slot: usize) -> Slots {
-        match self.seats.get(slot) {
+        match self.txn_entries.get(slot) {
             Some(
                 Some(
-                    Seat {
+                    TxnEntry {
                         status: Status::Waiting { node, wanted },
                         ..
                     },
@@ -162,22 +167,22 @@ impl WaitsFor for Waits<'_> {
 
 impl Ages for Waits<'_> {
     ghost use Rattle.gl_model.specs.State.{age_in, since_in};
-    ghost use Rattle.gl_table.specs.inside.Seats.{txns_of};
+    ghost use Rattle.gl_table.specs.inside.TxnEntries.{txns_of};
 
-    ghost age_of = { λ it slot. age_in (txns_of it.seats.now slot) };
+    ghost age_of = { λ it slot. age_in (txns_of it.txn_entries.now slot) };
 
-    ghost since_of = { λ it slot. since_in (txns_of it.seats.now slot) };
+    ghost since_of = { λ it slot. since_in (txns_of it.txn_entries.now slot) };
 
     fn age(&self, slot: usize) -> u64 {
-        match self.seats.get(slot) {
-            Some(Some(seat)) => seat.age,
+        match self.txn_entries.get(slot) {
+            Some(Some(txn_entry)) => txn_entry.age,
             _ => 0,
         }
     }
 
     fn since(&self, slot: usize) -> u64 {
-        match self.seats.get(slot) {
-            Some(Some(seat)) => seat.since,
+        match self.txn_entries.get(slot) {
+            Some(Some(txn_entry)) => txn_entry.since,
             _ => 0,
         }
     }

@@ -17,13 +17,13 @@ ghost use Rattle.gl_model.specs.State.{is_write, is_waiting_at, pumped, without_
 ghost use Rattle.gl_table.specs.inside.Ledger.{state_in, AreNew};
 ghost use Rattle.gl_table.specs.inside.Steps.{AreExactFor, CanTellWaiters, HasWoken};
 ghost use Rattle.gl_model.specs.Lawful.{effect_on};
-ghost use Rattle.gl_table.specs.inside.Seats.{txn_in, txns_of};
+ghost use Rattle.gl_table.specs.inside.TxnEntries.{txn_in, txns_of};
 ghost use Rattle.gl_table.specs.Table.{row_of};
 ghost use Rattle.gl_table.specs.inside.Slots.{CanEnd, CanHold, Wakes, books_of, by_list, childless_in, counted_by, held_by};
 
 use crate::effective::effective;
-use crate::seat::Seat;
-use crate::seats::Seats;
+use crate::txn_entries::TxnEntries;
+use crate::txn_entry::TxnEntry;
 use gl_graph::Graph;
 use gl_header::{GrantList, Headers};
 use gl_lock_lists::{Entry, LockList};
@@ -46,7 +46,7 @@ mod wake;
 pub(crate) struct Ledger {
     pub(crate) alloc: Global,
     pub(crate) headers: Headers,
-    pub(crate) seats: Seats,
+    pub(crate) txn_entries: TxnEntries,
     pub(crate) lists: Vec<LockList>,
 }
 
@@ -57,7 +57,7 @@ impl Ledger {
         ensures { IfOk result (λ ledger. AreNew ledger most) }
     {
         let headers = Headers::new(alloc)?;
-        let seats = Seats::new(alloc, most)?;
+        let txn_entries = TxnEntries::new(alloc, most)?;
         let mut lists = Vec::new(alloc);
         for _ in 0..most {
             lists.push(LockList::new(alloc))?;
@@ -65,17 +65,17 @@ impl Ledger {
         Ok(Ledger {
             alloc,
             headers,
-            seats,
+            txn_entries,
             lists,
         })
     }
 
     /// The transaction in a slot.
     #[inline]
-    pub(crate) fn seat(&self, slot: Slot) -> Option<Seat>
-        ensures { txn_in (Some result) ≡ txns_of self.now.seats.items slot }
+    pub(crate) fn txn_entry(&self, slot: Slot) -> Option<TxnEntry>
+        ensures { txn_in (Some result) ≡ txns_of self.now.txn_entries.items slot }
     {
-        self.seats.get(slot)
+        self.txn_entries.get(slot)
     }
 
     /// The mode in which a slot holds a node, `NL` for none. It is read at the node, not searched
@@ -224,7 +224,7 @@ impl Ledger {
         graph.law();
         self.headers.drop_wait(slot, node, granted);
         self.wake_granted(graph, node, granted.as_slice(), told);
-        self.seats.set_status(slot, status);
+        self.txn_entries.set_status(slot, status);
     }
 
     /// The waiters that were granted on a node hold it, are active, and are told.
@@ -236,17 +236,17 @@ impl Ledger {
         granted: &[(Slot, Mode)],
         told: &mut Told,
     )
-        requires can { CanEnd (books_of self.old.seats self.old.lists.items told.old.items) granted.now }
+        requires can { CanEnd (books_of self.old.txn_entries self.old.lists.items told.old.items) granted.now }
         requires hold { (u : ℕ) → is_among_waiters u granted.now ≡ true → CanHold self.old.lists.items u node (parents_of (graph_of graph.now) node) }
         ensures headers { self.new.headers.entries ≡ self.old.headers.entries }
-        ensures wakes { Wakes (books_of self.old.seats self.old.lists.items told.old.items) node (parents_of (graph_of graph.now) node) granted.now
-            (books_of self.new.seats self.new.lists.items told.new.items) }
+        ensures wakes { Wakes (books_of self.old.txn_entries self.old.lists.items told.old.items) node (parents_of (graph_of graph.now) node) granted.now
+            (books_of self.new.txn_entries self.new.lists.items told.new.items) }
     {
         if granted.is_empty() {
             return; // Mostly so: the parents are looked up only if a waiter is granted.
         }
         wake::wake(
-            &mut self.seats,
+            &mut self.txn_entries,
             &mut self.lists,
             told,
             node,

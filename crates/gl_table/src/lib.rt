@@ -6,10 +6,10 @@ mod effective;
 mod ledger;
 mod locks;
 mod rule;
-mod seat;
-mod seats;
 mod table;
 mod told;
+mod txn_entries;
+mod txn_entry;
 
 pub use gl_model::{Deadlock, Detect, Effect, LockRow, Locked, Notice, Status, Stuck, Told, TxnId};
 pub use table::Table;

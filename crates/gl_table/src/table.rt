@@ -193,8 +193,8 @@ impl Table {
     pub fn status(&self, t: TxnId) -> Option<Status>
         ensures { result ≡ (if lives (state_of self.now) t then status_of (state_of self.now) t.slot else None) }
     {
-        match self.locks.ledger.seat(t.slot) {
-            Some(seat) if seat.age == t.age => Some(seat.status),
+        match self.locks.ledger.txn_entry(t.slot) {
+            Some(txn_entry) if txn_entry.age == t.age => Some(txn_entry.status),
             _ => None,
         }
     }

@@ -55,12 +55,12 @@ module _ (edge : ℕ → ℕ → Bool) (member : ℕ → Bool) (slot : ℕ) (rea
 -- a relation that has new waits only from t or to t
 module _ (edge new : ℕ → ℕ → Bool) (t : ℕ) (others : (x y : ℕ) → new x y ≡ true → x ≢ t → y ≢ t → edge x y ≡ true) where
   -- a path that does not pass t is one of the earlier relation
-  past : (a u : ℕ) (way : List ℕ) → a ≢ t → u ≢ t → IsWalk new a way u → IsWalk edge a way u ⊎ (Reaches new a t × Reaches new t u)
+  past : (a u : ℕ) (path : List ℕ) → a ≢ t → u ≢ t → IsWalk new a path u → IsWalk edge a path u ⊎ (Reaches new a t × Reaches new t u)
   past a u [] na nu h = inl (others a u h na nu)
-  past a u (v ∷ way) na nu h =
+  past a u (v ∷ path) na nu h =
       ⊎_elim
-      (λ is. inr (([], subst (λ x. new a x ≡ true) is h.0), (way, subst (λ x. IsWalk new x way u) is h.1)))
-      (λ nv. ⊎_elim (λ w. inl (others a v h.0 na nv, w)) (λ r. inr ((v ∷ r.0.0, (h.0, r.0.1)), r.1)) (past v u way nv nu h.1))
+      (λ is. inr (([], subst (λ x. new a x ≡ true) is h.0), (path, subst (λ x. IsWalk new x path u) is h.1)))
+      (λ nv. ⊎_elim (λ w. inl (others a v h.0 na nv, w)) (λ r. inr ((v ∷ r.0.0, (h.0, r.0.1)), r.1)) (past v u path nv nu h.1))
       (cases_eq v t)
 
   -- if there was no cycle before, and t is on none now, there is none now

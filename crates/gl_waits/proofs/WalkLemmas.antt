@@ -3,9 +3,9 @@ use Rattle.std.proofs.Common.{◌≡◌, ℕ, Bool, true, false, List, [], ◌�
 use Rattle.std.proofs.lemmas.Bool.{and_from, and_parts}
 use Rattle.gl_waits.specs.Waits.{IsWalk, Reaches, IsOnCycle, IsOnNoCycle, waits_of}
 
-walk_join : (edge : ℕ → ℕ → Bool) (a b c : ℕ) (way more : List ℕ) → IsWalk edge a way b → IsWalk edge b more c → IsWalk edge a (way ++ b ∷ more) c
+walk_join : (edge : ℕ → ℕ → Bool) (a b c : ℕ) (path more : List ℕ) → IsWalk edge a path b → IsWalk edge b more c → IsWalk edge a (path ++ b ∷ more) c
 walk_join edge a b c [] more h k = (h, k)
-walk_join edge a b c (v ∷ way) more h k = (h.0, walk_join edge v b c way more h.1 k)
+walk_join edge a b c (v ∷ path) more h k = (h.0, walk_join edge v b c path more h.1 k)
 
 -- a slot that reaches a second that reaches a third reaches the third
 pub reaches_join : (edge : ℕ → ℕ → Bool) (a b c : ℕ) → Reaches edge a b → Reaches edge b c → Reaches edge a c
@@ -13,9 +13,9 @@ reaches_join edge a b c h k = (h.0 ++ b ∷ k.0, walk_join edge a b c h.0 k.0 h.
 
 -- a set that has what one wait from a reaches, and what one wait from a member reaches, has all that a reaches
 walk_inside : (edge : ℕ → ℕ → Bool) (member : ℕ → Bool) → ((x y : ℕ) → member x ≡ true → edge x y ≡ true → member y ≡ true)
-    → (a u : ℕ) (way : List ℕ) → ((y : ℕ) → edge a y ≡ true → member y ≡ true) → IsWalk edge a way u → member u ≡ true
+    → (a u : ℕ) (path : List ℕ) → ((y : ℕ) → edge a y ≡ true → member y ≡ true) → IsWalk edge a path u → member u ≡ true
 walk_inside edge member closed a u [] first h = first u h
-walk_inside edge member closed a u (v ∷ way) first h = walk_inside edge member closed v u way (λ y. closed v y (first v h.0)) h.1
+walk_inside edge member closed a u (v ∷ path) first h = walk_inside edge member closed v u path (λ y. closed v y (first v h.0)) h.1
 
 pub reaches_inside : (edge : ℕ → ℕ → Bool) (member : ℕ → Bool) → ((x y : ℕ) → member x ≡ true → edge x y ≡ true → member y ≡ true) → (a u : ℕ)
     → ((y : ℕ) → edge a y ≡ true → member y ≡ true) → Reaches edge a u → member u ≡ true
@@ -26,9 +26,9 @@ pub reaches_among : (edge more : ℕ → ℕ → Bool) (member : ℕ → Bool) �
     → ((x y : ℕ) → member x ≡ true → edge x y ≡ true → more x y ≡ true) → (a u : ℕ) → member a ≡ true → Reaches edge a u → Reaches more a u
 reaches_among edge more member closed sub a u inside r = (r.0, by a r.0 inside r.1)
   where
-    by : (x : ℕ) (way : List ℕ) → member x ≡ true → IsWalk edge x way u → IsWalk more x way u
+    by : (x : ℕ) (path : List ℕ) → member x ≡ true → IsWalk edge x path u → IsWalk more x path u
     by x [] m h = sub x u m h
-    by x (v ∷ way) m h = (sub x v m h.0, by v way (closed x v m h.0) h.1)
+    by x (v ∷ path) m h = (sub x v m h.0, by v path (closed x v m h.0) h.1)
 
 pub reaches_more : (edge more : ℕ → ℕ → Bool) → ((x y : ℕ) → edge x y ≡ true → more x y ≡ true) → (a u : ℕ) → Reaches edge a u → Reaches more a u
 reaches_more edge more sub a u r = reaches_among edge more (λ _. true) (λ x y m e. refl) (λ x y m e. sub x y e) a u refl r
@@ -54,9 +54,9 @@ pub reaches_back : (edge back : ℕ → ℕ → Bool) (member : ℕ → Bool) �
     → ((x y : ℕ) → member x ≡ true → edge x y ≡ true → back y x ≡ true) → (a u : ℕ) → member a ≡ true → Reaches edge a u → Reaches back u a
 reaches_back edge back member closed turned a u inside r = by a r.0 inside r.1
   where
-    by : (x : ℕ) (way : List ℕ) → member x ≡ true → IsWalk edge x way u → Reaches back u x
+    by : (x : ℕ) (path : List ℕ) → member x ≡ true → IsWalk edge x path u → Reaches back u x
     by x [] m h = ([], turned x u m h)
-    by x (v ∷ way) m h = reaches_join back u v x (by v way (closed x v m h.0) h.1) ([], turned x v m h.0)
+    by x (v ∷ path) m h = reaches_join back u v x (by v path (closed x v m h.0) h.1) ([], turned x v m h.0)
 
 -- t is on a cycle exactly if it reaches itself
 pub on_cycle-reaches : (edge : ℕ → ℕ → Bool) (t : ℕ) → IsOnCycle edge t → Reaches edge t t
@@ -72,6 +72,6 @@ no_cycle-reaches edge t none r = none t (record { there = r; back = r })
 pub no_step-no_cycle : (edge : ℕ → ℕ → Bool) (t : ℕ) → ((u : ℕ) → edge t u ≡ false) → IsOnNoCycle edge t
 no_step-no_cycle edge t none v on = by on.there.0 on.there.1
   where
-    by : (way : List ℕ) → IsWalk edge t way v → ⊥
+    by : (path : List ℕ) → IsWalk edge t path v → ⊥
     by [] h = cc (none v)
-    by (w ∷ way) h = cc (none w, h.0)
+    by (w ∷ path) h = cc (none w, h.0)

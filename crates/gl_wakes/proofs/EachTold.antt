@@ -10,7 +10,7 @@ use Rattle.gl_steps.specs.declared.command.Answer.TheVariants as answer
 use Rattle.gl_steps.specs.declared.command.Command.{Command}
 use Rattle.gl_steps.specs.declared.command.Command.TheVariants as command
 use Rattle.gl_steps.specs.Step.{Accepts, Answers, Goes, Step, Unchanged, query_answer}
-use Rattle.gl_steps.specs.Tests.{may_want_memory, refusal_of}
+use Rattle.gl_steps.specs.Tests.{may_lack_memory, refusal_of}
 
 module _ (Holds : Told → Type 0) (s : State) (none : Holds []) (all : (now : State) → Holds (told s now))
     (but : (t : ℕ) (now : State) → Holds (told_but t s now)) where
@@ -52,7 +52,7 @@ module _ (Holds : Told → Type 0) (s : State) (none : Holds []) (all : (now : S
     pub told_holds : Step s c a list s' → Holds list
     told_holds step =
         ⊎_elim (λ h. goes (refusal_of s c) h)
-        (λ (want : (may_want_memory s c ≡ true) × Unchanged s a list s' (answer.Refused no.NoMemory)). subst Holds (sym want.1.nobody_told) none) step
+        (λ (lack : (may_lack_memory s c ≡ true) × Unchanged s a list s' (answer.Refused no.NoMemory)). subst Holds (sym lack.1.nobody_told) none) step
 
 pub each_told : (Holds : Told → Type 0) (s : State) (c : Command) (a : Answer) (list : Told) (s' : State) → Holds [] → ((now : State) → Holds (told s now))
     → ((t : ℕ) (now : State) → Holds (told_but t s now)) → Step s c a list s' → Holds list

@@ -38,7 +38,7 @@ use Rattle.gl_steps.proofs.WaitsEnd.{ends_waits}
 use Rattle.gl_steps.specs.Promises.{ends_wait_of, is_told, waits_on}
 use Rattle.gl_steps.specs.Served.{leaves_waiting}
 use Rattle.gl_steps.specs.Step.{Accepts, Answers, Goes, Step, Unchanged, query_answer}
-use Rattle.gl_steps.specs.Tests.{may_want_memory, refusal_of, tests_of}
+use Rattle.gl_steps.specs.Tests.{may_lack_memory, refusal_of, tests_of}
 use Rattle.gl_steps.specs.declared.command.Answer.{Answer}
 use Rattle.gl_steps.specs.declared.command.Answer.TheVariants as answer
 use Rattle.gl_steps.specs.declared.command.Command.{Command}
@@ -165,7 +165,7 @@ module _ (set : Slots) (s : State) (law : IsLawful s) (few : s.most ≤ most_slo
   pub step_spares : (c : Command) → Step s c a told s' → spares_waits set c a ≡ true → Spares set s s'
   step_spares c step spared =
       ⊎_elim (λ goes. by (refusal_of s c) refl goes)
-      (λ (want : (may_want_memory s c ≡ true) × Unchanged s a told s' (answer.Refused no.NoMemory)). same want.1.same) step
+      (λ (lack : (may_lack_memory s c ≡ true) × Unchanged s a told s' (answer.Refused no.NoMemory)). same lack.1.same) step
     where
       same : s' ≡ s → Spares set s s'
       same e = subst (Spares set s) (sym e) (spared_itself set s has)

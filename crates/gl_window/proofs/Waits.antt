@@ -29,7 +29,7 @@ use Rattle.gl_model.proofs.law.Orderly.{lawful_orderly}
 use Rattle.gl_model.proofs.law.Takes.{restatus_is}
 use Rattle.gl_model.proofs.queues.Waiters.{ahead_is, ahead_second, among_by_filter}
 use Rattle.gl_model.proofs.telling.Fronts.{in_no_queue, waits_there}
-use Rattle.gl_model.proofs.telling.Ways.{granted_stands, without_wait_other, without_wait_own, woken_same, woken_up}
+use Rattle.gl_model.proofs.telling.Between.{granted_stands, without_wait_other, without_wait_own, woken_same, woken_up}
 use Rattle.gl_model.specs.Calls.{Locks, WaitSettles, accepted_once, begun_since, enqueued, enters_at, unlocked, wanted}
 use Rattle.gl_model.specs.Lawful.{IsLawful}
 use Rattle.gl_model.specs.State.{SettledWithin, State, Txn, age_in, age_of, awake, blocks, condemned, granted_at, is_wait, is_waiting_at}
@@ -382,9 +382,9 @@ settled_condemned : (c : Victims) (k : ℕ) (z s' : State) (t v : ℕ) → statu
 settled_condemned c zero z s' t v st h = ap (λ x. status_of x v) h.1 ∙ st
 settled_condemned c (suc k) z s' t v st h = settled_condemned c k (condemned z h.0) s' t v (stays_condemned z h.0 v st) h.2
 
-walk_waits : (s : State) (v t : ℕ) (way : List ℕ) → IsWalk (waits_for s) v way t → (n : NodeId) × (m : Mode) × (status_of s v ≡ Some (Waiting n m))
+walk_waits : (s : State) (v t : ℕ) (path : List ℕ) → IsWalk (waits_for s) v path t → (n : NodeId) × (m : Mode) × (status_of s v ≡ Some (Waiting n m))
 walk_waits s v t [] h = let st = step_is s v t h in (st.0, st.1, st.2.waits)
-walk_waits s v t (u ∷ way) h = let st = step_is s v u h.0 in (st.0, st.1, st.2.waits)
+walk_waits s v t (u ∷ path) h = let st = step_is s v u h.0 in (st.0, st.1, st.2.waits)
 
 module _ (s : State) (t : ℕ) (n : NodeId) (m : Mode) (next : State) (a : Answer) (active : status_of s t ≡ Some Active)
     (is : a ≡ lock_answer (next.held t n) (status_of next t)) (grant : grants a ≡ true)
@@ -409,14 +409,14 @@ module _ (s : State) (t : ℕ) (n : NodeId) (m : Mode) (next : State) (a : Answe
       let v = h.0 in
       let back = (candidate-on_cycle s.victims (waits_for queued) t v h.1.is_member.is_member).back in
       let waits = walk_waits queued v t back.0 back.1 in
-      let fell : status_of next v ≡ Some Condemned =
+      let is_condemned : status_of next v ≡ Some Condemned =
       settled_condemned s.victims k (condemned queued v) next t v (condemned_now queued v _ waits.2) h.2 in
       split (v == t)
-      (λ e. not_so (Some Condemned) refl (ap (status_of next) (sym (same_number v t e)) ∙ fell))
+      (λ e. not_so (Some Condemned) refl (ap (status_of next) (sym (same_number v t e)) ∙ is_condemned))
       (λ e.
       let was : status_of s v ≡ Some (Waiting waits.0 waits.1) =
       ap (λ b. status_in (if b then restatus (Waiting n w) (s.txns t) else s.txns v)) (λ i. sym e i) ∙ waits.2 in
-      clash (still v waits.0 (ap (λ o. waits_at o waits.0) was ∙ same_node-refl waits.0)) (ap (λ o. waits_at o waits.0) fell))
+      clash (still v waits.0 (ap (λ o. waits_at o waits.0) was ∙ same_node-refl waits.0)) (ap (λ o. waits_at o waits.0) is_condemned))
 
   not_settled : (d : Detect) → WaitSettles d s.victims queued t next → ⊥
   not_settled ByWatcher h = not_so (Some (Waiting n w)) refl (ap (λ z. status_of z t) h ∙ own_waits)

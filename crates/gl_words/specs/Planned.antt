@@ -47,11 +47,11 @@ unfoldable pub faults_in : List Text → Kinds
 faults_in words = fault_of tool_app words
 
 -- the way of detection that the value of `--detect` names
-abbrev pub IsWay : Option Text → Detect → Type 0
-IsWay None AtBlock = Unit {0}
-IsWay None ByWatcher = ⊥
-IsWay (Some word) AtBlock = word ≡ codes "at-block"
-IsWay (Some word) ByWatcher = word ≡ codes "by-watcher"
+abbrev pub IsDetection : Option Text → Detect → Type 0
+IsDetection None AtBlock = Unit {0}
+IsDetection None ByWatcher = ⊥
+IsDetection (Some word) AtBlock = word ≡ codes "at-block"
+IsDetection (Some word) ByWatcher = word ≡ codes "by-watcher"
 
 -- the choice of victims that the value of `--victims` names
 abbrev pub IsChoice : Option Text → Victims → Type 0
@@ -71,12 +71,12 @@ IsNumberTo most word n = IsNumeral 10 (without_leading_plus word) × (digits_val
 
 -- what the values of the options ask for: neither number, or both and none of the optional lines
 abbrev pub IsAsked : Option Text → Option Text → Bool → Bool → Bool → Option Text → Option Text → Asked → Type 0
-IsAsked way choice listings schema savepoints None None (Script choices) =
-    IsWay way choices.detect × IsChoice choice choices.victims × (choices.listings ≡ listings) × (choices.schema ≡ schema)
+IsAsked detection choice listings schema savepoints None None (Script choices) =
+    IsDetection detection choices.detect × IsChoice choice choices.victims × (choices.listings ≡ listings) × (choices.schema ≡ schema)
     × (choices.savepoints ≡ savepoints)
-IsAsked way choice false false false (Some crew) (Some rounds) (Crew s r detect victims) =
-    IsNumberTo 128 crew s × IsNumberTo 100000 rounds r × IsWay way detect × IsChoice choice victims
-IsAsked way choice listings schema savepoints crew rounds asked = ⊥
+IsAsked detection choice false false false (Some crew) (Some rounds) (Crew s r detect victims) =
+    IsNumberTo 128 crew s × IsNumberTo 100000 rounds r × IsDetection detection detect × IsChoice choice victims
+IsAsked detection choice listings schema savepoints crew rounds asked = ⊥
 
 -- what the values that clap found ask for
 abbrev pub IsAskedIn : List Row → Asked → Type 0

@@ -2,7 +2,7 @@
 
 ghost use Rattle.std.specs.Prelude.{◌≡◌, ◌↔◌, ℕ, false, IfNone, IfOk, IfSome, map};
 ghost use Rattle.clap.specs.Words.{app_of, rule_of};
-ghost use Rattle.gl_words.specs.Planned.{AsksFor, IsAsked, IsChoice, IsNumberTo, IsPlanFor, IsWay, Reads, flag_rule, is_set, option_rule, text, tool_app};
+ghost use Rattle.gl_words.specs.Planned.{AsksFor, IsAsked, IsChoice, IsNumberTo, IsPlanFor, IsDetection, Reads, flag_rule, is_set, option_rule, text, tool_app};
 ghost use Rattle.gl_words.specs.declared.requests.Asked.{Asked as WhatIsAsked};
 
 use crate::requests::{Asked, Choices, Plan};
@@ -137,7 +137,7 @@ fn asked_of(
     ensures none { IfNone result ((asked : WhatIsAsked)
         → ¬ (IsAsked (text detect.entry) (text victims.entry) listings schema savepoints (text crew.entry) (text rounds.entry) asked)) }
 {
-    let detect = way(detect)?;
+    let detect = detection(detect)?;
     let victims = choice(victims)?;
     match (crew, rounds, listings || schema || savepoints) {
         (None, None, _) => Some(Asked::Script(Choices {
@@ -195,9 +195,9 @@ fn choice(word: Option<&str>) -> Option<Victims>
 }
 
 /// The way of detection with this name; without a word, at-block.
-fn way(word: Option<&str>) -> Option<Detect>
-    ensures some { IfSome result (λ detect. IsWay (text word.entry) detect) }
-    ensures none { IfNone result ((detect : Detect) → ¬ (IsWay (text word.entry) detect)) }
+fn detection(word: Option<&str>) -> Option<Detect>
+    ensures some { IfSome result (λ detect. IsDetection (text word.entry) detect) }
+    ensures none { IfNone result ((detect : Detect) → ¬ (IsDetection (text word.entry) detect)) }
 {
     match word {
         None | Some("at-block") => Some(Detect::AtBlock),

@@ -1,6 +1,6 @@
 //! A shared table and a manager, which answer the same commands.
 
-use crate::stage::{new_manager, play_on};
+use crate::stage::{new_manager, run_on};
 use crate::steps::{Alone, Made, Step, Through, take};
 use crate::story::{Entrant, Left, Story};
 use crate::wanted::same;
@@ -76,7 +76,7 @@ pub fn prepare(manager: &mut Manager, made: &mut Made, steps: &[Step]) {
 
 impl Alike {
     /// Plays with a share of a table.
-    pub fn plays<N: Naming, R: Wait + Abort>(
+    pub fn runs<N: Naming, R: Wait + Abort>(
         &self,
         rt: &R,
         alloc: Global,
@@ -106,7 +106,7 @@ pub fn answers_alike<R: Threads + Wait + Abort + Sync>(rt: &R, alloc: Global, st
     prepare(&mut beside, &mut made, story.first);
     prepare(&mut beside, &mut made, story.row);
     let manager = new_manager(rt, alloc, story.detect);
-    let closed = play_on(rt, alloc, manager, Telling::Always, 1, &Story::Alike(story));
+    let closed = run_on(rt, alloc, manager, Telling::Always, 1, &Story::Alike(story));
     same(rt, closed.book, beside.accepted());
     assert!(rt; closed.manager.board() == beside.board());
 }

@@ -312,8 +312,8 @@ fn frees<R: Threads + Wait + Sync + Abort>(rt: &R, alloc: Global, detect: Detect
         meeting: Meeting::new(),
     };
     let ended = ended_after(rt, alloc, manager, &work, 2);
-    let fallen = CrewFault::Refused(Refusal::TxnCondemned);
-    same(rt, ended.answer(), Err(fallen));
+    let condemned = CrewFault::Refused(Refusal::TxnCondemned);
+    same(rt, ended.answer(), Err(condemned));
     same(rt, ended.faults.iter().flatten().count(), 1);
     same(rt, ended.manager.counters().victims, 1);
     assert!(rt; nobody_lives(&ended.manager), "a transaction is left");

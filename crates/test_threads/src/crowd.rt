@@ -2,7 +2,7 @@
 
 use crate::actor::{Act, Entry, acts, escalates_alone};
 use crate::forest::{Forest, add_forest};
-use crate::stage::{new_manager, nobody_lives, play_on, suspect_on};
+use crate::stage::{new_manager, nobody_lives, run_on, suspect_on};
 use crate::story::{Entrant, Flag, Flags, Left, Story};
 use crate::tally::replays;
 use crate::wanted::same;
@@ -111,7 +111,7 @@ impl Crowd {
     }
 
     /// Sends random commands; the session with a watcher settles suspects until all others have ended.
-    pub fn plays<N: Naming, R: Wait + Abort>(
+    pub fn runs<N: Naming, R: Wait + Abort>(
         &self,
         rt: &R,
         alloc: Global,
@@ -171,7 +171,7 @@ fn commands_wanted<R: Env + Alloc>(rt: &R) -> Result<u32, Fail> {
 }
 
 /// Plays with 128 sessions. In the end nobody holds anything, and the book has all that was accepted.
-fn play_crowd<R: Threads + Wait + Abort + Sync>(
+fn run_crowd<R: Threads + Wait + Abort + Sync>(
     rt: &R,
     alloc: Global,
     detect: Detect,
@@ -186,7 +186,7 @@ fn play_crowd<R: Threads + Wait + Abort + Sync>(
         commands,
     };
     let players = ACTORS as u64 + 1;
-    let mut closed = play_on(
+    let mut closed = run_on(
         rt,
         alloc,
         manager,
@@ -215,13 +215,13 @@ fn all_free(manager: &mut Manager, nodes: &[NodeId]) -> bool {
 #[test]
 fn what_a_crowd_does_is_one_run_at_block(rt: HostRuntime) -> Result<(), Fail> {
     let commands = commands_wanted(&rt)?;
-    play_crowd(&rt, rt.alloc(), Detect::AtBlock, commands);
+    run_crowd(&rt, rt.alloc(), Detect::AtBlock, commands);
     Ok(())
 }
 
 #[test]
 fn what_a_crowd_does_is_one_run_by_watcher(rt: HostRuntime) -> Result<(), Fail> {
     let commands = commands_wanted(&rt)?;
-    play_crowd(&rt, rt.alloc(), Detect::ByWatcher, commands);
+    run_crowd(&rt, rt.alloc(), Detect::ByWatcher, commands);
     Ok(())
 }

@@ -1,6 +1,6 @@
 //! Watchers look and learn notes while sessions work.
 
-use crate::stage::{new_manager, nobody_lives, play_on};
+use crate::stage::{new_manager, nobody_lives, run_on};
 use crate::story::{Entrant, Left, Story};
 use crate::wanted::{allowed, same};
 use gl_catalog::{Answer, Command};
@@ -138,7 +138,7 @@ fn works<N: Naming, R: Wait + Abort>(
 
 impl Watched {
     /// Looks if it has a watcher, and works if not.
-    pub fn plays<N: Naming, R: Wait + Abort>(
+    pub fn runs<N: Naming, R: Wait + Abort>(
         &self,
         rt: &R,
         alloc: Global,
@@ -167,7 +167,7 @@ fn look_on<R: Threads + Wait + Abort + Sync>(rt: &R, alloc: Global, detect: Dete
     let root = allowed(rt, manager.add_inner(&[]));
     // The root, and the begins, locks and commits of four sessions.
     let story = Watched { root, last: 1201 };
-    let closed = play_on(
+    let closed = run_on(
         rt,
         alloc,
         manager,

@@ -360,7 +360,7 @@ impl<N: Naming, R: Wait + Abort> Player<'_, '_, N, R> {
         }
     }
 
-    fn plays(&mut self, deeds: &[Deed]) {
+    fn runs(&mut self, deeds: &[Deed]) {
         for (place, deed) in deeds.iter().enumerate() {
             let (name, player, _) = self.at;
             self.at = (name, player, place);
@@ -408,7 +408,7 @@ pub fn performs<N: Naming, R: Wait + Abort>(
         flags,
         at: (tale.name, place, 0),
     };
-    player.plays(tale.part(place));
+    player.runs(tale.part(place));
     Left {
         share: player.ends(),
         diary: Vec::new(alloc),

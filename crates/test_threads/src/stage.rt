@@ -34,7 +34,7 @@ fn enact_under_name<N: Naming + Send + Sync, R: Threads + Wait + Abort + Sync>(
     let Ok((shared, shares, watchers)) = Shared::<N>::new(rt, alloc, parts) else {
         return None;
     };
-    let shares = story.play(rt, alloc, &shared, shares, watchers);
+    let shares = story.run(rt, alloc, &shared, shares, watchers);
     match gather(rt, shared, shares) {
         Ok(closed) => Some(closed),
         Err(NotAll { shared, shares: _ }) => {
@@ -65,7 +65,7 @@ fn try_on<R: Threads + Wait + Abort + Sync>(
 }
 
 /// The same; there must be memory.
-pub fn play_on<R: Threads + Wait + Abort + Sync>(
+pub fn run_on<R: Threads + Wait + Abort + Sync>(
     rt: &R,
     alloc: Global,
     manager: Manager,
@@ -107,7 +107,7 @@ pub fn tell_over<R: Threads + Wait + Abort + Sync>(
     } else {
         1
     };
-    let closed = play_on(
+    let closed = run_on(
         rt,
         alloc,
         manager,

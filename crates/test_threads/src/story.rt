@@ -180,10 +180,10 @@ impl Story {
         flags: &Flags,
     ) -> Left<N> {
         match self {
-            Story::Alike(story) => story.plays(rt, alloc, table, entrant),
-            Story::Crowd(story) => story.plays(rt, alloc, table, entrant, flags),
+            Story::Alike(story) => story.runs(rt, alloc, table, entrant),
+            Story::Crowd(story) => story.runs(rt, alloc, table, entrant, flags),
             Story::Tale(tale, made) => performs(rt, alloc, table, entrant, flags, tale, made),
-            Story::Watched(story) => story.plays(rt, alloc, table, entrant),
+            Story::Watched(story) => story.runs(rt, alloc, table, entrant),
         }
     }
 
@@ -204,7 +204,7 @@ impl Story {
     }
 
     /// Plays with the shares and the watchers of a table, and returns the shares.
-    pub fn play<N: Naming + Send + Sync, R: Threads + Wait + Abort + Sync>(
+    pub fn run<N: Naming + Send + Sync, R: Threads + Wait + Abort + Sync>(
         &self,
         rt: &R,
         alloc: Global,

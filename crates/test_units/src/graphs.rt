@@ -204,7 +204,7 @@ fn open(alloc: Global, limits: Option<(u32, u32)>) -> Graph {
 }
 
 /// Plays a scenario on a new graph.
-fn play(rt: &impl Abort, alloc: Global, story: Story) {
+fn run_scenario(rt: &impl Abort, alloc: Global, story: Story) {
     let (name, limits, parts) = story;
     let mut graph = open(alloc, limits);
     for steps in parts {
@@ -216,9 +216,9 @@ fn play(rt: &impl Abort, alloc: Global, story: Story) {
 }
 
 /// Plays each scenario on its own graph.
-fn play_all(rt: &impl Abort, alloc: Global, stories: &[Story]) {
+fn run_scenarios(rt: &impl Abort, alloc: Global, stories: &[Story]) {
     for story in stories {
-        play(rt, alloc, *story);
+        run_scenario(rt, alloc, *story);
     }
 }
 
@@ -460,7 +460,7 @@ fn graphs_grow_within_their_limits(rt: HostRuntime) {
         ("a stale name names nothing", None, &[FILED, BOUND, STALE]),
         ("no path closes", None, &[CLOSES]),
     ];
-    play_all(&rt, rt.alloc(), STORIES);
+    run_scenarios(&rt, rt.alloc(), STORIES);
     root_path_laws();
 }
 

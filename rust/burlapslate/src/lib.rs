@@ -96,6 +96,7 @@
 #![deny(unsafe_code)] // But for `sys`.
 #![deny(clippy::undocumented_unsafe_blocks)]
 
+mod begin_queue;
 mod board;
 mod listing;
 mod manager;
@@ -107,7 +108,6 @@ mod session;
 #[allow(unsafe_code)]
 mod sys;
 mod table;
-mod turns;
 mod watcher;
 
 pub use board::{Board, SlotIter, Slots};

@@ -1,15 +1,15 @@
 //! A table that threads share.
 
+use crate::begin_queue::BeginQueue;
 use crate::board::{Board, Slots};
 use crate::manager::{Manager, Options, Wait};
 use crate::mode::{Detect, Mode, Victims};
 use crate::names::{Node, Row, Txn};
 use crate::refusal::Refusal;
 use crate::session::{deadline, Session, Stop};
-use crate::turns::Turns;
 use crate::watcher::Watcher;
 use crate::SLOTS;
-use asks::{Hold, Tasks};
+use asks::{Section, Tasks};
 use instants::{no_instants, InstantLock};
 use std::fmt;
 use std::sync::{Arc, Condvar, Mutex, MutexGuard, PoisonError};
@@ -60,7 +60,7 @@ struct Guarded {
     /// Whether the threads that watch over the table must end.
     is_unwatched: bool,
     /// The threads that sleep for a slot: no slot is free while there is one.
-    turns: Turns,
+    begin_queue: BeginQueue,
     /// By slot, the thread that sleeps on a path.
     paths: Box<[Option<Path>]>,
     /// The waits for which no thread sleeps.
@@ -102,7 +102,7 @@ impl Table {
             manager: Manager::with_options(options)?,
             waited: 0,
             is_unwatched: false,
-            turns: Turns::new(),
+            begin_queue: BeginQueue::new(),
             paths: no_paths()?,
             instants: no_instants()?,
             tasks: Tasks::new(),
@@ -368,13 +368,13 @@ impl Table {
     /// }
     /// thread::scope(|scope| {
     ///     scope.spawn(|| table.watch_over(Duration::ZERO).unwrap());
-    ///     let fell = scope.spawn(move || {
+    ///     let victim = scope.spawn(move || {
     ///         let end = younger.lock(db, Mode::X);
     ///         younger.abort();
     ///         end
     ///     });
     ///     assert_eq!(older.lock(db, Mode::X), Ok(Mode::X));
-    ///     assert_eq!(fell.join().unwrap(), Err(Stop::Victim));
+    ///     assert_eq!(victim.join().unwrap(), Err(Stop::Victim));
     ///     table.end_watch();
     /// });
     /// # Ok::<(), burlapslate::Refusal>(())
@@ -444,16 +444,16 @@ impl Table {
             Err(Refusal::TooManyTxns) => {}
             begun => return Ok(Some(Session::of(self, begun?))),
         }
-        let place = guarded.turns.join(since)?;
+        let place = guarded.begin_queue.join(since)?;
         loop {
             drop(guarded);
             park_until(until);
             guarded = self.guarded();
-            if let Some(begun) = guarded.turns.take(place) {
+            if let Some(begun) = guarded.begin_queue.take(place) {
                 return Ok(Some(Session::of(self, begun?)));
             }
             if until.is_some_and(|until| Instant::now() >= until) {
-                guarded.turns.leave(place);
+                guarded.begin_queue.leave(place);
                 return Ok(None);
             }
         }
@@ -474,11 +474,11 @@ impl Table {
     /// before it sleeps.
     fn sleep<'t>(
         &'t self,
-        mut guarded: Hold<'t>,
+        mut guarded: Section<'t>,
         txn: Txn,
         wait_for: Wait,
         until: Option<Instant>,
-    ) -> (Hold<'t>, Result<Mode, Stop>) {
+    ) -> (Section<'t>, Result<Mode, Stop>) {
         let ended = &self.ended[txn.slot()];
         let mut is_late = false;
         loop {
@@ -535,7 +535,7 @@ impl Table {
 
     /// Settles every suspect of a board, the youngest first, until the watches end. The latch is free between two of
     /// them, because each searches the whole graph of waits.
-    fn settle_all<'t>(&'t self, mut guarded: Hold<'t>, board: &mut Board) -> Hold<'t> {
+    fn settle_all<'t>(&'t self, mut guarded: Section<'t>, board: &mut Board) -> Section<'t> {
         while let Some(slot) = board.youngest(board.suspects()) {
             if guarded.is_unwatched {
                 break;
@@ -563,7 +563,7 @@ impl Table {
     }
 
     /// Sleeps for this time, or until the watches end.
-    fn rest<'t>(&'t self, mut guarded: Hold<'t>, time: Duration) -> Hold<'t> {
+    fn rest<'t>(&'t self, mut guarded: Section<'t>, time: Duration) -> Section<'t> {
         let until = deadline(time);
         let mut is_late = time.is_zero();
         while !is_late && !guarded.is_unwatched {
@@ -577,8 +577,8 @@ impl Table {
 
     /// Acquires the latch. A thread can panic only in a closure of [`with`](Table::with), which changes
     /// nothing: so the guarded state is whole also then.
-    fn guarded(&self) -> Hold<'_> {
-        Hold::of(self)
+    fn guarded(&self) -> Section<'_> {
+        Section::of(self)
     }
 
     fn locked(&self) -> MutexGuard<'_, Guarded> {
@@ -644,11 +644,15 @@ fn begin_since(manager: &mut Manager, since: Option<u64>) -> Result<Txn, Refusal
 /// After a call that may have ended a transaction: begins for the threads that sleep for a slot, while one is
 /// free. So no critical section leaves a slot free while a thread sleeps for one.
 fn hand_on(guarded: &mut Guarded) {
-    let Guarded { manager, turns, .. } = guarded;
-    while turns.has_next() {
-        match begin_since(manager, turns.next_since()) {
+    let Guarded {
+        manager,
+        begin_queue,
+        ..
+    } = guarded;
+    while begin_queue.has_next() {
+        match begin_since(manager, begin_queue.next_since()) {
             Err(Refusal::TooManyTxns) => return,
-            begun => turns.serve(begun),
+            begun => begin_queue.serve(begun),
         }
     }
 }
@@ -661,14 +665,14 @@ fn park_until(until: Option<Instant>) {
     }
 }
 
-fn wait<'t>(on: &Condvar, mut guarded: Hold<'t>) -> Hold<'t> {
+fn wait<'t>(on: &Condvar, mut guarded: Section<'t>) -> Section<'t> {
     let held = guarded.guarded.take();
     guarded.guarded = held.map(|held| on.wait(held).unwrap_or_else(PoisonError::into_inner));
     guarded
 }
 
 /// Waits, but no longer than to a moment: whether that has come.
-fn wait_until<'t>(on: &Condvar, mut guarded: Hold<'t>, until: Instant) -> (Hold<'t>, bool) {
+fn wait_until<'t>(on: &Condvar, mut guarded: Section<'t>, until: Instant) -> (Section<'t>, bool) {
     let left = until.saturating_duration_since(Instant::now());
     let held = guarded.guarded.take().map(|held| {
         let waited = on.wait_timeout(held, left);

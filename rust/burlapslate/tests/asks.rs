@@ -143,12 +143,12 @@ fn poll<F: Future>(future: &mut Pin<&mut F>, waker: &Waker) -> Poll<F::Output> {
 fn ends(act: impl FnOnce(&Store, Session<'_>, Txn), wanted: Result<Mode, Stop>) {
     let store = Store::new(Detect::AtBlock);
     let (bell, waker) = store.bell();
-    let (mut holder, mut asker) = (store.begin(), store.begin());
-    let name = asker.txn();
+    let (mut holder, mut requester) = (store.begin(), store.begin());
+    let name = requester.txn();
     holder.lock_path(store.low, Mode::X).unwrap();
-    asker.lock_path(store.file, Mode::IX).unwrap();
-    asker.lock_path(store.below, Mode::IX).unwrap();
-    let mut lock = pin!(asker.lock_async(store.low, Mode::X));
+    requester.lock_path(store.file, Mode::IX).unwrap();
+    requester.lock_path(store.below, Mode::IX).unwrap();
+    let mut lock = pin!(requester.lock_async(store.low, Mode::X));
     assert_eq!(poll(&mut lock, &waker), Poll::Pending);
     assert_eq!(store.waits_for(name), Some(store.low));
     assert_eq!(bell.rung(), 0);
@@ -215,7 +215,7 @@ fn what_need_not_wait_is_done_at_once() {
 
 /// A thread that is to sleep wakes the tasks first whose wait it ends: nobody else would ever end its own.
 #[test]
-fn a_thread_fells_a_task() {
+fn a_thread_condemns_a_task() {
     let store = Store::new(Detect::AtBlock);
     let (mut older, mut younger) = (store.begin(), store.begin());
     for session in [&mut older, &mut younger] {
@@ -237,7 +237,7 @@ fn a_thread_fells_a_task() {
 
 /// Who watches wakes the tasks before it rests.
 #[test]
-fn a_watch_fells_a_task() {
+fn a_watch_condemns_a_task() {
     let store = Store::new(Detect::ByWatcher);
     let (bell, waker) = store.bell();
     let (mut older, mut younger) = (store.begin(), store.begin());
@@ -249,14 +249,14 @@ fn a_watch_fells_a_task() {
     let table = &store.table;
     thread::scope(|scope| {
         {
-            let mut fell = pin!(younger.lock_async(store.root, Mode::X));
-            assert_eq!(poll(&mut fell, &waker), Poll::Pending);
+            let mut victim = pin!(younger.lock_async(store.root, Mode::X));
+            assert_eq!(poll(&mut victim, &waker), Poll::Pending);
             scope.spawn(|| table.watch_over(Duration::from_secs(60)).unwrap());
             let limit = Instant::now() + Duration::from_secs(20);
             while bell.rung() == 0 && Instant::now() < limit {
                 thread::yield_now();
             }
-            assert_eq!(poll(&mut fell, &waker), Poll::Ready(Err(Stop::Victim)));
+            assert_eq!(poll(&mut victim, &waker), Poll::Ready(Err(Stop::Victim)));
         }
         drop(younger);
         assert_eq!(poll(&mut granted, &waker), Poll::Ready(Ok(Mode::X)));
@@ -268,11 +268,11 @@ fn a_watch_fells_a_task() {
 fn a_path_goes_on() {
     let store = Store::new(Detect::AtBlock);
     let (bell, waker) = store.bell();
-    let (mut first, mut second, mut asker) = (store.begin(), store.begin(), store.begin());
-    let name = asker.txn();
+    let (mut first, mut second, mut requester) = (store.begin(), store.begin(), store.begin());
+    let name = requester.txn();
     first.lock_path(store.low, Mode::S).unwrap();
     second.lock_path(store.below, Mode::S).unwrap();
-    let mut lock = pin!(asker.lock_path_async(store.low, Mode::X));
+    let mut lock = pin!(requester.lock_path_async(store.low, Mode::X));
     assert_eq!(poll(&mut lock, &waker), Poll::Pending);
     assert_eq!(store.waits_for(name), Some(store.below));
     second.commit().unwrap();
@@ -289,11 +289,11 @@ fn a_path_goes_on() {
 fn a_path_begins_anew() {
     let store = Store::new(Detect::AtBlock);
     let (bell, waker) = store.bell();
-    let (mut first, mut asker) = (store.begin(), store.begin());
-    let name = asker.txn();
+    let (mut first, mut requester) = (store.begin(), store.begin());
+    let name = requester.txn();
     first.lock_path(store.low, Mode::X).unwrap();
     first.lock_path(store.above, Mode::IX).unwrap();
-    let mut lock = pin!(asker.lock_path_async(store.low, Mode::X));
+    let mut lock = pin!(requester.lock_path_async(store.low, Mode::X));
     assert_eq!(poll(&mut lock, &waker), Poll::Pending);
     first.rekey(store.low, store.index, 150).unwrap();
     assert_eq!(bell.rung(), 1);
@@ -308,18 +308,18 @@ fn a_path_begins_anew() {
 fn a_path_is_cancelled_on_its_way() {
     let store = Store::new(Detect::AtBlock);
     let (_bell, waker) = store.bell();
-    let (mut first, mut asker) = (store.begin(), store.begin());
-    let name = asker.txn();
+    let (mut first, mut requester) = (store.begin(), store.begin());
+    let name = requester.txn();
     first.lock_path(store.below, Mode::S).unwrap();
     {
-        let mut lock = pin!(asker.lock_path_async(store.low, Mode::X));
+        let mut lock = pin!(requester.lock_path_async(store.low, Mode::X));
         assert_eq!(poll(&mut lock, &waker), Poll::Pending);
         first.commit().unwrap();
         assert_eq!(store.table.cancel(name), Ok(()));
         assert_eq!(poll(&mut lock, &waker), Poll::Ready(Err(Stop::Cancelled)));
     }
     assert_eq!(store.table.cancel(name), Err(Refusal::NotWaiting));
-    assert_eq!(asker.lock_path(store.low, Mode::X), Ok(Mode::X));
+    assert_eq!(requester.lock_path(store.low, Mode::X), Ok(Mode::X));
 }
 
 /// One that is dropped there is no path any more.
@@ -327,17 +327,17 @@ fn a_path_is_cancelled_on_its_way() {
 fn a_path_is_dropped_on_its_way() {
     let store = Store::new(Detect::AtBlock);
     let (_bell, waker) = store.bell();
-    let (mut first, mut asker) = (store.begin(), store.begin());
-    let name = asker.txn();
+    let (mut first, mut requester) = (store.begin(), store.begin());
+    let name = requester.txn();
     first.lock_path(store.below, Mode::S).unwrap();
     {
-        let mut lock = pin!(asker.lock_path_async(store.low, Mode::X));
+        let mut lock = pin!(requester.lock_path_async(store.low, Mode::X));
         assert_eq!(poll(&mut lock, &waker), Poll::Pending);
         first.commit().unwrap();
     }
     assert_eq!(store.table.cancel(name), Err(Refusal::NotWaiting));
     assert_eq!(store.held(name, store.below), Mode::IX);
-    asker.commit().unwrap();
+    requester.commit().unwrap();
 }
 
 /// What a waker does whenever it, or a copy of it, is dropped.
@@ -360,8 +360,8 @@ fn waker_with(act: &OnDrop) -> Waker {
 fn a_path_is_cancelled_between_two_locks() {
     let store = Store::new(Detect::AtBlock);
     let (_bell, waker) = store.bell();
-    let (mut first, mut second, mut asker) = (store.begin(), store.begin(), store.begin());
-    let (name, answer) = (asker.txn(), Arc::new(Mutex::new(None)));
+    let (mut first, mut second, mut requester) = (store.begin(), store.begin(), store.begin());
+    let (name, answer) = (requester.txn(), Arc::new(Mutex::new(None)));
     let (table, answered) = (Arc::clone(&store.table), Arc::clone(&answer));
     let is_armed = Arc::new(AtomicBool::new(false));
     let armed = Arc::clone(&is_armed);
@@ -373,7 +373,7 @@ fn a_path_is_cancelled_between_two_locks() {
     first.lock_path(store.low, Mode::S).unwrap();
     second.lock_path(store.below, Mode::S).unwrap();
     {
-        let mut lock = pin!(asker.lock_path_async(store.low, Mode::X));
+        let mut lock = pin!(requester.lock_path_async(store.low, Mode::X));
         let own = waker_with(&act);
         assert_eq!(poll(&mut lock, &own), Poll::Pending);
         assert_eq!(store.waits_for(name), Some(store.below));
@@ -404,17 +404,17 @@ fn a_path_is_cancelled_between_two_locks() {
 fn a_path_is_leaked_on_its_way() {
     let store = Store::new(Detect::AtBlock);
     let (_bell, waker) = store.bell();
-    let (mut first, mut second, mut asker) = (store.begin(), store.begin(), store.begin());
-    let name = asker.txn();
+    let (mut first, mut second, mut requester) = (store.begin(), store.begin(), store.begin());
+    let name = requester.txn();
     first.lock_path(store.below, Mode::S).unwrap();
     second.lock_path(store.above, Mode::S).unwrap();
-    let mut path = Box::pin(asker.lock_path_async(store.low, Mode::X));
+    let mut path = Box::pin(requester.lock_path_async(store.low, Mode::X));
     assert_eq!(poll(&mut path.as_mut(), &waker), Poll::Pending);
     std::mem::forget(path);
     first.commit().unwrap();
     assert_eq!(store.table.cancel(name), Ok(()));
     {
-        let mut lock = pin!(asker.lock_async(store.above, Mode::IX));
+        let mut lock = pin!(requester.lock_async(store.above, Mode::IX));
         assert_eq!(poll(&mut lock, &waker), Poll::Pending);
         assert_eq!(store.waits_for(name), Some(store.above));
         second.commit().unwrap();
@@ -422,7 +422,7 @@ fn a_path_is_leaked_on_its_way() {
         assert_eq!(poll(&mut lock, &waker), Poll::Ready(Ok(Mode::IX)));
     }
     assert_eq!(store.table.cancel(name), Err(Refusal::NotWaiting));
-    asker.commit().unwrap();
+    requester.commit().unwrap();
 }
 
 #[test]
@@ -459,21 +459,21 @@ fn a_row_is_waited_for() {
 fn a_future_is_dropped_while_it_waits() {
     let store = Store::new(Detect::AtBlock);
     let (bell, waker) = store.bell();
-    let (mut holder, mut asker, mut behind) = (store.begin(), store.begin(), store.begin());
-    let name = asker.txn();
+    let (mut holder, mut requester, mut behind) = (store.begin(), store.begin(), store.begin());
+    let name = requester.txn();
     holder.lock(store.root, Mode::S).unwrap();
     let mut late = pin!(behind.lock_async(store.root, Mode::S));
     {
-        let mut lock = pin!(asker.lock_async(store.root, Mode::X));
+        let mut lock = pin!(requester.lock_async(store.root, Mode::X));
         assert_eq!(poll(&mut lock, &waker), Poll::Pending);
         assert_eq!(poll(&mut late, &waker), Poll::Pending);
     }
     assert_eq!(store.waits_for(name), None);
     assert_eq!(bell.rung(), 1);
     assert_eq!(poll(&mut late, &waker), Poll::Ready(Ok(Mode::S)));
-    assert_eq!(asker.lock(store.root, Mode::S), Ok(Mode::S));
+    assert_eq!(requester.lock(store.root, Mode::S), Ok(Mode::S));
     holder.commit().unwrap();
-    asker.commit().unwrap();
+    requester.commit().unwrap();
 }
 
 /// Dropped at the moment of its grant: the lock is the transaction's.
@@ -481,18 +481,18 @@ fn a_future_is_dropped_while_it_waits() {
 fn a_future_is_dropped_at_its_grant() {
     let store = Store::new(Detect::AtBlock);
     let (bell, waker) = store.bell();
-    let (mut holder, mut asker) = (store.begin(), store.begin());
-    let name = asker.txn();
+    let (mut holder, mut requester) = (store.begin(), store.begin());
+    let name = requester.txn();
     holder.lock(store.root, Mode::X).unwrap();
     {
-        let mut lock = pin!(asker.lock_async(store.root, Mode::S));
+        let mut lock = pin!(requester.lock_async(store.root, Mode::S));
         assert_eq!(poll(&mut lock, &waker), Poll::Pending);
         holder.commit().unwrap();
     }
     assert_eq!(bell.rung(), 1);
     assert_eq!(store.held(name, store.root), Mode::S);
-    assert_eq!(asker.lock(store.root, Mode::S), Ok(Mode::S));
-    drop(asker);
+    assert_eq!(requester.lock(store.root, Mode::S), Ok(Mode::S));
+    drop(requester);
     assert_eq!(store.table.with(|m| m.group(store.root)), Ok(Mode::NL));
 }
 
@@ -500,9 +500,9 @@ fn a_future_is_dropped_at_its_grant() {
 #[test]
 fn a_future_is_dropped_before_it_asks() {
     let store = Store::new(Detect::AtBlock);
-    let mut asker = store.begin();
-    drop(asker.lock_async(store.root, Mode::X));
-    assert_eq!(store.held(asker.txn(), store.root), Mode::NL);
+    let mut requester = store.begin();
+    drop(requester.lock_async(store.root, Mode::X));
+    assert_eq!(store.held(requester.txn(), store.root), Mode::NL);
 }
 
 /// One that is leaked waits on, and its session ends that.
@@ -510,16 +510,16 @@ fn a_future_is_dropped_before_it_asks() {
 fn a_future_is_leaked() {
     let store = Store::new(Detect::AtBlock);
     let (bell, waker) = store.bell();
-    let (mut holder, mut asker) = (store.begin(), store.begin());
+    let (mut holder, mut requester) = (store.begin(), store.begin());
     holder.lock(store.root, Mode::X).unwrap();
-    let mut lock = Box::pin(asker.lock_async(store.root, Mode::S));
+    let mut lock = Box::pin(requester.lock_async(store.root, Mode::S));
     assert_eq!(poll(&mut lock.as_mut(), &waker), Poll::Pending);
     std::mem::forget(lock);
     assert_eq!(
-        asker.lock(store.root, Mode::S),
+        requester.lock(store.root, Mode::S),
         Err(Stop::Refused(Refusal::TxnWaiting))
     );
-    drop(asker);
+    drop(requester);
     assert_eq!(bell.rung(), 1);
     holder.commit().unwrap();
     assert_eq!(store.table.with(|m| m.group(store.root)), Ok(Mode::NL));
@@ -531,9 +531,9 @@ fn the_last_waker_is_woken() {
     let store = Store::new(Detect::AtBlock);
     let (first_bell, first_waker) = store.bell();
     let (bell, waker) = store.bell();
-    let (mut holder, mut asker) = (store.begin(), store.begin());
+    let (mut holder, mut requester) = (store.begin(), store.begin());
     holder.lock(store.root, Mode::X).unwrap();
-    let mut lock = pin!(asker.lock_async(store.root, Mode::S));
+    let mut lock = pin!(requester.lock_async(store.root, Mode::S));
     assert_eq!(poll(&mut lock, &first_waker), Poll::Pending);
     assert_eq!(poll(&mut lock, &first_waker), Poll::Pending);
     let first = Arc::downgrade(&first_bell);
@@ -553,16 +553,16 @@ fn the_last_waker_is_woken() {
 fn a_deadline_comes() {
     let store = Store::new(Detect::AtBlock);
     let (bell, waker) = store.bell();
-    let (mut holder, mut asker, mut patient) = (store.begin(), store.begin(), store.begin());
+    let (mut holder, mut requester, mut patient) = (store.begin(), store.begin(), store.begin());
     let late = Instant::now() + Duration::from_secs(60);
     holder.lock(store.root, Mode::X).unwrap();
     patient.set_deadline(Some(late));
     let mut other = pin!(patient.lock_async(store.root, Mode::S));
     assert_eq!(poll(&mut other, &waker), Poll::Pending);
     let soon = Instant::now() + Duration::from_millis(2);
-    asker.set_deadline(Some(soon));
+    requester.set_deadline(Some(soon));
     {
-        let mut lock = pin!(asker.lock_path_async(store.file, Mode::X));
+        let mut lock = pin!(requester.lock_path_async(store.file, Mode::X));
         if poll(&mut lock, &waker) == Poll::Pending {
             thread::sleep(Duration::from_millis(3));
             assert_eq!(bell.rung(), 0);
@@ -571,7 +571,7 @@ fn a_deadline_comes() {
             assert_eq!(poll(&mut lock, &waker), Poll::Ready(Err(Stop::TimedOut)));
         }
     }
-    assert_eq!(store.waits_for(asker.txn()), None);
+    assert_eq!(store.waits_for(requester.txn()), None);
     holder.commit().unwrap();
     assert_eq!(poll(&mut other, &waker), Poll::Ready(Ok(Mode::S)));
     assert_eq!(store.table.expire(), None);
@@ -624,11 +624,11 @@ fn drops_and_grants() {
         });
         for run in 0..RUNS {
             let mut holder = store.begin();
-            let mut asker = store.begin();
-            let asking = asker.txn();
+            let mut requester = store.begin();
+            let asking = requester.txn();
             holder.lock(store.root, Mode::X).unwrap();
             let before = bell.rung();
-            let mut lock = Box::pin(asker.lock_path_async(store.root, Mode::X));
+            let mut lock = Box::pin(requester.lock_path_async(store.root, Mode::X));
             assert_eq!(poll(&mut lock.as_mut(), &waker), Poll::Pending);
             *name.lock().unwrap() = Some(holder.leave());
             gate.wait();
@@ -642,8 +642,8 @@ fn drops_and_grants() {
             assert_eq!(store.waits_for(asking), None);
             assert!(held == Mode::X || held == Mode::NL);
             assert!(bell.rung() <= before + 1);
-            assert_eq!(asker.lock(store.root, Mode::X), Ok(Mode::X));
-            asker.commit().unwrap();
+            assert_eq!(requester.lock(store.root, Mode::X), Ok(Mode::X));
+            requester.commit().unwrap();
         }
     });
     drop(waker);

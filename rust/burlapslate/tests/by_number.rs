@@ -236,7 +236,7 @@ fn spelled_refusal<E: Engine>(engine: &mut E, refusal: Refusal) -> String {
     match refusal {
         Refusal::NeedParents(node) => format!("needs {}", spelled(engine, node)),
         Refusal::HeldChild(_) => "holds a child".to_owned(), // One of them, whichever that is.
-        // A row without a node is held by nobody, so not by the asker.
+        // A row without a node is held by nobody, so not by the requester.
         Refusal::NoSuchNode | Refusal::NotHeld | Refusal::NeedExclusive => "not held".to_owned(),
         other => format!("{other:?}"),
     }
@@ -374,7 +374,7 @@ impl Dice {
 }
 
 /// Plays with these dice, and answers what the engines counted.
-fn play(options: Options, seed: u64) -> Counters {
+fn run_scenario(options: Options, seed: u64) -> Counters {
     let mut numbers = Numbers(Store::new(options, Manager::add_row_file));
     let mut nodes = Nodes::new(Store::new(options, Manager::add_file));
     let first = frame_in_ix(&mut numbers.0); // As the other has it, so that both count the same.
@@ -419,7 +419,7 @@ fn rows_by_number_are_locked_as_nodes() {
             Options::new(Detect::AtBlock).victims(Victims::Fewest),
             Options::new(Detect::ByWatcher),
         ] {
-            let counted = play(options, seed);
+            let counted = run_scenario(options, seed);
             moved += counted.moved;
             released += counted.released_children;
         }

@@ -86,7 +86,7 @@ struct Member<'c> {
     /// Whether anybody may end its transaction.
     is_game: bool,
     adds: [u64; ACCOUNTS],
-    fell: usize,
+    times_victim: usize,
 }
 
 impl Member<'_> {
@@ -309,7 +309,7 @@ impl Member<'_> {
                 break;
             }
         }
-        self.fell += usize::from(end == Err(Stop::Victim));
+        self.times_victim += usize::from(end == Err(Stop::Victim));
         self.crowd.game.lock().unwrap()[self.number] = Txn::NONE;
         if end == Err(Stop::Victim) || self.pick(8) == 0 {
             return; // It is dropped, and so aborted.
@@ -335,7 +335,7 @@ fn look_on(crowd: &Crowd, detect: Detect, is_over: &AtomicBool) {
     }
 }
 
-fn play(detect: Detect, victims: Victims, slots: usize) {
+fn run_crowd(detect: Detect, victims: Victims, slots: usize) {
     let crowd = Crowd::new(detect, victims, slots).unwrap();
     let is_over = AtomicBool::new(false);
     let members = thread::scope(|scope| {
@@ -353,12 +353,12 @@ fn play(detect: Detect, victims: Victims, slots: usize) {
                         dice: 0x9e37_79b9_7f4a_7c15u64.wrapping_mul(number as u64 + 1),
                         is_game: false,
                         adds: [0; ACCOUNTS],
-                        fell: 0,
+                        times_victim: 0,
                     };
                     for _ in 0..ROUNDS {
                         member.transaction();
                     }
-                    (member.adds, member.fell)
+                    (member.adds, member.times_victim)
                 })
             })
             .collect();
@@ -386,25 +386,25 @@ fn play(detect: Detect, victims: Victims, slots: usize) {
             let number = number as u64;
             assert_eq!(m.row_node(Row { file, number }), None);
         }
-        let fell: usize = members.iter().map(|(_, fell)| fell).sum();
-        assert!(m.counters().condemned >= fell as u64);
+        let times_victim: usize = members.iter().map(|(_, times_victim)| times_victim).sum();
+        assert!(m.counters().condemned >= times_victim as u64);
     });
 }
 
 #[test]
 fn a_crowd_at_block() {
-    play(Detect::AtBlock, Victims::Youngest, SLOTS);
-    play(Detect::AtBlock, Victims::Fewest, SLOTS);
+    run_crowd(Detect::AtBlock, Victims::Youngest, SLOTS);
+    run_crowd(Detect::AtBlock, Victims::Fewest, SLOTS);
 }
 
 #[test]
 fn a_crowd_by_watcher() {
-    play(Detect::ByWatcher, Victims::Youngest, SLOTS);
-    play(Detect::ByWatcher, Victims::Fewest, SLOTS);
+    run_crowd(Detect::ByWatcher, Victims::Youngest, SLOTS);
+    run_crowd(Detect::ByWatcher, Victims::Fewest, SLOTS);
 }
 
 #[test]
 fn a_crowd_over_fewer_slots() {
-    play(Detect::AtBlock, Victims::Youngest, 16);
-    play(Detect::ByWatcher, Victims::Youngest, 16);
+    run_crowd(Detect::AtBlock, Victims::Youngest, 16);
+    run_crowd(Detect::ByWatcher, Victims::Youngest, 16);
 }

@@ -33,7 +33,7 @@ impl Wake for Nobody {
     fn wake(self: Arc<Nobody>) {}
 }
 
-/// Which growths of a thread are refused.
+/// Which allocations of a thread are refused.
 #[derive(Clone, Copy, PartialEq, Debug)]
 enum Refused {
     None,
@@ -75,7 +75,7 @@ fn is_refused() -> bool {
     }
 }
 
-/// What a call comes to with these growths refused, and those that were left to be refused.
+/// What a call comes to with these allocations refused, and those that were left to be refused.
 fn refusing<T>(refused: Refused, call: impl FnOnce() -> T) -> (T, Refused) {
     REFUSED.set(refused);
     let answer = call();
@@ -216,8 +216,8 @@ fn in_spite<T>(
     }
 }
 
-/// A play with a growth refused; whether there was one.
-fn play(n: usize) -> bool {
+/// A scenario with an allocation refused; whether there was one.
+fn run_scenario(n: usize) -> bool {
     let (mut m, root) = at_block();
     let left = &mut Refused::Nth(n);
     let file = in_spite(&mut m, left, |m| m.add_file(&[root]));
@@ -255,9 +255,9 @@ fn play(n: usize) -> bool {
 }
 
 #[test]
-fn growths_that_are_refused() {
-    let growths = (1..).take_while(|&n| play(n)).count();
-    assert!(growths > 20, "{growths}");
+fn allocations_that_are_refused() {
+    let allocations = (1..).take_while(|&n| run_scenario(n)).count();
+    assert!(allocations > 20, "{allocations}");
 }
 
 /// What is told, in place of a list that takes memory.
@@ -312,7 +312,7 @@ fn a_settle_takes_none() {
 }
 
 /// Of two that hold S and ask for X the younger falls by whoever watches over the table.
-fn one_falls(table: &Table, root: Node) {
+fn one_is_victim(table: &Table, root: Node) {
     let (mut older, mut younger) = (table.begin().unwrap(), table.begin().unwrap());
     older.lock(root, Mode::S).unwrap();
     younger.lock(root, Mode::S).unwrap();
@@ -338,14 +338,14 @@ fn who_watches_without_memory_settles_once() {
             table.watch_over(Duration::ZERO).unwrap();
             REFUSED.set(Refused::None);
         });
-        one_falls(table, root);
+        one_is_victim(table, root);
         IS_TOLD.store(true, Ordering::SeqCst); // It has what a watcher takes at its beginning.
-        one_falls(table, root);
+        one_is_victim(table, root);
         table.end_watch();
     });
 }
 
-/// A task of this session asks for X on the root, and is left waiting. Whether a growth was refused then, which is that
+/// A task of this session asks for X on the root, and is left waiting. Whether an allocation was refused then, which is that
 /// of the board alone; a board that takes the memory of an older one needs none.
 fn wait_unshown(session: &mut Session<'_>, root: Node) -> bool {
     let waker = Waker::from(Arc::new(Nobody));

@@ -123,17 +123,17 @@ fn a_deadlock_has_a_victim() {
 }
 
 /// Of two who read the root, and both want to write it, the first one falls, though it asks last.
-fn falls_behind(m: &mut Manager, root: Node, falls: Txn, stays: Txn) {
-    grant(m, falls, &[root], Mode::S);
+fn is_victim_to(m: &mut Manager, root: Node, victim: Txn, stays: Txn) {
+    grant(m, victim, &[root], Mode::S);
     grant(m, stays, &[root], Mode::S);
     wait(m, stays, root, Mode::X);
-    assert_eq!(ask(m, falls, root, Mode::X), Asked::Victim);
+    assert_eq!(ask(m, victim, root, Mode::X), Asked::Victim);
     let granted = Notice::Granted {
         txn: stays,
         node: root,
         mode: Mode::X,
     };
-    tells(m.abort(falls).unwrap(), &[granted]);
+    tells(m.abort(victim).unwrap(), &[granted]);
     m.commit(stays).unwrap();
 }
 
@@ -147,14 +147,14 @@ fn a_victim_keeps_its_turn() {
         let [other] = begin(&mut m);
         let again = m.begin_again(since).unwrap();
         assert_eq!(again.age(), other.age() + 1);
-        falls_behind(&mut m, root, other, again);
+        is_victim_to(&mut m, root, other, again);
     }
     let [other] = begin(&mut m);
     let again = m.begin_again(other.age()).unwrap();
-    falls_behind(&mut m, root, again, other);
+    is_victim_to(&mut m, root, again, other);
     let [other] = begin(&mut m);
     let again = m.begin_again(u64::MAX).unwrap();
-    falls_behind(&mut m, root, again, other);
+    is_victim_to(&mut m, root, again, other);
 }
 
 /// A member that fits passes who waits, and is counted where that raised its mode.
@@ -204,7 +204,7 @@ fn a_choice_of_victims() {
 }
 
 #[test]
-fn an_older_asker_condemns_the_younger() {
+fn an_older_requester_condemns_the_younger() {
     let (mut m, root) = at_block();
     let [a, b] = begin(&mut m);
     grant(&mut m, a, &[root], Mode::S);

@@ -71,10 +71,10 @@ impl Store {
     ) -> Result<Mode, Stop> {
         thread::scope(|scope| {
             let txn = session.txn();
-            let asker = scope.spawn(move || session.lock_path(node, mode));
+            let requester = scope.spawn(move || session.lock_path(node, mode));
             self.await_wait(txn);
             doing();
-            asker.join().unwrap()
+            requester.join().unwrap()
         })
     }
 }
@@ -345,13 +345,13 @@ fn times_and_grants() {
         let (mut a, mut b) = (s.begin(), s.begin());
         a.lock(s.root, Mode::X).unwrap();
         thread::scope(|scope| {
-            let asker = scope.spawn(|| {
+            let requester = scope.spawn(|| {
                 let end = b.lock_timeout(s.root, Mode::X, Duration::from_micros(60));
                 (end, b)
             });
             thread::sleep(Duration::from_micros(round % 60));
             a.commit().unwrap();
-            let (end, b) = asker.join().unwrap();
+            let (end, b) = requester.join().unwrap();
             let held = s.held(b.txn(), s.root);
             match end {
                 Ok(mode) => assert!(mode == Mode::X && held == Mode::X),

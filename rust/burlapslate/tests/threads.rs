@@ -35,7 +35,7 @@ struct Bank {
 }
 
 /// The transaction was a victim, and has to be aborted.
-struct Fell;
+struct Condemned;
 
 impl Bank {
     fn new(detect: Detect, sessions: usize) -> Result<Bank, Refusal> {
@@ -79,7 +79,7 @@ impl Bank {
         self.table().manager.begin().unwrap()
     }
 
-    fn lock(&self, txn: Txn, node: Node, mode: Mode) -> Result<(), Fell> {
+    fn lock(&self, txn: Txn, node: Node, mode: Mode) -> Result<(), Condemned> {
         let mut guard = self.table();
         let Table {
             manager,
@@ -91,7 +91,7 @@ impl Bank {
         self.hand_on(told, ended);
         match asked {
             Asked::Granted(_) => Ok(()),
-            Asked::Victim => Err(Fell),
+            Asked::Victim => Err(Condemned),
             Asked::Waiting => {
                 *waits += 1;
                 self.changed.notify_one();
@@ -101,7 +101,7 @@ impl Bank {
     }
 
     /// Sleeps to the end of a wait.
-    fn sleep(&self, guard: MutexGuard<Table>, txn: Txn, node: Node) -> Result<(), Fell> {
+    fn sleep(&self, guard: MutexGuard<Table>, txn: Txn, node: Node) -> Result<(), Condemned> {
         let slot = txn.slot();
         let mut guard = self.woken[slot]
             .wait_while(guard, |table| table.ended[slot].is_none())
@@ -118,7 +118,7 @@ impl Bank {
             }
             Some(Notice::Victim { txn: of }) => {
                 assert_eq!(of, txn);
-                Err(Fell)
+                Err(Condemned)
             }
             end => panic!("nothing moves or goes here: {end:?}"),
         }
@@ -131,7 +131,7 @@ impl Bank {
     }
 
     /// Moves one from an account to another.
-    fn transfer(&self, txn: Txn, from: usize, to: usize) -> Result<(), Fell> {
+    fn transfer(&self, txn: Txn, from: usize, to: usize) -> Result<(), Condemned> {
         self.lock(txn, self.root, Mode::IX)?;
         self.lock(txn, self.accounts[from], Mode::X)?;
         let rest = self.balances[from].load(Ordering::Relaxed) - 1;
@@ -257,21 +257,24 @@ fn two_meet(detect: Detect) {
     let convert = |txn| {
         assert!(bank.lock(txn, bank.root, Mode::S).is_ok());
         both_hold.wait();
-        let fell = bank.lock(txn, bank.root, Mode::X).is_err();
-        bank.end(
-            txn,
-            |m, txn| if fell { m.abort(txn) } else { m.commit(txn) },
-        );
+        let is_victim = bank.lock(txn, bank.root, Mode::X).is_err();
+        bank.end(txn, |m, txn| {
+            if is_victim {
+                m.abort(txn)
+            } else {
+                m.commit(txn)
+            }
+        });
         bank.leave();
-        fell
+        is_victim
     };
-    let fell = thread::scope(|scope| {
+    let is_victim = thread::scope(|scope| {
         scope.spawn(|| bank.watch());
         let first = scope.spawn(|| convert(older));
         let second = scope.spawn(|| convert(younger));
         [first.join().unwrap(), second.join().unwrap()]
     });
-    assert_eq!(fell, [false, true]);
+    assert_eq!(is_victim, [false, true]);
 }
 
 #[test]

@@ -103,7 +103,7 @@ impl Store {
 
 /// One that would block on its last node, or above it, keeps its way or gives it back.
 #[test]
-fn a_path_keeps_its_way_or_gives_it_back() {
+fn a_try_keeps_its_path_or_gives_it_back() {
     let store = Store::new();
     let (mut holder, mut session) = (store.begin(), store.begin());
     assert_eq!(holder.lock_path(store.low, Mode::X), Ok(Mode::X));
@@ -155,7 +155,7 @@ fn a_parent_of_what_was_read_stays() {
 
 /// Ways that are longer than what a try keeps of them.
 #[test]
-fn a_long_way_is_tried() {
+fn a_long_path_is_tried() {
     let store = Store::new();
     let mut chain = vec![store.root];
     for _ in 0..40 {
@@ -197,14 +197,14 @@ fn a_path_is_refused() {
 
 /// One that would have closed a cycle of waits fells nobody; and a newcomer passes nobody who waits.
 #[test]
-fn a_try_fells_nobody() {
+fn a_try_condemns_nobody() {
     let store = Store::new();
     let (mut older, mut younger) = (store.begin(), store.begin());
     older.lock_path(store.low, Mode::X).unwrap();
     younger.lock_path(store.high, Mode::X).unwrap();
     thread::scope(|scope| {
         let txn = younger.txn();
-        let asker = scope.spawn(move || {
+        let requester = scope.spawn(move || {
             let end = younger.lock_path(store.low, Mode::S);
             drop(younger);
             end
@@ -223,7 +223,7 @@ fn a_try_fells_nobody() {
         );
         store.counts(1);
         older.commit().unwrap();
-        assert_eq!(asker.join().unwrap(), Ok(Mode::S));
+        assert_eq!(requester.join().unwrap(), Ok(Mode::S));
     });
 }
 

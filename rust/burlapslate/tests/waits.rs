@@ -404,7 +404,7 @@ fn an_instant_of_before_is_nothing_to_a_wait() {
 
 /// A path that waits on its way where an instant came before is cancelled there, and does not continue.
 #[test]
-fn an_instant_of_before_is_nothing_to_a_way() {
+fn an_instant_of_before_is_nothing_to_a_path() {
     for is_task in [false, true] {
         let store = Store::new(Detect::AtBlock);
         let (mut holder, mut waiter) = (store.begin(), store.begin());

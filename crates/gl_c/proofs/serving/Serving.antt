@@ -14,7 +14,7 @@ use Rattle.gl_catalog.specs.declared.manager.paths.Reached.{Reached}
 use Rattle.gl_catalog.specs.Manager.{ManagerView, state_of}
 use Rattle.gl_catalog.specs.Paths.{Ask, lock_of}
 use Rattle.gl_registry.specs.Rows.{RegistryView, RowsView}
-use Rattle.gl_registry.specs.Serving.{Applies, LeavesRows, LocksWay, ServesBy, dropped_by, touches_rows}
+use Rattle.gl_registry.specs.Serving.{Applies, LeavesRows, PathLeavesRows, ServesBy, dropped_by, touches_rows}
 use Rattle.gl_registry.proofs.Dropped.{unaccepted_leaves}
 use Rattle.gl_wakes.specs.Boxes.{Delivers, Slot, cleared, emptied}
 use Rattle.gl_steps.specs.Served.{accepts}
@@ -108,13 +108,13 @@ serves_yes g after c a told v boxes ended applies so rows delivered kept wakes s
 
 -- a path of which nothing was accepted
 pub path_none : (g : GuardedView) (t : TxnId) (ask : Ask) (result : Result Reached Refusal) (told : Told) (v : RegistryView)
-    → LocksWay t ask (registry_in g) result told v → v.manager ≡ g.manager → told ≡ [] → Knows g.manager g.shown g.parties
+    → PathLeavesRows t ask (registry_in g) result told v → v.manager ≡ g.manager → told ≡ [] → Knows g.manager g.shown g.parties
     → ServesPath g t ask result told (record g { manager = v.manager; rows = v.rows })
-path_none g t ask result told v way same none knows =
+path_none g t ask result told v path same none knows =
     let as_many : v.manager.accepted ≡ g.manager.accepted = ap (λ (x : ManagerView). x.accepted) same in
     record {
-      way = way;
-      none_accepted = λ _. (same_view g v same way.rows, none);
+      path = path;
+      none_accepted = λ _. (same_view g v same path.rows, none);
       boxes = λ later. absurd (omega (arith, later, as_many));
       wakes = λ later. absurd (omega (arith, later, as_many));
       shown = shows_same (is_none (still_known g.parties (λ known. leaves_on_path known t result told))) (board_of (state_of v.manager)) g.shown;
@@ -123,18 +123,18 @@ path_none g t ask result told v way same none knows =
 
 -- a path of which some was
 pub path_some : (g after : GuardedView) (t : TxnId) (ask : Ask) (result : Result Reached Refusal) (told : Told) (v : RegistryView)
-    (boxes : List Slot) (ended : Slots) → LocksWay t ask (registry_in g) result told v → g.manager.accepted < v.manager.accepted
+    (boxes : List Slot) (ended : Slots) → PathLeavesRows t ask (registry_in g) result told v → g.manager.accepted < v.manager.accepted
     → ((mid : List Slot) × Delivers g.boxes told mid × (boxes ≡ emptied (lock_of t ask) mid))
     → (after.manager ≡ v.manager) × (after.boxes ≡ boxes) × (after.ended ≡ ended) × (after.rows ≡ v.rows)
     → Wakes (lock_of t ask) g.manager told v.manager ended
     → ShowsOn (is_none (still_known g.parties (λ known. leaves_on_path known t result told))) (board_of (state_of v.manager)) g.shown after.shown
     → Knows after.manager after.shown after.parties
     → ServesPath g t ask result told after
-path_some g after t ask result told v boxes ended way more delivered kept wakes shown knows =
+path_some g after t ask result told v boxes ended path more delivered kept wakes shown knows =
     let as_many : after.manager.accepted ≡ v.manager.accepted = ap (λ (x : ManagerView). x.accepted) kept.0 in
     let same : registry_in after ≡ v = λ i. record { manager = kept.0 i; rows = kept.3 i } in
     record {
-      way = subst (λ (x : RegistryView). LocksWay t ask (registry_in g) result told x) (sym same) way;
+      path = subst (λ (x : RegistryView). PathLeavesRows t ask (registry_in g) result told x) (sym same) path;
       none_accepted = λ same. absurd (omega (arith, same, more, as_many));
       boxes = λ _. (delivered.0, delivered.1, kept.1 ∙ delivered.2);
       wakes = λ _. subst (λ (n : Slots). Wakes (lock_of t ask) g.manager told after.manager n) (sym kept.2)

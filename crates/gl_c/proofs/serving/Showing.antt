@@ -160,11 +160,11 @@ module _ (g : Inside) (v : RegistryView) (boxes : List Slot) (ended : Slots) (sh
   pub sound_behind : IsSound g → g.registry.manager.accepted ≤ v.manager.accepted → v.manager.table.detect ≡ g.registry.manager.table.detect
       → KnowsWaits (state_of v.manager) (shown_in g.showing) (still_known (parties_in g.showing) leaves)
       → IsSound (record g { registry = v; boxes = boxes; ended = ended; showing = showing })
-  sound_behind sound low way known = record {
+  sound_behind sound low detection known = record {
     epoch = subst (λ (o : Option Strip). IfSome o (λ p. last_epoch 0 p.list ≤ v.manager.accepted)) (sym shown)
         (later_epoch (shown_in g.showing) g.registry.manager.accepted v.manager.accepted low sound.epoch);
     detect = subst (λ (o : Option Strip). IfSome o (λ p. p.detect ≡ v.manager.table.detect)) (sym shown)
-        (subst (λ (d : Detect). IfSome (shown_in g.showing) (λ p. p.detect ≡ d)) (sym way) sound.detect);
+        (subst (λ (d : Detect). IfSome (shown_in g.showing) (λ p. p.detect ≡ d)) (sym detection) sound.detect);
     known = subst (λ (o : Option Slots). KnowsWaits (state_of v.manager) (shown_in showing) o) (sym parties)
         (subst (λ (o : Option Strip). KnowsWaits (state_of v.manager) o (still_known (parties_in g.showing) leaves)) (sym shown) known);
   }

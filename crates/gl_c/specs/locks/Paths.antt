@@ -17,7 +17,7 @@ use Rattle.gl_steps.specs.Step.{answer_of_lock}
 use Rattle.gl_slots.specs.Slots.{has_none, has_slot}
 use Rattle.gl_slots.specs.declared.slots.Slots.{Slots}
 use Rattle.gl_header.specs.Header.{is_empty}
-use Rattle.gl_registry.specs.Serving.{LocksWay}
+use Rattle.gl_registry.specs.Serving.{PathLeavesRows}
 use Rattle.gl_window.specs.Tellings.{still_known}
 use Rattle.gl_wakes.specs.Boxes.{Delivers, Slot, emptied}
 use Rattle.gl_c.specs.declared.answers.notices.Notices.{Notices}
@@ -68,7 +68,7 @@ leaves_on_path parties t result told =
 -- a path is locked, one command after the other; the boxes have its notices, and the transaction's own is empty; the ended waits are noted; watchers are shown
 -- the snapshot after it or nothing, and nothing if it is known to leave all waits; if no request was accepted, nothing changed
 pub record ServesPath (g : GuardedView) (t : TxnId) (ask : Ask) (result : Result Reached Refusal) (told : Told) (g' : GuardedView) : Type 0 where
-  pub way : LocksWay t ask (registry_in g) result told (registry_in g')
+  pub path : PathLeavesRows t ask (registry_in g) result told (registry_in g')
   pub none_accepted : g'.manager.accepted ≡ g.manager.accepted → (g' ≡ g) × (told ≡ [])
   pub boxes : g.manager.accepted < g'.manager.accepted → (mid : List Slot) × Delivers g.boxes told mid × (g'.boxes ≡ emptied (lock_of t ask) mid)
   pub wakes : g.manager.accepted < g'.manager.accepted → Wakes (lock_of t ask) g.manager told g'.manager g'.ended

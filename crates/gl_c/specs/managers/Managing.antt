@@ -49,7 +49,7 @@ abbrev pub Makes : Option GuardedView → ℕ → ℕ → ℕ → ℕ → ℕ �
 Makes (Some g) detect victims most nodes bounds r s' = Declines (Some g) in_use r s'
 Makes None detect victims most nodes bounds r s' =
     Where (wanted detect most nodes bounds)
-    (λ way. Where (victims_at victims) (λ choice. Begins way choice most nodes bounds r s') (Declines None bad_number r s'))
+    (λ detection. Where (victims_at victims) (λ choice. Begins detection choice most nodes bounds r s') (Declines None bad_number r s'))
     (Declines None bad_number r s')
 
 -- the reply for the end of a manager

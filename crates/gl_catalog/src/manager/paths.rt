@@ -9,7 +9,7 @@ ghost use Rattle.gl_catalog.specs.Replies.{said};
 ghost use Rattle.gl_catalog.specs.Paths.{
   AsksOnce,
   KeepsBelow,
-  KeepsWay,
+  KeepsPath,
   LeavesAllBut,
   LocksPath,
   goes_on,
@@ -100,7 +100,7 @@ impl Manager {
         told: &mut Told,
     ) -> Result<Reached, Refusal>
         requires empty { told.old.items ≡ [] }
-        requires kept { KeepsWay (state_of self.old) t (node, mode) above.old.items }
+        requires kept { KeepsPath (state_of self.old) t (node, mode) above.old.items }
         ensures asks { AsksOnce t (node, mode) self.old told.new.items result self.new }
         ensures untold { OnErr result (told.new.items ≡ []) }
         ensures below { grants (said (reaching told.new.items) result).0 ≡ true → KeepsBelow (state_of self.new) t (node, mode) above.new.items }
@@ -128,7 +128,7 @@ impl Manager {
 
     /// Climbs from the next request to the first. Nothing is requested.
     fn climb(&self, t: TxnId, node: NodeId, mode: Mode, above: &mut Above)
-        ensures kept { KeepsWay (state_of self.now) t (node, mode) above.old.items → KeepsWay (state_of self.now) t (node, mode) above.new.items }
+        ensures kept { KeepsPath (state_of self.now) t (node, mode) above.old.items → KeepsPath (state_of self.now) t (node, mode) above.new.items }
         ensures first { parent_wanted (state_of self.now) t (next_ask (node, mode) above.new.items) ≡ None }
     {
         self.law();
@@ -146,7 +146,7 @@ impl Manager {
     /// fewer, and climbs anew.
     fn go_down(&self, t: TxnId, node: NodeId, mode: Mode, above: &mut Above)
         requires { KeepsBelow (state_of self.now) t (node, mode) above.old.items }
-        ensures { KeepsWay (state_of self.now) t (node, mode) above.new.items }
+        ensures { KeepsPath (state_of self.now) t (node, mode) above.new.items }
     {
         if !covers(mode, Mode::IX) {
             above.clear();

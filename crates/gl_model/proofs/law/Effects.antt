@@ -18,16 +18,17 @@ module _ (g : Graph) (held : NodeId → Mode) where
   is_x n = same_mode (held n) X
 
   -- an effective X meets each root path
-  pub on_path : (k : ℕ) (n r : NodeId) (way : List NodeId) → eff_x k g held n ≡ true → IsRoute g n way r → parents_of g r ≡ [] → list_any is_x (n ∷ way) ≡ true
-  on_path zero n r way x route root = ap (λ b. b || list_any is_x way) x
+  pub on_path : (k : ℕ) (n r : NodeId) (walk : List NodeId) → eff_x k g held n ≡ true → IsRoute g n walk r → parents_of g r ≡ []
+      → list_any is_x (n ∷ walk) ≡ true
+  on_path zero n r walk x route root = ap (λ b. b || list_any is_x walk) x
   on_path (suc k) n r [] x route root = grind (arith, nat_tests, parents_of g, and_both)
-  on_path (suc k) n r (p ∷ way) x route root =
-      or_elim _ _ x (λ here. ap (λ b. b || list_any is_x (p ∷ way)) here) (λ up.
-      ap (λ b. is_x n || b) (on_path k p r way (all_at (eff_x k g held) (parents_of g n) p route.0 (and_both _ _ up).1) route.1 root) ∙ or-true (is_x n))
+  on_path (suc k) n r (p ∷ walk) x route root =
+      or_elim _ _ x (λ here. ap (λ b. b || list_any is_x (p ∷ walk)) here) (λ up.
+      ap (λ b. is_x n || b) (on_path k p r walk (all_at (eff_x k g held) (parents_of g n) p route.0 (and_both _ _ up).1) route.1 root) ∙ or-true (is_x n))
 
   -- a route up without X, to a node without parents or of k steps
   abbrev pub Escapes : ℕ → NodeId → Type 0
-  Escapes k n = (r : NodeId) × (way : List NodeId) × IsRoute g n way r × (list_any is_x (n ∷ way) ≡ false) × ((parents_of g r ≡ []) ⊎ (length way ≡ k))
+  Escapes k n = (r : NodeId) × (walk : List NodeId) × IsRoute g n walk r × (list_any is_x (n ∷ walk) ≡ false) × ((parents_of g r ≡ []) ⊎ (length walk ≡ k))
 
   -- no effective X: some parent has none either, step by step up
   pub escape : (k : ℕ) (n : NodeId) → eff_x k g held n ≡ false → Escapes k n
@@ -50,7 +51,7 @@ module _ (g : Graph) (held : NodeId → Mode) where
 
 pub cut_set_on : CutSetLaw
 cut_set_on s law t n live = (
-  λ x way path. on_path s.graph (s.held t) (node_count s.graph) n path.0 way x path.1 path.2.1,
+  λ x walk path. on_path s.graph (s.held t) (node_count s.graph) n path.0 walk x path.1 path.2.1,
   λ cut. split (eff_x (node_count s.graph) s.graph (s.held t) n) (λ e. e) (λ e.
       let out = escape s.graph (s.held t) (node_count s.graph) n e in
       absurd (⊎_elim (λ root. true≢false (sym (cut out.1 (out.0, out.2, (live_end s.graph law n out.0 out.1 live out.2, root))) ∙ out.3))
@@ -78,12 +79,12 @@ x_reads m h = search rules
 
 -- a route to a node that is held in S, SIX or X
 abbrev pub ReadOn : Graph → (NodeId → Mode) → NodeId → Type 0
-ReadOn g h n = (m : NodeId) × (way : List NodeId) × IsRoute g n way m × (is_read (h m) ≡ true)
+ReadOn g h n = (m : NodeId) × (walk : List NodeId) × IsRoute g n walk m × (is_read (h m) ≡ true)
 
 -- a route and then another
-pub read_on_route : (g : Graph) (h : NodeId → Mode) (n m : NodeId) (way : List NodeId) → IsRoute g n way m → ReadOn g h m → ReadOn g h n
+pub read_on_route : (g : Graph) (h : NodeId → Mode) (n m : NodeId) (walk : List NodeId) → IsRoute g n walk m → ReadOn g h m → ReadOn g h n
 read_on_route g h n m [] route r = subst (ReadOn g h) (sym route) r
-read_on_route g h n m (p ∷ way) route r = let up = read_on_route g h p m way route.1 r in (up.0, p ∷ up.1, (route.0, up.2), up.3)
+read_on_route g h n m (p ∷ walk) route r = let up = read_on_route g h p m walk route.1 r in (up.0, p ∷ up.1, (route.0, up.2), up.3)
 
 module _ (g : Graph) (h : NodeId → Mode) where
   -- an effective S is that of a node on a route
@@ -105,12 +106,12 @@ module _ (g : Graph) (h : NodeId → Mode) where
       let above = eff_x_route k f.0 f.2 in
       (above.0, f.0 ∷ above.1, (f.1, above.2), above.3))
 
-  route_eff_s : (k : ℕ) (n m : NodeId) (way : List NodeId) → IsRoute g n way m → is_read (h m) ≡ true → length way ≤ k → eff_s k g h n ≡ true
+  route_eff_s : (k : ℕ) (n m : NodeId) (walk : List NodeId) → IsRoute g n walk m → is_read (h m) ≡ true → length walk ≤ k → eff_s k g h n ≡ true
   route_eff_s zero n m [] route read le = ap (λ x. is_read (h x)) route ∙ read
-  route_eff_s zero n m (p ∷ way) route read le = absurd (omega arith)
+  route_eff_s zero n m (p ∷ walk) route read le = absurd (omega arith)
   route_eff_s (suc k) n m [] route read le = ap (λ b. b || list_any (eff_s k g h) (parents_of g n)) (ap (λ x. is_read (h x)) route ∙ read)
-  route_eff_s (suc k) n m (p ∷ way) route read le =
-      ap (λ b. is_read (h n) || b) (some_at (eff_s k g h) (parents_of g n) p route.0 (route_eff_s k p m way route.1 read (omega arith))) ∙ or-true _
+  route_eff_s (suc k) n m (p ∷ walk) route read le =
+      ap (λ b. is_read (h n) || b) (some_at (eff_s k g h) (parents_of g n) p route.0 (route_eff_s k p m walk route.1 read (omega arith))) ∙ or-true _
 
 -- in a lawful graph the number of nodes is enough fuel
 module _ (g : Graph) (law : IsLawfulGraph g) (h : NodeId → Mode) where
@@ -120,7 +121,7 @@ module _ (g : Graph) (law : IsLawfulGraph g) (h : NodeId → Mode) where
 
 -- an effective X after any number of steps is one
 pub eff_x_any : (s : State) → IsLawful s → (t : ℕ) (k : ℕ) (n : NodeId) → is_live s.graph n ≡ true → eff_x k s.graph (s.held t) n ≡ true → EffX s t n
-eff_x_any s law t k n live x = (cut_set_law s law t n live).1 (λ way path. on_path s.graph (s.held t) k n path.0 way x path.1 path.2.1)
+eff_x_any s law t k n live x = (cut_set_law s law t n live).1 (λ walk path. on_path s.graph (s.held t) k n path.0 walk x path.1 path.2.1)
 
 -- No two transactions hold conflicting effective modes.
 

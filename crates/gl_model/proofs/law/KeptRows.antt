@@ -97,9 +97,9 @@ kept-all s t v cycle left d of none so = record {
 pub onward : (edge : ℕ → ℕ → Bool) (t k : ℕ) → IsOnCycleOf edge t k → (u : ℕ) × (edge k u ≡ true) × IsOnCycleOf edge t u
 onward edge t k on = by on.back.0 on.back.1
   where
-    by : (way : List ℕ) → IsWalk edge k way t → (u : ℕ) × (edge k u ≡ true) × IsOnCycleOf edge t u
+    by : (path : List ℕ) → IsWalk edge k path t → (u : ℕ) × (edge k u ≡ true) × IsOnCycleOf edge t u
     by [] h = let round = reaches_join edge t k t on.there ([], h) in (t, h, record { there = round; back = round })
-    by (u ∷ way) h = (u, h.0, record { there = reaches_join edge t k u on.there ([], h.0); back = (way, h.1) })
+    by (u ∷ path) h = (u, h.0, record { there = reaches_join edge t k u on.there ([], h.0); back = (path, h.1) })
 
 pub rows_lead_on : RowsLeadOn
 rows_lead_on s t v d is = λ i r low.

@@ -45,7 +45,7 @@ module _ (g : Graph) (stops sought : NodeId → Bool) where
   -- none is missed, if nothing is left to look at
   pub search_ends : (from : NodeId) (found : List NodeId) (i : ℕ) → slice_get found i ≡ None → IsSearch from found i → Leads g stops sought from → ⊥
   search_ends from found i none s l =
-      let end = climb_ends g stops from found i none s.climb from l.end l.way s.climb.starts l.route l.free in
+      let end = climb_ends g stops from found i none s.climb from l.end l.walk s.climb.starts l.route l.free in
       no (sym (s.unsought l.end end.0 end.1) ∙ l.meets)
 
 -- the search for a node held in S, SIX or X stops nowhere
@@ -57,12 +57,12 @@ is_read_at h n = is_read (h n)
 pub unread : (g : Graph) (h : NodeId → Mode) (k : ℕ) (n : NodeId) → (Leads g never (is_read_at h) n → ⊥) → eff_s k g h n ≡ false
 unread g h k n none =
     split (eff_s k g h n) (λ e. let r = eff_s_route g h k n e in
-    absurd (none (record { end = r.0; way = r.1; route = r.2; free = never_stops (n ∷ r.1); meets = r.3 }))) (λ e. e)
+    absurd (none (record { end = r.0; walk = r.1; route = r.2; free = never_stops (n ∷ r.1); meets = r.3 }))) (λ e. e)
 
 -- if it finds one there is effective S: a route has fewer steps than there are nodes
 pub read_from : (g : Graph) → IsLawfulGraph g → (h : NodeId → Mode) (n : NodeId) → is_live g n ≡ true → Leads g never (is_read_at h) n
     → eff_s (node_count g) g h n ≡ true
-read_from g law h n live l = read_on_eff g law h n live (l.end, l.way, l.route, l.meets)
+read_from g law h n live l = read_on_eff g law h n live (l.end, l.walk, l.route, l.meets)
 
 -- the search for a node without parents stops at each node held in X
 
@@ -80,14 +80,14 @@ no_parents_is (p ∷ ps) h = absurd (no h)
 
 -- if it finds one there is no effective X over any number of steps
 pub free_from : (g : Graph) (h : NodeId → Mode) (k : ℕ) (n : NodeId) → Leads g (is_x g h) (is_top g) n → eff_x k g h n ≡ false
-free_from g h k n l = split (eff_x k g h n) (λ e. absurd (no (sym l.free ∙ on_path g h k n l.end l.way e l.route (no_parents_is _ l.meets)))) (λ e. e)
+free_from g h k n l = split (eff_x k g h n) (λ e. absurd (no (sym l.free ∙ on_path g h k n l.end l.walk e l.route (no_parents_is _ l.meets)))) (λ e. e)
 
 -- if it finds none each root path has a node held in X
 pub cut_off : (g : Graph) → IsLawfulGraph g → (h : NodeId → Mode) (n : NodeId) → is_live g n ≡ true → (Leads g (is_x g h) (is_top g) n → ⊥)
     → eff_x (node_count g) g h n ≡ true
 cut_off g law h n live none =
-    (cut_set_on (record (empty_state AtBlock 0) { graph = g; held = λ _. h }) law 0 n live).1 (λ way path. split (list_any (is_x g h) (n ∷ way)) (λ e. e)
-    (λ e. absurd (none (record { end = path.0; way = way; route = path.1; free = e; meets = ap no_parents path.2.1 }))))
+    (cut_set_on (record (empty_state AtBlock 0) { graph = g; held = λ _. h }) law 0 n live).1 (λ walk path. split (list_any (is_x g h) (n ∷ walk)) (λ e. e)
+    (λ e. absurd (none (record { end = path.0; walk = walk; route = path.1; free = e; meets = ap no_parents path.2.1 }))))
 
 -- A graph that changes only at nodes on which a holder has no effective S: its effective modes and what is below stay.
 
@@ -108,19 +108,20 @@ module _ (g g' : Graph) (h : NodeId → Mode) (changed : NodeId → Bool) (step 
   same_parents n e = ap parents_in (step.same n e)
 
   -- a route to a node under no changed one
-  carry : (n m : NodeId) (way : List NodeId) → IsRoute g n way m → ((c : NodeId) (pre : List NodeId) → changed c ≡ true → IsRoute g c pre m → ⊥)
-      → IsRoute g' n way m
+  carry : (n m : NodeId) (walk : List NodeId) → IsRoute g n walk m → ((c : NodeId) (pre : List NodeId) → changed c ≡ true → IsRoute g c pre m → ⊥)
+      → IsRoute g' n walk m
   carry n m [] route never = route
-  carry n m (p ∷ way) route never =
-      split (changed n) (λ e. absurd (never n (p ∷ way) e route)) (λ e. (ap (list_any (same_node p)) (same_parents n e) ∙ route.0, carry p m way route.1 never))
+  carry n m (p ∷ walk) route never =
+      split (changed n) (λ e. absurd (never n (p ∷ walk) e route))
+      (λ e. (ap (list_any (same_node p)) (same_parents n e) ∙ route.0, carry p m walk route.1 never))
 
-  back : (n m : NodeId) (way : List NodeId) → is_live g n ≡ true → IsRoute g' n way m
-      → ((c : NodeId) (pre : List NodeId) → changed c ≡ true → is_live g c ≡ true → IsRoute g' c pre m → ⊥) → IsRoute g n way m
+  back : (n m : NodeId) (walk : List NodeId) → is_live g n ≡ true → IsRoute g' n walk m
+      → ((c : NodeId) (pre : List NodeId) → changed c ≡ true → is_live g c ≡ true → IsRoute g' c pre m → ⊥) → IsRoute g n walk m
   back n m [] live route never = route
-  back n m (p ∷ way) live route never =
-      split (changed n) (λ e. absurd (never n (p ∷ way) e live route))
+  back n m (p ∷ walk) live route never =
+      split (changed n) (λ e. absurd (never n (p ∷ walk) e live route))
       (λ e. let up : list_any (same_node p) (parents_of g n) ≡ true = ap (list_any (same_node p)) (sym (same_parents n e)) ∙ route.0 in
-      (up, back p m way (parents_live n p up) route.1 never))
+      (up, back p m walk (parents_live n p up) route.1 never))
 
   -- a route to what is read cannot pass a changed node, since the node would be read
   pub reads_carry : (n : NodeId) → ReadOn g h n → ReadOn g' h n

@@ -3,7 +3,7 @@ use Rattle.gl_model.proofs.Words.{[], ⊎_elim, ◌&&◌, ◌<◌, ◌==◌, ◌
 use Rattle.gl_model.proofs.Words.{ByWatcher, candidate-on_cycle, clash, Condemned, condemned, CondemningFrees, Detect, enqueued, enters_at, false, Fewest}
 use Rattle.gl_model.proofs.Words.{filter, fits, freed-fewer, front, granted_at, HasNoCycle, holds, if◌then◌else◌, inl, inr, is_ahead, is_among_waiters}
 use Rattle.gl_model.proofs.Words.{is_wait, is_waiter, is_waiting_at, IsLawful, IsOnNoCycle, IsVictim, IsWalk, length, List, list_all, list_any, members, Mode}
-use Rattle.gl_model.proofs.Words.{nat_tests, NL, NodeId, None, not, not_true, number_same, OneFalls, Option, or_elim, or_left, or_no, or_right}
+use Rattle.gl_model.proofs.Words.{nat_tests, NL, NodeId, None, not, not_true, number_same, OneIsVictim, Option, or_elim, or_left, or_no, or_right}
 use Rattle.gl_model.proofs.Words.{range_with_len, Reaches, refl, rules, same_number, Settled, SettledWithin, SettlingEnds, since_of, slots, Some, split}
 use Rattle.gl_model.proofs.Words.{State, Status, status_in, status_of, subst, suc, sym, true, TxnId, Victims, Waiter, Waiting, waits_for, WaitSettles, wanted}
 use Rattle.gl_model.proofs.Words.{with_grant, without_wait, zero, ℕ, is_earlier, IsCandidate, latest-none_later, neither_earlier}
@@ -71,9 +71,9 @@ module _ (s : State) (law : IsLawful s) where
       free : (m : Mode) → not (are_compatible m NL) ≡ false
       free m = search rules
 
-  pub cycle_waits : (v t : ℕ) (way : List ℕ) → IsWalk (waits_for s) v way t → waiting s v ≡ true
+  pub cycle_waits : (v t : ℕ) (path : List ℕ) → IsWalk (waits_for s) v path t → waiting s v ≡ true
   cycle_waits v t [] h = ap is_wait (step_is s v t h).2.waits
-  cycle_waits v t (u ∷ way) h = ap is_wait (step_is s v u h.0).2.waits
+  cycle_waits v t (u ∷ path) h = ap is_wait (step_is s v u h.0).2.waits
 
   wait_low : (v : ℕ) → waiting s v ≡ true → v < s.most
   wait_low v h = law.slots_below v (txn_there (s.txns v) _ (wait_is (status_of s v) h).2)
@@ -184,10 +184,10 @@ condemning_frees s law v x y h = grind (arith, nat_tests, step_is (condemned s v
 freed : (s : State) → IsLawful s → (t v : ℕ) → IsVictim Fewest s t v → IsOnNoCycle (waits_for (condemned s v)) t
 freed s law t v one = freed-fewer (waits_for s) (waits_for (condemned s v)) t v one.is_member.is_member (condemning_frees s law v)
 
-pub one_falls : OneFalls
-one_falls zero s s' law t h = omega arith
-one_falls (suc zero) s s' law t h = omega arith
-one_falls (suc (suc k)) s s' law t h = absurd (freed s law t h.0 h.1 h.2.0 h.2.1.is_member.is_member.on_cycle)
+pub one_is_victim : OneIsVictim
+one_is_victim zero s s' law t h = omega arith
+one_is_victim (suc zero) s s' law t h = omega arith
+one_is_victim (suc (suc k)) s s' law t h = absurd (freed s law t h.0 h.1 h.2.0 h.2.1.is_member.is_member.on_cycle)
 
 -- If nobody is on a cycle of waits, each chain of waits ends at one that does not wait.
 
@@ -242,23 +242,23 @@ module _ (s : State) (law : IsLawful s) (t : ℕ) (n : NodeId) (m : Mode) (st : 
 
 module _ (edge : ℕ → ℕ → Bool) where
   -- the part from its start to one of its numbers
-  prefix : (x y q : ℕ) (way : List ℕ) → IsWalk edge x way y → list_any (same q) way ≡ true → Reaches edge x q
+  prefix : (x y q : ℕ) (path : List ℕ) → IsWalk edge x path y → list_any (same q) path ≡ true → Reaches edge x q
   prefix x y q [] h k = clash k refl
-  prefix x y q (v ∷ way) h k =
-      or_elim (same q v) (list_any (same q) way) k (λ e. ([], ap (edge x) (same_number q v e) ∙ h.0))
-      (λ there. let r = prefix v y q way h.1 there in (v ∷ r.0, (h.0, r.1)))
+  prefix x y q (v ∷ path) h k =
+      or_elim (same q v) (list_any (same q) path) k (λ e. ([], ap (edge x) (same_number q v e) ∙ h.0))
+      (λ there. let r = prefix v y q path h.1 there in (v ∷ r.0, (h.0, r.1)))
 
   -- a walk without a cycle meets each number once
-  once : ((v : ℕ) → Reaches edge v v → ⊥) → (x y : ℕ) (way : List ℕ) → IsWalk edge x way y → Distinct way
+  once : ((v : ℕ) → Reaches edge v v → ⊥) → (x y : ℕ) (path : List ℕ) → IsWalk edge x path y → Distinct path
   once none x y [] h = tt
-  once none x y (v ∷ way) h = (split (list_any (same v) way) (λ k. absurd (none v (prefix v y v way h.1 k))) (λ k. k), once none v y way h.1)
+  once none x y (v ∷ path) h = (split (list_any (same v) path) (λ k. absurd (none v (prefix v y v path h.1 k))) (λ k. k), once none v y path h.1)
 
   abbrev Ends : (ℕ → Bool) → ℕ → Type 0
   Ends busy x = (u : ℕ) × Reaches edge x u × (busy u ≡ false)
 
   -- a chain ends, or continues for k numbers
   goes_on : (busy : ℕ → Bool) → ((x : ℕ) → busy x ≡ true → (u : ℕ) × (edge x u ≡ true)) → (k x : ℕ) → busy x ≡ true
-      → Ends busy x ⊎ ((y : ℕ) × (way : List ℕ) × IsWalk edge x way y × (length way ≡ k))
+      → Ends busy x ⊎ ((y : ℕ) × (path : List ℕ) × IsWalk edge x path y × (length path ≡ k))
   goes_on busy next zero x b = let u = next x b in inr (u.0, [], u.1, refl)
   goes_on busy next (suc k) x b =
       let u = next x b in

@@ -18,16 +18,16 @@ same_equivalence = record {
 
 abbrev pub Distinct : List ℕ → Type 0
 Distinct [] = ⊤
-Distinct (v ∷ way) = (list_any (same v) way ≡ false) × Distinct way
+Distinct (v ∷ path) = (list_any (same v) path ≡ false) × Distinct path
 
-all_differ : (v : ℕ) (way : List ℕ) → list_any (same v) way ≡ false → AllByRecursion (λ y. same v y ≡ false) way
+all_differ : (v : ℕ) (path : List ℕ) → list_any (same v) path ≡ false → AllByRecursion (λ y. same v y ≡ false) path
 all_differ v [] h = tt
-all_differ v (w ∷ way) h = grind (arith, nat_tests, same v w, all_differ v way)
+all_differ v (w ∷ path) h = grind (arith, nat_tests, same v w, all_differ v path)
 
-is_distinct : (way : List ℕ) → Distinct way → IsDistinct same way
+is_distinct : (path : List ℕ) → Distinct path → IsDistinct same path
 unfolding IsDistinct
 is_distinct [] d = tt
-is_distinct (v ∷ way) d = (all_differ v way d.0, is_distinct way d.1)
+is_distinct (v ∷ path) d = (all_differ v path d.0, is_distinct path d.1)
 
 pub in_range : (q k n : ℕ) → k ≤ q → q < k + n → list_any (same q) (range_with_len k n) ≡ true
 in_range q k zero low high = absurd (omega arith)
@@ -111,28 +111,29 @@ IsAnswer c edge since age t (Some v) = IsLatest (IsCandidate c edge t) since age
 
 module _ (edge : ℕ → ℕ → Bool) (most : ℕ) (low : (x y : ℕ) → edge x y ≡ true → y < most) where
   -- a walk that meets v continues from v
-  cut : (u v y : ℕ) (way : List ℕ) → IsWalk edge u way y → list_any (same v) way ≡ true → Distinct way → (post : List ℕ) × IsWalk edge v post y × Distinct post
+  cut : (u v y : ℕ) (path : List ℕ) → IsWalk edge u path y → list_any (same v) path ≡ true → Distinct path
+      → (post : List ℕ) × IsWalk edge v post y × Distinct post
       × (list_any (same v) post ≡ false)
   cut u v y [] h k d = clash k refl
-  cut u v y (w ∷ way) h k d =
-      or_elim (same v w) (list_any (same v) way) k
-      (λ e. let is = same_number v w e in (way, subst (λ x. IsWalk edge x way y) (sym is) h.1, d.1, ap (λ x. list_any (same x) way) is ∙ d.0))
-      (λ there. cut w v y way h.1 there d.1)
+  cut u v y (w ∷ path) h k d =
+      or_elim (same v w) (list_any (same v) path) k
+      (λ e. let is = same_number v w e in (path, subst (λ x. IsWalk edge x path y) (sym is) h.1, d.1, ap (λ x. list_any (same x) path) is ∙ d.0))
+      (λ there. cut w v y path h.1 there d.1)
 
-  simple : (way : List ℕ) (x y : ℕ) → IsWalk edge x way y → (short : List ℕ) × IsWalk edge x short y × Distinct short
+  simple : (path : List ℕ) (x y : ℕ) → IsWalk edge x path y → (short : List ℕ) × IsWalk edge x short y × Distinct short
   simple [] x y h = ([], h, tt)
-  simple (v ∷ way) x y h =
-      let r = simple way v y h.1 in
+  simple (v ∷ path) x y h =
+      let r = simple path v y h.1 in
       split (list_any (same v) r.0) (λ k. let c = cut v v y r.0 r.1 k r.2 in (v ∷ c.0, (h.0, c.1), (c.3, c.2))) (λ k. (v ∷ r.0, (h.0, r.1), (k, r.2)))
 
-  on_way : (way : List ℕ) (x y q : ℕ) → IsWalk edge x way y → list_any (same q) way ≡ true → q < most
-  on_way [] x y q h k = clash k refl
-  on_way (v ∷ way) x y q h k = or_elim (same q v) (list_any (same q) way) k (λ e. subst (λ z. z < most) (sym (same_number q v e)) (low x v h.0))
-      (λ there. on_way way v y q h.1 there)
+  on_path : (path : List ℕ) (x y q : ℕ) → IsWalk edge x path y → list_any (same q) path ≡ true → q < most
+  on_path [] x y q h k = clash k refl
+  on_path (v ∷ path) x y q h k = or_elim (same q v) (list_any (same q) path) k (λ e. subst (λ z. z < most) (sym (same_number q v e)) (low x v h.0))
+      (λ there. on_path path v y q h.1 there)
 
-  pub short : (way : List ℕ) (x y : ℕ) → IsWalk edge x way y → Distinct way → length way ≤ most
-  short way x y h d =
-      let few = length-le_from_is_member same_equivalence way (range_with_len 0 most) (is_distinct way d) (λ q k. let lt = on_way way x y q h k in
+  pub short : (path : List ℕ) (x y : ℕ) → IsWalk edge x path y → Distinct path → length path ≤ most
+  short path x y h d =
+      let few = length-le_from_is_member same_equivalence path (range_with_len 0 most) (is_distinct path d) (λ q k. let lt = on_path path x y q h k in
       in_range q 0 most (omega arith) (omega arith)) in
       let len = length-range_with_len 0 most in
       omega arith
@@ -145,22 +146,22 @@ module _ (edge : ℕ → ℕ → Bool) (most : ℕ) (low : (x y : ℕ) → edge 
       let both = and_both (edge x found.0) (hops edge most k found.0 y) found.1 in
       let rest = sound k found.0 y both.1 in (found.0 ∷ rest.0, (both.0, rest.1)))
 
-  complete : (k : ℕ) (way : List ℕ) (x y : ℕ) → length way ≤ k → IsWalk edge x way y → hops edge most k x y ≡ true
+  complete : (k : ℕ) (path : List ℕ) (x y : ℕ) → length path ≤ k → IsWalk edge x path y → hops edge most k x y ≡ true
   complete zero [] x y le h = h
-  complete zero (v ∷ way) x y le h = absurd (omega arith)
+  complete zero (v ∷ path) x y le h = absurd (omega arith)
   complete (suc k) [] x y le h = or_left (edge x y) (list_any (λ v. edge x v && hops edge most k v y) (range_with_len 0 most)) h
-  complete (suc k) (v ∷ way) x y le h =
+  complete (suc k) (v ∷ path) x y le h =
       let lt = low x v h.0 in
       or_right (edge x y) (list_any (λ u. edge x u && hops edge most k u y) (range_with_len 0 most))
-      (one_found (λ u. edge x u && hops edge most k u y) v (range_with_len 0 most) (ap₂ (λ a b. a && b) h.0 (complete k way v y (omega arith) h.1))
+      (one_found (λ u. edge x u && hops edge most k u y) v (range_with_len 0 most) (ap₂ (λ a b. a && b) h.0 (complete k path v y (omega arith) h.1))
       (in_range v 0 most (omega arith) (omega arith)))
 
   reached_is : (x y : ℕ) → Reaches edge x y → hops edge most most x y ≡ true
-  reached_is x y r = let way = simple r.0 x y r.1 in complete most way.0 x y (short way.0 x y way.1 way.2) way.1
+  reached_is x y r = let path = simple r.0 x y r.1 in complete most path.0 x y (short path.0 x y path.1 path.2) path.1
 
-  end_low : (way : List ℕ) (x y : ℕ) → IsWalk edge x way y → y < most
+  end_low : (path : List ℕ) (x y : ℕ) → IsWalk edge x path y → y < most
   end_low [] x y h = low x y h
-  end_low (v ∷ way) x y h = end_low way v y h.1
+  end_low (v ∷ path) x y h = end_low path v y h.1
 
   pub turns : (t v : ℕ) → IsOnCycleOf edge t v → circles edge most t v ≡ true
   turns t v on = ap₂ (λ a b. a && b) (reached_is t v on.there) (reached_is v t on.back)

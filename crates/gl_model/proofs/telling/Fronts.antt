@@ -2,14 +2,15 @@
 use Rattle.gl_slots.specs.Limit.{most_slots}
 use Rattle.gl_model.proofs.Words.{[], ◌++◌, ◌==◌, ◌∙◌, ◌∷◌, ◌≡◌, ◌≤◌, Active, ap, AreBelow, arith, Bool, both, clash, enters, enters-limit, false}
 use Rattle.gl_model.proofs.Words.{filter-append, front-and_rest, front-waited, front_at, granted, granted_at, holds, if◌then◌else◌, is_among_waiters}
-use Rattle.gl_model.proofs.Words.{is_distinct, is_wait, is_waiter, is_waiting_at, IsOnWay, IsOrderly, IsWithin, List, members, Mode, nat_tests, NL, NodeId, not}
+use Rattle.gl_model.proofs.Words.{is_distinct, is_wait, is_waiter, is_waiting_at, IsBetween, IsOrderly, IsWithin, List, members, Mode, nat_tests, NL, NodeId}
+use Rattle.gl_model.proofs.Words.{not}
 use Rattle.gl_model.proofs.Words.{not_true, number_other, number_same, Option, or_left, or_right, pumped, pumped_queue, refl, restatus, same_mode, same_node}
 use Rattle.gl_model.proofs.Words.{same_node-equal, same_node-refl, same_number, slot_limit, Some, split, State, Status, status_in, status_of, sym, true, Txn}
 use Rattle.gl_model.proofs.Words.{unlocked, Waiter, Waiting, waits_at, WaitWell, with_grant, without_wait, woken, ℕ}
 use Rattle.gl_model.proofs.law.Keeps.{holders-within, txn_there, waiting_is, woken_some}
 use Rattle.gl_model.proofs.queues.Edits.{out_of_without, without_filter}
 use Rattle.gl_model.proofs.queues.Waiters.{among_by_filter, grants_other, if-false, if-true, none_filtered, one_in_first, waits_of}
-use Rattle.gl_model.proofs.telling.Ways.{granted_stands, is_by_test, left_stands, way_pumped, without_wait_other, woken_same}
+use Rattle.gl_model.proofs.telling.Between.{granted_stands, is_by_test, left_stands, between_pumped, without_wait_other, woken_same}
 
 -- If each slot in a queue waits there, once: what follows for the front that its node grants.
 
@@ -123,8 +124,8 @@ pub stands_other : (s : State) → IsOrderly s → (t : ℕ) → is_wait (status
 stands_other s o t quiet u q h = not_true _ (λ e. clash (ap (λ v. is_among_waiters v (s.queue q)) (sym (same_number u t e)) ∙ h) (in_no_queue s o t quiet q))
 
 -- what is told since a state begins at it
-pub way_here : (s : State) → IsOrderly s → IsOnWay s s
-way_here s o = record {
+pub between_here : (s : State) → IsOrderly s → IsBetween s s
+between_here s o = record {
   graph = refl;
   ages = λ u. refl;
   waited = λ u q m h. h;
@@ -135,14 +136,14 @@ way_here s o = record {
 
 pub orderly_pumped : (s : State) → IsOrderly s → (chosen : NodeId → Bool) → IsOrderly (pumped s chosen)
 orderly_pumped s o chosen =
-    let way = way_pumped s s (way_here s o) chosen in
+    let between = between_pumped s s (between_here s o) chosen in
     record {
       holders = λ u q h. woken_some (granted_at s chosen) u (s.txns u) ∙ granted_or_held u q h
           (λ g. txn_there (s.txns u) _ (waits_there s o u q (granted_stands s chosen u q g)).1) (λ k. o.holders u q k);
       holders_live = λ u q h. granted_or_held u q h (λ g. o.waiters_live u q (granted_stands s chosen u q g)) (λ k. o.holders_live u q k);
       waiters_live = λ u q h. o.waiters_live u q (left_stands s chosen u q h);
-      waits_are = way.waits_are;
-      one_wait = λ u q m h. (way.one_wait u q m h, (o.one_wait u q m (way.waited u q m h)).1);
+      waits_are = between.waits_are;
+      one_wait = λ u q m h. (between.one_wait u q m h, (o.one_wait u q m (between.waited u q m h)).1);
       below = λ u h. o.below u (sym (woken_some (granted_at s chosen) u (s.txns u)) ∙ h);
     }
   where

@@ -1,6 +1,6 @@
 -- A wait ends without a grant: who is granted, who still waits, and what is told. For cancels and victims.
 use Rattle.gl_model.proofs.Words.{⊎_elim, ◌<◌, ◌==◌, ◌∙◌, ◌≡◌, ◌⊎◌, age_of, ap, ap₂, arith, Bool, clash, Condemned, condemned, false, front_at, grant_notice}
-use Rattle.gl_model.proofs.Words.{granted_at, holds, if◌then◌else◌, inl, inr, is_among_waiters, is_live, is_some, is_wait, is_waiting_at, IsOnWay, IsOrderly}
+use Rattle.gl_model.proofs.Words.{granted_at, holds, if◌then◌else◌, inl, inr, is_among_waiters, is_live, is_some, is_wait, is_waiting_at, IsBetween, IsOrderly}
 use Rattle.gl_model.proofs.Words.{members, Mode, mode_given, nat_tests, NL, NodeId, None, not, not_true, Notice, notices_in, Option, pumped, refl, same_mode}
 use Rattle.gl_model.proofs.Words.{same_node-equal, same_node-refl, same_number, Some, split, State, Status, status_in, status_of, subst, sym, Told, told_to}
 use Rattle.gl_model.proofs.Words.{true, TxnId, Waiting, waits_at, WaitWell, WakesTold, without_wait, ℕ}
@@ -10,8 +10,8 @@ use Rattle.gl_model.proofs.law.Settle.{wait_is}
 use Rattle.gl_model.proofs.law.Takes.{IsQuiet, restatus_quiet}
 use Rattle.gl_model.proofs.queues.Edits.{out_of_without}
 use Rattle.gl_model.proofs.queues.Waiters.{grants_other, if-false}
-use Rattle.gl_model.proofs.telling.Fronts.{front_stands, granted_here, waits_only, waits_there, way_here, well_without}
-use Rattle.gl_model.proofs.telling.Ways.{granted_stands, victim_tells, way_pumped, way_without_wait, without_wait_other, without_wait_own}
+use Rattle.gl_model.proofs.telling.Fronts.{front_stands, granted_here, waits_only, waits_there, between_here, well_without}
+use Rattle.gl_model.proofs.telling.Between.{granted_stands, victim_tells, between_pumped, between_without_wait, without_wait_other, without_wait_own}
 
 -- A wait ends without a grant, and the node's waiters are granted from the front: who is granted, and who still waits.
 
@@ -54,21 +54,21 @@ module _ (s : State) (o : IsOrderly s) (t : ℕ) (n : NodeId) (st : Status) (qui
 -- After a wait has ended, and its node granted from its front, the state is as orderly as it was.
 
 -- if the same slots are taken, and each holder held or waited before, all states in between are orderly
-pub orderly_on_way : (s now : State) → IsOrderly s → IsOnWay s now → now.most ≡ s.most → ((u : ℕ) → is_some (now.txns u) ≡ is_some (s.txns u))
+pub orderly_between : (s now : State) → IsOrderly s → IsBetween s now → now.most ≡ s.most → ((u : ℕ) → is_some (now.txns u) ≡ is_some (s.txns u))
     → ((u : ℕ) (q : NodeId) → holds (members now q) u ≡ true → (holds (members s q) u ≡ true) ⊎ (is_among_waiters u (s.queue q) ≡ true)) → IsOrderly now
-orderly_on_way s now o way most same held = record {
+orderly_between s now o between most same held = record {
   holders = λ u q h. same u ∙ ⊎_elim (λ k. o.holders u q k) (λ k. txn_there (s.txns u) _ (waits_there s o u q k).1) (held u q h);
-  holders_live = λ u q h. ap (λ g. is_live g q) way.graph ∙ ⊎_elim (λ k. o.holders_live u q k) (λ k. o.waiters_live u q k) (held u q h);
-  waiters_live = λ u q h. let w = waiting_is (status_of now u) q (way.waits_are u q h) in ap (λ g. is_live g q) way.graph
-      ∙ way.live u q w.0 (way.waited u q w.0 w.1);
-  waits_are = way.waits_are;
-  one_wait = λ u q m h. (way.one_wait u q m h, (o.one_wait u q m (way.waited u q m h)).1);
+  holders_live = λ u q h. ap (λ g. is_live g q) between.graph ∙ ⊎_elim (λ k. o.holders_live u q k) (λ k. o.waiters_live u q k) (held u q h);
+  waiters_live = λ u q h. let w = waiting_is (status_of now u) q (between.waits_are u q h) in ap (λ g. is_live g q) between.graph
+      ∙ between.live u q w.0 (between.waited u q w.0 w.1);
+  waits_are = between.waits_are;
+  one_wait = λ u q m h. (between.one_wait u q m h, (o.one_wait u q m (between.waited u q m h)).1);
   below = λ u h. subst (λ (k : ℕ). u < k) (sym most) (o.below u (sym (same u) ∙ h));
 }
 
-pub way_withdrawn : (s now : State) (t : ℕ) (st : Status) (chosen : NodeId → Bool) → IsQuiet st → IsOnWay s now
-    → IsOnWay s (pumped (without_wait now t st) chosen)
-way_withdrawn s now t st chosen quiet way = way_pumped s (without_wait now t st) (way_without_wait s now way t st quiet) chosen
+pub between_withdrawn : (s now : State) (t : ℕ) (st : Status) (chosen : NodeId → Bool) → IsQuiet st → IsBetween s now
+    → IsBetween s (pumped (without_wait now t st) chosen)
+between_withdrawn s now t st chosen quiet between = between_pumped s (without_wait now t st) (between_without_wait s now between t st quiet) chosen
 
 module _ (s : State) (o : IsOrderly s) (t : ℕ) (st : Status) (chosen : NodeId → Bool) (quiet : IsQuiet st) where
   abbrev left : State
@@ -78,7 +78,7 @@ module _ (s : State) (o : IsOrderly s) (t : ℕ) (st : Status) (chosen : NodeId 
   same_taken u = grind (arith, nat_tests, same_number)
 
   pub orderly_without : IsOrderly (pumped (without_wait s t st) chosen)
-  orderly_without = orderly_on_way s (pumped left chosen) o (way_withdrawn s s t st chosen quiet (way_here s o)) refl
+  orderly_without = orderly_between s (pumped left chosen) o (between_withdrawn s s t st chosen quiet (between_here s o)) refl
       (λ u. woken_some (granted_at left chosen) u (left.txns u) ∙ same_taken u) (λ u q h. split (is_among_waiters u (granted_at left chosen q))
       (λ g. inr (out_of_without t u (s.queue q) (granted_stands left chosen u q g)).0)
       (λ g. inl (ap (λ m. not (same_mode m NL)) (sym (grants_other (granted_at left chosen q) (members left q) u g)) ∙ h)))
@@ -97,11 +97,11 @@ swapped : {A : Type 0} (j k : Bool) (x y z : A) → (j ≡ true → k ≡ false)
 swapped j k x y z h1 = grind (arith, nat_tests)
 
 module _ (s : State) (o : IsOrderly s) (t : ℕ) (n : NodeId) (m : Mode) (waits : status_of s t ≡ Some (Waiting n m)) where
-  abbrev fallen : State
-  fallen = without_wait s t Condemned
+  abbrev after_victim : State
+  after_victim = without_wait s t Condemned
 
   abbrev in_front : ℕ → Bool
-  in_front u = is_among_waiters u (front_at fallen n)
+  in_front u = is_among_waiters u (front_at after_victim n)
 
   -- what t is told, with this age
   abbrev victim : ℕ → Option (TxnId × Notice)
@@ -115,21 +115,23 @@ module _ (s : State) (o : IsOrderly s) (t : ℕ) (n : NodeId) (m : Mode) (waits 
   victim_out = given_up_out s o t n Condemned (λ q w k. cc) here
 
   -- so it is not told before its condemnation
-  pub victim_absent : (told mid : Told) → WakesTold s.txns n (front_at fallen n) told mid → notices_in told t ≡ None → notices_in mid t ≡ None
+  pub victim_absent : (told mid : Told) → WakesTold s.txns n (front_at after_victim n) told mid → notices_in told t ≡ None → notices_in mid t ≡ None
   victim_absent told mid wakes none = wakes.notices t ∙ if-false _ victim_out ∙ none
 
   module _ (told told' : Told) (tells : TellsVictim s t n told told') where
-    pub victim_told : (start : State) → IsOnWay start s → ((u : ℕ) → notices_in told u ≡ told_to start s u) → (u : ℕ)
+    pub victim_told : (start : State) → IsBetween start s → ((u : ℕ) → notices_in told u ≡ told_to start s u) → (u : ℕ)
         → notices_in told' u ≡ told_to start (condemned s t) u
-    victim_told start way same u = tells u ∙ swapped (u == t) (in_front u) _ _ _ (λ e. ap in_front (same_number u t e) ∙ victim_out)
-        ∙ ap (λ (a : ℕ). if in_front u then Some (record { slot = u; age = a }, notice.Granted n (mode_given (front_at fallen n) u))
-        else (if u == t then victim (age_of s t) else notices_in told u)) (way.ages u)
-        ∙ ap₂ (λ (a : ℕ) x. if in_front u then grant_notice start.txns n (front_at fallen n) u else (if u == t then victim a else x)) (way.ages t) (same u)
-        ∙ sym (victim_tells start s t n m waits way u)
+    victim_told start between same u = tells u ∙ swapped (u == t) (in_front u) _ _ _ (λ e. ap in_front (same_number u t e) ∙ victim_out)
+        ∙ ap (λ (a : ℕ). if in_front u then Some (record { slot = u; age = a }, notice.Granted n (mode_given (front_at after_victim n) u))
+        else (if u == t then victim (age_of s t) else notices_in told u)) (between.ages u)
+        ∙ ap₂ (λ (a : ℕ) x. if in_front u then grant_notice start.txns n (front_at after_victim n) u else (if u == t then victim a else x)) (between.ages t)
+        (same u)
+        ∙ sym (victim_tells start s t n m waits between u)
 
     pub victim_untold : ((u : ℕ) → is_wait (status_of s u) ≡ true → notices_in told u ≡ None) → (u : ℕ) → is_wait (status_of (condemned s t) u) ≡ true
         → notices_in told' u ≡ None
     victim_untold untold u h =
         let still = waits_still s o t n Condemned (λ q w k. cc) here u h in
-        tells u ∙ ap₂ (λ j k. if j then victim (age_of s t) else (if k then grant_notice s.txns n (front_at fallen n) u else notices_in told u)) still.0 still.1
+        tells u ∙ ap₂ (λ j k. if j then victim (age_of s t) else
+        (if k then grant_notice s.txns n (front_at after_victim n) u else notices_in told u)) still.0 still.1
         ∙ untold u still.2

@@ -6,7 +6,7 @@ use Rattle.gl_model.proofs.Words.{IsLawful, IsNonDecreasingBy, IsOnNoCycle, IsPa
 use Rattle.gl_model.proofs.Words.{list_all_at, nat_le, nat_lt, nat_tests, None, not, Notice, notices_in, number_other, number_same, Option, prefix_len}
 use Rattle.gl_model.proofs.Words.{prefix_len_is, range_with_len, refl, Settled, SettledWithin, slots, Some, split, State, status_of, suc, sym, Told, told}
 use Rattle.gl_model.proofs.Words.{told_but, told_from, told_to, true, TxnId, Victim, Victims, waits_for, zero, ℕ}
-use Rattle.gl_model.proofs.telling.Ways.{quiet_told}
+use Rattle.gl_model.proofs.telling.Between.{quiet_told}
 use Rattle.gl_model.proofs.queues.Waiters.{all_weaker}
 
 -- A notice put in its place among notices by rising slot.

@@ -1,13 +1,14 @@
 -- Nodes are unlocked one after the other: what is left, and what is told since. For rollbacks.
 use Rattle.gl_model.proofs.Words.{[], ◌&&◌, ◌++◌, ◌∙◌, ◌∷◌, ◌≡◌, Active, ap, arith, Bool, child_held, clash, Detect, false, find, HasNoCycle, held_child, holds}
-use Rattle.gl_model.proofs.Words.{is_child, is_wait, IsLawful, IsOnWay, IsOrderly, List, list_any, members, nat_tests, NL, NodeId, nodes, None, not_true, refl}
+use Rattle.gl_model.proofs.Words.{is_child, is_wait, IsLawful, IsBetween, IsOrderly, List, list_any, members, nat_tests, NL, NodeId, nodes, None, not_true}
+use Rattle.gl_model.proofs.Words.{refl}
 use Rattle.gl_model.proofs.Words.{Some, State, status_in, status_of, subst, sym, unlocked, Victims, with_grant, ℕ}
 use Rattle.gl_model.specs.Calls.{holds_child, Unlocks}
 use Rattle.gl_model.proofs.law.Lock.{unlocked-lawful, unlocked-no_cycle}
 use Rattle.gl_model.proofs.law.Orderly.{lawful_orderly}
 use Rattle.gl_model.proofs.queues.Waiters.{if-false}
 use Rattle.gl_model.proofs.telling.Fronts.{front_stands, in_no_queue, well_granted, woken_front}
-use Rattle.gl_model.proofs.telling.Ways.{way_releases}
+use Rattle.gl_model.proofs.telling.Between.{between_releases}
 
 -- some are unlocked, and then some more
 pub unlocks_append : (s mid s' : State) (t : ℕ) (ns ms : List NodeId) → Unlocks s t ns mid → Unlocks mid t ms s' → Unlocks s t (ns ++ ms) s'
@@ -15,9 +16,9 @@ unlocks_append s mid s' t [] ms h k = subst (λ (x : State). Unlocks x t ms s') 
 unlocks_append s mid s' t (n ∷ ns) ms h k = (h.0, h.1, unlocks_append (unlocked s t n) mid s' t ns ms h.2 k)
 
 -- each is a step of the way
-pub unlocks_way : (begin s s' : State) (t : ℕ) (ns : List NodeId) → Unlocks s t ns s' → IsOnWay begin s → IsOnWay begin s'
-unlocks_way begin s s' t [] h way = subst (IsOnWay begin) (sym h) way
-unlocks_way begin s s' t (n ∷ ns) h way = unlocks_way begin (unlocked s t n) s' t ns h.2 (way_releases begin s t n way)
+pub unlocks_between : (begin s s' : State) (t : ℕ) (ns : List NodeId) → Unlocks s t ns s' → IsBetween begin s → IsBetween begin s'
+unlocks_between begin s s' t [] h between = subst (IsBetween begin) (sym h) between
+unlocks_between begin s s' t (n ∷ ns) h between = unlocks_between begin (unlocked s t n) s' t ns h.2 (between_releases begin s t n between)
 
 -- the same state, except detection, choice of victims, and counts
 abbrev pub saying : Detect → Victims → ℕ → ℕ → State → State
@@ -38,8 +39,8 @@ pub active_stays : (s : State) → IsOrderly s → (t : ℕ) (n : NodeId) → st
 active_stays s o t n active = ap status_in (own_stays s o t n (ap is_wait active)) ∙ active
 
 -- if no child is held, none is found
-pub none_in_the_way : (s : State) (t : ℕ) (n : NodeId) → holds_child s t n ≡ false → held_child s t n ≡ None
-none_in_the_way s t n h = ap child_held (none_any (λ c. is_child s.graph n c && holds (members s c) t) (nodes s.graph) h)
+pub no_child_held : (s : State) (t : ℕ) (n : NodeId) → holds_child s t n ≡ false → held_child s t n ≡ None
+no_child_held s t n h = ap child_held (none_any (λ c. is_child s.graph n c && holds (members s c) t) (nodes s.graph) h)
   where
     none_any : (f : NodeId → Bool) (ns : List NodeId) → list_any f ns ≡ false → find f ns ≡ None
     none_any f [] k = refl
@@ -54,7 +55,7 @@ pub record StillStands (s s' : State) (t : ℕ) : Type 0 where
 pub unlocks_stand : (s s' : State) (t : ℕ) (ns : List NodeId) → IsLawful s → status_of s t ≡ Some Active → Unlocks s t ns s' → StillStands s s' t
 unlocks_stand s s' t [] law active h = subst (λ (x : State). StillStands s x t) (sym h) (record { lawful = law; active = active; no_cycle = λ none. none })
 unlocks_stand s s' t (n ∷ ns) law active h =
-    let childless = none_in_the_way s t n h.1 in
+    let childless = no_child_held s t n h.1 in
     let rest = unlocks_stand (unlocked s t n) s' t ns (unlocked-lawful s law t n active childless)
     (active_stays s (lawful_orderly s law) t n active) h.2 in
     record { lawful = rest.lawful; active = rest.active; no_cycle = λ none. rest.no_cycle (unlocked-no_cycle s law t n active childless none) }

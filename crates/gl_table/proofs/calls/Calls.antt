@@ -1,7 +1,7 @@
 -- What the calls on the locks make of a table, and what tests a request passes. For the calls that release, and the locks that test.
 use Rattle.gl_table.proofs.Words.{[], ⊎_elim, ◌&&◌, ◌<◌, ◌==◌, ◌∙◌, ◌∷◌, ◌≡◌, Active, ap, arith, bad_mode, Bool, cases_lt, clash, commit_tests, state_at}
 use Rattle.gl_table.proofs.Words.{condemned, Deadlock, Detect, false, first_refusal, front_at, get_or, grant_notice, HasNoCycle, held_child, held_children}
-use Rattle.gl_table.proofs.Words.{holds, if◌then◌else◌, is_among_waiters, is_child, is_live, is_some, is_wait, IsDeadlock, IsLawful, IsOnWay, IsOrderly}
+use Rattle.gl_table.proofs.Words.{holds, if◌then◌else◌, is_among_waiters, is_child, is_live, is_some, is_wait, IsDeadlock, IsLawful, IsBetween, IsOrderly}
 use Rattle.gl_table.proofs.Words.{IsSound, IsStuck, IsVictim, keys, length, List, lock_tests, members, Mode, nat_tests, need_parents, NL, NodeId, nodes, None}
 use Rattle.gl_table.proofs.Words.{none_some, not, not_false, not_held, not_refused, not_true, Ok, Option, passed_then, refl, Refusal, refused_first, released}
 use Rattle.gl_table.proofs.Words.{same_number, Settled, SettledWithin, SettlesKeeping, SettlesKeepingWithin, slice_get_past, Some, some_no_node, split, State}
@@ -16,12 +16,12 @@ use Rattle.gl_model.proofs.law.Lock.{released-no_cycle, unlocked-lawful, unlocke
 use Rattle.gl_model.proofs.law.Takes.{released-lawful}
 use Rattle.gl_model.proofs.telling.Fronts.{front_stands, in_no_queue, well_granted}
 use Rattle.gl_model.proofs.telling.Lists.{told_is}
-use Rattle.gl_model.proofs.telling.Ways.{active_untold, nobody_told, release_tells, way_begins}
+use Rattle.gl_model.proofs.telling.Between.{active_untold, nobody_told, release_tells, between_begins}
 use Rattle.gl_modes.specs.declared.refusal.Refusal.TheVariants as no
 use Rattle.gl_graph.specs.declared.kind.Kind.{Kind}
 use Rattle.gl_graph.specs.Graph.{Graph, Node, shape_in}
 use Rattle.gl_graph.specs.Shapes.{File, Index, Inner, Interval, Rec, Shape, kind_in}
-use Rattle.gl_table.specs.declared.seat.Seat.{Seat}
+use Rattle.gl_table.specs.declared.txn_entry.TxnEntry.{TxnEntry}
 use Rattle.gl_table.specs.inside.Ledger.{AreSound, state_on}
 
 -- What the calls on the locks make of a table.
@@ -85,7 +85,7 @@ module _ (i : Inside) (sound : IsSound i) where
             (ap (λ v. is_among_waiters v (front_at (with_grant s t n NL) n)) (same_number u t e) ∙ not_front)
             ∙ sym (active_untold s (unlocked s t n) u (ap (status_of s) (same_number u t e) ∙ active)))
             (λ e. ap (λ o. if is_among_waiters u (front_at (with_grant s t n NL) n) then grant_notice s.txns n (front_at (with_grant s t n NL) n) u else o)
-            (sym (nobody_told s u)) ∙ sym (release_tells s s t n (way_begins s sound.lawful) u e))
+            (sym (nobody_told s u)) ∙ sym (release_tells s s t n (between_begins s sound.lawful) u e))
           where
             o : IsOrderly s
             o = lawful_orderly s sound.lawful
@@ -94,8 +94,8 @@ module _ (i : Inside) (sound : IsSound i) where
             not_front = not_true _ (λ h. clash (front_stands (with_grant s t n NL) n (well_granted s o t n NL n) t h) (in_no_queue s o t (ap is_wait active) n))
 
   -- what is told since a table's state begins at its locks
-  pub table_way : IsOnWay s l
-  table_way = let w = way_begins s sound.lawful in record {
+  pub table_between : IsBetween s l
+  table_between = let w = between_begins s sound.lawful in record {
     graph = refl;
     ages = w.ages;
     waited = w.waited;
@@ -158,13 +158,14 @@ module _ (c : Victims) (t : ℕ) (d : Detect) (v : Victims) (b : ℕ) where
 -- The tests of a request: what refuses it, and what remains to be tested once some have passed. For the locks that test.
 
 -- an active transaction has an entry
-active_seated : (seats : List (Option Seat)) (t : ℕ) → status_in (txns_of seats t) ≡ Some Active → t < length seats
-active_seated seats t h =
-    ⊎_elim (λ lt. lt) (λ le. absurd (none_some (sym (ap (λ o. status_in (txn_in o)) (slice_get_past seats t le)) ∙ h))) (cases_lt t (length seats))
+active_has_entry : (txn_entries : List (Option TxnEntry)) (t : ℕ) → status_in (txns_of txn_entries t) ≡ Some Active → t < length txn_entries
+active_has_entry txn_entries t h =
+    ⊎_elim (λ lt. lt) (λ le. absurd (none_some (sym (ap (λ o. status_in (txn_in o)) (slice_get_past txn_entries t le)) ∙ h))) (cases_lt t (length txn_entries))
 
 -- a transaction that may request has a list
-pub asker_listed : (g : Graph) (l : Ledger) (t : TxnId) → AreSound l → first_refusal (commit_tests (state_on g l) t) ≡ None → t.slot < length l.lists.items
-asker_listed g l t sound may = subst (λ (k : ℕ). t.slot < k) (sym sound.lists) (active_seated l.seats.items t.slot (is_active (state_on g l) t may))
+pub requester_listed : (g : Graph) (l : Ledger) (t : TxnId) → AreSound l → first_refusal (commit_tests (state_on g l) t) ≡ None → t.slot < length l.lists.items
+requester_listed g l t sound may = subst (λ (k : ℕ). t.slot < k) (sym sound.lists)
+    (active_has_entry l.txn_entries.items t.slot (is_active (state_on g l) t may))
 
 -- a node lives if it has a kind
 live_kind : (x : Option Node) → is_some x ≡ is_some (kind_in (shape_in x))
@@ -194,8 +195,8 @@ module _ (s : State) (t : TxnId) (n : NodeId) (m : Mode) where
   rule = need_parents s t.slot n (wanted s t.slot n m)
 
   -- a transaction that may not request at all is refused
-  pub asker_refused : (r : Refusal) → first_refusal (commit_tests s t) ≡ Some r → first_refusal (lock_tests s t n m) ≡ Some r
-  asker_refused r h = refused_first (commit_tests s t) (some_no_node s.graph (n ∷ []) ∷ bad_mode s n m ∷ rule ∷ []) r h
+  pub requester_refused : (r : Refusal) → first_refusal (commit_tests s t) ≡ Some r → first_refusal (lock_tests s t n m) ≡ Some r
+  requester_refused r h = refused_first (commit_tests s t) (some_no_node s.graph (n ∷ []) ∷ bad_mode s n m ∷ rule ∷ []) r h
 
   module _ (may : first_refusal (commit_tests s t) ≡ None) where
     node_decides : (b : Bool) → is_live s.graph n ≡ b

@@ -14,7 +14,7 @@ use Rattle.gl_model.proofs.law.Orderly.{lawful_orderly}
 use Rattle.gl_model.proofs.queues.Waiters.{if-false, if-true}
 use Rattle.gl_model.proofs.telling.Fronts.{stands_there, waits_there}
 use Rattle.gl_model.proofs.telling.Lists.{told_is}
-use Rattle.gl_model.proofs.telling.Ways.{nobody_told}
+use Rattle.gl_model.proofs.telling.Between.{nobody_told}
 use Rattle.gl_table.specs.declared.ledger.Ledger.{Ledger}
 use Rattle.gl_table.specs.declared.table.Table.TheInside.{Inside}
 use Rattle.gl_table.proofs.calls.Stands.{MayStand, stands, with_locks}

@@ -5,12 +5,12 @@ use Rattle.gl_table.proofs.Words.{released, same_number, Settled, SettlesKeeping
 use Rattle.gl_table.proofs.Words.{TellsAll, TellsOthers, Told, told, told_but, told_to, true, view_of, WakesTold, without_wait, ℕ}
 use Rattle.gl_table.specs.declared.locks.Locks.{Locks}
 use Rattle.gl_table.specs.declared.table.Table.TheInside.{Inside}
-use Rattle.gl_table.proofs.calls.Calls.{keeping_also, settled_also, state_released, table_way}
+use Rattle.gl_table.proofs.calls.Calls.{keeping_also, settled_also, state_released, table_between}
 use Rattle.gl_table.proofs.inside.Departures.{cancelled_own, cancelled_tells}
 use Rattle.gl_model.proofs.law.Lock.{given_up-no_cycle, settled-no_cycle}
 use Rattle.gl_model.proofs.law.Takes.{settled-lawful, without_wait-lawful}
 use Rattle.gl_model.proofs.telling.Lists.{told_but_is, told_is}
-use Rattle.gl_model.proofs.telling.Ways.{gone_untold, is_by_test, nobody_told}
+use Rattle.gl_model.proofs.telling.Between.{gone_untold, is_by_test, nobody_told}
 
 -- a released transaction has no slot
 released_gone : (s : State) (t : ℕ) → status_of (released s t) t ≡ None
@@ -31,7 +31,7 @@ module _ (i : Inside) (sound : IsSound i) where
       told_is s after list sound.lawful i.locks.sound.few tells.by_slot (λ u. split (u == t)
       (λ e. ap (notices_in list) (same_number u t e) ∙ tells.own ∙ ap (λ xs. notices_in xs t) none
       ∙ sym (ap (told_to s after) (same_number u t e) ∙ gone_untold s after t gone))
-      (λ e. tells.others s (table_way i sound) (λ v k. ap (λ xs. notices_in xs v) none ∙ sym (nobody_told s v)) u e))
+      (λ e. tells.others s (table_between i sound) (λ v k. ap (λ xs. notices_in xs v) none ∙ sym (nobody_told s v)) u e))
     where
       after : State
       after = state_of (view_of (record i { locks = locks }))
@@ -59,7 +59,7 @@ module _ (i : Inside) (sound : IsSound i) where
     told_cancelled first list none tells =
         told_but_is s (state_of (view_of after)) t list sound.lawful i.locks.sound.few tells.by_slot (λ u. is_by_test (u == t)
         (λ e. ap (notices_in list) (same_number u t e) ∙ cancelled_own l i.locks.orderly t n waits first list tells ∙ ap (λ xs. notices_in xs t) none)
-        (λ e. (cancelled_tells l i.locks.orderly t n waits first list tells s (table_way i sound) (λ v k. ap (λ xs. notices_in xs v) none
+        (λ e. (cancelled_tells l i.locks.orderly t n waits first list tells s (table_between i sound) (λ v k. ap (λ xs. notices_in xs v) none
         ∙ sym (nobody_told s v))).1 u e ∙ ap (λ x. told_to s x u) (sym is)))
 
   -- a transaction was settled
@@ -85,4 +85,4 @@ module _ (i : Inside) (sound : IsSound i) where
     pub told_settled : (first list : Told) → first ≡ [] → TellsAll l (state_at locks) first list → list ≡ told s (state_of (view_of now))
     told_settled first list none tells =
         told_is s (state_of (view_of now)) list sound.lawful i.locks.sound.few tells.by_slot
-        (tells.all s (table_way i sound) (λ u. ap (λ xs. notices_in xs u) none ∙ sym (nobody_told s u)))
+        (tells.all s (table_between i sound) (λ u. ap (λ xs. notices_in xs u) none ∙ sym (nobody_told s u)))

@@ -6,7 +6,7 @@ use Rattle.gl_table.proofs.Words.{first_refusal, free_slot, get_or, graph_of, Ha
 use Rattle.gl_table.proofs.Words.{is_live, is_none, is_some, is_wait, is_waiting_at, IsDistinct, IsLawful, IsSafe, IsSound, keys_of, length, length-set, List}
 use Rattle.gl_table.proofs.Words.{list_all, ListsAgree, LockList, lookup, loose_of, map, max_count, Members, members, mode_in, nat_lt, nat_tests, NodeId, None}
 use Rattle.gl_table.proofs.Words.{not, Ok, OnErr, Option, option_map_or, position, position-Some, position_or_len, queue_of, range_with_len, refl, Refusal}
-use Rattle.gl_table.proofs.Words.{Refuses, replicate, Result, same_node, Seat, SeatList, slice_get, slice_get-get_or, slice_set, Some, StandOnce, State}
+use Rattle.gl_table.proofs.Words.{Refuses, replicate, Result, same_node, TxnEntry, TxnEntryList, slice_get, slice_get-get_or, slice_set, Some, StandOnce, State}
 use Rattle.gl_table.proofs.Words.{state_in, state_of, status_in, status_of, subst, suc, sym, TableView, too_many_txns, true, txn_in, txns_of, unused-nobody}
 use Rattle.gl_table.proofs.Words.{Victims, View, view_of, where_true, with_graph, zero, ℕ}
 use Rattle.gl_model.proofs.queues.Walks.{same}
@@ -17,7 +17,7 @@ use Rattle.gl_table.specs.declared.table.Table.TheInside.{Inside}
 use Rattle.gl_table.proofs.calls.Stands.{as_it_was, IsLaw, MayStand, orderly_over, stands}
 use Rattle.gl_modes.specs.declared.refusal.Refusal.TheVariants as no
 use Rattle.gl_table.proofs.inside.Orders.{unique_in}
-use Rattle.gl_table.proofs.inside.Seats.{txns-set}
+use Rattle.gl_table.proofs.inside.TxnEntries.{txns-set}
 use Rattle.gl_model.proofs.law.Keeps.{waiting_is}
 use Rattle.gl_model.proofs.law.Lock.{begun-no_cycle, empty-no_cycle}
 use Rattle.gl_model.proofs.law.Records.{born-children, grown-lawful, Grows}
@@ -78,14 +78,14 @@ stand_once i sound unique = record { headers = unique; lists = lists_once i.lock
 
 -- A table without contents.
 
-length-replicate : (k : ℕ) → length (replicate {A = Option Seat} k None) ≡ k
+length-replicate : (k : ℕ) → length (replicate {A = Option TxnEntry} k None) ≡ k
 length-replicate zero = refl
 length-replicate (suc k) = ap suc (length-replicate k)
 
-free_seats : (k t : ℕ) → txns_of (replicate k None) t ≡ None
-free_seats zero t = refl
-free_seats (suc k) zero = refl
-free_seats (suc k) (suc t) = free_seats k t
+free_txn_entries : (k t : ℕ) → txns_of (replicate k None) t ≡ None
+free_txn_entries zero t = refl
+free_txn_entries (suc k) zero = refl
+free_txn_entries (suc k) (suc t) = free_txn_entries k t
 
 module _ (graph : View) (ledger : Ledger) (detect : Detect) (victims : Victims) (most : ℕ) (few : most ≤ most_slots) (low : graph.most ≤ 2 ^ 31)
     (none : (birth : ℕ) → (graph_of graph).at birth ≡ None) (births : graph.births ≡ 0) (new : AreNew ledger most) where
@@ -98,10 +98,10 @@ module _ (graph : View) (ledger : Ledger) (detect : Detect) (victims : Victims) 
   pub new_state : fresh ≡ with_limits graph.most graph.most_bounds (choosing victims (empty_state detect most))
   new_state = λ z. record (with_limits graph.most graph.most_bounds (choosing victims (empty_state detect most))) {
     graph = record { at = λ b. none b z; births = births z; most = graph.most; most_bounds = graph.most_bounds };
-    txns = λ t. (ap (λ xs. txns_of xs t) new.seats ∙ free_seats most t) z;
+    txns = λ t. (ap (λ xs. txns_of xs t) new.txn_entries ∙ free_txn_entries most t) z;
     held = λ t n. (ap (λ hs. held_of hs t n) new.headers ∙ ap (λ (g : Members). g t) unused-nobody) z;
     queue = λ n. queue_of (new.headers z) n;
-    most = (ap length new.seats ∙ length-replicate most) z;
+    most = (ap length new.txn_entries ∙ length-replicate most) z;
   }
 
   pub new_safe : IsSafe fresh
@@ -114,8 +114,8 @@ module _ (graph : View) (ledger : Ledger) (detect : Detect) (victims : Victims) 
   new_law = record {
     orderly = orderly_over l detect victims 0 new_safe.lawful;
     sound = record {
-      few = subst (λ (k : ℕ). k ≤ most_slots) (sym (ap length new.seats ∙ length-replicate most)) few;
-      lists = new.lists ∙ sym (ap length new.seats ∙ length-replicate most);
+      few = subst (λ (k : ℕ). k ≤ most_slots) (sym (ap length new.txn_entries ∙ length-replicate most)) few;
+      lists = new.lists ∙ sym (ap length new.txn_entries ∙ length-replicate most);
     };
     agree = λ u. record {
       modes = λ q. new.modes u q ∙ sym (ap (λ (x : State). x.held u q) new_state);
@@ -192,25 +192,26 @@ all-by_find : {X : Type 0} (p : X → Bool) (xs : List X) → list_all p xs ≡ 
 all-by_find p [] = refl
 all-by_find p (x ∷ xs) = grind (arith, nat_tests, p x, all-by_find p xs)
 
-free-none : (o : Option Seat) → is_none (txn_in (Some o)) ≡ is_free o
+free-none : (o : Option TxnEntry) → is_none (txn_in (Some o)) ≡ is_free o
 free-none None = refl
 free-none (Some x) = refl
 
-none-free : (o : Option Seat) → is_free o ≡ true → is_some (txn_in (Some o)) ≡ false
+none-free : (o : Option TxnEntry) → is_free o ≡ true → is_some (txn_in (Some o)) ≡ false
 none-free None e = refl
 none-free (Some x) e = cc
 
 -- the lowest free entry is that of the lowest free slot
-pub found-slot : (v : TableView) (o : Option ℕ) → o ≡ position is_free v.seats → free_slot (state_of v) ≡ o
+pub found-slot : (v : TableView) (o : Option ℕ) → o ≡ position is_free v.txn_entries → free_slot (state_of v) ≡ o
 found-slot v o is =
-    find-places is_free (λ u. is_none (txns_of v.seats u)) v.seats 0 free_at
-    ∙ ap (λ k. cond (nat_lt (position_or_len is_free v.seats) (length v.seats)) (Some k) None) (from_0 (position_or_len is_free v.seats)) ∙ sym is
+    find-places is_free (λ u. is_none (txns_of v.txn_entries u)) v.txn_entries 0 free_at
+    ∙ ap (λ k. cond (nat_lt (position_or_len is_free v.txn_entries) (length v.txn_entries)) (Some k) None) (from_0 (position_or_len is_free v.txn_entries))
+    ∙ sym is
   where
     from_0 : (k : ℕ) → 0 + k ≡ k
     from_0 k = omega arith
 
-    free_at : (i : ℕ) (x : Option Seat) → slice_get v.seats i ≡ Some x → is_none (txns_of v.seats (0 + i)) ≡ is_free x
-    free_at i x e = ap (λ k. is_none (txns_of v.seats k)) (from_0 i) ∙ ap (λ o. is_none (txn_in o)) e ∙ free-none x
+    free_at : (i : ℕ) (x : Option TxnEntry) → slice_get v.txn_entries i ≡ Some x → is_none (txns_of v.txn_entries (0 + i)) ≡ is_free x
+    free_at i x e = ap (λ k. is_none (txns_of v.txn_entries k)) (from_0 i) ∙ ap (λ o. is_none (txn_in o)) e ∙ free-none x
 
 -- a transaction may begin if a slot is free and an age is left
 pub begin-refusal : (first : State) (o : Option ℕ) → (first.begins ≡ max_count → ⊥) → free_slot first ≡ o
@@ -226,11 +227,11 @@ begin-refusal first o left is =
     last : (b : Bool) → first_refusal (None ∷ where_true b no.TooManyTxns ∷ []) ≡ where_true b no.TooManyTxns
     last b = grind (arith, nat_tests)
 
-module _ (i : Inside) (sound : IsSound i) (t since : ℕ) (at : Some t ≡ position is_free i.locks.ledger.seats.items)
-    (seats : SeatList)
-    (seated : seats.items ≡ slice_set i.locks.ledger.seats.items t (Some (record { age = i.begins + 1; since = since; status = Active }))) where
+module _ (i : Inside) (sound : IsSound i) (t since : ℕ) (at : Some t ≡ position is_free i.locks.ledger.txn_entries.items)
+    (txn_entries : TxnEntryList)
+    (has_entry : txn_entries.items ≡ slice_set i.locks.ledger.txn_entries.items t (Some (record { age = i.begins + 1; since = since; status = Active }))) where
   abbrev ledger : Ledger
-  ledger = record i.locks.ledger { seats = seats }
+  ledger = record i.locks.ledger { txn_entries = txn_entries }
 
   abbrev first : State
   first = state_of (view_of i)
@@ -238,21 +239,21 @@ module _ (i : Inside) (sound : IsSound i) (t since : ℕ) (at : Some t ≡ posit
   abbrev now : State
   now = record (state_in i.locks.graph ledger) { detect = i.detect; victims = i.victims; begins = i.begins + 1 }
 
-  place : (t < length i.locks.ledger.seats.items) × (is_free (get_or i.locks.ledger.seats.items t None) ≡ true)
-      × ((k : ℕ) → k < t → is_free (get_or i.locks.ledger.seats.items k None) ≡ false)
-  place = position-Some is_free i.locks.ledger.seats.items t None (sym at)
+  place : (t < length i.locks.ledger.txn_entries.items) × (is_free (get_or i.locks.ledger.txn_entries.items t None) ≡ true)
+      × ((k : ℕ) → k < t → is_free (get_or i.locks.ledger.txn_entries.items k None) ≡ false)
+  place = position-Some is_free i.locks.ledger.txn_entries.items t None (sym at)
 
   free : is_some (first.txns t) ≡ false
-  free = ap (λ o. is_some (txn_in o)) (slice_get-get_or i.locks.ledger.seats.items t None place.0) ∙ none-free _ place.1
+  free = ap (λ o. is_some (txn_in o)) (slice_get-get_or i.locks.ledger.txn_entries.items t None place.0) ∙ none-free _ place.1
 
-  seats-same : length seats.items ≡ length i.locks.ledger.seats.items
-  seats-same = ap length seated ∙ length-set i.locks.ledger.seats.items t (Some (record { age = i.begins + 1; since = since; status = Active }))
+  txn_entries-same : length txn_entries.items ≡ length i.locks.ledger.txn_entries.items
+  txn_entries-same = ap length has_entry ∙ length-set i.locks.ledger.txn_entries.items t (Some (record { age = i.begins + 1; since = since; status = Active }))
 
   pub begun-state : now ≡ begun_since first t since
   begun-state = λ z. record (begun_since first t since) {
-    txns = λ u. (ap (λ xs. txns_of xs u) seated
-        ∙ txns-set i.locks.ledger.seats.items t (Some (record { age = i.begins + 1; since = since; status = Active })) place.0 u) z;
-    most = seats-same z;
+    txns = λ u. (ap (λ xs. txns_of xs u) has_entry
+        ∙ txns-set i.locks.ledger.txn_entries.items t (Some (record { age = i.begins + 1; since = since; status = Active })) place.0 u) z;
+    most = txn_entries-same z;
   }
 
   -- each waiter was there before
@@ -269,8 +270,8 @@ module _ (i : Inside) (sound : IsSound i) (t since : ℕ) (at : Some t ≡ posit
   begun-law = record {
     orderly = orderly_over (state_in i.locks.graph ledger) i.detect i.victims (i.begins + 1) begun-safe.lawful;
     sound = record {
-      few = subst (λ (k : ℕ). k ≤ most_slots) (sym seats-same) i.locks.sound.few;
-      lists = i.locks.sound.lists ∙ sym seats-same;
+      few = subst (λ (k : ℕ). k ≤ most_slots) (sym txn_entries-same) i.locks.sound.few;
+      lists = i.locks.sound.lists ∙ sym txn_entries-same;
     };
     agree = λ u. record {
       modes = (i.locks.agree u).modes;

@@ -98,10 +98,10 @@ module _ (i : Inside) (sound : IsSound i) (t : TxnId) (n : NodeId) (m : Mode) wh
     where
       same : s ≡ with_locks i (state_in i.locks.graph ledger)
       same = λ z. record s {
-        txns = txns_of (sym kept.seats z).items;
+        txns = txns_of (sym kept.txn_entries z).items;
         held = held_of (sym kept.headers z);
         queue = queue_of (sym kept.headers z);
-        most = length (sym kept.seats z).items;
+        most = length (sym kept.txn_entries z).items;
       }
 
   -- it was granted, or nothing but room was made

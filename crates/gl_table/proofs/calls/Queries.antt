@@ -163,14 +163,14 @@ module _ (s : State) (t : TxnId) (n : NodeId) (m : Mode) where
 module _ (i : Inside) (sound : IsSound i) (v : TableView) (view : view_of i ≡ v) where
   pub group-seen : (n : NodeId) → group_of slot_limit (members_at i.locks.ledger.headers.entries n) ≡ group_of (state_of v).most (members (state_of v) n)
   group-seen n =
-      sym (group_of-limit (length i.locks.ledger.seats.items) (members_at i.locks.ledger.headers.entries n) i.locks.sound.few
+      sym (group_of-limit (length i.locks.ledger.txn_entries.items) (members_at i.locks.ledger.headers.entries n) i.locks.sound.few
       (lawful-within (state_of (view_of i)) sound.lawful n)) ∙ ap (λ w. group_of (state_of w).most (members (state_of w) n)) view
 
   -- a snapshot is made of transactions, grants and queues alone
-  pub board-seen : (epoch : ℕ) → board_of (shown i.locks.ledger.headers.entries i.locks.ledger.seats.items epoch) ≡ board_of (record
+  pub board-seen : (epoch : ℕ) → board_of (shown i.locks.ledger.headers.entries i.locks.ledger.txn_entries.items epoch) ≡ board_of (record
       (state_of v) { accepted = epoch })
   board-seen epoch = λ z. board_of (record (state_of v) {
-    txns = txns_of (view z).seats;
+    txns = txns_of (view z).txn_entries;
     held = held_of (view z).headers;
     queue = queue_of (view z).headers;
     accepted = epoch;

@@ -13,7 +13,7 @@ use Rattle.gl_model.proofs.queues.Walks.{same}
 use Rattle.gl_table.specs.declared.ledger.Ledger.{Ledger}
 use Rattle.gl_table.specs.declared.locks.Locks.{Locks}
 use Rattle.gl_table.specs.declared.table.Table.TheInside.{Inside}
-use Rattle.gl_table.proofs.calls.Calls.{table_way}
+use Rattle.gl_table.proofs.calls.Calls.{table_between}
 use Rattle.gl_table.proofs.calls.Departing.{AreGone}
 use Rattle.gl_model.proofs.law.Orderly.{lawful_orderly}
 use Rattle.gl_table.proofs.calls.Stands.{MayStand, stands, with_locks}
@@ -33,7 +33,7 @@ use Rattle.gl_model.proofs.queues.Fronts.{granted_waits}
 use Rattle.gl_model.proofs.queues.Waiters.{grants_other}
 use Rattle.gl_model.proofs.telling.Fronts.{in_no_queue}
 use Rattle.gl_model.proofs.telling.Lists.{told_is}
-use Rattle.gl_model.proofs.telling.Ways.{active_untold, nobody_told}
+use Rattle.gl_model.proofs.telling.Between.{active_untold, nobody_told}
 
 -- Records of a table are added and removed: what holds of the fields still does.
 
@@ -66,7 +66,7 @@ record_gone s law r rec g' is = subst (λ g. AreGone s (λ q. same_node q r) g r
 -- room was made, and all says what it said
 module _ (i : Inside) (sound : IsSound i) (ledger : Ledger) (kept : KeepsLocks i.locks.ledger ledger) where
   same_on : (g : Graph) → state_on g ledger ≡ state_on g i.locks.ledger
-  same_on g = state-same g i.locks.ledger ledger kept.headers kept.seats
+  same_on g = state-same g i.locks.ledger ledger kept.headers kept.txn_entries
 
   pub same_state : with_locks i (state_in i.locks.graph ledger) ≡ state_of (view_of i)
   same_state = ap {A = State} (with_locks i) (same_on (graph_of i.locks.graph))
@@ -86,8 +86,8 @@ module _ (i : Inside) (sound : IsSound i) (ledger : Ledger) (kept : KeepsLocks i
         (keeps-counts (state_at i.locks) i.locks.ledger.lists.items ledger.lists.items u kept.lists (i.locks.count u));
   })
     where
-      many : length ledger.seats.items ≡ length i.locks.ledger.seats.items
-      many = ap (λ x. length x.items) kept.seats
+      many : length ledger.txn_entries.items ≡ length i.locks.ledger.txn_entries.items
+      many = ap (λ x. length x.items) kept.txn_entries
 
 module _ (i : Inside) (sound : IsSound i) (f : NodeId) (keys : List ℕ) (free : record_refusal (graph_of i.locks.graph) f keys ≡ None) (v : View) where
   abbrev before : State
@@ -226,7 +226,7 @@ module _ (i : Inside) (sound : IsSound i) (t : ℕ) (n : NodeId) where
           told_is whole (state_of (view_of ended)) list sound.lawful i.locks.sound.few tells.by_slot (λ u. split (u == t)
           (λ e. let is = same_number u t e in ap (notices_in list) is ∙ tells.own ∙ ap (λ xs. notices_in xs t) none
           ∙ sym (active_untold whole (state_of (view_of ended)) u (ap (status_of whole) is ∙ active)))
-          (λ e. tells.others whole (table_way i sound) (λ v k. ap (λ xs. notices_in xs v) none ∙ sym (nobody_told whole v)) u e))
+          (λ e. tells.others whole (table_between i sound) (λ v k. ap (λ xs. notices_in xs v) none ∙ sym (nobody_told whole v)) u e))
 
       module _ (reads : is_at_least (whole.held t n) S ≡ true) (o o' : Option ℕ)
           (said : o ≡ children_in whole t n) (said' : o' ≡ children_in (state_of (view_of ended)) t n) (k k' : ℕ)

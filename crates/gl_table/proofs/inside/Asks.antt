@@ -25,23 +25,24 @@ use Rattle.gl_header.proofs.Unused.{unused-false}
 -- room was made in the list of the slot, if it was wanted; all says what it said
 pub record HasMadeRoom (l l' : Ledger) (t : ℕ) (wanted : Bool) : Type 0 where
   pub headers : l'.headers ≡ l.headers
-  pub seats : l'.seats ≡ l.seats
+  pub txn_entries : l'.txn_entries ≡ l.txn_entries
   pub lists : KeepsLists l.lists.items l'.lists.items
   pub room : wanted ≡ true → HasRoomAt l'.lists.items t
 
 -- headers and transaction entries alone make the state
-pub state-same : (g : Graph) (l l' : Ledger) → l'.headers.entries ≡ l.headers.entries → l'.seats ≡ l.seats → state_on g l' ≡ state_on g l
-state-same g l l' headers seats = λ i. record (state_on g (record l { seats = seats i })) { held = held_of (headers i); queue = queue_of (headers i) }
+pub state-same : (g : Graph) (l l' : Ledger) → l'.headers.entries ≡ l.headers.entries → l'.txn_entries ≡ l.txn_entries → state_on g l' ≡ state_on g l
+state-same g l l' headers txn_entries = λ i. record
+    (state_on g (record l { txn_entries = txn_entries i })) { held = held_of (headers i); queue = queue_of (headers i) }
 
 pub room-state : (g : View) (l l' : Ledger) (t : ℕ) (wanted : Bool) → HasMadeRoom l l' t wanted → state_in g l' ≡ state_in g l
-room-state g l l' t wanted made = state-same (graph_of g) l l' (ap (λ h. h.entries) made.headers) made.seats
+room-state g l l' t wanted made = state-same (graph_of g) l l' (ap (λ h. h.entries) made.headers) made.txn_entries
 
 pub room-may_ask : (g : View) (l l' : Ledger) (t : ℕ) (wanted : Bool) → HasMadeRoom l l' t wanted → MayAct g l t → MayAct g l' t
 room-may_ask g l l' t wanted made may = record {
   exact = record {
     sound = record {
-      few = subst (λ (k : ℕ). k ≤ most_slots) (sym seats) may.exact.sound.few;
-      lists = made.lists.len ∙ may.exact.sound.lists ∙ sym seats;
+      few = subst (λ (k : ℕ). k ≤ most_slots) (sym txn_entries) may.exact.sound.few;
+      lists = made.lists.len ∙ may.exact.sound.lists ∙ sym txn_entries;
     };
     agree = λ u. subst (λ s. Agrees s l'.lists.items u) (sym same) (keeps-agrees (state_in g l) l.lists.items l'.lists.items u made.lists (may.exact.agree u));
     count = λ u. subst (λ s. CountsHeld s l'.lists.items u) (sym same)
@@ -54,14 +55,14 @@ room-may_ask g l l' t wanted made may = record {
     same : state_in g l' ≡ state_in g l
     same = room-state g l l' t wanted made
 
-    seats : length l'.seats.items ≡ length l.seats.items
-    seats = ap (λ x. length x.items) made.seats
+    txn_entries : length l'.txn_entries.items ≡ length l.txn_entries.items
+    txn_entries = ap (λ x. length x.items) made.txn_entries
 
 module _ (g : View) (l : Ledger) (t : ℕ) (may : MayAct g l t) where
   abbrev s : State
   s = state_in g l
 
-  pub slot-below : t < length l.seats.items
+  pub slot-below : t < length l.txn_entries.items
   slot-below = may.orderly.below t (txn_there (s.txns t) Active may.active)
 
   pub slot-listed : t < length l.lists.items
@@ -140,7 +141,7 @@ says_is g l t n m may = sym (enters-most (state_in g l) may.orderly may.exact.so
 module _ {g : View} {l : Ledger} (l' : Ledger) {t : ℕ} (may : MayAct g l t) (rest : l' ≡ record l { lists = l'.lists })
     (lists : KeepsLists l.lists.items l'.lists.items) where
   only_room : (wanted : Bool) → (wanted ≡ true → HasRoomAt l'.lists.items t) → HasMadeRoom l l' t wanted
-  only_room wanted room = record { headers = ap (λ x. x.headers) rest; seats = ap (λ x. x.seats) rest; lists = lists; room = room }
+  only_room wanted room = record { headers = ap (λ x. x.headers) rest; txn_entries = ap (λ x. x.txn_entries) rest; lists = lists; room = room }
 
   none_wanted : HasMadeRoom l l' t false
   none_wanted = only_room false (λ e. absurd (cc))
@@ -271,11 +272,12 @@ module _ {g : View} {l r : Ledger} (l' : Ledger) {t : ℕ} {n : NodeId} {m : Mod
       → a ≡ asked.Granted w
       → (enters_now ≡ true → (held_of l'.headers.entries ≡ with_members (held_of r.headers.entries) n (with_mode (members_at r.headers.entries n) t want))
       × (queue_of l'.headers.entries ≡ queue_of r.headers.entries))
-      → l'.seats ≡ r.seats → HasNode r.lists.items l'.lists.items t n w → CountsGrant (state_in g r) r.lists.items l'.lists.items t n → IsGranted g l l' t n m w
-  is_granted law live lock answer is changed seats has counts = record {
+      → l'.txn_entries ≡ r.txn_entries → HasNode r.lists.items l'.lists.items t n w → CountsGrant (state_in g r) r.lists.items l'.lists.items t n
+      → IsGranted g l l' t n m w
+  is_granted law live lock answer is changed txn_entries has counts = record {
     sound = record {
-      few = subst (λ (k : ℕ). k ≤ most_slots) (ap (λ x. length x.items) (sym seats)) ready.may.exact.sound.few;
-      lists = has.len ∙ ready.may.exact.sound.lists ∙ ap (λ x. length x.items) (sym seats);
+      few = subst (λ (k : ℕ). k ≤ most_slots) (ap (λ x. length x.items) (sym txn_entries)) ready.may.exact.sound.few;
+      lists = has.len ∙ ready.may.exact.sound.lists ∙ ap (λ x. length x.items) (sym txn_entries);
     };
     mode = mode ∙ ap (λ s. wanted s t n m) ready.same;
     state = state ∙ ap₂ (λ s x. with_grant s t n x) ready.same (mode ∙ ap (λ s. wanted s t n m) ready.same);
@@ -292,7 +294,7 @@ module _ {g : View} {l r : Ledger} (l' : Ledger) {t : ℕ} {n : NodeId} {m : Mod
       locks e = clash (ap (λ x. same_mode x NL) (sym mode ∙ e)) (supremum-not_NL (held_of r.headers.entries t n) m (not_NL m lock))
 
       state : state_in g l' ≡ with_grant (state_in g r) t n w
-      state = λ i. record (state_in g (record r { seats = seats i })) {
+      state = λ i. record (state_in g (record r { txn_entries = txn_entries i })) {
         held = ((changed ready.enters).0 ∙ with_members-grant (held_of r.headers.entries) t n want
             ∙ ap (λ x. (with_grant (state_in g r) t n x).held) (sym mode)) i;
         queue = (changed ready.enters).1 i;
@@ -318,14 +320,14 @@ module _ (g : View) (l : Ledger) (t : ℕ) (n : NodeId) (m : Mode) (may : MayAct
   -- its header was put in, and the slot's list was written
   pub is_placed : IsLawfulGraph (graph_of g) → m ≢ NL → (h : HeaderState) → IsOneHolder h t m → wanted_new ≡ m → (l' : Ledger)
       → held_of l'.headers.entries ≡ with_members (held_of l.headers.entries) n (members_of h)
-      → queue_of l'.headers.entries ≡ with_waiters (queue_of l.headers.entries) n h.queue → l'.seats ≡ l.seats
+      → queue_of l'.headers.entries ≡ with_waiters (queue_of l.headers.entries) n h.queue → l'.txn_entries ≡ l.txn_entries
       → HasNode l.lists.items l'.lists.items t n m → CountsGrant (state_in g l) l.lists.items l'.lists.items t n → IsGranted g l l' t n m m
-  is_placed law lock h one want_is l' held queue seats has counts =
+  is_placed law lock h one want_is l' held queue txn_entries has counts =
       is_granted l' ready (asked.Granted m) m law fresh.live lock
       (ap asked.Granted (sym want_is) ∙ sym (ap (λ b. if b then asked.Granted wanted_new else asked.Waiting) ready.enters)) refl (λ enters. (
         held ∙ ap (with_members (held_of l.headers.entries) n) (one.members ∙ (λ i. with_mode (λ u. sym (fresh.unheld u) i) t (sym want_is i))),
         queue ∙ ap (with_waiters (queue_of l.headers.entries) n) one.queue ∙ with_waiters-same (queue_of l.headers.entries) n [] (sym fresh.unawaited),
-      )) seats has counts
+      )) txn_entries has counts
 
 -- A node with a header is held or waited for, and so lives: of each key at most one node has a header. For requests and new records.
 

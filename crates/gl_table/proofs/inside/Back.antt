@@ -6,7 +6,7 @@ use Rattle.gl_table.proofs.Words.{parents_of, refl, slice_get, Some, State, stat
 use Rattle.gl_table.proofs.Words.{WakesTold, with_grant, ℕ}
 use Rattle.std.proofs.lemmas.List.{length-append, length_push, take-take}
 use Rattle.gl_model.proofs.telling.Fronts.{front_stands, in_no_queue, well_granted}
-use Rattle.gl_model.proofs.telling.Unlocks.{active_stays, unlocks_append, unlocks_way}
+use Rattle.gl_model.proofs.telling.Unlocks.{active_stays, unlocks_append, unlocks_between}
 use Rattle.gl_table.proofs.inside.Departures.{own_notice, still_tells, still_untold, StillTells}
 
 -- What the list of an active slot says of its node.
@@ -69,7 +69,7 @@ back_begins s t mark order told active tell = record {
   fewer = omega arith;
   tell = tell;
   own = refl;
-  tells = λ begin way same. (way, same);
+  tells = λ begin between same. (between, same);
 }
 
 module _ {s now : State} {t mark : ℕ} {order order' : List NodeId} {was told : Told} (is : IsGoingBack s now t mark order order' was told) where
@@ -102,10 +102,10 @@ module _ {s now : State} {t mark : ℕ} {order order' : List NodeId} {was told :
     fewer = let all = length-append is.gone ns in let so_far = is.fewer in omega arith;
     tell = tell;
     own = tells.own ∙ is.own;
-    tells = λ begin way same. let so_far = is.tells begin way same in
-        (unlocks_way begin now now' t ns unlocks so_far.0, tells.others begin so_far.0 so_far.1);
+    tells = λ begin between same. let so_far = is.tells begin between same in
+        (unlocks_between begin now now' t ns unlocks so_far.0, tells.others begin so_far.0 so_far.1);
   }
 
   -- what others are told of it
   pub back_tells : TellsOthers t s now was told
-  back_tells = record { by_slot = is.tell.by_slot; others = λ begin way same. (is.tells begin way same).1; own = is.own }
+  back_tells = record { by_slot = is.tell.by_slot; others = λ begin between same. (is.tells begin between same).1; own = is.own }

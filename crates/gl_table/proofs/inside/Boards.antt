@@ -6,12 +6,12 @@ use Rattle.gl_table.proofs.Words.{false, fill_by_all, front, get_or, get_or-repl
 use Rattle.gl_table.proofs.Words.{get_or_past, HasNoSlot, header_at, header_or_new, HeaderState, inl, inr, is_ahead, is_among_waiters, is_wait}
 use Rattle.gl_table.proofs.Words.{IsOnCycleOf, IsVictim, IsWalk, length, length-replicate, List, map}
 use Rattle.gl_table.proofs.Words.{members_of, Mode, nat_tests, NodeId, not, number_other, number_same, Option}
-use Rattle.gl_table.proofs.Words.{range_with_len, Reaches, refl, replicate, Seat, set, shown}
+use Rattle.gl_table.proofs.Words.{range_with_len, Reaches, refl, replicate, TxnEntry, set, shown}
 use Rattle.gl_table.proofs.Words.{Slots, Some, split, State, status_in, status_of, subst, sym, take, true, txns_of, Victims, Waiter}
 use Rattle.gl_table.proofs.Words.{Waiting, waits_for, ℕ}
 use Rattle.gl_slots.specs.Slots.{Bits, HasNoBit, bits_of, has_bit, has_slot, no_bits}
 use Rattle.gl_slots.proofs.SlotLemmas.{bits_of-none, has_bit-bits_of, no_bits-none}
-use Rattle.gl_table.specs.inside.Seats.{lives_at}
+use Rattle.gl_table.specs.inside.TxnEntries.{lives_at}
 use Rattle.gl_model.proofs.law.Edges.{idle_no_step, step_is}
 use Rattle.gl_model.proofs.queues.Waiters.{ahead-first}
 
@@ -45,17 +45,18 @@ empty_row n t =
 -- The ages.
 
 -- the ages in the entries
-abbrev pub age_at : List (Option Seat) → ℕ → ℕ
-age_at seats t = age_in (txns_of seats t)
+abbrev pub age_at : List (Option TxnEntry) → ℕ → ℕ
+age_at txn_entries t = age_in (txns_of txn_entries t)
 
 -- the ages are written but those of the slots that are left, which are 0
 abbrev pub AreAgesBut : (ℕ → ℕ) → Slots → List ℕ → Type 0
 AreAgesBut age left xs = (t : ℕ) → get_or xs t 0 ≡ cond (has_slot left t) 0 (age t)
 
 -- nothing is written yet
-pub ages-begin : (seats : List (Option Seat)) (living : Slots) (xs : List ℕ) → ((u : ℕ) → has_slot living u ≡ lives_at seats u) → ((u : ℕ) → get_or xs u 0 ≡ 0)
-    → AreAgesBut (age_at seats) living xs
-ages-begin seats living xs is none t = none t ∙ grind (arith, nat_tests, has_slot living t, txns_of seats t, is t)
+pub ages-begin : (txn_entries : List (Option TxnEntry)) (living : Slots) (xs : List ℕ) → ((u : ℕ) → has_slot living u ≡ lives_at txn_entries u)
+    → ((u : ℕ) → get_or xs u 0 ≡ 0)
+    → AreAgesBut (age_at txn_entries) living xs
+ages-begin txn_entries living xs is none t = none t ∙ grind (arith, nat_tests, has_slot living t, txns_of txn_entries t, is t)
 
 -- slot k is written
 pub ages-written : (age : ℕ → ℕ) (left after : Slots) (k a : ℕ) (xs : List ℕ) → k < length xs → a ≡ age k → IsWithout left k after → AreAgesBut age left xs
@@ -140,16 +141,17 @@ pub rows-read : (edge : ℕ → ℕ → Bool) (left : Slots) (xs : List Bits) �
 rows-read edge left xs empty rows t = ⊎_elim (λ right. right) (λ none. clash none.0 (empty t)) (rows t)
 
 -- the row of a slot whose place in a queue is reached, if those passed are known
-pub reached-row : (hs : Entries) (seats : List (Option Seat)) (node : NodeId) (h : HeaderState) (q : List Waiter) (t i : ℕ) (w : Mode) (passed r : Slots)
+pub reached-row : (hs : Entries) (txn_entries : List (Option TxnEntry)) (node : NodeId) (h : HeaderState) (q : List Waiter) (t i : ℕ) (w : Mode)
+    (passed r : Slots)
     (d : Waiter) → h ≡ header_or_new (header_at hs node) → q ≡ h.queue
-    → status_in (txns_of seats t) ≡ Some (Waiting node w) → i < length q → (get_or q i d).0 ≡ t
+    → status_in (txns_of txn_entries t) ≡ Some (Waiting node w) → i < length q → (get_or q i d).0 ≡ t
     → ((u : ℕ) → has_slot passed u ≡ is_among_waiters u (take i q)) → has_slot passed t ≡ false
     → ((u : ℕ) → has_slot r u ≡ (not (t == u) && (not (are_compatible w (members_of h u)) || has_slot passed u)))
-    → (u : ℕ) → has_slot r u ≡ waits_for (shown hs seats 0) t u
-reached-row hs seats node h q t i w passed r d is same st low at front out row u =
+    → (u : ℕ) → has_slot r u ≡ waits_for (shown hs txn_entries 0) t u
+reached-row hs txn_entries node h q t i w passed r d is same st low at front out row u =
     row u ∙ ap (λ b. not (t == u) && (not (are_compatible w (members_of h u)) || b)) (front u ∙ sym (ahead-first q t u i d low at (sym (front t) ∙ out))
     ∙ ap (λ x. is_ahead x t u) same) ∙ ap (λ (x : HeaderState). not (t == u) && (not (are_compatible w (members_of x u)) || is_ahead x.queue t u)) is
-    ∙ sym (ap (λ o. not (t == u) && blocks (shown hs seats 0) t u o) st)
+    ∙ sym (ap (λ o. not (t == u) && blocks (shown hs txn_entries 0) t u o) st)
 
 -- The snapshot.
 
@@ -164,10 +166,13 @@ board-is : (b : Board) (epoch : ℕ) (ages : List ℕ) (rows : List Bits) → b.
 board-is b epoch ages rows e a r = λ j. record { epoch = e j; ages = a j; rows = r j }
 
 -- each age and each row is right
-pub board-all : (hs : Entries) (seats : List (Option Seat)) (epoch : ℕ) (b : Board) → b.epoch ≡ epoch → length b.ages ≡ most_slots → length b.rows ≡ most_slots
-    → ((u : ℕ) → get_or b.ages u 0 ≡ age_at seats u) → ((t : ℕ) → IsRow (waits_for (shown hs seats 0)) b.rows t) → b ≡ board_of (shown hs seats epoch)
-board-all hs seats epoch b at ages_len rows_len ages rows =
-    board-is b _ _ _ at (ages-all (age_at seats) most_slots b.ages ages_len ages) (rows-all (waits_for (shown hs seats 0)) most_slots b.rows rows_len rows)
+pub board-all : (hs : Entries) (txn_entries : List (Option TxnEntry)) (epoch : ℕ) (b : Board) → b.epoch ≡ epoch → length b.ages ≡ most_slots
+    → length b.rows ≡ most_slots
+    → ((u : ℕ) → get_or b.ages u 0 ≡ age_at txn_entries u) → ((t : ℕ) → IsRow (waits_for (shown hs txn_entries 0)) b.rows t)
+    → b ≡ board_of (shown hs txn_entries epoch)
+board-all hs txn_entries epoch b at ages_len rows_len ages rows =
+    board-is b _ _ _ at (ages-all (age_at txn_entries) most_slots b.ages ages_len ages)
+    (rows-all (waits_for (shown hs txn_entries 0)) most_slots b.rows rows_len rows)
 
 -- The victim: what is read from the locks is what their state says.
 
@@ -175,9 +180,9 @@ board-all hs seats epoch b at ages_len rows_len ages rows =
 first_step : (edge : ℕ → ℕ → Bool) (a b : ℕ) → Reaches edge a b → (x : ℕ) × (edge a x ≡ true)
 first_step edge a b r = by r.0 r.1
   where
-    by : (way : List ℕ) → IsWalk edge a way b → (x : ℕ) × (edge a x ≡ true)
+    by : (path : List ℕ) → IsWalk edge a path b → (x : ℕ) × (edge a x ≡ true)
     by [] h = (b, h)
-    by (x ∷ way) h = (x, h.0)
+    by (x ∷ path) h = (x, h.0)
 
 -- a slot on a cycle waits
 pub cycle_waits : (s : State) (t v : ℕ) → IsOnCycleOf (waits_for s) t v → is_wait (status_of s v) ≡ true

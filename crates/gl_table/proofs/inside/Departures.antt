@@ -1,7 +1,7 @@
 -- A slot leaves its nodes one after the other. For commits, aborts and escalations.
 use Rattle.gl_table.proofs.Words.{[], ◌&&◌, ◌+◌, ◌==◌, ◌||◌, ◌∙◌, ◌≡◌, Active, after_grants, Agrees, and-false, and-not_self, and-true, and_both, ap, ap₂}
 use Rattle.gl_table.proofs.Words.{arith, Bool, cancelled, CanTell, clash, count_by, CountsHeld, drop, false, front, front_at, fun_ext, grant_notice, granted_at}
-use Rattle.gl_table.proofs.Words.{held_children, holds, if◌then◌else◌, is_among_waiters, is_wait, is_waiting_at, IsBySlot, IsLawfulGraph, IsOnWay, IsOrderly}
+use Rattle.gl_table.proofs.Words.{held_children, holds, if◌then◌else◌, is_among_waiters, is_wait, is_waiting_at, IsBySlot, IsLawfulGraph, IsBetween, IsOrderly}
 use Rattle.gl_table.proofs.Words.{length, List, LockList, members, Mode, mode_given, nat_tests, NL, NodeId, nodes_by, None, not, not_true, notices_in}
 use Rattle.gl_table.proofs.Words.{number_same, Option, or-false, or-true, or_comm, parents_of, pumped, refl, released, restatus, same_mode, same_node}
 use Rattle.gl_table.proofs.Words.{same_node-equal, same_node-refl, same_node-sym, Some, split, State, Status, status_in, status_of, stripped, subst, sym, Told}
@@ -17,7 +17,7 @@ use Rattle.gl_model.proofs.queues.Fronts.{granted_waits, out_of_own, pumped-pump
 use Rattle.gl_model.proofs.queues.Waiters.{grants_other, if-false, if-true}
 use Rattle.gl_model.proofs.telling.Fronts.{front_stands, in_no_queue, orderly_unlocked, well_granted, woken_front}
 use Rattle.gl_model.proofs.telling.GivenUp.{given_up_out, orderly_without, waits_still}
-use Rattle.gl_model.proofs.telling.Ways.{cancel_tells, release_tells, way_gives_up, way_releases, woken_same}
+use Rattle.gl_model.proofs.telling.Between.{cancel_tells, release_tells, between_gives_up, between_releases, woken_same}
 
 -- One more node is released by a slot, and its waiters are granted from the front.
 
@@ -105,8 +105,8 @@ left_by s now t q = holds (members s q) t && not (holds (members now q) t)
 -- what others are told since they were told this
 abbrev pub StillTells : State → State → ℕ → Told → Told → Type 0
 StillTells s now t was told =
-    (begin : State) → IsOnWay begin s → ((u : ℕ) → (u == t) ≡ false → notices_in was u ≡ told_to begin s u)
-    → IsOnWay begin now × ((u : ℕ) → (u == t) ≡ false → notices_in told u ≡ told_to begin now u)
+    (begin : State) → IsBetween begin s → ((u : ℕ) → (u == t) ≡ false → notices_in was u ≡ told_to begin s u)
+    → IsBetween begin now × ((u : ℕ) → (u == t) ≡ false → notices_in told u ≡ told_to begin now u)
 
 -- a slot that is in no queue released a node, and the granted waiters were told
 module _ (now : State) (o : IsOrderly now) (t : ℕ) (out : (q : NodeId) → is_among_waiters t (now.queue q) ≡ false) (n : NodeId) (told told' : Told)
@@ -142,9 +142,9 @@ module _ (now : State) (o : IsOrderly now) (t : ℕ) (out : (q : NodeId) → is_
       active (Some x) = refl
 
   pub still_tells : (s : State) (was : Told) → StillTells s now t was told → StillTells s (unlocked now t n) t was told'
-  still_tells s was tells begin way same =
-      let so_far = tells begin way same in (
-        way_releases begin now t n so_far.0,
+  still_tells s was tells begin between same =
+      let so_far = tells begin between same in (
+        between_releases begin now t n so_far.0,
         λ u e. tell.notices u ∙ ap₂ (λ x y. if is_among_waiters u granted then x else y)
             (ap (λ (a : ℕ). let name : TxnId = record { slot = u; age = a } in Some (name, notice.Granted n (mode_given granted u))) (so_far.0.ages u))
             (so_far.1 u e) ∙ sym (release_tells begin now t n so_far.0 u e),
@@ -180,7 +180,7 @@ leaving_begins s t ls told o agree count tell = record {
   by_slot = tell.by_slot;
   untold = tell.untold;
   own = refl;
-  tells = λ begin way same. (way, same);
+  tells = λ begin between same. (between, same);
 }
   where
     -- if no node grants, nothing changes
@@ -315,7 +315,15 @@ free_same s now now' t was told told' e k is = subst (λ (x : State). IsFree s x
 -- if it does not wait, nothing is cancelled
 pub free_idle : (s : State) (t : ℕ) (told : Told) → IsOrderly s → is_wait (status_of s t) ≡ false
     → ((u : ℕ) → is_wait (status_of s u) ≡ true → notices_in told u ≡ None) → IsFree s s t told told
-free_idle s t told o quiet untold = record { orderly = o; quiet = quiet; untold = untold; released = refl; own = refl; tells = λ begin way same. (way, same) }
+free_idle s t told o quiet untold = record {
+  orderly = o;
+  quiet = quiet;
+  untold = untold;
+  released = refl;
+  own = refl;
+  tells = λ begin between same.
+      (between, same);
+}
 
 -- a transaction that cancelled its wait does not wait
 pub cancelled_idle : (s : State) (t : ℕ) → is_wait (status_of (cancelled s t) t) ≡ false
@@ -335,11 +343,11 @@ module _ (s : State) (o : IsOrderly s) (t : ℕ) (n : NodeId) (waits : is_waitin
 
   -- all granted others are told
   pub cancelled_tells : StillTells s (cancelled s t) t was told
-  cancelled_tells begin way same = (
-    way_gives_up begin s t n wait.0 Active (λ q m e. cc) wait.1 way,
+  cancelled_tells begin between same = (
+    between_gives_up begin s t n wait.0 Active (λ q m e. cc) wait.1 between,
     λ u e. wakes.notices u ∙ ap₂ (λ x y. if in_front u then x else y) (ap (λ (a : ℕ). let name : TxnId = record { slot = u; age = a } in
-        Some (name, notice.Granted n (mode_given (front_at (without_wait s t Active) n) u))) (way.ages u)) (same u e)
-        ∙ sym (cancel_tells begin s t n wait.0 wait.1 way u e),
+        Some (name, notice.Granted n (mode_given (front_at (without_wait s t Active) n) u))) (between.ages u)) (same u e)
+        ∙ sym (cancel_tells begin s t n wait.0 wait.1 between u e),
   )
 
   -- so it can leave

@@ -3,7 +3,7 @@ use Rattle.gl_slots.specs.Limit.{most_slots}
 use Rattle.gl_table.proofs.Words.{◌&&◌, ◌+◌, ◌<◌, ◌==◌, ◌||◌, ◌∙◌, ◌≡◌, ◌≤◌, Agrees, and_both, ap, ap₂, AreSound, arith, Bool, count_of, counted_by}
 use Rattle.gl_table.proofs.Words.{CountsHeld, enqueued, enters, Entries, false, fun_ext, held_of, holds, if◌then◌else◌, is_among_waiters, is_listed, is_wait}
 use Rattle.gl_table.proofs.Words.{length, List, LockList, members, members_at, Mode, mode_of, nat_tests, NodeId, number_same, Option, other_number, placed}
-use Rattle.gl_table.proofs.Words.{queue_of, refl, restatus, room_by, same_node, same_node-equal, same_number, Seat, slice_index_or, slice_set, slot_limit}
+use Rattle.gl_table.proofs.Words.{queue_of, refl, restatus, room_by, same_node, same_node-equal, same_number, TxnEntry, slice_index_or, slice_set, slot_limit}
 use Rattle.gl_table.proofs.Words.{spare, split, State, state_in, status_in, subst, supremum, sym, true, txns_of, View, Waiting, wanted, with_waiters, ℕ}
 use Rattle.gl_table.specs.declared.ledger.Ledger.{Ledger}
 use Rattle.gl_table.proofs.inside.Asks.{active-waits_nowhere, IsReady}
@@ -80,15 +80,15 @@ pub record IsEnqueued (g : View) (l l' : Ledger) (t : ℕ) (n : NodeId) (m : Mod
 
 -- room was made, the headers were called, the node was listed, and the status was written
 module _ (g : View) (l r l' : Ledger) (t : ℕ) (n : NodeId) (m w : Mode) (held : Bool) (ready : IsReady g l r t n m held false) (hs : Entries)
-    (seats : List (Option Seat)) where
+    (txn_entries : List (Option TxnEntry)) where
   abbrev want : Mode
   want = supremum (held_of r.headers.entries t n) m
 
   pub is_enqueued : l'.headers.entries ≡ hs → (enters slot_limit (members_at r.headers.entries n) (queue_of r.headers.entries n) t want ≡ false
       → (held_of hs ≡ held_of r.headers.entries) × (queue_of hs
       ≡ with_waiters (queue_of r.headers.entries) n (placed (members_at r.headers.entries n) (queue_of r.headers.entries n) t want)))
-      → seats ≡ r.seats.items → length l'.seats.items ≡ length seats
-      → ((u : ℕ) → txns_of l'.seats.items u ≡ (if u == t then restatus (Waiting n w) (txns_of seats t) else txns_of seats u)) → w ≡ want
+      → txn_entries ≡ r.txn_entries.items → length l'.txn_entries.items ≡ length txn_entries
+      → ((u : ℕ) → txns_of l'.txn_entries.items u ≡ (if u == t then restatus (Waiting n w) (txns_of txn_entries t) else txns_of txn_entries u)) → w ≡ want
       → HasWait r.lists.items l'.lists.items t n (held_of r.headers.entries t n) → IsEnqueued g l l' t n m
   is_enqueued entries changed same len txns wants has = record {
     sound = record {
@@ -102,7 +102,7 @@ module _ (g : View) (l r l' : Ledger) (t : ℕ) (n : NodeId) (m w : Mode) (held 
     count = λ u. subst (λ s. CountsHeld s l'.lists.items u) (sym state) (λ p. has.counts u p ∙ ready.may.exact.count u p);
   }
     where
-      count : length l'.seats.items ≡ length r.seats.items
+      count : length l'.txn_entries.items ≡ length r.txn_entries.items
       count = len ∙ ap length same
 
       state : state_in g l' ≡ enqueued (state_in g r) t n want

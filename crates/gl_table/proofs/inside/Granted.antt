@@ -17,7 +17,7 @@ use Rattle.gl_model.proofs.law.Settle.{wait_is}
 use Rattle.gl_model.proofs.queues.Counts.{children_few, children_up, few_parents}
 use Rattle.gl_model.proofs.queues.Waiters.{among_append, grants_one, grants_other, if-true, none_filtered, one_in_first, waits_of}
 use Rattle.gl_model.proofs.telling.Fronts.{below_without, front_distinct, front_stands, granted_here, members_within, waiters_below, waits_there}
-use Rattle.gl_model.proofs.telling.Ways.{granted_and_left, granted_stands, left_at, waits_granted_and_left}
+use Rattle.gl_model.proofs.telling.Between.{granted_and_left, granted_stands, left_at, waits_granted_and_left}
 
 -- Lists that agree with a state still do once a node has granted from its front.
 
@@ -196,7 +196,7 @@ pub can_wake_front : (g : View) (l : Ledger) (n : NodeId) → AreExactFor g l (�
     → IsLawfulGraph (graph_of g) → (b : State) → WaitWell b n
     → ((u : ℕ) → is_among_waiters u (b.queue n) ≡ true → is_among_waiters u ((state_in g l).queue n) ≡ true)
     → (told : Told) → IsBySlot told → ((u : ℕ) → is_among_waiters u (b.queue n) ≡ true → notices_in told u ≡ None)
-    → (ws : List Waiter) → ws ≡ front_at b n → CanEnd (books_of l.seats l.lists.items told) ws
+    → (ws : List Waiter) → ws ≡ front_at b n → CanEnd (books_of l.txn_entries l.lists.items told) ws
     × ((u : ℕ) → is_among_waiters u ws ≡ true → CanHold l.lists.items u n (parents_of (graph_of g) n))
 can_wake_front g l n are law b well stand told by_slot untold ws front = (
   record {
@@ -214,5 +214,5 @@ can_wake_front g l n are law b well stand told by_slot untold ws front = (
     stands : (u : ℕ) → is_among_waiters u ws ≡ true → is_among_waiters u (b.queue n) ≡ true
     stands u h = front_stands b n well u (ap (is_among_waiters u) (sym front) ∙ h)
 
-    below : (u : ℕ) → is_among_waiters u ((state_in g l).queue n) ≡ true → u < length l.seats.items
+    below : (u : ℕ) → is_among_waiters u ((state_in g l).queue n) ≡ true → u < length l.txn_entries.items
     below u h = waiters_below (state_in g l) are.orderly n u h

@@ -12,7 +12,7 @@ use Rattle.gl_model.proofs.queues.Counts.{children_down}
 use Rattle.gl_model.proofs.queues.Fronts.{granted_waits}
 use Rattle.gl_model.proofs.queues.Waiters.{grants_other, if-true}
 use Rattle.gl_model.proofs.telling.Fronts.{front_stands, in_no_queue, well_granted}
-use Rattle.gl_model.proofs.telling.Ways.{left_stands}
+use Rattle.gl_model.proofs.telling.Between.{left_stands}
 
 -- A grant is removed from a slot that is in no queue, and the node's waiters are granted from the front: what the slot then holds, and that all other lists
 -- agree.

@@ -9,14 +9,14 @@ use Rattle.gl_table.proofs.Words.{slot_limit, Some, some_is, split, State, state
 use Rattle.gl_table.proofs.Words.{Txn, TxnId, View, Waiter, Waiting, WaitsEnd, without_waiter, ℕ}
 use Rattle.gl_model.specs.declared.answers.Notice.TheVariants as notice
 use Rattle.gl_table.proofs.inside.Slots.{by_list-at}
-use Rattle.gl_table.proofs.inside.Woken.{agrees_given_up, ends_more, ends_none, kept_still, seat_still, untold_still}
+use Rattle.gl_table.proofs.inside.Woken.{agrees_given_up, ends_more, ends_none, kept_still, txn_entry_still, untold_still}
 use Rattle.gl_table.specs.declared.ledger.Ledger.{Ledger}
 use Rattle.gl_model.proofs.law.Strays.{all_filtered, all_of_some, all_or_chosen, among_failing, filter_all, stuck_front, without_chosen}
 use Rattle.gl_model.proofs.law.Takes.{restatus_is}
 use Rattle.gl_model.proofs.queues.Edits.{any_left, freed_other, one_left, one_stays}
 use Rattle.gl_model.proofs.queues.Waiters.{among_by_filter, if-false, if-true}
 use Rattle.gl_model.proofs.telling.Fronts.{stands_there, waiters_below, waits_there}
-use Rattle.gl_model.proofs.telling.Ways.{is_by_test, quiet_told}
+use Rattle.gl_model.proofs.telling.Between.{is_by_test, quiet_told}
 
 -- Waits on one node that end without a grant: the state, the lists and the notices while some of them remain.
 
@@ -80,8 +80,8 @@ pub record IsTurning (l l' : Ledger) (n : NodeId) (s : State) (f : Waiter → Bo
   pub here : queue_of l'.headers.entries n ≡ filter (λ w. f w || pending w.0) (s.queue n)
   pub there : (q : NodeId) → same_node q n ≡ false → queue_of l'.headers.entries q ≡ s.queue q
   pub lost : (u : ℕ) → pending u ≡ true → is_lost s n f u ≡ true
-  pub over : WaitsEnd (books_of l.seats l.lists.items told) n (λ u. is_lost s n f u && not (pending u)) as_left (λ u. notice.Moved)
-      (books_of l'.seats l'.lists.items told')
+  pub over : WaitsEnd (books_of l.txn_entries l.lists.items told) n (λ u. is_lost s n f u && not (pending u)) as_left (λ u. notice.Moved)
+      (books_of l'.txn_entries l'.lists.items told')
 
 module _ {g : View} {l : Ledger} (agreed : AreAgreed g l) (n : NodeId) {told : Told}
     (tell : CanTellWaiters (state_in g l) n told) where
@@ -91,7 +91,7 @@ module _ {g : View} {l : Ledger} (agreed : AreAgreed g l) (n : NodeId) {told : T
   o : IsOrderly s
   o = agreed.orderly
 
-  kept : AreKept (books_of l.seats l.lists.items told)
+  kept : AreKept (books_of l.txn_entries l.lists.items told)
   kept = record { few = agreed.sound.few; len = agreed.sound.lists; by_slot = tell.by_slot }
 
   pub turning_begins : {f : Waiter → Bool} (pending : ℕ → Bool) → ((u : ℕ) → pending u ≡ is_lost s n f u) → IsTurning l l n s f pending told told
@@ -115,10 +115,10 @@ module _ {g : View} {l : Ledger} (agreed : AreAgreed g l) (n : NodeId) {told : T
       fresh : (is_lost s n f t && not (pending t)) ≡ false
       fresh = ap (λ b. is_lost s n f t && not b) member ∙ and-false (is_lost s n f t)
 
-      pub turned_can : CanEndAt (books_of l'.seats l'.lists.items mid) t
+      pub turned_can : CanEndAt (books_of l'.txn_entries l'.lists.items mid) t
       turned_can = record {
         kept = kept_still is.over kept;
-        seated = seat_still is.over t fresh (waiters_below s o n t stood);
+        has_entry = txn_entry_still is.over t fresh (waiters_below s o n t stood);
         untold = untold_still is.over t fresh (tell.untold t stood);
       }
 
@@ -155,9 +155,10 @@ module _ {g : View} {l : Ledger} (agreed : AreAgreed g l) (n : NodeId) {told : T
 
     -- nobody is pending any more
     module _ (none : (u : ℕ) → pending u ≡ false) where
-      pub turned_over : WaitsEnd (books_of l.seats l.lists.items told) n (is_lost s n f) as_left (λ u. notice.Moved) (books_of l'.seats l'.lists.items mid)
-      turned_over = subst (λ (who : ℕ → Bool). WaitsEnd (books_of l.seats l.lists.items told) n who as_left (λ u. notice.Moved)
-          (books_of l'.seats l'.lists.items mid)) (fun_ext (λ u. ap (λ b. is_lost s n f u && not b) (none u) ∙ and-true (is_lost s n f u))) is.over
+      pub turned_over : WaitsEnd (books_of l.txn_entries l.lists.items told) n (is_lost s n f) as_left (λ u. notice.Moved)
+          (books_of l'.txn_entries l'.lists.items mid)
+      turned_over = subst (λ (who : ℕ → Bool). WaitsEnd (books_of l.txn_entries l.lists.items told) n who as_left (λ u. notice.Moved)
+          (books_of l'.txn_entries l'.lists.items mid)) (fun_ext (λ u. ap (λ b. is_lost s n f u && not b) (none u) ∙ and-true (is_lost s n f u))) is.over
 
       pub turned_sound : AreSound l'
       turned_sound = let is_kept = kept_still is.over kept in record { few = is_kept.few; lists = is_kept.len }

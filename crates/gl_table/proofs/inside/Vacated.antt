@@ -90,7 +90,7 @@ module _ {g : View} {l : Ledger} {t : ℕ} {r : NodeId} (may : MayVacate g l t r
   waiter_other u h = stands_other s may.act.orderly t (ap is_wait may.act.active) u r h
 
   module _ {mid : List LockList} (struck : Strikes ls mid t r (parents_of s.graph r)) where
-    pub can_free : (told : Told) → CanTellWaiters s r told → CanEnd (books_of l.seats mid told) (s.queue r)
+    pub can_free : (told : Told) → CanTellWaiters s r told → CanEnd (books_of l.txn_entries mid told) (s.queue r)
     can_free told tell = record {
       kept = record { few = may.act.exact.sound.few; len = struck.len ∙ may.act.exact.sound.lists; by_slot = tell.by_slot };
       distinct = distinct_once (s.queue r) (λ u h. let w = waits_there s may.act.orderly u r h in ((u, w.0), (may.act.orderly.one_wait u r w.0 w.1).0));

@@ -14,9 +14,9 @@ use Rattle.gl_model.proofs.law.Takes.{IsQuiet, restatus_quiet}
 use Rattle.gl_model.proofs.queues.Edits.{out_of_without, without_filter}
 use Rattle.gl_model.proofs.queues.Waiters.{among_waits, grants_other, if-false, if-true, some_wait}
 use Rattle.gl_model.proofs.queues.Walks.{in_range, same}
-use Rattle.gl_model.proofs.telling.Fronts.{front_stands, stands_only, stands_there, way_here, well_without}
-use Rattle.gl_model.proofs.telling.GivenUp.{way_withdrawn}
-use Rattle.gl_model.proofs.telling.Ways.{granted_stands, left_stands, without_wait_other, without_wait_own}
+use Rattle.gl_model.proofs.telling.Fronts.{front_stands, stands_only, stands_there, between_here, well_without}
+use Rattle.gl_model.proofs.telling.GivenUp.{between_withdrawn}
+use Rattle.gl_model.proofs.telling.Between.{granted_stands, left_stands, without_wait_other, without_wait_own}
 
 -- One wait ends: the lists agree with what is left.
 
@@ -195,7 +195,7 @@ fewer_wait s o v h = count_less (waiting s) (waiting (condemned s v)) still v (s
     -- a slot that still waits waited before
     still : (u : ℕ) → waiting (condemned s v) u ≡ true → waiting s u ≡ true
     still u k = let w = wait_is (status_of (condemned s v) u) k in
-        ap is_wait ((way_withdrawn s s v Condemned (is_waiting_at s v) (λ q m e. cc) (way_here s o)).waited u w.0 w.1 w.2)
+        ap is_wait ((between_withdrawn s s v Condemned (is_waiting_at s v) (λ q m e. cc) (between_here s o)).waited u w.0 w.1 w.2)
 
     gone : waiting (condemned s v) v ≡ false
     gone = not_true _ (λ k. let w = wait_is (status_of (condemned s v) v) k in

@@ -90,13 +90,13 @@ kept_still over kept = record {
 module _ {b mid : Books} {n : NodeId} {who : ℕ → Bool} {is : Writing} {says : ℕ → Notice} (over : WaitsEnd b n who is says mid) (t : ℕ)
     (fresh : who t ≡ false) where
   -- its slot is as it was
-  pub seat_still : t < length b.seats → t < length mid.seats
-  seat_still lt = subst (λ (k : ℕ). t < k) (sym over.len) lt
+  pub txn_entry_still : t < length b.txn_entries → t < length mid.txn_entries
+  txn_entry_still lt = subst (λ (k : ℕ). t < k) (sym over.len) lt
 
   pub untold_still : notices_in b.told t ≡ None → notices_in mid.told t ≡ None
   untold_still none = over.tells.notices t ∙ if-false _ fresh ∙ none
 
-  txn_still : txns_of mid.seats t ≡ txns_of b.seats t
+  txn_still : txns_of mid.txn_entries t ≡ txns_of b.txn_entries t
   txn_still = over.txns t ∙ if-false _ fresh
 
   mode_still : (q : NodeId) → held_by mid.lists t q ≡ held_by b.lists t q
@@ -112,8 +112,9 @@ module _ {b mid : Books} {n : NodeId} {who : ℕ → Bool} {is : Writing} {says 
     pub ends_more : WaitsEnd b n all is says b'
     ends_more = record {
       len = ends.len ∙ over.len;
-      txns = one_more who (λ u. u == t) all both (txns_of b.seats) (txns_of mid.seats) (txns_of b'.seats) (λ u. restatus Active (txns_of b.seats u)) _
-          (λ u e. ap (restatus Active) (own (λ v. txns_of mid.seats v ≡ txns_of b.seats v) txn_still u e)) over.txns ends.txns;
+      txns = one_more who (λ u. u == t) all both (txns_of b.txn_entries) (txns_of mid.txn_entries) (txns_of b'.txn_entries)
+          (λ u. restatus Active (txns_of b.txn_entries u)) _
+          (λ u e. ap (restatus Active) (own (λ v. txns_of mid.txn_entries v ≡ txns_of b.txn_entries v) txn_still u e)) over.txns ends.txns;
       lists = record {
         len = ends.lists.len ∙ over.lists.len;
         modes = λ u q. one_more (λ v. who v && same_node q n) (λ v. (v == t) && same_node q n) (λ v. all v && same_node q n)
@@ -136,9 +137,10 @@ module _ {b mid : Books} {n : NodeId} {who : ℕ → Bool} {is : Writing} {says 
       tells = record {
         by_slot = ends.tells.by_slot;
         notices = one_more who (λ u. u == t) all both (notices_in b.told) (notices_in mid.told) (notices_in b'.told)
-            (λ u. Some (record { slot = u; age = age_in (txns_of b.seats u) }, says u)) _
+            (λ u. Some (record { slot = u; age = age_in (txns_of b.txn_entries u) }, says u)) _
             (λ u e. ap₂ (λ (x : Option Txn) (y : Notice). let name : TxnId = record { slot = u; age = age_in x } in Some (name, y))
-            (own (λ v. txns_of mid.seats v ≡ txns_of b.seats v) txn_still u e) (own (λ v. says' v ≡ says v) says_is u e)) over.tells.notices ends.tells.notices;
+            (own (λ v. txns_of mid.txn_entries v ≡ txns_of b.txn_entries v) txn_still u e)
+            (own (λ v. says' v ≡ says v) says_is u e)) over.tells.notices ends.tells.notices;
       };
     }
       where
@@ -146,19 +148,20 @@ module _ {b mid : Books} {n : NodeId} {who : ℕ → Bool} {is : Writing} {says 
         own P p u e = subst P (sym (same_number u t e)) p
 
 -- one wait ends: its status is written, its list, and what it is told
-pub ends_one : {b b' : Books} {n : NodeId} {is : Writing} (t age : ℕ) (x : Notice) → age ≡ age_in (txns_of b.seats t) → length b'.seats ≡ length b.seats
-    → ((u : ℕ) → txns_of b'.seats u ≡ (if u == t then restatus Active (txns_of b.seats t) else txns_of b.seats u))
+pub ends_one : {b b' : Books} {n : NodeId} {is : Writing} (t age : ℕ) (x : Notice) → age ≡ age_in (txns_of b.txn_entries t)
+    → length b'.txn_entries ≡ length b.txn_entries
+    → ((u : ℕ) → txns_of b'.txn_entries u ≡ (if u == t then restatus Active (txns_of b.txn_entries t) else txns_of b.txn_entries u))
     → IsWritten b.lists n (λ u. u == t) is b'.lists → IsBySlot b'.told
     → ((u : ℕ) → notices_in b'.told u ≡ (if u == t then Some (record { slot = t; age = age }, x) else notices_in b.told u))
     → WaitsEnd b n (λ u. u == t) is (λ u. x) b'
 ends_one {b} t age x age_is len txns lists by_slot notices = record {
   len = len;
-  txns = λ u. txns u ∙ at_own u (λ v. restatus Active (txns_of b.seats v)) _;
+  txns = λ u. txns u ∙ at_own u (λ v. restatus Active (txns_of b.txn_entries v)) _;
   lists = lists;
   tells = record {
     by_slot = by_slot;
     notices = λ u. notices u ∙ ap (λ (a : ℕ). if u == t then Some (record { slot = t; age = a }, x) else notices_in b.told u) age_is
-        ∙ at_own u (λ v. Some (record { slot = v; age = age_in (txns_of b.seats v) }, x)) _;
+        ∙ at_own u (λ v. Some (record { slot = v; age = age_in (txns_of b.txn_entries v) }, x)) _;
   };
 }
   where

@@ -13,7 +13,7 @@ use Rattle.gl_table.specs.declared.ledger.Ledger.{Ledger}
 use Rattle.gl_model.specs.Calls.{held_children}
 use Rattle.gl_header.specs.Headers.{held_of, queue_of}
 use Rattle.gl_model.specs.State.{State, members, status_of, is_wait}
-use Rattle.gl_table.specs.inside.Seats.{txns_of}
+use Rattle.gl_table.specs.inside.TxnEntries.{txns_of}
 use Rattle.gl_table.specs.inside.Slots.{KeepsLists, counted_by, held_by, listed_by, room_by}
 
 -- the state of a ledger over a graph
@@ -21,12 +21,12 @@ abbrev pub state_on : Graph → Ledger → State
 state_on g l =
     record {
       graph = g;
-      txns = txns_of l.seats.items;
+      txns = txns_of l.txn_entries.items;
       held = held_of l.headers.entries;
       queue = queue_of l.headers.entries;
       detect = ByWatcher;
       victims = Youngest;
-      most = length l.seats.items;
+      most = length l.txn_entries.items;
       begins = 0;
       accepted = 0;
     }
@@ -47,8 +47,8 @@ CountsHeld s ls u = (p : NodeId) → counted_by ls u p ≡ held_children s u p
 
 -- the parts of the ledger are in order
 pub record AreSound (l : Ledger) : Type 0 where
-  pub few : length l.seats.items ≤ most_slots
-  pub lists : length l.lists.items ≡ length l.seats.items
+  pub few : length l.txn_entries.items ≤ most_slots
+  pub lists : length l.lists.items ≡ length l.txn_entries.items
 
 -- the ledger is exact over a graph: its parts are in order, and each list has the modes and the counts of its slot
 pub record AreExact (g : View) (l : Ledger) : Type 0 where
@@ -59,13 +59,13 @@ pub record AreExact (g : View) (l : Ledger) : Type 0 where
 -- no lock changed: at most room was made
 pub record KeepsLocks (l l' : Ledger) : Type 0 where
   pub headers : l'.headers.entries ≡ l.headers.entries
-  pub seats : l'.seats ≡ l.seats
+  pub txn_entries : l'.txn_entries ≡ l.txn_entries
   pub lists : KeepsLists l.lists.items l'.lists.items
 
 -- no header, all slots free, and nothing in any list
 pub record AreNew (l : Ledger) (most : ℕ) : Type 0 where
   pub headers : l.headers.entries ≡ []
-  pub seats : l.seats.items ≡ replicate most None
+  pub txn_entries : l.txn_entries.items ≡ replicate most None
   pub lists : length l.lists.items ≡ most
   pub listed : (t : ℕ) (n : NodeId) → listed_by l.lists.items t n ≡ false
   pub modes : (t : ℕ) (n : NodeId) → held_by l.lists.items t n ≡ NL

@@ -13,13 +13,13 @@ use Rattle.gl_modes.specs.Nodes.{same_node}
 use Rattle.gl_header.specs.Header.{Waiter, holds, is_among_waiters}
 use Rattle.gl_header.specs.Sound.{is_distinct}
 use Rattle.gl_model.specs.declared.answers.Notice.{Notice}
-use Rattle.gl_model.specs.Tellings.{IsOnWay, Told, told_to, IsBySlot, IsTold, mode_given, notices_in}
+use Rattle.gl_model.specs.Tellings.{IsBetween, Told, told_to, IsBySlot, IsTold, mode_given, notices_in}
 use Rattle.gl_lock_lists.specs.declared.list.Entry.{Entry}
 use Rattle.gl_lock_lists.specs.declared.list.LockList.{LockList}
-use Rattle.gl_table.specs.declared.seat.Seat.{Seat}
+use Rattle.gl_table.specs.declared.txn_entry.TxnEntry.{TxnEntry}
 use Rattle.gl_model.specs.declared.txn.Status.TheVariants.{Active}
 use Rattle.gl_lock_lists.specs.Lists.{count_of, is_listed, mode_of, unlisted}
-use Rattle.gl_table.specs.inside.Seats.{SeatList, txns_of}
+use Rattle.gl_table.specs.inside.TxnEntries.{TxnEntryList, txns_of}
 use Rattle.gl_model.specs.Calls.{held_children, is_covered}
 use Rattle.gl_model.specs.State.{State, members, restatus}
 use Rattle.gl_model.specs.declared.answers.Notice.TheVariants as notice
@@ -34,12 +34,12 @@ pub record CanTell (list : Told) (who : ℕ → Bool) : Type 0 where
 -- the list continues from what all are told between a start and one state to what they are told between that start and another
 pub record TellsAll (s s' : State) (list list' : Told) : Type 0 where
   pub by_slot : IsBySlot list'
-  pub all : (start : State) → IsOnWay start s → ((u : ℕ) → notices_in list u ≡ told_to start s u) → (u : ℕ) → notices_in list' u ≡ told_to start s' u
+  pub all : (start : State) → IsBetween start s → ((u : ℕ) → notices_in list u ≡ told_to start s u) → (u : ℕ) → notices_in list' u ≡ told_to start s' u
 
 -- the same for all but this slot, which is told nothing more
 pub record TellsOthers (t : ℕ) (s s' : State) (list list' : Told) : Type 0 where
   pub by_slot : IsBySlot list'
-  pub others : (start : State) → IsOnWay start s → ((u : ℕ) → (u == t) ≡ false → notices_in list u ≡ told_to start s u)
+  pub others : (start : State) → IsBetween start s → ((u : ℕ) → (u == t) ≡ false → notices_in list u ≡ told_to start s u)
       → (u : ℕ) → (u == t) ≡ false → notices_in list' u ≡ told_to start s' u
   pub own : notices_in list' t ≡ notices_in list t
 
@@ -116,33 +116,33 @@ WakesLists ls n ps ws ls' = IsWritten ls n (λ u. is_among_waiters u ws) (as_hel
 
 -- the transaction entries, the lists, and a list of notices as it is filled
 pub record Books : Type 0 where
-  pub seats : List (Option Seat)
+  pub txn_entries : List (Option TxnEntry)
   pub lists : List LockList
   pub told : Told
 
 -- the same from its parts
-abbrev pub books_of : SeatList → List LockList → Told → Books
-books_of seats lists told = record { seats = seats.items; lists = lists; told = told }
+abbrev pub books_of : TxnEntryList → List LockList → Told → Books
+books_of txn_entries lists told = record { txn_entries = txn_entries.items; lists = lists; told = told }
 
 -- one list for each slot
 pub record AreKept (b : Books) : Type 0 where
-  pub few : length b.seats ≤ most_slots
-  pub len : length b.lists ≡ length b.seats
+  pub few : length b.txn_entries ≤ most_slots
+  pub len : length b.lists ≡ length b.txn_entries
   pub by_slot : IsBySlot b.told
 
 -- waiters of different existing slots, which were told nothing yet
 pub record CanEnd (b : Books) (ws : List Waiter) : Type 0 where
   pub kept : AreKept b
   pub distinct : is_distinct ws ≡ true
-  pub below : (u : ℕ) → is_among_waiters u ws ≡ true → u < length b.seats
+  pub below : (u : ℕ) → is_among_waiters u ws ≡ true → u < length b.txn_entries
   pub untold : (u : ℕ) → is_among_waiters u ws ≡ true → notices_in b.told u ≡ None
 
 -- the waits of these slots on the node end: they are active, this is written in their lists, and they are told this; all else is unchanged
 pub record WaitsEnd (b : Books) (n : NodeId) (who : ℕ → Bool) (is : Writing) (says : ℕ → Notice) (b' : Books) : Type 0 where
-  pub len : length b'.seats ≡ length b.seats
-  pub txns : (u : ℕ) → txns_of b'.seats u ≡ (if who u then restatus Active (txns_of b.seats u) else txns_of b.seats u)
+  pub len : length b'.txn_entries ≡ length b.txn_entries
+  pub txns : (u : ℕ) → txns_of b'.txn_entries u ≡ (if who u then restatus Active (txns_of b.txn_entries u) else txns_of b.txn_entries u)
   pub lists : IsWritten b.lists n who is b'.lists
-  pub tells : IsTold (txns_of b.seats) who says b.told b'.told
+  pub tells : IsTold (txns_of b.txn_entries) who says b.told b'.told
 
 -- these waiters hold the node, are active and are told
 abbrev pub Wakes : Books → NodeId → List NodeId → List Waiter → Books → Type 0

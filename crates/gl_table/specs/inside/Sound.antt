@@ -12,7 +12,7 @@ view_of t =
     record {
       graph = t.locks.graph;
       headers = t.locks.ledger.headers.entries;
-      seats = t.locks.ledger.seats.items;
+      txn_entries = t.locks.ledger.txn_entries.items;
       lists = map (λ l. l.entries.entries) t.locks.ledger.lists.items;
       detect = t.detect;
       victims = t.victims;

@@ -50,7 +50,7 @@ pub record HasWoken (g : View) (n : NodeId) (s : State) (l l' : Ledger) (list li
 -- a wait of t can end: t was told nothing yet, and more can be told
 pub record CanEndAt (b : Books) (t : ℕ) : Type 0 where
   pub kept : AreKept b
-  pub seated : t < length b.seats
+  pub has_entry : t < length b.txn_entries
   pub untold : notices_in b.told t ≡ None
 
 -- the covered children of n are released, and t's list, which is kept apart, has what t still holds
@@ -107,7 +107,7 @@ pub record HasMoved (g : View) (n : NodeId) (l l' : Ledger) (list list' : Told) 
 pub record IsTurnedAway (t : ℕ) (n : NodeId) (l l' : Ledger) (list list' : Told) : Type 0 where
   pub held : held_of l'.headers.entries ≡ held_of l.headers.entries
   pub queue : queue_of l'.headers.entries ≡ with_waiters (queue_of l.headers.entries) n (without_waiter t (queue_of l.headers.entries n))
-  pub ends : WaitsEnd (books_of l.seats l.lists.items list) n (λ u. u == t) as_left (λ u. notice.Moved) (books_of l'.seats l'.lists.items list')
+  pub ends : WaitsEnd (books_of l.txn_entries l.lists.items list) n (λ u. u == t) as_left (λ u. notice.Moved) (books_of l'.txn_entries l'.lists.items list')
 
 -- the ledger is in order and exact over a graph, and the transaction in this slot is active
 pub record MayAct (g : View) (l : Ledger) (t : ℕ) : Type 0 where

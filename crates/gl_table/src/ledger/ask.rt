@@ -13,7 +13,7 @@ ghost use Rattle.gl_table.specs.inside.Slots.{HasRoomAt, KeepsLists};
 ghost use Rattle.gl_table.specs.inside.Steps.{CanAsk, HasAsked, HasGrant, MayAct};
 
 use crate::ledger::Ledger;
-use crate::seat::Seat;
+use crate::txn_entry::TxnEntry;
 use gl_graph::Graph;
 use gl_header::Asked;
 use gl_lock_lists::LockList;
@@ -108,7 +108,7 @@ impl Ledger {
                 if !is_member {
                     list.enter(node, Mode::NL);
                 }
-                self.seats
+                self.txn_entries
                     .set_status(slot, Status::Waiting { node, wanted });
             }
         }

@@ -24,8 +24,8 @@ impl Ledger {
     pub(crate) fn check_active(&self, t: TxnId) -> Result<(), Refusal>
         ensures { (g : AGraph) → result ≡ verdict (first_refusal (commit_tests (state_on g self.now) t)) }
     {
-        match self.seat(t.slot) {
-            Some(seat) if seat.age == t.age => match seat.status {
+        match self.txn_entry(t.slot) {
+            Some(txn_entry) if txn_entry.age == t.age => match txn_entry.status {
                 Status::Active => Ok(()),
                 Status::Waiting { .. } => Err(Refusal::TxnWaiting),
                 Status::Condemned => Err(Refusal::TxnCondemned),

@@ -9,12 +9,12 @@ ghost use Rattle.gl_model.specs.State.{IsVictim, is_wait, status_in, status_of, 
 ghost use Rattle.gl_model.specs.declared.txn.Status.TheVariants.{Waiting};
 ghost use Rattle.gl_slots.specs.Slots.{has_slot};
 ghost use Rattle.gl_table.specs.inside.Ledger.{AreSound, state_on};
-ghost use Rattle.gl_table.specs.inside.Seats.{txns_of};
+ghost use Rattle.gl_table.specs.inside.TxnEntries.{txns_of};
 ghost use Rattle.gl_waits.specs.Waits.{IsOnCycleOf, IsOnNoCycle};
 
 use crate::boards::Waits;
 use crate::ledger::Ledger;
-use crate::seat::Seat;
+use crate::txn_entry::TxnEntry;
 use gl_model::{Deadlock, Status, Stuck, TxnId};
 use gl_slots::{Slot, Slots};
 use gl_waits::{Victims, on_cycle_in, victim_for};
@@ -23,14 +23,14 @@ impl Ledger {
     /// The next victim for a slot; `None` if the slot is on no cycle.
     pub(crate) fn victim(&self, victims: Victims, slot: Slot) -> Option<Slot>
         requires sound { AreSound self.now }
-        requires seated { slot < length self.now.seats.items }
+        requires has_entry { slot < length self.now.txn_entries.items }
         ensures none { IfNone result ((g : AGraph) → IsOrderly (state_on g self.now) → IsOnNoCycle (waits_for (state_on g self.now)) slot) }
         ensures some { IfSome result (λ v. (g : AGraph) → IsOrderly (state_on g self.now) → IsVictim victims (state_on g self.now) slot v) }
         ensures waits { IfSome result (λ v. (g : AGraph) → IsOrderly (state_on g self.now) → is_wait (status_of (state_on g self.now) v) ≡ true) }
     {
         let waits = Waits {
             headers: &self.headers,
-            seats: self.seats.as_slice(),
+            txn_entries: self.txn_entries.as_slice(),
         };
         let victim = victim_for(&waits, &waits, slot as usize, victims)?;
         Some(victim as Slot)
@@ -39,7 +39,7 @@ impl Ledger {
     /// Records, in place of the last deadlock, that of a slot, before this victim is condemned.
     pub(crate) fn keep_deadlock(&self, slot: Slot, victim: Slot, deadlock: &mut Deadlock)
         requires sound { AreSound self.now }
-        requires seated { slot < length self.now.seats.items }
+        requires has_entry { slot < length self.now.txn_entries.items }
         ensures { (g : AGraph) → IsDeadlock (state_on g self.now) slot victim deadlock.new }
     {
         let cycle = self.cycle(slot);
@@ -59,7 +59,7 @@ impl Ledger {
     {
         let waits = Waits {
             headers: &self.headers,
-            seats: self.seats.as_slice(),
+            txn_entries: self.txn_entries.as_slice(),
         };
         on_cycle_in(&waits, slot as usize)
     }
@@ -67,18 +67,18 @@ impl Ledger {
     /// A slot that waits: its name, its node and wanted mode, and for whom of these slots it waits.
     fn stuck(&self, slot: Slot, cycle: Slots) -> Stuck
         requires below { slot < most_slots }
-        requires waits { is_wait (status_in (txns_of self.now.seats.items slot)) ≡ true }
+        requires waits { is_wait (status_in (txns_of self.now.txn_entries.items slot)) ≡ true }
         ensures name { (g : AGraph) → result.txn ≡ name_at (state_on g self.now) slot }
         ensures waits { (g : AGraph) → status_of (state_on g self.now) slot ≡ Some (Waiting result.node result.wanted) }
         ensures waits_for { (g : AGraph) (u : ℕ) → has_slot result.waits_for u ≡ (waits_for (state_on g self.now) slot u && has_slot cycle u) }
     {
         let Some(
-            Seat {
+            TxnEntry {
                 age,
                 status: Status::Waiting { node, wanted },
                 ..
             },
-        ) = self.seat(slot)
+        ) = self.txn_entry(slot)
         else {
             unreachable!()
         };
@@ -97,8 +97,8 @@ impl Ledger {
     fn name(&self, slot: Slot) -> TxnId
         ensures { (g : AGraph) → result ≡ name_at (state_on g self.now) slot }
     {
-        let age = match self.seat(slot) {
-            Some(seat) => seat.age,
+        let age = match self.txn_entry(slot) {
+            Some(txn_entry) => txn_entry.age,
             None => 0,
         };
         TxnId { slot, age }

@@ -9,8 +9,8 @@ ghost use Rattle.gl_table.specs.inside.Steps.{AreExactFor, CanEndAt, HasLeftAll,
 ghost use Rattle.gl_table.specs.inside.Slots.{CanStrike, CanTell, IsShedding, Strikes, TellsOthers, WaitsEnd, as_left, books_of, counted_by, room_by};
 
 use crate::ledger::Ledger;
-use crate::seats::Seats;
 use crate::told::tell;
+use crate::txn_entries::TxnEntries;
 use gl_graph::Graph;
 use gl_header::GrantList;
 use gl_lock_lists::LockList;
@@ -32,19 +32,19 @@ pub(crate) fn strike(lists: &mut Vec<LockList>, slot: Slot, node: NodeId, parent
 /// Ends the wait of a slot on a node that it does not hold: it is active, its list lacks the node,
 /// and it is told why.
 pub(crate) fn end_wait(
-    seats: &mut Seats,
+    txn_entries: &mut TxnEntries,
     lists: &mut Vec<LockList>,
     told: &mut Told,
     slot: Slot,
     node: NodeId,
     why: Notice,
 )
-    requires can { CanEndAt (books_of seats.old lists.old.items told.old.items) slot }
+    requires can { CanEndAt (books_of txn_entries.old lists.old.items told.old.items) slot }
     requires room { 0 < counted_by lists.old.items slot node → 0 < room_by lists.old.items slot }
-    ensures { WaitsEnd (books_of seats.old lists.old.items told.old.items) node (λ u. u == slot) as_left (λ u. why)
-        (books_of seats.new lists.new.items told.new.items) }
+    ensures { WaitsEnd (books_of txn_entries.old lists.old.items told.old.items) node (λ u. u == slot) as_left (λ u. why)
+        (books_of txn_entries.new lists.new.items told.new.items) }
 {
-    let age = seats.set_status(slot, Status::Active);
+    let age = txn_entries.set_status(slot, Status::Active);
     lists[slot as usize].leave(node);
     tell(told, TxnId { slot, age }, why);
 }
@@ -62,7 +62,7 @@ impl Ledger {
     )
         requires exact { AreExact graph.now self.old }
         requires orderly { IsOrderly (state_in graph.now self.old) }
-        requires seated { slot < length self.old.seats.items }
+        requires has_entry { slot < length self.old.txn_entries.items }
         requires quiet { is_wait (status_of (state_in graph.now self.old) slot) ≡ false }
         requires tell { CanTell told.old.items (λ u. is_wait (status_of (state_in graph.now self.old) u)) }
         ensures others { AreExactFor graph.now self.new (λ u. (u == slot) ≡ false) }

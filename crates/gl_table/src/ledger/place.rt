@@ -18,7 +18,7 @@ ghost use Rattle.gl_model.specs.declared.answers.Notice.TheVariants as notice;
 use crate::ledger::Ledger;
 use crate::ledger::ask::make_room;
 use crate::ledger::leave::{end_wait, strike};
-use crate::seats::Seats;
+use crate::txn_entries::TxnEntries;
 use gl_graph::Graph;
 use gl_header::Prepared;
 use gl_lock_lists::LockList;
@@ -29,20 +29,20 @@ use gl_slots::Slot;
 /// Ends the waits for a node that is removed: the waiters are active, their lists lack the node,
 /// and they are told.
 fn free(
-    seats: &mut Seats,
+    txn_entries: &mut TxnEntries,
     lists: &mut Vec<LockList>,
     told: &mut Told,
     node: NodeId,
     waiters: &[(Slot, Mode)],
 )
-    requires can { CanEnd (books_of seats.old lists.old.items told.old.items) waiters.now }
+    requires can { CanEnd (books_of txn_entries.old lists.old.items told.old.items) waiters.now }
     requires childless { (u : ℕ) → is_among_waiters u waiters.now ≡ true → counted_by lists.old.items u node ≡ 0 }
-    ensures { WaitsEnd (books_of seats.old lists.old.items told.old.items) node (λ u. is_among_waiters u waiters.now) as_left (λ u. notice.Gone)
-        (books_of seats.new lists.new.items told.new.items) }
+    ensures { WaitsEnd (books_of txn_entries.old lists.old.items told.old.items) node (λ u. is_among_waiters u waiters.now) as_left (λ u. notice.Gone)
+        (books_of txn_entries.new lists.new.items told.new.items) }
 {
     for waiter in waiters {
         let (slot, _) = *waiter;
-        end_wait(seats, lists, told, slot, node, Notice::Gone);
+        end_wait(txn_entries, lists, told, slot, node, Notice::Gone);
     }
 }
 
@@ -65,7 +65,7 @@ impl Ledger {
             Some(header) => header.queue(),
             None => &[],
         };
-        free(&mut self.seats, &mut self.lists, told, node, waiters);
+        free(&mut self.txn_entries, &mut self.lists, told, node, waiters);
     }
 
     /// Removes the lock on a node that an active slot may hold, and nobody else. Nobody waits for

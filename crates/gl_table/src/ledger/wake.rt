@@ -4,8 +4,8 @@ ghost use Rattle.std.specs.Prelude.{◌≡◌, ◌==◌, ℕ, true};
 ghost use Rattle.gl_header.specs.Header.{is_among_waiters};
 ghost use Rattle.gl_table.specs.inside.Slots.{CanEnd, CanHold, IsWritten, Wakes, as_held, books_of};
 
-use crate::seats::Seats;
 use crate::told::tell;
+use crate::txn_entries::TxnEntries;
 use gl_lock_lists::LockList;
 use gl_model::{Notice, Status, Told, TxnId};
 use gl_modes::{Mode, NodeId};
@@ -35,20 +35,21 @@ pub(crate) fn hold(
 /// none, so this is kept out of the code of a release.
 #[inline(never)]
 pub(crate) fn wake(
-    seats: &mut Seats,
+    txn_entries: &mut TxnEntries,
     lists: &mut Vec<LockList>,
     told: &mut Told,
     node: NodeId,
     parents: &[NodeId],
     granted: &[(Slot, Mode)],
 )
-    requires can { CanEnd (books_of seats.old lists.old.items told.old.items) granted.now }
+    requires can { CanEnd (books_of txn_entries.old lists.old.items told.old.items) granted.now }
     requires hold { (u : ℕ) → is_among_waiters u granted.now ≡ true → CanHold lists.old.items u node parents.now }
-    ensures { Wakes (books_of seats.old lists.old.items told.old.items) node parents.now granted.now (books_of seats.new lists.new.items told.new.items) }
+    ensures { Wakes (books_of txn_entries.old lists.old.items told.old.items) node parents.now granted.now
+        (books_of txn_entries.new lists.new.items told.new.items) }
 {
     for waiter in granted {
         let (slot, mode) = *waiter;
-        let age = seats.set_status(slot, Status::Active);
+        let age = txn_entries.set_status(slot, Status::Active);
         hold(lists, slot, node, mode, parents);
         tell(told, TxnId { slot, age }, Notice::Granted(node, mode));
     }

@@ -7,7 +7,7 @@ ghost use Rattle.gl_table.specs.inside.Locks.{state_at};
 ghost use Rattle.gl_table.specs.inside.Slots.{CanTell, TellsOthers};
 
 use crate::locks::Locks;
-use crate::seat::Seat;
+use crate::txn_entry::TxnEntry;
 use gl_model::{Status, Told};
 use gl_slots::Slot;
 
@@ -15,17 +15,17 @@ impl Locks {
     /// Cancels the wait of a slot, if it has one, releases all that it holds, and frees it. The
     /// waiters of each node are granted from the front.
     pub(crate) fn abort(&mut self, slot: Slot, told: &mut Told)
-        requires seated { slot < (state_at self.old).most }
+        requires has_entry { slot < (state_at self.old).most }
         requires tell { CanTell told.old.items (λ u. is_wait (status_of (state_at self.old) u)) }
         ensures state { state_at self.new ≡ released (state_at self.old) slot }
         ensures tells { TellsOthers slot (state_at self.old) (state_at self.new) told.old.items told.new.items }
     {
         if let Some(
-            Seat {
+            TxnEntry {
                 status: Status::Waiting { node, .. },
                 ..
             },
-        ) = self.ledger.seat(slot)
+        ) = self.ledger.txn_entry(slot)
         {
             self.withdraw(slot, node, Status::Active, told);
         }
@@ -35,7 +35,7 @@ impl Locks {
     /// Releases all that a slot holds, which does not wait, and frees the slot. The waiters of each
     /// node are granted from the front.
     pub(crate) fn end(&mut self, slot: Slot, told: &mut Told)
-        requires seated { slot < (state_at self.old).most }
+        requires has_entry { slot < (state_at self.old).most }
         requires quiet { is_wait (status_of (state_at self.old) slot) ≡ false }
         requires tell { CanTell told.old.items (λ u. is_wait (status_of (state_at self.old) u)) }
         ensures state { state_at self.new ≡ released (state_at self.old) slot }
@@ -44,6 +44,6 @@ impl Locks {
         self.ledger
             .leave_all(&self.graph, slot, &mut self.granted, told);
         self.ledger.lists[slot as usize].clear();
-        self.ledger.seats.leave(slot);
+        self.ledger.txn_entries.leave(slot);
     }
 }

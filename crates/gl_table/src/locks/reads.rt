@@ -10,7 +10,7 @@ ghost use Rattle.gl_model.specs.State.{is_write, members, status_of};
 ghost use Rattle.gl_table.specs.inside.Locks.{state_at};
 
 use crate::locks::Locks;
-use crate::seat::Seat;
+use crate::txn_entry::TxnEntry;
 use gl_model::{Effect, Locked, Status};
 use gl_modes::{Mode, NodeId};
 use gl_slots::Slot;
@@ -65,15 +65,15 @@ impl Locks {
     pub(crate) fn outcome(&self, slot: Slot, node: NodeId) -> Locked
         ensures { result ≡ locked_as ((state_at self.now).held slot node) (status_of (state_at self.now) slot) }
     {
-        match self.ledger.seat(slot) {
+        match self.ledger.txn_entry(slot) {
             Some(
-                Seat {
+                TxnEntry {
                     status: Status::Waiting { .. },
                     ..
                 },
             ) => Locked::Waiting,
             Some(
-                Seat {
+                TxnEntry {
                     status: Status::Condemned,
                     ..
                 },

@@ -4,13 +4,13 @@ ghost use Rattle.std.specs.Prelude.{[], ℕ, ◌<◌, ◌≡◌, None, true};
 ghost use Rattle.gl_model.specs.Calls.{WaitSettles};
 ghost use Rattle.gl_model.specs.Deadlocks.{SettlesKeeping, WaitSettlesKeeping};
 ghost use Rattle.gl_model.specs.State.{Settled, State, condemned, is_wait, status_of};
-ghost use Rattle.gl_model.specs.Tellings.{IsOnWay, notices_in, told_but};
+ghost use Rattle.gl_model.specs.Tellings.{IsBetween, notices_in, told_but};
 ghost use Rattle.gl_table.specs.inside.Locks.{state_at};
 ghost use Rattle.gl_table.specs.inside.Slots.{CanTell, TellsAll};
 
 use crate::locks::Locks;
-use crate::seat::Seat;
 use crate::told::tell;
+use crate::txn_entry::TxnEntry;
 use gl_model::{Deadlock, Detect, Notice, Status, Told, TxnId};
 use gl_slots::Slot;
 use gl_waits::Victims;
@@ -19,7 +19,7 @@ impl Locks {
     /// With detection at block, settles a slot that has begun to wait, and records the last
     /// deadlock that this ends. Puts the notices to others into an empty list, by rising slot.
     #[inline(never)]
-    pub(crate) fn settle_asker(
+    pub(crate) fn settle_requester(
         &mut self,
         detect: Detect,
         victims: Victims,
@@ -28,7 +28,7 @@ impl Locks {
         told: &mut Told,
     )
         requires empty { told.old.items ≡ [] }
-        requires seated { slot < (state_at self.old).most }
+        requires has_entry { slot < (state_at self.old).most }
         ensures state { WaitSettles detect victims (state_at self.old) slot (state_at self.new) }
         ensures deadlock { WaitSettlesKeeping detect victims (state_at self.old) slot deadlock.old (state_at self.new) deadlock.new }
         ensures told { told.new.items ≡ told_but slot (state_at self.old) (state_at self.new) }
@@ -48,7 +48,7 @@ impl Locks {
         deadlock: &mut Deadlock,
         told: &mut Told,
     )
-        requires seated { slot < (state_at self.old).most }
+        requires has_entry { slot < (state_at self.old).most }
         requires tell { CanTell told.old.items (λ u. is_wait (status_of (state_at self.old) u)) }
         ensures state { Settled victims (state_at self.old) slot (state_at self.new) }
         ensures deadlock { SettlesKeeping victims (state_at self.old) slot deadlock.old (state_at self.new) deadlock.new }
@@ -68,16 +68,16 @@ impl Locks {
         requires tell { CanTell told.old.items (λ u. is_wait (status_of (state_at self.old) u)) }
         ensures state { state_at self.new ≡ condemned (state_at self.old) slot }
         ensures untold { (u : ℕ) → is_wait (status_of (state_at self.new) u) ≡ true → notices_in told.new.items u ≡ None }
-        ensures ways { (s : State) → IsOnWay s (state_at self.old) → IsOnWay s (state_at self.new) }
+        ensures keeps_between { (s : State) → IsBetween s (state_at self.old) → IsBetween s (state_at self.new) }
         ensures tells { TellsAll (state_at self.old) (state_at self.new) told.old.items told.new.items }
     {
         if let Some(
-            Seat {
+            TxnEntry {
                 age,
                 status: Status::Waiting { node, .. },
                 ..
             },
-        ) = self.ledger.seat(slot)
+        ) = self.ledger.txn_entry(slot)
         {
             self.withdraw(slot, node, Status::Condemned, told);
             tell(told, TxnId { slot, age }, Notice::Victim);

@@ -6,7 +6,7 @@ ghost use Rattle.gl_model.specs.Calls.{begun, begun_again, free_slot, begin_test
 ghost use Rattle.gl_table.specs.Table.{state_of};
 
 use super::Table;
-use crate::seat::Seat;
+use crate::txn_entry::TxnEntry;
 use gl_model::{Status, TxnId};
 use gl_modes::Refusal;
 
@@ -42,14 +42,14 @@ impl Table {
         if self.begins == u64::MAX {
             return Err(Refusal::WornOut);
         }
-        let Some(slot) = self.locks.ledger.seats.first_free() else {
+        let Some(slot) = self.locks.ledger.txn_entries.first_free() else {
             return Err(Refusal::TooManyTxns);
         };
         self.begins += 1;
         let age = self.begins;
-        self.locks.ledger.seats.take(
+        self.locks.ledger.txn_entries.take(
             slot,
-            Seat {
+            TxnEntry {
                 age,
                 since: since.min(age),
                 status: Status::Active,

@@ -19,27 +19,27 @@ impl Table {
     pub fn most(&self) -> usize
         ensures { result ≡ (state_of self.now).most }
     {
-        self.locks.ledger.seats.as_slice().len()
+        self.locks.ledger.txn_entries.as_slice().len()
     }
 
     /// The slots of the transactions that wait.
     pub fn waiting_slots(&self) -> Slots
         ensures { (u : ℕ) → has_slot result u ≡ is_wait (status_of (state_of self.now) u) }
     {
-        self.locks.ledger.seats.waiting()
+        self.locks.ledger.txn_entries.waiting()
     }
 
     /// The transaction in a slot, and its status; `None` for a free slot.
     pub fn living(&self, slot: Slot) -> Option<(TxnId, Status)>
         ensures { result ≡ living_in (state_of self.now) slot }
     {
-        let seat = self.locks.ledger.seat(slot)?;
+        let txn_entry = self.locks.ledger.txn_entry(slot)?;
         Some((
             TxnId {
                 slot,
-                age: seat.age,
+                age: txn_entry.age,
             },
-            seat.status,
+            txn_entry.status,
         ))
     }
 

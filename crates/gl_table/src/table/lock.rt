@@ -71,7 +71,7 @@ impl Table {
         {
             Asked::Granted(granted) => Ok((held, Locked::Granted(granted))),
             Asked::Waiting => {
-                locks.settle_asker(
+                locks.settle_requester(
                     self.detect,
                     self.victims,
                     t.slot,

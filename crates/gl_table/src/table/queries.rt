@@ -105,6 +105,10 @@ impl Table {
     pub fn board(&self, epoch: u64) -> Board
         ensures { result ≡ board_of (record (state_of self.now) { accepted = epoch }) }
     {
-        board(&self.locks.ledger.headers, &self.locks.ledger.seats, epoch)
+        board(
+            &self.locks.ledger.headers,
+            &self.locks.ledger.txn_entries,
+            epoch,
+        )
     }
 }

@@ -91,15 +91,15 @@ impl Tasks {
 
 /// The latch, held. After it is released, the tasks whose wait may be over are woken: a waker may do
 /// anything, also call the table.
-pub(super) struct Hold<'t> {
+pub(super) struct Section<'t> {
     table: &'t Table,
     /// `None` while a task is woken, or a thread sleeps.
     pub(super) guarded: Option<MutexGuard<'t, Guarded>>,
 }
 
-impl<'t> Hold<'t> {
-    pub(super) fn of(table: &'t Table) -> Hold<'t> {
-        Hold {
+impl<'t> Section<'t> {
+    pub(super) fn of(table: &'t Table) -> Section<'t> {
+        Section {
             table,
             guarded: Some(table.locked()),
         }
@@ -119,7 +119,7 @@ impl<'t> Hold<'t> {
     }
 }
 
-impl Drop for Hold<'_> {
+impl Drop for Section<'_> {
     fn drop(&mut self) {
         if self.guarded.is_some() {
             self.ring(); // Else a waker has panicked: the next hold wakes those after it.
@@ -127,7 +127,7 @@ impl Drop for Hold<'_> {
     }
 }
 
-impl Deref for Hold<'_> {
+impl Deref for Section<'_> {
     type Target = Guarded;
 
     fn deref(&self) -> &Guarded {
@@ -135,7 +135,7 @@ impl Deref for Hold<'_> {
     }
 }
 
-impl DerefMut for Hold<'_> {
+impl DerefMut for Section<'_> {
     fn deref_mut(&mut self) -> &mut Guarded {
         self.guarded.as_deref_mut().expect("the latch is held")
     }
@@ -155,13 +155,13 @@ pub(crate) struct Locking<'a> {
 
 impl Locking<'_> {
     /// Continues as far as it can in this critical section; `None` while it waits.
-    fn advance(&mut self, hold: &mut Hold<'_>) -> Option<Result<RowLocked, Stop>> {
+    fn advance(&mut self, section: &mut Section<'_>) -> Option<Result<RowLocked, Stop>> {
         loop {
             let step = match self.wait {
-                None => self.table.ask_for(hold, self.txn, &self.sought),
+                None => self.table.ask_for(section, self.txn, &self.sought),
                 Some(wait) => {
-                    let end = self.end(hold, wait)?;
-                    self.table.go_on(hold, self.txn, &self.sought, wait, end)
+                    let end = self.end(section, wait)?;
+                    self.table.go_on(section, self.txn, &self.sought, wait, end)
                 }
             };
             match step {
@@ -173,43 +173,43 @@ impl Locking<'_> {
     }
 
     /// How the wait ended; `None` while it waits. That is asked before the clock.
-    fn end(&self, hold: &mut Hold<'_>, wait: Wait) -> Option<Result<Mode, Stop>> {
-        let verdict = hold.verdict(self.txn, wait);
+    fn end(&self, section: &mut Section<'_>, wait: Wait) -> Option<Result<Mode, Stop>> {
+        let verdict = section.verdict(self.txn, wait);
         if verdict.is_some() || self.until.is_none_or(|until| Instant::now() < until) {
             return verdict;
         }
-        Some(Err(self.table.time_out(hold, self.txn)))
+        Some(Err(self.table.time_out(section, self.txn)))
     }
 
     /// Notes the task of a wait. Without memory the wait is cancelled, and that is its end.
     fn wait_on(
         &self,
-        hold: &mut Hold<'_>,
+        section: &mut Section<'_>,
         task: &mut Option<Task>,
     ) -> Option<Result<RowLocked, Stop>> {
-        match hold.tasks.make_room() {
+        match section.tasks.make_room() {
             Ok(()) => {
                 task.take()
                     .into_iter()
-                    .for_each(|task| hold.tasks.note(task));
+                    .for_each(|task| section.tasks.note(task));
                 None
             }
             Err(refusal) => {
-                self.take_back(hold);
+                self.take_back(section);
                 Some(Err(Stop::Refused(refusal)))
             }
         }
     }
 
     /// Cancels the wait, unless it is over.
-    fn take_back(&self, hold: &mut Hold<'_>) {
+    fn take_back(&self, section: &mut Section<'_>) {
         let waits = self
             .wait
-            .is_some_and(|wait| hold.verdict(self.txn, wait).is_none());
-        if waits && hold.manager.cancel(self.txn).map(drop).is_ok() {
-            self.table.wake(hold);
+            .is_some_and(|wait| section.verdict(self.txn, wait).is_none());
+        if waits && section.manager.cancel(self.txn).map(drop).is_ok() {
+            self.table.wake(section);
         }
-        hold.leaves_path(self.txn);
+        section.leaves_path(self.txn);
     }
 }
 
@@ -223,13 +223,13 @@ impl Future for Locking<'_> {
             waker: context.waker().clone(),
             until: own.until,
         });
-        let mut hold = own.table.guarded();
-        let before = hold.tasks.forget(own.txn);
+        let mut section = own.table.guarded();
+        let before = section.tasks.forget(own.txn);
         let end = own
-            .advance(&mut hold)
-            .or_else(|| own.wait_on(&mut hold, &mut task));
+            .advance(&mut section)
+            .or_else(|| own.wait_on(&mut section, &mut task));
         own.is_over = end.is_some();
-        drop(hold);
+        drop(section);
         drop((before, task)); // A waker that is dropped may call the table.
         end.map_or(Poll::Pending, Poll::Ready)
     }
@@ -240,10 +240,10 @@ impl Drop for Locking<'_> {
         if self.is_over || self.wait.is_none() {
             return;
         }
-        let mut hold = self.table.guarded();
-        let task = hold.tasks.forget(self.txn);
-        self.take_back(&mut hold);
-        drop(hold);
+        let mut section = self.table.guarded();
+        let task = section.tasks.forget(self.txn);
+        self.take_back(&mut section);
+        drop(section);
         drop(task);
     }
 }

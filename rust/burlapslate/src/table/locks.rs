@@ -67,8 +67,8 @@ impl Table {
             match step {
                 Step::Held(locked) => return Ok(locked),
                 Step::Waits(wait) => {
-                    let (hold, end) = self.sleep(guarded, txn, wait, until);
-                    guarded = hold;
+                    let (section, end) = self.sleep(guarded, txn, wait, until);
+                    guarded = section;
                     step = self.go_on(&mut guarded, txn, &sought, wait, end)?;
                 }
             }

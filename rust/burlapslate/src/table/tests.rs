@@ -2,13 +2,13 @@
 //! one who watches and rests long.
 
 use super::{hand_on, Table};
+use crate::begin_queue::{BeginQueue, MY_ARRIVAL};
 use crate::listing::Doing;
 use crate::manager::{Asked, Manager};
 use crate::mode::{Detect, Mode};
 use crate::names::{Node, Txn};
 use crate::refusal::Refusal;
 use crate::session::{Session, Stop};
-use crate::turns::{Turns, MY_ARRIVAL};
 use std::sync::atomic::{AtomicUsize, Ordering};
 use std::sync::Mutex;
 use std::thread;
@@ -28,8 +28,8 @@ fn table_of(most: usize) -> (Table, Node) {
     (table, root)
 }
 
-fn await_line(table: &Table, count: usize) {
-    while table.guarded().turns.sleepers() != count {
+fn await_begin_queue(table: &Table, count: usize) {
+    while table.guarded().begin_queue.sleepers() != count {
         thread::sleep(Duration::from_micros(50));
     }
 }
@@ -60,7 +60,7 @@ fn each_end_hands_its_slot_on() {
         let before = age(&holder);
         holder = thread::scope(|scope| {
             let next = scope.spawn(|| table.begin_in_turn().unwrap());
-            await_line(&table, 1);
+            await_begin_queue(&table, 1);
             end(&table, holder);
             next.join().unwrap()
         });
@@ -70,7 +70,7 @@ fn each_end_hands_its_slot_on() {
 
 /// A thousand threads, or more, over fewer slots do their work once each. Half of them come to sleep, and while the
 /// others come one slot after the other is freed. Those who slept began in the order in which they came.
-fn turns_over(most: usize) {
+fn begins_over(most: usize) {
     let (table, root) = &table_of(most);
     let worked = &AtomicUsize::new(0);
     let began = &Mutex::new(Vec::with_capacity(BEGINNERS));
@@ -89,7 +89,7 @@ fn turns_over(most: usize) {
                 session.commit().unwrap();
             });
             if started == HALF {
-                await_line(table, HALF);
+                await_begin_queue(table, HALF);
             }
             if started > HALF && (started - HALF) * most >= (most - held.len() + 1) * HALF {
                 held.pop();
@@ -106,26 +106,26 @@ fn turns_over(most: usize) {
 }
 
 #[test]
-fn turns_over_all_slots() {
-    turns_over(crate::SLOTS);
+fn begins_over_all_slots() {
+    begins_over(crate::SLOTS);
 }
 
 #[test]
-fn turns_over_four_slots() {
-    turns_over(4);
+fn begins_over_four_slots() {
+    begins_over(4);
 }
 
 /// In the line the old work has no earlier place; it keeps its turn behind it.
 #[test]
-fn work_that_begins_again_sleeps_in_line() {
+fn work_that_begins_again_sleeps_in_the_begin_queue() {
     let (table, root) = &table_of(2);
     let (old, other) = (table.begin().unwrap(), table.begin().unwrap());
     let since = age(&old);
     thread::scope(|scope| {
         let new_work = scope.spawn(|| table.begin_in_turn().unwrap());
-        await_line(table, 1);
+        await_begin_queue(table, 1);
         let old_work = scope.spawn(|| table.begin_again_in_turn(since).unwrap());
-        await_line(table, 2);
+        await_begin_queue(table, 2);
         let refused = table.begin_again(since).unwrap_err();
         assert_eq!(refused, Refusal::TooManyTxns);
         old.abort();
@@ -155,7 +155,7 @@ fn a_later_begin_does_not_pass() {
     let holder = table.begin().unwrap();
     thread::scope(|scope| {
         let first = scope.spawn(|| table.begin_in_turn().unwrap());
-        await_line(table, 1);
+        await_begin_queue(table, 1);
         assert_eq!(table.begin().unwrap_err(), Refusal::TooManyTxns);
         holder.commit().unwrap();
         assert_eq!(table.begin().unwrap_err(), Refusal::TooManyTxns);
@@ -167,7 +167,7 @@ fn a_later_begin_does_not_pass() {
 }
 
 /// Of five the first, the third and the last have this much time. `false`: this machine was too slow.
-fn some_leave_the_line_in(time: Duration) -> bool {
+fn some_leave_the_begin_queue_in(time: Duration) -> bool {
     let (table, _) = &table_of(1);
     let mut holder = table.begin().unwrap();
     let until = Instant::now() + time;
@@ -180,7 +180,7 @@ fn some_leave_the_line_in(time: Duration) -> bool {
             } else {
                 patient.push(scope.spawn(|| table.begin_in_turn().unwrap()));
             }
-            while table.guarded().turns.sleepers() != count && Instant::now() < until {
+            while table.guarded().begin_queue.sleepers() != count && Instant::now() < until {
                 thread::sleep(Duration::from_micros(50));
             }
         }
@@ -188,7 +188,7 @@ fn some_leave_the_line_in(time: Duration) -> bool {
         for one in late {
             assert_eq!(one.join().unwrap().unwrap_err(), Stop::TimedOut);
         }
-        await_line(table, 2);
+        await_begin_queue(table, 2);
         let mut is_in_order = true;
         for one in patient {
             let before = age(&holder);
@@ -204,44 +204,44 @@ fn some_leave_the_line_in(time: Duration) -> bool {
 /// Those whose time comes leave the line from its head, from between and from its end; the others keep
 /// their order.
 #[test]
-fn some_leave_the_line() {
-    until_in_time(Duration::from_millis(50), some_leave_the_line_in);
+fn some_leave_the_begin_queue() {
+    until_in_time(Duration::from_millis(50), some_leave_the_begin_queue_in);
 }
 
 /// Of four that sleep for a slot two leave, one after the other, after some were served, and a fifth comes at some
 /// moment of that. The others are served in their order, and the fifth is the last; each takes its own turn, in
 /// whatever order they wake.
 fn two_leave([first, second]: [usize; 2], served: usize, moment: usize) {
-    const LINE: usize = 4;
+    const QUEUED: usize = 4;
     let refused = Err(Refusal::NoMemory);
-    let mut turns = Turns::new();
-    let mut line: Vec<_> = (0..LINE)
-        .map(|n| turns.join(Some(n as u64)).unwrap())
+    let mut begin_queue = BeginQueue::new();
+    let mut queued: Vec<_> = (0..QUEUED)
+        .map(|n| begin_queue.join(Some(n as u64)).unwrap())
         .collect();
-    (0..served).for_each(|_| turns.serve(refused));
+    (0..served).for_each(|_| begin_queue.serve(refused));
     for (now, leaver) in [Some(first), Some(second), None].into_iter().enumerate() {
         if now == moment {
-            line.push(turns.join(Some(LINE as u64)).unwrap());
+            queued.push(begin_queue.join(Some(QUEUED as u64)).unwrap());
         }
         if let Some(leaver) = leaver {
-            assert_eq!(turns.take(line[leaver]), None);
-            turns.leave(line[leaver]);
+            assert_eq!(begin_queue.take(queued[leaver]), None);
+            begin_queue.leave(queued[leaver]);
         }
     }
     let stays = |n: &usize| ![first, second].contains(n);
-    for n in (served..=LINE).filter(stays) {
-        assert_eq!(turns.next_since(), Some(n as u64));
-        turns.serve(refused);
+    for n in (served..=QUEUED).filter(stays) {
+        assert_eq!(begin_queue.next_since(), Some(n as u64));
+        begin_queue.serve(refused);
     }
-    assert!(!turns.has_next());
-    for n in (0..=LINE).rev().filter(stays) {
-        assert_eq!(turns.take(line[n]), Some(refused));
+    assert!(!begin_queue.has_next());
+    for n in (0..=QUEUED).rev().filter(stays) {
+        assert_eq!(begin_queue.take(queued[n]), Some(refused));
     }
-    assert_eq!(turns.sleepers(), 0);
+    assert_eq!(begin_queue.sleepers(), 0);
 }
 
 #[test]
-fn some_leave_the_line_while_one_comes() {
+fn some_leave_the_begin_queue_while_one_comes() {
     for served in 0..2 {
         for first in served..4 {
             for second in (served..4).filter(|second| *second != first) {
@@ -260,12 +260,12 @@ fn begins_behind_the_time(time: Duration) -> bool {
     thread::scope(|scope| {
         let beginner = scope.spawn(move || table.begin_timeout(time).map(Session::leave));
         let mut guarded = table.guarded();
-        while !guarded.turns.has_next() && Instant::now() < until {
+        while !guarded.begin_queue.has_next() && Instant::now() < until {
             drop(guarded);
             thread::sleep(Duration::from_micros(50));
             guarded = table.guarded();
         }
-        if !guarded.turns.has_next() {
+        if !guarded.begin_queue.has_next() {
             drop(guarded);
             assert_eq!(beginner.join().unwrap(), Err(Stop::TimedOut));
             return false;
@@ -280,13 +280,13 @@ fn begins_behind_the_time(time: Duration) -> bool {
 }
 
 #[test]
-fn a_turn_behind_the_time() {
+fn a_begin_behind_the_time() {
     until_in_time(Duration::from_millis(20), begins_behind_the_time);
 }
 
 /// Times and turns at the same moment, again and again: one has begun, or its slot is free.
 #[test]
-fn times_and_turns() {
+fn times_and_begins() {
     let (table, _) = &table_of(1);
     for round in 0..300 {
         let holder = table.begin().unwrap();

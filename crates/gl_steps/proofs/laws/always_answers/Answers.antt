@@ -1,4 +1,4 @@
-use Rattle.gl_steps.proofs.PlayIsStep.{always_answers}
+use Rattle.gl_steps.proofs.ExecuteIsStep.{always_answers}
 use Rattle.gl_steps.proofs.laws.always_answers.Goals as goal
 
 pub returns : goal.returns

@@ -12,7 +12,7 @@ write_rows-requires c = record { none = λ t. ap (λ (b : Board). get_or b.rows 
 
 pub returns : goal.returns
 returns c =
-    board-all c.args.headers.now.entries c.args.seats.now.items c.args.epoch
+    board-all c.args.headers.now.entries c.args.txn_entries.now.items c.args.epoch
     (record { epoch = c.idle-board.result.epoch; ages = c.write_ages.new.ages; rows = c.write_rows.new.rows })
     (ap (λ (b : Board). b.epoch) c.idle-board.ensures)
     (c.write_ages.ensures.len ∙ ap (λ (b : Board). length b.ages) c.idle-board.ensures ∙ length-replicate {A = ℕ} most_slots 0)

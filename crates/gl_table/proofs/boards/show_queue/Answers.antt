@@ -23,7 +23,7 @@ loop-slot-preserved c =
     let so = c.loop-slot.invariant in
     let t = (get_or q i (0, NL)).0 in
     let low : t < most_slots = queue-below h q i (0, NL) c.law.ensures.lawful c.queue-slot-items.ensures c.loop-slot-test.true in
-    let edge : ℕ → ℕ → Bool = waits_for (shown c.args.headers.now.entries c.args.seats.now 0) in
+    let edge : ℕ → ℕ → Bool = waits_for (shown c.args.headers.now.entries c.args.txn_entries.now 0) in
     let both : (length c.match-wanted_on.rows ≡ length c.args.rows.now)
     × AreRowsShown edge c.args.rows.now c.match-wanted_on.rows = elim c.match-wanted_on.branch [
       | in-Some-wanted_on+then-not-contains w ↦ (
@@ -31,7 +31,7 @@ loop-slot-preserved c =
         subst (AreRowsShown edge c.args.rows.now) (sym w.rows-is) (rows-shown edge t w.bits.result c.args.rows.now c.loop-slot.rows
             (omega (arith, low, so.len, c.told-rows))
             (w.bits.ensures.is ∙ bits_of-same _ _
-            (λ u low. reached-row c.args.headers.now.entries c.args.seats.now c.args.node h q t i w.in-Some-wanted_on.wanted c.loop-slot.passed
+            (λ u low. reached-row c.args.headers.now.entries c.args.txn_entries.now c.args.node h q t i w.in-Some-wanted_on.wanted c.loop-slot.passed
             w.row_behind.result
             (0, NL) (ap header_or_new (sym c.in-Some.ensures.some)) c.queue-slot-items.ensures w.in-Some-wanted_on.ensures c.loop-slot-test.true refl so.passed
             (sym w.contains.ensures ∙ w.if-not-contains.true) w.row_behind.ensures u)) so.rows),

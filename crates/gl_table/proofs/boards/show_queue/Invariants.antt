@@ -7,5 +7,5 @@ abbrev pub invariant-loop-slot : goal.invariant-loop-slot
 invariant-loop-slot l = record {
   len : length l.rows ≡ length l.fn.rows;
   passed : (u : ℕ) → has_slot l.passed u ≡ is_among_waiters u (take l.slot-index l.slot-items);
-  rows : AreRowsShown (waits_for (shown l.headers.entries l.seats 0)) l.fn.rows l.rows;
+  rows : AreRowsShown (waits_for (shown l.headers.entries l.txn_entries 0)) l.fn.rows l.rows;
 }

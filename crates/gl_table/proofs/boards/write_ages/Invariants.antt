@@ -4,7 +4,7 @@ use Rattle.gl_table.proofs.boards.write_ages.Given as goal
 
 -- the ages are written but those of the slots that are left
 abbrev pub invariant-loop-slot : goal.invariant-loop-slot
-invariant-loop-slot l = (length l.ages ≡ length l.fn.ages) × AreAgesBut (age_at l.seats.items) l.left l.ages
+invariant-loop-slot l = (length l.ages ≡ length l.fn.ages) × AreAgesBut (age_at l.txn_entries.items) l.left l.ages
 
 -- each age leaves fewer slots
 abbrev pub decreases-loop-slot : goal.decreases-loop-slot

@@ -49,21 +49,21 @@ returns-in-Err g c =
     (c.in-Err.ensures.kinds (ap is_simple_and_free app_is ∙ is_free_tool))
 
 -- the values of the options in the words
-module _ (words : List Text) (way choice : Option Text) (listings schema savepoints : Bool) (crew rounds : Option Text)
-    (way_is : way ≡ first_of (codes "detect") (rows_in words))
+module _ (words : List Text) (detection choice : Option Text) (listings schema savepoints : Bool) (crew rounds : Option Text)
+    (detection_is : detection ≡ first_of (codes "detect") (rows_in words))
     (choice_is : choice ≡ first_of (codes "victims") (rows_in words)) (listings_is : listings ≡ is_set (first_of (codes "listings") (rows_in words)))
     (schema_is : schema ≡ is_set (first_of (codes "schema") (rows_in words)))
     (savepoints_is : savepoints ≡ is_set (first_of (codes "savepoints") (rows_in words)))
     (crew_is : crew ≡ first_of (codes "crew") (rows_in words)) (rounds_is : rounds ≡ first_of (codes "rounds") (rows_in words)) where
-  asked_is : (asked : Asked) → IsAsked way choice listings schema savepoints crew rounds asked ≡ IsAskedIn (rows_in words) asked
-  asked_is asked = λ z. IsAsked (way_is z) (choice_is z) (listings_is z) (schema_is z) (savepoints_is z) (crew_is z) (rounds_is z) asked
+  asked_is : (asked : Asked) → IsAsked detection choice listings schema savepoints crew rounds asked ≡ IsAskedIn (rows_in words) asked
+  asked_is asked = λ z. IsAsked (detection_is z) (choice_is z) (listings_is z) (schema_is z) (savepoints_is z) (crew_is z) (rounds_is z) asked
 
   -- if they ask for nothing, so do the words
-  nothing : ((asked : Asked) → ¬ (IsAsked way choice listings schema savepoints crew rounds asked)) → HasNoPlan words
+  nothing : ((asked : Asked) → ¬ (IsAsked detection choice listings schema savepoints crew rounds asked)) → HasNoPlan words
   nothing none asked p = none asked (transport (sym (asked_is asked)) p.1)
 
   -- what they ask for is what the words ask for
-  something : (asked : Asked) → IsAsked way choice listings schema savepoints crew rounds asked → IsAskedIn (rows_in words) asked
+  something : (asked : Asked) → IsAsked detection choice listings schema savepoints crew rounds asked → IsAskedIn (rows_in words) asked
   something asked p = transport (asked_is asked) p
 
 -- what clap gives for an option

@@ -37,7 +37,7 @@ pub watch-watcher-requires-clause-rises : goal.watch-watcher-requires-clause-ris
 watch-watcher-requires-clause-rises c = (found c).epoch
 
 pub watch-watcher-requires-clause-fine : goal.watch-watcher-requires-clause-fine
-watch-watcher-requires-clause-fine c = subst (λ (d : Detect). Fine d c.board_now-now.result) (sym (found c).way) c.board_now-now.ensures.fine
+watch-watcher-requires-clause-fine c = subst (λ (d : Detect). Fine d c.board_now-now.result) (sym (found c).detection) c.board_now-now.ensures.fine
 
 is_found : (c : Joined-showing) → IsOpened (shown_in c.args.showing.now) c.board_now-now.result c.args.manager.now.table.detect c.in-Ok.publisher
 is_found c =
@@ -65,4 +65,4 @@ returns-clause-epoch c =
     c.watch-watcher.ensures.list (omega (arith, below, at)) at
 
 pub returns-clause-detect : goal.returns-clause-detect
-returns-clause-detect c = c.watch-watcher.ensures.of.1 ∙ (is_found c).way
+returns-clause-detect c = c.watch-watcher.ensures.of.1 ∙ (is_found c).detection

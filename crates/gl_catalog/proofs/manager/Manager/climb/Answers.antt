@@ -7,7 +7,7 @@ use Rattle.gl_catalog.specs.Manager.{state_of}
 use Rattle.gl_catalog.specs.Paths.{Ask, next_ask, parent_wanted}
 use Rattle.gl_steps.specs.Tests.{worn}
 use Rattle.gl_catalog.proofs.Climbing.{climb_ends}
-use Rattle.gl_catalog.proofs.KeptWays.{next_kept, way_kept}
+use Rattle.gl_catalog.proofs.KeptPaths.{next_kept, path_kept}
 use Rattle.gl_catalog.proofs.PathSteps.{ClimbsIn, full_wants, one_up}
 use Rattle.gl_catalog.proofs.manager.Manager.climb.Goals as goal
 
@@ -20,7 +20,7 @@ up-preserved c =
     let wants : (worn s ≡ None → parent_wanted s c.args.t (next_ask ask above) ≡ Some c.in-Some.parent) =
     λ counts. ap (parent_wanted s c.args.t) (sym c.next_ask-wanted.ensures) ∙ sym (c.parent_wanted.ensures counts) ∙ some in
     record {
-      kept = λ kept counts. way_kept s c.args.t ask above c.keep.new.above.items c.in-Some.parent
+      kept = λ kept counts. path_kept s c.args.t ask above c.keep.new.above.items c.in-Some.parent
           (c.up.invariant.kept kept counts) (wants counts) c.keep.ensures;
       climb = λ counts. subst (ClimbsIn s c.args.t (next_ask ask c.args.above.now.items) (c.up._step + 1))
           (sym (next_kept ask above c.keep.new.above.items c.in-Some.parent c.keep.ensures))

@@ -2,8 +2,8 @@ use Rattle.std.specs.Prelude.{◌<◌, [], None, Option, Some}
 use Rattle.std.proofs.Common.{ap, arith, rules, subst, sym, ◌≡◌, ◌∙◌}
 use Rattle.gl_modes.specs.declared.node.NodeId.{NodeId}
 use Rattle.gl_catalog.specs.Manager.{ManagerView, state_of}
-use Rattle.gl_catalog.specs.Paths.{Ask, KeepsWay, missing_parent, next_ask, parent_wanted}
-use Rattle.gl_catalog.proofs.KeptWays.{way_kept}
+use Rattle.gl_catalog.specs.Paths.{Ask, KeepsPath, missing_parent, next_ask, parent_wanted}
+use Rattle.gl_catalog.proofs.KeptPaths.{path_kept}
 use Rattle.gl_catalog.proofs.PathSteps.{asked_err, asked_ok, kept_below, refused_wants, wants}
 use Rattle.gl_catalog.proofs.manager.Manager.lock_first.Goals.{After-climb}
 use Rattle.gl_catalog.proofs.manager.Manager.lock_first.Goals as goal
@@ -37,16 +37,16 @@ named c =
     c.in-Err.refusal c.in-Err.ensures.step ∙ some
 
 -- so that it is kept, and what is climbed from there
-kept : (c : After-climb) → KeepsWay (state_of c.args.self.now) c.args.t (c.args.node, c.args.mode) c.climb.new.above.items
+kept : (c : After-climb) → KeepsPath (state_of c.args.self.now) c.args.t (c.args.node, c.args.mode) c.climb.new.above.items
 kept c =
     let t = c.args.t in
     let ask : Ask = (c.args.node, c.args.mode) in
     let same = c.in-Err.ensures.err ∙ c.first.invariant.same in
     let parent : parent_wanted (state_of c.args.self.now) t (next_ask ask c.first.above.items) ≡ Some c.in-Some.parent =
     subst (λ (m : ManagerView). parent_wanted (state_of m) t (next_ask ask c.first.above.items) ≡ Some c.in-Some.parent) c.first.invariant.same (named c) in
-    subst (λ (m : ManagerView). KeepsWay (state_of m) t ask c.climb.new.above.items) same
-    (c.climb.ensures.kept (subst (λ (m : ManagerView). KeepsWay (state_of m) t ask c.keep.new.above.items) (sym same)
-    (λ counts. way_kept (state_of c.args.self.now) t ask c.first.above.items c.keep.new.above.items c.in-Some.parent (c.first.invariant.kept counts) parent
+    subst (λ (m : ManagerView). KeepsPath (state_of m) t ask c.climb.new.above.items) same
+    (c.climb.ensures.kept (subst (λ (m : ManagerView). KeepsPath (state_of m) t ask c.keep.new.above.items) (sym same)
+    (λ counts. path_kept (state_of c.args.self.now) t ask c.first.above.items c.keep.new.above.items c.in-Some.parent (c.first.invariant.kept counts) parent
     c.keep.ensures)))
 
 pub first-preserved : goal.first-preserved

@@ -1,6 +1,6 @@
 use Rattle.std.specs.Prelude.{◌≡◌, []}
 use Rattle.gl_catalog.specs.Manager.{state_of}
-use Rattle.gl_catalog.specs.Paths.{KeepsWay, next_ask, parent_wanted}
+use Rattle.gl_catalog.specs.Paths.{KeepsPath, next_ask, parent_wanted}
 use Rattle.gl_catalog.proofs.PathSteps.{wants}
 use Rattle.gl_catalog.proofs.manager.Manager.lock_first.Given as goal
 
@@ -9,7 +9,7 @@ abbrev pub invariant-first : goal.invariant-first
 invariant-first l = record {
   same : l.self ≡ l.fn.self;
   empty : l.told.items ≡ [];
-  kept : KeepsWay (state_of l.fn.self) l.t (l.node, l.mode) l.above.items;
+  kept : KeepsPath (state_of l.fn.self) l.t (l.node, l.mode) l.above.items;
 }
 
 -- whether the next request needs a parent first

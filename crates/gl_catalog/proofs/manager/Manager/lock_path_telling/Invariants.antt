@@ -1,7 +1,7 @@
 use Rattle.std.specs.Prelude.{◌≡◌, ◌-◌, []}
 use Rattle.gl_graph.specs.Refusals.{max_count}
 use Rattle.gl_catalog.specs.Manager.{state_of}
-use Rattle.gl_catalog.specs.Paths.{KeepsWay}
+use Rattle.gl_catalog.specs.Paths.{KeepsPath}
 use Rattle.gl_catalog.proofs.PathRuns.{LeadsTo}
 use Rattle.gl_catalog.proofs.manager.Manager.lock_path_telling.Given as goal
 
@@ -10,7 +10,7 @@ abbrev pub invariant-path : goal.invariant-path
 invariant-path l = record {
   empty : l.told.items ≡ [];
   leads : LeadsTo l.t (l.node, l.mode) l.fn.self l.self;
-  kept : KeepsWay (state_of l.self) l.t (l.node, l.mode) l.above.items;
+  kept : KeepsPath (state_of l.self) l.t (l.node, l.mode) l.above.items;
 }
 
 -- how many commands can still be counted

@@ -1,7 +1,7 @@
 use Rattle.std.specs.Prelude.{◌≡◌, ◌-◌, Some, length, slice_get}
 use Rattle.std.proofs.Common.{ap, rules, sym, ◌∙◌}
 use Rattle.gl_modes.specs.declared.mode.Mode.{Mode}
-use Rattle.gl_catalog.proofs.KeptWays.{next_by_last}
+use Rattle.gl_catalog.proofs.KeptPaths.{next_by_last}
 use Rattle.gl_catalog.proofs.manager.paths.next_ask.Goals as goal
 
 pub returns-in-Some : goal.returns-in-Some

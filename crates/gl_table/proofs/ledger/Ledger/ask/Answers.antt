@@ -228,8 +228,12 @@ listed c m is blocked = let g = c.args.graph.now in let l = c.make_room_to_ask.n
 same_headers : (c : After-set_status) → c.if-not-is_member.self.headers ≡ c.ask.new.self
 same_headers c = elim c.if-not-is_member.branch [ then-not-is_member w ↦ ap (λ y. y.headers) w.self-is | else-not-is_member w ↦ ap (λ y. y.headers) w.self-is ]
 
-same_seats : (c : After-set_status) → c.if-not-is_member.self.seats ≡ c.make_room_to_ask.new.self.seats
-same_seats c = elim c.if-not-is_member.branch [ then-not-is_member w ↦ ap (λ y. y.seats) w.self-is | else-not-is_member w ↦ ap (λ y. y.seats) w.self-is ]
+same_txn_entries : (c : After-set_status) → c.if-not-is_member.self.txn_entries ≡ c.make_room_to_ask.new.self.txn_entries
+same_txn_entries c = elim c.if-not-is_member.branch [
+  | then-not-is_member w ↦ ap (λ y. y.txn_entries) w.self-is
+  | else-not-is_member w ↦ ap
+      (λ y. y.txn_entries) w.self-is
+]
 
 blocks : (c : After-set_status) → MayAct c.args.graph.now c.args.self.now c.args.slot
     → enters_at (state_in c.args.graph.now c.args.self.now) c.args.slot c.args.node c.args.mode ≡ false
@@ -240,15 +244,15 @@ blocks c m =
 -- it waits
 put : (c : After-set_status) → MayAct c.args.graph.now c.args.self.now c.args.slot
     → c.ne-is_member.result ≡ holds (members (state_in c.args.graph.now c.args.self.now) c.args.node) c.args.slot
-    → IsEnqueued c.args.graph.now c.args.self.now (record c.if-not-is_member.self { seats = c.set_status.new.self }) c.args.slot c.args.node
+    → IsEnqueued c.args.graph.now c.args.self.now (record c.if-not-is_member.self { txn_entries = c.set_status.new.self }) c.args.slot c.args.node
     c.args.mode
 put c m held = let g = c.args.graph.now in let l = c.make_room_to_ask.new.self in let t = c.args.slot in let n = c.args.node in
     let is : c.ne-is_member.result ≡ not (same_mode c.args.held NL) = search rules in
     let r = roomy_ready l m c.make_room_to_ask.ensures.rest c.make_room_to_ask.ensures.kept n c.args.mode c.ne-is_member.result false held
     (blocks c m) (λ e. c.in-Ok.ensures.room (ap (λ b. b && is_granted_at c.args.self.now.headers.entries t n c.args.mode) (sym is) ∙ e)) in
-    is_enqueued g c.args.self.now l (record c.if-not-is_member.self { seats = c.set_status.new.self }) t n c.args.mode c.sup-wanted.result _ r
-    c.ask.new.self.entries c.if-not-is_member.self.seats.items
-    (ap (λ h. h.entries) (same_headers c)) c.in_ok-asked.ensures.asked.waits (ap (λ x. x.items) (same_seats c)) c.set_status.ensures.len
+    is_enqueued g c.args.self.now l (record c.if-not-is_member.self { txn_entries = c.set_status.new.self }) t n c.args.mode c.sup-wanted.result _ r
+    c.ask.new.self.entries c.if-not-is_member.self.txn_entries.items
+    (ap (λ h. h.entries) (same_headers c)) c.in_ok-asked.ensures.asked.waits (ap (λ x. x.items) (same_txn_entries c)) c.set_status.ensures.len
     c.set_status.ensures.txns
     (c.sup-wanted.ensures ∙ ap (λ k. supremum k c.args.mode) (c.requires.can.held_is ∙ (m.exact.agree t).modes n
     ∙ ap (λ s. s.held t n) (sym (roomy_same l m c.make_room_to_ask.ensures.rest c.make_room_to_ask.ensures.kept))))

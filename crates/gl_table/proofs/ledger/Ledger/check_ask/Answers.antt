@@ -5,14 +5,14 @@ use Rattle.gl_modes.specs.declared.refusal.Refusal.TheVariants as no
 use Rattle.gl_graph.specs.Graph.{node_at, shape_of}
 use Rattle.gl_table.proofs.calls.Calls.{test_passed}
 use Rattle.gl_table.proofs.calls.Locking.{test_refused}
-use Rattle.gl_table.proofs.calls.Calls.{asker_listed, asker_refused, dead_by, live_by, mode_refused, node_refused, rule_decides}
+use Rattle.gl_table.proofs.calls.Calls.{requester_listed, requester_refused, dead_by, live_by, mode_refused, node_refused, rule_decides}
 use Rattle.gl_table.proofs.inside.Slots.{by_list-at}
 use Rattle.gl_table.proofs.ledger.Ledger.check_ask.Goals.{After-check_rule}
 use Rattle.gl_table.proofs.ledger.Ledger.check_ask.Goals as goal
 
 pub returns-in_err-check_active-clause-refused : goal.returns-in_err-check_active-clause-refused
 returns-in_err-check_active-clause-refused c =
-    let is = asker_refused (state_in c.args.graph.now c.args.self.now) c.args.t c.args.node c.args.mode c.in_err-check_active.field-0.0
+    let is = requester_refused (state_in c.args.graph.now c.args.self.now) c.args.t c.args.node c.args.mode c.in_err-check_active.field-0.0
     (test_refused _ c.in_err-check_active.field-0.0 (c.in_err-check_active.ensures (graph_of c.args.graph.now))) in
     search (rules, is)
 
@@ -31,7 +31,7 @@ returns-then-is_bad_mode-clause-refused c =
 
 pub index-list-requires : goal.index-list-requires
 index-list-requires c =
-    let is = asker_listed (graph_of c.args.graph.now) c.args.self.now c.args.t c.requires.exact.sound
+    let is = requester_listed (graph_of c.args.graph.now) c.args.self.now c.args.t c.requires.exact.sound
     (test_passed _ c.in_ok-check_active.field-0 (c.in_ok-check_active.ensures (graph_of c.args.graph.now))) in
     search (rules, is)
 
@@ -44,7 +44,7 @@ module _ (c : After-check_rule) where
   said : (q : NodeId) → mode_of c.index-list.result.now q ≡ held_by c.args.self.now.lists.items c.args.t.slot q
   said q =
       sym (by_list-at (λ l. mode_of l q) NL c.args.self.now.lists.items c.args.t.slot c.index-list.result.now
-      (asker_listed (graph_of c.args.graph.now) c.args.self.now c.args.t c.requires.exact.sound may) c.index-list.ensures)
+      (requester_listed (graph_of c.args.graph.now) c.args.self.now c.args.t c.requires.exact.sound may) c.index-list.ensures)
 
   good : bad_mode (state_in c.args.graph.now c.args.self.now) c.args.node c.args.mode ≡ None
   good =

@@ -6,7 +6,7 @@ use Rattle.gl_model.proofs.telling.Fronts.{well_granted, woken_front}
 use Rattle.gl_table.proofs.ledger.Ledger.drop_and_wake.Goals.{After-as_slice}
 use Rattle.gl_table.proofs.ledger.Ledger.drop_and_wake.Goals as goal
 
-can_wake : (c : After-as_slice) → CanEnd (books_of c.args.self.now.seats c.args.self.now.lists.items c.args.told.now.items) c.as_slice.result.now
+can_wake : (c : After-as_slice) → CanEnd (books_of c.args.self.now.txn_entries c.args.self.now.lists.items c.args.told.now.items) c.as_slice.result.now
     × ((u : ℕ) → is_among_waiters u c.as_slice.result.now ≡ true
     → CanHold c.args.self.now.lists.items u c.args.node (parents_of (graph_of c.args.graph.now) c.args.node))
 can_wake c =
@@ -33,18 +33,19 @@ front_is : (c : goal.After-wake_granted) → front slot_limit (with_mode (member
     ≡ front_at (dropped c) c.args.node
 front_is c = released_front (before c) c.requires.waiters.orderly c.requires.waiters.sound.few c.args.slot c.args.node
 
-woken : (c : goal.After-wake_granted) → Wakes (books_of c.args.self.now.seats c.args.self.now.lists.items c.args.told.now.items) c.args.node
+woken : (c : goal.After-wake_granted) → Wakes (books_of c.args.self.now.txn_entries c.args.self.now.lists.items c.args.told.now.items) c.args.node
     (parents_of (before c).graph c.args.node) (front_at (dropped c) c.args.node)
-    (books_of c.wake_granted.new.self.seats c.wake_granted.new.self.lists.items c.wake_granted.new.told.items)
-woken c = subst (λ (ws : List Waiter). Wakes (books_of c.args.self.now.seats c.args.self.now.lists.items c.args.told.now.items) c.args.node
-    (parents_of (before c).graph c.args.node) ws (books_of c.wake_granted.new.self.seats c.wake_granted.new.self.lists.items c.wake_granted.new.told.items))
+    (books_of c.wake_granted.new.self.txn_entries c.wake_granted.new.self.lists.items c.wake_granted.new.told.items)
+woken c = subst (λ (ws : List Waiter). Wakes (books_of c.args.self.now.txn_entries c.args.self.now.lists.items c.args.told.now.items) c.args.node
+    (parents_of (before c).graph c.args.node) ws
+    (books_of c.wake_granted.new.self.txn_entries c.wake_granted.new.self.lists.items c.wake_granted.new.told.items))
     (c.as_slice.ensures.value ∙ c.drop_grant.ensures.granted ∙ front_is c) c.wake_granted.ensures.wakes
 
 pub returns-clause-state : goal.returns-clause-state
 returns-clause-state c =
     let b = dropped c in
     pumped_by_fields b (same_node c.args.node) (held_of c.wake_granted.new.self.headers.entries) (queue_of c.wake_granted.new.self.headers.entries)
-    (txns_of c.wake_granted.new.self.seats.items) _ (ap held_of c.wake_granted.ensures.headers ∙ c.drop_grant.ensures.held
+    (txns_of c.wake_granted.new.self.txn_entries.items) _ (ap held_of c.wake_granted.ensures.headers ∙ c.drop_grant.ensures.held
     ∙ held-pumped b c.args.node (before c).held _ _ (members-with_grant (before c) c.args.slot c.args.node NL) (front_is c) apart)
     (ap queue_of c.wake_granted.ensures.headers ∙ c.drop_grant.ensures.queue ∙ queue-pumped b c.args.node (before c).queue _ (front_is c) (λ q e. refl))
     (λ u. (woken c).txns u ∙ sym (woken_front b c.args.node (well_granted (before c) c.requires.waiters.orderly c.args.slot c.args.node NL c.args.node) u))

@@ -83,4 +83,4 @@ returns-clause-left c =
 
 pub returns-clause-tells : goal.returns-clause-tells
 returns-clause-tells c = let is = c.loop-at.invariant.leaving in
-    record { by_slot = is.by_slot; others = λ s way same. (is.tells s way same).1; own = is.own }
+    record { by_slot = is.by_slot; others = λ s between same. (is.tells s between same).1; own = is.own }

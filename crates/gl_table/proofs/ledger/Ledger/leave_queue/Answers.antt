@@ -10,7 +10,7 @@ use Rattle.gl_table.proofs.ledger.Ledger.leave_queue.Goals as goal
 pub drop_wait-requires : goal.drop_wait-requires
 drop_wait-requires c = stands_there (state_in c.args.graph.now c.args.self.now) c.requires.waiters.orderly c.args.slot c.args.node c.requires.waits
 
-can_wake : (c : After-as_slice) → CanEnd (books_of c.args.self.now.seats c.args.self.now.lists.items c.args.told.now.items) c.as_slice.result.now
+can_wake : (c : After-as_slice) → CanEnd (books_of c.args.self.now.txn_entries c.args.self.now.lists.items c.args.told.now.items) c.as_slice.result.now
     × ((u : ℕ) → is_among_waiters u c.as_slice.result.now ≡ true
     → CanHold c.args.self.now.lists.items u c.args.node (parents_of (graph_of c.args.graph.now) c.args.node))
 can_wake c =
@@ -38,11 +38,12 @@ front_is : (c : goal.After-set_status) → front slot_limit (members (before c) 
     ≡ front_at (left c) c.args.node
 front_is c = withdrawn_front (before c) c.requires.waiters.orderly c.requires.waiters.sound.few c.args.slot c.args.node c.args.status
 
-woken : (c : goal.After-set_status) → Wakes (books_of c.args.self.now.seats c.args.self.now.lists.items c.args.told.now.items) c.args.node
+woken : (c : goal.After-set_status) → Wakes (books_of c.args.self.now.txn_entries c.args.self.now.lists.items c.args.told.now.items) c.args.node
     (parents_of (before c).graph c.args.node) (front_at (left c) c.args.node)
-    (books_of c.wake_granted.new.self.seats c.wake_granted.new.self.lists.items c.wake_granted.new.told.items)
-woken c = subst (λ (ws : List Waiter). Wakes (books_of c.args.self.now.seats c.args.self.now.lists.items c.args.told.now.items) c.args.node
-    (parents_of (before c).graph c.args.node) ws (books_of c.wake_granted.new.self.seats c.wake_granted.new.self.lists.items c.wake_granted.new.told.items))
+    (books_of c.wake_granted.new.self.txn_entries c.wake_granted.new.self.lists.items c.wake_granted.new.told.items)
+woken c = subst (λ (ws : List Waiter). Wakes (books_of c.args.self.now.txn_entries c.args.self.now.lists.items c.args.told.now.items) c.args.node
+    (parents_of (before c).graph c.args.node) ws
+    (books_of c.wake_granted.new.self.txn_entries c.wake_granted.new.self.lists.items c.wake_granted.new.told.items))
     (c.as_slice.ensures.value ∙ c.drop_wait.ensures.granted ∙ front_is c) c.wake_granted.ensures.wakes
 
 well : (c : goal.After-set_status) → WaitWell (left c) c.args.node

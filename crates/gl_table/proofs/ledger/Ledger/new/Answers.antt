@@ -14,7 +14,7 @@ returns c =
     let all : c.loop.counter ≡ c.args.most = omega arith in
     record {
       headers = c.in_ok-headers.ensures;
-      seats = c.in_ok-seats.ensures;
+      txn_entries = c.in_ok-txn_entries.ensures;
       lists = c.loop.invariant.0 ∙ all;
       listed = bare-listed c.loop.lists.items c.loop.invariant.1;
       modes = bare-modes c.loop.lists.items c.loop.invariant.1;

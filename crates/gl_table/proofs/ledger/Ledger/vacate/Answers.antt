@@ -37,7 +37,8 @@ waiters c = elim c.match-taken.branch [
 pub free-requires-clause-can : goal.free-requires-clause-can
 free-requires-clause-can c =
     let at = goal.at.free-requires-clause-can c in
-    subst (λ (ws : List Waiter). CanEnd (books_of c.args.self.now.seats c.strike.new.lists.items c.args.told.now.items) ws) (sym (waiters at.Joined-taken))
+    subst (λ (ws : List Waiter). CanEnd (books_of c.args.self.now.txn_entries c.strike.new.lists.items c.args.told.now.items) ws)
+    (sym (waiters at.Joined-taken))
     (can_free (may at.After-parents) (struck at.After-strike) c.args.told.now.items c.requires.tell)
 
 pub free-requires-clause-childless : goal.free-requires-clause-childless
@@ -46,16 +47,16 @@ free-requires-clause-childless c =
     λ u h. waiter_childless (may at.After-parents) (struck at.After-strike) u (ap (is_among_waiters u) (sym (waiters at.Joined-taken)) ∙ h)
 
 freed : (c : goal.Joined-taken-2) → c.match-taken.waiters.now ≡ queue_of c.args.self.now.headers.entries c.args.node
-    → WaitsEnd (books_of c.args.self.now.seats c.strike.new.lists.items c.args.told.now.items) c.args.node
+    → WaitsEnd (books_of c.args.self.now.txn_entries c.strike.new.lists.items c.args.told.now.items) c.args.node
     (λ u. is_among_waiters u (queue_of c.args.self.now.headers.entries c.args.node)) as_left (λ u. notice.Gone)
-    (books_of c.free.new.seats c.free.new.lists.items c.free.new.told.items)
+    (books_of c.free.new.txn_entries c.free.new.lists.items c.free.new.told.items)
 freed c is =
-    subst (λ (ws : List Waiter). WaitsEnd (books_of c.args.self.now.seats c.strike.new.lists.items c.args.told.now.items) c.args.node
-    (λ u. is_among_waiters u ws) as_left (λ u. notice.Gone) (books_of c.free.new.seats c.free.new.lists.items c.free.new.told.items)) is c.free.ensures
+    subst (λ (ws : List Waiter). WaitsEnd (books_of c.args.self.now.txn_entries c.strike.new.lists.items c.args.told.now.items) c.args.node
+    (λ u. is_among_waiters u ws) as_left (λ u. notice.Gone) (books_of c.free.new.txn_entries c.free.new.lists.items c.free.new.told.items)) is c.free.ensures
 
 state_is : (c : goal.Joined-taken-2) → MayVacate c.args.graph.now c.args.self.now c.args.slot c.args.node
     → c.match-taken.waiters.now ≡ queue_of c.args.self.now.headers.entries c.args.node
-    → state_in c.args.graph.now (record c.args.self.now { headers = c.take-taken.new.self; seats = c.free.new.seats; lists = c.free.new.lists })
+    → state_in c.args.graph.now (record c.args.self.now { headers = c.take-taken.new.self; txn_entries = c.free.new.txn_entries; lists = c.free.new.lists })
     ≡ departed (state_in c.args.graph.now c.args.self.now) (λ q. same_node q c.args.node) (graph_of c.args.graph.now)
 state_is c may is =
     let s : State = state_in c.args.graph.now c.args.self.now in

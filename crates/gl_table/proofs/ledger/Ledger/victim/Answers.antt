@@ -1,4 +1,4 @@
-use Rattle.gl_table.proofs.Words.{age_in, Graph, IfNone, IsCandidate, IsLowestLatest, IsOnNoCycle, IsOrderly, IsVictim, List, Option, refl, Seat, shown}
+use Rattle.gl_table.proofs.Words.{age_in, Graph, IfNone, IsCandidate, IsLowestLatest, IsOnNoCycle, IsOrderly, IsVictim, List, Option, refl, TxnEntry, shown}
 use Rattle.gl_table.proofs.Words.{since_in, state_on, subst, sym, txns_of, waits_for, ℕ}
 use Rattle.gl_table.proofs.inside.Boards.{victim_waits}
 use Rattle.gl_table.proofs.ledger.Ledger.victim.Goals.{In_ok-victim}
@@ -7,9 +7,9 @@ use Rattle.gl_table.proofs.ledger.Ledger.victim.Goals as goal
 -- what is read from the locks is what their state says over any graph
 chosen : (c : In_ok-victim) (g : Graph) → IsVictim c.args.victims (state_on g c.args.self.now) c.args.slot c.in_ok-victim.victim
 chosen c g =
-    (subst (λ (seats : List (Option Seat)). IsLowestLatest
-    (IsCandidate c.args.victims (waits_for (shown c.args.self.now.headers.entries seats 0)) c.args.slot) (λ u. since_in (txns_of seats u))
-    (λ u. age_in (txns_of seats u))
+    (subst (λ (txn_entries : List (Option TxnEntry)). IsLowestLatest
+    (IsCandidate c.args.victims (waits_for (shown c.args.self.now.headers.entries txn_entries 0)) c.args.slot) (λ u. since_in (txns_of txn_entries u))
+    (λ u. age_in (txns_of txn_entries u))
     c.in_ok-victim.victim)
     c.as_slice.ensures c.in_ok-victim.ensures.some).youngest
 
@@ -17,7 +17,8 @@ pub returns-in_err-victim-clause-none : goal.returns-in_err-victim-clause-none
 returns-in_err-victim-clause-none c =
     subst (λ (answer : Option ℕ). IfNone answer ((g : Graph) → IsOrderly (state_on g c.args.self.now)
     → IsOnNoCycle (waits_for (state_on g c.args.self.now)) c.args.slot)) (sym c.from_residual.ensures)
-    (λ g o. subst (λ (seats : List (Option Seat)). IsOnNoCycle (waits_for (shown c.args.self.now.headers.entries seats 0)) c.args.slot) c.as_slice.ensures
+    (λ g o. subst (λ (txn_entries : List (Option TxnEntry)). IsOnNoCycle
+    (waits_for (shown c.args.self.now.headers.entries txn_entries 0)) c.args.slot) c.as_slice.ensures
     (c.in_err-victim.ensures.none.0 refl))
 
 pub returns-clause-some : goal.returns-clause-some

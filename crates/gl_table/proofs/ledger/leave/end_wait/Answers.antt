@@ -5,7 +5,7 @@ use Rattle.gl_table.proofs.ledger.leave.end_wait.Goals.{After-leave, After-index
 use Rattle.gl_table.proofs.ledger.leave.end_wait.Goals as goal
 
 listed : (c : After-index_mut) → c.args.slot < length c.args.lists.now.items
-listed c = subst (λ (k : ℕ). c.args.slot < k) (sym c.requires.can.kept.len) c.requires.can.seated
+listed c = subst (λ (k : ℕ). c.args.slot < k) (sym c.requires.can.kept.len) c.requires.can.has_entry
 
 pub leave-requires : goal.leave-requires
 leave-requires c = record {

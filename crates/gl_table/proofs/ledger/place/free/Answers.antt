@@ -1,5 +1,5 @@
 use Rattle.gl_table.proofs.Words.{◌∙◌, ◌≡◌, arith, false, is_among_waiters, NL, refl, slice_index_or, take, true, ℕ}
-use Rattle.gl_table.proofs.inside.Woken.{among_more, count_still, ends_more, ends_none, is_among_all, kept_still, none_before, seat_still, untold_still}
+use Rattle.gl_table.proofs.inside.Woken.{among_more, count_still, ends_more, ends_none, is_among_all, kept_still, none_before, txn_entry_still, untold_still}
 use Rattle.gl_table.proofs.ledger.place.free.Goals.{In-loop-waiter}
 use Rattle.gl_table.proofs.ledger.place.free.Goals as goal
 
@@ -19,7 +19,7 @@ fresh c = none_before c.args.waiters.now c.loop-waiter.waiter-index (0, NL) c.re
 pub end_wait-requires-clause-can : goal.end_wait-requires-clause-can
 end_wait-requires-clause-can c = let p = (goal.at.end_wait-requires-clause-can c).In-loop-waiter in record {
   kept = kept_still c.loop-waiter.invariant c.requires.can.kept;
-  seated = seat_still c.loop-waiter.invariant _ (fresh p) (c.requires.can.below _ (among p));
+  has_entry = txn_entry_still c.loop-waiter.invariant _ (fresh p) (c.requires.can.below _ (among p));
   untold = untold_still c.loop-waiter.invariant _ (fresh p) (c.requires.can.untold _ (among p));
 }
 

@@ -1,6 +1,7 @@
 use Rattle.gl_table.proofs.Words.{◌≡◌, ap, false, is_among_waiters, NL, refl, slice_index_or, take, true, ℕ}
 use Rattle.gl_model.specs.declared.answers.Notice.TheVariants as notice
-use Rattle.gl_table.proofs.inside.Woken.{among_more, ends_none, ends_one, given_at, is_among_all, may_hold, none_before, seat_still, untold_still, woken_more}
+use Rattle.gl_table.proofs.inside.Woken.{among_more, ends_none, ends_one, given_at, is_among_all, may_hold, none_before, txn_entry_still, untold_still}
+use Rattle.gl_table.proofs.inside.Woken.{woken_more}
 use Rattle.gl_table.proofs.ledger.wake.wake.Goals.{In-loop-waiter}
 use Rattle.gl_table.proofs.ledger.wake.wake.Goals as goal
 
@@ -19,7 +20,7 @@ fresh c = none_before c.args.granted.now c.loop-waiter.waiter-index (0, NL) c.re
 
 pub set_status-age-requires : goal.set_status-age-requires
 set_status-age-requires c = let p = (goal.at.set_status-age-requires c).In-loop-waiter in
-    seat_still c.loop-waiter.invariant _ (fresh p) (c.requires.can.below _ (among p))
+    txn_entry_still c.loop-waiter.invariant _ (fresh p) (c.requires.can.below _ (among p))
 
 pub hold-requires : goal.hold-requires
 hold-requires c = record {

@@ -1,21 +1,22 @@
 use Rattle.gl_table.proofs.Words.{◌∙◌, ◌≡◌, ap, cancelled, false, is_wait, IsBySlot, rules, State, state_at, status_of, subst, sym}
 use Rattle.gl_table.proofs.inside.Departures.{free_cancelled, free_idle, free_same, IsFree}
-use Rattle.gl_table.proofs.locks.Locks.abort.Goals.{Joined-seat, in-Some-Waiting, in-Some+in-Active-1, in-None-1}
+use Rattle.gl_table.proofs.locks.Locks.abort.Goals.{Joined-txn_entry, in-Some-Waiting, in-Some+in-Active-1, in-None-1}
 use Rattle.gl_table.proofs.locks.Locks.abort.Goals as goal
 
-abbrev before : Joined-seat → State
+abbrev before : Joined-txn_entry → State
 before c = state_at c.args.self.now
 
 -- if nothing was cancelled, all is as it was
-idle : (c : Joined-seat) → is_wait (status_of (before c) c.args.slot) ≡ false → c.match-seat.self ≡ c.args.self.now → c.match-seat.told ≡ c.args.told.now
-    → IsFree (before c) (state_at c.match-seat.self) c.args.slot c.args.told.now.items c.match-seat.told.items
+idle : (c : Joined-txn_entry) → is_wait (status_of (before c) c.args.slot) ≡ false → c.match-txn_entry.self ≡ c.args.self.now
+    → c.match-txn_entry.told ≡ c.args.told.now
+    → IsFree (before c) (state_at c.match-txn_entry.self) c.args.slot c.args.told.now.items c.match-txn_entry.told.items
 idle c quiet self told =
     free_same (before c) (before c) _ c.args.slot c.args.told.now.items c.args.told.now.items _ (ap state_at self) (ap (λ x. x.items) told)
     (free_idle (before c) c.args.slot c.args.told.now.items c.args.self.now.orderly quiet c.requires.tell.untold)
 
 -- the slot does not wait, once its wait is cancelled, if it has one
-free : (c : Joined-seat) → IsFree (before c) (state_at c.match-seat.self) c.args.slot c.args.told.now.items c.match-seat.told.items
-free c = elim c.match-seat.branch [
+free : (c : Joined-txn_entry) → IsFree (before c) (state_at c.match-txn_entry.self) c.args.slot c.args.told.now.items c.match-txn_entry.told.items
+free c = elim c.match-txn_entry.branch [
   | in-Some-Waiting w ↦
       free_same (before c) (cancelled (before c) c.args.slot) _ c.args.slot c.args.told.now.items w.withdraw.new.told.items _
       (ap state_at w.self-is ∙ w.withdraw.ensures.state) (ap (λ x. x.items) w.told-is)
@@ -26,25 +27,25 @@ free c = elim c.match-seat.branch [
 ]
 
 pub end-requires-clause-quiet : goal.end-requires-clause-quiet
-end-requires-clause-quiet c = (free (goal.at.end-requires-clause-quiet c).Joined-seat).quiet
+end-requires-clause-quiet c = (free (goal.at.end-requires-clause-quiet c).Joined-txn_entry).quiet
 
 -- what was told so far is by slot
-by_slot : (c : Joined-seat) → IsBySlot c.match-seat.told.items
-by_slot c = elim c.match-seat.branch [
+by_slot : (c : Joined-txn_entry) → IsBySlot c.match-txn_entry.told.items
+by_slot c = elim c.match-txn_entry.branch [
   | in-Some-Waiting w ↦ subst IsBySlot (sym (ap (λ x. x.items) w.told-is)) w.withdraw.ensures.tells.by_slot
   | in-Some+in-Active-1 w ↦ subst IsBySlot (sym (ap (λ x. x.items) w.told-is)) c.requires.tell.by_slot
   | in-None-1 w ↦ subst IsBySlot (sym (ap (λ x. x.items) w.told-is)) c.requires.tell.by_slot
 ]
 
 pub end-requires-clause-tell : goal.end-requires-clause-tell
-end-requires-clause-tell c = let at = (goal.at.end-requires-clause-tell c).Joined-seat in record { by_slot = by_slot at; untold = (free at).untold }
+end-requires-clause-tell c = let at = (goal.at.end-requires-clause-tell c).Joined-txn_entry in record { by_slot = by_slot at; untold = (free at).untold }
 
 pub returns-clause-state : goal.returns-clause-state
-returns-clause-state c = c.end.ensures.state ∙ (free (goal.at.returns-clause-state c).Joined-seat).released
+returns-clause-state c = c.end.ensures.state ∙ (free (goal.at.returns-clause-state c).Joined-txn_entry).released
 
 pub returns-clause-tells : goal.returns-clause-tells
-returns-clause-tells c = let f = free (goal.at.returns-clause-tells c).Joined-seat in let ends = c.end.ensures.tells in record {
+returns-clause-tells c = let f = free (goal.at.returns-clause-tells c).Joined-txn_entry in let ends = c.end.ensures.tells in record {
   by_slot = ends.by_slot;
-  others = λ s way same. let now = f.tells s way same in ends.others s now.0 now.1;
+  others = λ s between same. let now = f.tells s between same in ends.others s now.0 now.1;
   own = ends.own ∙ f.own;
 }

@@ -1,8 +1,8 @@
-use Rattle.gl_table.proofs.Words.{◌==◌, ◌∙◌, ◌≡◌, age_in, ap, ap₂, Condemned, if◌then◌else◌, is_wait, is_waiting_at, IsOnWay, Mode, rules, Some}
+use Rattle.gl_table.proofs.Words.{◌==◌, ◌∙◌, ◌≡◌, age_in, ap, ap₂, Condemned, if◌then◌else◌, is_wait, is_waiting_at, IsBetween, Mode, rules, Some}
 use Rattle.gl_table.proofs.Words.{State, state_at, status_of, subst, sym, told_to, Waiting, ℕ}
 use Rattle.gl_model.specs.declared.answers.Notice.TheVariants as notice
 use Rattle.gl_model.proofs.law.Keeps.{waiting_is}
-use Rattle.gl_model.proofs.telling.GivenUp.{TellsVictim, victim_absent, victim_told, victim_untold, way_withdrawn}
+use Rattle.gl_model.proofs.telling.GivenUp.{TellsVictim, victim_absent, victim_told, victim_untold, between_withdrawn}
 use Rattle.gl_table.proofs.locks.Locks.condemn.Goals.{After-tell, After-withdraw}
 use Rattle.gl_table.proofs.locks.Locks.condemn.Goals as goal
 
@@ -29,14 +29,14 @@ returns-in-Some-Waiting-clause-untold c = let at = goal.at.returns-in-Some-Waiti
     c.tell.new.told.items
     (tells at.After-tell) c.requires.tell.untold u (ap (λ (x : State). is_wait (status_of x u)) (sym c.withdraw.ensures.state) ∙ h)
 
-pub returns-in-Some-Waiting-clause-ways : goal.returns-in-Some-Waiting-clause-ways
-returns-in-Some-Waiting-clause-ways c = let s = state_at c.args.self.now in
-    λ start way. subst (IsOnWay start) (sym c.withdraw.ensures.state)
-    (way_withdrawn start s c.args.slot Condemned (is_waiting_at s c.args.slot) (λ q m e. cc) way)
+pub returns-in-Some-Waiting-clause-keeps_between : goal.returns-in-Some-Waiting-clause-keeps_between
+returns-in-Some-Waiting-clause-keeps_between c = let s = state_at c.args.self.now in
+    λ start between. subst (IsBetween start) (sym c.withdraw.ensures.state)
+    (between_withdrawn start s c.args.slot Condemned (is_waiting_at s c.args.slot) (λ q m e. cc) between)
 
 pub returns-in-Some-Waiting-clause-tells : goal.returns-in-Some-Waiting-clause-tells
 returns-in-Some-Waiting-clause-tells c = let at = goal.at.returns-in-Some-Waiting-clause-tells c in let w = waits at.After-withdraw in record {
   by_slot = c.tell.ensures.by_slot;
-  all = λ start way same u. victim_told (before at.After-withdraw) c.args.self.now.orderly c.args.slot c.in-Some-Waiting.node w.0 w.1 c.args.told.now.items
-      c.tell.new.told.items (tells at.After-tell) start way same u ∙ ap (λ x. told_to start x u) (sym c.withdraw.ensures.state);
+  all = λ start between same u. victim_told (before at.After-withdraw) c.args.self.now.orderly c.args.slot c.in-Some-Waiting.node w.0 w.1 c.args.told.now.items
+      c.tell.new.told.items (tells at.After-tell) start between same u ∙ ap (λ x. told_to start x u) (sym c.withdraw.ensures.state);
 }

@@ -16,14 +16,18 @@ loop-victim-preserved c =
     let before = c.loop-victim.invariant in
     let now = c.condemn.ensures in
     record {
-      seated = subst (λ (k : ℕ). c.args.slot < k) (sym (ap (λ x. x.most) now.state)) before.seated;
+      has_entry = subst (λ (k : ℕ). c.args.slot < k) (sym (ap (λ x. x.most) now.state)) before.has_entry;
       untold = now.untold;
       settled = λ s' d' rest. before.settled s' d' (keeping_turn c.args.victims (state_at c.loop-victim.self) (state_at c.condemn.new.self) s' c.args.slot
           c.in-Some.victim c.loop-victim.deadlock c.keep_deadlock.new.deadlock d' (c.in-Some.ensures.some g c.loop-victim.self.orderly)
           (c.keep_deadlock.ensures g)
           now.state rest);
-      ways = λ s way. now.ways s (before.ways s way);
-      tells = record { by_slot = now.tells.by_slot; all = λ s way same. now.tells.all s (before.ways s way) (before.tells.all s way same) };
+      keeps_between = λ s between. now.keeps_between s (before.keeps_between s between);
+      tells = record {
+        by_slot = now.tells.by_slot;
+        all = λ s between same. now.tells.all s (before.keeps_between s between)
+            (before.tells.all s between same);
+      };
     }
 
 pub returns-clause-deadlock : goal.returns-clause-deadlock

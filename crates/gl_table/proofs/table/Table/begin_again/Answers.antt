@@ -9,7 +9,7 @@ use Rattle.gl_table.proofs.table.Table.begin_again.Goals as goal
 
 full : (c : goal.In_default) → first_refusal (begin_tests (state_of c.args.self.now)) ≡ Some no.TooManyTxns
 full c =
-    let none = sym c.in_default.is ∙ c.first_free.ensures ∙ ap (λ (v : TableView). position is_free v.seats) c.self.view_is in
+    let none = sym c.in_default.is ∙ c.first_free.ensures ∙ ap (λ (v : TableView). position is_free v.txn_entries) c.self.view_is in
     begin-refusal (state_of c.args.self.now) None (λ e. c.if-self.false (ap (λ (v : TableView). v.begins) c.self.view_is ∙ e))
     (found-slot c.args.self.now None none)
 
@@ -21,24 +21,24 @@ returns-in_default-clause-refuses c = subst (λ r. Refuses {T = TxnId} r (Err no
 
 -- a slot is free
 
-seat : (c : After-take) → Some c.in-Some.slot ≡ position is_free c.self.inside.locks.ledger.seats.items
-seat c = sym c.in-Some.is ∙ c.first_free.ensures
+txn_entry : (c : After-take) → Some c.in-Some.slot ≡ position is_free c.self.inside.locks.ledger.txn_entries.items
+txn_entry c = sym c.in-Some.is ∙ c.first_free.ensures
 
 slot : (c : After-take) → free_slot (state_of c.args.self.now) ≡ Some c.in-Some.slot
-slot c = found-slot c.args.self.now (Some c.in-Some.slot) (seat c ∙ ap (λ (v : TableView). position is_free v.seats) c.self.view_is)
+slot c = found-slot c.args.self.now (Some c.in-Some.slot) (txn_entry c ∙ ap (λ (v : TableView). position is_free v.txn_entries) c.self.view_is)
 
 pub invariant_of-self : goal.invariant_of-self
 invariant_of-self c = let at = (goal.at.invariant_of-self c).After-take in
-    begun-safe c.self.inside c.self.invariant c.in-Some.slot c.min.result (seat at) c.take.new.self c.take.ensures
+    begun-safe c.self.inside c.self.invariant c.in-Some.slot c.min.result (txn_entry at) c.take.new.self c.take.ensures
 
 pub invariant_of-self-inside : goal.invariant_of-self-inside
-invariant_of-self-inside c = begun-law c.self.inside c.self.invariant c.in-Some.slot c.min.result (seat c) c.take.new.self c.take.ensures
+invariant_of-self-inside c = begun-law c.self.inside c.self.invariant c.in-Some.slot c.min.result (txn_entry c) c.take.new.self c.take.ensures
 
 pub returns-clause-begun : goal.returns-clause-begun
 returns-clause-begun c = let at = (goal.at.returns-clause-begun c).After-take in (
   slot at,
   ap (λ (v : TableView). v.begins + 1) c.self.view_is,
-  begun-state c.self.inside c.self.invariant c.in-Some.slot c.min.result (seat at) c.take.new.self c.take.ensures
+  begun-state c.self.inside c.self.invariant c.in-Some.slot c.min.result (txn_entry at) c.take.new.self c.take.ensures
       ∙ ap (begun_since (state_of (view_of c.self.inside)) c.in-Some.slot) c.min.ensures
       ∙ ap (λ (v : TableView). begun_again (state_of v) c.in-Some.slot c.args.since) c.self.view_is,
 )

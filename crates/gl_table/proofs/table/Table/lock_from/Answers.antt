@@ -114,42 +114,43 @@ pub returns-in-Granted-clause-refuses : goal.returns-in-Granted-clause-refuses
 returns-in-Granted-clause-refuses c =
     record { refuses = unrefused _ _ (checked (goal.at.returns-in-Granted-clause-refuses c).In_ok-held).0; held = λ passes enters member. refl }
 
-pub settle_asker-requires-clause-seated : goal.settle_asker-requires-clause-seated
-settle_asker-requires-clause-seated c =
-    let at = goal.at.settle_asker-requires-clause-seated c in let m = may at.In_ok-held in
+pub settle_requester-requires-clause-has_entry : goal.settle_requester-requires-clause-has_entry
+settle_requester-requires-clause-has_entry c =
+    let at = goal.at.settle_requester-requires-clause-has_entry c in let m = may at.In_ok-held in
     subst (λ (k : ℕ). c.args.t.slot < k) (sym (ap (λ s. s.most) (c.in_ok-granted.ensures.asked.waits (blocks at.In-Waiting))))
     (c.self.inside.locks.orderly.below c.args.t.slot (txn_there ((state_of (view_of c.self.inside)).txns c.args.t.slot) Active m.active))
 
 pub invariant_of-self-in-Waiting : goal.invariant_of-self-in-Waiting
 invariant_of-self-in-Waiting c =
     let at = goal.at.invariant_of-self-in-Waiting c in let b = blocks at.In-Waiting in
-    let settled = c.settle_asker.ensures in
+    let settled = c.settle_requester.ensures in
     sound_locked c.self.inside c.self.invariant c.args.t c.args.n c.args.mode (may at.In_ok-held) b c.ask.new.self (c.in_ok-granted.ensures.asked.waits b)
-    c.settle_asker.new.self c.settle_asker.new.deadlock settled.state
+    c.settle_requester.new.self c.settle_requester.new.deadlock settled.state
 
 pub returns-in-Waiting-clause-told : goal.returns-in-Waiting-clause-told
 returns-in-Waiting-clause-told c =
     let at = goal.at.returns-in-Waiting-clause-told c in let b = blocks at.In-Waiting in
-    let after = state_of (view_of (record c.self.inside { locks = c.settle_asker.new.self; deadlock = c.settle_asker.new.deadlock })) in
+    let after = state_of (view_of (record c.self.inside { locks = c.settle_requester.new.self; deadlock = c.settle_requester.new.deadlock })) in
     told_locked c.self.inside c.self.invariant c.args.t c.args.n c.args.mode (may at.In_ok-held) b c.ask.new.self (c.in_ok-granted.ensures.asked.waits b)
-    c.settle_asker.new.self c.settle_asker.new.deadlock c.settle_asker.ensures.state c.settle_asker.new.told.items c.settle_asker.ensures.told
+    c.settle_requester.new.self c.settle_requester.new.deadlock c.settle_requester.ensures.state c.settle_requester.new.told.items
+    c.settle_requester.ensures.told
     ∙ ap (λ (v : TableView). told_but c.args.t.slot (state_of v) after) c.self.view_is
 
 pub returns-in-Waiting-clause-state : goal.returns-in-Waiting-clause-state
 returns-in-Waiting-clause-state c =
     let at = goal.at.returns-in-Waiting-clause-state c in let b = blocks at.In-Waiting in
     subst (λ (v : TableView). Locks (state_of v) c.args.t.slot c.args.n c.args.mode
-    (state_of (view_of (record c.self.inside { locks = c.settle_asker.new.self; deadlock = c.settle_asker.new.deadlock })))) c.self.view_is
+    (state_of (view_of (record c.self.inside { locks = c.settle_requester.new.self; deadlock = c.settle_requester.new.deadlock })))) c.self.view_is
     (state_locked c.self.inside c.self.invariant c.args.t c.args.n c.args.mode (may at.In_ok-held) b c.ask.new.self (c.in_ok-granted.ensures.asked.waits b)
-    c.settle_asker.new.self c.settle_asker.new.deadlock c.settle_asker.ensures.state)
+    c.settle_requester.new.self c.settle_requester.new.deadlock c.settle_requester.ensures.state)
 
 pub returns-in-Waiting-clause-deadlock : goal.returns-in-Waiting-clause-deadlock
 returns-in-Waiting-clause-deadlock c =
     let at = goal.at.returns-in-Waiting-clause-deadlock c in let b = blocks at.In-Waiting in
-    let after = state_of (view_of (record c.self.inside { locks = c.settle_asker.new.self; deadlock = c.settle_asker.new.deadlock })) in
-    subst (λ (v : TableView). LocksKeeping (state_of v) c.args.t.slot c.args.n c.args.mode v.deadlock after c.settle_asker.new.deadlock) c.self.view_is
+    let after = state_of (view_of (record c.self.inside { locks = c.settle_requester.new.self; deadlock = c.settle_requester.new.deadlock })) in
+    subst (λ (v : TableView). LocksKeeping (state_of v) c.args.t.slot c.args.n c.args.mode v.deadlock after c.settle_requester.new.deadlock) c.self.view_is
     (kept_locked c.self.inside c.self.invariant c.args.t c.args.n c.args.mode (may at.In_ok-held) b c.ask.new.self (c.in_ok-granted.ensures.asked.waits b)
-    c.settle_asker.new.self c.settle_asker.new.deadlock c.settle_asker.ensures.state c.settle_asker.ensures.deadlock)
+    c.settle_requester.new.self c.settle_requester.new.deadlock c.settle_requester.ensures.state c.settle_requester.ensures.deadlock)
 
 pub returns-in-Waiting-clause-refuses : goal.returns-in-Waiting-clause-refuses
 returns-in-Waiting-clause-refuses c =

@@ -29,9 +29,9 @@ invariant_of-result c =
     let board : Board = arc_value c.args.board in
     let is : c.compare_exchange-found.new.seen.log ≡ log ++ board ∷ [] = search rules in
     let me : log ≡ c.args.self.now.list = ap (λ (v : Strip). v.list) c.self.view_is in
-    let way : c.self.inside.detect ≡ c.args.self.now.detect = ap (λ (v : Strip). v.detect) c.self.view_is in
+    let detection : c.self.inside.detect ≡ c.args.self.now.detect = ap (λ (v : Strip). v.detect) c.self.view_is in
     let le : last_epoch 0 log ≤ board.epoch = subst (λ (l : List Board). last_epoch 0 l ≤ board.epoch) (sym me) c.requires.rises in
-    let fine : Fine c.self.inside.detect board = subst (λ (b : Detect). Fine b board) (sym way) c.requires.fine in (
+    let fine : Fine c.self.inside.detect board = subst (λ (b : Detect). Fine b board) (sym detection) c.requires.fine in (
       omega (arith, ap length is, length-append log (board ∷ []), c.self.invariant.0),
       (log, is),
       subst (Rising 0) (sym is) (rising_more 0 log board c.self.invariant.2 le),

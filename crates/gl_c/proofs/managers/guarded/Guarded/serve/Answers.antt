@@ -87,13 +87,13 @@ invariant_of-self-2 c =
     let step = h.applies.step in
     let more = (step_counts _ _ _ _ _ step).accepted so in
     let low : c.self.inside.registry.manager.accepted ≤ c.serve.new.self.manager.accepted = omega (arith, more) in
-    let way : c.serve.new.self.manager.table.detect ≡ c.self.inside.registry.manager.table.detect = steps_keep_detect _ _ _ _ _ step in
+    let detection : c.serve.new.self.manager.table.detect ≡ c.self.inside.registry.manager.table.detect = steps_keep_detect _ _ _ _ _ step in
     sound_behind c.self.inside c.serve.new.self c.deliver.new.self c.ended_by-self-inside.result c.keep.new.showing
     (λ known. leaves_waits known c.args.command c.in-Some.answer c.serve.new.told.items) c.keep.ensures.shown
     (c.keep.ensures.parties
     ∙ ap (λ (l : Told). still_known (parties_in c.self.inside.showing) (λ known. leaves_waits known c.args.command c.in-Some.answer l))
     c.as_slice-3.ensures.value)
-    c.self.invariant low way
+    c.self.invariant low detection
     (knows_still _ (state_of c.serve.new.self.manager) (shown_in c.self.inside.showing) (parties_in c.self.inside.showing) c.args.command c.in-Some.answer
     c.serve.new.told.items c.law.ensures.manager.lawful c.law.ensures.manager.few step c.self.invariant.known)
 

@@ -59,9 +59,9 @@ invariant_of-self-2 c =
     let v = c.release_since.new.self in
     let told = c.release_since.new.told.items in
     let back = c.in_ok-released.ensures in
-    let way : v.manager.table.detect ≡ g.manager.table.detect = back_detect g v c.args.txn c.args.mark c.in_ok-released.released told back in
+    let detection : v.manager.table.detect ≡ g.manager.table.detect = back_detect g v c.args.txn c.args.mark c.in_ok-released.released told back in
     sound_behind c.self.inside v c.deliver.new.self c.ended_by-self-inside.result c.keep_nobody.new.showing has_none c.keep_nobody.ensures.shown
-    c.keep_nobody.ensures.parties c.self.invariant (back_counts g v c.args.txn c.args.mark c.in_ok-released.released told back) way
+    c.keep_nobody.ensures.parties c.self.invariant (back_counts g v c.args.txn c.args.mark c.in_ok-released.released told back) detection
     (knows_nobody (state_of g.manager) (state_of v.manager) (shown_in c.self.inside.showing) (parties_in c.self.inside.showing)
     (back_quiet g v c.args.txn c.args.mark c.in_ok-released.released told back) c.self.invariant.known)
 

@@ -65,7 +65,7 @@ invariant_of-self-2 c =
     c.lock_path-reached.ensures.path c.accepted-before.result c.accepted.result (counted_as _ _ _ c.accepted-before.ensures c.manager.ensures)
     (counted_as _ _ _ c.accepted.ensures c.manager-2.ensures) c.if-accepted-before.false in
     let low : c.self.inside.registry.manager.accepted ≤ c.lock_path-reached.new.self.manager.accepted = omega (arith, later) in
-    let way : c.lock_path-reached.new.self.manager.table.detect ≡ c.self.inside.registry.manager.table.detect =
+    let detection : c.lock_path-reached.new.self.manager.table.detect ≡ c.self.inside.registry.manager.table.detect =
     keeps_detect c.args.txn (c.args.node, c.args.mode) c.self.inside.registry.manager c.lock_path-reached.new.self.manager
     c.lock_path-reached.new.told.items c.lock_path-reached.result c.lock_path-reached.ensures.untold
     c.lock_path-reached.ensures.path in
@@ -74,7 +74,7 @@ invariant_of-self-2 c =
     (c.keep_on_path.ensures.parties
     ∙ ap (λ (l : Told). still_known (parties_in c.self.inside.showing) (λ known. leaves_on_path known c.args.txn c.lock_path-reached.result l))
     c.as_slice-3.ensures.value)
-    c.self.invariant low way
+    c.self.invariant low detection
     (path_known c.args.txn (c.args.node, c.args.mode) c.self.inside.registry.manager c.lock_path-reached.new.self.manager
     c.lock_path-reached.new.told.items c.lock_path-reached.result c.lock_path-reached.ensures.untold c.lock_path-reached.ensures.path
     c.law.ensures.manager.lawful c.law.ensures.manager.few (shown_in c.self.inside.showing) (parties_in c.self.inside.showing) c.self.invariant.known)

@@ -85,13 +85,13 @@ invariant_of-self-2 c =
     let own = c.apply-answer.ensures.own in
     let more = row_counts c.self.inside.registry c.args.call c.apply-answer.result told c.apply-answer.new.self own came is unrefused in
     let low : c.self.inside.registry.manager.accepted ≤ c.apply-answer.new.self.manager.accepted = omega (arith, more) in
-    let way : c.apply-answer.new.self.manager.table.detect ≡ c.self.inside.registry.manager.table.detect =
+    let detection : c.apply-answer.new.self.manager.table.detect ≡ c.self.inside.registry.manager.table.detect =
     row_detect c.self.inside.registry c.args.call c.apply-answer.result told c.apply-answer.new.self own came is unrefused in
     sound_behind c.self.inside c.apply-answer.new.self c.deliver.new.self c.ended_by-self-inside.result c.keep_row.new.showing
     (λ known. leaves_waits known (own_command unnamed c.args.call) came told) c.keep_row.ensures.shown
     (noted (parties_in c.self.inside.showing) c.args.call came c.command-own.result c.as_slice-3.result.now told (parties_in c.keep_row.new.showing)
     (MatchOption-at_some _ _ came is c.keep_row.ensures.parties) c.command-own.ensures c.as_slice-3.ensures.value)
-    c.self.invariant low way
+    c.self.invariant low detection
     (row_known c.self.inside.registry c.args.call c.apply-answer.result told c.apply-answer.new.self own came is unrefused c.law.ensures.manager.lawful
     c.law.ensures.manager.few (shown_in c.self.inside.showing) (parties_in c.self.inside.showing) c.self.invariant.known)
 
