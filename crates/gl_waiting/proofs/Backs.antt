@@ -1,0 +1,120 @@
+-- What a rollback to a savepoint does to notice boxes and waits, and that it is a run. For Delivery.release_since.
+use Rattle.gl_slots.specs.declared.slots.Slots.{Slots}
+use Rattle.gl_slots.specs.Limit.{most_slots}
+use Rattle.std.specs.Prelude.{◌≡◌, ℕ, ◌+◌, ◌<◌, ◌≤◌, ◌==◌, ◌||◌, false, List, [], ◌∷◌, Ok, map}
+use Rattle.std.specs.List.{list_any}
+use Rattle.std.proofs.Common.{sym, ap, subst, ◌∙◌, arith}
+use Rattle.gl_modes.proofs.Words.{and_both, split}
+use Rattle.gl_modes.specs.declared.mode.Mode.TheVariants.{NL}
+use Rattle.gl_modes.specs.declared.node.NodeId.{NodeId}
+use Rattle.gl_modes.specs.Nodes.{same_node}
+use Rattle.gl_slots.specs.Slots.{has_slot}
+use Rattle.gl_model.specs.declared.txn.TxnId.{TxnId}
+use Rattle.gl_model.specs.Calls.{Unlocks, unlocked}
+use Rattle.gl_model.specs.State.{State, lives, status_of, with_grant}
+use Rattle.gl_model.specs.Tellings.{Told}
+use Rattle.gl_model.proofs.law.Keeps.{waiting_is}
+use Rattle.gl_table.specs.Table.{state_of as table_state}
+use Rattle.gl_catalog.specs.Manager.{ManagerView, state_of}
+use Rattle.gl_catalog.specs.Replies.{Says}
+use Rattle.gl_catalog.specs.Savepoints.{TakesBack}
+use Rattle.gl_steps.specs.declared.command.Answer.{Answer}
+use Rattle.gl_steps.specs.declared.command.Command.{Command}
+use Rattle.gl_steps.specs.declared.command.Command.TheVariants as command
+use Rattle.gl_steps.specs.Promises.{is_told, waits_on}
+use Rattle.gl_steps.specs.Served.{accepts}
+use Rattle.gl_steps.specs.Step.{Run, Step}
+use Rattle.gl_steps.proofs.LivesOn.{GoesOn, lives_on_same, lives_on_trans, pumped_goes_on}
+use Rattle.gl_steps.proofs.Serving.{step_counts}
+use Rattle.gl_steps.proofs.WaitsEnd.{told_over}
+use Rattle.gl_registry.specs.Applying.{Upkeep}
+use Rattle.gl_registry.specs.Releasing.{GoesBackTo}
+use Rattle.gl_registry.specs.Rows.{RegistryView}
+use Rattle.gl_registry.proofs.CarriedOut.{each_goes}
+use Rattle.gl_registry.proofs.Upkeep.{LeavesAll, upkeep_leaves}
+use Rattle.gl_wakes.specs.Boxes.{Slot}
+use Rattle.gl_wakes.specs.Notices.{RisingTo}
+use Rattle.gl_wakes.specs.Wakes.{HasEnded}
+use Rattle.gl_wakes.proofs.Rising.{told_rises}
+use Rattle.gl_wakes.proofs.Waking.{told_wakes}
+use Rattle.gl_waiting.specs.Delivering.{Delivered, Puts, unlocking}
+use Rattle.gl_waiting.specs.Going.{IsRun}
+use Rattle.gl_waiting.proofs.Delivered.{with_boxes}
+use Rattle.gl_waiting.proofs.RowCalls.{low}
+use Rattle.gl_waiting.proofs.Runs.{run_of, run_then}
+
+-- Nodes are unlocked one after the other: every transaction lives on, and none begins to wait.
+
+goes_on : (ns : List NodeId) (s s' : State) (t u : ℕ) → Unlocks s t ns s' → GoesOn s s' u
+goes_on [] s s' t u h = lives_on_same (s.txns u) (s'.txns u) (ap (λ (x : State). x.txns u) h)
+goes_on (n ∷ ns) s s' t u h =
+    lives_on_trans (s.txns u) ((unlocked s t n).txns u) (s'.txns u) (pumped_goes_on (with_grant s t n NL) (same_node n) u)
+    (goes_on ns (unlocked s t n) s' t u h.2)
+
+-- a step does not lower the count of commands
+step_more : (s : State) (c : Command) (a : Answer) (list : Told) (s' : State) → Step s c a list s' → s.accepted ≤ s'.accepted
+step_more s c a list s' step =
+    split (accepts c a)
+    (λ e. let one : s'.accepted ≡ s.accepted + 1 = (step_counts s c a list s' step).accepted e in omega (arith, one))
+    (λ e. let same : s'.accepted ≡ s.accepted = ap (λ (x : State). x.accepted) ((step_counts s c a list s' step).not_accepted e).0 in omega (arith, same))
+
+-- nor does a run
+run_counts : (cs : List Command) (rs : List Says) (s s' : State) → Run s cs rs s' → s.accepted ≤ s'.accepted
+run_counts [] [] s s' run = let same = ap (λ (x : State). x.accepted) run in omega (arith, same)
+run_counts [] (r ∷ rs) s s' run = absurd run
+run_counts (c ∷ cs) [] s s' run = absurd run
+run_counts (c ∷ cs) (r ∷ rs) s s' run =
+    let one = step_more s c r.0 r.1 run.0 run.1 in
+    let rest = run_counts cs rs run.0 s' run.2 in
+    omega (arith, one, rest)
+
+module _ (m mid : ManagerView) (t : TxnId) (mark k : ℕ) (list : Told) (h : TakesBack t mark k m list mid) where
+  abbrev s : State
+  s = table_state m.table
+
+  abbrev now : State
+  now = table_state mid.table
+
+  -- a transaction whose wait has ended is told
+  ended : (slots : Slots) → ((u : ℕ) → u < most_slots → has_slot slots u ≡ (false || list_any (λ x. x.0.slot == u) list))
+      → HasEnded (state_of m) (state_of mid) slots
+  ended slots is law u n below was gone =
+      let b = and_both (lives (state_of m) u) _ was in
+      let w = waiting_is (status_of (state_of m) u.slot) n b.1 in
+      told_wakes list slots u is below
+      (ap (is_told u) h.tells
+      ∙ told_over (state_of m) law u b.0 n w.0 w.1 (state_of mid) (goes_on h.nodes s now t.slot u.slot h.back.unlocks) gone)
+
+-- The same, with the rows that are let go after it.
+module _ (g v : RegistryView) (t : TxnId) (mark k : ℕ) (list : Told) (h : GoesBackTo t mark g.manager g.rows (Ok k) list v.manager v.rows) where
+  lets_go : Upkeep (state_of h.0) (state_of v.manager)
+  lets_go = each_goes (state_of h.0) (state_of v.manager) g.rows.names v.rows.names _ h.2.goes
+
+  left : LeavesAll (state_of h.0) (state_of v.manager)
+  left = upkeep_leaves (state_of h.0) (state_of v.manager) lets_go
+
+  -- the count of commands does not fall
+  pub back_counts : g.manager.accepted ≤ v.manager.accepted
+  back_counts =
+      let more = run_counts (map (λ n. command.Unlock t n) h.1.nodes) h.1.replies (state_of g.manager) (state_of h.0) h.1.run in
+      let last = low (state_of h.0) (state_of v.manager) left.same_or_later in
+      omega (arith, more, last)
+
+  pub back_rises : (state_of g.manager).most ≤ most_slots → RisingTo 0 list most_slots
+  back_rises few = subst (λ (l : Told). RisingTo 0 l most_slots) (sym h.1.tells) (told_rises (state_of g.manager) (state_of h.0) few)
+
+  pub back_runs : IsRun (state_of g.manager) (state_of v.manager)
+  back_runs =
+      run_then (state_of g.manager) (state_of h.0) (state_of v.manager)
+      (run_of (state_of g.manager) (state_of h.0) (map (λ n. command.Unlock t n) h.1.nodes) h.1.replies h.1.run) (lets_go.lines, lets_go.run)
+
+  back_ended : (slots : Slots) → ((u : ℕ) → u < most_slots → has_slot slots u ≡ (false || list_any (λ x. x.0.slot == u) list))
+      → HasEnded (state_of g.manager) (state_of v.manager) slots
+  back_ended slots is law u n below was gone =
+      ended g.manager h.0 t mark k list h.1 slots is law u n below was (sym (ap (λ (x : State). waits_on x u n) left.is) ∙ gone)
+
+  -- the notices are in their boxes
+  pub back_delivered : (boxes boxes' : List Slot) (slots : Slots) → Puts boxes (unlocking t) list boxes'
+      → ((u : ℕ) → u < most_slots → has_slot slots u ≡ (false || list_any (λ x. x.0.slot == u) list))
+      → Delivered (with_boxes g boxes) (unlocking t) list slots (with_boxes v boxes')
+  back_delivered boxes boxes' slots puts is = record { puts = puts; wakes = record { all = back_ended slots is; slots = is } }

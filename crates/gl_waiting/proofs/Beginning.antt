@@ -1,0 +1,84 @@
+-- A begin: what it is answered, and that a refused one changes nothing.
+use Rattle.gl_slots.specs.declared.slots.Slots.{Slots}
+use Rattle.std.specs.Prelude.{◌≡◌, ◌+◌, ℕ, false, [], Option, Some, None, Ok, Err}
+use Rattle.std.proofs.Common.{refl, sym, ap, subst, inl, inr, arith}
+use Rattle.gl_modes.specs.declared.refusal.Refusal.{Refusal}
+use Rattle.gl_modes.specs.declared.refusal.Refusal.TheVariants as no
+use Rattle.gl_model.specs.State.{State}
+use Rattle.gl_model.specs.Tellings.{Told}
+use Rattle.gl_steps.proofs.Serving.{step_counts}
+use Rattle.gl_steps.specs.Step.{Goes, Step}
+use Rattle.gl_steps.specs.Tests.{refusal_of}
+use Rattle.gl_steps.specs.declared.command.Answer.{Answer}
+use Rattle.gl_steps.specs.declared.command.Answer.TheVariants as answer
+use Rattle.gl_steps.specs.declared.command.Command.{Command}
+use Rattle.gl_steps.specs.declared.command.Command.TheVariants as command
+use Rattle.gl_steps.specs.Served.{accepts}
+use Rattle.gl_catalog.specs.Manager.{state_of}
+use Rattle.gl_registry.specs.Rows.{RegistryView}
+use Rattle.gl_registry.specs.Serving.{Applies, ServesBy, touches_rows}
+use Rattle.gl_waiting.specs.Asking.{IsBeginAnswer, begin_of}
+use Rattle.gl_waiting.specs.Delivering.{Carries, DeliveryView}
+
+module _ (s : State) (a : Answer) (told : Told) (s' : State) where
+  new_goes : (o : Option Refusal) → Goes s command.Begin o a told s' → IsBeginAnswer a
+  new_goes (Some r) same = (Err r, sym same.answer_is)
+  new_goes None (next, begun, counted) = (Ok (record { slot = begun.0; age = s.begins + 1 }), sym begun.2)
+
+  again_goes : (since : ℕ) (o : Option Refusal) → Goes s (command.BeginAgain since) o a told s' → IsBeginAnswer a
+  again_goes since (Some r) same = (Err r, sym same.answer_is)
+  again_goes since None (next, begun, counted) = (Ok (record { slot = begun.0; age = s.begins + 1 }), sym begun.2)
+
+  pub begin_answered : (since : Option ℕ) → Step s (begin_of since) a told s' → IsBeginAnswer a
+  begin_answered None (inl goes) = new_goes (refusal_of s command.Begin) goes
+  begin_answered None (inr (may, same)) = (Err no.NoMemory, sym same.answer_is)
+  begin_answered (Some since) (inl goes) = again_goes since (refusal_of s (command.BeginAgain since)) goes
+  begin_answered (Some since) (inr (may, same)) = (Err no.NoMemory, sym same.answer_is)
+
+-- a registry makes every begin
+pub begin_made : (since : Option ℕ) (v v' : RegistryView) (o : Option Answer) (told : Told)
+    → ServesBy (touches_rows v (begin_of since)) v (begin_of since) o told v'
+    → (a : Answer) × (o ≡ Some a) × Applies v.manager (begin_of since) a told v'.manager
+begin_made None v v' o told h = (h.0, h.1, h.2)
+begin_made (Some since) v v' o told h = (h.0, h.1, h.2)
+
+pub command_made : (since : Option ℕ) (c : Command) (v v' : RegistryView) (o : Option Answer) (x : Answer) (told : Told) → c ≡ begin_of since → o ≡ Some x
+    → ServesBy (touches_rows v c) v c o told v' → Applies v.manager (begin_of since) x told v'.manager
+command_made since c v v' o x told is answered h =
+    let made = begin_made since v v' o told (subst (λ (y : Command). ServesBy (touches_rows v y) v y o told v') is h) in
+    subst (λ (a : Answer). Applies v.manager (begin_of since) a told v'.manager) (same o made.0 x made.1 answered) made.2
+  where
+    same : (o : Option Answer) (a b : Answer) → o ≡ Some a → o ≡ Some b → a ≡ b
+    same o a b one other = cc (one, other)
+
+pub served_so : (since : Option ℕ) (c : Command) (v v' : RegistryView) (o : Option Answer) (x : Answer) (told : Told) → c ≡ begin_of since → o ≡ Some x
+    → ServesBy (touches_rows v c) v c o told v' → ServesBy (touches_rows v (begin_of since)) v (begin_of since) (Some x) told v'
+served_so since c v v' o x told is answered h =
+    subst (λ (y : Option Answer). ServesBy (touches_rows v (begin_of since)) v (begin_of since) y told v') answered
+    (subst (λ (y : Command). ServesBy (touches_rows v y) v y o told v') is h)
+
+-- a begin that was refused came to nothing
+module _ (since : Option ℕ) (d d' : DeliveryView) (r : Refusal) (told : Told) (ended : Slots)
+    (applies : Applies d.manager (begin_of since) (answer.Refused r) told d'.manager) (carries : Carries d (begin_of since) told ended d') where
+  none_accepted : accepts (begin_of since) (answer.Refused r) ≡ false
+  none_accepted = by since
+    where
+      by : (o : Option ℕ) → accepts (begin_of o) (answer.Refused r) ≡ false
+      by None = refl
+      by (Some x) = refl
+
+  pub refused_same : d' ≡ d
+  refused_same = by carries
+    where
+      by : Carries d (begin_of since) told ended d' → d' ≡ d
+      by (inl so) =
+          let same : d'.manager.accepted ≡ d.manager.accepted =
+          ap (λ (s : State). s.accepted) ((step_counts _ _ _ _ _ applies.step).not_accepted none_accepted).0 in
+          let more = so.0 in absurd (omega (arith, same, more))
+      by (inr idle) = idle.same
+
+  pub refused_step : Step (state_of d.manager) (begin_of since) (answer.Refused r) [] (state_of d.manager)
+  refused_step =
+      subst (λ (x : DeliveryView). Step (state_of d.manager) (begin_of since) (answer.Refused r) [] (state_of x.manager)) refused_same
+      (subst (λ (l : Told). Step (state_of d.manager) (begin_of since) (answer.Refused r) l (state_of d'.manager))
+      ((step_counts _ _ _ _ _ applies.step).not_accepted none_accepted).1 applies.step)

@@ -1,0 +1,11 @@
+pub mod Alone
+pub mod Awaiting
+pub mod Backs
+pub mod BeginQueues
+pub mod Beginning
+pub mod Delivered
+pub mod GoingOn
+pub mod Paths
+pub mod RowCalls
+pub mod Runs
+pub mod TriedPaths

@@ -1,0 +1,29 @@
+use Rattle.std.proofs.Common.{arith}
+use Rattle.gl_waiting.proofs.GoingOn.{goes_on_same, goes_on_then}
+use Rattle.gl_waiting.proofs.waiters.settle.Goals as goal
+
+pub returns-then-is_empty-clause-goes : goal.returns-then-is_empty-clause-goes
+returns-then-is_empty-clause-goes c =
+    goes_on_then c.args.delivery.now c.due.delivery c.look_at_all-due.new.delivery c.args.places.now c.due.places c.look_at_all-due.new.places
+    c.due.invariant.goes c.look_at_all-due.ensures.goes
+
+pub returns-then-is_empty-clause-low : goal.returns-then-is_empty-clause-low
+returns-then-is_empty-clause-low c =
+    let low = c.look_at_all-due.ensures.low in
+    let before = c.due.invariant.low in
+    omega (arith, low, before)
+
+pub due-init : goal.due-init
+due-init c =
+    record { awaits = c.requires.awaits; goes = goes_on_same c.args.delivery.now c.args.places.now; low = omega arith }
+
+pub due-preserved : goal.due-preserved
+due-preserved c =
+    let low = c.look_at_all-due.ensures.low in
+    let before = c.due.invariant.low in
+    record {
+      awaits = c.look_at_all-due.ensures.awaits;
+      goes = goes_on_then c.args.delivery.now c.due.delivery c.look_at_all-due.new.delivery c.args.places.now c.due.places c.look_at_all-due.new.places
+          c.due.invariant.goes c.look_at_all-due.ensures.goes;
+      low = omega (arith, low, before);
+    }

@@ -1,0 +1,216 @@
+-- What a request does, and what it is answered.
+use Rattle.std.specs.Prelude.{◌≡◌, ◌≢◌, ◌<◌, ◌≤◌, ℕ, Bool, true, false, Some, List, [], Option, Result, Ok, Err, slice_set}
+use Rattle.gl_modes.specs.declared.mode.Mode.{Mode}
+use Rattle.gl_modes.specs.declared.node.NodeId.{NodeId}
+use Rattle.gl_slots.specs.declared.slots.Slots.{Slots}
+use Rattle.gl_steps.specs.declared.command.Answer.{Answer}
+use Rattle.gl_steps.specs.declared.command.Answer.TheVariants as answer
+use Rattle.gl_steps.specs.declared.command.Command.{Command}
+use Rattle.gl_modes.specs.declared.refusal.Refusal.{Refusal}
+use Rattle.gl_model.specs.Tellings.{Told}
+use Rattle.gl_model.specs.declared.txn.TxnId.{TxnId}
+use Rattle.gl_catalog.specs.Manager.{state_of}
+use Rattle.gl_catalog.specs.Paths.{Ask, lock_of}
+use Rattle.gl_catalog.specs.declared.manager.paths.Reached.{Reached}
+use Rattle.gl_registry.specs.Serving.{Applies, ServesBy, touches_rows}
+use Rattle.gl_waiting.specs.Delivering.{Carries, Delivered, DeliveryView, lock_said, registry_in, unlocking}
+use Rattle.gl_waiting.specs.Ends.{EndsBetween, EndsInTime, GoesOn, PlaceGoes, PlaceGoesOn}
+use Rattle.gl_waiting.specs.Going.{Calls, IsRun}
+use Rattle.gl_waiting.specs.Paths.{LocksThrough}
+use Rattle.gl_waiting.specs.Waiters.{AnswersIn, HasWaiter, outcome_of, IsInTime, came_of, place_at, waiter_in}
+use Rattle.gl_waiting.specs.Waiting.{WaitingView, delivery_in}
+use Rattle.std.specs.List.{list_all}
+use Rattle.std.specs.Prelude.{◌⊎◌, ◌==◌, ◌++◌, ◌∷◌, None, drop, is_some, length, slice_get}
+use Rattle.gl_model.specs.State.{State, slots}
+use Rattle.gl_modes.specs.declared.refusal.Refusal.TheVariants as no
+use Rattle.gl_steps.specs.declared.command.Command.TheVariants as command
+use Rattle.gl_steps.specs.Step.{Step}
+use Rattle.std.specs.Prelude.{OnErr, OnOk}
+use Rattle.gl_graph.specs.Refusals.{first_refusal}
+use Rattle.gl_catalog.specs.Paths.{path_tests}
+use Rattle.gl_registry.specs.declared.answer.RowAnswer.{RowAnswer}
+use Rattle.gl_registry.specs.declared.call.RowCall.{RowCall}
+use Rattle.gl_registry.specs.Applying.{AppliesCall, CarriesOut, answer_in, naming, own_command}
+use Rattle.gl_registry.specs.Releasing.{GoesBackTo}
+use Rattle.gl_wakes.specs.Boxes.{verdict_of}
+use Rattle.gl_wakes.specs.declared.grant.Grant.{Grant}
+use Rattle.gl_wakes.specs.declared.grant.Stop.{Stop}
+use Rattle.gl_waiting.specs.Tries.{HoldsAsTried, IsTried}
+use Rattle.gl_waiting.specs.declared.tries.Keep.{Keep}
+use Rattle.gl_waiting.specs.declared.tries.Tried.{Tried}
+use Rattle.gl_waiting.specs.declared.tries.Tried.TheVariants as tried
+use Rattle.gl_waiting.specs.declared.begins.QueuedBegin.{QueuedBegin}
+use Rattle.gl_waiting.specs.declared.begins.Turn.{Turn}
+use Rattle.gl_waiting.specs.declared.begins.Turn.TheVariants as turn
+use Rattle.gl_waiting.specs.declared.waiter.Came.{Came}
+use Rattle.gl_waiting.specs.declared.waiter.Came.TheVariants as came
+use Rattle.gl_graph.specs.Refusals.{max_count}
+use Rattle.gl_waiting.specs.declared.waiter.Outcome.TheVariants as end
+use Rattle.gl_waiting.specs.declared.waiter.Place.{Place}
+use Rattle.gl_waiting.specs.declared.waiter.Place.TheVariants as place
+use Rattle.gl_waiting.specs.declared.waiter.Request.{Request}
+use Rattle.gl_waiting.specs.declared.waiter.Request.TheVariants as request
+use Rattle.gl_waiting.specs.declared.waiter.Waiter.{Waiter}
+
+-- the last lock of a request came to this: of a node, what its command is answered
+abbrev pub Reaches : DeliveryView → TxnId → Request → Result Reached Refusal → Told → DeliveryView → Type 0
+Reaches d t (request.Node node mode) (Ok x) told d' =
+    (x.node ≡ node) × Applies d.manager (lock_of t (node, mode)) (lock_said (Ok x.locked)) told d'.manager
+Reaches d t (request.Node node mode) (Err r) told d' = Applies d.manager (lock_of t (node, mode)) (lock_said (Err r)) told d'.manager
+Reaches d t (request.Path node mode) result told d' = LocksThrough t (node, mode) d result d' × (told ≡ [])
+
+-- a request is carried out, and came to this
+pub record Requests (d : DeliveryView) (t : TxnId) (asked : Request) (c : Came) (told : Told) (d' : DeliveryView) : Type 0 where
+  pub reached : Result Reached Refusal
+  pub reaches : Reaches d t asked reached told d'
+  pub came : c ≡ came_of (state_of d'.manager) t reached
+
+-- a command is carried out, as a registry serves it, and then waiters go on
+pub record Serves (v : WaitingView) (c : Command) (a : Option Answer) (told : Told) (v' : WaitingView) : Type 0 where
+  pub served : DeliveryView
+  pub serves : ServesBy (touches_rows (registry_in (delivery_in v)) c) (registry_in (delivery_in v)) c a told (registry_in served)
+  pub delivers : (ended : Slots) × Carries (delivery_in v) c told ended served
+  pub run : IsRun (state_of v.manager) (state_of served.manager)
+  pub goes : GoesOn served v.places (delivery_in v') v'.places
+  pub queue : v'.queue ≡ v.queue
+
+-- a call about rows is carried out, as a registry applies it, and then waiters go on
+pub record ServesRow (v : WaitingView) (c : RowCall) (a : RowAnswer) (told : Told) (v' : WaitingView) : Type 0 where
+  pub served : DeliveryView
+  pub applies : AppliesCall (registry_in (delivery_in v)) c a told (registry_in served)
+  pub own : CarriesOut v.manager (own_command (naming c v.rows served.rows) c) (answer_in a) told served.manager
+  pub delivers : (ended : Slots) × Carries (delivery_in v) (own_command (naming c v.rows served.rows) c) told ended served
+  pub run : IsRun (state_of v.manager) (state_of served.manager)
+  pub goes : GoesOn served v.places (delivery_in v') v'.places
+  pub queue : v'.queue ≡ v.queue
+
+-- a transaction rolls back to a savepoint, as a registry releases, and then waiters go on
+pub record RollsBackTo (v : WaitingView) (t : TxnId) (mark : ℕ) (result : Result ℕ Refusal) (told : Told) (v' : WaitingView) : Type 0 where
+  pub served : DeliveryView
+  pub back : GoesBackTo t mark v.manager v.rows result told served.manager served.rows
+  pub delivered : OnOk result ((ended : Slots) × Delivered (delivery_in v) (unlocking t) told ended served)
+  pub refused : OnErr result ((served ≡ delivery_in v) × (told ≡ []))
+  pub run : IsRun (state_of v.manager) (state_of served.manager)
+  pub goes : GoesOn served v.places (delivery_in v') v'.places
+  pub queue : v'.queue ≡ v.queue
+
+-- a path is tried, and then waiters go on
+pub record TriesThere (v : WaitingView) (t : TxnId) (ask : Ask) (keep : Keep) (result : Tried) (told : Told) (v' : WaitingView) : Type 0 where
+  pub served : DeliveryView
+  pub tries : (ended : Slots) × IsTried keep t ask (delivery_in v) result told ended served
+  pub held : HoldsAsTried t ask result (state_of served.manager)
+  pub tests : (r : Refusal) → first_refusal (path_tests (state_of v.manager) t ask.0 ask.1) ≡ Some r → (result ≡ tried.Refused r) × (served ≡ delivery_in v)
+  pub run : IsRun (state_of v.manager) (state_of served.manager)
+  pub goes : GoesOn served v.places (delivery_in v') v'.places
+  pub queue : v'.queue ≡ v.queue
+
+-- the waiter that a request leaves waiting for this node
+abbrev pub waiter_for : TxnId → Request → Option ℕ → NodeId → Mode → Waiter
+waiter_for t asked until at wanted = record { txn = t; request = asked; at = at; wanted = wanted; until = until }
+
+-- what belongs to each slot after a request came to this: one that waits is a waiter
+abbrev pub registered : TxnId → Request → Option ℕ → Came → List Place → List Place
+registered t asked until (came.Ended outcome) places = places
+registered t asked until (came.Waits at wanted) places = slice_set places t.slot (place.Waits (waiter_for t asked until at wanted))
+
+-- the answer: what a request came to that did not wait, and else whether it still waits by then, or how it ended
+abbrev pub Replies : TxnId → Came → List Place → Came → List Place → Type 0
+Replies t (came.Ended outcome) places c places' = (c ≡ came.Ended outcome) × (places' ≡ places)
+Replies t (came.Waits at wanted) places c places' = AnswersIn (place_at places t.slot) t.slot places (came.Waits at wanted) c places'
+
+-- a request is carried out; one that waits is registered; waiters go on, and the request may be one of them
+pub record Asks (v : WaitingView) (t : TxnId) (asked : Request) (until : Option ℕ) (answer : Came) (told : Told) (v' : WaitingView) : Type 0 where
+  pub first : Came
+  pub served : DeliveryView
+  pub requests : Requests (delivery_in v) t asked first told served
+  pub calls : Calls (delivery_in v) served
+  pub alone : (at : NodeId) (wanted : Mode) → first ≡ came.Waits at wanted → waiter_in (place_at v.places t.slot) ≡ None
+  pub after : List Place
+  pub goes : GoesOn served (registered t asked until first v.places) (delivery_in v') after
+  pub replies : Replies t first after answer v'.places
+  pub queue : v'.queue ≡ v.queue
+
+-- the transaction has a waiter, whichever
+abbrev pub IsAwaitedAlready : List Place → TxnId → Type 0
+IsAwaitedAlready places t = (w : Waiter) × HasWaiter places t w
+
+-- what a wait for a node came to, by what became of it: it is over, or its transaction is a waiter from now on, and nothing else changes
+abbrev pub AwaitsBy : Option (Result Grant Stop) → WaitingView → TxnId → NodeId → Mode → Option ℕ → Came → WaitingView → Type 0
+AwaitsBy (Some verdict) v t node mode until c v' = (c ≡ came.Ended (outcome_of node verdict)) × (v' ≡ v)
+AwaitsBy None v t node mode until c v' =
+    (c ≡ came.Waits node mode)
+    × (v' ≡ record v { places = slice_set v.places t.slot (place.Waits (waiter_for t (request.Node node mode) until node mode)) })
+
+-- a wait is awaited, unless its transaction has a waiter already
+abbrev pub Awaits : WaitingView → TxnId → NodeId → Mode → Option ℕ → Option Came → WaitingView → Type 0
+Awaits v t node mode until None v' = IsAwaitedAlready v.places t × (v' ≡ v)
+Awaits v t node mode until (Some c) v' =
+    (IsAwaitedAlready v.places t → ⊥) × AwaitsBy (verdict_of (state_of v.manager) v.boxes t node mode) v t node mode until c v'
+
+-- the time of a transaction's wait is over: its waiter ends so, if a command can still be counted, and others go on
+pub record TimesOut (v : WaitingView) (t : TxnId) (v' : WaitingView) : Type 0 where
+  pub calls : Calls (delivery_in v) (delivery_in v')
+  pub low : v.manager.accepted ≤ v'.manager.accepted
+  pub ends : (w : Waiter) → HasWaiter v.places t w → v'.manager.accepted < max_count → place_at v'.places t.slot ≡ place.Ended t (end.TimedOut w.at)
+  pub others : (u : ℕ) → u ≢ t.slot → PlaceGoesOn (delivery_in v) (delivery_in v') (place_at v.places u) (place_at v'.places u)
+  pub own : PlaceGoes (λ w outcome. EndsBetween (delivery_in v) (delivery_in v') w outcome ⊎ (outcome ≡ end.TimedOut w.at))
+      (place_at v.places t.slot) (place_at v'.places t.slot)
+  pub queue : v'.queue ≡ v.queue
+  pub without : ((w : Waiter) → HasWaiter v.places t w → ⊥) → v' ≡ v
+
+-- a command was done
+abbrev pub is_done : Option Answer → Bool
+is_done (Some answer.Done) = true
+is_done o = false
+
+-- each wait whose time is over has ended, if a command can still be counted, and others go on
+pub record Expires (v : WaitingView) (now : ℕ) (v' : WaitingView) : Type 0 where
+  pub calls : Calls (delivery_in v) (delivery_in v')
+  pub places : (u : ℕ) → PlaceGoes (EndsInTime now (delivery_in v) (delivery_in v')) (place_at v.places u) (place_at v'.places u)
+  pub queue : v'.queue ≡ v.queue
+  pub in_time : (u : ℕ) → v'.manager.accepted < max_count → IsInTime now (place_at v'.places u)
+
+-- every slot is taken
+abbrev pub IsFull : State → Type 0
+IsFull s = list_all (λ u. is_some (s.txns u)) (slots s) ≡ true
+
+-- a begin is refused since every slot is taken
+abbrev pub is_too_many : Result TxnId Refusal → Bool
+is_too_many (Err no.TooManyTxns) = true
+is_too_many r = false
+
+-- the command of a begin, for new work or for work since an earlier begin
+abbrev pub begin_of : Option ℕ → Command
+begin_of None = command.Begin
+begin_of (Some since) = command.BeginAgain since
+
+-- what a begin is answered
+abbrev pub begin_said : Result TxnId Refusal → Answer
+begin_said (Ok t) = answer.Begun t
+begin_said (Err r) = answer.Refused r
+
+-- a begin is answered so
+abbrev pub IsBeginAnswer : Answer → Type 0
+IsBeginAnswer a = (result : Result TxnId Refusal) × (begin_said result ≡ a)
+
+-- a transaction begins; a begin that is refused changes nothing
+abbrev pub Begins : WaitingView → Option ℕ → Result TxnId Refusal → WaitingView → Type 0
+Begins v since (Ok t) v' = (told : Told) × Serves v (begin_of since) (Some (answer.Begun t)) told v'
+Begins v since (Err r) v' = Step (state_of v.manager) (begin_of since) (answer.Refused r) [] (state_of v.manager) × (v' ≡ v)
+
+-- a begin waits for a slot: others do, or every slot is taken
+abbrev pub MustQueue : WaitingView → Type 0
+MustQueue v = ((length v.queue == 0) ≡ false) ⊎ IsFull (state_of v.manager)
+
+-- a begin in turn came to this: if nobody waits for a slot and one is free it begins, or is refused; else it waits for one, as the last
+abbrev pub BeginsInTurn : WaitingView → QueuedBegin → Turn → WaitingView → Type 0
+BeginsInTurn v b (turn.Came result) v' = ((length v.queue == 0) ≡ true) × (is_too_many result ≡ false) × Begins v b.since result v'
+BeginsInTurn v b turn.Queued v' = MustQueue v × (v' ≡ record v { queue = v.queue ++ b ∷ [] })
+BeginsInTurn v b turn.NoMemory v' = MustQueue v × (v' ≡ v)
+
+-- the first begin that waits for a slot begins, or is refused, and leaves the queue; nothing changes if none waits, or every slot is taken
+abbrev pub BeginsNext : WaitingView → Option (QueuedBegin × Result TxnId Refusal) → WaitingView → Type 0
+BeginsNext v (Some x) v' =
+    (slice_get v.queue 0 ≡ Some x.0) × (is_too_many x.1 ≡ false)
+    × ((mid : WaitingView) × Begins v x.0.since x.1 mid × (v' ≡ record mid { queue = drop 1 v.queue }))
+BeginsNext v None v' = ((slice_get v.queue 0 ≡ None) ⊎ IsFull (state_of v.manager)) × (v' ≡ v)

@@ -1,0 +1,26 @@
+-- The begin queue: which begin leaves it, and when the first of them ends.
+use Rattle.std.specs.Prelude.{ℕ, ◌==◌, Bool, false, List, [], ◌∷◌, Option, Some, None, if◌then◌else◌, min, nat_le}
+use Rattle.std.specs.List.{filter_map, reduce}
+use Rattle.gl_waiting.specs.declared.begins.QueuedBegin.{QueuedBegin}
+
+-- the begin has this name
+abbrev pub has_word : ℕ → QueuedBegin → Bool
+has_word word b = b.word == word
+
+-- this time is at or before now; `None` never is
+abbrev pub is_over : ℕ → Option ℕ → Bool
+is_over now None = false
+is_over now (Some until) = nat_le until now
+
+-- the time of the begin is over
+abbrev pub is_late : ℕ → QueuedBegin → Bool
+is_late now b = is_over now b.until
+
+-- the queue without the first begin that passes the test; all others stay in their order
+abbrev pub without_first : (QueuedBegin → Bool) → List QueuedBegin → List QueuedBegin
+without_first test [] = []
+without_first test (b ∷ queue) = if test b then queue else b ∷ without_first test queue
+
+-- the least time at which a begin of the queue ends, of those that have one
+abbrev pub earliest_of : List QueuedBegin → Option ℕ
+earliest_of queue = reduce min (filter_map (λ b. b.until) queue)

@@ -1,0 +1,30 @@
+-- Runs of commands of the model, and calls of a delivery one after the other.
+use Rattle.gl_slots.specs.declared.slots.Slots.{Slots}
+use Rattle.std.specs.Prelude.{◌≡◌, List, [], ◌∷◌}
+use Rattle.gl_model.specs.State.{State}
+use Rattle.gl_model.specs.Tellings.{Told}
+use Rattle.gl_steps.specs.declared.command.Command.{Command}
+use Rattle.gl_catalog.specs.Manager.{state_of}
+use Rattle.gl_registry.specs.Locking.{Line, Runs}
+use Rattle.gl_waiting.specs.Delivering.{Carries, DeliveryView}
+
+-- some commands lead from one state to the other
+abbrev pub IsRun : State → State → Type 0
+IsRun s s' = (lines : List Line) × Runs s lines s'
+
+-- one call: a run of the model that ends so, with its notices in their boxes
+pub record Call (d d' : DeliveryView) : Type 0 where
+  pub command : Command
+  pub told : Told
+  pub ended : Slots
+  pub carries : Carries d command told ended d'
+  pub run : IsRun (state_of d.manager) (state_of d'.manager)
+
+-- calls, one after the other, by the deliveries that they leave
+abbrev pub CallsTo : DeliveryView → List DeliveryView → DeliveryView → Type 0
+CallsTo d [] d' = d' ≡ d
+CallsTo d (mid ∷ mids) d' = Call d mid × CallsTo mid mids d'
+
+-- some calls lead from one delivery to the other
+abbrev pub Calls : DeliveryView → DeliveryView → Type 0
+Calls d d' = (mids : List DeliveryView) × CallsTo d mids d'

@@ -1,0 +1,10 @@
+pub mod Asking
+pub mod Begins
+pub mod Delivering
+pub mod Ends
+pub mod Going
+pub mod Owned
+pub mod Paths
+pub mod Tries
+pub mod Waiters
+pub mod Waiting

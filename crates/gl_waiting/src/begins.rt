@@ -1,0 +1,161 @@
+//! The begin queue: begins that wait until a slot is free, first come, first served.
+
+ghost use Rattle.std.specs.Prelude.{◌≡◌, ◌==◌, ◌∷◌, ◌++◌, [], IfErr, OnErr, OnOk, drop, length, slice_get};
+ghost use Rattle.std.specs.List.{find, list_any, position};
+ghost use Rattle.gl_modes.specs.declared.refusal.Refusal.{Refusal as ARefusal};
+ghost use Rattle.gl_waiting.specs.Begins.{earliest_of, has_word, is_late, is_over, without_first};
+
+use gl_modes::Refusal;
+use gl_table::TxnId;
+use std::alloc::Global;
+use std::collections::VecDeque;
+use std::marker::Model;
+
+/// A begin that waits for a slot.
+#[derive(Clone, Copy, PartialEq, Eq, Debug)]
+pub struct QueuedBegin {
+    /// The caller's own name for it.
+    pub word: u64,
+    /// For work that an earlier begin left undone, the age of the first of them; `None` for new work.
+    pub since: Option<u64>,
+    /// When it ends at the latest, by the caller's clock, in nanoseconds.
+    pub until: Option<u64>,
+}
+
+impl QueuedBegin {
+    /// Whether its time is over.
+    fn is_late(&self, now: u64) -> bool
+        ensures { result ≡ is_late now self.now }
+    {
+        is_over(self.until, now)
+    }
+}
+
+/// What a begin in turn came to.
+#[derive(Clone, Copy, PartialEq, Eq, Debug)]
+pub enum Turn {
+    /// It began, or was refused.
+    Came(Result<TxnId, Refusal>),
+    /// It waits for a slot.
+    Queued,
+    /// It would have to wait for a slot, and there is no memory for that.
+    NoMemory,
+}
+
+/// Whether this time is at or before now; `None` never is.
+pub(crate) fn is_over(until: Option<u64>, now: u64) -> bool
+    ensures { result ≡ is_over now until }
+{
+    match until {
+        Some(until) => until <= now,
+        None => false,
+    }
+}
+
+/// Begins that wait for a slot, in the order of their requests.
+#[derive(Drop)]
+pub(crate) struct BeginQueue {
+    begins: VecDeque<QueuedBegin>,
+}
+
+impl Model for BeginQueue {
+    ghost use Rattle.std.specs.Prelude.{List};
+    ghost use Rattle.gl_waiting.specs.declared.begins.QueuedBegin.{QueuedBegin};
+
+    ghost Value = { List QueuedBegin };
+
+    ghost view = { λ q. q.begins.items };
+}
+
+impl BeginQueue {
+    /// No begin waits.
+    pub(crate) fn new(alloc: Global) -> Self
+        ensures { result ≡ [] }
+    {
+        BeginQueue {
+            begins: VecDeque::new(alloc),
+        }
+    }
+
+    /// Whether no begin waits.
+    pub(crate) fn is_empty(&self) -> bool
+        ensures { result ≡ (length self.now == 0) }
+    {
+        self.begins.is_empty()
+    }
+
+    /// How many begins wait.
+    pub(crate) fn len(&self) -> usize
+        ensures { result ≡ length self.now }
+    {
+        self.begins.len()
+    }
+
+    /// Appends a begin. The only refusal is `NoMemory`.
+    pub(crate) fn enter(&mut self, begin: QueuedBegin) -> Result<(), Refusal>
+        ensures entered { OnOk result (self.new ≡ self.old ++ begin ∷ []) }
+        ensures unchanged { OnErr result (self.new ≡ self.old) }
+        ensures no_memory { IfErr result (λ refusal. refusal ≡ ARefusal.NoMemory) }
+    {
+        match self.begins.push_back(begin) {
+            Ok(()) => Ok(()),
+            Err(_) => Err(Refusal::NoMemory),
+        }
+    }
+
+    /// The next begin: the first of the queue.
+    pub(crate) fn first(&self) -> Option<QueuedBegin>
+        ensures { result ≡ slice_get self.now 0 }
+    {
+        self.begins.front().copied()
+    }
+
+    /// Removes the next begin.
+    pub(crate) fn leave_first(&mut self) -> Option<QueuedBegin>
+        ensures taken { result ≡ slice_get self.old 0 }
+        ensures rest { self.new ≡ drop 1 self.old }
+    {
+        self.begins.pop_front()
+    }
+
+    /// Removes the first begin of this name. Answers whether there was one.
+    pub(crate) fn withdraw(&mut self, word: u64) -> bool
+        ensures found { result ≡ list_any (has_word word) self.old }
+        ensures rest { self.new ≡ without_first (has_word word) self.old }
+    {
+        match self.place_of(word) {
+            Some(place) => self.begins.remove(place).is_some(),
+            None => false,
+        }
+    }
+
+    /// Removes the first begin whose time is over; `None` if no begin's is.
+    pub(crate) fn take_late(&mut self, now: u64) -> Option<QueuedBegin>
+        ensures taken { result ≡ find (is_late now) self.old }
+        ensures rest { self.new ≡ without_first (is_late now) self.old }
+    {
+        let place = self.place_of_late(now)?;
+        self.begins.remove(place)
+    }
+
+    /// The earliest time at which a begin ends; `None` if none has such a time.
+    pub(crate) fn earliest(&self) -> Option<u64>
+        ensures { result ≡ earliest_of self.now }
+    {
+        self.begins.iter().filter_map(|begin| begin.until).min()
+    }
+
+    /// The place of the first begin of this name.
+    fn place_of(&self, word: u64) -> Option<usize>
+        ensures { result ≡ position (has_word word) self.now }
+    {
+        self.begins.iter().position(|begin| begin.word == word)
+    }
+
+    /// The place of the first begin whose time is over.
+    fn place_of_late(&self, now: u64) -> Option<usize>
+        ensures { result ≡ position (is_late now) self.now }
+    {
+        self.begins.iter().position(|begin| begin.is_late(now))
+    }
+}

@@ -1,0 +1,130 @@
+//! A registry with a notice box for each slot.
+
+ghost use Rattle.gl_slots.specs.Limit.{most_slots};
+ghost use Rattle.std.specs.Prelude.{◌≡◌, ◌<◌, ◌||◌, ◌==◌, ℕ, [], false};
+ghost use Rattle.std.specs.List.{list_any};
+ghost use Rattle.gl_slots.specs.Slots.{has_slot};
+ghost use Rattle.gl_catalog.specs.Manager.{IsLawfulManager, state_of};
+ghost use Rattle.gl_catalog.specs.Paths.{lock_of};
+ghost use Rattle.gl_registry.specs.Rows.{name_of};
+ghost use Rattle.gl_registry.specs.Serving.{PathLeavesRows, ServesBy, touches_rows};
+ghost use Rattle.gl_wakes.specs.Boxes.{verdict_of};
+ghost use Rattle.gl_wakes.specs.Notices.{RisingTo};
+ghost use Rattle.gl_wakes.specs.Wakes.{names_slot};
+ghost use Rattle.gl_waiting.specs.Delivering.{Carries, Puts, registry_in};
+ghost use Rattle.gl_waiting.specs.Going.{IsRun};
+
+use gl_catalog::{Answer, Command, Manager, Reached};
+use gl_modes::{Mode, NodeId, Refusal};
+use gl_registry::{Registry, Row};
+use gl_slots::Slots;
+use gl_steps::is_accepted;
+use gl_table::{Told, TxnId};
+use gl_wakes::{Boxes, Grant, Stop, ended_by};
+use std::marker::Model;
+
+mod lock;
+mod rows;
+mod savepoints;
+mod tries;
+
+/// A registry with a notice box for each slot. Each of its calls also answers the slots whose wait it may have
+/// ended: of those that it told, and the one that a cancel or an abort names.
+#[derive(Drop)]
+pub struct Delivery {
+    registry: Registry,
+    boxes: Boxes,
+}
+
+impl Model for Delivery {
+    ghost use Rattle.gl_waiting.specs.Delivering.{DeliveryView};
+
+    ghost Value = { DeliveryView };
+
+    ghost use Rattle.gl_waiting.specs.Owned.{delivery_of};
+
+    ghost view = { delivery_of };
+}
+
+impl Delivery {
+    /// The law of every registry.
+    pub fn law(&self)
+        ensures { IsLawfulManager self.now.manager }
+    {
+        self.registry.law();
+    }
+
+    /// The manager, to be asked.
+    pub fn manager(&self) -> &Manager
+        ensures { result.now ≡ self.now.manager }
+    {
+        self.registry.manager()
+    }
+
+    /// The node by which a row is named; `None` if nobody holds it or waits for it.
+    pub fn node(&self, row: Row) -> Option<NodeId>
+        ensures { result ≡ name_of self.now.rows row }
+    {
+        self.registry.node(row)
+    }
+
+    /// Whether the transaction has its answer on this node, and which.
+    pub fn verdict(&self, txn: TxnId, node: NodeId, mode: Mode) -> Option<Result<Grant, Stop>>
+        ensures { result ≡ verdict_of (state_of self.now.manager) self.now.boxes txn node mode }
+    {
+        self.boxes.verdict(self.registry.manager(), txn, node, mode)
+    }
+
+    /// Carries out a command, as `Registry::serve`, with its notices put into an empty list.
+    pub fn serve(&mut self, command: Command<'_>, told: &mut Told) -> (Option<Answer>, Slots)
+        requires empty { told.old.items ≡ [] }
+        ensures serves { ServesBy (touches_rows (registry_in self.old) command.entry) (registry_in self.old) command.entry result.0 told.new.items
+            (registry_in self.new) }
+        ensures carries { Carries self.old command.entry told.new.items result.1 self.new }
+        ensures run { IsRun (state_of self.old.manager) (state_of self.new.manager) }
+    {
+        self.registry.law();
+        let Some(answer) = self.registry.serve(command, told) else {
+            return (None, Slots::empty());
+        };
+        if !is_accepted(&command, &answer) {
+            return (Some(answer), Slots::empty());
+        }
+        let ended = deliver(&mut self.boxes, &command, told);
+        (Some(answer), ended)
+    }
+
+    /// Locks a node with what must be held above it, as `Registry::lock_path`, with the notices put into an empty list.
+    pub fn lock_path(
+        &mut self,
+        txn: TxnId,
+        node: NodeId,
+        mode: Mode,
+        told: &mut Told,
+    ) -> (Result<Reached, Refusal>, Slots)
+        requires empty { told.old.items ≡ [] }
+        ensures path { PathLeavesRows txn (node, mode) (registry_in self.old) result.0 told.new.items (registry_in self.new) }
+        ensures carries { Carries self.old (lock_of txn (node, mode)) told.new.items result.1 self.new }
+        ensures run { IsRun (state_of self.old.manager) (state_of self.new.manager) }
+    {
+        self.registry.law();
+        let before = self.registry.manager().accepted();
+        let reached = self.registry.lock_path(txn, node, mode, told);
+        if self.registry.manager().accepted() == before {
+            return (reached, Slots::empty());
+        }
+        let asked = Command::Lock { txn, node, mode };
+        let ended = deliver(&mut self.boxes, &asked, told);
+        (reached, ended)
+    }
+}
+
+/// Puts the notices of an accepted command into their boxes. Answers the slots whose wait it may have ended.
+fn deliver(boxes: &mut Boxes, command: &Command<'_>, told: &Told) -> Slots
+    requires { RisingTo 0 told.now.items most_slots }
+    ensures puts { Puts boxes.old command.now told.now.items boxes.new }
+    ensures slots { (u : ℕ) → u < most_slots → has_slot result u ≡ (names_slot command.now u || list_any (λ x. x.0.slot == u) told.now.items) }
+{
+    boxes.deliver(command, told.as_slice());
+    ended_by(command, told.as_slice())
+}

@@ -1,0 +1,42 @@
+//! Rollbacks to savepoints.
+
+ghost use Rattle.std.specs.Prelude.{◌≡◌, ◌≤◌, [], OnErr, OnOk};
+ghost use Rattle.gl_catalog.specs.Manager.{state_of};
+ghost use Rattle.gl_registry.specs.Releasing.{GoesBackTo};
+ghost use Rattle.gl_waiting.specs.Delivering.{ComesToNothing, Delivered, unlocking};
+ghost use Rattle.gl_waiting.specs.Going.{IsRun};
+
+use super::{Delivery, deliver};
+use gl_catalog::Command;
+use gl_modes::{NodeId, Refusal};
+use gl_slots::Slots;
+use gl_table::{Told, TxnId};
+
+impl Delivery {
+    /// Rolls back to a savepoint, as `Registry::release_since`, with the notices put into an empty list.
+    pub fn release_since(
+        &mut self,
+        txn: TxnId,
+        mark: usize,
+        told: &mut Told,
+    ) -> (Result<usize, Refusal>, Slots)
+        requires empty { told.old.items ≡ [] }
+        ensures back { GoesBackTo txn mark self.old.manager self.old.rows result.0 told.new.items self.new.manager self.new.rows }
+        ensures delivered { OnOk result.0 (Delivered self.old (unlocking txn) told.new.items result.1 self.new) }
+        ensures refused { OnErr result.0 (ComesToNothing self.old told.new.items result.1 self.new) }
+        ensures counted { self.old.manager.accepted ≤ self.new.manager.accepted }
+        ensures run { IsRun (state_of self.old.manager) (state_of self.new.manager) }
+    {
+        self.registry.law();
+        let released = match self.registry.release_since(txn, mark, told) {
+            Ok(released) => released,
+            Err(refusal) => return (Err(refusal), Slots::empty()),
+        };
+        let asked = Command::Unlock {
+            txn,
+            node: NodeId::NONE,
+        };
+        let ended = deliver(&mut self.boxes, &asked, told);
+        (Ok(released), ended)
+    }
+}

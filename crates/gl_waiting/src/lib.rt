@@ -1,0 +1,17 @@
+//! Waiters of a table that threads share: who waits for which request, whose wait a command ends and how, and who goes
+//! on by that. Nothing here has threads: the caller serializes all calls by its latch.
+#![tactic(auto)]
+
+mod begins;
+mod delivery;
+mod places;
+mod tries;
+mod waiter;
+mod waiters;
+mod waiting;
+
+pub use begins::{QueuedBegin, Turn};
+pub use delivery::Delivery;
+pub use tries::{Keep, Tried};
+pub use waiter::{Came, Outcome, Request};
+pub use waiting::Waiting;

@@ -1,0 +1,210 @@
+//! Waiters whose wait is over: how each goes on or ends.
+
+ghost use Rattle.gl_slots.specs.Limit.{most_slots};
+ghost use Rattle.std.specs.Prelude.{◌≡◌, ◌<◌, ◌≤◌, ◌||◌, ◌==◌, ◌⊎◌, ℕ, Bool, true, []};
+ghost use Rattle.gl_slots.specs.Slots.{HasNoSlot, has_slot};
+ghost use Rattle.gl_catalog.specs.Manager.{state_of};
+ghost use Rattle.gl_steps.specs.Promises.{waits_on};
+ghost use Rattle.gl_wakes.specs.Wakes.{HasEnded};
+ghost use Rattle.gl_waiting.specs.Asking.{Reaches, Requests};
+ghost use Rattle.gl_waiting.specs.Ends.{EndsAt, GoesOn, PlaceGoes};
+ghost use Rattle.gl_waiting.specs.Going.{Calls};
+ghost use Rattle.gl_waiting.specs.Paths.{LocksThrough};
+ghost use Rattle.gl_waiting.specs.Waiters.{Await, AwaitBut, IsWaitingPlace, came_of, stops_above, waits_as};
+ghost use Rattle.gl_waiting.specs.declared.waiter.Place.TheVariants.{Waits as waits};
+ghost use Rattle.gl_waiting.specs.declared.waiter.Request.TheVariants.{Node as NodeRequest, Path as PathRequest};
+
+use crate::delivery::Delivery;
+use crate::places::Places;
+use crate::waiter::{Came, Next, Outcome, Place, Request, Waiter};
+use gl_catalog::{Manager, Reached};
+use gl_modes::{Mode, NodeId, Refusal};
+use gl_slots::{Slot, Slots};
+use gl_table::{Locked, Told, TxnId};
+
+/// Continues each waiter of these slots whose wait is over, and each whose wait ends by that.
+pub(crate) fn settle(delivery: &mut Delivery, places: &mut Places, due: Slots)
+    requires awaits { AwaitBut (has_slot due) (state_of delivery.old.manager) places.old }
+    ensures awaits { Await (state_of delivery.new.manager) places.new }
+    ensures goes { GoesOn delivery.old places.old delivery.new places.new }
+    ensures low { delivery.old.manager.accepted ≤ delivery.new.manager.accepted }
+{
+    let mut due = due;
+    'due: loop {
+        due = look_at_all(delivery, places, due);
+        if due.is_empty() {
+            return;
+        }
+        // Who went on was counted, so that this ends when the count does, if not before.
+        let _counted = delivery.manager().accepted();
+    }
+}
+
+/// Continues each waiter of these slots whose wait is over. Answers the slots whose wait that may have ended.
+fn look_at_all(delivery: &mut Delivery, places: &mut Places, due: Slots) -> Slots
+    requires awaits { AwaitBut (has_slot due) (state_of delivery.old.manager) places.old }
+    ensures awaits { AwaitBut (has_slot result) (state_of delivery.new.manager) places.new }
+    ensures goes { GoesOn delivery.old places.old delivery.new places.new }
+    ensures counted { HasNoSlot result ⊎ (delivery.old.manager.accepted < delivery.new.manager.accepted) }
+    ensures low { delivery.old.manager.accepted ≤ delivery.new.manager.accepted }
+{
+    let mut left = due;
+    let mut next = Slots::empty();
+    'left: while let Some(slot) = left.take_lowest() {
+        let ended = look_at(delivery, places, slot);
+        next = next.union(ended);
+    }
+    next
+}
+
+/// Continues the waiter of a slot, if its wait is over. Answers the slots whose wait that may have ended.
+fn look_at(delivery: &mut Delivery, places: &mut Places, slot: Slot) -> Slots
+    requires within { slot < most_slots }
+    ensures awaits { (rest : ℕ → Bool) → AwaitBut (λ u. rest u || (u == slot)) (state_of delivery.old.manager) places.old
+        → AwaitBut (λ u. rest u || has_slot result u) (state_of delivery.new.manager) places.new }
+    ensures goes { GoesOn delivery.old places.old delivery.new places.new }
+    ensures counted { HasNoSlot result ⊎ (delivery.old.manager.accepted < delivery.new.manager.accepted) }
+    ensures low { delivery.old.manager.accepted ≤ delivery.new.manager.accepted }
+{
+    delivery.law();
+    let Some(waiter) = places.waiter(slot) else {
+        return Slots::empty();
+    };
+    let Some(verdict) = delivery.verdict(waiter.txn, waiter.at, waiter.wanted) else {
+        return Slots::empty();
+    };
+    match waiter.next(verdict) {
+        Next::End(outcome) => {
+            places.put(slot, Place::Ended(waiter.txn, outcome));
+            Slots::empty()
+        }
+        Next::GoOn { node, mode } => {
+            let (place, ended) = go_on(delivery, waiter, node, mode);
+            places.put(slot, place);
+            ended
+        }
+    }
+}
+
+/// Locks the rest of a waiter's path. Answers what belongs to its slot after that, and the slots whose wait it may have
+/// ended.
+fn go_on(delivery: &mut Delivery, waiter: Waiter, node: NodeId, mode: Mode) -> (Place, Slots)
+    requires path { waiter.request ≡ PathRequest node mode }
+    ensures place { PlaceGoes (EndsAt delivery.new) (waits waiter) result.0 }
+    ensures waits { IsWaitingPlace (state_of delivery.new.manager) waiter.txn result.0 }
+    ensures calls { Calls delivery.old delivery.new }
+    ensures ended { HasEnded (state_of delivery.old.manager) (state_of delivery.new.manager) result.1 }
+    ensures counted { HasNoSlot result.1 ⊎ (delivery.old.manager.accepted < delivery.new.manager.accepted) }
+    ensures low { delivery.old.manager.accepted ≤ delivery.new.manager.accepted }
+{
+    let (reached, ended) = lock_path_through(delivery, waiter.txn, node, mode);
+    let came = came_of(delivery.manager(), waiter.txn, reached);
+    (waiter.place(came), ended)
+}
+
+/// What a request came to whose last lock came to this.
+pub(crate) fn came_of(manager: &Manager, txn: TxnId, reached: Result<Reached, Refusal>) -> Came
+    ensures { result ≡ came_of (state_of manager.now) txn reached }
+{
+    match reached {
+        Ok(Reached { node, locked }) => match locked {
+            Locked::Granted(mode) => Came::Ended(Outcome::Granted(mode)),
+            Locked::Victim => Came::Ended(Outcome::Victim(node)),
+            Locked::Waiting => wait_of(manager, txn),
+        },
+        Err(refusal) => Came::Ended(Outcome::Refused(refusal)),
+    }
+}
+
+/// For what a transaction waits.
+fn wait_of(manager: &Manager, txn: TxnId) -> Came
+    ensures { result ≡ waits_as (state_of manager.now) txn }
+{
+    match manager.waiting(txn) {
+        Some((at, wanted)) => Came::Waits { at, wanted },
+        None => Came::Ended(Outcome::Refused(Refusal::NotWaiting)),
+    }
+}
+
+/// Locks a node with what must be held above it, to the end of the path or to a node for which it waits. A path that
+/// tells others of victims goes on at once. Answers also the slots whose wait it may have ended.
+pub(crate) fn lock_path_through(
+    delivery: &mut Delivery,
+    txn: TxnId,
+    node: NodeId,
+    mode: Mode,
+) -> (Result<Reached, Refusal>, Slots)
+    ensures locks { LocksThrough txn (node, mode) delivery.old result.0 delivery.new }
+    ensures calls { Calls delivery.old delivery.new }
+    ensures ended { HasEnded (state_of delivery.old.manager) (state_of delivery.new.manager) result.1 }
+    ensures counted { HasNoSlot result.1 ⊎ (delivery.old.manager.accepted < delivery.new.manager.accepted) }
+    ensures low { delivery.old.manager.accepted ≤ delivery.new.manager.accepted }
+{
+    let mut told = Told::new();
+    let mut ended = Slots::empty();
+    'path: loop {
+        delivery.law();
+        let (reached, more) = delivery.lock_path(txn, node, mode, &mut told);
+        told.clear();
+        ended = ended.union(more);
+        // A grant is counted, so that the path ends when the count does, if not before.
+        let _counted = delivery.manager().accepted();
+        if !stops_above(node, reached) {
+            return (reached, ended);
+        }
+    }
+}
+
+/// Whether a path has been granted a node above its own, and told others.
+fn stops_above(node: NodeId, reached: Result<Reached, Refusal>) -> bool
+    ensures { result ≡ stops_above node reached }
+{
+    match reached {
+        Ok(
+            Reached {
+                node: at,
+                locked: Locked::Granted(_),
+            },
+        ) => at != node,
+        _ => false,
+    }
+}
+
+/// Carries out a request. Answers what its last lock came to, and the slots whose wait it may have ended.
+pub(crate) fn request_now(
+    delivery: &mut Delivery,
+    txn: TxnId,
+    request: Request,
+    told: &mut Told,
+) -> (Came, Slots)
+    requires empty { told.old.items ≡ [] }
+    ensures requests { Requests delivery.old txn request result.0 told.new.items delivery.new }
+    ensures calls { Calls delivery.old delivery.new }
+    ensures ended { HasEnded (state_of delivery.old.manager) (state_of delivery.new.manager) result.1 }
+{
+    let (reached, ended) = match request {
+        Request::Node { node, mode } => lock_node(delivery, txn, node, mode, told),
+        Request::Path { node, mode } => lock_path_through(delivery, txn, node, mode),
+    };
+    (came_of(delivery.manager(), txn, reached), ended)
+}
+
+/// Locks a node alone. Answers the slots whose wait that may have ended.
+fn lock_node(
+    delivery: &mut Delivery,
+    txn: TxnId,
+    node: NodeId,
+    mode: Mode,
+    told: &mut Told,
+) -> (Result<Reached, Refusal>, Slots)
+    requires empty { told.old.items ≡ [] }
+    ensures reaches { Reaches delivery.old txn (NodeRequest node mode) result.0 told.new.items delivery.new }
+    ensures calls { Calls delivery.old delivery.new }
+    ensures ended { HasEnded (state_of delivery.old.manager) (state_of delivery.new.manager) result.1 }
+{
+    let (locked, ended) = delivery.lock(txn, node, mode, told);
+    match locked {
+        Ok(locked) => (Ok(Reached { node, locked }), ended),
+        Err(refusal) => (Err(refusal), ended),
+    }
+}

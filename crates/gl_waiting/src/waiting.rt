@@ -1,0 +1,372 @@
+//! The table of waiters: all that a latch protects.
+
+ghost use Rattle.gl_slots.specs.Limit.{most_slots};
+ghost use Rattle.std.specs.Prelude.{◌≡◌, ◌<◌, ◌≤◌, ℕ, [], replicate};
+ghost use Rattle.gl_catalog.specs.Manager.{IsLawfulManager, state_of};
+ghost use Rattle.gl_registry.specs.Rows.{name_of};
+ghost use Rattle.gl_graph.specs.Refusals.{max_count};
+ghost use Rattle.gl_waiting.specs.Ends.{EndsInTime, PlaceGoes};
+ghost use Rattle.gl_waiting.specs.Going.{Calls};
+ghost use Rattle.gl_waiting.specs.Asking.{Asks, Awaits, Begins, BeginsInTurn, BeginsNext, Expires, IsBeginAnswer, RollsBackTo, Serves, ServesRow, TimesOut};
+ghost use Rattle.gl_waiting.specs.Asking.{TriesThere, begin_of, begin_said, is_done, is_too_many};
+ghost use Rattle.gl_waiting.specs.Begins.{earliest_of, has_word, is_late, without_first};
+ghost use Rattle.std.specs.List.{find, list_any};
+ghost use Rattle.gl_waiting.specs.Waiters.{Await, IsInTime, TakesEnd, earliest_until, place_at};
+ghost use Rattle.gl_waiting.specs.Waiting.{delivery_in};
+ghost use Rattle.gl_waiting.specs.declared.waiter.Place.TheVariants.{Empty as empty};
+
+use crate::begins::{BeginQueue, QueuedBegin, Turn, is_over};
+use crate::delivery::Delivery;
+use crate::places::Places;
+use crate::tries::{Keep, Tried};
+use crate::waiter::{Came, Outcome, Place, Request, Waiter, outcome_of};
+use crate::waiters::{request_now, settle};
+use gl_catalog::{Answer, Command, Manager};
+use gl_modes::{Mode, NodeId, Refusal};
+use gl_registry::{Row, RowAnswer, RowCall};
+use gl_slots::{SLOTS, Slot};
+use gl_table::{Told, TxnId};
+use std::alloc::Global;
+use std::marker::Model;
+
+/// A registry with a notice box and a place for each slot: its waiter, or the end of its wait.
+///
+/// Each waiter waits: its transaction is in the queue of the node for which it waits. So no end of a wait is lost.
+/// After each call every waiter that can go on has gone on: a path that was granted a node has requested the next.
+#[derive(Drop)]
+pub struct Waiting {
+    delivery: Delivery,
+    places: Places,
+    begins: BeginQueue,
+}
+
+impl Model for Waiting {
+    ghost use Rattle.gl_waiting.specs.Waiting.{WaitingView};
+
+    ghost Value = { WaitingView };
+
+    ghost use Rattle.gl_waiting.specs.Owned.{waiting_of, IsAwaited};
+
+    ghost view = { waiting_of };
+
+    ghost invariant = { IsAwaited };
+}
+
+impl Waiting {
+    /// The registry of a delivery, without waiters.
+    pub fn new(alloc: Global, delivery: Delivery) -> Self
+        ensures delivery { delivery_in result ≡ delivery }
+        ensures places { result.places ≡ replicate most_slots empty }
+        ensures queue { result.queue ≡ [] }
+    {
+        Waiting {
+            delivery,
+            places: Places::new(),
+            begins: BeginQueue::new(alloc),
+        }
+    }
+
+    /// The law of every table of waiters.
+    pub fn law(&self)
+        ensures manager { IsLawfulManager self.now.manager }
+        ensures awaits { Await (state_of self.now.manager) self.now.places }
+    {
+        self.delivery.law();
+    }
+
+    /// The manager, to be asked.
+    pub fn manager(&self) -> &Manager
+        ensures { result.now ≡ self.now.manager }
+    {
+        self.delivery.manager()
+    }
+
+    /// The node of a row; `None` if it has none.
+    pub fn node(&self, row: Row) -> Option<NodeId>
+        ensures { result ≡ name_of self.now.rows row }
+    {
+        self.delivery.node(row)
+    }
+
+    /// Carries out a command, as `Registry::serve`, with its notices put into an empty list. Waiters whose wait it ends
+    /// go on or end.
+    pub fn serve(&mut self, command: Command<'_>, told: &mut Told) -> Option<Answer>
+        requires empty { told.old.items ≡ [] }
+        ensures { Serves self.old command.entry result told.new.items self.new }
+    {
+        self.delivery.law();
+        let (answer, ended) = self.delivery.serve(command, told);
+        settle(&mut self.delivery, &mut self.places, ended);
+        answer
+    }
+
+    /// Carries out a call about rows, as `Registry::apply`, with its notices put into an empty list. Waiters whose wait it
+    /// ends go on or end.
+    pub fn serve_row(&mut self, call: RowCall<'_>, told: &mut Told) -> RowAnswer
+        requires empty { told.old.items ≡ [] }
+        ensures { ServesRow self.old call.entry result told.new.items self.new }
+    {
+        self.delivery.law();
+        let (answer, ended) = self.delivery.serve_row(call, told);
+        settle(&mut self.delivery, &mut self.places, ended);
+        answer
+    }
+
+    /// Rolls back to a savepoint, as `Registry::release_since`, with its notices put into an empty list. Waiters whose
+    /// wait it ends go on or end.
+    pub fn release_since(
+        &mut self,
+        txn: TxnId,
+        mark: usize,
+        told: &mut Told,
+    ) -> Result<usize, Refusal>
+        requires empty { told.old.items ≡ [] }
+        ensures { RollsBackTo self.old txn mark result told.new.items self.new }
+    {
+        self.delivery.law();
+        let (released, ended) = self.delivery.release_since(txn, mark, told);
+        settle(&mut self.delivery, &mut self.places, ended);
+        released
+    }
+
+    /// Tries to lock a node with what must be held above it, as `Delivery::try_path`. Waiters whose wait a rollback ends
+    /// go on or end.
+    pub fn try_path(
+        &mut self,
+        txn: TxnId,
+        node: NodeId,
+        mode: Mode,
+        keep: Keep,
+        told: &mut Told,
+    ) -> Tried
+        requires empty { told.old.items ≡ [] }
+        ensures { TriesThere self.old txn (node, mode) keep result told.new.items self.new }
+    {
+        self.delivery.law();
+        let (tried, ended) = self.delivery.try_path(txn, node, mode, keep, told);
+        settle(&mut self.delivery, &mut self.places, ended);
+        tried
+    }
+
+    /// Carries out a request, with the notices of a single lock put into an empty list. If it waits, its transaction is a
+    /// waiter from now on, with at most this time to wait. Waiters whose wait it ends go on or end; it may be one of them.
+    pub fn ask(&mut self, txn: TxnId, request: Request, until: Option<u64>, told: &mut Told) -> Came
+        requires empty { told.old.items ≡ [] }
+        ensures { Asks self.old txn request until result told.new.items self.new }
+    {
+        self.delivery.law();
+        let (came, ended) = request_now(&mut self.delivery, txn, request, told);
+        let Came::Waits { at, wanted } = came else {
+            settle(&mut self.delivery, &mut self.places, ended);
+            return came;
+        };
+        self.delivery.law();
+        let waiter = Waiter {
+            txn,
+            request,
+            at,
+            wanted,
+            until,
+        };
+        self.places.put(txn.slot, Place::Waits(waiter));
+        settle(&mut self.delivery, &mut self.places, ended);
+        self.places.answer(txn.slot, came)
+    }
+
+    /// Takes the end of a wait, that of the lowest slot; `None` if there is none.
+    pub fn take_end(&mut self) -> Option<(TxnId, Outcome)>
+        ensures ends { TakesEnd self.old.places result self.new.places }
+        ensures kept { delivery_in self.new ≡ delivery_in self.old }
+        ensures queue { self.new.queue ≡ self.old.queue }
+    {
+        self.places.take_end()
+    }
+
+    /// Makes a waiter of a transaction that a command left waiting for a node, in this mode, with at most this time to
+    /// wait. Answers what became of the wait if it is over; `None` if the transaction has a waiter already.
+    pub fn await_lock(
+        &mut self,
+        txn: TxnId,
+        node: NodeId,
+        mode: Mode,
+        until: Option<u64>,
+    ) -> Option<Came>
+        ensures { Awaits self.old txn node mode until result self.new }
+    {
+        self.delivery.law();
+        if self.places.waiter_of(txn).is_some() {
+            return None;
+        }
+        if let Some(verdict) = self.delivery.verdict(txn, node, mode) {
+            return Some(Came::Ended(outcome_of(node, verdict)));
+        }
+        let waiter = Waiter {
+            txn,
+            request: Request::Node { node, mode },
+            at: node,
+            wanted: mode,
+            until,
+        };
+        self.places.put(txn.slot, Place::Waits(waiter));
+        Some(Came::Waits {
+            at: node,
+            wanted: mode,
+        })
+    }
+
+    /// Ends the wait of a transaction whose time is over, if it has a waiter: its end is to be taken. Waiters whose wait
+    /// that ends go on or end. It waits on only if no command can be counted any more (`WornOut`).
+    pub fn time_out(&mut self, txn: TxnId)
+        ensures { TimesOut self.old txn self.new }
+    {
+        self.delivery.law();
+        let Some(waiter) = self.places.waiter_of(txn) else {
+            return;
+        };
+        let mut told = Told::new();
+        let (answer, ended) = self.delivery.serve(Command::Cancel { txn }, &mut told);
+        if !is_done(answer) {
+            settle(&mut self.delivery, &mut self.places, ended);
+            return;
+        }
+        self.places
+            .put(txn.slot, Place::Ended(txn, Outcome::TimedOut(waiter.at)));
+        settle(&mut self.delivery, &mut self.places, ended);
+    }
+
+    /// Ends each wait whose time is at or before now, as `time_out`. Answers the earliest time of those that are left.
+    pub fn expire(&mut self, now: u64) -> Option<u64>
+        ensures expires { Expires self.old now self.new }
+        ensures next { result ≡ earliest_until self.new.places }
+    {
+        'slots: for slot in 0..SLOTS {
+            self.expire_at(slot as Slot, now);
+        }
+        self.places.earliest()
+    }
+
+    /// Ends the wait of a slot, if its time is over.
+    fn expire_at(&mut self, slot: Slot, now: u64)
+        ensures calls { Calls (delivery_in self.old) (delivery_in self.new) }
+        ensures low { self.old.manager.accepted ≤ self.new.manager.accepted }
+        ensures places { (u : ℕ) → PlaceGoes (EndsInTime now (delivery_in self.old) (delivery_in self.new)) (place_at self.old.places u)
+            (place_at self.new.places u) }
+        ensures queue { self.new.queue ≡ self.old.queue }
+        ensures over { self.new.manager.accepted < max_count → IsInTime now (place_at self.new.places slot) }
+    {
+        let Some(waiter) = self.places.waiter(slot) else {
+            return;
+        };
+        if is_over(waiter.until, now) {
+            self.time_out(waiter.txn);
+        }
+    }
+
+    /// Begins a transaction, for new work or for work since an earlier begin. It does not ask who waits for a slot.
+    pub fn begin(&mut self, since: Option<u64>) -> Result<TxnId, Refusal>
+        ensures { Begins self.old since result self.new }
+    {
+        self.delivery.law();
+        let mut told = Told::new();
+        let (answer, ended) = self.delivery.serve(begin_command(since), &mut told);
+        let Some(answer) = answer else { unreachable!() };
+        match begun_in(answer) {
+            Ok(txn) => {
+                settle(&mut self.delivery, &mut self.places, ended);
+                Ok(txn)
+            }
+            Err(refusal) => Err(refusal),
+        }
+    }
+
+    /// Begins a transaction if nobody waits for a slot and one is free; otherwise the begin waits for one, after all who
+    /// wait already.
+    pub fn begin_in_turn(&mut self, begin: QueuedBegin) -> Turn
+        ensures { BeginsInTurn self.old begin result self.new }
+    {
+        if self.begins.is_empty() {
+            let came = self.begin(begin.since);
+            if !is_too_many(came) {
+                return Turn::Came(came);
+            }
+        }
+        match self.begins.enter(begin) {
+            Ok(()) => Turn::Queued,
+            Err(_) => Turn::NoMemory,
+        }
+    }
+
+    /// Begins for the first who waits for a slot, if one is free; `None` if nobody waits, or every slot is taken. The
+    /// caller repeats it after each call that may have ended a transaction, before it releases the latch: so no slot is
+    /// free while somebody waits for one.
+    pub fn next_begin(&mut self) -> Option<(QueuedBegin, Result<TxnId, Refusal>)>
+        ensures { BeginsNext self.old result self.new }
+    {
+        let first = self.begins.first()?;
+        let came = self.begin(first.since);
+        if is_too_many(came) {
+            return None;
+        }
+        self.begins.leave_first();
+        Some((first, came))
+    }
+
+    /// Takes a begin of this name out of those that wait for a slot; whether there was one.
+    pub fn withdraw_begin(&mut self, word: u64) -> bool
+        ensures found { result ≡ list_any (has_word word) self.old.queue }
+        ensures rest { self.new ≡ record self.old { queue = without_first (has_word word) self.old.queue } }
+    {
+        self.begins.withdraw(word)
+    }
+
+    /// Takes a begin whose time is at or before now out of those that wait for a slot, the first of them.
+    pub fn take_late_begin(&mut self, now: u64) -> Option<QueuedBegin>
+        ensures taken { result ≡ find (is_late now) self.old.queue }
+        ensures rest { self.new ≡ record self.old { queue = without_first (is_late now) self.old.queue } }
+    {
+        self.begins.take_late(now)
+    }
+
+    /// The earliest time at which a begin ends that waits for a slot; `None` if none has one.
+    pub fn earliest_begin(&self) -> Option<u64>
+        ensures { result ≡ earliest_of self.now.queue }
+    {
+        self.begins.earliest()
+    }
+}
+
+/// Whether a command was done.
+fn is_done(answer: Option<Answer>) -> bool
+    ensures { result ≡ is_done answer }
+{
+    matches!(answer, Some(Answer::Done))
+}
+
+/// The command of a begin, for new work or for work since an earlier begin.
+fn begin_command(since: Option<u64>) -> Command<'static>
+    ensures { result ≡ begin_of since }
+{
+    match since {
+        Some(since) => Command::BeginAgain { since },
+        None => Command::Begin,
+    }
+}
+
+/// What a begin came to that was answered so.
+fn begun_in(answer: Answer) -> Result<TxnId, Refusal>
+    requires { IsBeginAnswer answer }
+    ensures { begin_said result ≡ answer }
+{
+    match answer {
+        Answer::Begun(txn) => Ok(txn),
+        Answer::Refused(refusal) => Err(refusal),
+        _ => unreachable!(),
+    }
+}
+
+/// Whether a begin was refused since every slot is taken.
+fn is_too_many(came: Result<TxnId, Refusal>) -> bool
+    ensures { result ≡ is_too_many came }
+{
+    matches!(came, Err(Refusal::TooManyTxns))
+}
