@@ -32,7 +32,8 @@ use Rattle.gl_steps.proofs.OneStep.{all_none}
 use Rattle.gl_steps.proofs.StepsKeepLaw.{steps_keep_law}
 use Rattle.gl_catalog.specs.Counters.{grants, refuses}
 use Rattle.gl_catalog.specs.Manager.{ManagerView, state_of}
-use Rattle.gl_catalog.specs.Paths.{Ask, ClimbsTo, ComesFirst, KeepsBelow, KeepsPath, lock_of, missing_parent, next_ask, parent_missed, parent_wanted, path_tests}
+use Rattle.gl_catalog.specs.Paths.{Ask, ClimbsTo, ComesFirst, KeepsBelow, KeepsPath}
+use Rattle.gl_catalog.specs.Paths.{lock_of, missing_parent, next_ask, parent_missed, parent_wanted, path_tests}
 use Rattle.gl_catalog.specs.Replies.{CallSteps, said, took}
 use Rattle.gl_catalog.specs.Savepoints.{back_tests, count_since, worn_for}
 use Rattle.gl_catalog.proofs.Climbing.{climb_route, first_stays, plain_tests, stays_at}
@@ -314,7 +315,8 @@ names_last : (n : NodeId) (r : Refusal) (first : Ask) → n ≡ first.0 → miss
 names_last n no.WouldBlock first e none = e
 names_last n r first e none = (λ h. cc h, none)
 
-module _ (m m' : ManagerView) (t : TxnId) (ask top : Ask) (above : List NodeId) (kept : KeepsPath (state_of m) t ask above) (is : top ≡ next_ask ask above) where
+module _ (m m' : ManagerView) (t : TxnId) (ask top : Ask) (above : List NodeId) (kept : KeepsPath (state_of m) t ask above)
+    (is : top ≡ next_ask ask above) where
   abbrev s : State
   s = state_of m
 
