@@ -12,7 +12,7 @@ use Rattle.gl_wakes.specs.declared.grant.Grant.{Grant}
 use Rattle.gl_wakes.specs.declared.grant.Stop.{Stop}
 use Rattle.gl_waiting.specs.Begins.{is_over}
 use Rattle.gl_waiting.specs.Delivering.{DeliveryView}
-use Rattle.gl_waiting.specs.Ends.{EndsAt, EndsBetween, EndsInTime, GoesOn, PlaceGoes, PlaceGoesOn}
+use Rattle.gl_waiting.specs.Ends.{EndsAt, EndsBetween, EndsInTime, GivesBack, GoesOn, PlaceGoes, PlaceGoesOn}
 use Rattle.gl_waiting.specs.Going.{Calls}
 use Rattle.gl_waiting.specs.Paths.{LocksThrough}
 use Rattle.gl_waiting.specs.Waiters.{IsInTime, StillRequests, came_of, has_more, next_after, next_of, outcome_of, place_at, place_of}
@@ -29,11 +29,16 @@ use Rattle.gl_waiting.proofs.Awaiting.{apart_slot, same_slot, set_apart, set_the
 use Rattle.gl_waiting.proofs.Runs.{calls_none, calls_then}
 
 pub still_itself : (w : Waiter) → StillRequests w w
-still_itself w = record { txn = refl; request = refl; until = refl }
+still_itself w = record { txn = refl; request = refl; instant = refl; until = refl }
 
 still_then : (w v u : Waiter) → StillRequests w v → StillRequests v u → StillRequests w u
 still_then w v u one other =
-    record { txn = other.txn ∙ one.txn; request = other.request ∙ one.request; until = other.until ∙ one.until }
+    record {
+      txn = other.txn ∙ one.txn;
+      request = other.request ∙ one.request;
+      instant = other.instant ∙ one.instant;
+      until = other.until ∙ one.until;
+    }
 
 -- nothing changes
 pub goes_same : (Ends : Waiter → Outcome → Type 0) (p : Place) → PlaceGoes Ends p p
@@ -64,6 +69,14 @@ ends_before d w v outcome still (inr h) =
       came = subst (λ (t : TxnId). came_of (state_of d.manager) t h.result ≡ came.Ended outcome) still.txn h.came;
     })
 
+-- and so is what is unlocked after it
+gives_before : (d d' : DeliveryView) (w v : Waiter) (outcome : Outcome) → StillRequests w v → GivesBack v.instant v.txn v.request outcome d d'
+    → GivesBack w.instant w.txn w.request outcome d d'
+gives_before d d' w v outcome still h =
+    subst (λ (t : TxnId). GivesBack w.instant t w.request outcome d d') still.txn
+    (subst (λ (asked : Request). GivesBack w.instant v.txn asked outcome d d') still.request
+    (subst (λ (b : Bool). GivesBack b v.txn v.request outcome d d') still.instant h))
+
 -- a change of a place that goes on, and another: ends of the second kind are ends for the waiter of before
 pub goes_by : (One Other Both : Waiter → Outcome → Type 0) → ((w : Waiter) (outcome : Outcome) → One w outcome → Both w outcome)
     → ((w v : Waiter) (outcome : Outcome) → StillRequests w v → Other v outcome → Both w outcome) → (p q r : Place) → PlaceGoes One p q
@@ -81,11 +94,19 @@ goes_by One Other Both first later (place.Waits w) q r (inl (v, is, still)) othe
 
 module _ (d mid d' : DeliveryView) (one : Calls d mid) (other : Calls mid d') where
   pub ends_first : (w : Waiter) (outcome : Outcome) → EndsBetween d mid w outcome → EndsBetween d d' w outcome
-  ends_first w outcome h = record { mid = h.mid; before = h.before; after = calls_then h.mid mid d' h.after other; ends = h.ends }
+  ends_first w outcome h =
+      record { mid = h.mid; before = h.before; ends = h.ends; left = h.left; gives = h.gives; after = calls_then h.left mid d' h.after other }
 
   pub ends_later : (w v : Waiter) (outcome : Outcome) → StillRequests w v → EndsBetween mid d' v outcome → EndsBetween d d' w outcome
   ends_later w v outcome still h =
-      record { mid = h.mid; before = calls_then d mid h.mid one h.before; after = h.after; ends = ends_before h.mid w v outcome still h.ends }
+      record {
+        mid = h.mid;
+        before = calls_then d mid h.mid one h.before;
+        ends = ends_before h.mid w v outcome still h.ends;
+        left = h.left;
+        gives = gives_before h.mid h.left w v outcome still h.gives;
+        after = h.after;
+      }
 
   pub goes_then : (p q r : Place) → PlaceGoesOn d mid p q → PlaceGoesOn mid d' q r → PlaceGoesOn d d' p r
   goes_then = goes_by (EndsBetween d mid) (EndsBetween mid d') (EndsBetween d d') ends_first ends_later
@@ -101,9 +122,11 @@ goes_on_then d mid d' ps qs rs one other = record {
   each = λ u. goes_then d mid d' one.calls other.calls (place_at ps u) (place_at qs u) (place_at rs u) (one.each u) (other.each u);
 }
 
--- what ends at the last delivery ends between the first and the last
-pub ends_now : (d d' : DeliveryView) → Calls d d' → (w : Waiter) (outcome : Outcome) → EndsAt d' w outcome → EndsBetween d d' w outcome
-ends_now d d' calls w outcome ends = record { mid = d'; before = calls; after = calls_none d'; ends = ends }
+-- what ends at a delivery, and is unlocked if it was for an instant, ends between it and the next
+pub ends_now : (d d' : DeliveryView) (w : Waiter) (outcome : Outcome) → EndsAt d w outcome → GivesBack w.instant w.txn w.request outcome d d'
+    → EndsBetween d d' w outcome
+ends_now d d' w outcome ends gives =
+    record { mid = d; before = calls_none d; ends = ends; left = d'; gives = gives; after = calls_none d' }
 
 -- the places of all slots after one of them changed
 pub each_put : (Ends : Waiter → Outcome → Type 0) (places : List Place) (slot : ℕ) (w : Waiter) (p : Place) → slot < length places
@@ -122,11 +145,10 @@ each_put Ends places slot w p within was goes u = by (u == slot) refl
 
 -- one place changed along calls
 pub goes_on_put : (d d' : DeliveryView) → Calls d d' → (places : List Place) (slot : ℕ) (w : Waiter) (p : Place) → slot < length places
-    → place_at places slot ≡ place.Waits w → PlaceGoes (EndsAt d') (place.Waits w) p → GoesOn d places d' (slice_set places slot p)
+    → place_at places slot ≡ place.Waits w → PlaceGoesOn d d' (place.Waits w) p → GoesOn d places d' (slice_set places slot p)
 goes_on_put d d' calls places slot w p within was goes = record {
   calls = calls;
-  each = each_put (EndsBetween d d') places slot w p within was
-      (goes_with (EndsAt d') (EndsBetween d d') (ends_now d d' calls) (place.Waits w) p goes);
+  each = each_put (EndsBetween d d') places slot w p within was goes;
 }
 
 -- a verdict that ends a request
@@ -148,14 +170,23 @@ goes_on_path w verdict node mode is = by w.request is
         path true e = cc e
         path false e = absurd (cc e)
 
--- the rest of a path was locked
-pub ends_by_path : (d d' : DeliveryView) (w : Waiter) (node : NodeId) (mode : Mode) (result : Result Reached Refusal) (c : Came)
-    → w.request ≡ request.Path node mode → LocksThrough w.txn (node, mode) d result d' → c ≡ came_of (state_of d'.manager) w.txn result
-    → PlaceGoes (EndsAt d') (place.Waits w) (place_of w c)
-ends_by_path d d' w node mode result (came.Ended outcome) asked locks came =
-    inr (outcome, refl, inr (record { node = node; mode = mode; asked = asked; before = d; result = result; locks = locks; came = sym came }))
-ends_by_path d d' w node mode result (came.Waits at wanted) asked locks came =
-    inl (record w { at = at; wanted = wanted }, refl, record { txn = refl; request = refl; until = refl })
+-- the rest of a path was locked, and ends the request so
+pub ends_by_path : (d d' : DeliveryView) (w : Waiter) (node : NodeId) (mode : Mode) (result : Result Reached Refusal) (outcome : Outcome)
+    → w.request ≡ request.Path node mode → LocksThrough w.txn (node, mode) d result d' → came_of (state_of d'.manager) w.txn result ≡ came.Ended outcome
+    → EndsAt d' w outcome
+ends_by_path d d' w node mode result outcome asked locks came =
+    inr (record { node = node; mode = mode; asked = asked; before = d; result = result; locks = locks; came = came })
+
+-- it ended before a request was unlocked, after these calls
+pub ends_after : (d mid d' : DeliveryView) → Calls d mid → (w : Waiter) (outcome : Outcome) → EndsAt mid w outcome
+    → GivesBack w.instant w.txn w.request outcome mid d' → EndsBetween d d' w outcome
+ends_after d mid d' calls w outcome ends gives =
+    record { mid = mid; before = calls; ends = ends; left = d'; gives = gives; after = calls_none d' }
+
+-- a request that still waits goes on
+pub waits_on_still : (d d' : DeliveryView) (w : Waiter) (at : NodeId) (wanted : Mode) → PlaceGoesOn d d' (place.Waits w) (place_of w (came.Waits at wanted))
+waits_on_still d d' w at wanted =
+    inl (record w { at = at; wanted = wanted }, refl, record { txn = refl; request = refl; instant = refl; until = refl })
 
 -- a wait that is in time still is after it went on, or is over
 pub in_time_on : (Ends : Waiter → Outcome → Type 0) (now : ℕ) (p q : Place) → PlaceGoes Ends p q → IsInTime now p → IsInTime now q

@@ -14,18 +14,19 @@ use Rattle.gl_catalog.specs.Paths.{Ask, lock_of}
 use Rattle.gl_catalog.specs.declared.manager.paths.Reached.{Reached}
 use Rattle.gl_registry.specs.Serving.{Applies, ServesBy, touches_rows}
 use Rattle.gl_waiting.specs.Delivering.{Carries, Delivered, DeliveryView, lock_said, registry_in, unlocking}
-use Rattle.gl_waiting.specs.Ends.{EndsBetween, EndsInTime, GoesOn, PlaceGoes, PlaceGoesOn}
+use Rattle.gl_waiting.specs.Ends.{EndsBetween, EndsInTime, GivesBack, GoesOn, PlaceGoes, PlaceGoesOn}
 use Rattle.gl_waiting.specs.Going.{Calls, IsRun}
 use Rattle.gl_waiting.specs.Paths.{LocksThrough}
-use Rattle.gl_waiting.specs.Waiters.{AnswersIn, HasWaiter, outcome_of, IsInTime, came_of, place_at, waiter_in}
+use Rattle.gl_waiting.specs.Waiters.{AnswersIn, HasWaiter, node_in, outcome_of, IsInTime, came_of, place_at, waiter_in}
 use Rattle.gl_waiting.specs.Waiting.{WaitingView, delivery_in}
 use Rattle.std.specs.List.{list_all}
 use Rattle.std.specs.Prelude.{◌⊎◌, ◌==◌, ◌++◌, ◌∷◌, None, drop, is_some, length, slice_get}
-use Rattle.gl_model.specs.State.{State, slots}
+use Rattle.gl_model.specs.State.{State, lives, slots}
+use Rattle.gl_modes.specs.declared.mode.Mode.TheVariants.{NL}
 use Rattle.gl_modes.specs.declared.refusal.Refusal.TheVariants as no
 use Rattle.gl_steps.specs.declared.command.Command.TheVariants as command
 use Rattle.gl_steps.specs.Step.{Step}
-use Rattle.std.specs.Prelude.{OnErr, OnOk}
+use Rattle.std.specs.Prelude.{OnErr, OnOk, ◌&&◌, if◌then◌else◌}
 use Rattle.gl_graph.specs.Refusals.{first_refusal}
 use Rattle.gl_catalog.specs.Paths.{path_tests}
 use Rattle.gl_registry.specs.declared.answer.RowAnswer.{RowAnswer}
@@ -105,13 +106,28 @@ pub record TriesThere (v : WaitingView) (t : TxnId) (ask : Ask) (keep : Keep) (r
   pub queue : v'.queue ≡ v.queue
 
 -- the waiter that a request leaves waiting for this node
-abbrev pub waiter_for : TxnId → Request → Option ℕ → NodeId → Mode → Waiter
-waiter_for t asked until at wanted = record { txn = t; request = asked; at = at; wanted = wanted; until = until }
+abbrev pub waiter_for : TxnId → Request → Bool → Option ℕ → NodeId → Mode → Waiter
+waiter_for t asked instant until at wanted =
+    record { txn = t; request = asked; instant = instant; at = at; wanted = wanted; until = until }
 
 -- what belongs to each slot after a request came to this: one that waits is a waiter
-abbrev pub registered : TxnId → Request → Option ℕ → Came → List Place → List Place
-registered t asked until (came.Ended outcome) places = places
-registered t asked until (came.Waits at wanted) places = slice_set places t.slot (place.Waits (waiter_for t asked until at wanted))
+abbrev pub registered : TxnId → Request → Bool → Option ℕ → Came → List Place → List Place
+registered t asked instant until (came.Ended outcome) places = places
+registered t asked instant until (came.Waits at wanted) places = slice_set places t.slot (place.Waits (waiter_for t asked instant until at wanted))
+
+-- the mode is none
+abbrev pub is_no_mode : Option Mode → Bool
+is_no_mode (Some NL) = true
+is_no_mode o = false
+
+-- a request is for an instant: it is said so, and its transaction lives and does not hold the node
+abbrev pub is_for_instant : State → TxnId → NodeId → Bool → Bool
+is_for_instant s t node said = said && is_no_mode (if lives s t then Some (s.held t.slot node) else None)
+
+-- a request that ended at once is unlocked if it was granted for an instant; one that waits is left
+abbrev pub GivesBackFirst : Bool → TxnId → Request → Came → DeliveryView → DeliveryView → Type 0
+GivesBackFirst instant t asked (came.Ended outcome) d d' = GivesBack instant t asked outcome d d'
+GivesBackFirst instant t asked (came.Waits at wanted) d d' = d' ≡ d
 
 -- the answer: what a request came to that did not wait, and else whether it still waits by then, or how it ended
 abbrev pub Replies : TxnId → Came → List Place → Came → List Place → Type 0
@@ -119,14 +135,16 @@ Replies t (came.Ended outcome) places c places' = (c ≡ came.Ended outcome) × 
 Replies t (came.Waits at wanted) places c places' = AnswersIn (place_at places t.slot) t.slot places (came.Waits at wanted) c places'
 
 -- a request is carried out; one that waits is registered; waiters go on, and the request may be one of them
-pub record Asks (v : WaitingView) (t : TxnId) (asked : Request) (until : Option ℕ) (answer : Came) (told : Told) (v' : WaitingView) : Type 0 where
+pub record Asks (v : WaitingView) (t : TxnId) (asked : Request) (instant : Bool) (until : Option ℕ) (answer : Came) (told : Told) (v' : WaitingView) : Type 0 where
   pub first : Came
   pub served : DeliveryView
   pub requests : Requests (delivery_in v) t asked first told served
   pub calls : Calls (delivery_in v) served
   pub alone : (at : NodeId) (wanted : Mode) → first ≡ came.Waits at wanted → waiter_in (place_at v.places t.slot) ≡ None
+  pub left : DeliveryView
+  pub gives : GivesBackFirst (is_for_instant (state_of v.manager) t (node_in asked) instant) t asked first served left
   pub after : List Place
-  pub goes : GoesOn served (registered t asked until first v.places) (delivery_in v') after
+  pub goes : GoesOn left (registered t asked (is_for_instant (state_of v.manager) t (node_in asked) instant) until first v.places) (delivery_in v') after
   pub replies : Replies t first after answer v'.places
   pub queue : v'.queue ≡ v.queue
 
@@ -139,7 +157,7 @@ abbrev pub AwaitsBy : Option (Result Grant Stop) → WaitingView → TxnId → N
 AwaitsBy (Some verdict) v t node mode until c v' = (c ≡ came.Ended (outcome_of node verdict)) × (v' ≡ v)
 AwaitsBy None v t node mode until c v' =
     (c ≡ came.Waits node mode)
-    × (v' ≡ record v { places = slice_set v.places t.slot (place.Waits (waiter_for t (request.Node node mode) until node mode)) })
+    × (v' ≡ record v { places = slice_set v.places t.slot (place.Waits (waiter_for t (request.Node node mode) false until node mode)) })
 
 -- a wait is awaited, unless its transaction has a waiter already
 abbrev pub Awaits : WaitingView → TxnId → NodeId → Mode → Option ℕ → Option Came → WaitingView → Type 0

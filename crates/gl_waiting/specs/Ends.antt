@@ -1,5 +1,5 @@
 -- How waits end, and what belongs to each slot after waiters went on.
-use Rattle.std.specs.Prelude.{◌≡◌, ◌⊎◌, ℕ, true, List, Some, Result}
+use Rattle.std.specs.Prelude.{◌≡◌, ◌⊎◌, ◌&&◌, ℕ, Bool, true, false, List, Some, Result}
 use Rattle.gl_modes.specs.declared.mode.Mode.{Mode}
 use Rattle.gl_modes.specs.declared.node.NodeId.{NodeId}
 use Rattle.gl_modes.specs.declared.refusal.Refusal.{Refusal}
@@ -12,14 +12,20 @@ use Rattle.gl_waiting.specs.Begins.{is_over}
 use Rattle.gl_waiting.specs.Delivering.{DeliveryView}
 use Rattle.gl_waiting.specs.Going.{Calls}
 use Rattle.gl_waiting.specs.Paths.{LocksThrough}
-use Rattle.gl_waiting.specs.Waiters.{StillRequests, came_of, next_of, place_at}
+use Rattle.gl_waiting.specs.Waiters.{StillRequests, came_of, is_granted_so, next_of, node_in, place_at}
 use Rattle.gl_waiting.specs.declared.waiter.Came.TheVariants as came
 use Rattle.gl_waiting.specs.declared.waiter.Next.TheVariants as next
 use Rattle.gl_waiting.specs.declared.waiter.Outcome.{Outcome}
 use Rattle.gl_waiting.specs.declared.waiter.Outcome.TheVariants as end
 use Rattle.gl_waiting.specs.declared.waiter.Place.{Place}
 use Rattle.gl_waiting.specs.declared.waiter.Place.TheVariants as place
+use Rattle.gl_waiting.specs.declared.waiter.Request.{Request}
 use Rattle.gl_waiting.specs.declared.waiter.Request.TheVariants as request
+use Rattle.gl_model.specs.Tellings.{Told}
+use Rattle.gl_model.specs.declared.txn.TxnId.{TxnId}
+use Rattle.gl_steps.specs.declared.command.Answer.{Answer}
+use Rattle.gl_steps.specs.declared.command.Command.TheVariants as command
+use Rattle.gl_registry.specs.Serving.{Applies}
 use Rattle.gl_waiting.specs.declared.waiter.Waiter.{Waiter}
 
 -- the wait of a request is over, for the node of now or one before it, and what became of the wait ends the request so
@@ -44,12 +50,34 @@ pub record EndsByPath (d : DeliveryView) (w : Waiter) (outcome : Outcome) : Type
 abbrev pub EndsAt : DeliveryView → Waiter → Outcome → Type 0
 EndsAt d w outcome = EndsByVerdict d w outcome ⊎ EndsByPath d w outcome
 
--- along calls from one delivery to another a request ended so
+-- a node is unlocked, as a command of the registry
+pub record Unlocks (t : TxnId) (node : NodeId) (d d' : DeliveryView) : Type 0 where
+  pub answer : Answer
+  pub told : Told
+  pub applies : Applies d.manager (command.Unlock t node) answer told d'.manager
+  pub rows : d'.rows ≡ d.rows
+
+-- a node is unlocked, or nothing changes
+abbrev pub UnlocksIf : Bool → TxnId → NodeId → DeliveryView → DeliveryView → Type 0
+UnlocksIf true t node d d' = Unlocks t node d d'
+UnlocksIf false t node d d' = d' ≡ d
+
+-- a request was granted for an instant
+abbrev pub is_given_back : Bool → Outcome → Bool
+is_given_back instant outcome = instant && is_granted_so outcome
+
+-- a request that was granted for an instant is unlocked at once; after any other nothing changes
+abbrev pub GivesBack : Bool → TxnId → Request → Outcome → DeliveryView → DeliveryView → Type 0
+GivesBack instant t asked outcome d d' = UnlocksIf (is_given_back instant outcome) t (node_in asked) d d'
+
+-- along calls from one delivery to another a request ended so, and was unlocked if it was for an instant
 pub record EndsBetween (d d' : DeliveryView) (w : Waiter) (outcome : Outcome) : Type 0 where
   pub mid : DeliveryView
   pub before : Calls d mid
-  pub after : Calls mid d'
   pub ends : EndsAt mid w outcome
+  pub left : DeliveryView
+  pub gives : GivesBack w.instant w.txn w.request outcome mid left
+  pub after : Calls left d'
 
 -- what belongs to a slot, before and after waiters went on: a wait goes on, or has ended in a way that is given; nothing else changes
 abbrev pub PlaceGoes : (Waiter → Outcome → Type 0) → Place → Place → Type 0

@@ -71,6 +71,7 @@ Await s places = AwaitBut (λ u. false) s places
 pub record StillRequests (w w' : Waiter) : Type 0 where
   pub txn : w'.txn ≡ w.txn
   pub request : w'.request ≡ w.request
+  pub instant : w'.instant ≡ w.instant
   pub until : w'.until ≡ w.until
 
 -- the waiter of a slot
@@ -164,3 +165,17 @@ earliest_until places = reduce min (filter_map until_in places)
 -- no wait of the slot should have ended by now
 abbrev pub IsInTime : ℕ → Place → Type 0
 IsInTime now p = is_over now (until_in p) ≡ false
+
+-- the node that is requested
+abbrev pub node_in : Request → NodeId
+node_in (request.Node node mode) = node
+node_in (request.Path node mode) = node
+
+-- a request was granted
+abbrev pub is_granted_so : Outcome → Bool
+is_granted_so (end.Granted mode) = true
+is_granted_so (end.Victim at) = false
+is_granted_so (end.Moved at) = false
+is_granted_so (end.Gone at) = false
+is_granted_so (end.Refused r) = false
+is_granted_so (end.TimedOut at) = false

@@ -1,7 +1,7 @@
 //! What a waiter requested, and how its wait ends.
 
 ghost use Rattle.std.specs.Prelude.{◌≡◌};
-ghost use Rattle.gl_waiting.specs.Waiters.{has_more, next_of, outcome_of, place_of, until_in};
+ghost use Rattle.gl_waiting.specs.Waiters.{has_more, is_granted_so, next_of, node_in, outcome_of, place_of, until_in};
 
 use gl_modes::{Mode, NodeId, Refusal};
 use gl_table::TxnId;
@@ -16,11 +16,24 @@ pub enum Request {
     Path { node: NodeId, mode: Mode },
 }
 
+impl Request {
+    /// The node that it requests.
+    pub(crate) fn node(&self) -> NodeId
+        ensures { result ≡ node_in self.now }
+    {
+        match self {
+            Request::Node { node, .. } | Request::Path { node, .. } => *node,
+        }
+    }
+}
+
 /// A transaction that waits, for one request.
 #[derive(Clone, Copy, PartialEq, Eq, Debug)]
 pub struct Waiter {
     pub txn: TxnId,
     pub request: Request,
+    /// Whether its lock is for an instant: released as it is granted.
+    pub instant: bool,
     /// The node for which it waits now: that of the request, or one above it.
     pub at: NodeId,
     /// The mode in which it wants that node.
@@ -44,6 +57,15 @@ pub enum Outcome {
     Refused(Refusal),
     /// The time of the wait for this node is over.
     TimedOut(NodeId),
+}
+
+impl Outcome {
+    /// Whether the request was granted.
+    pub(crate) fn is_granted(&self) -> bool
+        ensures { result ≡ is_granted_so self.now }
+    {
+        matches!(self, Outcome::Granted(_))
+    }
 }
 
 /// What a request came to.
@@ -82,6 +104,7 @@ impl Waiter {
             Came::Waits { at, wanted } => Place::Waits(Waiter {
                 txn: self.txn,
                 request: self.request,
+                instant: self.instant,
                 at,
                 wanted,
                 until: self.until,

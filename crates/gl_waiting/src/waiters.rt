@@ -7,7 +7,7 @@ ghost use Rattle.gl_catalog.specs.Manager.{state_of};
 ghost use Rattle.gl_steps.specs.Promises.{waits_on};
 ghost use Rattle.gl_wakes.specs.Wakes.{HasEnded};
 ghost use Rattle.gl_waiting.specs.Asking.{Reaches, Requests};
-ghost use Rattle.gl_waiting.specs.Ends.{EndsAt, GoesOn, PlaceGoes};
+ghost use Rattle.gl_waiting.specs.Ends.{GivesBack, GoesOn, PlaceGoesOn, is_given_back};
 ghost use Rattle.gl_waiting.specs.Going.{Calls};
 ghost use Rattle.gl_waiting.specs.Paths.{LocksThrough};
 ghost use Rattle.gl_waiting.specs.Waiters.{Await, AwaitBut, IsWaitingPlace, came_of, stops_above, waits_as};
@@ -17,7 +17,7 @@ ghost use Rattle.gl_waiting.specs.declared.waiter.Request.TheVariants.{Node as N
 use crate::delivery::Delivery;
 use crate::places::Places;
 use crate::waiter::{Came, Next, Outcome, Place, Request, Waiter};
-use gl_catalog::{Manager, Reached};
+use gl_catalog::{Command, Manager, Reached};
 use gl_modes::{Mode, NodeId, Refusal};
 use gl_slots::{Slot, Slots};
 use gl_table::{Locked, Told, TxnId};
@@ -76,7 +76,7 @@ fn look_at(delivery: &mut Delivery, places: &mut Places, slot: Slot) -> Slots
     match waiter.next(verdict) {
         Next::End(outcome) => {
             places.put(slot, Place::Ended(waiter.txn, outcome));
-            Slots::empty()
+            give_back(delivery, waiter.instant, waiter.txn, waiter.request, outcome)
         }
         Next::GoOn { node, mode } => {
             let (place, ended) = go_on(delivery, waiter, node, mode);
@@ -90,7 +90,7 @@ fn look_at(delivery: &mut Delivery, places: &mut Places, slot: Slot) -> Slots
 /// ended.
 fn go_on(delivery: &mut Delivery, waiter: Waiter, node: NodeId, mode: Mode) -> (Place, Slots)
     requires path { waiter.request ≡ PathRequest node mode }
-    ensures place { PlaceGoes (EndsAt delivery.new) (waits waiter) result.0 }
+    ensures place { PlaceGoesOn delivery.old delivery.new (waits waiter) result.0 }
     ensures waits { IsWaitingPlace (state_of delivery.new.manager) waiter.txn result.0 }
     ensures calls { Calls delivery.old delivery.new }
     ensures ended { HasEnded (state_of delivery.old.manager) (state_of delivery.new.manager) result.1 }
@@ -99,7 +99,42 @@ fn go_on(delivery: &mut Delivery, waiter: Waiter, node: NodeId, mode: Mode) -> (
 {
     let (reached, ended) = lock_path_through(delivery, waiter.txn, node, mode);
     let came = came_of(delivery.manager(), waiter.txn, reached);
-    (waiter.place(came), ended)
+    let Came::Ended(outcome) = came else {
+        return (waiter.place(came), ended);
+    };
+    delivery.law();
+    let more = give_back(delivery, waiter.instant, waiter.txn, waiter.request, outcome);
+    (Place::Ended(waiter.txn, outcome), ended.union(more))
+}
+
+/// Releases the lock of a request that was granted for an instant. Answers the slots whose wait that may have ended.
+pub(crate) fn give_back(
+    delivery: &mut Delivery,
+    instant: bool,
+    txn: TxnId,
+    request: Request,
+    outcome: Outcome,
+) -> Slots
+    ensures gives { GivesBack instant txn request outcome delivery.old delivery.new }
+    ensures calls { Calls delivery.old delivery.new }
+    ensures ended { HasEnded (state_of delivery.old.manager) (state_of delivery.new.manager) result }
+    ensures counted { HasNoSlot result ⊎ (delivery.old.manager.accepted < delivery.new.manager.accepted) }
+    ensures low { delivery.old.manager.accepted ≤ delivery.new.manager.accepted }
+{
+    if !is_given_back(instant, outcome) {
+        return Slots::empty();
+    }
+    let mut told = Told::new();
+    let node = request.node();
+    let (_answer, ended) = delivery.serve(Command::Unlock { txn, node }, &mut told);
+    ended
+}
+
+/// Whether a request was granted for an instant.
+fn is_given_back(instant: bool, outcome: Outcome) -> bool
+    ensures { result ≡ is_given_back instant outcome }
+{
+    instant && outcome.is_granted()
 }
 
 /// What a request came to whose last lock came to this.

@@ -8,7 +8,7 @@ ghost use Rattle.gl_graph.specs.Refusals.{max_count};
 ghost use Rattle.gl_waiting.specs.Ends.{EndsInTime, PlaceGoes};
 ghost use Rattle.gl_waiting.specs.Going.{Calls};
 ghost use Rattle.gl_waiting.specs.Asking.{Asks, Awaits, Begins, BeginsInTurn, BeginsNext, Expires, IsBeginAnswer, RollsBackTo, Serves, ServesRow, TimesOut};
-ghost use Rattle.gl_waiting.specs.Asking.{TriesThere, begin_of, begin_said, is_done, is_too_many};
+ghost use Rattle.gl_waiting.specs.Asking.{TriesThere, begin_of, begin_said, is_done, is_for_instant, is_too_many};
 ghost use Rattle.gl_waiting.specs.Begins.{earliest_of, has_word, is_late, without_first};
 ghost use Rattle.std.specs.List.{find, list_any};
 ghost use Rattle.gl_waiting.specs.Waiters.{Await, IsInTime, TakesEnd, earliest_until, place_at};
@@ -20,7 +20,7 @@ use crate::delivery::Delivery;
 use crate::places::Places;
 use crate::tries::{Keep, Tried};
 use crate::waiter::{Came, Outcome, Place, Request, Waiter, outcome_of};
-use crate::waiters::{request_now, settle};
+use crate::waiters::{give_back, request_now, settle};
 use gl_catalog::{Answer, Command, Manager};
 use gl_modes::{Mode, NodeId, Refusal};
 use gl_registry::{Row, RowAnswer, RowCall};
@@ -149,28 +149,45 @@ impl Waiting {
     }
 
     /// Carries out a request, with the notices of a single lock put into an empty list. If it waits, its transaction is a
-    /// waiter from now on, with at most this time to wait. Waiters whose wait it ends go on or end; it may be one of them.
-    pub fn ask(&mut self, txn: TxnId, request: Request, until: Option<u64>, told: &mut Told) -> Came
+    /// waiter from now on, with at most this time to wait. A node that the transaction does not hold may be requested for
+    /// an instant: its lock is released as it is granted. Waiters whose wait the request ends go on or end; it may be one
+    /// of them.
+    pub fn ask(
+        &mut self,
+        txn: TxnId,
+        request: Request,
+        instant: bool,
+        until: Option<u64>,
+        told: &mut Told,
+    ) -> Came
         requires empty { told.old.items ≡ [] }
-        ensures { Asks self.old txn request until result told.new.items self.new }
+        ensures { Asks self.old txn request instant until result told.new.items self.new }
     {
         self.delivery.law();
+        let instant = is_for_instant(self.delivery.manager(), txn, request.node(), instant);
         let (came, ended) = request_now(&mut self.delivery, txn, request, told);
-        let Came::Waits { at, wanted } = came else {
-            settle(&mut self.delivery, &mut self.places, ended);
-            return came;
-        };
         self.delivery.law();
-        let waiter = Waiter {
-            txn,
-            request,
-            at,
-            wanted,
-            until,
-        };
-        self.places.put(txn.slot, Place::Waits(waiter));
-        settle(&mut self.delivery, &mut self.places, ended);
-        self.places.answer(txn.slot, came)
+        match came {
+            Came::Ended(outcome) => {
+                let more = give_back(&mut self.delivery, instant, txn, request, outcome);
+                let due = ended.union(more);
+                settle(&mut self.delivery, &mut self.places, due);
+                came
+            }
+            Came::Waits { at, wanted } => {
+                let waiter = Waiter {
+                    txn,
+                    request,
+                    instant,
+                    at,
+                    wanted,
+                    until,
+                };
+                self.places.put(txn.slot, Place::Waits(waiter));
+                settle(&mut self.delivery, &mut self.places, ended);
+                self.places.answer(txn.slot, came)
+            }
+        }
     }
 
     /// Takes the end of a wait, that of the lowest slot; `None` if there is none.
@@ -203,6 +220,7 @@ impl Waiting {
         let waiter = Waiter {
             txn,
             request: Request::Node { node, mode },
+            instant: false,
             at: node,
             wanted: mode,
             until,
@@ -333,6 +351,13 @@ impl Waiting {
     {
         self.begins.earliest()
     }
+}
+
+/// Whether a request is for an instant: it is said so, and its transaction does not hold the node.
+fn is_for_instant(manager: &Manager, txn: TxnId, node: NodeId, instant: bool) -> bool
+    ensures { result ≡ is_for_instant (state_of manager.now) txn node instant }
+{
+    instant && matches!(manager.mode_on(txn, node), Some(Mode::NL))
 }
 
 /// Whether a command was done.

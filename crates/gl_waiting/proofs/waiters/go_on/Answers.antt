@@ -1,16 +1,34 @@
-use Rattle.std.proofs.Common.{ap, subst, sym, ◌∙◌}
+use Rattle.std.proofs.Common.{◌≡◌, ◌≤◌, ap, arith, inr, refl, sym, ◌∙◌}
 use Rattle.gl_catalog.specs.Manager.{ManagerView, state_of}
-use Rattle.gl_waiting.specs.Ends.{EndsAt, PlaceGoes}
 use Rattle.gl_waiting.specs.Waiters.{came_of}
-use Rattle.gl_waiting.specs.declared.waiter.Place.{Place}
-use Rattle.gl_waiting.specs.declared.waiter.Place.TheVariants as place
-use Rattle.gl_waiting.proofs.GoingOn.{ends_by_path}
+use Rattle.gl_waiting.proofs.Awaiting.{counted_then, ended_then}
+use Rattle.gl_waiting.proofs.GoingOn.{ends_after, ends_by_path}
+use Rattle.gl_waiting.proofs.Runs.{calls_then}
 use Rattle.gl_waiting.proofs.waiters.go_on.Goals as goal
 
 pub returns-clause-place : goal.returns-clause-place
 returns-clause-place c =
-    let now = c.lock_path_through-reached.new.delivery in
-    subst (λ (p : Place). PlaceGoes (EndsAt now) (place.Waits c.args.waiter) p) (sym c.place.ensures)
-    (ends_by_path c.args.delivery.now now c.args.waiter c.args.node c.args.mode c.lock_path_through-reached.result.0 c.came_of-came.result c.requires.path
+    let mid = c.lock_path_through-reached.new.delivery in
+    inr (c.in-Ended.outcome, refl, ends_after c.args.delivery.now mid c.give_back-more.new.delivery c.lock_path_through-reached.ensures.calls c.args.waiter
+    c.in-Ended.outcome
+    (ends_by_path c.args.delivery.now mid c.args.waiter c.args.node c.args.mode c.lock_path_through-reached.result.0 c.in-Ended.outcome c.requires.path
     c.lock_path_through-reached.ensures.locks
-    (c.came_of-came.ensures ∙ ap (λ (m : ManagerView). came_of (state_of m) c.args.waiter.txn c.lock_path_through-reached.result.0) c.manager.ensures))
+    (sym (ap (λ (m : ManagerView). came_of (state_of m) c.args.waiter.txn c.lock_path_through-reached.result.0) c.manager.ensures)
+    ∙ sym c.in-Ended.ensures)) c.give_back-more.ensures.gives)
+
+pub returns-clause-calls : goal.returns-clause-calls
+returns-clause-calls c =
+    calls_then c.args.delivery.now c.lock_path_through-reached.new.delivery c.give_back-more.new.delivery c.lock_path_through-reached.ensures.calls
+    c.give_back-more.ensures.calls
+
+pub returns-clause-ended : goal.returns-clause-ended
+returns-clause-ended c =
+    ended_then (state_of c.args.delivery.now.manager) (state_of c.lock_path_through-reached.new.delivery.manager)
+    (state_of c.give_back-more.new.delivery.manager) c.lock_path_through-reached.result.1 c.give_back-more.result c.union.result c.union.ensures
+    c.law.ensures.lawful c.lock_path_through-reached.ensures.ended c.give_back-more.ensures.ended
+
+pub returns-clause-counted : goal.returns-clause-counted
+returns-clause-counted c =
+    counted_then c.lock_path_through-reached.result.1 c.give_back-more.result c.union.result _ c.lock_path_through-reached.new.delivery.manager.accepted _
+    c.union.ensures c.lock_path_through-reached.ensures.low c.give_back-more.ensures.low c.lock_path_through-reached.ensures.counted
+    c.give_back-more.ensures.counted

@@ -11,8 +11,7 @@ use Rattle.gl_waiting.specs.Waiters.{AwaitBut}
 use Rattle.gl_waiting.specs.declared.waiter.Place.TheVariants as place
 use Rattle.gl_wakes.proofs.Waking.{ended_none}
 use Rattle.gl_waiting.proofs.Awaiting.{await_put, await_still, verdict_still, waiter_there}
-use Rattle.gl_waiting.proofs.GoingOn.{ends_by_verdict, goes_on_path, goes_on_put, goes_on_same}
-use Rattle.gl_waiting.proofs.Runs.{calls_none}
+use Rattle.gl_waiting.proofs.GoingOn.{ends_by_verdict, ends_now, goes_on_path, goes_on_put, goes_on_same}
 use Rattle.gl_waiting.proofs.waiters.look_at.Goals as goal
 
 long : (places : List Place) (slot : ℕ) → length places ≡ most_slots → slot < most_slots → slot < length places
@@ -31,24 +30,21 @@ pub returns-in-End-clause-awaits : goal.returns-in-End-clause-awaits
 returns-in-End-clause-awaits c =
     λ rest h.
     let was = waiter_there _ c.in-Some.waiter c.in-Some.ensures in
-    subst (λ (ps : List Place). AwaitBut (λ u. rest u || has_slot c.empty-in-End.result u) (state_of c.args.delivery.now.manager) ps) (sym c.put.ensures.put)
-    (await_put rest c.args.slot (state_of c.args.delivery.now.manager) c.args.places.now h (state_of c.args.delivery.now.manager) c.empty-in-End.result
+    subst (λ (ps : List Place). AwaitBut (λ u. rest u || has_slot c.give_back.result u) (state_of c.give_back.new.delivery.manager) ps) (sym c.put.ensures.put)
+    (await_put rest c.args.slot (state_of c.args.delivery.now.manager) c.args.places.now h (state_of c.give_back.new.delivery.manager) c.give_back.result
     c.in-Some.waiter.txn (place.Ended c.in-Some.waiter.txn c.in-End.outcome) c.law.ensures.lawful
-    (ended_none (state_of c.args.delivery.now.manager) c.empty-in-End.result) tt (h.own c.args.slot c.in-Some.waiter was).0
+    c.give_back.ensures.ended tt (h.own c.args.slot c.in-Some.waiter was).0
     (long c.args.places.now c.args.slot c.put.ensures.slots c.requires.within) c.requires.within)
 
 pub returns-in-End-clause-goes : goal.returns-in-End-clause-goes
 returns-in-End-clause-goes c =
-    subst (λ (ps : List Place). GoesOn c.args.delivery.now c.args.places.now c.args.delivery.now ps) (sym c.put.ensures.put)
-    (goes_on_put c.args.delivery.now c.args.delivery.now (calls_none c.args.delivery.now) c.args.places.now c.args.slot c.in-Some.waiter
+    subst (λ (ps : List Place). GoesOn c.args.delivery.now c.args.places.now c.give_back.new.delivery ps) (sym c.put.ensures.put)
+    (goes_on_put c.args.delivery.now c.give_back.new.delivery c.give_back.ensures.calls c.args.places.now c.args.slot c.in-Some.waiter
     (place.Ended c.in-Some.waiter.txn c.in-End.outcome) (long c.args.places.now c.args.slot c.put.ensures.slots c.requires.within)
     (waiter_there _ c.in-Some.waiter c.in-Some.ensures)
-    (inr (
-      c.in-End.outcome,
-      refl,
-      ends_by_verdict c.args.delivery.now c.in-Some.waiter c.in-Some-verdict.verdict c.in-End.outcome c.in-Some-verdict.ensures
-          c.in-End.ensures,
-    )))
+    (inr (c.in-End.outcome, refl, ends_now c.args.delivery.now c.give_back.new.delivery c.in-Some.waiter c.in-End.outcome
+    (ends_by_verdict c.args.delivery.now c.in-Some.waiter c.in-Some-verdict.verdict c.in-End.outcome c.in-Some-verdict.ensures c.in-End.ensures)
+    c.give_back.ensures.gives)))
 
 pub returns-in_default-clause-goes : goal.returns-in_default-clause-goes
 returns-in_default-clause-goes c = goes_on_same c.args.delivery.now c.args.places.now

@@ -33,13 +33,13 @@ invariant_of-self c =
     let waits = verdict_still s c.args.txn c.args.node c.args.mode c.self.inside.delivery.boxes (sym c.verdict.ensures ∙ c.in_default.is) in
     subst (λ (ps : List Place). Await s ps) (sym c.put.ensures.put)
     (await_more (has_slot no_slots) (λ u. false) s _ (λ u out. no_slots-none u)
-    (await_registered s s c.self.inside.places no_slots (waiter_for c.args.txn (request.Node c.args.node c.args.mode) c.args.until c.args.node c.args.mode)
+    (await_registered s s c.self.inside.places no_slots (waiter_for c.args.txn (request.Node c.args.node c.args.mode) false c.args.until c.args.node c.args.mode)
     c.self.invariant c.law.ensures.lawful (ended_none s no_slots) waits c.put.ensures.slots
     (waits_below s c.args.txn c.law.ensures.lawful c.law.ensures.few c.args.node waits)))
 
 -- in the words of a table of waiters
 put_there : (v : WaitingView) (t : TxnId) (node : NodeId) (mode : Mode) (until : Option ℕ) (o : Option (Result Grant Stop)) (ps : List Place) → o ≡ None
-    → ps ≡ slice_set v.places t.slot (place.Waits (waiter_for t (request.Node node mode) until node mode))
+    → ps ≡ slice_set v.places t.slot (place.Waits (waiter_for t (request.Node node mode) false until node mode))
     → AwaitsBy o v t node mode until (came.Waits node mode) (record v { places = ps })
 put_there v t node mode until (Some verdict) ps is put = absurd (cc is)
 put_there v t node mode until None ps is put = (refl, ap (λ (x : List Place). record v { places = x }) put)
