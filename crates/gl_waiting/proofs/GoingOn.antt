@@ -16,7 +16,6 @@ use Rattle.gl_waiting.specs.Ends.{EndsAt, EndsBetween, EndsInTime, GivesBack, Go
 use Rattle.gl_waiting.specs.Going.{Calls}
 use Rattle.gl_waiting.specs.Paths.{LocksThrough}
 use Rattle.gl_waiting.specs.Waiters.{IsInTime, StillRequests, came_of, has_more, next_after, next_of, outcome_of, place_at, place_of}
-use Rattle.gl_waiting.specs.declared.waiter.Came.{Came}
 use Rattle.gl_waiting.specs.declared.waiter.Came.TheVariants as came
 use Rattle.gl_waiting.specs.declared.waiter.Next.TheVariants as next
 use Rattle.gl_waiting.specs.declared.waiter.Outcome.{Outcome}

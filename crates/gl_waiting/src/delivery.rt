@@ -1,7 +1,7 @@
 //! A registry with a notice box for each slot.
 
 ghost use Rattle.gl_slots.specs.Limit.{most_slots};
-ghost use Rattle.std.specs.Prelude.{◌≡◌, ◌<◌, ◌||◌, ◌==◌, ℕ, [], false};
+ghost use Rattle.std.specs.Prelude.{◌≡◌, ◌<◌, ◌||◌, ◌==◌, ℕ, [], false, None, replicate};
 ghost use Rattle.std.specs.List.{list_any};
 ghost use Rattle.gl_slots.specs.Slots.{has_slot};
 ghost use Rattle.gl_catalog.specs.Manager.{IsLawfulManager, state_of};
@@ -47,6 +47,17 @@ impl Model for Delivery {
 }
 
 impl Delivery {
+    /// A registry over which nobody has a notice.
+    pub fn new(registry: Registry) -> Self
+        ensures registry { registry_in result ≡ registry }
+        ensures boxes { result.boxes ≡ replicate most_slots None }
+    {
+        Delivery {
+            registry,
+            boxes: Boxes::new(),
+        }
+    }
+
     /// The law of every registry.
     pub fn law(&self)
         ensures { IsLawfulManager self.now.manager }

@@ -5,6 +5,8 @@
 mod begins;
 mod delivery;
 mod places;
+#[cfg(test)]
+mod tests;
 mod tries;
 mod waiter;
 mod waiters;

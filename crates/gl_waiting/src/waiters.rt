@@ -76,7 +76,13 @@ fn look_at(delivery: &mut Delivery, places: &mut Places, slot: Slot) -> Slots
     match waiter.next(verdict) {
         Next::End(outcome) => {
             places.put(slot, Place::Ended(waiter.txn, outcome));
-            give_back(delivery, waiter.instant, waiter.txn, waiter.request, outcome)
+            give_back(
+                delivery,
+                waiter.instant,
+                waiter.txn,
+                waiter.request,
+                outcome,
+            )
         }
         Next::GoOn { node, mode } => {
             let (place, ended) = go_on(delivery, waiter, node, mode);
@@ -103,7 +109,13 @@ fn go_on(delivery: &mut Delivery, waiter: Waiter, node: NodeId, mode: Mode) -> (
         return (waiter.place(came), ended);
     };
     delivery.law();
-    let more = give_back(delivery, waiter.instant, waiter.txn, waiter.request, outcome);
+    let more = give_back(
+        delivery,
+        waiter.instant,
+        waiter.txn,
+        waiter.request,
+        outcome,
+    );
     (Place::Ended(waiter.txn, outcome), ended.union(more))
 }
 

@@ -1,8 +1,8 @@
-use Rattle.std.proofs.Common.{Bool, ◌≡◌, refl, subst, sym, ◌∙◌}
+use Rattle.std.proofs.Common.{Bool, refl, subst, sym, ◌∙◌}
 use Rattle.gl_modes.specs.declared.node.NodeId.{NodeId}
 use Rattle.gl_waiting.specs.Ends.{Unlocks, UnlocksIf}
 use Rattle.gl_waiting.specs.Waiters.{node_in}
-use Rattle.gl_waiting.proofs.Awaiting.{carries_counted, carries_low}
+use Rattle.gl_waiting.proofs.Awaiting.{carries_counted}
 use Rattle.gl_waiting.proofs.Runs.{calls_one}
 use Rattle.gl_waiting.proofs.waiters.give_back.Goals as goal
 

@@ -1,4 +1,4 @@
-use Rattle.std.proofs.Common.{◌≡◌, ◌≤◌, ap, arith, inr, refl, sym, ◌∙◌}
+use Rattle.std.proofs.Common.{ap, inr, refl, sym, ◌∙◌}
 use Rattle.gl_catalog.specs.Manager.{ManagerView, state_of}
 use Rattle.gl_waiting.specs.Waiters.{came_of}
 use Rattle.gl_waiting.proofs.Awaiting.{counted_then, ended_then}
@@ -9,12 +9,16 @@ use Rattle.gl_waiting.proofs.waiters.go_on.Goals as goal
 pub returns-clause-place : goal.returns-clause-place
 returns-clause-place c =
     let mid = c.lock_path_through-reached.new.delivery in
-    inr (c.in-Ended.outcome, refl, ends_after c.args.delivery.now mid c.give_back-more.new.delivery c.lock_path_through-reached.ensures.calls c.args.waiter
-    c.in-Ended.outcome
-    (ends_by_path c.args.delivery.now mid c.args.waiter c.args.node c.args.mode c.lock_path_through-reached.result.0 c.in-Ended.outcome c.requires.path
-    c.lock_path_through-reached.ensures.locks
-    (sym (ap (λ (m : ManagerView). came_of (state_of m) c.args.waiter.txn c.lock_path_through-reached.result.0) c.manager.ensures)
-    ∙ sym c.in-Ended.ensures)) c.give_back-more.ensures.gives)
+    inr (
+      c.in-Ended.outcome,
+      refl,
+      ends_after c.args.delivery.now mid c.give_back-more.new.delivery c.lock_path_through-reached.ensures.calls c.args.waiter
+          c.in-Ended.outcome
+          (ends_by_path c.args.delivery.now mid c.args.waiter c.args.node c.args.mode c.lock_path_through-reached.result.0 c.in-Ended.outcome c.requires.path
+          c.lock_path_through-reached.ensures.locks
+          (sym (ap (λ (m : ManagerView). came_of (state_of m) c.args.waiter.txn c.lock_path_through-reached.result.0) c.manager.ensures)
+          ∙ sym c.in-Ended.ensures)) c.give_back-more.ensures.gives,
+    )
 
 pub returns-clause-calls : goal.returns-clause-calls
 returns-clause-calls c =

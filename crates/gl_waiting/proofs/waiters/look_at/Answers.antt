@@ -9,7 +9,6 @@ use Rattle.gl_slots.specs.Slots.{has_slot}
 use Rattle.gl_waiting.specs.Ends.{GoesOn}
 use Rattle.gl_waiting.specs.Waiters.{AwaitBut}
 use Rattle.gl_waiting.specs.declared.waiter.Place.TheVariants as place
-use Rattle.gl_wakes.proofs.Waking.{ended_none}
 use Rattle.gl_waiting.proofs.Awaiting.{await_put, await_still, verdict_still, waiter_there}
 use Rattle.gl_waiting.proofs.GoingOn.{ends_by_verdict, ends_now, goes_on_path, goes_on_put, goes_on_same}
 use Rattle.gl_waiting.proofs.waiters.look_at.Goals as goal
@@ -42,9 +41,13 @@ returns-in-End-clause-goes c =
     (goes_on_put c.args.delivery.now c.give_back.new.delivery c.give_back.ensures.calls c.args.places.now c.args.slot c.in-Some.waiter
     (place.Ended c.in-Some.waiter.txn c.in-End.outcome) (long c.args.places.now c.args.slot c.put.ensures.slots c.requires.within)
     (waiter_there _ c.in-Some.waiter c.in-Some.ensures)
-    (inr (c.in-End.outcome, refl, ends_now c.args.delivery.now c.give_back.new.delivery c.in-Some.waiter c.in-End.outcome
-    (ends_by_verdict c.args.delivery.now c.in-Some.waiter c.in-Some-verdict.verdict c.in-End.outcome c.in-Some-verdict.ensures c.in-End.ensures)
-    c.give_back.ensures.gives)))
+    (inr (
+      c.in-End.outcome,
+      refl,
+      ends_now c.args.delivery.now c.give_back.new.delivery c.in-Some.waiter c.in-End.outcome
+          (ends_by_verdict c.args.delivery.now c.in-Some.waiter c.in-Some-verdict.verdict c.in-End.outcome c.in-Some-verdict.ensures c.in-End.ensures)
+          c.give_back.ensures.gives,
+    )))
 
 pub returns-in_default-clause-goes : goal.returns-in_default-clause-goes
 returns-in_default-clause-goes c = goes_on_same c.args.delivery.now c.args.places.now
