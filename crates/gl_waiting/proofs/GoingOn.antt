@@ -12,7 +12,7 @@ use Rattle.gl_wakes.specs.declared.grant.Grant.{Grant}
 use Rattle.gl_wakes.specs.declared.grant.Stop.{Stop}
 use Rattle.gl_waiting.specs.Begins.{is_over}
 use Rattle.gl_waiting.specs.Delivering.{DeliveryView}
-use Rattle.gl_waiting.specs.Ends.{EndsAt, EndsBetween, EndsInTime, GivesBack, GoesOn, PlaceGoes, PlaceGoesOn}
+use Rattle.gl_waiting.specs.Ends.{Cancels, EndsAt, EndsBetween, EndsInTime, GivesBack, GoesOn, PlaceGoes, PlaceGoesOn}
 use Rattle.gl_waiting.specs.Going.{Calls}
 use Rattle.gl_waiting.specs.Paths.{LocksThrough}
 use Rattle.gl_waiting.specs.Waiters.{IsInTime, StillRequests, came_of, has_more, next_after, next_of, outcome_of, place_at, place_of}
@@ -198,11 +198,33 @@ in_time_on Ends now (place.Waits w) q (inr (outcome, is, ends)) h = subst (IsInT
 module _ (now : ℕ) (d mid d' : DeliveryView) (one : Calls d mid) (other : Calls mid d') where
   time_first : (w : Waiter) (outcome : Outcome) → EndsInTime now d mid w outcome → EndsInTime now d d' w outcome
   time_first w outcome (inl h) = inl (ends_first d mid d' one other w outcome h)
-  time_first w outcome (inr h) = inr h
+  time_first w outcome (inr (over, h)) = inr (
+    over,
+    record {
+      mid = h.mid;
+      before = h.before;
+      at = h.at;
+      is = h.is;
+      left = h.left;
+      cancels = h.cancels;
+      after = calls_then h.left mid d' h.after other;
+    },
+  )
 
   time_later : (w v : Waiter) (outcome : Outcome) → StillRequests w v → EndsInTime now mid d' v outcome → EndsInTime now d d' w outcome
   time_later w v outcome still (inl h) = inl (ends_later d mid d' one other w v outcome still h)
-  time_later w v outcome still (inr h) = inr (sym (ap (is_over now) still.until) ∙ h.0, h.1)
+  time_later w v outcome still (inr (over, h)) = inr (
+    sym (ap (is_over now) still.until) ∙ over,
+    record {
+      mid = h.mid;
+      before = calls_then d mid h.mid one h.before;
+      at = h.at;
+      is = h.is;
+      left = h.left;
+      cancels = subst (λ (t : TxnId). Cancels t h.mid h.left) still.txn h.cancels;
+      after = h.after;
+    },
+  )
 
   pub times_then : (p q r : Place) → PlaceGoes (EndsInTime now d mid) p q → PlaceGoes (EndsInTime now mid d') q r → PlaceGoes (EndsInTime now d d') p r
   times_then = goes_by (EndsInTime now d mid) (EndsInTime now mid d') (EndsInTime now d d') time_first time_later

@@ -14,7 +14,7 @@ use Rattle.gl_catalog.specs.Paths.{Ask, lock_of}
 use Rattle.gl_catalog.specs.declared.manager.paths.Reached.{Reached}
 use Rattle.gl_registry.specs.Serving.{Applies, ServesBy, touches_rows}
 use Rattle.gl_waiting.specs.Delivering.{Carries, Delivered, DeliveryView, lock_said, registry_in, unlocking}
-use Rattle.gl_waiting.specs.Ends.{EndsBetween, EndsInTime, GivesBack, GoesOn, PlaceGoes, PlaceGoesOn}
+use Rattle.gl_waiting.specs.Ends.{EndsBetween, EndsInTime, EndsLate, GivesBack, GoesOn, PlaceGoes, PlaceGoesOn}
 use Rattle.gl_waiting.specs.Going.{Calls, IsRun}
 use Rattle.gl_waiting.specs.Paths.{LocksThrough}
 use Rattle.gl_waiting.specs.Waiters.{AnswersIn, HasWaiter, node_in, outcome_of, IsInTime, came_of, place_at, waiter_in}
@@ -171,8 +171,8 @@ pub record TimesOut (v : WaitingView) (t : TxnId) (v' : WaitingView) : Type 0 wh
   pub low : v.manager.accepted ≤ v'.manager.accepted
   pub ends : (w : Waiter) → HasWaiter v.places t w → v'.manager.accepted < max_count → place_at v'.places t.slot ≡ place.Ended t (end.TimedOut w.at)
   pub others : (u : ℕ) → u ≢ t.slot → PlaceGoesOn (delivery_in v) (delivery_in v') (place_at v.places u) (place_at v'.places u)
-  pub own : PlaceGoes (λ w outcome. EndsBetween (delivery_in v) (delivery_in v') w outcome ⊎ (outcome ≡ end.TimedOut w.at))
-      (place_at v.places t.slot) (place_at v'.places t.slot)
+  pub own : PlaceGoes (λ w outcome. EndsBetween (delivery_in v) (delivery_in v') w outcome
+      ⊎ ((outcome ≡ end.TimedOut w.at) × EndsLate (delivery_in v) (delivery_in v') w outcome)) (place_at v.places t.slot) (place_at v'.places t.slot)
   pub queue : v'.queue ≡ v.queue
   pub without : ((w : Waiter) → HasWaiter v.places t w → ⊥) → v' ≡ v
 

@@ -9,7 +9,7 @@ use Rattle.gl_wakes.specs.Boxes.{verdict_of}
 use Rattle.gl_wakes.specs.declared.grant.Grant.{Grant}
 use Rattle.gl_wakes.specs.declared.grant.Stop.{Stop}
 use Rattle.gl_waiting.specs.Begins.{is_over}
-use Rattle.gl_waiting.specs.Delivering.{DeliveryView}
+use Rattle.gl_waiting.specs.Delivering.{DeliveryView, registry_in}
 use Rattle.gl_waiting.specs.Going.{Calls}
 use Rattle.gl_waiting.specs.Paths.{LocksThrough}
 use Rattle.gl_waiting.specs.Waiters.{StillRequests, came_of, is_granted_so, next_of, node_in, place_at}
@@ -24,8 +24,9 @@ use Rattle.gl_waiting.specs.declared.waiter.Request.TheVariants as request
 use Rattle.gl_model.specs.Tellings.{Told}
 use Rattle.gl_model.specs.declared.txn.TxnId.{TxnId}
 use Rattle.gl_steps.specs.declared.command.Answer.{Answer}
+use Rattle.gl_steps.specs.declared.command.Answer.TheVariants as answer
 use Rattle.gl_steps.specs.declared.command.Command.TheVariants as command
-use Rattle.gl_registry.specs.Serving.{Applies}
+use Rattle.gl_registry.specs.Serving.{Applies, ServesBy, touches_rows}
 use Rattle.gl_waiting.specs.declared.waiter.Waiter.{Waiter}
 
 -- the wait of a request is over, for the node of now or one before it, and what became of the wait ends the request so
@@ -95,6 +96,21 @@ pub record GoesOn (d : DeliveryView) (places : List Place) (d' : DeliveryView) (
   pub calls : Calls d d'
   pub each : (u : ℕ) → PlaceGoesOn d d' (place_at places u) (place_at places' u)
 
--- how a wait ends whose time is over by now
+-- a transaction's wait is cancelled, as a command of the registry
+pub record Cancels (t : TxnId) (d d' : DeliveryView) : Type 0 where
+  pub told : Told
+  pub serves : ServesBy (touches_rows (registry_in d) (command.Cancel t)) (registry_in d) (command.Cancel t) (Some answer.Done) told (registry_in d')
+
+-- along calls from one delivery to another the time of a wait was over, and it was cancelled
+pub record EndsLate (d d' : DeliveryView) (w : Waiter) (outcome : Outcome) : Type 0 where
+  pub mid : DeliveryView
+  pub before : Calls d mid
+  pub at : NodeId
+  pub is : outcome ≡ end.TimedOut at
+  pub left : DeliveryView
+  pub cancels : Cancels w.txn mid left
+  pub after : Calls left d'
+
+-- how a wait ends whose time may be over by now
 abbrev pub EndsInTime : ℕ → DeliveryView → DeliveryView → Waiter → Outcome → Type 0
-EndsInTime now d d' w outcome = EndsBetween d d' w outcome ⊎ ((is_over now w.until ≡ true) × ((at : NodeId) × (outcome ≡ end.TimedOut at)))
+EndsInTime now d d' w outcome = EndsBetween d d' w outcome ⊎ ((is_over now w.until ≡ true) × EndsLate d d' w outcome)

@@ -1,5 +1,5 @@
 use Rattle.std.proofs.Common.{◌≡◌, ◌⊎◌, ℕ, true, inl, inr, subst, sym, ◌∙◌}
-use Rattle.gl_waiting.specs.Ends.{EndsBetween, EndsInTime}
+use Rattle.gl_waiting.specs.Ends.{EndsBetween, EndsInTime, EndsLate}
 use Rattle.gl_waiting.specs.Begins.{is_over}
 use Rattle.gl_waiting.specs.Delivering.{DeliveryView}
 use Rattle.gl_waiting.specs.Waiters.{place_at}
@@ -13,9 +13,9 @@ use Rattle.gl_waiting.proofs.GoingOn.{each_but, goes_at, goes_with}
 use Rattle.gl_waiting.proofs.waiting.Waiting.expire_at.Goals as goal
 
 late : (now : ℕ) (d d' : DeliveryView) (w : Waiter) (outcome : Outcome) → is_over now w.until ≡ true
-    → EndsBetween d d' w outcome ⊎ (outcome ≡ end.TimedOut w.at) → EndsInTime now d d' w outcome
+    → EndsBetween d d' w outcome ⊎ ((outcome ≡ end.TimedOut w.at) × EndsLate d d' w outcome) → EndsInTime now d d' w outcome
 late now d d' w outcome over (inl ends) = inl ends
-late now d d' w outcome over (inr is) = inr (over, (w.at, is))
+late now d d' w outcome over (inr h) = inr (over, h.1)
 
 pub returns-then-is_over-clause-places : goal.returns-then-is_over-clause-places
 returns-then-is_over-clause-places c =
@@ -29,7 +29,8 @@ returns-then-is_over-clause-places c =
     (subst (λ (k : ℕ). place_at c.self.inside.places k ≡ place.Waits w) (sym mine.0) was) in
     let one = c.time_out.ensures in
     each_but (EndsInTime c.args.now d now) v.places c.time_out.new.self.places w.txn.slot
-    (goes_at (λ x outcome. EndsBetween d now x outcome ⊎ (outcome ≡ end.TimedOut x.at)) (EndsInTime c.args.now d now) w (place_at v.places w.txn.slot) _ had
+    (goes_at (λ x outcome. EndsBetween d now x outcome ⊎ ((outcome ≡ end.TimedOut x.at) × EndsLate d now x outcome)) (EndsInTime c.args.now d now) w
+    (place_at v.places w.txn.slot) _ had
     (λ outcome ends. late c.args.now d now w outcome (sym c.is_over.ensures ∙ c.if-is_over.true) ends) one.own)
     (λ u apart. goes_with (EndsBetween d now) (EndsInTime c.args.now d now) (λ x outcome ends. inl ends) (place_at v.places u)
     (place_at c.time_out.new.self.places u) (one.others u apart))

@@ -9,7 +9,10 @@ use Rattle.gl_steps.specs.declared.command.Answer.{Answer}
 use Rattle.gl_steps.specs.declared.command.Answer.TheVariants as answer
 use Rattle.gl_catalog.specs.Manager.{state_of}
 use Rattle.gl_waiting.specs.Asking.{TimesOut, is_done}
-use Rattle.gl_waiting.specs.Ends.{EndsBetween, GoesOn, PlaceGoes, PlaceGoesOn}
+use Rattle.gl_waiting.specs.Delivering.{registry_in}
+use Rattle.gl_waiting.specs.Ends.{Cancels, EndsBetween, EndsLate, GoesOn, PlaceGoes, PlaceGoesOn}
+use Rattle.gl_registry.specs.Serving.{ServesBy, touches_rows}
+use Rattle.gl_steps.specs.declared.command.Command.TheVariants as command
 use Rattle.gl_waiting.specs.Waiters.{AwaitBut, HasWaiter, place_at}
 use Rattle.gl_waiting.specs.Waiting.{WaitingView, delivery_in}
 use Rattle.gl_waiting.specs.declared.waiter.Outcome.TheVariants as end
@@ -24,6 +27,10 @@ use Rattle.gl_waiting.proofs.waiting.Waiting.time_out.Goals as goal
 -- two words for one waiter
 same_waiter : (p : Place) (v w : Waiter) → p ≡ place.Waits v → p ≡ place.Waits w → v ≡ w
 same_waiter p v w one other = cc (one, other)
+
+done_is : (o : Option Answer) → is_done o ≡ true → o ≡ Some answer.Done
+done_is (Some answer.Done) is = refl
+done_is o is = absurd (cc is)
 
 undone : (o : Option Answer) (a : Answer) → is_done o ≡ false → o ≡ Some a → a ≡ answer.Done → ⊥
 undone o a out one other = true≢false (sym (ap is_done (one ∙ ap (λ (x : Answer). Some x) other)) ∙ out)
@@ -111,8 +118,29 @@ returns c =
           (subst (λ (x : Place). PlaceGoesOn c.serve-answer.new.self c.settle-2.new.delivery x (place_at c.settle-2.new.places u))
           (set_apart c.self.inside.places c.args.txn.slot u over apart) (goes.each u));
       own = subst (λ (x : Place). PlaceGoes (λ w outcome. EndsBetween c.self.inside.delivery c.settle-2.new.delivery w outcome
-          ⊎ (outcome ≡ end.TimedOut w.at)) x (place_at c.settle-2.new.places c.args.txn.slot)) (sym has.0)
-          (inr (end.TimedOut c.in-Some.waiter.at, ended ∙ ap (λ (t : TxnId). place.Ended t (end.TimedOut c.in-Some.waiter.at)) (sym has.1), inr refl));
+          ⊎ ((outcome ≡ end.TimedOut w.at) × EndsLate c.self.inside.delivery c.settle-2.new.delivery w outcome)) x
+          (place_at c.settle-2.new.places c.args.txn.slot)) (sym has.0)
+          (inr (
+            end.TimedOut c.in-Some.waiter.at,
+            ended ∙ ap (λ (t : TxnId). place.Ended t (end.TimedOut c.in-Some.waiter.at)) (sym has.1),
+            inr (
+              refl,
+              record {
+                mid = c.self.inside.delivery;
+                before = calls_none c.self.inside.delivery;
+                at = c.in-Some.waiter.at;
+                is = refl;
+                left = c.serve-answer.new.self;
+                cancels = subst (λ (t : TxnId). Cancels t c.self.inside.delivery c.serve-answer.new.self) (sym has.1) (record {
+                  told = c.serve-answer.new.told.items;
+                  serves = subst (λ (o : Option Answer). ServesBy (touches_rows (registry_in c.self.inside.delivery) (command.Cancel c.args.txn))
+                      (registry_in c.self.inside.delivery) (command.Cancel c.args.txn) o c.serve-answer.new.told.items (registry_in c.serve-answer.new.self))
+                      (done_is c.serve-answer.result.0 (sym c.is_done.ensures ∙ c.if-not-is_done.false)) c.serve-answer.ensures.serves;
+                });
+                after = goes.calls;
+              },
+            ),
+          ));
       queue = refl;
       without = λ none. absurd (none c.in-Some.waiter has);
     })
