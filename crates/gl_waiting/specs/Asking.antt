@@ -135,7 +135,7 @@ Replies t (came.Ended outcome) places c places' = (c ≡ came.Ended outcome) × 
 Replies t (came.Waits at wanted) places c places' = AnswersIn (place_at places t.slot) t.slot places (came.Waits at wanted) c places'
 
 -- a request is carried out; one that waits is registered; waiters go on, and the request may be one of them
-pub record Asks (v : WaitingView) (t : TxnId) (asked : Request) (instant : Bool) (until : Option ℕ) (answer : Came) (told : Told) (v' : WaitingView) : Type 0 where
+pub record Asks (v : WaitingView) (t : TxnId) (asked : Request) (instant : Bool) (until : Option ℕ) (c : Came) (told : Told) (v' : WaitingView) : Type 0 where
   pub first : Came
   pub served : DeliveryView
   pub requests : Requests (delivery_in v) t asked first told served
@@ -145,7 +145,7 @@ pub record Asks (v : WaitingView) (t : TxnId) (asked : Request) (instant : Bool)
   pub gives : GivesBackFirst (is_for_instant (state_of v.manager) t (node_in asked) instant) t asked first served left
   pub after : List Place
   pub goes : GoesOn left (registered t asked (is_for_instant (state_of v.manager) t (node_in asked) instant) until first v.places) (delivery_in v') after
-  pub replies : Replies t first after answer v'.places
+  pub replies : Replies t first after c v'.places
   pub queue : v'.queue ≡ v.queue
 
 -- the transaction has a waiter, whichever

@@ -31,9 +31,10 @@ pub invariant_of-self : goal.invariant_of-self
 invariant_of-self c =
     let s = state_of c.self.inside.delivery.manager in
     let waits = verdict_still s c.args.txn c.args.node c.args.mode c.self.inside.delivery.boxes (sym c.verdict.ensures ∙ c.in_default.is) in
+    let waiter = waiter_for c.args.txn (request.Node c.args.node c.args.mode) false c.args.until c.args.node c.args.mode in
     subst (λ (ps : List Place). Await s ps) (sym c.put.ensures.put)
     (await_more (has_slot no_slots) (λ u. false) s _ (λ u out. no_slots-none u)
-    (await_registered s s c.self.inside.places no_slots (waiter_for c.args.txn (request.Node c.args.node c.args.mode) false c.args.until c.args.node c.args.mode)
+    (await_registered s s c.self.inside.places no_slots waiter
     c.self.invariant c.law.ensures.lawful (ended_none s no_slots) waits c.put.ensures.slots
     (waits_below s c.args.txn c.law.ensures.lawful c.law.ensures.few c.args.node waits)))
 
