@@ -17,7 +17,7 @@ use Rattle.gl_model.specs.Tellings.{Told}
 use Rattle.gl_steps.specs.declared.command.Answer.{Answer}
 use Rattle.gl_steps.specs.declared.command.Command.{Command}
 use Rattle.gl_steps.proofs.StepsKeepLaw.{steps_keep_law}
-use Rattle.gl_fairness.specs.Passed.{PassedAtMost, PassesAreSpent, RaisesEnd, is_granted_past, passes, passes_left, passes_through, raises_left}
+use Rattle.gl_fairness.specs.Passed.{EachPassesAtMost, PassedAtMost, PassesAreSpent, RaisesEnd, is_granted_past, passes, passes_left, passes_left_to, passes_of, passes_through, raises_left}
 use Rattle.gl_fairness.specs.Waiting.{WaitsThrough, stands_before}
 use Rattle.gl_fairness.proofs.Before.{KeepsBefore}
 use Rattle.gl_fairness.proofs.Served.{other_slot, waits_first}
@@ -69,7 +69,7 @@ at_most_four p f (u ∷ us) each =
 -- One slot over a step.
 module _ (s s' : State) (t : TxnId) (n : NodeId) (kept : KeepsBefore s s' t.slot n) (u : ℕ) where
   abbrev left : State → ℕ
-  left x = if stands_before x t n u then raises_left (x.held u n) else 0
+  left x = passes_left_to x t n u
 
   left_is : (x : State) → stands_before x t n u ≡ true → left x ≡ raises_left (x.held u n)
   left_is x h = ap (λ b. if b then raises_left (x.held u n) else 0) h
@@ -133,3 +133,27 @@ run_spent s s' (c ∷ cs) (r ∷ rs) t n law run =
 pub passed_at_most : PassedAtMost
 passed_at_most s s' cs rs t n law run =
     (run_spent s s' cs rs t n law run, at_most_four (stands_before s t n) (λ u. raises_left (s.held u n)) (slots s) (λ u. few_raises (s.held u n)))
+
+-- One other over a run.
+
+each_spent : (s s' : State) (cs : List Command) (rs : List (Answer × Told)) (t : TxnId) (n : NodeId) (u : ℕ) → IsLawful s
+    → (run : WaitsThrough t n s cs rs s') → passes_of u t n s cs rs s' run + passes_left_to s' t n u ≤ passes_left_to s t n u
+each_spent s s' [] [] t n u law run =
+    let same : passes_left_to s' t n u ≡ passes_left_to s t n u = ap (λ x. passes_left_to x t n u) run.1 in omega arith
+each_spent s s' [] (r ∷ rs) t n u law run = absurd run
+each_spent s s' (c ∷ cs) [] t n u law run = absurd run
+each_spent s s' (c ∷ cs) (r ∷ rs) t n u law run =
+    let mid = run.1 in
+    let first = slot_spent s mid t n (step_before s mid c r.0 r.1 t n law run.2 run.0 (waits_first t n mid cs rs s' run.3)) u in
+    let rest = each_spent mid s' cs rs t n u (steps_keep_law s mid c r.0 r.1 law run.2) run.3 in
+    omega arith
+
+few_left : (s : State) (t : TxnId) (n : NodeId) (u : ℕ) → passes_left_to s t n u ≤ 4
+few_left s t n u = by (stands_before s t n u)
+  where
+    by : (b : Bool) → (if b then raises_left (s.held u n) else 0) ≤ 4
+    by true = few_raises (s.held u n)
+    by false = omega arith
+
+pub each_passes_at_most : EachPassesAtMost
+each_passes_at_most s s' cs rs t n u law run = (each_spent s s' cs rs t n u law run, few_left s t n u)

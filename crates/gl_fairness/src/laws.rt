@@ -1,7 +1,7 @@
 //! The laws of waiting, each the contract of a call that does nothing.
 
 ghost use Rattle.gl_fairness.specs.Ends.{WaitsEnd, WaitsForOneBefore, WaitsForSomebody};
-ghost use Rattle.gl_fairness.specs.Passed.{PassedAtMost, PassesAreSpent, RaisesEnd};
+ghost use Rattle.gl_fairness.specs.Passed.{EachPassesAtMost, PassedAtMost, PassesAreSpent, RaisesEnd};
 ghost use Rattle.gl_fairness.specs.Turns.{EmptyIsKnown, VictimAfterALiving, VictimAfterOthers, VictimAfterSomebody};
 ghost use Rattle.gl_fairness.specs.Turns.{FirstIsNeverVictim, NoMoreComeBefore, RunsKeepKnown};
 ghost use Rattle.gl_fairness.specs.Waiting.{FirstComeFirstServed, NobodyComesBetween};
@@ -19,11 +19,12 @@ pub fn first_come_first_served()
 /// While a transaction waits on a node, others are granted that node a bounded number of times:
 /// each such grant raises one before it, and none can be raised more than four times. The raises
 /// left to those before it never grow, and each grant to another uses one of them. So along a run
-/// there are at most four for each that was before it when the run began.
+/// each that was before it when the run began is granted at most four times, and all others never.
 pub fn passed_at_most()
     ensures raise { RaisesEnd }
     ensures step { PassesAreSpent }
     ensures run { PassedAtMost }
+    ensures each { EachPassesAtMost }
 {}
 
 /// Each waiter on a node waits for a transaction that lives and is before it there. If it has
