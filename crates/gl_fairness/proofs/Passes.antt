@@ -17,7 +17,8 @@ use Rattle.gl_model.specs.Tellings.{Told}
 use Rattle.gl_steps.specs.declared.command.Answer.{Answer}
 use Rattle.gl_steps.specs.declared.command.Command.{Command}
 use Rattle.gl_steps.proofs.StepsKeepLaw.{steps_keep_law}
-use Rattle.gl_fairness.specs.Passed.{EachPassesAtMost, PassedAtMost, PassesAreSpent, RaisesEnd, is_granted_past, passes, passes_left, passes_left_to, passes_of, passes_through, raises_left}
+use Rattle.gl_fairness.specs.Passed.{EachPassesAtMost, PassedAtMost, PassesAreSpent, RaisesEnd, is_granted_past, passes, passes_left, passes_left_to}
+use Rattle.gl_fairness.specs.Passed.{passes_of, passes_through, raises_left}
 use Rattle.gl_fairness.specs.Waiting.{WaitsThrough, stands_before}
 use Rattle.gl_fairness.proofs.Before.{KeepsBefore}
 use Rattle.gl_fairness.proofs.Served.{other_slot, waits_first}
