@@ -53,7 +53,7 @@
  *     that watches, or the one that ends the table. If one command ended several waits, their ends are told by rising
  *     slots. Two threads may call the callback at once.
  *   - An ask whose wait ends before it releases the latch for the last time is answered with that end, and has no call.
- *     So the call is never made within the ask itself. But what the asker writes after its ask may not be there yet:
+ *     So the call is never made within the ask itself. But what the caller writes after its ask may not be there yet:
  *     the word must give all that the callback needs.
  *   - A path continues by itself, in the critical section of the thread that granted a lock on its way, and a row is
  *     asked for again there.

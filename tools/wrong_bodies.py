@@ -248,7 +248,8 @@ def words_of(name, folder):
 
 
 def verdicts(crate, folder, functions):
-    """Whether each function of the crate's copy is proved, of these or of all; and the last of what was said."""
+    """Whether each function of the crate's copy is proved, of these or of all, and whether it is only not because one that
+    it calls is not; and the last of what was said."""
     words = [f"{KIT}/bin/rattle", "check", *words_of(crate, folder)]
     for path in functions:
         words += ["--only", path]
@@ -256,8 +257,8 @@ def verdicts(crate, folder, functions):
     said = ran.stdout + ran.stderr
     broken = re.search(r"^\S+\.rt:\d+:\d+: error\[.*", said, re.M)
     last = broken.group(0) if broken else (said.strip().splitlines() or ["nothing said"])[-1][:200]
-    lines = [] if broken else re.findall(r"^fn (\S+): (proved|not proved|no proof)", said, re.M)
-    return [(name, what == "proved") for name, what in lines], last
+    lines = [] if broken else re.findall(r"^fn (\S+): (proved|not proved|no proof)(?:: (it calls) `)?", said, re.M)
+    return [(name, what == "proved", bool(calls)) for name, what, calls in lines], last
 
 
 def in_copy(edits, work):
@@ -279,7 +280,7 @@ def attempt(edit):
             # (a name that the prover does not know is no function's: then the whole crate is checked)
             if not said and not functions:
                 return "bad", f"no verdict on {', '.join(functions) or 'the crate'}: {last}"
-            refused = next((name for name, is_proved in said if not is_proved), None)
+            refused = next((name for name, is_proved, _ in said if not is_proved), None)
             if refused:
                 return "refused", refused
         return "not refused", ", ".join(edit.functions)
@@ -288,14 +289,15 @@ def attempt(edit):
 
 
 def attempt_all(edits):
-    """What becomes of wrong bodies of one crate that change different functions: together where each is refused so."""
+    """What becomes of wrong bodies of one crate that change different functions: together where each is refused so, and
+    alone where a function may lack its proof because of another's edit."""
 
     def at_once(folder):
         said, _ = verdicts(edits[0].crate, folder, sorted(path for it in edits for path in it.functions))
         found = {}
         for it in edits:
             changes = lambda name, it=it: any(f"::{name}".endswith(f"::{end}") for end in it.functions)
-            lacks = [name for name, is_proved in said if not is_proved and changes(name)]
+            lacks = [name for name, is_proved, by_callee in said if not (is_proved or by_callee) and changes(name)]
             if lacks:
                 found[it] = "refused", lacks[0]
         return found
