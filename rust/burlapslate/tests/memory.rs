@@ -401,7 +401,7 @@ fn a_watch_ends_it() -> bool {
     })
 }
 
-/// The one that watches reads a board that could not be shown, for want of memory.
+/// The one that watches reads a board that could not be shown, since memory ran out.
 #[test]
 fn a_watch_takes_no_old_board() {
     let unshown = (0..20).filter(|_| a_watch_ends_it()).count();
