@@ -1,9 +1,9 @@
 use Rattle.gl_table.proofs.Words.{List, NodeId, ap, arith, holds, length, list_any, members, nodes_by, none_some, not, or-false, true, ◌&&◌, ◌-◌}
-use Rattle.gl_table.proofs.Words.{◌||◌, ◌∙◌, ◌≡◌}
+use Rattle.gl_table.proofs.Words.{◌||◌, ◌∙◌, ◌≡◌, is_wait, status_in}
 use Rattle.gl_table.proofs.Words.{same_node, slice_get, slice_get-get_or, refl, false, Some, State, state_in, subst, sym, take, ℕ}
 use Rattle.std.proofs.lemmas.List.{take_all}
 use Rattle.gl_lock_lists.proofs.Children.{nl_is}
-use Rattle.gl_model.proofs.telling.Fronts.{in_no_queue}
+use Rattle.gl_model.proofs.telling.Fronts.{in_no_queue, stands_other, waits_there}
 use Rattle.gl_table.proofs.inside.Departures.{holds_after, IsLeaving, leaving_begins, leaving_one, leaving_order, leaving_out, left_released}
 use Rattle.gl_table.proofs.inside.Orders.{all_but_this, among_these, listed_as, node_there, rows_are, unique_at}
 use Rattle.gl_table.proofs.ledger.Ledger.leave_all.Goals.{In-Some}
@@ -40,6 +40,19 @@ module _ (c : In-Some) where
 
 pub drop_and_wake-requires-clause-holds : goal.drop_and_wake-requires-clause-holds
 drop_and_wake-requires-clause-holds c = held (goal.at.drop_and_wake-requires-clause-holds c).In-Some
+
+pub drop_and_wake-requires-clause-waiters : goal.drop_and_wake-requires-clause-waiters
+drop_and_wake-requires-clause-waiters c =
+    let is = c.loop-at.invariant.leaving in
+    let other = λ (u : ℕ). stands_other (state_in c.args.graph.now c.loop-at.self) is.orderly c.args.slot
+    (ap (λ x. is_wait (status_in x)) is.txn ∙ c.requires.quiet) u c.in-Some.node in
+    record { sound = c.loop-at.invariant.sound; orderly = is.orderly; agree = λ u h. is.agree u (other u h); count = λ u h. is.count u (other u h) }
+
+pub drop_and_wake-requires-clause-tell : goal.drop_and_wake-requires-clause-tell
+drop_and_wake-requires-clause-tell c = let is = c.loop-at.invariant.leaving in record {
+  by_slot = is.by_slot;
+  untold = λ u h. is.untold u (ap is_wait (waits_there (state_in c.args.graph.now c.loop-at.self) is.orderly u c.in-Some.node h).1);
+}
 
 pub loop-at-preserved-in-Some : goal.loop-at-preserved-in-Some
 loop-at-preserved-in-Some c =
