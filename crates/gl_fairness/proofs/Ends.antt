@@ -1,32 +1,36 @@
 -- Each waiter waits for one that lives and is before it, so its wait has ended when all of those have.
 use Rattle.std.specs.Prelude.{◌≡◌, ◌⊎◌, ℕ, Bool, true, false, not, ◌&&◌, ◌||◌, ◌==◌, List, [], ◌∷◌, Option, Some, None, if◌then◌else◌, is_some}
 use Rattle.std.specs.List.{filter, list_all, range_with_len}
-use Rattle.std.proofs.Common.{refl, sym, ap, arith, inl, inr, ⊎_elim, ◌∙◌}
+use Rattle.std.proofs.Common.{refl, sym, ap, arith, inl, inr, ⊎_elim, ◌∙◌, subst}
 use Rattle.std.proofs.lemmas.Bool.Decides.{nat_tests}
-use Rattle.gl_modes.proofs.ModeLemmas.{NL-compatible}
-use Rattle.gl_modes.proofs.Words.{and_both, both, clash, number_same, or_elim, or_left, or_right, split}
+use Rattle.gl_modes.proofs.ModeLemmas.{NL-compatible, same_mode-equal}
+use Rattle.gl_modes.proofs.Words.{and_both, both, clash, number_same, or_elim, or_left, or_right, split, none_some}
 use Rattle.gl_modes.specs.declared.mode.Mode.{Mode}
 use Rattle.gl_modes.specs.declared.node.NodeId.{NodeId}
 use Rattle.gl_modes.specs.Modes.{are_compatible, same_mode}
 use Rattle.gl_modes.specs.declared.mode.Mode.TheVariants.{NL}
 use Rattle.gl_header.specs.Header.{Waiter, fits, front, holds, is_among_waiters, is_waiter, with_mode}
-use Rattle.gl_model.specs.declared.txn.Status.TheVariants.{Waiting}
+use Rattle.gl_model.specs.declared.txn.Status.TheVariants.{Waiting, Active, Condemned}
 use Rattle.gl_model.specs.declared.txn.TxnId.{TxnId}
+use Rattle.gl_model.specs.declared.answers.Notice.TheVariants as notice
 use Rattle.gl_model.specs.Lawful.{IsLawful}
 use Rattle.gl_model.specs.State.{State, Txn, age_in, age_of, blocks, live_by, members, status_of}
-use Rattle.gl_model.specs.Tellings.{Told}
+use Rattle.gl_model.specs.Tellings.{Told, notice_of}
 use Rattle.gl_model.proofs.law.Keeps.{nl_is, waiting_is}
 use Rattle.gl_model.proofs.queues.Waiters.{ahead, ahead_is, no_cons}
 use Rattle.gl_steps.specs.declared.command.Answer.{Answer}
 use Rattle.gl_steps.specs.declared.command.Command.{Command}
-use Rattle.gl_steps.specs.Promises.{SomeStep, waits_on}
+use Rattle.gl_steps.specs.Promises.{SomeStep, waits_on, IsToldEnd, is_told_that, ends_wait_of}
 use Rattle.gl_steps.specs.Step.{Run}
 use Rattle.gl_steps.proofs.StepsKeepLaw.{runs_keep_law, steps_keep_law}
-use Rattle.gl_steps.proofs.WaitsEnd.{ends_waits}
-use Rattle.gl_fairness.specs.Ends.{EndsWait, IsWaitedFor, WaitsEnd, WaitsForOneBefore, WaitsForSomebody}
+use Rattle.gl_steps.proofs.WaitsEnd.{waits_end_so}
+use Rattle.gl_fairness.specs.Ends.{EndsWait, IsWaitedFor, WaitsEnd, WaitsForOneBefore, WaitsForSomebody, EndsSomehow}
 use Rattle.gl_fairness.specs.Waiting.{WaitsThrough}
 use Rattle.gl_fairness.proofs.Before.{before, stands_in}
 use Rattle.gl_fairness.proofs.Served.{before_lives, nobody_comes_between}
+use Rattle.gl_graph.specs.Graph.{is_live}
+use Rattle.gl_model.specs.declared.txn.Status.{Status}
+use Rattle.gl_model.specs.declared.answers.Notice.{Notice}
 
 -- For whom the wait at the front of a queue is, and for whom every other.
 
@@ -111,6 +115,28 @@ waits_for_one_before s s' cs rs t n law run =
     let stood = nobody_comes_between s s' cs rs t n law run one.0 one.1.before in
     (one.0, one.1, stood.0, stood.1)
 
+-- what a notice says of the end of a wait
+noticed : (t : TxnId) (n : NodeId) (m : Mode) (c : Command) (told : Told) (s' : State) (o : Option Status) → status_of s' t.slot ≡ o → (x : Notice)
+    → notice_of s' t.slot n m o ≡ Some x → is_told_that t x told ≡ true → EndsSomehow t n m c told s'
+noticed t n m c told s' None st x is tells = absurd (none_some is)
+noticed t n m c told s' (Some (Waiting q w)) st x is tells = absurd (none_some is)
+noticed t n m c told s' (Some Condemned) st x is tells =
+    let e : notice.Victim ≡ x = cc in inr (inl (record { told_so = subst (λ y. is_told_that t y told ≡ true) (sym e) tells; condemned = st }))
+noticed t n m c told s' (Some Active) st x is tells = by (is_live s'.graph n) refl (same_mode (s'.held t.slot n) m) refl is
+  where
+    by : (a : Bool) → is_live s'.graph n ≡ a → (b : Bool) → same_mode (s'.held t.slot n) m ≡ b
+        → (if not a then Some notice.Gone else (if b then Some (notice.Granted n m) else Some notice.Moved)) ≡ Some x → EndsSomehow t n m c told s'
+    by false a b h e = let f : notice.Gone ≡ x = cc in
+        inr (inr (inr (inl (record { told_so = subst (λ y. is_told_that t y told ≡ true) (sym f) tells; gone = a }))))
+    by true a true h e = let f : notice.Granted n m ≡ x = cc in
+        inl (record { told_so = subst (λ y. is_told_that t y told ≡ true) (sym f) tells; held = same_mode-equal _ _ h })
+    by true a false h e = let f : notice.Moved ≡ x = cc in
+        inr (inr (inl (record { told_so = subst (λ y. is_told_that t y told ≡ true) (sym f) tells; lives = a })))
+
+ended_so : (t : TxnId) (n : NodeId) (m : Mode) (c : Command) (told : Told) (s' : State) → IsToldEnd t n m told s' ⊎ (ends_wait_of t c ≡ true)
+    → EndsSomehow t n m c told s'
+ended_so t n m c told s' = ⊎_elim (λ x. noticed t n m c told s' (status_of s' t.slot) refl x.0 x.1 x.2) (λ named. inr (inr (inr (inr named))))
+
 -- a run either is one along which the wait lasts, or some step of it ends the wait
 lasts_or_ends : (s s' : State) (cs : List Command) (rs : List (Answer × Told)) (t : TxnId) (n : NodeId) → IsLawful s → Run s cs rs s' → waits_on s t n ≡ true
     → WaitsThrough t n s cs rs s' ⊎ SomeStep (EndsWait t n) s cs rs s'
@@ -122,7 +148,13 @@ lasts_or_ends s s' (c ∷ cs) (r ∷ rs) t n law run waits =
     split (waits_on mid t n)
     (λ e. ⊎_elim (λ lasts. inl (waits, mid, run.1, lasts)) (λ ends. inr (mid, run.1, inr ends))
     (lasts_or_ends mid s' cs rs t n (steps_keep_law s mid c r.0 r.1 law run.1) run.2 e))
-    (λ e. inr (mid, run.1, inl ((waits, e, ends_waits s mid c r.0 r.1 t n law run.1 waits e), run.2)))
+    (λ e. let parts = and_both _ _ waits in let w = waiting_is (status_of s t.slot) n parts.1 in
+    inr (mid, run.1, inl (record {
+      wanted = w.0;
+      waited = w.1;
+      over = e;
+      how = ended_so t n w.0 c r.1 mid (waits_end_so s mid c r.0 r.1 t n w.0 law run.1 parts.0 w.1 e);
+    }, run.2)))
 
 -- one that is there with an age lives by it
 there_lives : (age : ℕ) (x : Option Txn) → is_some x ≡ true → age_in x ≡ age → live_by age x ≡ true

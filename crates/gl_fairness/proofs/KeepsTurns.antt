@@ -14,26 +14,11 @@ use Rattle.gl_steps.specs.Step.{Step}
 use Rattle.gl_steps.proofs.Detection.{steps_keep_settings}
 use Rattle.gl_steps.proofs.LivesOn.{SameTurn}
 use Rattle.gl_steps.proofs.StepsKeepLaw.{steps_keep_law}
-use Rattle.gl_fairness.specs.Turns.{AreKnown, ComesFirst, EmptyIsKnown, BecomesVictim, FirstIsNeverVictim, NoMoreComeBefore, RunsKeepKnown, begins_ahead}
+use Rattle.gl_fairness.specs.Turns.{ComesFirst, BecomesVictim, FirstIsNeverVictim, NoMoreComeBefore, begins_ahead}
 use Rattle.gl_fairness.specs.Turns.{comes_before}
 use Rattle.gl_fairness.specs.Waiting.{SameTxn}
 use Rattle.gl_fairness.proofs.VictimOrder.{victim_after_a_living}
 use Rattle.gl_fairness.proofs.Turns.{IsNew, one_turn, step_turn}
-
-pub empty_is_known : EmptyIsKnown
-empty_is_known d c most t h = clash h refl
-
-step_keeps_known : (s s' : State) (c : Command) (a : Answer) (told : Told) → AreKnown s → Step s c a told s' → AreKnown s'
-step_keeps_known s s' c a told known step t h =
-    ⊎_elim (λ same. let old = known t (sym same.there ∙ h) in let e = same.since in let f = same.age in omega (arith, old, e, f))
-    (λ new. let low = new.low in let e = new.age in omega (arith, low, e))
-    (step_turn s s' c a told t step h)
-
-pub runs_keep_known : RunsKeepKnown
-runs_keep_known s s' [] [] known run = subst AreKnown (sym run) known
-runs_keep_known s s' [] (r ∷ rs) known run = absurd run
-runs_keep_known s s' (c ∷ cs) [] known run = absurd run
-runs_keep_known s s' (c ∷ cs) (r ∷ rs) known run = runs_keep_known run.0 s' cs rs (step_keeps_known s run.0 c r.0 r.1 known run.1) run.2
 
 -- what passes fewer is counted less
 count_less : (p q : ℕ → Bool) (us : List ℕ) → ((u : ℕ) → p u ≡ true → q u ≡ true) → count_by p us ≤ count_by q us
@@ -47,7 +32,7 @@ count_less p q (u ∷ us) sub =
     one false b h = omega arith
 
 -- one that comes before v after a step, by which none begins for earlier work, came before it already
-module _ (s s' : State) (c : Command) (a : Answer) (told : Told) (v : ℕ) (law : IsLawful s) (known : AreKnown s)
+module _ (s s' : State) (c : Command) (a : Answer) (told : Told) (v : ℕ) (law : IsLawful s)
     (ahead : begins_ahead (since_of s v) c ≡ false) (step : Step s c a told s') (stays : SameTxn s s' v) where
   own : SameTurn (s.txns v) (s'.txns v)
   own = one_turn s s' c a told v step stays.was stays.is
@@ -55,7 +40,7 @@ module _ (s s' : State) (c : Command) (a : Answer) (told : Told) (v : ℕ) (law 
   -- a newcomer does not
   new_behind : (u : ℕ) → IsNew s.begins c (s.txns u) (s'.txns u) → comes_before s' u v ≡ false
   new_behind u new =
-      let low = known v stays.was in let age = (law.ages v stays.was).1 in let e = new.age in let f = own.age in
+      let low = law.known v stays.was in let age = (law.ages v stays.was).1 in let e = new.age in let f = own.age in
       not_later (since_of s') (age_of s') v u
       (subst (λ x. x ≤ since_of s' u) (sym own.since) (new.behind (since_of s v) (omega (arith, age, low)) ahead)) (omega (arith, age, e, f))
 
@@ -67,30 +52,30 @@ module _ (s s' : State) (c : Command) (a : Answer) (told : Told) (v : ℕ) (law 
       (step_turn s s' c a told u step lives)
 
 pub no_more_come_before : NoMoreComeBefore
-no_more_come_before s s' c a told v law known ahead step stays =
+no_more_come_before s s' c a told v law ahead step stays =
     subst (λ k. count_by (λ u. is_some (s'.txns u) && comes_before s' u v) (range_with_len 0 k)
     ≤ count_by (λ u. is_some (s.txns u) && comes_before s u v) (slots s)) (sym (ap (λ x. x.2) (steps_keep_settings s s' c a told step)))
     (count_less (λ u. is_some (s'.txns u) && comes_before s' u v) (λ u. is_some (s.txns u) && comes_before s u v) (slots s) came)
   where
     came : (u : ℕ) → (is_some (s'.txns u) && comes_before s' u v) ≡ true → (is_some (s.txns u) && comes_before s u v) ≡ true
     came u h =
-        let parts = and_both _ _ h in let was = came_before s s' c a told v law known ahead step stays u parts.0 parts.1 in
+        let parts = and_both _ _ h in let was = came_before s s' c a told v law ahead step stays u parts.0 parts.1 in
         both _ _ was.0 was.1
 
 pub first_is_never_victim : FirstIsNeverVictim
-first_is_never_victim s s' [] [] v law known young first run =
+first_is_never_victim s s' [] [] v law young first run =
     (subst (λ x. ComesFirst x v) (sym run.1) first, λ becomes. becomes.not_before (ap (λ (x : State). status_of x v) (sym run.1) ∙ becomes.after))
-first_is_never_victim s s' [] (r ∷ rs) v law known young first run = absurd run
-first_is_never_victim s s' (c ∷ cs) [] v law known young first run = absurd run
-first_is_never_victim s s' (c ∷ cs) (r ∷ rs) v law known young first run =
+first_is_never_victim s s' [] (r ∷ rs) v law young first run = absurd run
+first_is_never_victim s s' (c ∷ cs) [] v law young first run = absurd run
+first_is_never_victim s s' (c ∷ cs) (r ∷ rs) v law young first run =
     let mid = run.0 in
-    let rest = first_is_never_victim mid s' cs rs v (steps_keep_law s mid c r.0 r.1 law run.1) (step_keeps_known s mid c r.0 r.1 known run.1)
+    let rest = first_is_never_victim mid s' cs rs v (steps_keep_law s mid c r.0 r.1 law run.1)
     (ap (λ x. x.1) (steps_keep_settings s mid c r.0 r.1 run.1) ∙ young) stays_first run.4 in
     (rest.0, λ becomes. rest.1 (record { not_before = λ e. not_now (record { not_before = becomes.not_before; after = e }); after = becomes.after }))
   where
     stays_first : ComesFirst run.0 v
     stays_first u lives = split (comes_before run.0 u v)
-        (λ h. let was = came_before s run.0 c r.0 r.1 v law known run.3 run.1 run.2 u lives h in clash was.1 (first u was.0)) (λ h. h)
+        (λ h. let was = came_before s run.0 c r.0 r.1 v law run.3 run.1 run.2 u lives h in clash was.1 (first u was.0)) (λ h. h)
 
     not_now : BecomesVictim s run.0 v → ⊥
     not_now becomes = let one = victim_after_a_living s run.0 c r.0 r.1 v law young run.1 becomes in clash one.2 (first one.0 one.1)

@@ -1,15 +1,19 @@
 -- For whom a transaction waits, and when its wait ends.
-use Rattle.std.specs.Prelude.{◌≡◌, ℕ, true, false, ◌||◌, List, is_some}
+use Rattle.std.specs.Prelude.{◌≡◌, ◌⊎◌, ℕ, true, false, List, Some, is_some}
 use Rattle.gl_modes.specs.declared.node.NodeId.{NodeId}
 use Rattle.gl_model.specs.declared.txn.TxnId.{TxnId}
+use Rattle.gl_model.specs.declared.answers.Notice.TheVariants as notice
 use Rattle.gl_model.specs.Lawful.{IsLawful}
-use Rattle.gl_model.specs.State.{State, age_of, lives, waits_for}
+use Rattle.gl_model.specs.State.{State, age_of, lives, waits_for, status_of}
 use Rattle.gl_model.specs.Tellings.{Told}
 use Rattle.gl_steps.specs.declared.command.Answer.{Answer}
 use Rattle.gl_steps.specs.declared.command.Command.{Command}
-use Rattle.gl_steps.specs.Promises.{SomeStep, ends_wait_of, is_told, waits_on}
+use Rattle.gl_steps.specs.Promises.{SomeStep, ends_wait_of, waits_on, is_told_that}
 use Rattle.gl_steps.specs.Step.{Run}
 use Rattle.gl_fairness.specs.Waiting.{SameTxn, WaitsThrough, stands_before}
+use Rattle.gl_modes.specs.declared.mode.Mode.{Mode}
+use Rattle.gl_model.specs.declared.txn.Status.TheVariants.{Condemned, Waiting}
+use Rattle.gl_graph.specs.Graph.{is_live}
 
 -- t waits for u, which lives and is before it on n
 pub record IsWaitedFor (s : State) (t : TxnId) (n : NodeId) (u : ℕ) : Type 0 where
@@ -31,11 +35,40 @@ WaitsForOneBefore =
 abbrev pub HasEnded : State → State → ℕ → Type 0
 HasEnded s s' u = lives s' (record { slot = u; age = age_of s u }) ≡ false
 
--- a step ends t's wait on n: t waits there before it and not after it, and was told so, or the command cancelled or aborted it by name
-abbrev pub EndsWait : TxnId → NodeId → State → Command → Answer × Told → State → Type 0
-EndsWait t n s c r s' = (waits_on s t n ≡ true) × (waits_on s' t n ≡ false) × ((is_told t r.1 || ends_wait_of t c) ≡ true)
+-- t's wait for m on n ended by a grant: it is told so, and holds n in m
+pub record EndsGranted (t : TxnId) (n : NodeId) (m : Mode) (told : Told) (s' : State) : Type 0 where
+  pub told_so : is_told_that t (notice.Granted n m) told ≡ true
+  pub held : s'.held t.slot n ≡ m
 
--- over a run in which all that were before t at its beginning have ended, t's wait has ended
+-- it ended since t became a victim: t is told so, and is condemned
+pub record EndsCondemned (t : TxnId) (told : Told) (s' : State) : Type 0 where
+  pub told_so : is_told_that t notice.Victim told ≡ true
+  pub condemned : status_of s' t.slot ≡ Some Condemned
+
+-- it ended since n moved: t is told so, and n lives
+pub record EndsMoved (t : TxnId) (n : NodeId) (told : Told) (s' : State) : Type 0 where
+  pub told_so : is_told_that t notice.Moved told ≡ true
+  pub lives : is_live s'.graph n ≡ true
+
+-- it ended since n was removed: t is told so, and n lives no more
+pub record EndsGone (t : TxnId) (n : NodeId) (told : Told) (s' : State) : Type 0 where
+  pub told_so : is_told_that t notice.Gone told ≡ true
+  pub gone : is_live s'.graph n ≡ false
+
+-- it ended in one of these ways, or the command cancelled or aborted t by name
+abbrev pub EndsSomehow : TxnId → NodeId → Mode → Command → Told → State → Type 0
+EndsSomehow t n m c told s' =
+    EndsGranted t n m told s' ⊎ EndsCondemned t told s' ⊎ EndsMoved t n told s' ⊎ EndsGone t n told s' ⊎ (ends_wait_of t c ≡ true)
+
+-- a step ends t's wait on n: t waits there before it and not after it
+pub record EndsWait (t : TxnId) (n : NodeId) (s : State) (c : Command) (r : Answer × Told) (s' : State) : Type 0 where
+  pub wanted : Mode
+  pub waited : status_of s t.slot ≡ Some (Waiting n wanted)
+  pub over : waits_on s' t n ≡ false
+  pub how : EndsSomehow t n wanted c r.1 s'
+
+-- over a run in which all that were before t at its beginning have ended, t's wait has ended: by a grant, unless t is condemned, cancelled or
+-- aborted, or n is moved or removed
 abbrev pub WaitsEnd : Type 0
 WaitsEnd =
     (s s' : State) (cs : List Command) (rs : List (Answer × Told)) (t : TxnId) (n : NodeId) → IsLawful s → Run s cs rs s' → waits_on s t n ≡ true

@@ -5,15 +5,14 @@ use Rattle.gl_waits.specs.declared.victims.Victims.{Victims}
 use Rattle.gl_waits.specs.declared.victims.Victims.TheVariants.{Youngest}
 use Rattle.gl_waits.specs.Victims.{IsCandidate}
 use Rattle.gl_waits.specs.Waits.{IsOnCycleOf, is_earlier}
-use Rattle.gl_model.specs.declared.answers.Detect.{Detect}
 use Rattle.gl_model.specs.declared.txn.Status.TheVariants.{Condemned}
 use Rattle.gl_model.specs.Lawful.{IsLawful}
-use Rattle.gl_model.specs.State.{State, IsVictim, age_of, choosing, empty_state, since_of, slots, status_of, waits_for}
+use Rattle.gl_model.specs.State.{State, IsVictim, age_of, since_of, slots, status_of, waits_for}
 use Rattle.gl_model.specs.Tellings.{Told}
 use Rattle.gl_steps.specs.declared.command.Answer.{Answer}
 use Rattle.gl_steps.specs.declared.command.Command.{Command}
 use Rattle.gl_steps.specs.declared.command.Command.TheVariants as command
-use Rattle.gl_steps.specs.Step.{Run, Step}
+use Rattle.gl_steps.specs.Step.{Step}
 use Rattle.gl_fairness.specs.Waiting.{SameTxn}
 
 -- u comes before v: its `since` is earlier, or the same and u is older
@@ -50,18 +49,6 @@ VictimAfterALiving =
 abbrev pub count_before : State → ℕ → ℕ
 count_before s v = count_by (λ u. is_some (s.txns u) && comes_before s u v) (slots s)
 
--- no `since` is above its transaction's age
-abbrev pub AreKnown : State → Type 0
-AreKnown s = (t : ℕ) → is_some (s.txns t) ≡ true → since_of s t ≤ age_of s t
-
--- the same in the empty state
-abbrev pub EmptyIsKnown : Type 0
-EmptyIsKnown = (detect : Detect) (victims : Victims) (most : ℕ) → AreKnown (choosing victims (empty_state detect most))
-
--- and along a run
-abbrev pub RunsKeepKnown : Type 0
-RunsKeepKnown = (s s' : State) (cs : List Command) (rs : List (Answer × Told)) → AreKnown s → Run s cs rs s' → AreKnown s'
-
 -- a transaction begins again for work from before this number
 abbrev pub begins_ahead : ℕ → Command → Bool
 begins_ahead since (command.BeginAgain n) = nat_lt n since
@@ -70,7 +57,7 @@ begins_ahead since c = false
 -- over any other step no more living transactions come before one that lives on
 abbrev pub NoMoreComeBefore : Type 0
 NoMoreComeBefore =
-    (s s' : State) (c : Command) (a : Answer) (told : Told) (v : ℕ) → IsLawful s → AreKnown s → begins_ahead (since_of s v) c ≡ false → Step s c a told s'
+    (s s' : State) (c : Command) (a : Answer) (told : Told) (v : ℕ) → IsLawful s → begins_ahead (since_of s v) c ≡ false → Step s c a told s'
     → SameTxn s s' v
     → count_before s' v ≤ count_before s v
 
@@ -89,6 +76,6 @@ LivesThrough v s (c ∷ cs) [] s' = ⊥
 -- along such a run one that comes first stays first, and is never a victim
 abbrev pub FirstIsNeverVictim : Type 0
 FirstIsNeverVictim =
-    (s s' : State) (cs : List Command) (rs : List (Answer × Told)) (v : ℕ) → IsLawful s → AreKnown s → s.victims ≡ Youngest → ComesFirst s v
+    (s s' : State) (cs : List Command) (rs : List (Answer × Told)) (v : ℕ) → IsLawful s → s.victims ≡ Youngest → ComesFirst s v
     → LivesThrough v s cs rs s'
     → ComesFirst s' v × (BecomesVictim s s' v → ⊥)

@@ -2,8 +2,8 @@
 
 ghost use Rattle.gl_fairness.specs.Ends.{WaitsEnd, WaitsForOneBefore, WaitsForSomebody};
 ghost use Rattle.gl_fairness.specs.Passed.{EachPassesAtMost, PassedAtMost, PassesAreSpent, RaisesEnd};
-ghost use Rattle.gl_fairness.specs.Turns.{EmptyIsKnown, VictimAfterALiving, VictimAfterOthers, VictimAfterSomebody};
-ghost use Rattle.gl_fairness.specs.Turns.{FirstIsNeverVictim, NoMoreComeBefore, RunsKeepKnown};
+ghost use Rattle.gl_fairness.specs.Turns.{VictimAfterALiving, VictimAfterOthers, VictimAfterSomebody};
+ghost use Rattle.gl_fairness.specs.Turns.{FirstIsNeverVictim, NoMoreComeBefore};
 ghost use Rattle.gl_fairness.specs.Waiting.{FirstComeFirstServed, NobodyComesBetween};
 
 /// No step puts a new transaction before a waiter: each that is before it after the step was before
@@ -34,9 +34,9 @@ pub fn waits_for_somebody()
     ensures run { WaitsForOneBefore }
 {}
 
-/// Over a run in which all that were before a wait at its beginning have ended, the wait has ended:
-/// some step ended it, which told its transaction so, or whose command cancelled or aborted it by
-/// name.
+/// If all transactions that were before a wait end along a run, the wait ends along it by a grant:
+/// unless its own transaction is condemned, cancelled or aborted, or its node is moved or removed.
+/// Each end but a cancel and an abort is told to the transaction.
 pub fn waits_end()
     ensures { WaitsEnd }
 {}
@@ -51,8 +51,6 @@ pub fn keeps_its_turn()
     ensures others { VictimAfterOthers }
     ensures somebody { VictimAfterSomebody }
     ensures living { VictimAfterALiving }
-    ensures known { RunsKeepKnown }
-    ensures start { EmptyIsKnown }
     ensures no_more { NoMoreComeBefore }
     ensures first { FirstIsNeverVictim }
 {}

@@ -15,7 +15,7 @@ use Rattle.gl_waits.specs.declared.victims.Victims.TheVariants.{Fewest}
 use Rattle.gl_waits.specs.Waits.{IsOnNoCycle, Reaches, without}
 use Rattle.gl_model.specs.declared.txn.Status.TheVariants.{Waiting}
 use Rattle.gl_model.specs.State.{age_of, choosing, condemned, empty_state, front_at, HasNoCycle, intends, is_wait, is_waiting_at, members, no_parents, Settled}
-use Rattle.gl_model.specs.State.{SettledWithin, State, status_of, waits_for}
+use Rattle.gl_model.specs.State.{SettledWithin, since_of, State, status_of, waits_for}
 use Rattle.gl_model.specs.declared.answers.Effect.{Effect}
 use Rattle.gl_model.specs.declared.answers.Detect.{Detect}
 use Rattle.gl_model.specs.declared.answers.Effect.TheVariants as effect
@@ -34,6 +34,10 @@ GrantsGoTogether s = (t u : ℕ) (n : NodeId) → t ≢ u → are_compatible (s.
 abbrev pub GrantsIntend : State → Type 0
 GrantsIntend s = (t : ℕ) (n : NodeId) → holds (members s n) t ≡ true → intends s t n (s.held t n) ≡ true
 
+-- no transaction's work began after the transaction: no `since` is above its age
+abbrev pub AreKnown : State → Type 0
+AreKnown s = (t : ℕ) → is_some (s.txns t) ≡ true → since_of s t ≤ age_of s t
+
 -- the law, a sentence a line:
 -- the graph is lawful; grants and waits are of living transactions on living nodes, in a mode that fits the kind
 -- grants of different transactions on one node are compatible
@@ -41,7 +45,7 @@ GrantsIntend s = (t : ℕ) (n : NodeId) → holds (members s n) t ≡ true → i
 -- a waiter is in one queue, once, with its wanted mode, and nobody else is in any
 -- in each queue those that hold the node are ahead of those that do not
 -- no first waiter fits: what can be granted is granted
--- slots are below the limit, ages from 1 to the count of begins, and no two equal
+-- slots are below the limit, ages from 1 to the count of begins, and no two equal; no `since` is above its transaction's age
 pub record IsLawful (s : State) : Type 0 where
   pub graph : IsLawfulGraph s.graph
   pub grants_live : (t : ℕ) (n : NodeId) → holds (members s n) t ≡ true → (is_some (s.txns t) ≡ true) × (is_live s.graph n ≡ true)
@@ -58,6 +62,7 @@ pub record IsLawful (s : State) : Type 0 where
   pub slots_below : (t : ℕ) → is_some (s.txns t) ≡ true → t < s.most
   pub ages : (t : ℕ) → is_some (s.txns t) ≡ true → (1 ≤ age_of s t) × (age_of s t ≤ s.begins)
   pub ages_differ : (t u : ℕ) → is_some (s.txns t) ≡ true → age_of s t ≡ age_of s u → t ≡ u
+  pub known : AreKnown s
 
 -- Effective modes: explicit locks, and those implied by locks further up.
 

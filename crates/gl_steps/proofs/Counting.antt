@@ -31,6 +31,7 @@ module _ (k : ℕ) where
     slots_below = law.slots_below;
     ages = law.ages;
     ages_differ = law.ages_differ;
+    known = law.known;
   }
 
   -- nor do conflicts

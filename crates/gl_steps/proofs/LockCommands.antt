@@ -1,5 +1,5 @@
 -- Each command on locks and transactions keeps the law of a state.
-use Rattle.std.specs.Prelude.{◌≡◌, ◌∷◌, [], ℕ, ◌+◌, None, min}
+use Rattle.std.specs.Prelude.{◌≡◌, ◌∷◌, [], ℕ, ◌+◌, None, min, ◌≤◌}
 use Rattle.std.proofs.Common.{sym, arith, subst}
 use Rattle.gl_modes.specs.declared.mode.Mode.{Mode}
 use Rattle.gl_modes.specs.declared.node.NodeId.{NodeId}
@@ -36,16 +36,16 @@ escalated-lawful s law t n h =
     shed-lawful (raised s t.slot n)
     (raised-lawful s law t.slot n a.0 a.1 (test_fails _ _ b.0) (not_false _ (test_fails _ _ c.0)) (not_false _ (test_fails _ _ d.0))) t.slot n a.0
 
-begins_lawful : (since : ℕ) (s s' : State) (a : Answer) (told : Told) → IsLawful s → Begins since s a told s' → IsLawful s'
-begins_lawful since s s' a told law acc =
+begins_lawful : (since : ℕ) (s s' : State) (a : Answer) (told : Told) → since ≤ s.begins + 1 → IsLawful s → Begins since s a told s' → IsLawful s'
+begins_lawful since s s' a told low law acc =
     let at = free_slot s acc.0 0 s.most acc.1 in let below = at.1 in
-    subst IsLawful (sym acc.4) (begun-lawful s law acc.0 at.0 (omega arith) since)
+    subst IsLawful (sym acc.4) (begun-lawful s law acc.0 at.0 (omega arith) since low)
 
 pub begin_keeps : KeepsLaw command.Begin
-begin_keeps s s' a told law h acc = begins_lawful (s.begins + 1) s s' a told law acc
+begin_keeps s s' a told law h acc = begins_lawful (s.begins + 1) s s' a told (omega arith) law acc
 
 pub begin_again_keeps : (since : ℕ) → KeepsLaw (command.BeginAgain since)
-begin_again_keeps since s s' a told law h acc = begins_lawful (min since (s.begins + 1)) s s' a told law acc
+begin_again_keeps since s s' a told law h acc = begins_lawful (min since (s.begins + 1)) s s' a told (omega arith) law acc
 
 pub lock_keeps : (t : TxnId) (n : NodeId) (m : Mode) → KeepsLaw (command.Lock t n m)
 lock_keeps t n m s s' a told law h acc = locks-lawful s s' law t n m (may_lock s t n m (worn s) [] h).0 acc.0

@@ -1,10 +1,10 @@
 -- A wait that a step ends is told, or its transaction is named by a cancel or an abort.
-use Rattle.std.specs.Prelude.{◌≡◌, ◌≢◌, ℕ, ◌+◌, Bool, true, false, not, ◌&&◌, ◌||◌, ◌==◌, Option, Some, None, if◌then◌else◌, min}
+use Rattle.std.specs.Prelude.{◌≡◌, ◌≢◌, ℕ, ◌+◌, Bool, true, false, not, ◌&&◌, ◌||◌, ◌==◌, Option, Some, None, if◌then◌else◌, min, ◌⊎◌, [], ◌∷◌}
 use Rattle.std.specs.List.{filter}
-use Rattle.std.proofs.Common.{refl, sym, ap, ap₂, arith, subst, ◌∙◌}
+use Rattle.std.proofs.Common.{refl, sym, ap, ap₂, arith, subst, ◌∙◌, inl, inr, ⊎_elim}
 use Rattle.std.proofs.lemmas.Bool.Decides.{nat_tests}
 use mathlib.Core.Bool.{true≢false}
-use Rattle.gl_modes.proofs.Words.{and_both, both, none_some, or_left, or_right, split}
+use Rattle.gl_modes.proofs.Words.{and_both, both, none_some, or_left, or_right, split, or_elim}
 use Rattle.gl_modes.specs.declared.mode.Mode.{Mode}
 use Rattle.gl_modes.specs.declared.mode.Mode.TheVariants.{NL}
 use Rattle.gl_modes.specs.declared.node.NodeId.{NodeId}
@@ -28,9 +28,9 @@ use Rattle.gl_model.proofs.law.Keeps.{waiting_is}
 use Rattle.gl_steps.specs.declared.command.Answer.{Answer}
 use Rattle.gl_steps.specs.declared.command.Command.{Command}
 use Rattle.gl_steps.specs.declared.command.Command.TheVariants as command
-use Rattle.gl_steps.specs.Promises.{EndsWaits, ends_wait_of, is_told, same_txn, waits_on}
+use Rattle.gl_steps.specs.Promises.{EndsWaits, ends_wait_of, is_told, same_txn, waits_on, is_told_that, same_notice, IsToldEnd}
 use Rattle.gl_steps.proofs.Beginning.{Begins}
-use Rattle.gl_steps.specs.Step.{Accepts}
+use Rattle.gl_steps.specs.Step.{Accepts, Step}
 use Rattle.gl_steps.specs.Tests.{tests_of}
 use Rattle.gl_steps.proofs.EachStep.{each_step}
 use Rattle.gl_steps.proofs.GrantCommands.{free_differs}
@@ -41,6 +41,14 @@ use Rattle.gl_steps.proofs.NotRefused.{differ, txn_lives}
 use Rattle.gl_steps.proofs.OneStep.{AllNone, all_none}
 use Rattle.gl_steps.proofs.OtherChanges.{begun_other, other}
 use Rattle.gl_steps.proofs.ToldGrants.{age_is, any_filtered, any_mapped, txn_there}
+use Rattle.gl_modes.proofs.ModeLemmas.{same_mode-refl}
+
+-- each notice is itself
+same_notice-refl : (x : Notice) → same_notice x x ≡ true
+same_notice-refl (notice.Granted n m) = both _ _ (same_node-refl n) (same_mode-refl m)
+same_notice-refl notice.Victim = refl
+same_notice-refl notice.Moved = refl
+same_notice-refl notice.Gone = refl
 
 -- t lives in s, and waits on n for m
 module _ (s : State) (law : IsLawful s) (t : TxnId) (alive : lives s t ≡ true) (n : NodeId) (m : Mode) (waits : status_of s t.slot ≡ Some (Waiting n m)) where
@@ -77,23 +85,27 @@ module _ (s : State) (law : IsLawful s) (t : TxnId) (alive : lives s t ≡ true)
         let here : is_waiting_at now t.slot n ≡ true = ap (λ o. waits_at o n) e ∙ ap (λ p. same_node p n) same ∙ same_node-refl n in
         true≢false (sym (both _ _ alive_now here) ∙ over)
 
-    pub told_over : is_told t (told s now) ≡ true
+    abbrev its : Notice
+    its = (some_notice now (status_of now t.slot) there quiet).0
+
+    -- its notice is in the list
+    told_over : is_told_that t its (told s now) ≡ true
     told_over =
         let x = some_notice now (status_of now t.slot) there quiet in
-        any_mapped (λ y. same_txn t y.0) (λ u. addressed (record { slot = u; age = age_of s u }) (told_from now u (status_of s u))) t.slot
+        any_mapped (λ y. same_txn t y.0 && same_notice its y.1) (λ u. addressed (record { slot = u; age = age_of s u }) (told_from now u (status_of s u))) t.slot
         (record { slot = t.slot; age = age_of s t.slot }, x.0)
         (ap (λ o. addressed (record { slot = t.slot; age = age_of s t.slot }) (told_from now t.slot o)) waits
         ∙ ap (addressed (record { slot = t.slot; age = age_of s t.slot })) x.1)
-        itself 0 s.most (omega arith) (let below = law.slots_below t.slot (txn_there t.age (s.txns t.slot) alive) in omega arith)
+        (both _ _ itself (same_notice-refl its)) 0 s.most (omega arith) (let below = law.slots_below t.slot (txn_there t.age (s.txns t.slot) alive) in omega arith)
 
-    other_told : (u : ℕ) → u ≢ t.slot → (x : TxnId × Notice) → same_txn t x.0 ≡ true → not (x.0.slot == u) ≡ true
+    other_told : (u : ℕ) → u ≢ t.slot → (x : TxnId × Notice) → (same_txn t x.0 && same_notice its x.1) ≡ true → not (x.0.slot == u) ≡ true
     other_told u ne x h =
-        let e : (t.slot == x.0.slot) ≡ true = (and_both _ _ h).0 in
+        let e : (t.slot == x.0.slot) ≡ true = (and_both _ _ (and_both _ _ h).0).0 in
         split (x.0.slot == u) (λ k. absurd
         (let a : t.slot ≡ x.0.slot = grind (arith, nat_tests) in let b : x.0.slot ≡ u = grind (arith, nat_tests) in ne (sym (a ∙ b)))) (λ k. ap not k)
 
-    pub told_but_over : (u : ℕ) → u ≢ t.slot → is_told t (told_but u s now) ≡ true
-    told_but_over u ne = any_filtered (λ x. same_txn t x.0) (λ x. not (x.0.slot == u)) (told s now) (other_told u ne) told_over
+    told_but_over : (u : ℕ) → u ≢ t.slot → is_told_that t its (told_but u s now) ≡ true
+    told_but_over u ne = any_filtered (λ x. same_txn t x.0 && same_notice its x.1) (λ x. not (x.0.slot == u)) (told s now) (other_told u ne) told_over
 
   -- a slot that is as it was waits on
   still : (now : State) → now.txns t.slot ≡ s.txns t.slot → waits_on now t n ≡ false → ⊥
@@ -107,7 +119,10 @@ module _ (s : State) (law : IsLawful s) (t : TxnId) (alive : lives s t ≡ true)
 
   module _ (a : Answer) (list : Told) (next : State) (over : waits_on next t n ≡ false) where
     abbrev Ended : Command → Type 0
-    Ended c = (is_told t list || ends_wait_of t c) ≡ true
+    Ended c = IsToldEnd t n m list next ⊎ (ends_wait_of t c ≡ true)
+
+    abbrev its_end : GoesOn s next t.slot → (x : Notice) × (notice_of next t.slot n m (status_of next t.slot) ≡ Some x)
+    its_end on = some_notice next (status_of next t.slot) (there next on over) (quiet next on over)
 
     on_is : (made : State) → next ≡ made → GoesOn s made t.slot → GoesOn s next t.slot
     on_is made e on = subst (λ (x : State). GoesOn s x t.slot) (sym e) on
@@ -116,13 +131,13 @@ module _ (s : State) (law : IsLawful s) (t : TxnId) (alive : lives s t ≡ true)
     unmoved made e same c = absurd (still next (ap (λ (x : State). x.txns t.slot) e ∙ same) over)
 
     all_told : (c : Command) → list ≡ told s next → GoesOn s next t.slot → Ended c
-    all_told c is on = or_left (is_told t list) (ends_wait_of t c) (ap (is_told t) is ∙ told_over next on over)
+    all_told c is on = let x = its_end on in inl (x.0, x.1, ap (is_told_that t x.0) is ∙ told_over next on over)
 
     others_told : (c : Command) (u : ℕ) → u ≢ t.slot → list ≡ told_but u s next → GoesOn s next t.slot → Ended c
-    others_told c u ne is on = or_left (is_told t list) (ends_wait_of t c) (ap (is_told t) is ∙ told_but_over next on over u ne)
+    others_told c u ne is on = let x = its_end on in inl (x.0, x.1, ap (is_told_that t x.0) is ∙ told_but_over next on over u ne)
 
     named : (c : Command) → ends_wait_of t c ≡ true → Ended c
-    named c h = or_right (is_told t list) (ends_wait_of t c) h
+    named c h = inr h
 
     other_slot : (u : TxnId) → same_txn t u ≡ false → no_txn s u ≡ None → u.slot ≢ t.slot
     other_slot u apart h = differ s t u alive (txn_lives s u h) apart
@@ -187,10 +202,25 @@ module _ (s : State) (law : IsLawful s) (t : TxnId) (alive : lives s t ≡ true)
         all_told (command.Drop u x) acc.1 (on_is _ acc.2 (freed_among_on (goes_with s.graph x) (s.txns t.slot)))
     accepted (command.IndexBy u ps f bs) passed acc = unmoved _ acc.4 refl (command.IndexBy u ps f bs)
 
-pub ends_waits : EndsWaits
+pub waits_end_so : EndsWaits
+waits_end_so s s' c a list t n m law step alive waits over =
+    each_step (λ (x : State). waits_on x t n ≡ false → IsToldEnd t n m list x ⊎ (ends_wait_of t c ≡ true)) s c a list s'
+    (λ h. absurd (still s law t alive n m waits s refl h)) (λ next h. h)
+    (λ free next acc h. accepted s law t alive n m waits a list next h c (all_none (tests_of s c) free) acc) step over
+
+-- what is told to t is among what is told
+told_something : (t : TxnId) (x : Notice) (list : Told) → is_told_that t x list ≡ true → is_told t list ≡ true
+told_something t x [] h = h
+told_something t x (y ∷ ys) h =
+    or_elim (same_txn t y.0 && same_notice x y.1) (is_told_that t x ys) h (λ here. or_left (same_txn t y.0) (is_told t ys) (and_both _ _ here).0)
+    (λ there. or_right (same_txn t y.0) (is_told t ys) (told_something t x ys there))
+
+-- so something was told, or the command named it
+pub ends_waits : (s s' : State) (c : Command) (a : Answer) (told : Told) (t : TxnId) (n : NodeId) → IsLawful s → Step s c a told s' → waits_on s t n ≡ true
+    → waits_on s' t n ≡ false
+    → (is_told t told || ends_wait_of t c) ≡ true
 ends_waits s s' c a list t n law step begin over =
     let b = and_both _ _ begin in
     let w = waiting_is (status_of s t.slot) n b.1 in
-    each_step (λ (x : State). waits_on x t n ≡ false → (is_told t list || ends_wait_of t c) ≡ true) s c a list s'
-    (λ h. absurd (still s law t b.0 n w.0 w.1 s refl h)) (λ next h. h)
-    (λ free next acc h. accepted s law t b.0 n w.0 w.1 a list next h c (all_none (tests_of s c) free) acc) step over
+    ⊎_elim (λ told. or_left (is_told t list) (ends_wait_of t c) (told_something t told.0 list told.2)) (λ named. or_right (is_told t list) (ends_wait_of t c) named)
+    (waits_end_so s s' c a list t n w.0 law step b.0 w.1 over)

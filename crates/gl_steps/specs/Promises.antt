@@ -22,8 +22,9 @@ use Rattle.gl_graph.specs.Shapes.{is_adopted, is_record_shape, keys_in}
 use Rattle.gl_model.specs.Calls.{accepted_once, is_idle}
 use Rattle.gl_model.specs.Lawful.{EffS, effective, is_at_least_effect, SameBelow, IsLawful}
 use Rattle.gl_model.specs.State.{is_waiting_at, State, lives, status_of, HasNoCycle, is_wait, waits_for}
-use Rattle.gl_model.specs.Tellings.{Told}
+use Rattle.gl_model.specs.Tellings.{Told, notice_of}
 use Rattle.gl_waits.specs.Waits.{IsOnNoCycle}
+use Rattle.gl_modes.specs.Modes.{same_mode}
 
 -- two names of one transaction
 abbrev pub same_txn : TxnId → TxnId → Bool
@@ -226,6 +227,22 @@ waits_on s t n = lives s t && is_waiting_at s t.slot n
 abbrev pub is_told : TxnId → Told → Bool
 is_told t told = list_any (λ x. same_txn t x.0) told
 
+-- the notice is this one
+abbrev pub same_notice : Notice → Notice → Bool
+same_notice (notice.Granted n m) (notice.Granted q w) = same_node n q && same_mode m w
+same_notice notice.Victim notice.Victim = true
+same_notice notice.Moved notice.Moved = true
+same_notice notice.Gone notice.Gone = true
+same_notice x y = false
+
+-- t is told this
+abbrev pub is_told_that : TxnId → Notice → Told → Bool
+is_told_that t x told = list_any (λ y. same_txn t y.0 && same_notice x y.1) told
+
+-- t is told what became of its wait for m on n, as the state after the step shows it
+abbrev pub IsToldEnd : TxnId → NodeId → Mode → Told → State → Type 0
+IsToldEnd t n m told s' = (x : Notice) × (notice_of s' t.slot n m (status_of s' t.slot) ≡ Some x) × (is_told_that t x told ≡ true)
+
 -- the command cancels or aborts t by its name
 abbrev pub ends_wait_of : TxnId → Command → Bool
 ends_wait_of t (command.Cancel u) = same_txn t u
@@ -258,9 +275,9 @@ BeginsWaits =
     (s s' : State) (c : Command) (a : Answer) (told : Told) (t : ℕ) (n : NodeId) (m : Mode) → Step s c a told s' → status_of s' t ≡ Some (Waiting n m)
     → (status_of s t ≡ Some (Waiting n m)) ⊎ (a ≡ answer.Waiting)
 
--- a wait that a step ends is told or named: its transaction was told so, or the command cancelled or aborted it by name
+-- a wait that a step ends is told or named: its transaction is told what became of it, or the command cancelled or aborted it by name
 abbrev pub EndsWaits : Type 0
 EndsWaits =
-    (s s' : State) (c : Command) (a : Answer) (told : Told) (t : TxnId) (n : NodeId) → IsLawful s → Step s c a told s' → waits_on s t n ≡ true
-    → waits_on s' t n ≡ false
-    → (is_told t told || ends_wait_of t c) ≡ true
+    (s s' : State) (c : Command) (a : Answer) (told : Told) (t : TxnId) (n : NodeId) (m : Mode) → IsLawful s → Step s c a told s' → lives s t ≡ true
+    → status_of s t.slot ≡ Some (Waiting n m) → waits_on s' t n ≡ false
+    → IsToldEnd t n m told s' ⊎ (ends_wait_of t c ≡ true)

@@ -9,6 +9,7 @@ use Rattle.gl_model.specs.Calls.{departed, freed_among, none_among}
 use Rattle.gl_model.proofs.law.Edges.{is_step, step_is}
 use Rattle.gl_model.proofs.law.Keeps.{rule_same}
 use Rattle.gl_model.proofs.queues.Waiters.{among_by_filter}
+use Rattle.gl_model.specs.State.{since_in}
 
 -- this graph has all nodes that are not removed, and none that stays was below a removed one
 pub record GoAway (g : Graph) (goes : NodeId → Bool) (g' : Graph) : Type 0 where
@@ -22,6 +23,9 @@ some_freed_among goes o = grind (arith, nat_tests, o)
 
 pub age_freed_among : (goes : NodeId → Bool) (o : Option Txn) → age_in (freed_among goes o) ≡ age_in o
 age_freed_among goes o = grind (arith, nat_tests, o)
+
+pub since_freed_among : (goes : NodeId → Bool) (o : Option Txn) → since_in (freed_among goes o) ≡ since_in o
+since_freed_among goes o = grind (arith, nat_tests, o)
 
 pub still_waits_among : (goes : NodeId → Bool) (q : NodeId) (m : Mode) (o : Option Txn) → status_in (freed_among goes o) ≡ Some (Waiting q m)
     → (status_in o ≡ Some (Waiting q m)) × (goes q ≡ false)
@@ -92,6 +96,8 @@ module _ (s : State) (law : IsLawful s) (goes : NodeId → Bool) (g' : Graph) (a
     ages_differ = λ u v h e.
         law.ages_differ u v (sym (some_freed_among goes (s.txns u)) ∙ h)
         (sym (age_freed_among goes (s.txns u)) ∙ e ∙ age_freed_among goes (s.txns v));
+    known = λ u h. let old = law.known u (sym (some_freed_among goes (s.txns u)) ∙ h) in
+        let a = age_freed_among goes (s.txns u) in let b = since_freed_among goes (s.txns u) in omega (arith, old, a, b);
   }
 
 module _ (s : State) (goes : NodeId → Bool) (g' : Graph) where

@@ -11,6 +11,8 @@ use Rattle.gl_model.proofs.Words.{ℕ}
 use Rattle.gl_model.proofs.queues.Waiters.{ahead, ahead_after, ahead_first, ahead_is, ahead_second, all_weaker, among_append, any_weaker, grants_one}
 use Rattle.gl_model.proofs.queues.Waiters.{grants_other, if-false, if-true, no_cons, none_filtered, not_among, one_in_first}
 use Rattle.gl_model.proofs.queues.Fronts.{granted_parts}
+use Rattle.gl_model.specs.State.{since_in, since_of}
+use Rattle.gl_model.specs.Lawful.{AreKnown}
 
 -- one that does not hold has NL
 pub nl_is : (a : Mode) → not (same_mode a NL) ≡ false → a ≡ NL
@@ -108,6 +110,7 @@ module _ (s : State) (law : IsLawful s) (t : ℕ) (n : NodeId) (m : Mode) (activ
     slots_below = law.slots_below;
     ages = law.ages;
     ages_differ = law.ages_differ;
+    known = law.known;
   }
 
 -- The law except the fronts of some nodes: what each command leaves before those nodes grant.
@@ -129,6 +132,7 @@ pub record IsLawfulBut (chosen : NodeId → Bool) (s : State) : Type 0 where
   pub slots_below : (t : ℕ) → is_some (s.txns t) ≡ true → t < s.most
   pub ages : (t : ℕ) → is_some (s.txns t) ≡ true → (1 ≤ age_of s t) × (age_of s t ≤ s.begins)
   pub ages_differ : (t u : ℕ) → is_some (s.txns t) ≡ true → age_of s t ≡ age_of s u → t ≡ u
+  pub known : AreKnown s
 
 -- A state with fewer grants, waits and transactions keeps the law, except the fronts of nodes that lost something.
 
@@ -174,6 +178,7 @@ pub record IsLess (s : State) (held : ℕ → NodeId → Mode) (queue : NodeId �
   pub waiters_same : (u : ℕ) (n : NodeId) → is_among_waiters u (queue n) ≡ true → (is_among_waiters u (s.queue n) ≡ true) × (status_in (txns u) ≡ status_of s u)
   pub order : (n : NodeId) (a b : ℕ) → is_ahead (queue n) a b ≡ true → is_ahead (s.queue n) a b ≡ true
   pub txns_same : (u : ℕ) → is_some (txns u) ≡ true → (is_some (s.txns u) ≡ true) × (age_in (txns u) ≡ age_of s u)
+      × (since_in (txns u) ≡ since_of s u)
   pub fronts : (n : NodeId) → chosen n ≡ false → (queue n ≡ s.queue n) × ((u : ℕ) → held u n ≡ s.held u n)
 
 module _ (s : State) (law : IsLawful s) (held : ℕ → NodeId → Mode) (queue : NodeId → List Waiter) (txns : ℕ → Option Txn) (chosen : NodeId → Bool)
@@ -225,6 +230,7 @@ module _ (s : State) (law : IsLawful s) (held : ℕ → NodeId → Mode) (queue 
         split (is_some (txns v)) (λ k. law.ages_differ u v was.0 (sym was.1 ∙ e ∙ (less.txns_same v k).1))
         (λ k. let old = law.ages u was.0 in let none : age_in (txns v) ≡ 0 = age_none (txns v) k in let zero_age : age_of s u ≡ 0 = sym was.1 ∙ e ∙ none in
         absurd (omega arith));
+    known = λ u h. let was = less.txns_same u h in let old = law.known u was.0 in let a = was.1 in let b = was.2 in omega (arith, old, a, b);
   }
 
 -- Nodes that grant from their fronts bring the whole law back.
@@ -236,6 +242,9 @@ module _ (g : NodeId → List Waiter) (u : ℕ) where
 
   pub woken_age : (x : Option Txn) → age_in (woken g u x) ≡ age_in x
   woken_age x = grind (arith, nat_tests, x)
+
+  pub woken_since : (x : Option Txn) → since_in (woken g u x) ≡ since_in x
+  woken_since x = grind (arith, nat_tests, x)
 
   -- a slot that still waits was not granted
   pub woken_waits : (q : NodeId) (m : Mode) (x : Option Txn) → status_in (woken g u x) ≡ Some (Waiting q m) → (status_in x ≡ Some (Waiting q m))
@@ -341,4 +350,6 @@ module _ (s : State) (chosen : NodeId → Bool) (law : IsLawfulBut chosen s) whe
     ages = λ u h. let old = law.ages u (sym (woken_some got u (s.txns u)) ∙ h) in let same = sym (woken_age got u (s.txns u)) in
         (subst (λ a. 1 ≤ a) same old.0, subst (λ a. a ≤ s.begins) same old.1);
     ages_differ = λ u v h e. law.ages_differ u v (sym (woken_some got u (s.txns u)) ∙ h) (sym (woken_age got u (s.txns u)) ∙ e ∙ woken_age got v (s.txns v));
+    known = λ u h. let old = law.known u (sym (woken_some got u (s.txns u)) ∙ h) in
+        let a = woken_age got u (s.txns u) in let b = woken_since got u (s.txns u) in omega (arith, old, a, b);
   }

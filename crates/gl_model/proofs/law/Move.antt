@@ -15,8 +15,9 @@ use Rattle.gl_model.proofs.law.Effects.{any_all, holds_one, x_blocks, x_is}
 use Rattle.gl_model.proofs.law.Keeps.{apart, nl_is, txn_there, waiting_is}
 use Rattle.gl_model.proofs.law.Strays.{all_filtered, all_of_some, all_waits, stuck_front}
 use Rattle.gl_model.proofs.law.Tests.{all_ix}
-use Rattle.gl_model.proofs.queues.Edits.{any_left, filtered_ahead, one_left, one_stays, unless_age, unless_some, unless_waits, waits_unless}
+use Rattle.gl_model.proofs.queues.Edits.{any_left, filtered_ahead, one_left, one_stays, unless_age, unless_since, unless_some, unless_waits, waits_unless}
 use Rattle.gl_model.proofs.queues.Waiters.{ahead_first, ahead_is, all_weaker, if-true}
+use Rattle.gl_model.specs.State.{since_of}
 
 -- What a transaction holds that may give a node other parents.
 
@@ -191,6 +192,9 @@ module _ (s : State) (law : IsLawful s) (t : ℕ) (n : NodeId) (ps : List NodeId
     same_age : (u : ℕ) → age_of after u ≡ age_of s u
     same_age u = unless_age keeps n u (s.txns u)
 
+    same_since : (u : ℕ) → since_of after u ≡ since_of s u
+    same_since u = unless_since keeps n u (s.txns u)
+
     -- the fields of the law, for the new graph and the queue that is left
     pub moved_lawful : IsLawful (moved_to s n ps g')
     moved_lawful = record {
@@ -218,6 +222,7 @@ module _ (s : State) (law : IsLawful s) (t : ℕ) (n : NodeId) (ps : List NodeId
       slots_below = λ u h. law.slots_below u (sym (some_txn u) ∙ h);
       ages = λ u h. let old = law.ages u (sym (some_txn u) ∙ h) in subst (λ a. (1 ≤ a) × (a ≤ s.begins)) (sym (same_age u)) old;
       ages_differ = λ u v h e. law.ages_differ u v (sym (some_txn u) ∙ h) (sym (same_age u) ∙ e ∙ same_age v);
+      known = λ u h. let old = law.known u (sym (some_txn u) ∙ h) in let a = same_age u in let b = same_since u in omega (arith, old, a, b);
     }
 
 -- A node moves: no wait of one for another is new, and so no cycle.

@@ -53,6 +53,7 @@ module _ (s : State) (law : IsLawful s) (g' : Graph) (lawful : IsLawfulGraph g')
     slots_below = law.slots_below;
     ages = law.ages;
     ages_differ = law.ages_differ;
+    known = law.known;
   }
 
 -- Nodes are born: nobody holds them, no old node changes, and the law of a state is kept.

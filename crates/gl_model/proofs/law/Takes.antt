@@ -7,7 +7,7 @@ use Rattle.gl_model.proofs.Words.{number_same, Option, or_no, other_number, plac
 use Rattle.gl_model.proofs.Words.{same_node-refl, same_number, Settled, SettledWithin, Some, split, State, Status, status_in, status_of, stripped, subst, suc}
 use Rattle.gl_model.proofs.Words.{sym, true, Txn, Victims, Waiting, waits_at, without_wait, without_waiter, zero, ℕ}
 use Rattle.std.specs.Prelude.{◌^◌}
-use Rattle.gl_model.specs.State.{with_limits}
+use Rattle.gl_model.specs.State.{with_limits, since_in, since_of}
 use Rattle.gl_model.proofs.law.Keeps.{age_none, apart, IsLess, less-lawful, nl_holds, nl_is, pumped-lawful, txn_there, waiting_is}
 use Rattle.gl_model.proofs.queues.Edits.{among_same, HoldersFirst, out_of_without, placed_front, placed_order, placed_other, placed_self, without_ahead}
 use Rattle.gl_model.proofs.queues.Edits.{without_filter, without_none}
@@ -46,7 +46,7 @@ module _ (s : State) (law : IsLawful s) (t : ℕ) (gone chosen : NodeId → Bool
         (st, λ p. held_other u p ne, refl);
     waiters_same = λ u n h. (h, refl);
     order = λ n a b h. h;
-    txns_same = λ u h. (h, refl);
+    txns_same = λ u h. (h, refl, refl);
     fronts = λ n no. (refl, λ u. held_left u n (all_chosen n no));
   }
 
@@ -54,7 +54,7 @@ module _ (s : State) (law : IsLawful s) (t : ℕ) (gone chosen : NodeId → Bool
 module _ (s : State) (law : IsLawful s) (t : ℕ) (held : ℕ → NodeId → Mode) (x : Option Txn) (chosen : NodeId → Bool)
     (others : (u : ℕ) (q : NodeId) → u ≢ t → held u q ≡ s.held u q)
     (own : ((q : NodeId) → held t q ≡ NL) ⊎ (((q : NodeId) → held t q ≡ s.held t q) × (is_some (s.txns t) ≡ true → is_some x ≡ true)))
-    (quiet : (q : NodeId) (m : Mode) → status_in x ≡ Some (Waiting q m) → ⊥) (same : is_some x ≡ true → (is_some (s.txns t) ≡ true) × (age_in x ≡ age_of s t))
+    (quiet : (q : NodeId) (m : Mode) → status_in x ≡ Some (Waiting q m) → ⊥) (same : is_some x ≡ true → (is_some (s.txns t) ≡ true) × (age_in x ≡ age_of s t) × (since_in x ≡ since_of s t))
     (all_chosen : (q : NodeId) → chosen q ≡ false → (is_waiting_at s t q ≡ false) × (held t q ≡ s.held t q)) where
   abbrev txns_but : ℕ → Option Txn
   txns_but u = if u == t then x else s.txns u
@@ -79,8 +79,12 @@ module _ (s : State) (law : IsLawful s) (t : ℕ) (held : ℕ → NodeId → Mod
     waiters_same = λ u n h. let was = out_of_without t u (s.queue n) h in (was.0, txn_case u (λ is e. absurd (was.1 is)) (λ ne e. ap status_in e));
     order = λ n a b h. ahead_is (s.queue n) a b ∙ without_ahead t a b (s.queue n) (sym (ahead_is (without_waiter t (s.queue n)) a b) ∙ h);
     txns_same = λ u h. txn_case u
-        (λ is e. let was = same (ap is_some (sym e) ∙ h) in (ap (λ v. is_some (s.txns v)) is ∙ was.0, ap age_in e ∙ was.1 ∙ ap (age_of s) (sym is)))
-        (λ ne e. (ap is_some (sym e) ∙ h, ap age_in e));
+        (λ is e. let was = same (ap is_some (sym e) ∙ h) in (
+          ap (λ v. is_some (s.txns v)) is ∙ was.0,
+          ap age_in e ∙ was.1 ∙ ap (age_of s) (sym is),
+          ap since_in e ∙ was.2 ∙ ap (since_of s) (sym is),
+        ))
+        (λ ne e. (ap is_some (sym e) ∙ h, ap age_in e, ap since_in e));
     fronts = λ n no. let was = all_chosen n no in (
       without_none t (s.queue n) (split (is_among_waiters t (s.queue n)) (λ h. clash (law.waits_are t n h) was.0) (λ h. h)),
       λ u. txn_case u (λ is _. at_own u n is was.1) (λ ne _. others u n ne),
@@ -105,11 +109,14 @@ restatus_some st x = grind (arith, nat_tests, x)
 pub restatus_age : (st : Status) (x : Option Txn) → age_in (restatus st x) ≡ age_in x
 restatus_age st x = grind (arith, nat_tests, x)
 
+pub restatus_since : (st : Status) (x : Option Txn) → since_in (restatus st x) ≡ since_in x
+restatus_since st x = grind (arith, nat_tests, x)
+
 pub without_wait-less : (s : State) → IsLawful s → (t : ℕ) (st : Status) → IsQuiet st
     → IsLess s s.held (λ n. without_waiter t (s.queue n)) (λ u. if u == t then restatus st (s.txns t) else s.txns u) (is_waiting_at s t)
 without_wait-less s law t st quiet =
     out-less s law t s.held (restatus st (s.txns t)) (is_waiting_at s t) (λ u q ne. refl) (inr (λ q. refl, λ h. restatus_some st (s.txns t) ∙ h))
-    (restatus_quiet st quiet (s.txns t)) (λ h. (sym (restatus_some st (s.txns t)) ∙ h, restatus_age st (s.txns t))) (λ q no. (no, refl))
+    (restatus_quiet st quiet (s.txns t)) (λ h. (sym (restatus_some st (s.txns t)) ∙ h, restatus_age st (s.txns t), restatus_since st (s.txns t))) (λ q no. (no, refl))
 
 -- a wait that ends, by its transaction or by the manager
 pub without_wait-lawful : (s : State) → IsLawful s → (t : ℕ) (st : Status) → IsQuiet st → IsLawful (pumped (without_wait s t st) (is_waiting_at s t))
@@ -182,6 +189,9 @@ module _ (s : State) (law : IsLawful s) (t : ℕ) (n : NodeId) (m : Mode) (activ
   age_same : (u : ℕ) → age_of after u ≡ age_of s u
   age_same u = slot_case u (λ is e. ap age_in e ∙ restatus_age _ (s.txns t) ∙ ap (age_of s) (sym is)) (λ ne e. ap age_in e)
 
+  since_same : (u : ℕ) → since_of after u ≡ since_of s u
+  since_same u = slot_case u (λ is e. ap since_in e ∙ restatus_since _ (s.txns t) ∙ ap (since_of s) (sym is)) (λ ne e. ap since_in e)
+
   not_waiting : (q : NodeId) → is_among_waiters t (s.queue q) ≡ false
   not_waiting q = split (is_among_waiters t (s.queue q)) (λ h. let st = waiting_is (status_of s t) q (law.waits_are t q h) in
       absurd (apart (sym active ∙ st.1))) (λ h. h)
@@ -231,9 +241,11 @@ module _ (s : State) (law : IsLawful s) (t : ℕ) (n : NodeId) (m : Mode) (activ
     ages = λ u h. let old = law.ages u (sym (some_same u) ∙ h) in
         (subst (λ a. 1 ≤ a) (sym (age_same u)) old.0, subst (λ a. a ≤ s.begins) (sym (age_same u)) old.1);
     ages_differ = λ u v h e. law.ages_differ u v (sym (some_same u) ∙ h) (sym (age_same u) ∙ e ∙ age_same v);
+    known = λ u h. let old = law.known u (sym (some_same u) ∙ h) in let a = age_same u in let b = since_same u in omega (arith, old, a, b);
   }
 
-module _ (s : State) (law : IsLawful s) (t : ℕ) (free : is_some (s.txns t) ≡ false) (below : t < s.most) (since : ℕ) where
+module _ (s : State) (law : IsLawful s) (t : ℕ) (free : is_some (s.txns t) ≡ false) (below : t < s.most) (since : ℕ)
+    (low : since ≤ s.begins + 1) where
   abbrev newcomer : Option Txn
   newcomer = Some (record { age = s.begins + 1; since = since; status = Active })
 
@@ -268,6 +280,10 @@ module _ (s : State) (law : IsLawful s) (t : ℕ) (free : is_some (s.txns t) ≡
         absurd (omega arith)))
         (λ ne f. begun_case v (λ at k. let low = age_low u in let new : age_of s u ≡ s.begins + 1 = ap age_in (sym f) ∙ e ∙ ap age_in k in absurd (omega arith))
         (λ ne' k. law.ages_differ u v (ap is_some (sym f) ∙ h) (ap age_in (sym f) ∙ e ∙ ap age_in k)));
+    known = λ u h. begun_case u (λ is e. let a : age_of (begun_since s t since) u ≡ s.begins + 1 = ap age_in e in
+        let b : since_of (begun_since s t since) u ≡ since = ap since_in e in omega (arith, low, a, b))
+        (λ ne e. let a : age_of (begun_since s t since) u ≡ age_of s u = ap age_in e in let b : since_of (begun_since s t since) u ≡ since_of s u = ap since_in e in
+        let old = law.known u (ap is_some (sym e) ∙ h) in omega (arith, old, a, b));
   }
 
 -- The empty state meets the law, and nobody waits in it.
@@ -296,6 +312,7 @@ roomy-lawful d c most nodes bounds low = record {
   slots_below = λ t h. absurd (no h);
   ages = λ t h. absurd (no h);
   ages_differ = λ t u h e. absurd (no h);
+  known = λ t h. absurd (no h);
 }
 
 pub empty-lawful : (d : Detect) (c : Victims) (most : ℕ) → IsLawful (choosing c (empty_state d most))

@@ -5,6 +5,7 @@ use Rattle.gl_model.proofs.Words.{list_all, list_any, Members, Mode, nat_tests, 
 use Rattle.gl_model.proofs.Words.{same_node, same_number, Some, split, status_in, sym, true, Txn, Waiter, Waiting, waits_at, without_waiter, ℕ}
 use Rattle.gl_model.proofs.queues.Waiters.{ahead, ahead_first, among_append, among_waits, if-false, if-true, keep_filter, none_filtered, not_among, placed_case}
 use Rattle.gl_model.proofs.queues.Waiters.{placed_other as another_placed, some_wait, waits_of, without_other}
+use Rattle.gl_model.specs.State.{since_in}
 
 -- A queue with a wait removed, and one with a wait placed.
 
@@ -170,6 +171,9 @@ unless_some keeps n u o = grind (arith, nat_tests)
 
 pub unless_age : (keeps : ℕ → Bool) (n : NodeId) (u : ℕ) (o : Option Txn) → age_in (freed_unless keeps n u o) ≡ age_in o
 unless_age keeps n u o = grind (arith, nat_tests)
+
+pub unless_since : (keeps : ℕ → Bool) (n : NodeId) (u : ℕ) (o : Option Txn) → since_in (freed_unless keeps n u o) ≡ since_in o
+unless_since keeps n u o = grind (arith, nat_tests)
 
 pub unless_waits : (keeps : ℕ → Bool) (n q : NodeId) (m : Mode) (u : ℕ) (o : Option Txn) → status_in (freed_unless keeps n u o) ≡ Some (Waiting q m)
     → (status_in o ≡ Some (Waiting q m)) × (same_node q n ≡ true → keeps u ≡ true)

@@ -1,5 +1,5 @@
-use Rattle.gl_steps.proofs.WaitsEnd.{ends_waits}
+use Rattle.gl_steps.proofs.WaitsEnd.{waits_end_so}
 use Rattle.gl_steps.proofs.laws.ends_waits.Goals as goal
 
 pub returns : goal.returns
-returns c = ends_waits
+returns c = waits_end_so
