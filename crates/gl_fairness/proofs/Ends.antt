@@ -149,12 +149,19 @@ lasts_or_ends s s' (c ∷ cs) (r ∷ rs) t n law run waits =
     (λ e. ⊎_elim (λ lasts. inl (waits, mid, run.1, lasts)) (λ ends. inr (mid, run.1, inr ends))
     (lasts_or_ends mid s' cs rs t n (steps_keep_law s mid c r.0 r.1 law run.1) run.2 e))
     (λ e. let parts = and_both _ _ waits in let w = waiting_is (status_of s t.slot) n parts.1 in
-    inr (mid, run.1, inl (record {
-      wanted = w.0;
-      waited = w.1;
-      over = e;
-      how = ended_so t n w.0 c r.1 mid (waits_end_so s mid c r.0 r.1 t n w.0 law run.1 parts.0 w.1 e);
-    }, run.2)))
+    inr (
+      mid,
+      run.1,
+      inl (
+        record {
+          wanted = w.0;
+          waited = w.1;
+          over = e;
+          how = ended_so t n w.0 c r.1 mid (waits_end_so s mid c r.0 r.1 t n w.0 law run.1 parts.0 w.1 e);
+        },
+        run.2,
+      ),
+    ))
 
 -- one that is there with an age lives by it
 there_lives : (age : ℕ) (x : Option Txn) → is_some x ≡ true → age_in x ≡ age → live_by age x ≡ true

@@ -47,6 +47,7 @@ pub mod ExecuteIsStep
 pub mod RowWords
 mod LockRows
 mod RecordRows
+mod AdoptRows
 mod MoveRows
 mod RefusalRows
 mod SchemaRows

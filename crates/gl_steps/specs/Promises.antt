@@ -1,5 +1,5 @@
 -- What is promised of commands and of whole runs.
-use Rattle.std.specs.Prelude.{◌≡◌, ◌⊎◌, ℕ, Bool, true, false, ◌&&◌, ◌||◌, ◌==◌, List, [], ◌∷◌, Some}
+use Rattle.std.specs.Prelude.{◌≡◌, ◌⊎◌, ℕ, Bool, true, false, ◌&&◌, ◌==◌, List, [], ◌∷◌, Some}
 use Rattle.std.specs.List.{list_any}
 use denote.Bor.{Bor}
 use Rattle.gl_model.specs.declared.txn.Status.TheVariants.{Waiting}

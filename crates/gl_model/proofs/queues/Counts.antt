@@ -1,6 +1,6 @@
 -- How many nodes pass a test, and how many of a node's children. For the counts of held children.
-use Rattle.gl_model.proofs.Words.{[], ◌&&◌, ◌+◌, ◌<◌, ◌∙◌, ◌∷◌, ◌≡◌, ◌≢◌, ◌≤◌, all_filter, among, and_both, ap, ap₂, are_distinct, arith, Bool, both, cases_of}
-use Rattle.gl_model.proofs.Words.{children_that, clash, cond, count_by, count_by-le-length, count_cons, false, File, first_in, first_parent, fun_ext, Graph}
+use Rattle.gl_model.proofs.Words.{[], ◌&&◌, ◌+◌, ◌∙◌, ◌∷◌, ◌≡◌, ◌≢◌, ◌≤◌, all_filter, and_both, ap, ap₂, are_distinct, arith, Bool, both, cases_of}
+use Rattle.gl_model.proofs.Words.{children_that, cond, count_by, count_by-le-length, count_cons, false, File, first_in, first_parent, fun_ext, Graph}
 use Rattle.gl_model.proofs.Words.{HasShape, if◌then◌else◌, Index, indexes_distinct, indexes_of, Inner, Interval, interval_is, interval_of, intervals_of}
 use Rattle.gl_model.proofs.Words.{is_child, is_file_shape, is_index_of_shape, is_live, IsLawfulGraph, length, List, list_all, list_any, listed, nat_tests, no}
 use Rattle.gl_model.proofs.Words.{node_at, NodeId, nodes, nodes_distinct, not, not_true, or_elim, or_left, or_right, parents_in, parents_of, Rec, refl}

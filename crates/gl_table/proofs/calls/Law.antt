@@ -229,7 +229,8 @@ begin-refusal first o left is =
 
 module _ (i : Inside) (sound : IsSound i) (t since : ℕ) (at : Some t ≡ position is_free i.locks.ledger.txn_entries.items)
     (txn_entries : TxnEntryList)
-    (has_entry : txn_entries.items ≡ slice_set i.locks.ledger.txn_entries.items t (Some (record { age = i.begins + 1; since = since; status = Active }))) where
+    (has_entry : txn_entries.items ≡ slice_set i.locks.ledger.txn_entries.items t (Some (record { age = i.begins + 1; since = since; status = Active })))
+    (low : since ≤ i.begins + 1) where
   abbrev ledger : Ledger
   ledger = record i.locks.ledger { txn_entries = txn_entries }
 
@@ -262,7 +263,7 @@ module _ (i : Inside) (sound : IsSound i) (t since : ℕ) (at : Some t ≡ posit
 
   pub begun-safe : IsSafe now
   begun-safe = record {
-    lawful = subst IsLawful (sym begun-state) (begun-lawful first sound.lawful t free place.0 since);
+    lawful = subst IsLawful (sym begun-state) (begun-lawful first sound.lawful t free place.0 since low);
     no_cycle = λ e. subst HasNoCycle (sym begun-state) (begun-no_cycle first t since (sound.no_cycle e));
   }
 
