@@ -2,10 +2,11 @@
 """wrong_bodies.py [--jobs N] [--named] [--by-turns] [--minutes M] [--share K/N] [--beside LOG] [--behind S]
 [CRATE | CRATE/NAME]..: tries wrong bodies, those in must-fail/ and those in wrong/.
 
-Each is an edit of code that the crate's contracts must refuse. Edits of different functions are applied to one copy of
+Each is an edit of code that the crate's contracts must refuse; one whose first line is `by: tests` is none that a
+contract can refuse, and the crate's tests must fail instead, before any proof. Edits of different functions are applied to one copy of
 their crate, and the functions that they change are checked over the proved libraries that `rt ci` has left. Where these
 pass, their callers are checked, and then the whole crate, with one edit at a time. Prints a line for each: `refused`
-with the function that is not proved, `not refused`, or `bad` where it cannot be applied or read, which is said of all,
+with the function that is not proved or the test that fails, `not refused`, or `bad` where it cannot be applied or read, which is said of all,
 chosen or not. The last line is 'N refused, M not refused, of K'; M counts all that were tried and not refused and all
 that are bad, and 'L left' is said where time was over. The status is 1 unless M is 0.
 
@@ -26,6 +27,8 @@ TOP = os.path.dirname(os.path.dirname(os.path.abspath(__file__)))
 # The most edits in one copy: more save little, and fewer end sooner in parallel.
 TOGETHER = 8
 TURNS = 10
+# The first line of an edit that tests refuse.
+BY_TESTS = "by: tests\n"
 # The most proofs that run during an `rt ci`, which leaves so many processors idle for half of its time.
 BESIDE = 2
 
@@ -64,6 +67,7 @@ class Edit:
     def __init__(self, crate, path):
         self.crate, self.name, self.path = crate, f"{crate}/{os.path.basename(path)[:-5]}", path
         self.pairs, self.why, self.functions = pairs_of(path), None, []
+        self.is_by_tests = open(path, encoding="utf-8").readline() == BY_TESTS
         if not self.pairs:
             self.why = "it cannot be read"
             return
@@ -74,8 +78,8 @@ class Edit:
                 return
             constant = re.match(r"(?:pub(?:\([a-z]+\))? )?const (\w+):", old.strip())
             self.functions += citing(crate, constant.group(1)) if constant else [function_at(file, text, text.index(old))]
-        # (an edit outside all functions has no name to check by: the whole crate is checked)
-        self.functions = [] if None in self.functions else sorted(set(self.functions))
+        # (an edit outside all functions has no name to check by: the whole crate is checked; tests run of the whole crate)
+        self.functions = [] if None in self.functions or self.is_by_tests else sorted(set(self.functions))
 
     def apply(self, folder):
         """Changes the crate's copy; False where its text is not there once, since another edit changed it."""
@@ -96,7 +100,7 @@ def pairs_of(path):
             old = line[5:]
         elif line.startswith("new: ") or line == "new:":
             pairs.append((at, old, line[5:]))
-        elif line:
+        elif line and line + "\n" != BY_TESTS:
             return None
     return pairs
 
@@ -270,8 +274,29 @@ def in_copy(edits, work):
         return work(folder) if all(it.apply(folder) for it in edits) else None
 
 
+def attempt_by_tests(edit):
+    """What becomes of one wrong body that the crate's tests must refuse, in a repository of that crate and those below."""
+    names = below(edit.crate) + [edit.crate]
+    with tempfile.TemporaryDirectory() as top:
+        shutil.copy(f"{TOP}/HANDLES", top)
+        lines = [it for it in open(f"{TOP}/crates.txt", encoding="utf-8") if re.match(r"\w*", it).group(0) in names]
+        open(f"{top}/crates.txt", "w", encoding="utf-8").writelines(lines)
+        for name in names:
+            shutil.copytree(f"{TOP}/crates/{name}", f"{top}/crates/{name}", ignore=shutil.ignore_patterns("out", "must-fail", "wrong"))
+        folder = f"{top}/crates/{edit.crate}"
+        edit.apply(folder)
+        ran = subprocess.run(["rt", "try", "--test"], cwd=folder, capture_output=True, errors="replace", text=True)
+    failed = re.search(r"^test (\S+) \.\.\. FAILED", ran.stdout, re.M)
+    if failed:
+        return "refused", failed.group(1)
+    passed = re.search(r"^test result: ok\. (\d+) passed", ran.stdout, re.M)
+    return ("not refused", f"{passed.group(1)} tests") if passed else ("bad", "its tests did not run")
+
+
 def attempt(edit):
     """What becomes of one wrong body."""
+    if edit.is_by_tests:
+        return attempt_by_tests(edit)
 
     def by_steps(folder):
         callers = callers_of(edit.crate, edit.functions) if edit.functions else []

@@ -3232,6 +3232,49 @@ static void watchers_come_and_go(void) {
   close_table();
 }
 
+/* The epoch of a board that is known to be shown; and whether those who look are to end. */
+static uint64_t known_epoch;
+static bool looks_are_over;
+
+/* No look gives an older board than one that was shown before it. */
+static void *look_for_known(void *arg) {
+  bs_watcher watcher = BS_NO_WATCHER_HERE;
+  bs_board board;
+  DONE(bs_table_watch(table, &watcher));
+  while (!__atomic_load_n(&looks_are_over, __ATOMIC_SEQ_CST)) {
+    uint64_t known = __atomic_load_n(&known_epoch, __ATOMIC_SEQ_CST);
+    DONE(bs_look(&watcher, &board));
+    WANT(board.epoch >= known);
+  }
+  DONE(bs_watch_end(&watcher));
+  return arg;
+}
+
+/* Eight look at once, while a wait begins and ends again and again: each tries again if another was in its way. */
+static void looks_miss_nothing(void) {
+  pthread_t threads[BS_MOST_WATCHERS];
+  bs_txn a, b;
+  bs_command lock;
+  int i;
+  set_up(BS_BY_WATCHER);
+  a = begin(), b = begin();
+  DONE(bs_table_lock(table, a, root, BS_X, NULL));
+  known_epoch = 0;
+  looks_are_over = false;
+  for (i = 0; i < BS_MOST_WATCHERS; i++) WANT(pthread_create(&threads[i], NULL, look_for_known, NULL) == 0);
+  for (i = 0; i < 3000; i++) {
+    lock = bs_do(BS_DO_LOCK, b);
+    lock.node = root;
+    lock.mode = BS_S;
+    WANT(bs_table_run(table, &lock, 1) == 0 && lock.reply.status == BS_WAITING);
+    if (i > 100) __atomic_store_n(&known_epoch, accepted_in(table), __ATOMIC_SEQ_CST);
+    DONE(bs_table_cancel(table, b, NULL));
+  }
+  __atomic_store_n(&looks_are_over, true, __ATOMIC_SEQ_CST);
+  for (i = 0; i < BS_MOST_WATCHERS; i++) pthread_join(threads[i], NULL);
+  close_table();
+}
+
 /* Watchers for which there was no memory do not count: an allocation of a watch is refused eight times, and then eight
  * watch. */
 static void refused_watchers(void) {
@@ -4003,6 +4046,7 @@ int main(int count, char **words) {
   TELL(a_ninth_watcher);
   TELL(one_of_two_watchers_goes_on);
   TELL(watchers_come_and_go);
+  TELL(looks_miss_nothing);
   TELL(refused_watchers);
   TELL(a_thread_watches_without_rest);
   TELL(a_thread_watches_and_rests);

@@ -20,7 +20,7 @@ use Rattle.gl_model.proofs.law.Keeps.{nl_is, waiting_is}
 use Rattle.gl_model.proofs.queues.Waiters.{ahead, ahead_is, no_cons}
 use Rattle.gl_steps.specs.declared.command.Answer.{Answer}
 use Rattle.gl_steps.specs.declared.command.Command.{Command}
-use Rattle.gl_steps.specs.Promises.{SomeStep, waits_on, IsToldEnd, is_told_that, ends_wait_of}
+use Rattle.gl_steps.specs.Promises.{SomeStep, waits_on, IsToldEnd, is_told_that, ends_wait_of, moves_node}
 use Rattle.gl_steps.specs.Step.{Run}
 use Rattle.gl_steps.proofs.StepsKeepLaw.{runs_keep_law, steps_keep_law}
 use Rattle.gl_steps.proofs.WaitsEnd.{waits_end_so}
@@ -116,26 +116,26 @@ waits_for_one_before s s' cs rs t n law run =
     (one.0, one.1, stood.0, stood.1)
 
 -- what a notice says of the end of a wait
-noticed : (t : TxnId) (n : NodeId) (m : Mode) (c : Command) (told : Told) (s' : State) (o : Option Status) → status_of s' t.slot ≡ o → (x : Notice)
-    → notice_of s' t.slot n m o ≡ Some x → is_told_that t x told ≡ true → EndsSomehow t n m c told s'
-noticed t n m c told s' None st x is tells = absurd (none_some is)
-noticed t n m c told s' (Some (Waiting q w)) st x is tells = absurd (none_some is)
-noticed t n m c told s' (Some Condemned) st x is tells =
-    let e : notice.Victim ≡ x = cc in inr (inl (record { told_so = subst (λ y. is_told_that t y told ≡ true) (sym e) tells; condemned = st }))
-noticed t n m c told s' (Some Active) st x is tells = by (is_live s'.graph n) refl (same_mode (s'.held t.slot n) m) refl is
-  where
-    by : (a : Bool) → is_live s'.graph n ≡ a → (b : Bool) → same_mode (s'.held t.slot n) m ≡ b
-        → (if not a then Some notice.Gone else (if b then Some (notice.Granted n m) else Some notice.Moved)) ≡ Some x → EndsSomehow t n m c told s'
-    by false a b h e = let f : notice.Gone ≡ x = cc in
-        inr (inr (inr (inl (record { told_so = subst (λ y. is_told_that t y told ≡ true) (sym f) tells; gone = a }))))
-    by true a true h e = let f : notice.Granted n m ≡ x = cc in
-        inl (record { told_so = subst (λ y. is_told_that t y told ≡ true) (sym f) tells; held = same_mode-equal _ _ h })
-    by true a false h e = let f : notice.Moved ≡ x = cc in
-        inr (inr (inl (record { told_so = subst (λ y. is_told_that t y told ≡ true) (sym f) tells; lives = a })))
+module _ (s : State) (t : TxnId) (n : NodeId) (m : Mode) (lived : is_live s.graph n ≡ true) (c : Command) (told : Told) (s' : State) where
+  noticed : (o : Option Status) → status_of s' t.slot ≡ o → (x : Notice) → notice_of s' t.slot n m o ≡ Some x → is_told_that t x told ≡ true
+      → (x ≡ notice.Moved → moves_node n c ≡ true) → EndsSomehow s t n m c told s'
+  noticed None st x is tells moves = absurd (none_some is)
+  noticed (Some (Waiting q w)) st x is tells moves = absurd (none_some is)
+  noticed (Some Condemned) st x is tells moves =
+      let e : notice.Victim ≡ x = cc in inr (inl (record { told_so = subst (λ y. is_told_that t y told ≡ true) (sym e) tells; condemned = st }))
+  noticed (Some Active) st x is tells moves = by (is_live s'.graph n) refl (same_mode (s'.held t.slot n) m) refl is
+    where
+      by : (a : Bool) → is_live s'.graph n ≡ a → (b : Bool) → same_mode (s'.held t.slot n) m ≡ b
+          → (if not a then Some notice.Gone else (if b then Some (notice.Granted n m) else Some notice.Moved)) ≡ Some x → EndsSomehow s t n m c told s'
+      by false a b h e = let f : notice.Gone ≡ x = cc in
+          inr (inr (inr (inl (record { told_so = subst (λ y. is_told_that t y told ≡ true) (sym f) tells; lived = lived; gone = a }))))
+      by true a true h e = let f : notice.Granted n m ≡ x = cc in
+          inl (record { told_so = subst (λ y. is_told_that t y told ≡ true) (sym f) tells; held = same_mode-equal _ _ h })
+      by true a false h e = let f : notice.Moved ≡ x = cc in
+          inr (inr (inl (record { told_so = subst (λ y. is_told_that t y told ≡ true) (sym f) tells; moved = moves (sym f) })))
 
-ended_so : (t : TxnId) (n : NodeId) (m : Mode) (c : Command) (told : Told) (s' : State) → IsToldEnd t n m told s' ⊎ (ends_wait_of t c ≡ true)
-    → EndsSomehow t n m c told s'
-ended_so t n m c told s' = ⊎_elim (λ x. noticed t n m c told s' (status_of s' t.slot) refl x.0 x.1 x.2) (λ named. inr (inr (inr (inr named))))
+  ended_so : IsToldEnd t n m c told s' ⊎ (ends_wait_of t c ≡ true) → EndsSomehow s t n m c told s'
+  ended_so h = ⊎_elim (λ x. noticed (status_of s' t.slot) refl x.said x.is x.told_so x.moved) (λ named. inr (inr (inr (inr named)))) h
 
 -- a run either is one along which the wait lasts, or some step of it ends the wait
 lasts_or_ends : (s s' : State) (cs : List Command) (rs : List (Answer × Told)) (t : TxnId) (n : NodeId) → IsLawful s → Run s cs rs s' → waits_on s t n ≡ true
@@ -157,7 +157,8 @@ lasts_or_ends s s' (c ∷ cs) (r ∷ rs) t n law run waits =
           wanted = w.0;
           waited = w.1;
           over = e;
-          how = ended_so t n w.0 c r.1 mid (waits_end_so s mid c r.0 r.1 t n w.0 law run.1 parts.0 w.1 e);
+          how = ended_so s t n w.0 (law.waits_live t.slot n (stands_in s law t.slot n w.0 w.1)) c r.1 mid
+          (waits_end_so s mid c r.0 r.1 t n w.0 law run.1 parts.0 w.1 e);
         },
         run.2,
       ),

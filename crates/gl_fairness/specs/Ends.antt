@@ -8,7 +8,7 @@ use Rattle.gl_model.specs.State.{State, age_of, lives, waits_for, status_of}
 use Rattle.gl_model.specs.Tellings.{Told}
 use Rattle.gl_steps.specs.declared.command.Answer.{Answer}
 use Rattle.gl_steps.specs.declared.command.Command.{Command}
-use Rattle.gl_steps.specs.Promises.{SomeStep, ends_wait_of, waits_on, is_told_that}
+use Rattle.gl_steps.specs.Promises.{SomeStep, ends_wait_of, waits_on, is_told_that, moves_node}
 use Rattle.gl_steps.specs.Step.{Run}
 use Rattle.gl_fairness.specs.Waiting.{SameTxn, WaitsThrough, stands_before}
 use Rattle.gl_modes.specs.declared.mode.Mode.{Mode}
@@ -45,27 +45,28 @@ pub record EndsCondemned (t : TxnId) (told : Told) (s' : State) : Type 0 where
   pub told_so : is_told_that t notice.Victim told ≡ true
   pub condemned : status_of s' t.slot ≡ Some Condemned
 
--- it ended since n moved: t is told so, and n lives
-pub record EndsMoved (t : TxnId) (n : NodeId) (told : Told) (s' : State) : Type 0 where
+-- it ended since the command moved n, or gave it another key: t is told so
+pub record EndsMoved (t : TxnId) (n : NodeId) (c : Command) (told : Told) : Type 0 where
   pub told_so : is_told_that t notice.Moved told ≡ true
-  pub lives : is_live s'.graph n ≡ true
+  pub moved : moves_node n c ≡ true
 
--- it ended since n was removed: t is told so, and n lives no more
-pub record EndsGone (t : TxnId) (n : NodeId) (told : Told) (s' : State) : Type 0 where
+-- it ended since n was removed: t is told so, and n lived before and lives no more
+pub record EndsGone (s : State) (t : TxnId) (n : NodeId) (told : Told) (s' : State) : Type 0 where
   pub told_so : is_told_that t notice.Gone told ≡ true
+  pub lived : is_live s.graph n ≡ true
   pub gone : is_live s'.graph n ≡ false
 
 -- it ended in one of these ways, or the command cancelled or aborted t by name
-abbrev pub EndsSomehow : TxnId → NodeId → Mode → Command → Told → State → Type 0
-EndsSomehow t n m c told s' =
-    EndsGranted t n m told s' ⊎ EndsCondemned t told s' ⊎ EndsMoved t n told s' ⊎ EndsGone t n told s' ⊎ (ends_wait_of t c ≡ true)
+abbrev pub EndsSomehow : State → TxnId → NodeId → Mode → Command → Told → State → Type 0
+EndsSomehow s t n m c told s' =
+    EndsGranted t n m told s' ⊎ EndsCondemned t told s' ⊎ EndsMoved t n c told ⊎ EndsGone s t n told s' ⊎ (ends_wait_of t c ≡ true)
 
 -- a step ends t's wait on n: t waits there before it and not after it
 pub record EndsWait (t : TxnId) (n : NodeId) (s : State) (c : Command) (r : Answer × Told) (s' : State) : Type 0 where
   pub wanted : Mode
   pub waited : status_of s t.slot ≡ Some (Waiting n wanted)
   pub over : waits_on s' t n ≡ false
-  pub how : EndsSomehow t n wanted c r.1 s'
+  pub how : EndsSomehow s t n wanted c r.1 s'
 
 -- over a run in which all that were before t at its beginning have ended, t's wait has ended: by a grant, unless t is condemned, cancelled or
 -- aborted, or n is moved or removed

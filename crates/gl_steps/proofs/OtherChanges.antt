@@ -20,7 +20,7 @@ use Rattle.gl_model.specs.Calls.{is_covered, begun_since, enqueued, released, sh
 use Rattle.gl_model.specs.State.{blocks, waits_for, SettledWithin, Settled}
 use Rattle.gl_waits.specs.Waits.{IsWalk}
 use Rattle.gl_model.proofs.queues.Waiters.{waits_of, without_other, without_self, placed_other}
-use Rattle.gl_model.proofs.telling.Follows.{WaitsWell, Follows, SameGrants, follows_trans, follows_same, absent_well, pumped_follows}
+use Rattle.gl_model.proofs.telling.Follows.{WaitsWell, Follows, SameGrants, follows_trans, follows_same, absent_well, pumped_follows, Waits}
 use Rattle.gl_modes.proofs.NodeLemmas.{same_node-equal}
 
 pub other : (u t : ℕ) → u ≢ t → (t == u) ≡ false
@@ -63,6 +63,9 @@ apart_condemned e = cc
 apart_active : {q : NodeId} {w : Mode} → Some Active ≡ Some (Waiting q w) → ⊥
 apart_active e = cc
 
+apart_both : Some Condemned ≡ Some Active → ⊥
+apart_both e = cc
+
 restatus_in : (st : Status) (x : Option Txn) (now : Status) → status_in x ≡ Some now → status_in (restatus st x) ≡ Some st
 restatus_in st None now e = absurd (no e)
   where
@@ -82,6 +85,8 @@ condemned_self s t n m e = record {
   active = λ h. absurd (apart_active (sym h ∙ e));
   was_waiting = λ q w h. absurd (apart_condemned (sym status ∙ h));
   grants = inl (λ q. refl);
+  was_there = λ h. absurd (apart_both (sym status ∙ h));
+  ends = λ w h. absurd (apart_both (sym status ∙ h));
   well = absent_well (without_wait s t Condemned) t (λ q. without_self t (s.queue q)) (λ q w h. apart_condemned (sym status ∙ h));
 }
   where
@@ -90,9 +95,6 @@ condemned_self s t n m e = record {
 
     status : status_of (without_wait s t Condemned) t ≡ Some Condemned
     status = ap status_in here ∙ restatus_in Condemned (s.txns t) (Waiting n m) e
-
-abbrev Waits : State → ℕ → Type 0
-Waits s v = (n : NodeId) × (m : Mode) × (status_of s v ≡ Some (Waiting n m))
 
 -- another is condemned; t too may be the one, if it waits
 pub condemned_follows : (s : State) (v t : ℕ) → Waits s v → WaitsWell s t → Follows s (condemned s v) t

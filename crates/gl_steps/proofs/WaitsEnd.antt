@@ -1,25 +1,27 @@
 -- A wait that a step ends is told, or its transaction is named by a cancel or an abort.
-use Rattle.std.specs.Prelude.{◌≡◌, ◌≢◌, ℕ, ◌+◌, Bool, true, false, not, ◌&&◌, ◌||◌, ◌==◌, Option, Some, None, if◌then◌else◌, min, ◌⊎◌, [], ◌∷◌}
-use Rattle.std.specs.List.{filter}
+use Rattle.std.specs.Prelude.{◌≡◌, ◌≢◌, ℕ, ◌+◌, Bool, true, false, not, ◌&&◌, ◌||◌, ◌==◌, Option, Some, None, if◌then◌else◌, min, ◌⊎◌, [], ◌∷◌, is_some}
+use Rattle.std.specs.List.{filter, list_any}
 use Rattle.std.proofs.Common.{refl, sym, ap, ap₂, arith, subst, ◌∙◌, inl, inr, ⊎_elim}
 use Rattle.std.proofs.lemmas.Bool.Decides.{nat_tests}
 use mathlib.Core.Bool.{true≢false}
-use Rattle.gl_modes.proofs.Words.{and_both, both, none_some, or_left, or_right, split, or_elim}
+use Rattle.gl_modes.proofs.Words.{and_both, both, none_some, or_left, or_right, split, or_elim, clash, number_same, no}
 use Rattle.gl_modes.specs.declared.mode.Mode.{Mode}
 use Rattle.gl_modes.specs.declared.mode.Mode.TheVariants.{NL}
 use Rattle.gl_modes.specs.declared.node.NodeId.{NodeId}
 use Rattle.gl_modes.specs.Modes.{same_mode}
 use Rattle.gl_modes.specs.Nodes.{same_node}
-use Rattle.gl_modes.proofs.NodeLemmas.{same_node-refl}
-use Rattle.gl_graph.specs.Graph.{is_live}
-use Rattle.gl_graph.specs.Changes.{rekeyed_parents}
+use Rattle.gl_modes.proofs.NodeLemmas.{same_node-refl, same_node-equal, same_node-sym}
+use Rattle.gl_graph.specs.Graph.{is_live, Graph, with_key, Node, parents_in, is_child}
+use Rattle.gl_graph.specs.Changes.{rekeyed_parents, without_node, without_branch}
 use Rattle.gl_header.specs.Header.{holds, is_among_waiters}
 use Rattle.gl_model.specs.declared.answers.Notice.{Notice}
 use Rattle.gl_model.specs.declared.answers.Notice.TheVariants as notice
 use Rattle.gl_model.specs.declared.txn.Status.{Status}
 use Rattle.gl_model.specs.declared.txn.Status.TheVariants.{Active, Waiting, Condemned}
 use Rattle.gl_model.specs.declared.txn.TxnId.{TxnId}
-use Rattle.gl_model.specs.Calls.{Locks, enqueued, enters_at, granted, raised, released, stays, wanted, is_covered, no_txn, waiting_test}
+use Rattle.gl_model.specs.Calls.{Locks, enqueued, enters_at, granted, raised, released, stays, wanted, is_covered, no_txn, waiting_test, freed_among, freed}
+use Rattle.gl_model.specs.Calls.{none_among}
+use Rattle.gl_model.specs.Calls.{freed_unless}
 use Rattle.gl_model.specs.Lawful.{IsLawful}
 use Rattle.gl_model.specs.State.{granted_at, is_waiting_at, waits_at, woken}
 use Rattle.gl_model.specs.State.{State, Txn, age_of, live_by, lives, members, restatus, status_in, status_of, with_grant}
@@ -28,7 +30,7 @@ use Rattle.gl_model.proofs.law.Keeps.{waiting_is}
 use Rattle.gl_steps.specs.declared.command.Answer.{Answer}
 use Rattle.gl_steps.specs.declared.command.Command.{Command}
 use Rattle.gl_steps.specs.declared.command.Command.TheVariants as command
-use Rattle.gl_steps.specs.Promises.{EndsWaits, ends_wait_of, is_told, same_txn, waits_on, is_told_that, same_notice, IsToldEnd}
+use Rattle.gl_steps.specs.Promises.{EndsWaits, ends_wait_of, is_told, same_txn, waits_on, is_told_that, same_notice, IsToldEnd, moves_node}
 use Rattle.gl_steps.proofs.Beginning.{Begins}
 use Rattle.gl_steps.specs.Step.{Accepts, Step}
 use Rattle.gl_steps.specs.Tests.{tests_of}
@@ -39,9 +41,13 @@ use Rattle.gl_steps.proofs.LivesOn.{GoesOn, LivesOn, freed_on, lives_on_same, li
 use Rattle.gl_steps.proofs.LivesOn.{unless_on, wait_settles_goes_on, woken_on}
 use Rattle.gl_steps.proofs.NotRefused.{differ, txn_lives}
 use Rattle.gl_steps.proofs.OneStep.{AllNone, all_none}
-use Rattle.gl_steps.proofs.OtherChanges.{begun_other, other}
+use Rattle.gl_steps.proofs.OtherChanges.{begun_other, other, with_grant_follows, enqueued_follows, settled_follows, wait_settles_follows, released_follows}
+use Rattle.gl_steps.proofs.OtherChanges.{cancelled_follows}
+use Rattle.gl_steps.proofs.OtherChanges.{unlocked_follows}
+use Rattle.gl_steps.proofs.OtherChanges.{escalated_follows}
 use Rattle.gl_steps.proofs.ToldGrants.{age_is, any_filtered, any_mapped, txn_there}
 use Rattle.gl_modes.proofs.ModeLemmas.{same_mode-refl}
+use Rattle.gl_model.proofs.telling.Follows.{Follows, WaitsWell, lawful_waits, follows_trans}
 
 -- each notice is itself
 same_notice-refl : (x : Notice) → same_notice x x ≡ true
@@ -49,6 +55,47 @@ same_notice-refl (notice.Granted n m) = both _ _ (same_node-refl n) (same_mode-r
 same_notice-refl notice.Victim = refl
 same_notice-refl notice.Moved = refl
 same_notice-refl notice.Gone = refl
+
+-- a wait on what is not removed lasts
+freed_keeps : (goes : NodeId → Bool) (n : NodeId) (m : Mode) (x : Option Txn) → status_in x ≡ Some (Waiting n m) → goes n ≡ false
+    → status_in (freed_among goes x) ≡ Some (Waiting n m)
+freed_keeps goes n m None h e = absurd (none_some h)
+freed_keeps goes n m (Some y) h e =
+    let st : y.status ≡ Waiting n m = cc in
+    ap (λ z. Some (none_among goes z)) st ∙ ap (λ b. Some (if b then Active else Waiting n m)) e
+
+-- and so does one on another node than that which moves
+unless_keeps : (keeps : ℕ → Bool) (r : NodeId) (u : ℕ) (n : NodeId) (m : Mode) (x : Option Txn) → status_in x ≡ Some (Waiting n m) → same_node n r ≡ false
+    → status_in (freed_unless keeps r u x) ≡ Some (Waiting n m)
+unless_keeps keeps r u n m x h e = by (keeps u)
+  where
+    by : (b : Bool) → status_in (if b then x else freed r x) ≡ Some (Waiting n m)
+    by true = h
+    by false = freed_keeps (λ q. same_node q r) n m x h e
+
+-- what is removed lives no more
+deleted_dead : (g : Graph) (r n : NodeId) → same_node n r ≡ true → is_live (without_node g r) n ≡ false
+deleted_dead g r n e =
+    let birth : (n.birth == r.birth) ≡ true = ap (λ p. p.birth == r.birth) (same_node-equal n r e) ∙ number_same r.birth r.birth refl in
+    ap (λ b. is_some (with_key n.key (if b then None else g.at n.birth))) birth
+
+-- a parent of a living node is one of the node of its birth
+child_in : (p : NodeId → Bool) (key : ℕ) (o : Option Node) → list_any p (parents_in (with_key key o)) ≡ true → list_any p (parents_in o) ≡ true
+child_in p key None h = h
+child_in p key (Some y) h = by (y.key == key) h
+  where
+    by : (b : Bool) → list_any p (parents_in (if b then Some y else None)) ≡ true → list_any p y.parents ≡ true
+    by true k = k
+    by false k = absurd (no k)
+
+dropped_dead : (g : Graph) (x n : NodeId) → goes_with g x n ≡ true → is_live (without_branch g x) n ≡ false
+dropped_dead g x n e = or_elim (same_node x n) (is_child g x n) e
+    (λ h. gone (or_left (n.birth == x.birth) (list_any (same_node x) (parents_in (g.at n.birth)))
+    (number_same n.birth x.birth (ap (λ p. p.birth) (sym (same_node-equal x n h))))))
+    (λ h. gone (or_right (n.birth == x.birth) (list_any (same_node x) (parents_in (g.at n.birth))) (child_in (same_node x) n.key (g.at n.birth) h)))
+  where
+    gone : ((n.birth == x.birth) || list_any (same_node x) (parents_in (g.at n.birth))) ≡ true → is_live (without_branch g x) n ≡ false
+    gone k = ap (λ b. is_some (with_key n.key (if b then None else g.at n.birth))) k
 
 -- t lives in s, and waits on n for m
 module _ (s : State) (law : IsLawful s) (t : TxnId) (alive : lives s t ≡ true) (n : NodeId) (m : Mode) (waits : status_of s t.slot ≡ Some (Waiting n m)) where
@@ -89,6 +136,23 @@ module _ (s : State) (law : IsLawful s) (t : TxnId) (alive : lives s t ≡ true)
     its = (some_notice now (status_of now t.slot) there quiet).0
 
     -- its notice is in the list
+    -- one that is active holds what it waited for, or the node is gone: it is not told that the node moved
+    pub not_moved : (status_of now t.slot ≡ Some Active → is_live now.graph n ≡ true → same_mode (now.held t.slot n) m ≡ true)
+        → (x : Notice) → notice_of now t.slot n m (status_of now t.slot) ≡ Some x → x ≡ notice.Moved → ⊥
+    not_moved why x is e = by (status_of now t.slot) refl is
+      where
+        at : (a : Bool) → is_live now.graph n ≡ a → (b : Bool) → same_mode (now.held t.slot n) m ≡ b → status_of now t.slot ≡ Some Active
+            → (if not a then Some notice.Gone else (if b then Some (notice.Granted n m) else Some notice.Moved)) ≡ Some x → ⊥
+        at false a b h st k = let f : notice.Gone ≡ notice.Moved = cc in cc
+        at true a true h st k = let f : notice.Granted n m ≡ notice.Moved = cc in cc
+        at true a false h st k = clash (why st a) h
+
+        by : (o : Option Status) → status_of now t.slot ≡ o → notice_of now t.slot n m o ≡ Some x → ⊥
+        by None st k = none_some k
+        by (Some (Waiting q w)) st k = none_some k
+        by (Some Condemned) st k = let f : notice.Victim ≡ notice.Moved = cc in cc
+        by (Some Active) st k = at (is_live now.graph n) refl (same_mode (now.held t.slot n) m) refl st k
+
     told_over : is_told_that t its (told s now) ≡ true
     told_over =
         let x = some_notice now (status_of now t.slot) there quiet in
@@ -119,7 +183,7 @@ module _ (s : State) (law : IsLawful s) (t : TxnId) (alive : lives s t ≡ true)
 
   module _ (a : Answer) (list : Told) (next : State) (over : waits_on next t n ≡ false) where
     abbrev Ended : Command → Type 0
-    Ended c = IsToldEnd t n m list next ⊎ (ends_wait_of t c ≡ true)
+    Ended c = IsToldEnd t n m c list next ⊎ (ends_wait_of t c ≡ true)
 
     abbrev its_end : GoesOn s next t.slot → (x : Notice) × (notice_of next t.slot n m (status_of next t.slot) ≡ Some x)
     its_end on = some_notice next (status_of next t.slot) (there next on over) (quiet next on over)
@@ -130,11 +194,51 @@ module _ (s : State) (law : IsLawful s) (t : TxnId) (alive : lives s t ≡ true)
     unmoved : (made : State) → next ≡ made → made.txns t.slot ≡ s.txns t.slot → (c : Command) → Ended c
     unmoved made e same c = absurd (still next (ap (λ (x : State). x.txns t.slot) e ∙ same) over)
 
-    all_told : (c : Command) → list ≡ told s next → GoesOn s next t.slot → Ended c
-    all_told c is on = let x = its_end on in inl (x.0, x.1, ap (is_told_that t x.0) is ∙ told_over next on over)
+    -- it is told that the node moved only if that is so
+    abbrev MovesIf : Command → GoesOn s next t.slot → Type 0
+    MovesIf c on = (its_end on).0 ≡ notice.Moved → moves_node n c ≡ true
 
-    others_told : (c : Command) (u : ℕ) → u ≢ t.slot → list ≡ told_but u s next → GoesOn s next t.slot → Ended c
-    others_told c u ne is on = let x = its_end on in inl (x.0, x.1, ap (is_told_that t x.0) is ∙ told_but_over next on over u ne)
+    all_told : (c : Command) → list ≡ told s next → (on : GoesOn s next t.slot) → MovesIf c on → Ended c
+    all_told c is on moved = let x = its_end on in
+        inl (record { said = x.0; is = x.1; told_so = ap (is_told_that t x.0) is ∙ told_over next on over; moved = moved })
+
+    others_told : (c : Command) (u : ℕ) → u ≢ t.slot → list ≡ told_but u s next → (on : GoesOn s next t.slot) → MovesIf c on → Ended c
+    others_told c u ne is on moved = let x = its_end on in
+        inl (record { said = x.0; is = x.1; told_so = ap (is_told_that t x.0) is ∙ told_but_over next on over u ne; moved = moved })
+
+    -- a change by others that moves no node grants what it waited for
+    granted_by : Follows s next t.slot → (on : GoesOn s next t.slot) (c : Command) → MovesIf c on
+    granted_by f on c e = absurd (not_moved next on over (λ active live.
+        let g = f.ends (n, m, waits) active in
+        let same : Some (Waiting g.node g.mode) ≡ Some (Waiting n m) = sym g.was ∙ waits in
+        let node : g.node ≡ n = cc in let mode : g.mode ≡ m = cc in
+        ap (λ x. same_mode x m) (ap (next.held t.slot) (sym node) ∙ g.at ∙ mode) ∙ same_mode-refl m) (its_end on).0 (its_end on).1 e)
+
+    -- a removal removed the node
+    gone_by : (goes : NodeId → Bool) → next.txns t.slot ≡ freed_among goes (s.txns t.slot) → (on : GoesOn s next t.slot) (c : Command)
+        → (goes n ≡ true → is_live next.graph n ≡ false) → MovesIf c on
+    gone_by goes is on c dead e = absurd (not_moved next on over (λ active live. clash live
+        (dead (split (goes n) (λ h. h) (λ h. absurd (quiet next on over n m (ap status_in is ∙ freed_keeps goes n m (s.txns t.slot) waits h))))))
+        (its_end on).0 (its_end on).1 e)
+
+    -- a move moved it
+    moved_by : (keeps : ℕ → Bool) (r : NodeId) → next.txns t.slot ≡ freed_unless keeps r t.slot (s.txns t.slot) → (on : GoesOn s next t.slot)
+        → same_node r n ≡ true
+    moved_by keeps r is on = same_node-sym r n ∙ split (same_node n r) (λ h. h)
+        (λ h. absurd (quiet next on over n m (ap status_in is ∙ unless_keeps keeps r t.slot n m (s.txns t.slot) waits h)))
+
+    well : WaitsWell s t.slot
+    well = lawful_waits s law t.slot
+
+    follows_is : (made : State) → next ≡ made → Follows s made t.slot → Follows s next t.slot
+    follows_is made e f = subst (λ x. Follows s x t.slot) (sym e) f
+
+    lock_follows : (u : TxnId) (q : NodeId) (w : Mode) → u.slot ≢ t.slot → Locks s u.slot q w next → Follows s next t.slot
+    lock_follows u q w ne locks =
+        split (enters_at s u.slot q w) (λ e. follows_is _ (locks.at_once e) (with_grant_follows s u.slot t.slot q _ ne well))
+        (λ e. let x : State = enqueued s u.slot q (wanted s u.slot q w) in
+        let f = enqueued_follows s u.slot t.slot q (wanted s u.slot q w) ne well in
+        follows_trans s x next t.slot f (wait_settles_follows s.detect s.victims x u.slot next t.slot (locks.waits e) f.well))
 
     named : (c : Command) → ends_wait_of t c ≡ true → Ended c
     named c h = inr h
@@ -169,43 +273,62 @@ module _ (s : State) (law : IsLawful s) (t : TxnId) (alive : lives s t ≡ true)
     accepted command.Begin passed acc = begins command.Begin (s.begins + 1) acc
     accepted (command.BeginAgain since) passed acc = begins (command.BeginAgain since) (min since (s.begins + 1)) acc
     accepted (command.Lock u q w) passed acc =
-        let ne = other_active u passed.1.1.0 in others_told (command.Lock u q w) u.slot ne acc.2 (locked_on u q w ne acc.0)
+        let ne = other_active u passed.1.1.0 in let on = locked_on u q w ne acc.0 in
+        others_told (command.Lock u q w) u.slot ne acc.2 on (granted_by (lock_follows u q w ne acc.0) on (command.Lock u q w))
     accepted (command.Try u q w) passed acc = unmoved _ acc.2 refl (command.Try u q w)
     accepted (command.Unlock u q) passed acc =
-        all_told (command.Unlock u q) acc.1 (on_is _ acc.2 (pumped_goes_on (with_grant s u.slot q NL) (same_node q) t.slot))
+        let ne = other_active u passed.1.1.0 in
+        let on = on_is _ acc.2 (pumped_goes_on (with_grant s u.slot q NL) (same_node q) t.slot) in
+        all_told (command.Unlock u q) acc.1 on (granted_by (follows_is _ acc.2 (unlocked_follows s u.slot t.slot q ne well)) on (command.Unlock u q))
     accepted (command.Escalate u q) passed acc =
+        let ne = other_active u passed.1.1.0 in
         let up : State = raised s u.slot q in
-        all_told (command.Escalate u q) acc.1
-        (on_is _ acc.2 (pumped_goes_on (record up { held = λ v c. if (v == u.slot) && is_covered up u.slot q c then NL else up.held v c })
-        (is_covered up u.slot q) t.slot))
+        let on = on_is _ acc.2 (pumped_goes_on (record up { held = λ v c. if (v == u.slot) && is_covered up u.slot q c then NL else up.held v c })
+        (is_covered up u.slot q) t.slot) in
+        all_told (command.Escalate u q) acc.1 on (granted_by (follows_is _ acc.2 (escalated_follows s u.slot t.slot q ne well)) on (command.Escalate u q))
     accepted (command.Cancel u) passed acc =
         split (same_txn t u) (λ e. named (command.Cancel u) e)
-        (λ e. others_told (command.Cancel u) u.slot (other_slot u e passed.1.0) acc.1 (on_is _ acc.2 (over_goes_on s u.slot Active (λ q w h. cc) t.slot)))
-    accepted (command.Commit u) passed acc = all_told (command.Commit u) acc.1 (on_is _ acc.2 (released_on u.slot (other_active u passed.1.1.0)))
+        (λ e. let ne = other_slot u e passed.1.0 in let on = on_is _ acc.2 (over_goes_on s u.slot Active (λ q w h. cc) t.slot) in
+        others_told (command.Cancel u) u.slot ne acc.1 on
+        (granted_by (follows_is _ acc.2 (cancelled_follows s u.slot t.slot ne well)) on (command.Cancel u)))
+    accepted (command.Commit u) passed acc =
+        let ne = other_active u passed.1.1.0 in let on = on_is _ acc.2 (released_on u.slot ne) in
+        all_told (command.Commit u) acc.1 on (granted_by (follows_is _ acc.2 (released_follows s u.slot t.slot ne well)) on (command.Commit u))
     accepted (command.Abort u) passed acc =
         split (same_txn t u) (λ e. named (command.Abort u) e)
-        (λ e. all_told (command.Abort u) acc.1 (on_is _ acc.2 (released_on u.slot (other_slot u e passed.1.0))))
-    accepted (command.Settle u) passed acc = all_told (command.Settle u) acc.1 (settled_goes_on s.victims s next u.slot t.slot acc.2)
-    accepted (command.Delete u r) passed acc = all_told (command.Delete u r) acc.1 (on_is _ acc.2 (freed_on r (s.txns t.slot)))
+        (λ e. let ne = other_slot u e passed.1.0 in let on = on_is _ acc.2 (released_on u.slot ne) in
+        all_told (command.Abort u) acc.1 on (granted_by (follows_is _ acc.2 (released_follows s u.slot t.slot ne well)) on (command.Abort u)))
+    accepted (command.Settle u) passed acc =
+        let on = settled_goes_on s.victims s next u.slot t.slot acc.2 in
+        all_told (command.Settle u) acc.1 on (granted_by (settled_follows s.victims s u.slot next t.slot acc.2 well) on (command.Settle u))
+    accepted (command.Delete u r) passed acc =
+        let on = on_is _ acc.2 (freed_on r (s.txns t.slot)) in
+        all_told (command.Delete u r) acc.1 on (gone_by (λ q. same_node q r) (ap (λ (x : State). x.txns t.slot) acc.2) on (command.Delete u r)
+        (λ e. ap (λ (x : State). is_live x.graph n) acc.2 ∙ deleted_dead s.graph r n e))
     accepted (command.Rekey u r i k) passed acc =
-        let ps = rekeyed_parents s.graph r i k in
-        all_told (command.Rekey u r i k) acc.1 (on_is _ acc.2 (unless_on (λ v. is_among_waiters v (filter (stays s ps) (s.queue r))) r t.slot (s.txns t.slot)))
+        let keeps : ℕ → Bool = λ v. is_among_waiters v (filter (stays s (rekeyed_parents s.graph r i k)) (s.queue r)) in
+        let on = on_is _ acc.2 (unless_on keeps r t.slot (s.txns t.slot)) in
+        all_told (command.Rekey u r i k) acc.1 on (λ e. moved_by keeps r (ap (λ (x : State). x.txns t.slot) acc.2) on)
     accepted (command.Move u x ps) passed acc =
-        all_told (command.Move u x ps) acc.1
-        (on_is _ acc.2 (unless_on (λ v. is_among_waiters v (filter (stays s ps.now) (s.queue x))) x t.slot (s.txns t.slot)))
+        let keeps : ℕ → Bool = λ v. is_among_waiters v (filter (stays s ps.now) (s.queue x)) in
+        let on = on_is _ acc.2 (unless_on keeps x t.slot (s.txns t.slot)) in
+        all_told (command.Move u x ps) acc.1 on (λ e. moved_by keeps x (ap (λ (y : State). y.txns t.slot) acc.2) on)
     accepted (command.Group q) passed acc = absurd acc
     accepted (command.Held u q) passed acc = absurd acc
     accepted (command.Effective u q) passed acc = absurd acc
     accepted (command.Adopt f ks) passed acc = unmoved _ acc.4 refl (command.Adopt f ks)
     accepted (command.Forget r) passed acc = unmoved _ acc.2 refl (command.Forget r)
     accepted (command.Drop u x) passed acc =
-        all_told (command.Drop u x) acc.1 (on_is _ acc.2 (freed_among_on (goes_with s.graph x) (s.txns t.slot)))
+        let on = on_is _ acc.2 (freed_among_on (goes_with s.graph x) (s.txns t.slot)) in
+        all_told (command.Drop u x) acc.1 on (gone_by (goes_with s.graph x) (ap (λ (y : State). y.txns t.slot) acc.2) on (command.Drop u x)
+        (λ e. ap (λ (y : State). is_live y.graph n) acc.2 ∙ dropped_dead s.graph x n e))
     accepted (command.IndexBy u ps f bs) passed acc = unmoved _ acc.4 refl (command.IndexBy u ps f bs)
 
 pub waits_end_so : EndsWaits
 waits_end_so s s' c a list t n m law step alive waits over =
-    each_step (λ (x : State). waits_on x t n ≡ false → IsToldEnd t n m list x ⊎ (ends_wait_of t c ≡ true)) s c a list s'
-    (λ h. absurd (still s law t alive n m waits s refl h)) (λ next h. h)
+    each_step (λ (x : State). waits_on x t n ≡ false → IsToldEnd t n m c list x ⊎ (ends_wait_of t c ≡ true)) s c a list s'
+    (λ h. absurd (still s law t alive n m waits s refl h))
+    (λ next h k. ⊎_elim (λ x. inl (record { said = x.said; is = x.is; told_so = x.told_so; moved = x.moved })) (λ x. inr x) (h k))
     (λ free next acc h. accepted s law t alive n m waits a list next h c (all_none (tests_of s c) free) acc) step over
 
 -- what is told to t is among what is told
@@ -222,5 +345,5 @@ pub ends_waits : (s s' : State) (c : Command) (a : Answer) (told : Told) (t : Tx
 ends_waits s s' c a list t n law step begin over =
     let b = and_both _ _ begin in
     let w = waiting_is (status_of s t.slot) n b.1 in
-    ⊎_elim (λ told. or_left (is_told t list) (ends_wait_of t c) (told_something t told.0 list told.2)) (λ named. or_right (is_told t list) (ends_wait_of t c) named)
+    ⊎_elim (λ told. or_left (is_told t list) (ends_wait_of t c) (told_something t told.said list told.told_so)) (λ named. or_right (is_told t list) (ends_wait_of t c) named)
     (waits_end_so s s' c a list t n w.0 law step b.0 w.1 over)

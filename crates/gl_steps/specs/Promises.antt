@@ -239,9 +239,18 @@ same_notice x y = false
 abbrev pub is_told_that : TxnId → Notice → Told → Bool
 is_told_that t x told = list_any (λ y. same_txn t y.0 && same_notice x y.1) told
 
--- t is told what became of its wait for m on n, as the state after the step shows it
-abbrev pub IsToldEnd : TxnId → NodeId → Mode → Told → State → Type 0
-IsToldEnd t n m told s' = (x : Notice) × (notice_of s' t.slot n m (status_of s' t.slot) ≡ Some x) × (is_told_that t x told ≡ true)
+-- the command moves the node, or gives it another key
+abbrev pub moves_node : NodeId → Command → Bool
+moves_node n (command.Rekey t r i key) = same_node r n
+moves_node n (command.Move t r ps) = same_node r n
+moves_node n c = false
+
+-- t is told what became of its wait for m on n, as the state after the step shows it: that n moved only if the command moved it
+pub record IsToldEnd (t : TxnId) (n : NodeId) (m : Mode) (c : Command) (told : Told) (s' : State) : Type 0 where
+  pub said : Notice
+  pub is : notice_of s' t.slot n m (status_of s' t.slot) ≡ Some said
+  pub told_so : is_told_that t said told ≡ true
+  pub moved : said ≡ notice.Moved → moves_node n c ≡ true
 
 -- the command cancels or aborts t by its name
 abbrev pub ends_wait_of : TxnId → Command → Bool
@@ -280,4 +289,4 @@ abbrev pub EndsWaits : Type 0
 EndsWaits =
     (s s' : State) (c : Command) (a : Answer) (told : Told) (t : TxnId) (n : NodeId) (m : Mode) → IsLawful s → Step s c a told s' → lives s t ≡ true
     → status_of s t.slot ≡ Some (Waiting n m) → waits_on s' t n ≡ false
-    → IsToldEnd t n m told s' ⊎ (ends_wait_of t c ≡ true)
+    → IsToldEnd t n m c told s' ⊎ (ends_wait_of t c ≡ true)

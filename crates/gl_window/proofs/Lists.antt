@@ -23,6 +23,11 @@ last_of e (x ∷ xs) b = last_of x.epoch xs b
 pub last_ends : (list : List Board) (b : Board) → Ends list b → last_epoch 0 list ≡ b.epoch
 last_ends list b h = ap (last_epoch 0) h.1 ∙ last_of 0 h.0 b
 
+-- after a snapshot was added, or none was, the last epoch is at most the snapshot's
+pub epoch_after : (list new : List Board) (b : Board) → (new ≡ list) ⊎ (new ≡ list ++ b ∷ []) → last_epoch 0 list ≤ b.epoch → last_epoch 0 new ≤ b.epoch
+epoch_after list new b h le = ⊎_elim (λ e. subst (λ l. last_epoch 0 l ≤ b.epoch) (sym e) le)
+    (λ e. let same = ap (last_epoch 0) e ∙ last_of 0 list b in omega (arith, same)) h
+
 -- a lawful list and one more snapshot
 pub lawful_more : (detect : Detect) (first : Board) (list : List Board) (last y : Board) → IsLawful detect first list → Ends list last → last.epoch ≤ y.epoch
     → Fine detect y → IsLawful detect first (list ++ y ∷ [])

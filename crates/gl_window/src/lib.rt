@@ -9,6 +9,8 @@ mod parties;
 mod publisher;
 mod seats;
 mod telling;
+#[cfg(test)]
+mod tests;
 mod watcher;
 mod window;
 

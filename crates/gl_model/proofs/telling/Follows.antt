@@ -28,13 +28,19 @@ pub record WaitsWell (s : State) (t : ℕ) : Type 0 where
 abbrev pub SameGrants : State → State → ℕ → Type 0
 SameGrants s s' t = (q : NodeId) → s'.held t q ≡ s.held t q
 
--- a change that leaves one slot all that it had, and raises it at most at one node, on which it waited
+-- the slot waits
+abbrev pub Waits : State → ℕ → Type 0
+Waits s t = (n : NodeId) × (m : Mode) × (status_of s t ≡ Some (Waiting n m))
+
+-- a change that leaves one slot all that it had, and raises it at most at one node, on which it waited; if it waits no more and is active, it was granted that
 pub record Follows (s s' : State) (t : ℕ) : Type 0 where
   pub graph : s'.graph ≡ s.graph
   pub lives : (age : ℕ) → live_by age (s.txns t) ≡ true → live_by age (s'.txns t) ≡ true
   pub active : status_of s t ≡ Some Active → status_of s' t ≡ Some Active
   pub was_waiting : (n : NodeId) (m : Mode) → status_of s' t ≡ Some (Waiting n m) → status_of s t ≡ Some (Waiting n m)
   pub grants : SameGrants s s' t ⊎ GrantedTo s s' t
+  pub was_there : status_of s' t ≡ Some Active → (status_of s t ≡ Some Active) ⊎ Waits s t
+  pub ends : Waits s t → status_of s' t ≡ Some Active → GrantedTo s s' t
   pub well : WaitsWell s' t
 
 -- the law says so of every slot
@@ -49,12 +55,14 @@ follows_trans s mid s' t f g = record {
   active = λ h. g.active (f.active h);
   was_waiting = λ n m h. f.was_waiting n m (g.was_waiting n m h);
   grants = both f.grants g.grants;
+  was_there = λ h. ⊎_elim f.was_there (λ w. inr (w.0, w.1, f.was_waiting w.0 w.1 w.2)) (g.was_there h);
+  ends = λ w h. ⊎_elim (λ active. then (f.ends w active) g.grants) (λ still. first f.grants (g.ends still h)) (g.was_there h);
   well = g.well;
 }
   where
-    both : SameGrants s mid t ⊎ GrantedTo s mid t → SameGrants mid s' t ⊎ GrantedTo mid s' t → SameGrants s s' t ⊎ GrantedTo s s' t
-    both (inl a) (inl b) = inl (λ q. b q ∙ a q)
-    both (inl a) (inr b) = inr (record {
+    -- a grant by the second change
+    first : SameGrants s mid t ⊎ GrantedTo s mid t → GrantedTo mid s' t → GrantedTo s s' t
+    first (inl a) b = record {
       node = b.node;
       mode = b.mode;
       was = f.was_waiting b.node b.mode b.was;
@@ -62,8 +70,12 @@ follows_trans s mid s' t f g = record {
       at = b.at;
       elsewhere = λ q ne. b.elsewhere q ne ∙ a q;
       more = ap (is_at_least b.mode) (sym (a b.node)) ∙ b.more;
-    })
-    both (inr a) (inl b) = inr (record {
+    }
+    first (inr a) b = absurd (apart (sym a.is ∙ b.was))
+
+    -- a grant by the first
+    then : GrantedTo s mid t → SameGrants mid s' t ⊎ GrantedTo mid s' t → GrantedTo s s' t
+    then a (inl b) = record {
       node = a.node;
       mode = a.mode;
       was = a.was;
@@ -71,8 +83,13 @@ follows_trans s mid s' t f g = record {
       at = b a.node ∙ a.at;
       elsewhere = λ q ne. b q ∙ a.elsewhere q ne;
       more = a.more;
-    })
-    both (inr a) (inr b) = absurd (apart (sym a.is ∙ b.was))
+    }
+    then a (inr b) = absurd (apart (sym a.is ∙ b.was))
+
+    both : SameGrants s mid t ⊎ GrantedTo s mid t → SameGrants mid s' t ⊎ GrantedTo mid s' t → SameGrants s s' t ⊎ GrantedTo s s' t
+    both (inl a) (inl b) = inl (λ q. b q ∙ a q)
+    both (inl a) (inr b) = inr (first (inl a) b)
+    both (inr a) b = inr (then a b)
 
 -- nothing of t is touched
 pub follows_same : (s s' : State) (t : ℕ) → WaitsWell s t → s'.graph ≡ s.graph → s'.txns t ≡ s.txns t → SameGrants s s' t
@@ -83,6 +100,8 @@ follows_same s s' t well graph txn grants waits = record {
   active = λ h. ap status_in txn ∙ h;
   was_waiting = λ n m h. sym (ap status_in txn) ∙ h;
   grants = inl grants;
+  was_there = λ h. inl (sym (ap status_in txn) ∙ h);
+  ends = λ w h. absurd (apart (sym h ∙ ap status_in txn ∙ w.2));
   well = record {
     one = λ n m h. waits n ∙ well.one n m (sym (ap status_in txn) ∙ h);
     more = λ n m h. ap (is_at_least m) (grants n) ∙ well.more n m (sym (ap status_in txn) ∙ h);
@@ -143,20 +162,23 @@ module _ (s : State) (chosen : NodeId → Bool) (t : ℕ) (well : WaitsWell s t)
       ⊎_elim (λ stays. same_follows (λ q. split (same_node n q) (λ h. subst (λ x. waits_of t (granted x) ≡ []) (same_node-equal n q h) stays.0)
       (λ h. (nowhere _ e q h).0)))
       (λ goes. let status = roused granted t n m (s.txns t) e (one_among t (granted n) (t, m) goes.0) in
+      let got : GrantedTo s (pumped s chosen) t = record {
+        node = n;
+        mode = m;
+        was = e;
+        is = status;
+        at = granted_mode (members s n) t (granted n) ∙ ap (last_mode (s.held t n)) goes.0;
+        elsewhere = λ q ne. held_same q (nowhere _ e q ne).0;
+        more = well.more n m e;
+      } in
       record {
         graph = refl;
         lives = λ age h. woken_lives granted t age (s.txns t) ∙ h;
         active = λ h. absurd (apart (sym h ∙ e));
         was_waiting = λ q w h. absurd (apart (sym status ∙ h));
-        grants = inr (record {
-          node = n;
-          mode = m;
-          was = e;
-          is = status;
-          at = granted_mode (members s n) t (granted n) ∙ ap (last_mode (s.held t n)) goes.0;
-          elsewhere = λ q ne. held_same q (nowhere _ e q ne).0;
-          more = well.more n m e;
-        });
+        grants = inr got;
+        was_there = λ h. inr (n, m, e);
+        ends = λ w h. got;
         well = absent_well (pumped s chosen) t (λ q. split (same_node n q) (λ h. subst (λ x. waits_of t (rest x) ≡ []) (same_node-equal n q h) goes.1)
             (λ h. (nowhere _ e q h).1)) (λ q w h. apart (sym status ∙ h));
       }) (split_one _ _ (t, m) (waits_parts n ∙ well.one n m e))
