@@ -130,15 +130,28 @@ is_c_old() {
   [ ! -e "$written" ] || [ -n "$(find "$top"/c/*.c "$top"/include/*.h "$top/tools/c_library.sh" -newer "$written" -print -quit)" ]
 }
 
+# write_exports FOLDER: writes the functions that the headers define in place as a source of its own, burlapslate_exports.c,
+# with headers in which they are not static: so the library exports each public call, for languages that read no header.
+write_exports() {
+  local header
+  mkdir -p "$1/include" && echo '#include "burlapslate_shared.h"' >"$1/burlapslate_exports.c" || return
+  for header in "$built"/include/*.h; do
+    sed 's/^static inline //' "$header" >"$1/include/${header##*/}" || return
+  done
+}
+
 # build_c: compiles the part written in C, so that it can be part of a shared library too. A malloc that is cleared must
 # not become a calloc: the allocator is malloc, realloc and free. The archive is put in its place whole, since others
 # may build it at the same time.
 build_c() {
-  local work source status=0
+  local work source headers status=0
   work=$(mktemp -d) || return
-  for source in "$top"/c/*.c; do
+  write_exports "$work" || status=1
+  for source in "$top"/c/*.c "$work/burlapslate_exports.c"; do
+    headers=$built/include
+    [ "${source%/*}" != "$work" ] || headers=$work/include
     # shellcheck disable=SC2086 # CC may have words after the name.
-    ${CC:-cc} -std=c99 -D_POSIX_C_SOURCE=200809L -pthread -O2 -fPIC -fno-builtin-malloc -Wall -Wextra -I"$built/include" -c \
+    ${CC:-cc} -std=c99 -D_POSIX_C_SOURCE=200809L -pthread -O2 -fPIC -fno-builtin-malloc -Wall -Wextra -I"$headers" -c \
       -o "$work/$(basename "$source" .c).o" "$source" || status=1
   done
   [ "$status" -eq 0 ] && (cd "$work" && ${AR:-ar} rcsD archive.a ./*.o) && mkdir -p "${written%/*}" &&

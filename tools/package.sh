@@ -1,13 +1,19 @@
 #!/usr/bin/env bash
-# package.sh [OUT]: packs the library for C as it is built, into the folder OUT, by default out/ of the repository:
-# burlapslate-VERSION-linux-x86_64.tar.gz, which may be unpacked anywhere, and two Debian packages of the same,
-# libburlapslate0 with the shared library and libburlapslate-dev with the rest. Each has a file PROOF, which says
-# what was seen of the proof. Prints the path of each package. If the library is missing or old, it is built first
-# (tools/c_library.sh). Without dpkg-deb it makes the archive alone, says so, and ends with status 77.
-# SOURCE_DATE_EPOCH is the time that the files bear, by default that of the last commit.
+# package.sh [--help] [OUT]: packs the library for C as it is built, into the folder OUT, by default out/ of the
+# repository: burlapslate-VERSION-linux-x86_64.tar.gz, which may be unpacked anywhere, and two Debian packages of the
+# same, libburlapslate0 with the shared library and libburlapslate-dev with the rest: headers, archive, documents,
+# examples, the programs gltool and glpicture, the crate for Rust and the module for Python. Each has a file PROOF, which
+# says what was seen of the proof. Prints the path of each package. If the library or a program is missing or old, it is
+# built first. Fails if the last test run (./check) was of other sources, or has not seen each crate of the library
+# proved. Without dpkg-deb it makes the archive alone, says so, and ends with status 77. SOURCE_DATE_EPOCH is the time
+# that the files bear, by default that of the last commit.
 set -uo pipefail
 top=$(cd "$(dirname "$0")/.." && pwd) || exit 2
-[ $# -le 1 ] || { sed -n '2,8s/^# //p' "$0" >&2; exit 2; }
+if [ "${1:-}" = --help ]; then
+  sed -n '2,10s/^# //p' "$0"
+  exit
+fi
+[[ $# -le 1 && ${1:-} != -* ]] || { sed -n '2,10s/^# //p' "$0" >&2; exit 2; }
 out=${1:-$top/out}
 mkdir -p "$out" && out=$(cd "$out" && pwd) || exit 1
 work=$(mktemp -d) || exit 2
@@ -34,28 +40,31 @@ said_of_building() {
   fi
 }
 
-# said_of_verdicts SUM TOOLCHAIN: the verdict of each crate, where a test run of these sources has left it.
+# said_of_verdicts SUM TOOLCHAIN: each crate, if the test run of these sources has seen it proved; fails if it has not.
 said_of_verdicts() {
-  local crate line
+  local crate
   if [ "$(sed -n '1,2p' "$kept" 2>/dev/null)" != "crates $1"$'\n'"toolchain $2" ]; then
-    echo "No verdict is at hand: no test run (./check) of these crates by this toolchain has left one here. Nothing was"
-    echo "proved anew for this package."
-    return
+    echo "package.sh: no test run of these crates by this toolchain has left its verdicts here: run ./check first" >&2
+    return 1
   fi
-  echo "In the last test run (./check) rt ci passed over these crates by this toolchain, and printed of each:"
+  echo "The last test run (./check) passed. It proved each of these crates by this toolchain, or an earlier run on the"
+  echo "same machine had proved the same files over the same libraries:"
   echo
   for crate in "${crates[@]}"; do
-    line=$(sed -n "s/^proved $crate //p" "$kept")
-    echo "$crate: ${line:-no verdict is at hand}"
+    if ! grep -qx "proved $crate" "$kept"; then
+      echo "package.sh: the last test run has not seen $crate proved: run ./check again" >&2
+      return 1
+    fi
+    echo "$crate"
   done
 }
 
 # proof FOLDER: what was seen of the proof of the library that is installed in the folder.
 proof() {
-  local sum included written toolchain logic
+  local sum included written toolchain logic verdicts
   sum=$("$top/tools/sources.sh" crates) && included=$("$top/tools/sources.sh" include) &&
     written=$("$top/tools/sources.sh" c) || return
-  toolchain=$(rt version) || return
+  toolchain=$(rt version) && verdicts=$(said_of_verdicts "$sum" "$toolchain") || return
   logic=$(readelf -p .comment "$1/lib/libburlapslate.a" | sed -n 's/.*rattle logic=//p') || return
   cat <<END_OF_FILE
 What was seen of the proof of Burlapslate $version when it was packed. All sums are by sha256.
@@ -75,23 +84,35 @@ $(said_of_building "$sum")
 The toolchain compiles a library only where it is proved, and writes into it by which logic. The archive names
 ${logic:-none}
 
-$(said_of_verdicts "$sum" "$toolchain")
+$verdicts
 
 What is proved and what is trusted stands in README.md.
 END_OF_FILE
 }
 
-# papers FOLDER: copies the documents, and the examples in C, without the scripts that run them only in the repository.
+# papers FOLDER: copies the documents, the examples in C and the example scripts, without the scripts that run them only
+# in the repository.
 papers() {
-  mkdir -p "$1" && cp "$top/README.md" "$top/CHANGELOG.md" "$work/PROOF" "$1/" && cp -r "$top/docs" "$1/" || return
-  (cd "$top" && tar --exclude=out --exclude=run.sh -cf - examples/*/) | tar -C "$1" -xf -
+  mkdir -p "$1" && cp "$top"/{README,CHANGELOG,CONTRIBUTING}.md "$work/PROOF" "$1/" && cp -r "$top/docs" "$1/" || return
+  (cd "$top" && tar --exclude=out --exclude=run.sh -cf - examples) | tar -C "$1" -xf -
+}
+
+# others PREFIX: copies the programs, the crate for Rust and the module for Python.
+others() {
+  local program share=$1/share/burlapslate
+  mkdir -p "$1/bin" "$share/rust/burlapslate" "$share/python/burlapslate" || return
+  for program in gltool glpicture; do
+    cp "$top/crates/$program/out/$program" "$1/bin/" || return
+  done
+  (cd "$top/rust/burlapslate" && tar --exclude=target --exclude=tests -cf - .) | tar -C "$share/rust/burlapslate" -xf - &&
+    cp "$top"/python/burlapslate/*.py "$share/python/burlapslate/"
 }
 
 # pack_archive: makes the archive of what is below $work/$name. The file for pkg-config finds its folder by itself.
 pack_archive() {
   # shellcheck disable=SC2016 # pkg-config reads the dollar.
   sed -i 's,^prefix=.*,prefix=${pcfiledir}/../..,' "$work/$name/lib/pkgconfig/burlapslate.pc" &&
-    papers "$work/$name" &&
+    papers "$work/$name" && others "$work/$name" &&
     tar -C "$work" --sort=name --owner=0 --group=0 --numeric-owner --mtime="@$SOURCE_DATE_EPOCH" --mode=u=rwX,go=rX \
       -cf - "$name" | gzip -n >"$out/$name.tar.gz" && echo "$out/$name.tar.gz"
 }
@@ -121,7 +142,7 @@ pack_debian() {
     cmp "$shared/usr/$libdir/libburlapslate.so.$major" "$work/$name/lib/libburlapslate.so" &&
     cmp "$dev/$libdir/libburlapslate.a" "$work/$name/lib/libburlapslate.a" &&
     cp "$work/PROOF" "$shared/usr/share/doc/libburlapslate$major/" &&
-    papers "$dev/share/doc/libburlapslate-dev" || return
+    papers "$dev/share/doc/libburlapslate-dev" && others "$dev" || return
   # While the major number is 0, programs of another minor number must not run with it.
   echo "libburlapslate $major libburlapslate$major (>= $fits), libburlapslate$major (<< $other)" >"$shared/DEBIAN/shlibs"
   echo "activate-noawait ldconfig" >"$shared/DEBIAN/triggers"
@@ -129,7 +150,7 @@ pack_debian() {
 }
 
 [ "$(uname -sm)" = "Linux x86_64" ] || { echo "package.sh: it packs for Linux on x86_64 alone" >&2; exit 2; }
-"$top/tools/install.sh" --shared "$work/there" || exit 1
+"$top/tools/install.sh" --shared "$work/there" && "$top/tools/build.sh" gltool && "$top/tools/build.sh" glpicture || exit 1
 version=$(sed -n 's/^Version: //p' "$work/there/lib/pkgconfig/burlapslate.pc")
 IFS=. read -r major minor _ <<<"$version"
 fits=$major.$minor other=$major.$((minor + 1))

@@ -21,6 +21,7 @@ limit 3500 docs/PROMISES.md
 limit 2500 docs/DECISIONS.md
 limit 900 docs/TESTS.md
 limit 6000 docs/ARCHITECTURE.md CONTRIBUTING.md docs/CHOOSING.md docs/CLUSTERS.md docs/PICTURES.md
+limit 400 docs/INSTALL.md
 limit 2500 CHANGELOG.md
 limit 32000 README.md CONTRIBUTING.md docs/*.md
 exit "$status"

@@ -2,7 +2,7 @@
 # package.sh: packs the library (tools/package.sh), unpacks the archive and the Debian packages, each into its own folder,
 # and compiles programs with only what is there: the first program of README.md and answers.c, as C and as C++, with
 # pkg-config and with CMake, with the shared library and with the archive; the small engine of the examples; and the crate
-# for Rust. Checks the names that both libraries show, and looks for paths of this machine. Ends with status 1 if anything
+# for Rust; the programs and the module for Python run, and a second packing says the same of the proof. Checks the names that both libraries show, and looks for paths of this machine. Ends with status 1 if anything
 # is not as expected; if a tool is missing it says what was not tried, tries all else, and ends with status 77. CC and CXX
 # name other compilers than cc and c++.
 set -uo pipefail
@@ -129,6 +129,23 @@ by_cargo() {
   echo "the_package_by_cargo: $name, ${1%%=*}"
 }
 
+# others FOLDER: the programs run, with the example scripts of the folder; the crate for Rust is whole; the module for
+# Python passes its tests; and the documents are there.
+others() {
+  local script
+  for script in "$1"/examples/*.script; do
+    "$prefix/bin/gltool" <"$script" 2>"$work/log" | cmp - "${script%.script}.expected" >>"$work/log" 2>&1 || fails "gltool answers otherwise"
+  done
+  "$prefix/bin/glpicture" <"$1/examples/first.script" 2>"$work/log" | grep -q '^digraph' || fails "glpicture draws nothing"
+  diff -r "$top/rust/burlapslate/src" "$prefix/share/burlapslate/rust/burlapslate/src" >"$work/log" || fails "the crate for Rust is not whole"
+  [ -s "$1/CONTRIBUTING.md" ] && [ -s "$1/docs/INSTALL.md" ] || fails "a document is not there"
+  echo "the_package_has_programs: $name"
+  has "$name, by Python" python3 || return 0
+  BURLAPSLATE_LIBRARY=$libdir/libburlapslate.so PYTHONPATH=$prefix/share/burlapslate/python PYTHONDONTWRITEBYTECODE=1 timeout 60 \
+    python3 "$top/tests/python/test_burlapslate.py" >"$work/log" 2>&1 || fails "the module for Python does not run with it"
+  echo "the_package_by_python: $name"
+}
+
 # engine FOLDER: the small engine, from the package's examples in the folder, compiles and ends well.
 engine() {
   # shellcheck disable=SC2086 # CC may have words after the name.
@@ -162,6 +179,15 @@ END_OF_FILE
 [ "$status" -eq 0 ] || [ "$status" -eq 77 ] || fails "package.sh ends with status $status"
 cat "$work/packed"/*.tar.gz >/dev/null 2>"$work/log" || fails "there is no archive"
 version=$(basename "$work/packed"/*.tar.gz | cut -d - -f 2)
+# A crate that no test run has seen proved fails the packaging, and a log of kept proofs has the same verdicts.
+verdicts=$top/crates/gl_c/out/verdicts
+cp "$verdicts" "$work/verdicts" || exit 1
+sed -n 's/^proved \(.*\)/rt: \1 is kept: an earlier run on this machine proved the same/p' "$work/verdicts" |
+  "$top/tools/verdicts.sh" "$(sed -n 's/^crates //p' "$work/verdicts")" | cmp - "$work/verdicts" >"$work/log" || fails "kept proofs are other verdicts"
+grep -vx 'proved gl_graph' "$work/verdicts" >"$verdicts"
+! "$top/tools/package.sh" "$work/lacking" >"$work/log" 2>&1 || fails "a crate without a verdict is packed"
+grep -q gl_graph "$work/log" || fails "it does not say which crate has no verdict"
+cp "$work/verdicts" "$verdicts"
 away && "$top/rust/away.sh" "$work/away" || exit 1
 has "as C++" "${CXX:-c++}" || true
 
@@ -171,6 +197,7 @@ prefix=$root/burlapslate-$version-linux-x86_64
 libdir=$prefix/lib
 shows && refuses && holds
 engine "$prefix"
+others "$prefix"
 by_pkg_config
 by_cmake
 by_cargo BURLAPSLATE_DIR="$prefix" PKG_CONFIG=false
@@ -182,6 +209,7 @@ if has "as Debian packages" dpkg-deb && has "as Debian packages" dpkg; then
   prefix=$root/usr libdir=$root/usr/lib/x86_64-linux-gnu
   shows && refuses && holds
   engine "$prefix/share/doc/libburlapslate-dev"
+  others "$prefix/share/doc/libburlapslate-dev"
   by_pkg_config "--define-variable=prefix=$prefix"
   by_cmake
   by_cargo BURLAPSLATE_LIBS="$libdir/libburlapslate.a" PKG_CONFIG=false

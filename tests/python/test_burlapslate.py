@@ -1,0 +1,184 @@
+"""Tests of the module for Python: each call once, waits in two threads, and deadlocks."""
+import sys
+import threading
+import unittest
+
+import burlapslate as bs
+
+
+class Sleeper(threading.Thread):
+    """A call in a thread of its own: what it answered, or what it raised."""
+
+    def __init__(self, call, *words):
+        super().__init__(daemon=True)
+        self.call, self.words, self.answer, self.fault = call, words, None, None
+        self.start()
+
+    def run(self):
+        try:
+            self.answer = self.call(*self.words)
+        except bs.Refused as fault:
+            self.fault = fault
+
+    def ended(self):
+        self.join(10)
+        assert not self.is_alive(), "the call sleeps on"
+        return self
+
+
+class Tables(unittest.TestCase):
+    def setUp(self):
+        self.table = bs.Table()
+        self.db = self.table.add_inner()
+        self.orders = self.table.add_file([self.db])
+        self.addCleanup(self.table.close)
+
+    def sleeps(self, call, *words):
+        """A call that waits by the time that this returns."""
+        sleeper = Sleeper(call, *words)
+        sleeper.join(0.1)
+        self.assertTrue(sleeper.is_alive())
+        return sleeper
+
+    def refused(self, name, call, *words):
+        with self.assertRaises(bs.Refused) as fault:
+            call(*words)
+        self.assertEqual(str(fault.exception), name)
+        return fault.exception
+
+    def test_paths_records_and_savepoints(self):
+        with self.table.begin() as txn:
+            self.assertEqual(txn.lock_path(self.orders, bs.IX), bs.IX)
+            self.assertEqual(txn.held(self.db), bs.IX)
+            mark = txn.mark()
+            record = txn.insert(self.orders)
+            self.assertEqual(txn.held(record), bs.X)
+            txn.delete(record)
+            other = txn.insert(self.orders)
+            self.assertNotEqual(record, other)
+            self.assertEqual(txn.release_since(mark), 1)
+            self.assertEqual(txn.held(other), bs.NL)
+            self.assertEqual(txn.lock_path(other, bs.S), bs.S)
+            txn.unlock(other)
+            self.refused("NotHeld", txn.unlock, other)
+        self.refused("NoSuchTxn", txn.commit)
+        self.assertEqual(self.table.group(self.db), bs.NL)
+
+    def test_index_keys_and_drop(self):
+        days = self.table.add_index([self.db], self.orders, [100, 200])
+        with self.table.begin() as txn:
+            txn.lock_path(self.orders, bs.X)
+            txn.lock_path(days, bs.X)
+            self.refused("NeedParents", txn.insert, self.orders, [150])
+        with self.table.begin() as txn:
+            txn.lock_path(self.db, bs.X)
+            self.refused("NeedExclusive", txn.drop, days)
+        self.refused("BadKeys", self.table.add_index, [self.db], self.orders, [2, 1])
+
+    def test_rows_by_number(self):
+        rows = self.table.add_row_file([self.db])
+        with self.table.begin() as one, self.table.begin() as two:
+            one.lock_path(rows, bs.IX)
+            two.lock_path(rows, bs.IX)
+            self.assertTrue(one.lock_row(rows, 7))
+            self.assertTrue(two.try_row(rows, 8))
+            self.refused("WouldBlock", two.try_row, rows, 7)
+            one.unlock_row(rows, 7)
+            self.assertTrue(two.lock_row(rows, 7))
+
+    def test_a_block_that_raises_aborts(self):
+        with self.assertRaises(KeyError):
+            with self.table.begin() as txn:
+                txn.lock(self.db, bs.X)
+                raise KeyError
+        self.assertEqual(self.table.group(self.db), bs.NL)
+
+    def test_a_wait_is_granted_by_another_thread(self):
+        one, two = self.table.begin(), self.table.begin()
+        one.lock(self.db, bs.X)
+        waiter = self.sleeps(two.lock, self.db, bs.S)
+        one.commit()
+        self.assertEqual(waiter.ended().answer, bs.S)
+        two.commit()
+
+    def test_a_try_does_not_wait(self):
+        one, two = self.table.begin(), self.table.begin()
+        one.lock(self.db, bs.X)
+        with self.assertRaises(bs.WouldBlock) as fault:
+            two.try_path(self.orders, bs.S)
+        self.assertEqual(fault.exception.node, self.db)
+        with self.assertRaises(bs.WouldBlock):
+            two.try_lock(self.db, bs.IS)
+        one.commit(), two.abort()
+
+    def test_a_wait_has_an_end(self):
+        one, two = self.table.begin(), self.table.begin()
+        one.lock(self.db, bs.X)
+        with self.assertRaises(bs.TimedOut):
+            two.lock(self.db, bs.S, timeout=0.02)
+        waiter = self.sleeps(two.lock, self.db, bs.S)
+        self.assertTrue(two.cancel())
+        self.assertEqual(str(waiter.ended().fault), "NotWaiting")
+        self.assertFalse(two.cancel())
+        waiter = self.sleeps(two.lock, self.db, bs.S)
+        two.abort()
+        self.assertEqual(str(waiter.ended().fault), "NoSuchTxn")
+        one.commit()
+
+    def test_a_deadlock_has_a_victim(self):
+        one, two = self.table.begin(), self.table.begin()
+        one.lock(self.db, bs.S), two.lock(self.db, bs.S)
+        waiter = self.sleeps(one.lock, self.db, bs.X)
+        with self.assertRaises(bs.Victim):
+            two.lock(self.db, bs.X)
+        two.abort()
+        self.assertEqual(waiter.ended().answer, bs.X)
+        one.commit()
+
+    def test_a_watching_thread_ends_deadlocks(self):
+        with bs.Table(detect=bs.BY_WATCHER) as table:
+            table.watch(0.0001)
+            db = table.add_inner()
+            one, two = table.begin(), table.begin()
+            one.lock(db, bs.S), two.lock(db, bs.S)
+            ends = [Sleeper(one.lock, db, bs.X), Sleeper(two.lock, db, bs.X)]
+            ends[1].ended()
+            self.assertIsInstance(ends[1].fault, bs.Victim)
+            two.abort()
+            self.assertEqual(ends[0].ended().answer, bs.X)
+            one.commit()
+
+    def test_work_that_begins_again_keeps_its_turn(self):
+        first = self.table.begin()
+        first.abort()
+        again, other = self.table.begin(since=first.age), self.table.begin()
+        self.assertGreater(other.age, again.age)
+        again.commit(), other.commit()
+
+    def test_a_begin_waits_for_a_slot(self):
+        with bs.Table(transactions=1) as table:
+            one = table.begin()
+            with self.assertRaises(bs.TimedOut):
+                table.begin(timeout=0.02)
+            waiter = self.sleeps(table.begin)
+            one.commit()
+            waiter.ended().answer.commit()
+
+    def test_escalation(self):
+        with self.table.begin() as txn:
+            txn.lock_path(self.orders, bs.IX)
+            for _ in range(3):
+                txn.insert(self.orders)
+            self.assertEqual(txn.escalate(self.orders), 3)
+            self.assertEqual(txn.held(self.orders), bs.X)
+
+    def test_a_closed_table_refuses(self):
+        table = bs.Table()
+        table.close()
+        self.refused("NullPointer", table.begin)
+        self.refused("BadNumber", bs.Table, 2)
+
+
+if __name__ == "__main__":
+    print("version", ".".join(map(str, bs.version())), file=sys.stderr)
+    unittest.main()
