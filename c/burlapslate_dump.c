@@ -6,7 +6,7 @@
 #include <pthread.h>
 #include <stdlib.h>
 
-enum { DUMP_PART = 256 };
+enum { DUMP_PART = 256, DUMP_NAME = 80 };
 
 /* A transaction in a dump; the node and the transactions that it waits for. */
 typedef struct dump_txn {
@@ -21,6 +21,7 @@ typedef struct dump_txn {
 typedef struct dump_copy {
   const bs_manager *manager; /* null if it is a table's */
   bs_table *table;
+  bs_call_namer namer;       /* the engine's own names of nodes */
   bs_counts counts; /* these are of one moment, with the last deadlock */
   uint64_t nodes, most;
   size_t txn_count;
@@ -109,10 +110,22 @@ static void dump_copy_queue(const bs_manager *m, dump_txn *of, dump_copy *copy) 
   }
 }
 
+/* The engine's own name of a node, after a blank. */
+static void dump_put_name(const dump_copy *copy, bs_node node, FILE *out) {
+  char text[DUMP_NAME];
+  size_t i;
+  text[0] = 0;
+  copy->namer.function(copy->namer.context, node, text, sizeof text);
+  text[sizeof text - 1] = 0;
+  if (text[0] != 0) fputc(' ', out);
+  for (i = 0; text[i] != 0; i++) fputc((unsigned char)text[i] < ' ' ? '?' : text[i], out);
+}
+
 /* A node: what it is, and its name, as KEY/BIRTH. */
-static void dump_put_node(bs_node node, uint64_t kind, FILE *out) {
+static void dump_put_node(const dump_copy *copy, bs_node node, uint64_t kind, FILE *out) {
   fprintf(out, "%s %llu/%llu", kind == 0 ? "gone" : bs_kind_text(kind), (unsigned long long)node.key,
           (unsigned long long)node.birth);
+  if (copy->namer.function != NULL) dump_put_name(copy, node, out);
 }
 
 static void dump_put_slots(bs_slots slots, FILE *out) {
@@ -152,12 +165,12 @@ static const char *dump_doing_text(uint64_t doing) {
   return doing <= BS_CONDEMNED ? texts[doing] : "?";
 }
 
-static void dump_put_txn(const dump_txn *of, FILE *out) {
+static void dump_put_txn(const dump_txn *of, const dump_copy *copy, FILE *out) {
   fprintf(out, "%4u %12llu %s", (unsigned)of->txn.slot, (unsigned long long)of->txn.age,
           dump_doing_text(of->doing.count));
   if (of->doing.count == BS_WAITS) {
     fprintf(out, "     %-4s ", bs_mode_text(of->doing.mode));
-    dump_put_node(of->doing.node, of->kind, out);
+    dump_put_node(copy, of->doing.node, of->kind, out);
     fprintf(out, ", behind");
     dump_put_slots(of->waits_for, out);
   }
@@ -172,7 +185,7 @@ static void dump_put_some_locks(bs_txn txn, const dump_copy *copy, FILE *out) {
     fprintf(out, "%4u %12llu %-4s %-5s %8llu ", (unsigned)txn.slot, (unsigned long long)txn.age,
             bs_mode_text(lock->mode), lock->wanted == BS_NL ? "-" : bs_mode_text(lock->wanted),
             (unsigned long long)lock->count);
-    dump_put_node(lock->node, copy->lock_kinds[i], out);
+    dump_put_node(copy, lock->node, copy->lock_kinds[i], out);
     fprintf(out, "\n");
   }
 }
@@ -182,7 +195,7 @@ static void dump_put_one_queue(const dump_txn *first, const dump_copy *copy, FIL
   uint32_t slot;
   size_t place;
   if (copy->waiter_count == 0) return;
-  dump_put_node(first->doing.node, first->kind, out);
+  dump_put_node(copy, first->doing.node, first->kind, out);
   fprintf(out, "\n");
   for (slot = 0; slot < BS_SLOTS; slot++) {
     if (!bs_has(copy->holders, slot)) continue;
@@ -207,7 +220,7 @@ static void dump_put_deadlock(const dump_copy *copy, FILE *out) {
   for (i = 0; i < last->count; i++) {
     fprintf(out, "%4u %12llu %-5s ", (unsigned)last->at[i].txn.slot, (unsigned long long)last->at[i].txn.age,
             bs_mode_text(last->at[i].mode));
-    dump_put_node(last->at[i].node, copy->last_kinds[i], out);
+    dump_put_node(copy, last->at[i].node, copy->last_kinds[i], out);
     fprintf(out, ", behind");
     dump_put_slots(last->at[i].waits_for, out);
     fprintf(out, "\n");
@@ -246,7 +259,7 @@ static bool dump_parts(dump_copy *copy, FILE *out) {
   dump_let_go(copy);
   dump_put_counters(copy, out);
   fprintf(out, "\nTransactions:\nslot          age doing     waits for\n");
-  for (i = 0; i < copy->txn_count; i++) dump_put_txn(&copy->txns[i], out);
+  for (i = 0; i < copy->txn_count; i++) dump_put_txn(&copy->txns[i], copy, out);
   fprintf(out, "\nLocks by transaction:\nslot          age mode wants children node\n");
   for (i = 0; i < copy->txn_count; i++) {
     if (!dump_locks(copy->txns[i].txn, copy, out)) return false;
@@ -267,6 +280,7 @@ static bs_reply dump_of(const bs_manager *held, bs_table *table, FILE *out) {
   if (copy == NULL) return bs_call_only(BS_NO_MEMORY);
   copy->manager = held;
   copy->table = table;
+  copy->namer = bs_call_table_namer(table, held);
   pthread_setcancelstate(PTHREAD_CANCEL_DISABLE, &state);
   is_whole = dump_parts(copy, out);
   pthread_setcancelstate(state, &state);

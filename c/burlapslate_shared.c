@@ -13,7 +13,7 @@
  * callback: table_go_on, at the end of each critical section that may have ended one, and table_tell, after it. All
  * else here makes calls of burlapslate.h between these.
  */
-#include "burlapslate_shared.h"
+#include "burlapslate_dump.h"
 
 #include <errno.h>
 #include <pthread.h>
@@ -137,6 +137,7 @@ struct bs_table {
   uint64_t pace;
   pthread_cond_t began;           /* a lock was left waiting, or the table ends */
   pthread_cond_t over;            /* the table ends */
+  bs_call_namer namer;            /* how the engine names nodes, in dumps */
 };
 
 /* Rare code is not inlined, so that the path of each call is short. */
@@ -1694,6 +1695,27 @@ bs_reply bs_table_let_go(bs_table *table) {
   *at = table->held_before;
   table_hand_on(table);
   return table_leave(table, bs_call_only(BS_DONE));
+}
+
+bs_reply bs_table_name_nodes(bs_table *table,
+                             void (*function)(void *context, bs_node node, char *text, size_t room), void *context) {
+  if (!table_enter(table)) return table_no_table(table);
+  table->namer.function = function;
+  table->namer.context = context;
+  return table_leave(table, bs_call_only(BS_DONE));
+}
+
+bs_call_namer bs_call_table_namer(bs_table *table, const bs_manager *manager) {
+  bs_call_namer namer = { NULL, NULL };
+  const bs_table *held = table_held;
+  if (table == NULL) {
+    while (held != NULL && &held->manager != manager) held = held->held_before;
+    return held == NULL ? namer : held->namer;
+  }
+  if (!table_enter(table)) return namer;
+  namer = table->namer;
+  table_release(table);
+  return namer;
 }
 
 /* ------------------------------------------------------------------------------------------------

@@ -92,6 +92,15 @@ bs_reply bs_call_table_make(struct bs_table **table, const bs_options *options, 
 bs_status bs_call_table_shut(struct bs_table *table);
 bs_reply bs_call_table_watch(struct bs_table *table, bs_watcher *watcher);
 
+/* How an engine names nodes; nothing if `function` is null. */
+typedef struct bs_call_namer {
+  void (*function)(void *context, bs_node node, char *text, size_t room);
+  void *context;
+} bs_call_namer;
+
+/* Those of a table; if that is null, of the table that this thread holds with this manager. */
+bs_call_namer bs_call_table_namer(struct bs_table *table, const bs_manager *manager);
+
 /* A reply with this status and nothing else. */
 static inline bs_reply bs_call_only(bs_status status) {
   bs_reply reply = { BS_DONE, BS_NL, { 0, 0 }, { 0, 0 }, 0, 0, 0, BS_NL };

@@ -230,6 +230,9 @@ asked-row-is-for-an-instant	/^bs_reply bs_table_ask_row(/,/^}/s/table_ask_row(ta
 listed-row-is-for-an-instant	s/bs_lock_row(m, txn, c->file, c->number, c->keys, c->key_count, c->mode, told)/bs_lock_row(m, txn, c->file, c->number, c->keys, c->key_count, table_mode_of(c->mode), told)/
 end-of-a-table-is-cancelled	/^bs_reply bs_table_end(/,/^}/s/  pthread_setcancelstate(PTHREAD_CANCEL_DISABLE, &state);/  pthread_setcancelstate(PTHREAD_CANCEL_ENABLE, \&state);/
 end-of-a-table-keeps-cancels-off	/^bs_reply bs_table_end(/,/^}/s/^  pthread_setcancelstate(state, &state);//
+dump-prints-names-as-they-are	s/(unsigned char)text\[i\] < ' ' ? '?' : text\[i\]/text[i]/
+dump-names-have-no-end	s/^  text\[sizeof text - 1\] = 0;//
+held-dump-has-no-names	s/while (held != NULL \&\& &held->manager != manager)/while (held != NULL)/
 dump-keeps-cancels-off	/^static bs_reply dump_of(/,/^}/s/^  pthread_setcancelstate(state, &state);//
 a-holder-ends-a-table	s/  if (table != NULL \&\& !table_may_sleep()) return bs_call_only(BS_IN_USE);/  if (table != NULL \&\& table_telling != NULL) return bs_call_only(BS_IN_USE);/
 what-is-held-outside-is-forgotten	s/^  table_held_outside = NULL;//

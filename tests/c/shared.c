@@ -3506,6 +3506,41 @@ static size_t lines_with(FILE *text, const char *start_of_line) {
   return count;
 }
 
+/* The engine's names: one with a byte that no name has, one that fills its room, and none for the others. */
+static void name_of(void *context, bs_node node, char *text, size_t room) {
+  WANT(context == &told && room == 80 && text[0] == 0);
+  if (same_node(node, root)) memcpy(text, "da\nta", 6);
+  if (same_node(node, file)) memset(text, 'f', room);
+}
+
+/* A dump has the engine's names, of a table and of one that the thread holds. */
+static void a_dump_has_names(void) {
+  FILE *text = tmpfile();
+  char line[200];
+  int named = 0, filled = 0;
+  bs_txn a;
+  WANT(text != NULL);
+  set_up(BS_AT_BLOCK);
+  a = begin();
+  DONE(bs_table_lock_path(table, a, low, BS_X, NULL));
+  ANSWERS(BS_NULL_POINTER, bs_table_name_nodes(NULL, name_of, NULL));
+  DONE(bs_table_name_nodes(table, name_of, &told));
+  DONE(bs_table_dump(table, text));
+  DONE(bs_dump(bs_table_hold(table), text));
+  ANSWERS(BS_IN_USE, bs_table_name_nodes(table, NULL, NULL));
+  DONE(bs_table_let_go(table));
+  DONE(bs_table_name_nodes(table, NULL, NULL));
+  DONE(bs_table_dump(table, text));
+  rewind(text);
+  while (fgets(line, sizeof line, text) != NULL) {
+    named += strstr(line, " da?ta\n") != NULL;
+    filled += strstr(line, " ffff") != NULL && strlen(strstr(line, " ffff")) == 81;
+  }
+  WANT(named == 2 && filled == 2);
+  close_table();
+  fclose(text);
+}
+
 static void a_dump(void) {
   struct requester one;
   FILE *text = tmpfile();
@@ -4056,6 +4091,7 @@ int main(int count, char **words) {
   TELL(a_thread_ends_all_it_sees);
   TELL(listings);
   TELL(a_dump);
+  TELL(a_dump_has_names);
   TELL(a_long_dump);
   TELL(a_dump_is_cancelled);
   TELL(an_end_with_sleepers);
