@@ -273,7 +273,6 @@ static bs_reply served_index(bs_manager *m, enum kind kind, bs_txn txn, const bs
 #define bs_escalate(m, txn, node, told) served_escalate(m, ESCALATE, txn, node, told)
 #define bs_cancel(m, txn, told) served_end(m, CANCEL, txn, told)
 #define bs_commit(m, txn, told) served_end(m, COMMIT, txn, told)
-#define bs_call_commit(m, txn, told) served_end(m, COMMIT, txn, told)
 #define bs_abort(m, txn, told) served_end(m, ABORT, txn, told)
 #define bs_lock_row(m, txn, file, row, keys, count, mode, told) \
   served_lock_row(m, txn, file, row, keys, count, mode, told)

@@ -59,11 +59,6 @@ abbrev pub found : Option NodeId → Reply
 found (Some n) = reply_of (answer.Node n)
 found None = status_reply no_place
 
--- a wait, if there is one
-abbrev pub waited : Option (NodeId × Mode) → Reply
-waited (Some (n, mode)) = record (status_reply waiting) { node = node_of n; mode = mode_number mode }
-waited None = refused_reply no.NotWaiting
-
 -- an index of a file, by its place
 abbrev pub index_at : Graph → NodeId → ℕ → Reply
 index_at g file place = if is_file_shape (shape_of g file) then found (slice_get (indexes_of g file) place) else refused_reply no.NoSuchNode
@@ -78,7 +73,6 @@ records_of g file = if is_file_shape (shape_of g file) then count_reply (if has_
 
 -- the reply to a question
 abbrev pub looked : ManagerView → Query → Reply
-looked m (query.Waiting t) = waited (if lives (state_of m) t then wait_of (status_of (state_of m) t.slot) else None)
 looked m (query.Children t n) = counted (refused_reply no.NotHeld)
     (if lives (state_of m) t && holds (members (state_of m) n) t.slot then Some (held_children (state_of m) t.slot n) else None)
 looked m (query.Kind n) = counted (refused_reply no.NoSuchNode) (option_map kind_number (kind_in (shape_of (state_of m).graph n)))

@@ -123,47 +123,6 @@ pub extern "C" fn bs_call_release_since(
     manager.release_since(txn.id(), mark, told)
 }
 
-/// Raises the lock of a node, and releases the children whose locks that implies.
-#[unsafe(no_mangle)]
-pub extern "C" fn bs_call_escalate(
-    manager: &mut Handle,
-    txn: Txn,
-    node: Node,
-    told: &mut Notices,
-) -> Reply
-    ensures { Carries (guarded_in manager.old) (command.Escalate (txn_id txn) (node_id node)) result told.new (guarded_in manager.new) }
-{
-    let command = Command::Escalate {
-        txn: txn.id(),
-        node: node.id(),
-    };
-    manager.carry_out(command, told)
-}
-
-/// Cancels the wait of a transaction.
-#[unsafe(no_mangle)]
-pub extern "C" fn bs_call_cancel(manager: &mut Handle, txn: Txn, told: &mut Notices) -> Reply
-    ensures { Carries (guarded_in manager.old) (command.Cancel (txn_id txn)) result told.new (guarded_in manager.new) }
-{
-    manager.carry_out(Command::Cancel { txn: txn.id() }, told)
-}
-
-/// Ends a transaction and releases everything.
-#[unsafe(no_mangle)]
-pub extern "C" fn bs_call_commit(manager: &mut Handle, txn: Txn, told: &mut Notices) -> Reply
-    ensures { Carries (guarded_in manager.old) (command.Commit (txn_id txn)) result told.new (guarded_in manager.new) }
-{
-    manager.carry_out(Command::Commit { txn: txn.id() }, told)
-}
-
-/// Ends a transaction whatever it is doing, and releases everything.
-#[unsafe(no_mangle)]
-pub extern "C" fn bs_call_abort(manager: &mut Handle, txn: Txn, told: &mut Notices) -> Reply
-    ensures { Carries (guarded_in manager.old) (command.Abort (txn_id txn)) result told.new (guarded_in manager.new) }
-{
-    manager.carry_out(Command::Abort { txn: txn.id() }, told)
-}
-
 /// Condemns victims, by the choice of victims, until the transaction is on no cycle of waits.
 #[unsafe(no_mangle)]
 pub extern "C" fn bs_call_settle(manager: &mut Handle, txn: Txn, told: &mut Notices) -> Reply

@@ -15,12 +15,6 @@ use gl_table::Detect;
 use gl_waits::Victims;
 use std::alloc::Global;
 
-/// How many nodes may live at once, by default.
-const USUAL_NODES: u32 = 65_536;
-
-/// How many bounds an index may have, by default.
-const USUAL_BOUNDS: u32 = 256;
-
 /// The greatest limit of nodes or of bounds.
 const GREATEST_LIMIT: u32 = 2_147_483_648;
 
@@ -32,56 +26,11 @@ pub extern "C" fn bs_call_slots() -> u32
     SLOTS as u32
 }
 
-/// Makes a manager at a place that has none, for `most` transactions at once, 1 to `SLOTS`, with the
-/// way of detection of this number. The victim is the youngest on a cycle. Takes memory.
-#[unsafe(no_mangle)]
-pub extern "C" fn bs_call_make(manager: &mut Handle, alloc: Global, detect: u32, most: u32) -> Reply
-    ensures { Makes (guarded_in manager.old) detect 0 most 65536 256 result (guarded_in manager.new) }
-{
-    make_by_numbers(manager, alloc, detect, 0, most, USUAL_NODES, USUAL_BOUNDS)
-}
-
-/// As `bs_call_make`, with the choice of victims of this number.
-#[unsafe(no_mangle)]
-pub extern "C" fn bs_call_make_choosing(
-    manager: &mut Handle,
-    alloc: Global,
-    detect: u32,
-    victims: u32,
-    most: u32,
-) -> Reply
-    ensures { Makes (guarded_in manager.old) detect victims most 65536 256 result (guarded_in manager.new) }
-{
-    make_by_numbers(
-        manager,
-        alloc,
-        detect,
-        victims,
-        most,
-        USUAL_NODES,
-        USUAL_BOUNDS,
-    )
-}
-
-/// As `bs_call_make_choosing`, with how many nodes may live at once and how many bounds an index may
-/// have, each 1 to 2^31.
+/// Makes a manager at a place that has none, by the numbers of a way of detection and of a choice of
+/// victims: for `most` transactions at once, 1 to `SLOTS`, with how many nodes may live at once and how
+/// many bounds an index may have, each 1 to 2^31. Takes memory.
 #[unsafe(no_mangle)]
 pub extern "C" fn bs_call_make_with(
-    manager: &mut Handle,
-    alloc: Global,
-    detect: u32,
-    victims: u32,
-    most: u32,
-    nodes: u32,
-    bounds: u32,
-) -> Reply
-    ensures { Makes (guarded_in manager.old) detect victims most nodes bounds result (guarded_in manager.new) }
-{
-    make_by_numbers(manager, alloc, detect, victims, most, nodes, bounds)
-}
-
-/// Makes a manager by these numbers.
-fn make_by_numbers(
     manager: &mut Handle,
     alloc: Global,
     detect: u32,

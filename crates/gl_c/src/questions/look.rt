@@ -5,7 +5,7 @@ ghost use Rattle.std.specs.Option.{option_map};
 ghost use Rattle.gl_modes.specs.declared.refusal.Refusal.TheVariants as no;
 ghost use Rattle.gl_graph.specs.View.{graph_of};
 ghost use Rattle.gl_c.specs.declared.questions.look.Query.TheVariants as query;
-ghost use Rattle.gl_c.specs.questions.Looks.{counted, detect_number, found, index_at, interval_with, kind_number, looked, records_of, victims_number, waited};
+ghost use Rattle.gl_c.specs.questions.Looks.{counted, detect_number, found, index_at, interval_with, kind_number, looked, records_of, victims_number};
 ghost use Rattle.gl_c.specs.Numbers.{no_place};
 ghost use Rattle.gl_c.specs.answers.Replies.{refused_reply, status_reply};
 
@@ -25,8 +25,6 @@ use gl_waits::Victims;
 /// A question.
 #[derive(Clone, Copy)]
 pub(crate) enum Query {
-    /// What a transaction waits for.
-    Waiting { txn: TxnId },
     /// How many children of a node a transaction holds.
     Children { txn: TxnId, node: NodeId },
     /// What a node is.
@@ -83,7 +81,6 @@ pub(crate) fn look(manager: &Manager, query: Query) -> Reply
 {
     let graph = manager.graph();
     match query {
-        Query::Waiting { txn } => waiting_reply(manager.waiting(txn)),
         Query::Children { txn, node } => children_reply(manager.children(txn, node)),
         Query::Len => Reply::with_count(graph.len() as u64),
         Query::Accepted => Reply::with_count(manager.accepted()),
@@ -110,19 +107,6 @@ pub(crate) fn look(manager: &Manager, query: Query) -> Reply
         Query::ModeAt { slot, node } => Reply::with_mode(manager.mode_at(slot, node)),
         Query::QueueLen { node } => queue_len_reply(manager.queue(node)),
         Query::QueueAt { node, place } => { queue_at_reply(manager, manager.queue(node), place) },
-    }
-}
-
-fn waiting_reply(wait: Option<(NodeId, Mode)>) -> Reply
-    ensures { result ≡ waited wait }
-{
-    match wait {
-        Some((node, mode)) => Reply {
-            mode: mode_number(mode),
-            node: Node::of(node),
-            ..Reply::with_status(WAITING)
-        },
-        None => Reply::refused(Refusal::NotWaiting),
     }
 }
 

@@ -43,14 +43,6 @@ pub extern "C" fn bs_call_effective(manager: &mut Handle, txn: Txn, node: Node) 
     })
 }
 
-/// The node that a transaction waits for, and the wanted mode.
-#[unsafe(no_mangle)]
-pub extern "C" fn bs_call_waiting(manager: &mut Handle, txn: Txn) -> Reply
-    ensures { Looks (guarded_in manager.old) (query.Waiting (txn_id txn)) result (guarded_in manager.new) }
-{
-    manager.look(Query::Waiting { txn: txn.id() })
-}
-
 /// How many children of a node a transaction holds.
 #[unsafe(no_mangle)]
 pub extern "C" fn bs_call_children(manager: &mut Handle, txn: Txn, node: Node) -> Reply
