@@ -12,7 +12,8 @@ use Rattle.std.specs.Prelude.{swap_remove}
 use Rattle.indexmap.proofs.SetLemmas.{keys_swap_remove_entry}
 use Rattle.indexmap.specs.IndexMap.{swap_remove_by, swap_remove_entry}
 use Rattle.gl_lock_lists.proofs.Lists.{not_taken, once_at, place_of_listed, taken_there}
-use Rattle.gl_table.proofs.inside.Orders.{unique_in}
+use Rattle.gl_table.proofs.inside.Orders.{order_seen, unique_in}
+use Rattle.gl_table.proofs.Words.{Entry, subst}
 
 -- Lists one after another.
 
@@ -174,3 +175,13 @@ keep_then ab bc = record { each = λ u. keeps_then (ab.each u) (bc.each u) }
 
 pub lists_keep : {a b : List LockList} → ListsLose a b → ListsKeepPlaces a b
 lists_keep ab = record { each = λ u. (ab.each u).places }
+
+-- room alone was made
+kept_same : (ls ls' : List LockList) → KeepsLists ls ls' → (u : ℕ) → nodes_by ls' u ≡ nodes_by ls u
+kept_same ls ls' kept u = order_seen ls' u ∙ ap (λ (es : List (List (NodeId × Entry))). keys_of (get_or es u [])) kept.entries ∙ sym (order_seen ls u)
+
+pub kept_lose : {ls ls' : List LockList} → KeepsLists ls ls' → ListsLose ls ls'
+kept_lose {ls} {ls'} kept = lists_same ls ls' (kept_same ls ls' kept)
+
+pub kept_then : {a b c : List LockList} → KeepsLists a b → ListsKeepPlaces b c → ListsKeepPlaces a c
+kept_then {a} {b} {c} kept bc = record { each = λ u. subst (λ (order : List NodeId). KeepsPlaces order (nodes_by c u)) (kept_same a b kept u) (bc.each u) }

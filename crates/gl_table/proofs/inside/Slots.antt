@@ -71,6 +71,18 @@ module _ (ls : List LockList) (t : ℕ) (l l' : LockList) (lt : t < length ls) (
   pub set_keeps : KeepsPlaces (keys l.entries) (keys l'.entries) → ListsKeepPlaces ls (slice_set ls t l')
   set_keeps here = record { each = by_order KeepsPlaces here (λ order. (same_order order order refl).places) }
 
+-- a list that was taken out of its place is put back, with fewer nodes
+pub lists_back : (ls mid : List LockList) (t : ℕ) (l e l' : LockList) → t < length ls → l ≡ slice_index_or ls t l → ListsLose (slice_set ls t e) mid
+    → t < length mid → OnlyLoses (keys l.entries) (keys l'.entries) → ListsLose ls (slice_set mid t l')
+lists_back ls mid t l e l' lt at others there own = record {
+  each = λ u. split (u == t)
+      (λ k. subst (λ (order : List NodeId). OnlyLoses order (nodes_by (slice_set mid t l') u)) (sym (by_list-here ls t l lt at u k (λ x. keys x.entries) []))
+      (subst (OnlyLoses (keys l.entries)) (sym (by_list-set mid t l' there (λ x. keys x.entries) [] u ∙ if-true _ k)) own))
+      (λ k. subst (λ (order : List NodeId). OnlyLoses order (nodes_by (slice_set mid t l') u))
+      (by_list-set ls t e lt (λ x. keys x.entries) [] u ∙ if-false _ k)
+      (subst (OnlyLoses (nodes_by (slice_set ls t e) u)) (sym (by_list-set mid t l' there (λ x. keys x.entries) [] u ∙ if-false _ k)) (others.each u)));
+}
+
 -- of what passes a test and fails another
 but_not : (a b : Bool) → (a && not b) ≡ (if b then false else a)
 but_not a b = grind (arith, nat_tests)

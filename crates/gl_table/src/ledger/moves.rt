@@ -13,12 +13,12 @@ ghost use Rattle.gl_slots.specs.Slots.{has_slot};
 ghost use Rattle.gl_model.specs.Calls.{stays};
 ghost use Rattle.gl_header.specs.Headers.{members_at, queue_of};
 ghost use Rattle.gl_model.specs.State.{intends_over};
-ghost use Rattle.indexmap.specs.IndexMap.{spare};
+ghost use Rattle.indexmap.specs.IndexMap.{keys, spare};
 ghost use Rattle.gl_modes.specs.Modes.{same_mode};
 ghost use Rattle.gl_lock_lists.specs.Lists.{count_of, is_listed, mode_of, unlisted};
 ghost use Rattle.gl_table.specs.inside.Ledger.{state_in};
 ghost use Rattle.gl_table.specs.inside.Steps.{AreAgreed, AreShutOut, CanEndAt, CanRecount, CanTellWaiters, HasMoved, IsTurnedAway, Recounts, adds_to};
-ghost use Rattle.gl_table.specs.inside.Slots.{books_of, counted_by, room_by};
+ghost use Rattle.gl_table.specs.inside.Slots.{ListsLose, books_of, counted_by, room_by};
 
 use crate::ledger::Ledger;
 use crate::ledger::leave::end_wait;
