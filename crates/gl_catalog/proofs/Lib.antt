@@ -28,3 +28,4 @@ pub mod PathRuns
 pub mod PathOthers
 -- going back to a savepoint
 pub mod GoingBack
+pub mod Savepoints

@@ -1,7 +1,8 @@
 -- A transaction rolls back to a savepoint: what it has locked since is unlocked.
-use Rattle.std.specs.Prelude.{◌≡◌, ℕ, ◌-◌, nat_lt, List, [], ◌∷◌, ◌++◌, length, map, Option, None}
-use Rattle.std.specs.List.{All}
+use Rattle.std.specs.Prelude.{◌≡◌, ℕ, ◌-◌, nat_lt, List, [], ◌∷◌, ◌++◌, length, map, take, Bool, true, Option, None}
+use Rattle.std.specs.List.{All, list_any}
 use Rattle.gl_modes.specs.declared.node.NodeId.{NodeId}
+use Rattle.gl_modes.specs.Nodes.{same_node}
 use Rattle.gl_modes.specs.declared.refusal.Refusal.{Refusal}
 use Rattle.gl_modes.specs.declared.refusal.Refusal.TheVariants as no
 use Rattle.gl_graph.specs.Refusals.{first_refusal, max_count, where_true}
@@ -12,9 +13,9 @@ use Rattle.gl_model.specs.Tellings.{Told, told}
 use Rattle.gl_steps.specs.declared.command.Answer.TheVariants as answer
 use Rattle.gl_steps.specs.declared.command.Command.TheVariants as command
 use Rattle.gl_steps.specs.Step.{Run}
-use Rattle.gl_table.specs.Table.{nodes_of, state_of as table_state}
+use Rattle.gl_table.specs.Table.{KeepsOrders, nodes_of, state_of as table_state}
 use Rattle.gl_catalog.specs.Counters.{with_notices}
-use Rattle.gl_catalog.specs.Manager.{ManagerView, state_of}
+use Rattle.gl_catalog.specs.Manager.{IsLawfulManager, ManagerView, state_of}
 use Rattle.gl_catalog.specs.Paths.{LeavesAllBut}
 use Rattle.gl_catalog.specs.Replies.{Says, doing}
 
@@ -43,3 +44,42 @@ pub record TakesBack (t : TxnId) (mark k : ℕ) (m : ManagerView) (told' : Told)
   pub counters : m'.counters ≡ with_notices told' m.counters
   pub deadlock : m'.table.deadlock ≡ m.table.deadlock
   pub others : LeavesAllBut t (state_of m) (doing told' tt) (state_of m')
+
+-- What a savepoint keeps.
+
+-- the slot holds the node or waits for it
+abbrev pub has_lock : ManagerView → ℕ → NodeId → Bool
+has_lock m t n = list_any (same_node n) (nodes_of m.table t)
+
+-- it is one of the first locks in the slot's list, as many as the mark
+abbrev pub is_before : ManagerView → ℕ → ℕ → NodeId → Bool
+is_before m t mark n = list_any (same_node n) (take mark (nodes_of m.table t))
+
+-- one manager after the other, each by a call that moves no lock that stays to a later place of its list
+abbrev pub InOrder : ManagerView → List ManagerView → Type 0
+InOrder m [] = Unit {0}
+InOrder m (x ∷ xs) = KeepsOrders m.table x.table × InOrder x xs
+
+-- the last of them
+abbrev pub last_of : ManagerView → List ManagerView → ManagerView
+last_of m [] = m
+last_of m (x ∷ xs) = last_of x xs
+
+-- the slot has the lock in each of them
+abbrev pub HasAlong : ℕ → NodeId → List ManagerView → Type 0
+HasAlong t n [] = Unit {0}
+HasAlong t n (x ∷ xs) = (has_lock x t n ≡ true) × HasAlong t n xs
+
+-- along a run, a lock that is before a mark and is never released stays before it
+abbrev pub StaysBefore : Type 0
+StaysBefore =
+    (m : ManagerView) (ms : List ManagerView) (t mark : ℕ) (n : NodeId) → InOrder m ms → is_before m t mark n ≡ true → HasAlong t n ms
+    → is_before (last_of m ms) t mark n ≡ true
+
+-- so if the transaction rolls back to a savepoint, it has each lock that it had at the savepoint and has not released since; a held one in its mode
+abbrev pub RollbackKeeps : Type 0
+RollbackKeeps =
+    (m : ManagerView) (ms : List ManagerView) (t : TxnId) (n : NodeId) (k : ℕ) (told : Told) (m' : ManagerView) → InOrder m ms
+    → has_lock m t.slot n ≡ true → HasAlong t.slot n ms → IsLawfulManager (last_of m ms) → IsLawfulManager m'
+    → TakesBack t (length (nodes_of m.table t.slot)) k (last_of m ms) told m'
+    → (has_lock m' t.slot n ≡ true) × ((state_of m').held t.slot n ≡ (state_of (last_of m ms)).held t.slot n)

@@ -1,7 +1,7 @@
 -- In which places a list has its nodes after some are removed, or one is added last. For all that writes lists.
 use Rattle.gl_table.proofs.Words.{[], ◌&&◌, ◌++◌, ◌-◌, ◌<◌, ◌==◌, ◌||◌, ◌∙◌, ◌∷◌, ◌≡◌, ◌≢◌, ◌≤◌, and_both, ap, arith, Bool, clash, cond, false, get_or}
 use Rattle.gl_table.proofs.Words.{is_listed, IsDistinct, KeepsLists, KeepsPlaces, keys, keys_of, length, List, list_any, ListsKeepPlaces, ListsLose, LockList}
-use Rattle.gl_table.proofs.Words.{nat_lt, nat_tests, NodeId, nodes_by, nodes_of, None, not, OnlyLoses, option_map_or, or_left, or_right, position_or_len}
+use Rattle.gl_table.proofs.Words.{nat_lt, nat_tests, NodeId, nodes_by, None, not, OnlyLoses, option_map_or, or_left, or_right, position_or_len}
 use Rattle.gl_table.proofs.Words.{same_node, same_node-equal, same_node-from_equal, same_number, slice_get, slice_get-get_or, slice_index_or, slice_set, Some}
 use Rattle.gl_table.proofs.Words.{refl, some_is, split, suc, sym, take, true, zero, ℕ, ◌+◌}
 use Rattle.gl_table.proofs.Words.{get_or-set_other, get_or-set_same, length-set, or_no, other_number}

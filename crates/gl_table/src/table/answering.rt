@@ -1,13 +1,14 @@
 //! The calls that answer with a list of notices of their own. Each makes the list, and calls its
 //! twin.
 
-ghost use Rattle.std.specs.Prelude.{◌≡◌, [], IfOk, OnErr, OnOk, true, ◌-◌};
+ghost use Rattle.std.specs.Prelude.{◌≡◌, [], IfOk, OnErr, OnOk, true, ◌-◌, ℕ};
 ghost use Rattle.gl_graph.specs.Refusals.{first_refusal};
 ghost use Rattle.gl_model.specs.Calls.{CanMove, CanRekey, IsActing, Locks, RefusesCycle, RefusesLock, RefusesOnly, locked_as};
 ghost use Rattle.gl_model.specs.Calls.{commit_tests, living_tests, released, unlock_tests, unlocked};
 ghost use Rattle.gl_model.specs.Calls.{cancelled, cancel_tests, deleted, moved_to};
 ghost use Rattle.gl_model.specs.Calls.{shed, covered_children, held_children};
-ghost use Rattle.gl_table.specs.Table.{KeepsOrders, state_of};
+ghost use Rattle.gl_table.specs.Orders.{OnlyLoses};
+ghost use Rattle.gl_table.specs.Table.{KeepsOrders, nodes_of, state_of};
 ghost use Rattle.gl_model.specs.Tellings.{told, told_but};
 ghost use Rattle.gl_modes.specs.declared.mode.Mode.TheVariants.{S, X};
 ghost use Rattle.gl_modes.specs.Modes.{same_mode, is_at_least};
@@ -217,7 +218,7 @@ impl Table {
         requires reads { is_at_least ((state_of self.old).held t.slot n) S ≡ true }
         ensures state { state_of self.new ≡ shed (state_of self.old) t.slot n }
         ensures deadlock { self.new.deadlock ≡ self.old.deadlock }
-        ensures orders { KeepsOrders self.old self.new }
+        ensures orders { (u : ℕ) → OnlyLoses (nodes_of self.old u) (nodes_of self.new u) }
         ensures released { result.0 ≡ covered_children (state_of self.old) t.slot n }
         ensures kept { result.1 ≡ held_children (state_of self.old) t.slot n - covered_children (state_of self.old) t.slot n }
         ensures told { result.2.items ≡ told (state_of self.old) (state_of self.new) }

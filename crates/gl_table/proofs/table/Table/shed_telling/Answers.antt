@@ -2,7 +2,7 @@ use Rattle.gl_table.proofs.Words.{◌-◌, ◌∙◌, ◌≡◌, Active, ap, cov
 use Rattle.gl_table.proofs.Words.{TableView, told, true, view_of}
 use Rattle.gl_table.proofs.calls.Records.{no_more_kept, number_kept, number_released, sound_shed, state_shed, told_shed}
 use Rattle.gl_table.proofs.Words.{refl}
-use Rattle.gl_table.proofs.calls.Orders.{losses_seen}
+use Rattle.gl_table.proofs.calls.Orders.{lost_seen}
 use Rattle.gl_table.proofs.table.Table.shed_telling.Goals as goal
 
 pub overflow_sub-result : goal.overflow_sub-result
@@ -56,5 +56,5 @@ returns-clause-told c =
 
 pub returns-clause-orders : goal.returns-clause-orders
 returns-clause-orders c =
-    losses_seen c.self.inside.locks.ledger.lists.items c.shed.new.self.ledger.lists.items c.shed.ensures.orders
-    c.args.self.now _ (ap (λ (v : TableView). v.lists) c.self.view_is) refl
+    lost_seen c.self.inside.locks.ledger.lists.items c.shed.new.self.ledger.lists.items c.shed.ensures.orders
+    c.args.self.now (view_of (record c.self.inside { locks = c.shed.new.self })) (ap (λ (v : TableView). v.lists) c.self.view_is) refl
