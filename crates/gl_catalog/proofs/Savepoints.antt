@@ -1,6 +1,5 @@
 -- What a savepoint keeps, over a run and over the rollback. For the law of savepoints.
-use Rattle.std.specs.Prelude.{◌≡◌, ℕ, zero, suc, Bool, true, false, not, ◌||◌, ◌++◌, List, [], ◌∷◌, drop, get_or, is_some, length, slice_get, take, None, Some}
-use Rattle.std.specs.Prelude.{if◌then◌else◌}
+use Rattle.std.specs.Prelude.{◌≡◌, ℕ, zero, suc, true, false, not, ◌||◌, List, [], ◌∷◌, drop, get_or, is_some, length, slice_get, take, None, Some}
 use Rattle.std.specs.List.{list_any}
 use Rattle.std.specs.Map.{keys_of, lookup}
 use Rattle.std.specs.Option.{option_map_or}
@@ -16,20 +15,18 @@ use Rattle.gl_modes.specs.Modes.{same_mode}
 use Rattle.gl_modes.specs.Nodes.{same_node}
 use Rattle.gl_header.specs.Header.{holds}
 use Rattle.gl_model.specs.declared.txn.Status.TheVariants.{Active}
-use Rattle.gl_model.specs.declared.txn.TxnId.{TxnId}
 use Rattle.gl_model.specs.Calls.{Unlocks, unlocked}
-use Rattle.gl_model.specs.Lawful.{IsLawful, IsOrderly}
+use Rattle.gl_model.specs.Lawful.{IsOrderly}
 use Rattle.gl_model.specs.State.{State, is_wait, is_waiting_at, members, status_of, waits_at}
-use Rattle.gl_model.specs.Tellings.{Told}
 use Rattle.gl_model.proofs.law.Orderly.{lawful_orderly}
 use Rattle.gl_model.proofs.queues.Waiters.{if-false, if-true}
 use Rattle.gl_model.proofs.telling.Fronts.{in_no_queue, orderly_unlocked}
 use Rattle.gl_model.proofs.telling.Unlocks.{active_stays}
 use Rattle.gl_steps.proofs.Counting.{lawful_counting}
 use Rattle.gl_table.proofs.inside.Released.{unlocked_own}
-use Rattle.gl_table.specs.Table.{TableView, entry_at, nodes_of, state_of as table_state}
+use Rattle.gl_table.specs.Table.{nodes_of, state_of as table_state}
 use Rattle.gl_catalog.specs.Manager.{IsLawfulManager, ManagerView, state_of}
-use Rattle.gl_catalog.specs.Savepoints.{HasAlong, InOrder, RollbackKeeps, StaysBefore, TakesBack, has_lock, is_before, last_of}
+use Rattle.gl_catalog.specs.Savepoints.{RollbackKeeps, StaysBefore, has_lock, is_before, last_of}
 use Rattle.gl_catalog.proofs.GoingBack.{may_go_back}
 
 -- call by call
