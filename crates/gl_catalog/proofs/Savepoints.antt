@@ -1,18 +1,22 @@
 -- What a savepoint keeps, over a run and over the rollback. For the law of savepoints.
-use Rattle.std.specs.Prelude.{◌≡◌, ℕ, zero, suc, true, false, not, ◌||◌, List, [], ◌∷◌, drop, get_or, is_some, length, slice_get, take, None, Some}
-use Rattle.std.specs.List.{list_any}
+use Rattle.std.specs.Prelude.{◌≡◌, ◌≤◌, ℕ, zero, suc, true, false, not, ◌||◌, List, [], ◌∷◌, drop, get_or, is_some, length, slice_get, take, None, Some}
+use Rattle.std.specs.List.{AllByRecursion, IsDistinct, list_any}
 use Rattle.std.specs.Map.{keys_of, lookup}
 use Rattle.std.specs.Option.{option_map_or}
-use Rattle.std.proofs.Common.{refl, sym, ap, ◌∙◌, arith}
+use Rattle.std.proofs.Common.{refl, subst, sym, ap, ◌∙◌, arith}
 use Rattle.std.proofs.Math.Bool.{or-false}
-use Rattle.std.proofs.lemmas.List.{take-append-drop, take_all}
+use Rattle.std.proofs.lemmas.List.{length-take, take-append-drop, take_all}
 use Rattle.std.proofs.lemmas.List.Folds.{list_any-append}
-use Rattle.std.proofs.lemmas.Map.Made.{is_some-lookup}
-use Rattle.gl_modes.proofs.Words.{clash, or_left, split}
+use Rattle.std.proofs.lemmas.Map.Keys.{IsDistinct-cons}
+use Rattle.std.proofs.lemmas.Map.Made.{is_some-lookup, length-le_from_is_member}
+use Rattle.gl_modes.proofs.NodeLemmas.{same_node-equal}
+use Rattle.gl_modes.proofs.Words.{clash, or_elim, or_left, split}
 use Rattle.gl_modes.specs.declared.mode.Mode.TheVariants.{NL}
 use Rattle.gl_modes.specs.declared.node.NodeId.{NodeId}
 use Rattle.gl_modes.specs.Modes.{same_mode}
 use Rattle.gl_modes.specs.Nodes.{same_node}
+use Rattle.gl_graph.proofs.RouteLengths.{node_equivalence}
+use Rattle.gl_graph.proofs.Unrefused.{or_no}
 use Rattle.gl_header.specs.Header.{holds}
 use Rattle.gl_model.specs.declared.txn.Status.TheVariants.{Active}
 use Rattle.gl_model.specs.Calls.{Unlocks, unlocked}
@@ -27,6 +31,11 @@ use Rattle.gl_table.proofs.inside.Released.{unlocked_own}
 use Rattle.gl_table.specs.Table.{nodes_of, state_of as table_state}
 use Rattle.gl_catalog.specs.Manager.{IsLawfulManager, ManagerView, state_of}
 use Rattle.gl_catalog.specs.Savepoints.{RollbackKeeps, StaysBefore, has_lock, is_before, last_of}
+use Rattle.gl_model.specs.declared.txn.TxnId.{TxnId}
+use Rattle.gl_catalog.specs.Counters.{refuses}
+use Rattle.gl_catalog.specs.Paths.{Ask, IsPath, reaching}
+use Rattle.gl_catalog.specs.Replies.{Says, said}
+use Rattle.gl_catalog.specs.Savepoints.{InOrder, PathsInOrder, RollbackReleases}
 use Rattle.gl_catalog.proofs.GoingBack.{may_go_back}
 
 -- call by call
@@ -81,3 +90,63 @@ rollback_keeps m ms t n k told m' kept here along law law' back =
     let active = (may_go_back last t mark back.tests).acting.active in
     let awake = unlocks_stay back.nodes s (table_state m'.table) t.slot orderly active back.back.unlocks in
     (there, unlocks_leave_mode back.nodes s (table_state m'.table) t.slot orderly active back.back.unlocks n (listed_held m' t.slot n law' awake there))
+
+-- What a rollback releases.
+
+-- of different nodes, one that is none of these is different from each
+apart_from : (n : NodeId) (ks : List NodeId) → list_any (same_node n) ks ≡ false → AllByRecursion (λ y. same_node n y ≡ false) ks
+apart_from n [] h = tt
+apart_from n (k ∷ ks) h = let out = or_no (same_node n k) (list_any (same_node n) ks) h in (out.0, apart_from n ks out.1)
+
+-- if different nodes are all in a list that is no longer, all of the list are among them
+none_else : (ks ls : List NodeId) (n : NodeId) → IsDistinct same_node ks → ((q : NodeId) → list_any (same_node q) ks ≡ true → list_any (same_node q) ls ≡ true)
+    → length ls ≤ length ks → list_any (same_node n) ls ≡ true → list_any (same_node n) ks ≡ true
+none_else ks ls n once all short there = split (list_any (same_node n) ks) (λ e. e)
+    (λ e. let more = length-le_from_is_member node_equivalence (n ∷ ks) ls (IsDistinct-cons same_node n ks (apart_from n ks e) once)
+    (λ q h. or_elim (same_node q n) (list_any (same_node q) ks) h
+    (λ same. ap (λ x. list_any (same_node x) ls) (same_node-equal q n same) ∙ there) (all q)) in
+    absurd (omega (arith, more, short)))
+
+-- no node is twice in an order
+order_distinct : {X : Type 0} (ls : List (List (NodeId × X))) (t : ℕ)
+    → ((u : ℕ) (es : List (NodeId × X)) → slice_get ls u ≡ Some es → IsDistinct same_node (keys_of es)) → IsDistinct same_node (keys_of (get_or ls t []))
+unfolding IsDistinct
+order_distinct [] t once = tt
+order_distinct (es ∷ ls) zero once = once 0 es refl
+order_distinct (es ∷ ls) (suc t) once = order_distinct ls t (λ u xs h. once (suc u) xs h)
+
+-- what is in a list and not among its first is after them
+not_first : (mark : ℕ) (ks : List NodeId) (n : NodeId) → list_any (same_node n) ks ≡ true → list_any (same_node n) (take mark ks) ≡ false
+    → list_any (same_node n) (drop mark ks) ≡ true
+not_first mark ks n h off =
+    sym (ap (λ b. b || list_any (same_node n) (drop mark ks)) off) ∙ sym (list_any-append (same_node n) (take mark ks) (drop mark ks))
+    ∙ ap (list_any (same_node n)) (take-append-drop mark ks) ∙ h
+
+pub rollback_releases : RollbackReleases
+rollback_releases m ms t n k told m' kept law all back absent there =
+    let last : ManagerView = last_of m ms in
+    let order : List NodeId = nodes_of m.table t.slot in
+    let first : List NodeId = take (length order) (nodes_of last.table t.slot) in
+    let short = length-take (length order) (nodes_of last.table t.slot) in
+    let among = none_else order first n (order_distinct m.table.lists t.slot law.unique.lists)
+    (λ q h. stays_before m ms t.slot (length order) q kept
+    (ap (list_any (same_node q)) (take_all (length order) order (omega arith)) ∙ h) (all q h)) (omega (arith, short)) in
+    back.back.stays n (not_first (length order) (nodes_of m'.table t.slot) n there
+    (split (list_any (same_node n) (take (length order) (nodes_of m'.table t.slot)))
+    (λ e. absurd (clash (among (sym (ap (list_any (same_node n)) back.back.before) ∙ e)) absent)) (λ e. e)))
+
+-- A path.
+
+path_in_order : (k : ℕ) (t : TxnId) (ask : Ask) (m : ManagerView) (last : Ask) (r : Says) (m' : ManagerView) → IsPath k t ask m last r m'
+    → (ms : List ManagerView) × InOrder m ms × (last_of m ms ≡ m')
+path_in_order zero t ask m last r m' path = split (refuses r.0)
+    (λ e. ([], tt, sym (path.0.unchanged e)))
+    (λ e. (m' ∷ [], ((path.0.completes e).orders, tt), refl))
+path_in_order (suc k) t ask m last r m' path =
+    let rest = path_in_order k t ask path.2 last r m' path.5 in
+    split (refuses path.1.0)
+    (λ e. subst (λ (x : ManagerView). (ms : List ManagerView) × InOrder x ms × (last_of x ms ≡ m')) (path.3.unchanged e) rest)
+    (λ e. (path.2 ∷ rest.0, ((path.3.completes e).orders, rest.1), rest.2))
+
+pub paths_in_order : PathsInOrder
+paths_in_order t ask m told result m' path = path_in_order path.0 t ask m path.1 (said (reaching told) result) m' path.2

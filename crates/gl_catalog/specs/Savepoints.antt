@@ -1,5 +1,5 @@
 -- A transaction rolls back to a savepoint: what it has locked since is unlocked.
-use Rattle.std.specs.Prelude.{◌≡◌, ℕ, ◌-◌, nat_lt, List, [], ◌∷◌, ◌++◌, length, map, take, Bool, true, Option, None}
+use Rattle.std.specs.Prelude.{◌≡◌, ℕ, ◌-◌, nat_lt, List, [], ◌∷◌, ◌++◌, length, map, take, Bool, true, false, Option, None, Result}
 use Rattle.std.specs.List.{All, list_any}
 use Rattle.gl_modes.specs.declared.node.NodeId.{NodeId}
 use Rattle.gl_modes.specs.Nodes.{same_node}
@@ -7,7 +7,7 @@ use Rattle.gl_modes.specs.declared.refusal.Refusal.{Refusal}
 use Rattle.gl_modes.specs.declared.refusal.Refusal.TheVariants as no
 use Rattle.gl_graph.specs.Refusals.{first_refusal, max_count, where_true}
 use Rattle.gl_model.specs.declared.txn.TxnId.{TxnId}
-use Rattle.gl_model.specs.Calls.{GoesBack, commit_tests}
+use Rattle.gl_model.specs.Calls.{GoesBack, commit_tests, holds_child}
 use Rattle.gl_model.specs.State.{State}
 use Rattle.gl_model.specs.Tellings.{Told, told}
 use Rattle.gl_steps.specs.declared.command.Answer.TheVariants as answer
@@ -16,7 +16,8 @@ use Rattle.gl_steps.specs.Step.{Run}
 use Rattle.gl_table.specs.Table.{KeepsOrders, nodes_of, state_of as table_state}
 use Rattle.gl_catalog.specs.Counters.{with_notices}
 use Rattle.gl_catalog.specs.Manager.{IsLawfulManager, ManagerView, state_of}
-use Rattle.gl_catalog.specs.Paths.{LeavesAllBut}
+use Rattle.gl_catalog.specs.Paths.{Ask, LeavesAllBut, LocksPath}
+use Rattle.gl_catalog.specs.declared.manager.paths.Reached.{Reached}
 use Rattle.gl_catalog.specs.Replies.{Says, doing}
 
 -- so many more commands cannot be counted
@@ -83,3 +84,17 @@ RollbackKeeps =
     → has_lock m t.slot n ≡ true → HasAlong t.slot n ms → IsLawfulManager (last_of m ms) → IsLawfulManager m'
     → TakesBack t (length (nodes_of m.table t.slot)) k (last_of m ms) told m'
     → (has_lock m' t.slot n ≡ true) × ((state_of m').held t.slot n ≡ (state_of (last_of m ms)).held t.slot n)
+
+-- and if it has released none of those, it has of all others only nodes of which it holds a child: all else that it acquired since is released
+abbrev pub RollbackReleases : Type 0
+RollbackReleases =
+    (m : ManagerView) (ms : List ManagerView) (t : TxnId) (n : NodeId) (k : ℕ) (told : Told) (m' : ManagerView) → InOrder m ms → IsLawfulManager m
+    → ((q : NodeId) → has_lock m t.slot q ≡ true → HasAlong t.slot q ms)
+    → TakesBack t (length (nodes_of m.table t.slot)) k (last_of m ms) told m'
+    → has_lock m t.slot n ≡ false → has_lock m' t.slot n ≡ true → holds_child (state_of m') t.slot n ≡ true
+
+-- a path is such a run
+abbrev pub PathsInOrder : Type 0
+PathsInOrder =
+    (t : TxnId) (ask : Ask) (m : ManagerView) (told : Told) (result : Result Reached Refusal) (m' : ManagerView) → LocksPath t ask m told result m'
+    → (ms : List ManagerView) × InOrder m ms × (last_of m ms ≡ m')

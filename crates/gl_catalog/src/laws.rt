@@ -1,14 +1,17 @@
 //! The law of savepoints, the contract of a call that does nothing.
 
-ghost use Rattle.gl_catalog.specs.Savepoints.{RollbackKeeps, StaysBefore};
+ghost use Rattle.gl_catalog.specs.Savepoints.{PathsInOrder, RollbackKeeps, RollbackReleases, StaysBefore};
 
 /// A transaction that rolls back to a savepoint still has each lock that it had at the savepoint
 /// and has not released since, whatever it and others did meanwhile, and holds it in the same mode
-/// as before the rollback.
+/// as before the rollback. If it has released none of those, it has released all others, except
+/// nodes of which it still holds a child.
 ///
-/// No call moves a lock that stays to a later place of its transaction's list, so a lock that was
-/// before a mark stays before it until it is released.
+/// The reason: no call moves a lock that stays to a later place of its transaction's list. So a
+/// lock that is before a mark stays before it until it is released. A path is a run of such calls.
 pub fn savepoints_keep()
     ensures before { StaysBefore }
-    ensures rollback { RollbackKeeps }
+    ensures keeps { RollbackKeeps }
+    ensures releases { RollbackReleases }
+    ensures paths { PathsInOrder }
 {}
