@@ -29,3 +29,4 @@ pub mod PathOthers
 -- going back to a savepoint
 pub mod GoingBack
 pub mod Savepoints
+pub mod ModesRise

@@ -36,6 +36,8 @@ use Rattle.gl_catalog.specs.Counters.{refuses}
 use Rattle.gl_catalog.specs.Paths.{Ask, IsPath, reaching}
 use Rattle.gl_catalog.specs.Replies.{Says, said}
 use Rattle.gl_catalog.specs.Savepoints.{InOrder, PathsInOrder, RollbackReleases}
+use Rattle.gl_modes.proofs.ModeLemmas.{at_least-refl, at_least-transitive}
+use Rattle.gl_catalog.specs.Savepoints.{ModesOnlyRise}
 use Rattle.gl_catalog.proofs.GoingBack.{may_go_back}
 
 -- call by call
@@ -150,3 +152,11 @@ path_in_order (suc k) t ask m last r m' path =
 
 pub paths_in_order : PathsInOrder
 paths_in_order t ask m told result m' path = path_in_order path.0 t ask m path.1 (said (reaching told) result) m' path.2
+
+-- Modes.
+
+pub modes_only_rise : ModesOnlyRise
+modes_only_rise m [] t n kept along = at_least-refl ((state_of m).held t n)
+modes_only_rise m (x ∷ xs) t n kept along =
+    at_least-transitive ((state_of (last_of x xs)).held t n) ((state_of x).held t n) ((state_of m).held t n)
+    (modes_only_rise x xs t n kept.1 along.1) (kept.0.no_less t n along.0)

@@ -2,17 +2,22 @@
 use Rattle.std.specs.Prelude.{◌≡◌, ℕ, ◌-◌, nat_lt, List, [], ◌∷◌, ◌++◌, length, map, take, Bool, true, false, Option, None, Result}
 use Rattle.std.specs.List.{All, list_any}
 use Rattle.gl_modes.specs.declared.node.NodeId.{NodeId}
+use Rattle.gl_modes.specs.Modes.{is_at_least}
 use Rattle.gl_modes.specs.Nodes.{same_node}
 use Rattle.gl_modes.specs.declared.refusal.Refusal.{Refusal}
 use Rattle.gl_modes.specs.declared.refusal.Refusal.TheVariants as no
 use Rattle.gl_graph.specs.Refusals.{first_refusal, max_count, where_true}
 use Rattle.gl_model.specs.declared.txn.TxnId.{TxnId}
 use Rattle.gl_model.specs.Calls.{GoesBack, commit_tests, holds_child}
-use Rattle.gl_model.specs.State.{State}
+use Rattle.gl_header.specs.Header.{holds}
+use Rattle.gl_model.specs.Lawful.{IsLawful}
+use Rattle.gl_model.specs.State.{State, members}
 use Rattle.gl_model.specs.Tellings.{Told, told}
 use Rattle.gl_steps.specs.declared.command.Answer.TheVariants as answer
 use Rattle.gl_steps.specs.declared.command.Command.TheVariants as command
-use Rattle.gl_steps.specs.Step.{Run}
+use Rattle.gl_steps.specs.declared.command.Answer.{Answer}
+use Rattle.gl_steps.specs.declared.command.Command.{Command}
+use Rattle.gl_steps.specs.Step.{Run, Step}
 use Rattle.gl_table.specs.Table.{KeepsOrders, nodes_of, state_of as table_state}
 use Rattle.gl_catalog.specs.Counters.{with_notices}
 use Rattle.gl_catalog.specs.Manager.{IsLawfulManager, ManagerView, state_of}
@@ -61,6 +66,20 @@ abbrev pub InOrder : ManagerView → List ManagerView → Type 0
 InOrder m [] = Unit {0}
 InOrder m (x ∷ xs) = KeepsOrders m.table x.table × InOrder x xs
 
+-- no node that a slot still holds is held in a lesser mode
+pub record KeepsModes (s s' : State) : Type 0 where
+  pub no_less : (t : ℕ) (n : NodeId) → holds (members s' n) t ≡ true → is_at_least (s'.held t n) (s.held t n) ≡ true
+
+-- one state after the other, each with the modes of the one before
+abbrev pub WithModes : State → List ManagerView → Type 0
+WithModes s [] = Unit {0}
+WithModes s (x ∷ xs) = KeepsModes s (state_of x) × WithModes (state_of x) xs
+
+-- the slot holds the node in each of them
+abbrev pub HoldsAlong : ℕ → NodeId → List ManagerView → Type 0
+HoldsAlong t n [] = Unit {0}
+HoldsAlong t n (x ∷ xs) = (holds (members (state_of x) n) t ≡ true) × HoldsAlong t n xs
+
 -- the last of them
 abbrev pub last_of : ManagerView → List ManagerView → ManagerView
 last_of m [] = m
@@ -98,3 +117,13 @@ abbrev pub PathsInOrder : Type 0
 PathsInOrder =
     (t : TxnId) (ask : Ask) (m : ManagerView) (told : Told) (result : Result Reached Refusal) (m' : ManagerView) → LocksPath t ask m told result m'
     → (ms : List ManagerView) × InOrder m ms × (last_of m ms ≡ m')
+
+-- each step keeps modes
+abbrev pub StepsKeepModes : Type 0
+StepsKeepModes = (s s' : State) (c : Command) (a : Answer) (told : Told) → IsLawful s → Step s c a told s' → KeepsModes s s'
+
+-- along a run, a node that is held throughout is held at the end in at least its first mode
+abbrev pub ModesOnlyRise : Type 0
+ModesOnlyRise =
+    (m : ManagerView) (ms : List ManagerView) (t : ℕ) (n : NodeId) → WithModes (state_of m) ms → HoldsAlong t n ms
+    → is_at_least ((state_of (last_of m ms)).held t n) ((state_of m).held t n) ≡ true

@@ -1,6 +1,6 @@
-//! The law of savepoints, the contract of a call that does nothing.
+//! The laws of savepoints, each the contract of a call that does nothing.
 
-ghost use Rattle.gl_catalog.specs.Savepoints.{PathsInOrder, RollbackKeeps, RollbackReleases, StaysBefore};
+ghost use Rattle.gl_catalog.specs.Savepoints.{ModesOnlyRise, PathsInOrder, RollbackKeeps, RollbackReleases, StaysBefore, StepsKeepModes};
 
 /// A transaction that rolls back to a savepoint still has each lock that it had at the savepoint
 /// and has not released since, whatever it and others did meanwhile, and holds it in the same mode
@@ -14,4 +14,11 @@ pub fn savepoints_keep()
     ensures keeps { RollbackKeeps }
     ensures releases { RollbackReleases }
     ensures paths { PathsInOrder }
+{}
+
+/// No step lowers the mode of a lock that stays. So over a run along which a transaction holds a
+/// node throughout, it holds it at the end in at least the mode that it had.
+pub fn modes_only_rise()
+    ensures steps { StepsKeepModes }
+    ensures runs { ModesOnlyRise }
 {}
