@@ -1,5 +1,5 @@
 -- Each command leaves a node that is still held in at least its mode. For the law of savepoints.
-use Rattle.std.specs.Prelude.{◌≡◌, ℕ, zero, suc, ◌&&◌, ◌==◌, Bool, true, false, List, [], ◌∷◌, None, Option, if◌then◌else◌, not}
+use Rattle.std.specs.Prelude.{◌≡◌, ℕ, zero, suc, ◌&&◌, ◌==◌, Bool, true, List, [], ◌∷◌, None, Option, if◌then◌else◌, not}
 use Rattle.std.proofs.Common.{refl, sym, ap, subst, ⊎_elim, ◌∙◌}
 use Rattle.gl_modes.proofs.Words.{and_both, clash, split}
 use Rattle.gl_modes.proofs.ModeLemmas.{at_least-refl, at_least-transitive, supremum-above}
@@ -22,7 +22,7 @@ use Rattle.gl_model.specs.declared.txn.Status.TheVariants.{Active, Condemned}
 use Rattle.gl_model.specs.declared.txn.TxnId.{TxnId}
 use Rattle.gl_model.specs.Calls.{Locks, WaitSettles, asked_by_escalation, departed, enqueued, enters_at, is_covered, raised, wanted}
 use Rattle.gl_model.specs.Lawful.{IsLawful}
-use Rattle.gl_model.specs.State.{Settled, SettledWithin, State, Txn, condemned, is_waiting_at, members, pumped, with_grant, with_graph, without_wait}
+use Rattle.gl_model.specs.State.{SettledWithin, State, Txn, condemned, is_waiting_at, members, pumped, with_grant, with_graph, without_wait}
 use Rattle.gl_model.specs.Tellings.{Told}
 use Rattle.gl_model.proofs.law.Keeps.{IsLess, grant_case, grew, less-lawful}
 use Rattle.gl_model.proofs.law.Lock.{may_lock, unlocked-less, waiting-lawful}
@@ -31,7 +31,7 @@ use Rattle.gl_model.proofs.law.Tests.{raised-lawful, shed-less}
 use Rattle.gl_steps.specs.declared.command.Answer.{Answer}
 use Rattle.gl_steps.specs.declared.command.Command.{Command}
 use Rattle.gl_steps.specs.declared.command.Command.TheVariants as command
-use Rattle.gl_steps.specs.Step.{Accepts, Step}
+use Rattle.gl_steps.specs.Step.{Accepts}
 use Rattle.gl_steps.specs.Tests.{refusal_of, tests_of, worn}
 use Rattle.gl_steps.proofs.EachStep.{each_step}
 use Rattle.gl_steps.proofs.NotRefused.{active_is, nodes_live}

@@ -37,7 +37,8 @@ use Rattle.gl_catalog.specs.Paths.{Ask, IsPath, reaching}
 use Rattle.gl_catalog.specs.Replies.{Says, said}
 use Rattle.gl_catalog.specs.Savepoints.{InOrder, PathsInOrder, RollbackReleases}
 use Rattle.gl_modes.proofs.ModeLemmas.{at_least-refl, at_least-transitive}
-use Rattle.gl_catalog.specs.Savepoints.{ModesOnlyRise}
+use Rattle.gl_modes.specs.Modes.{is_at_least}
+use Rattle.gl_catalog.specs.Savepoints.{ModesOnlyRise, RollbackKeepsModes}
 use Rattle.gl_catalog.proofs.GoingBack.{may_go_back}
 
 -- call by call
@@ -160,3 +161,8 @@ modes_only_rise m [] t n kept along = at_least-refl ((state_of m).held t n)
 modes_only_rise m (x ∷ xs) t n kept along =
     at_least-transitive ((state_of (last_of x xs)).held t n) ((state_of x).held t n) ((state_of m).held t n)
     (modes_only_rise x xs t n kept.1 along.1) (kept.0.no_less t n along.0)
+
+pub rollback_keeps_modes : RollbackKeepsModes
+rollback_keeps_modes m ms t n k told m' kept modes here along holding law law' back =
+    ap (λ x. is_at_least x ((state_of m).held t.slot n)) (rollback_keeps m ms t n k told m' kept here along law law' back).1
+    ∙ modes_only_rise m ms t.slot n modes holding

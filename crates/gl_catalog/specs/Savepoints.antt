@@ -70,7 +70,7 @@ InOrder m (x ∷ xs) = KeepsOrders m.table x.table × InOrder x xs
 pub record KeepsModes (s s' : State) : Type 0 where
   pub no_less : (t : ℕ) (n : NodeId) → holds (members s' n) t ≡ true → is_at_least (s'.held t n) (s.held t n) ≡ true
 
--- one state after the other, each with the modes of the one before
+-- the modes are kept from each of them to the next
 abbrev pub WithModes : State → List ManagerView → Type 0
 WithModes s [] = Unit {0}
 WithModes s (x ∷ xs) = KeepsModes s (state_of x) × WithModes (state_of x) xs
@@ -127,3 +127,11 @@ abbrev pub ModesOnlyRise : Type 0
 ModesOnlyRise =
     (m : ManagerView) (ms : List ManagerView) (t : ℕ) (n : NodeId) → WithModes (state_of m) ms → HoldsAlong t n ms
     → is_at_least ((state_of (last_of m ms)).held t n) ((state_of m).held t n) ≡ true
+
+-- so after a rollback it holds each lock that it held at the savepoint and ever since in at least its mode then
+abbrev pub RollbackKeepsModes : Type 0
+RollbackKeepsModes =
+    (m : ManagerView) (ms : List ManagerView) (t : TxnId) (n : NodeId) (k : ℕ) (told : Told) (m' : ManagerView) → InOrder m ms
+    → WithModes (state_of m) ms → has_lock m t.slot n ≡ true → HasAlong t.slot n ms → HoldsAlong t.slot n ms
+    → IsLawfulManager (last_of m ms) → IsLawfulManager m' → TakesBack t (length (nodes_of m.table t.slot)) k (last_of m ms) told m'
+    → is_at_least ((state_of m').held t.slot n) ((state_of m).held t.slot n) ≡ true
