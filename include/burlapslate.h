@@ -401,7 +401,8 @@ static inline bs_reply bs_unlock(bs_manager *manager, bs_txn txn, bs_node node, 
 /* Answers a savepoint of a transaction, in `count`, for bs_release_since: how many nodes it holds or waits for. Nothing
  * is stored for it. It is valid until the transaction releases a lock that it had by then: by bs_unlock, bs_unlock_row,
  * bs_escalate, bs_delete or bs_drop, or because another transaction removes the node. A savepoint made during a wait
- * counts that wait, and a cancel of that wait is such a release. Refused with BS_NO_SUCH_TXN. */
+ * counts that wait. If the wait ends without a grant, as by bs_cancel, that is such a release: a later lock takes its
+ * place, and bs_release_since keeps that one. Refused with BS_NO_SUCH_TXN. */
 static inline bs_reply bs_mark(const bs_manager *manager, bs_txn txn) {
   return bs_call_can_ask(manager) ? bs_call_lock_count(manager, txn) : bs_call_unasked(manager);
 }

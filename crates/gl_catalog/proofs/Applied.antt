@@ -24,6 +24,7 @@ use Rattle.gl_steps.specs.Promises.{KeepsCaller, StepLeavesOthers}
 use Rattle.gl_catalog.specs.Replies.{CallSteps, Notices, Says, made, said}
 use Rattle.gl_steps.specs.Step.{Answers, Goes, Step, answer_of_lock, query_answer}
 use Rattle.gl_steps.specs.Tests.{is_cycle, lists_memory, refusal_of}
+use Rattle.gl_table.specs.Table.{KeepsOrders}
 use Rattle.gl_catalog.proofs.Carried.{memory_step, refused_step}
 use Rattle.gl_steps.proofs.MoverEffects.{move_keeps_mover, rekey_keeps_mover}
 use Rattle.gl_steps.proofs.EscalateEffects.{escalate_lowers_none}
@@ -43,6 +44,10 @@ pub fills : {A : Type 0} (answers : A → Answer) (s s' : State) (c c' : Command
 fills answers s s' c c' (Ok x) a list before step same kept empty is = coe 0 1 (i. Step s (sym is i) (sym same i) list.items s') step
 fills answers s s' c c' (Err r) a list before step same kept empty is = coe 0 1 (i. Step s (sym is i) (sym same i) (sym (ap (λ
     (l : Notices). l.items) kept ∙ empty) i) s') step
+
+-- nothing changed, so neither did an order
+pub orders_here : (v : ManagerView) → KeepsOrders v.table v.table
+orders_here v = record { each = λ t. record { first = λ k n h there. h } }
 
 -- what a call completes, with its answer
 module _ {A : Type 0} (answers : A → Answer) (v v' : ManagerView) (c c' : Command) (list : Told) (result : Result A Refusal) (completes : IfOk result
@@ -88,6 +93,14 @@ module _ {A : Type 0} (answers : A → Answer) (v v' : ManagerView) (c c' : Comm
       by (Ok x) h = tt
       by (Err r) h = sym its ∙ ap (λ (l : Notices). l.items) h ∙ empty
 
+  -- and what it leaves of the order of locks
+  pub orders_answered : KeepsOrders v.table v'.table
+  orders_answered = by result completes err
+    where
+      by : (r : Result A Refusal) → IfOk r (λ x. Completes c v (answers x, list) v') → OnErr r (v' ≡ v) → KeepsOrders v.table v'.table
+      by (Ok x) done was = done.orders
+      by (Err r) done was = subst (λ (w : ManagerView). KeepsOrders v.table w.table) (sym was) (orders_here v)
+
 -- a call that tells nobody leaves the list empty
 module _ {A : Type 0} (answers : A → Answer) (v v' : ManagerView) (c c' : Command) (list : Told) (result : Result A Refusal) (completes : IfOk result
     (λ x. Completes c v (answers x, []) v')) (err : OnErr result (v' ≡ v)) where
@@ -117,8 +130,8 @@ pub insert_completes : (v v' : ManagerView) (t : TxnId) (f : NodeId) (keys : Bor
     → OnOk result (KeepsAccepted (command.Insert t f keys) v v')
     → StepLeavesOthers (state_of v) (command.Insert t f keys) (said made result) (state_of v') → OnOk result (v'.accepted ≡ v.accepted + 1)
     → v'.counters ≡ counted (state_of v) (command.Insert t f keys) (said made result).0 (said made result).1 (state_of v') v.counters
-    → IfOk result (λ n. Completes (command.Insert t f keys) v (made n) v')
-insert_completes v v' t f keys (Ok n) deadlock others accepted counters = record {
+    → OnOk result (KeepsOrders v.table v'.table) → IfOk result (λ n. Completes (command.Insert t f keys) v (made n) v')
+insert_completes v v' t f keys (Ok n) deadlock others accepted counters orders = record {
   accepted = accepted;
   counters = counters;
   deadlock = deadlock;
@@ -126,8 +139,9 @@ insert_completes v v' t f keys (Ok n) deadlock others accepted counters = record
       tt;
   others = others;
   settles = tt;
+  orders = orders;
 }
-insert_completes v v' t f keys (Err r) deadlock others accepted counters = tt
+insert_completes v v' t f keys (Err r) deadlock others accepted counters orders = tt
 
 -- a query keeps what was kept
 pub keeps_asked : {A : Type 0} (answers : A → Answer) (v : ManagerView) (c c' : Command) (result : Result A Refusal) (a : Answer) → ((x : A)
@@ -185,6 +199,7 @@ module _ {A : Type 0} (answers : A → Answer) (v v' : ManagerView) (c c' : Comm
     deadlock = keeps_answered answers v v' c c' [] result completes err a keeps same is;
     counters = quiet_counts answers v v' c c' [] result completes err a told empty same is;
     same = uncounted answers v v' c c' [] result completes err;
+    orders = orders_answered answers v v' c c' [] result completes err;
   }
 
   -- if it fills a list
@@ -196,6 +211,7 @@ module _ {A : Type 0} (answers : A → Answer) (v v' : ManagerView) (c c' : Comm
     deadlock = keeps_answered answers v v' c c' told.items result completes err a keeps same is;
     counters = list_counts answers v v' c c' told.items result completes err a before told kept empty refl same is;
     same = uncounted answers v v' c c' told.items result completes err;
+    orders = orders_answered answers v v' c c' told.items result completes err;
   }
 
 -- a query that is answered is carried out
@@ -208,4 +224,5 @@ carries_query answers v c c' result a told keeps none step same empty is = recor
   deadlock = keeps_asked answers v c c' result a keeps same is;
   counters = asked_counts answers (state_of v) (state_of v) c c' result a told v.counters none empty same is;
   same = λ e. refl;
+  orders = orders_here v;
 }

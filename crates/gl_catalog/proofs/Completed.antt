@@ -26,6 +26,7 @@ use Rattle.gl_catalog.specs.Deadlocks.{KeepsAccepted}
 use Rattle.gl_catalog.specs.Manager.{IsLawfulManager, ManagerView, state_of}
 use Rattle.gl_catalog.specs.Replies.{Says}
 use Rattle.gl_steps.specs.Step.{Step, answer_of_lock}
+use Rattle.gl_table.specs.Table.{KeepsOrders}
 use Rattle.gl_catalog.proofs.Applied.{keeps_caller}
 use Rattle.gl_catalog.proofs.Counts.{max_none, rises_none, rises_twice}
 use Rattle.gl_steps.proofs.IdleSettle.{settles_idle}
@@ -35,25 +36,30 @@ use Rattle.gl_catalog.proofs.RunsOn.{step_leaves_others}
 -- a step that was counted, and recorded deadlocks as it must, completes its command
 pub completed : (v v' : ManagerView) → IsLawfulManager v → (c : Command) (r : Says) → Step (state_of v) c r.0 r.1 (state_of v') → KeepsAccepted c v v'
     → v'.accepted ≡ v.accepted + 1
-    → v'.counters ≡ counted (state_of v) c r.0 r.1 (state_of v') v.counters → Completes c v r v'
-completed v v' law c r step deadlock accepted counters = record {
+    → v'.counters ≡ counted (state_of v) c r.0 r.1 (state_of v') v.counters → KeepsOrders v.table v'.table → Completes c v r v'
+completed v v' law c r step deadlock accepted counters orders = record {
   accepted = accepted;
   counters = counters;
   deadlock = deadlock;
   caller = keeps_caller c (state_of v) (state_of v') r.0 r.1 law.lawful step;
   others = step_leaves_others (state_of v) (state_of v') c r law.lawful step;
   settles = settles_idle c (state_of v) (state_of v') r.0 r.1 law.lawful step;
+  orders = orders;
 }
 
 -- the manager before a call: as its fields are, and as a contract sees them
-module _ (inside v v' : ManagerView) (view_is : inside ≡ v) (law : IsLawfulManager inside) (c : Command) (accepted : v'.accepted ≡ inside.accepted + 1) where
+module _ (inside v v' : ManagerView) (view_is : inside ≡ v) (law : IsLawfulManager inside) (c : Command) (accepted : v'.accepted ≡ inside.accepted + 1)
+    (orders : KeepsOrders inside.table v'.table) where
+  orders_after : KeepsOrders v.table v'.table
+  orders_after = subst (λ (m : ManagerView). KeepsOrders m.table v'.table) view_is orders
+
   -- a call that counts nothing
   pub quiet_completed : (r : Says) → Step (state_of v) c r.0 r.1 (state_of v') → KeepsAccepted c v v' → v'.counters ≡ inside.counters → ((k : Counters)
       → counted (state_of v) c r.0 r.1 (state_of v') k ≡ k)
       → Completes c v r v'
   quiet_completed r step deadlock kept counts =
       completed v v' (subst IsLawfulManager view_is law) c r step deadlock (accepted ∙ ap (λ (m : ManagerView). m.accepted + 1) view_is)
-      (kept ∙ ap (λ (m : ManagerView). m.counters) view_is ∙ sym (counts v.counters))
+      (kept ∙ ap (λ (m : ManagerView). m.counters) view_is ∙ sym (counts v.counters)) orders_after
 
   -- a call that counts its notices
   pub told_completed : (a : Answer) (told list : Told) → Step (state_of v) c a told (state_of v') → KeepsAccepted c v v' → list ≡ told
@@ -61,7 +67,7 @@ module _ (inside v v' : ManagerView) (view_is : inside ≡ v) (law : IsLawfulMan
       → ((k : Counters) → counted (state_of v) c a told (state_of v') k ≡ with_notices told k) → Completes c v (a, told) v'
   told_completed a told list step deadlock same noted counts =
       completed v v' (subst IsLawfulManager view_is law) c (a, told) step deadlock (accepted ∙ ap (λ (m : ManagerView). m.accepted + 1) view_is)
-      (noted ∙ (λ i. with_notices (same i) (view_is i).counters) ∙ sym (counts v.counters))
+      (noted ∙ (λ i. with_notices (same i) (view_is i).counters) ∙ sym (counts v.counters)) orders_after
 
 -- notices alone are counted
 pub notices_counted : (told : Told) (k : Counters)

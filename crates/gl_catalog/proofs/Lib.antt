@@ -28,3 +28,5 @@ pub mod PathRuns
 pub mod PathOthers
 -- going back to a savepoint
 pub mod GoingBack
+pub mod Savepoints
+pub mod ModesRise

@@ -2,6 +2,7 @@
 #![tactic(auto)]
 
 mod counters;
+pub mod laws;
 mod manager;
 pub mod replies;
 mod run;

@@ -19,7 +19,7 @@ use Rattle.std.specs.List.{AllByRecursion, IsDistinct, list_any, position_or_len
 use Rattle.std.specs.Map.{lookup}
 use Rattle.std.specs.Option.{option_map_or}
 use Rattle.std.specs.Prelude.{Bool, List, None, Option, Some, [], cond, drop, false, get_or, if◌then◌else◌, is_some, length, map, nat_lt, not, slice_get}
-use Rattle.std.specs.Prelude.{slice_index_or, slice_set, suc, swap_remove, take, true, unwrap_or, zero, ℕ, ◌&&◌, ◌++◌, ◌+◌, ◌-◌, ◌<◌, ◌==◌, ◌∷◌, ◌≡◌, ◌≢◌, ◌≤◌}
+use Rattle.std.specs.Prelude.{slice_index_or, slice_set, suc, swap_remove, take, true, unwrap_or, zero, ℕ, ◌&&◌, ◌+◌, ◌-◌, ◌<◌, ◌==◌, ◌∷◌, ◌≡◌, ◌≢◌, ◌≤◌}
 use Rattle.std.specs.Prelude.{◌||◌}
 use Rattle.std.proofs.lemmas.List.{length-set}
 
@@ -257,7 +257,7 @@ later_differs k (x ∷ xs) zero n h here = ap (same_node k) (sym (some_is here))
 later_differs k (x ∷ xs) (suc at) n h here = later_differs k xs at n h.1 here
 
 -- so the first of a node is the one at its place
-once_at : (ks : List NodeId) (at : ℕ) (n : NodeId) → IsDistinct same_node ks → slice_get ks at ≡ Some n → position_or_len (same_node n) ks ≡ at
+pub once_at : (ks : List NodeId) (at : ℕ) (n : NodeId) → IsDistinct same_node ks → slice_get ks at ≡ Some n → position_or_len (same_node n) ks ≡ at
 once_at [] at n once here = absurd (cc)
 once_at (k ∷ ks) zero n once here =
     ap (λ b. cond (not b) (1 + position_or_len (same_node n) ks) 0) (same_node-from_equal n k (sym (some_is here)))
@@ -277,7 +277,7 @@ none_before (k ∷ ks) (suc at) n once here =
     (none_before ks at n (IsDistinct-tail same_node k ks once) here)
 
 -- the first that passes is removed from its place
-taken_there : {K : Type 0} (t : K → Bool) (ks : List K) (at : ℕ) → position_or_len t ks ≡ at → at < length ks
+pub taken_there : {K : Type 0} (t : K → Bool) (ks : List K) (at : ℕ) → position_or_len t ks ≡ at → at < length ks
     → (d : K) × (swap_remove_by t ks ≡ swap_remove ks at d)
 taken_there t [] at first lt = absurd (omega arith)
 taken_there t (x ∷ xs) at first lt = (

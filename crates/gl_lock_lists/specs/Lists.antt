@@ -1,8 +1,8 @@
 -- The list of one transaction: the nodes that it holds or waits for, each with its mode and the count of its held children.
 use Rattle.std.specs.Prelude.{◌≡◌, ℕ, ◌+◌, ◌≤◌, ◌<◌, Bool, not, List, Option, Some, None, is_some, false, true, ◌&&◌, ◌||◌, ◌==◌, slice_get}
 use Rattle.std.specs.List.{count_by, list_all}
-use Rattle.std.specs.Map.{lookup}
-use Rattle.indexmap.specs.IndexMap.{spare, keys}
+use Rattle.std.specs.Map.{keys_of, lookup}
+use Rattle.indexmap.specs.IndexMap.{spare, keys, swap_remove_entry}
 use Rattle.gl_modes.specs.declared.mode.Mode.{Mode}
 use Rattle.gl_modes.specs.declared.mode.Mode.TheVariants.{NL, X}
 use Rattle.gl_modes.specs.declared.node.NodeId.{NodeId}
@@ -75,3 +75,4 @@ pub record IsTakenOut (g : Graph) (l : LockList) (n : NodeId) (l' : LockList) : 
   pub listed : (q : NodeId) → is_listed l' q ≡ (is_listed l q && not (same_node q n))
   pub modes : (q : NodeId) → mode_of l' q ≡ mode_of l q
   pub counts : (q : NodeId) → count_of l' q + count_by (same_node q) (parents_of g n) ≡ count_of l q
+  pub keys : keys l'.entries ≡ keys_of (swap_remove_entry (same_node n) l.entries.entries)

@@ -1,6 +1,6 @@
 //! The list of one transaction: the nodes that it holds or waits for.
 
-ghost use Rattle.std.specs.Prelude.{◌≡◌, ℕ, ◌+◌, ◌<◌, ◌≤◌, ◌^◌, ◌&&◌, ◌||◌, not, true, false, length, OnOk, IfSome, IfNone, if◌then◌else◌};
+ghost use Rattle.std.specs.Prelude.{◌≡◌, ℕ, ◌+◌, ◌<◌, ◌≤◌, ◌^◌, ◌&&◌, ◌||◌, ◌++◌, ◌∷◌, [], not, true, false, length, OnOk, IfSome, IfNone, if◌then◌else◌};
 ghost use Rattle.std.specs.List.{count_by, list_all, list_any};
 ghost use Rattle.indexmap.specs.IndexMap.{spare};
 ghost use Rattle.std.specs.Prelude.{None, Some, cond, nat_lt, slice_get, unwrap_or};
@@ -86,6 +86,7 @@ impl LockList {
     pub fn new(alloc: Global) -> Self
         ensures listed { (n : Node) → is_listed result n ≡ false }
         ensures counts { (n : Node) → count_of result n ≡ 0 }
+        ensures keys { keys result.entries ≡ [] }
     {
         LockList {
             entries: NodeMap::new(alloc),
@@ -138,7 +139,7 @@ impl LockList {
         self.loose.reserve(MOST_PARENTS + 1)
     }
 
-    /// Lists a node, with the count of its held children.
+    /// Lists a node last, with the count of its held children.
     #[inline(always)]
     pub fn enter(&mut self, n: NodeId, mode: Mode)
         requires new { is_listed self.old n ≡ false }
@@ -147,6 +148,7 @@ impl LockList {
         ensures modes { (q : Node) → mode_of self.new q ≡ (if same_node q n then mode else mode_of self.old q) }
         ensures counts { (q : Node) → count_of self.new q ≡ count_of self.old q }
         ensures room { spare self.old.loose ≤ spare self.new.loose }
+        ensures keys { keys self.new.entries ≡ keys self.old.entries ++ n ∷ [] }
     {
         let children = take_loose(&mut self.loose, n);
         self.entries.insert_new(n, Entry { mode, children });
@@ -190,6 +192,7 @@ impl LockList {
         ensures modes { (q : Node) → mode_of self.new q ≡ mode_of self.old q }
         ensures counts { (q : Node) → count_of self.new q ≡ count_of self.old q + count_by (same_node q) parents.now }
         ensures room { spare self.old.loose ≤ spare self.new.loose + unlisted self.old parents.now }
+        ensures keys { keys self.new.entries ≡ keys self.old.entries }
     {
         for parent in parents {
             self.count_one_up(*parent);
@@ -205,6 +208,7 @@ impl LockList {
         ensures modes { (q : Node) → mode_of self.new q ≡ mode_of self.old q }
         ensures counts { (q : Node) → count_of self.new q ≡ count_of self.old q + (if same_node q n then 1 else 0) }
         ensures room { spare self.old.loose ≤ spare self.new.loose + (if is_listed self.old n then 0 else 1) }
+        ensures keys { keys self.new.entries ≡ keys self.old.entries }
     {
         if let Some(entry) = self.entries.get_mut(n) {
             entry.children += 1;
@@ -252,6 +256,7 @@ impl LockList {
         ensures counts { (n : Node) → count_of self.new n ≡ 0 }
         ensures entries_room { spare self.old.entries ≤ spare self.new.entries }
         ensures loose_room { spare self.old.loose ≤ spare self.new.loose }
+        ensures keys { keys self.new.entries ≡ [] }
     {
         self.entries.clear();
         if self.loose.is_empty() {
@@ -331,6 +336,7 @@ impl LockList {
         ensures listed { (q : Node) → is_listed self.new q ≡ is_listed self.old q }
         ensures modes { (q : Node) → mode_of self.new q ≡ (if covered_in (graph_of graph.now) self.old node q then NL else mode_of self.old q) }
         ensures counts { (q : Node) → count_of self.new q ≡ count_of self.old q }
+        ensures keys { keys self.new.entries ≡ keys self.old.entries }
     {
         for at in 0..self.entries.len() {
             self.mark_one(graph, node, at);

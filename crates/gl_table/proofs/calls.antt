@@ -12,3 +12,4 @@ pub mod Departing
 pub mod Records
 pub mod Dropping
 pub mod Adopting
+pub mod Orders

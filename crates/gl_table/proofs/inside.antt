@@ -2,6 +2,7 @@
 pub mod Slots
 pub mod Lists
 pub mod Orders
+pub mod Places
 pub mod TxnEntries
 pub mod Woken
 pub mod Boards

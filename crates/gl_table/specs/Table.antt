@@ -20,6 +20,7 @@ use Rattle.gl_header.specs.Headers.{Entries, held_of, queue_of}
 use Rattle.gl_lock_lists.specs.Lists.{mode_in}
 use Rattle.gl_model.specs.State.{is_waiting_at, State, members, Txn, age_of, empty_state, slots, waits_for}
 use Rattle.gl_table.specs.inside.TxnEntries.{txns_of}
+use Rattle.gl_table.specs.Orders.{KeepsPlaces}
 use Rattle.gl_model.specs.declared.answers.LockRow.{LockRow}
 use Rattle.gl_model.specs.declared.txn.Status.{Status}
 use Rattle.gl_model.specs.declared.txn.Status.TheVariants.{Waiting}
@@ -98,6 +99,10 @@ rows_of v t = map row_of (get_or v.lists t [])
 -- the nodes of a slot, in the order of its list
 abbrev pub nodes_of : TableView → ℕ → List NodeId
 nodes_of v t = keys_of (get_or v.lists t [])
+
+-- in each transaction's list, no node that stays moves to a later place
+pub record KeepsOrders (v v' : TableView) : Type 0 where
+  pub each : (t : ℕ) → KeepsPlaces (nodes_of v t) (nodes_of v' t)
 
 -- the row is of this node
 abbrev pub is_row_of : NodeId → LockRow → Bool

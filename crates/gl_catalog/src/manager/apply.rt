@@ -1,6 +1,7 @@
 //! The one call for every command.
 
 ghost use Rattle.std.specs.Prelude.{◌≡◌, []};
+ghost use Rattle.gl_table.specs.Table.{KeepsOrders};
 ghost use Rattle.gl_catalog.specs.Deadlocks.{KeepsDeadlock};
 ghost use Rattle.gl_catalog.specs.Completes.{IsCarriedOut};
 ghost use Rattle.gl_catalog.specs.Counters.{counted};
@@ -36,6 +37,7 @@ impl Manager {
         ensures settles { SettlesIdle (state_of self.old) command.entry result.answer result.told.items (state_of self.new) }
         ensures counters { self.new.counters ≡ counted (state_of self.old) command.entry result.answer result.told.items (state_of self.new) self.old.counters }
         ensures same { self.new.accepted ≡ self.old.accepted → self.new ≡ self.old }
+        ensures orders { KeepsOrders self.old.table self.new.table }
     {
         let mut told = Told::new();
         let answer = self.apply_apart(command, &mut told);
@@ -54,6 +56,7 @@ impl Manager {
         ensures settles { SettlesIdle (state_of self.old) command.entry result told.new.items (state_of self.new) }
         ensures counters { self.new.counters ≡ counted (state_of self.old) command.entry result told.new.items (state_of self.new) self.old.counters }
         ensures same { self.new.accepted ≡ self.old.accepted → self.new ≡ self.old }
+        ensures orders { KeepsOrders self.old.table self.new.table }
     {
         self.apply_telling(command, told)
     }
@@ -71,6 +74,7 @@ impl Manager {
         ensures settles { SettlesIdle (state_of self.old) command.entry result told.new.items (state_of self.new) }
         ensures counters { self.new.counters ≡ counted (state_of self.old) command.entry result told.new.items (state_of self.new) self.old.counters }
         ensures same { self.new.accepted ≡ self.old.accepted → self.new ≡ self.old }
+        ensures orders { KeepsOrders self.old.table self.new.table }
     {
         self.law();
         self.carry_out(command, told)

@@ -3,6 +3,7 @@
 ghost use Rattle.std.specs.Prelude.{◌≡◌, ◌+◌, ◌∷◌, [], IfOk, OnErr, OnOk};
 ghost use Rattle.gl_graph.specs.Refusals.{first_refusal, verdict};
 ghost use Rattle.gl_steps.specs.declared.command.Command.TheVariants as command;
+ghost use Rattle.gl_table.specs.Table.{KeepsOrders};
 ghost use Rattle.gl_catalog.specs.Completes.{Completes};
 ghost use Rattle.gl_catalog.specs.Deadlocks.{KeepsAccepted};
 ghost use Rattle.gl_catalog.specs.Counters.{counted};
@@ -37,6 +38,7 @@ impl Manager {
         ensures counted { OnOk result (self.new.accepted ≡ self.old.accepted + 1) }
         ensures counters { self.new.counters ≡ counted (state_of self.old) (command.Escalate t n) (said rose result).0 (said rose result).1
             (state_of self.new) self.old.counters }
+        ensures orders { OnOk result (KeepsOrders self.old.table self.new.table) }
         ensures err { OnErr result (self.new ≡ self.old) }
     {
         let mut told = Told::new();

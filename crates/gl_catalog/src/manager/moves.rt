@@ -8,6 +8,7 @@ ghost use Rattle.gl_graph.specs.Shapes.{is_index_of_shape, is_movable_shape, is_
 ghost use Rattle.gl_model.specs.Calls.{holds_x_on_all, need_exclusive, need_new_parents};
 ghost use Rattle.gl_model.specs.State.{lives};
 ghost use Rattle.gl_steps.specs.declared.command.Command.TheVariants as command;
+ghost use Rattle.gl_table.specs.Table.{KeepsOrders};
 ghost use Rattle.gl_catalog.specs.Completes.{Completes};
 ghost use Rattle.gl_catalog.specs.Deadlocks.{KeepsAccepted};
 ghost use Rattle.gl_catalog.specs.Counters.{counted};
@@ -42,6 +43,7 @@ impl Manager {
         ensures counted { OnOk result (self.new.accepted ≡ self.old.accepted + 1) }
         ensures counters { self.new.counters ≡ counted (state_of self.old) (command.Rekey t rec index key) (said done result).0 (said done result).1
             (state_of self.new) self.old.counters }
+        ensures orders { OnOk result (KeepsOrders self.old.table self.new.table) }
         ensures err { OnErr result (self.new ≡ self.old) }
     {
         let mut told = Told::new();
@@ -91,6 +93,7 @@ impl Manager {
         ensures counted { OnOk result (self.new.accepted ≡ self.old.accepted + 1) }
         ensures counters { self.new.counters ≡ counted (state_of self.old) (command.Move t n parents.entry) (said done result).0 (said done result).1
             (state_of self.new) self.old.counters }
+        ensures orders { OnOk result (KeepsOrders self.old.table self.new.table) }
         ensures err { OnErr result (self.new ≡ self.old) }
     {
         let mut told = Told::new();

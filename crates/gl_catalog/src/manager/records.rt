@@ -5,6 +5,7 @@ ghost use Rattle.gl_graph.specs.Graph.{record_parents};
 ghost use Rattle.gl_graph.specs.Refusals.{Refuses, first_refusal, record_refusal, verdict};
 ghost use Rattle.gl_model.specs.Calls.{RefusesOnly};
 ghost use Rattle.gl_steps.specs.declared.command.Command.TheVariants as command;
+ghost use Rattle.gl_table.specs.Table.{KeepsOrders};
 ghost use Rattle.gl_catalog.specs.Adopting.{AdoptsLocked, adopting_tests};
 ghost use Rattle.gl_catalog.specs.Completes.{Completes};
 ghost use Rattle.gl_catalog.specs.Deadlocks.{KeepsAccepted};
@@ -37,6 +38,7 @@ impl Manager {
         ensures counters { self.new.counters ≡ counted (state_of self.old) (command.Insert t file keys.entry) (said made result).0
             (said made result).1 (state_of self.new) self.old.counters }
         ensures uncounted { self.new.counters ≡ self.old.counters }
+        ensures orders { OnOk result (KeepsOrders self.old.table self.new.table) }
         ensures err { OnErr result (self.new ≡ self.old) }
     {
         self.law();
@@ -60,6 +62,7 @@ impl Manager {
         ensures counted { OnOk result (self.new.accepted ≡ self.old.accepted + 1) }
         ensures counters { self.new.counters ≡ counted (state_of self.old) (command.Delete t rec) (said done result).0 (said done result).1
             (state_of self.new) self.old.counters }
+        ensures orders { OnOk result (KeepsOrders self.old.table self.new.table) }
         ensures err { OnErr result (self.new ≡ self.old) }
     {
         let mut told = Told::new();
@@ -119,6 +122,7 @@ impl Manager {
         mode: Mode,
     ) -> Result<NodeId, Refusal>
         ensures adopts { IfOk result (λ n. AdoptsLocked self.old t file keys.entry mode n self.new) }
+        ensures orders { OnOk result (KeepsOrders self.old.table self.new.table) }
         ensures refuses { Refuses (first_refusal (adopting_tests (state_of self.old) t file keys.now mode)) result }
         ensures err { OnErr result (self.new ≡ self.old) }
     {

@@ -1,9 +1,10 @@
 //! Savepoints: a transaction releases what it locked since a mark.
 
-ghost use Rattle.std.specs.Prelude.{◌≡◌, IfOk, OnErr, [], true};
+ghost use Rattle.std.specs.Prelude.{◌≡◌, IfOk, OnErr, [], true, OnOk};
 ghost use Rattle.gl_graph.specs.Refusals.{first_refusal, verdict};
 ghost use Rattle.gl_model.specs.Calls.{RefusesOnly};
 ghost use Rattle.gl_model.specs.State.{lives};
+ghost use Rattle.gl_table.specs.Table.{KeepsOrders};
 ghost use Rattle.gl_catalog.specs.Manager.{state_of};
 ghost use Rattle.gl_catalog.specs.Savepoints.{TakesBack, back_tests, count_since, worn_for};
 
@@ -32,6 +33,7 @@ impl Manager {
     ) -> Result<usize, Refusal>
         requires empty { told.old.items ≡ [] }
         ensures back { IfOk result (λ k. TakesBack t mark k self.old told.new.items self.new) }
+        ensures orders { OnOk result (KeepsOrders self.old.table self.new.table) }
         ensures refuses { RefusesOnly (first_refusal (back_tests self.old t mark)) result }
         ensures untold { OnErr result (told.new ≡ told.old) }
         ensures err { OnErr result (self.new ≡ self.old) }

@@ -5,6 +5,9 @@ use Rattle.gl_table.proofs.Words.{if◌then◌else◌, is_listed, is_some, IsWri
 use Rattle.gl_table.proofs.Words.{LockList, lookup, map-set_same, Mode, mode_in, mode_of, nat_tests, NL, NodeId, nodes_by, not, number_same, option_map_or}
 use Rattle.gl_table.proofs.Words.{refl, room_by, same_mode, same_mode-equal, same_node, same_node-equal, same_number, slice_get, slice_get-get_or}
 use Rattle.gl_table.proofs.Words.{slice_index_or, slice_set, Some, spare, split, State, Strikes, subst, suc, sym, true, unlisted, unlisted_by, Writing, zero, ℕ}
+use Rattle.gl_table.proofs.Words.{keys_of, KeepsPlaces, ListsKeepPlaces, ListsLose, OnlyLoses}
+use Rattle.gl_table.proofs.inside.Places.{lost_one, same_order}
+use Rattle.indexmap.specs.IndexMap.{swap_remove_entry}
 use Rattle.gl_model.proofs.queues.Waiters.{if-false, if-true}
 
 -- One list of many is written.
@@ -53,6 +56,33 @@ module _ (ls : List LockList) (t : ℕ) (l : LockList) (lt : t < length ls) (at 
       → by_list f none (slice_set ls t l') u ≡ by_list f none ls u
   by_list-kept l' f none same u = by_list-set ls t l' lt f none u ∙ split (u == t) (λ e. if-true _ e ∙ same ∙ sym (by_list-here u e f none)) (λ e. if-false _ e)
 
+-- The orders of lists of which one is written.
+module _ (ls : List LockList) (t : ℕ) (l l' : LockList) (lt : t < length ls) (at : l ≡ slice_index_or ls t l) where
+  by_order : (R : List NodeId → List NodeId → Type 0) → R (keys l.entries) (keys l'.entries) → ((order : List NodeId) → R order order) → (u : ℕ)
+      → R (nodes_by ls u) (nodes_by (slice_set ls t l') u)
+  by_order R here same u = split (u == t)
+      (λ e. subst (λ (order : List NodeId). R order (nodes_by (slice_set ls t l') u)) (sym (by_list-here ls t l lt at u e (λ x. keys x.entries) []))
+      (subst (R (keys l.entries)) (sym (by_list-set ls t l' lt (λ x. keys x.entries) [] u ∙ if-true _ e)) here))
+      (λ e. subst (R (nodes_by ls u)) (sym (by_list-set ls t l' lt (λ x. keys x.entries) [] u ∙ if-false _ e)) (same (nodes_by ls u)))
+
+  pub set_loses : OnlyLoses (keys l.entries) (keys l'.entries) → ListsLose ls (slice_set ls t l')
+  set_loses here = record { each = by_order OnlyLoses here (λ order. same_order order order refl) }
+
+  pub set_keeps : KeepsPlaces (keys l.entries) (keys l'.entries) → ListsKeepPlaces ls (slice_set ls t l')
+  set_keeps here = record { each = by_order KeepsPlaces here (λ order. (same_order order order refl).places) }
+
+-- a list that was taken out of its place is put back, with fewer nodes
+pub lists_back : (ls mid : List LockList) (t : ℕ) (l e l' : LockList) → t < length ls → l ≡ slice_index_or ls t l → ListsLose (slice_set ls t e) mid
+    → t < length mid → OnlyLoses (keys l.entries) (keys l'.entries) → ListsLose ls (slice_set mid t l')
+lists_back ls mid t l e l' lt at others there own = record {
+  each = λ u. split (u == t)
+      (λ k. subst (λ (order : List NodeId). OnlyLoses order (nodes_by (slice_set mid t l') u)) (sym (by_list-here ls t l lt at u k (λ x. keys x.entries) []))
+      (subst (OnlyLoses (keys l.entries)) (sym (by_list-set mid t l' there (λ x. keys x.entries) [] u ∙ if-true _ k)) own))
+      (λ k. subst (λ (order : List NodeId). OnlyLoses order (nodes_by (slice_set mid t l') u))
+      (by_list-set ls t e lt (λ x. keys x.entries) [] u ∙ if-false _ k)
+      (subst (OnlyLoses (nodes_by (slice_set ls t e) u)) (sym (by_list-set mid t l' there (λ x. keys x.entries) [] u ∙ if-false _ k)) (others.each u)));
+}
+
 -- of what passes a test and fails another
 but_not : (a b : Bool) → (a && not b) ≡ (if b then false else a)
 but_not a b = grind (arith, nat_tests)
@@ -74,8 +104,9 @@ module _ (ls : List LockList) (t : ℕ) (l l' : LockList) (lt : t < length ls) (
   -- one list is written at one node
   pub written : (n : NodeId) (is : Writing) → ((q : NodeId) → mode_of l' q ≡ (if same_node q n then is.mode t else mode_of l q))
       → ((q : NodeId) → is_listed l' q ≡ (if is.gone && same_node q n then false else is_listed l q))
-      → ((q : NodeId) → count_of l' q ≡ count_of l q + is.more t q) → IsWritten ls n (λ u. u == t) is (slice_set ls t l')
-  written n is modes listed counts = record {
+      → ((q : NodeId) → count_of l' q ≡ count_of l q + is.more t q) → OnlyLoses (keys l.entries) (keys l'.entries)
+      → IsWritten ls n (λ u. u == t) is (slice_set ls t l')
+  written n is modes listed counts loses = record {
     len = length-set ls t l';
     modes = λ u q. by_slot (λ x. mode_of x q) NL u (λ k. if k && same_node q n then is.mode u else held_by ls u q)
         (λ e was. modes q ∙ ap₂ (λ v x. if same_node q n then is.mode v else x) (sym (same_number u t e)) was) refl;
@@ -86,14 +117,15 @@ module _ (ls : List LockList) (t : ℕ) (l l' : LockList) (lt : t < length ls) (
         (λ e was. counts q ∙ ap₂ (λ v (k : ℕ). k + is.more v q) (sym (same_number u t e)) was) (none_more (counted_by ls u q));
     rooms = λ u e. by_list-set ls t l' lt (λ x. spare x.loose) 0 u ∙ ap (λ b. if b then spare l'.loose else room_by ls u) e;
     orders = λ u e. by_list-set ls t l' lt (λ x. keys x.entries) [] u ∙ ap (λ b. if b then keys l'.entries else nodes_by ls u) e;
+    loses = set_loses ls t l l' lt at loses;
   }
 
   -- a node is removed from one list, in which no child of it is counted
   pub written-left : (n : NodeId) → ((q : NodeId) → mode_of l' q ≡ (if same_node q n then NL else mode_of l q))
       → ((q : NodeId) → is_listed l' q ≡ (is_listed l q && not (same_node q n))) → ((q : NodeId) → count_of l' q ≡ count_of l q)
-      → IsWritten ls n (λ u. u == t) as_left (slice_set ls t l')
-  written-left n modes listed counts = written n as_left modes (λ q. listed q ∙ but_not (is_listed l q) (same_node q n))
-      (λ q. counts q ∙ none_more (count_of l q))
+      → keys l'.entries ≡ keys_of (swap_remove_entry (same_node n) l.entries.entries) → IsWritten ls n (λ u. u == t) as_left (slice_set ls t l')
+  written-left n modes listed counts order = written n as_left modes (λ q. listed q ∙ but_not (is_listed l q) (same_node q n))
+      (λ q. counts q ∙ none_more (count_of l q)) (lost_one l l' n order listed)
 
 -- lists that have the same nodes lack the same of these
 unlisted-same : (l l' : LockList) (ps : List NodeId) → ((q : NodeId) → is_listed l' q ≡ is_listed l q) → unlisted l' ps ≡ unlisted l ps
@@ -117,8 +149,8 @@ module _ (ls : List LockList) (t : ℕ) (n : NodeId) (ps : List NodeId) (l l' : 
 pub struck-written : (ls : List LockList) (t : ℕ) (l l' : LockList) (n : NodeId) (ps : List NodeId) → t < length ls → l ≡ slice_index_or ls t l
     → ((q : NodeId) → mode_of l' q ≡ (if same_node q n then NL else mode_of l q)) → ((q : NodeId) → is_listed l' q ≡ (is_listed l q && not (same_node q n)))
     → ((q : NodeId) → count_of l' q + count_by (same_node q) ps ≡ count_of l q) → (is_listed l n ≡ true → LeavesPlace n (keys l.entries) (keys l'.entries))
-    → Strikes ls (slice_set ls t l') t n ps
-struck-written ls t l l' n ps lt at modes listed counts leaves = record {
+    → OnlyLoses (keys l.entries) (keys l'.entries) → Strikes ls (slice_set ls t l') t n ps
+struck-written ls t l l' n ps lt at modes listed counts leaves loses = record {
   len = length-set ls t l';
   modes = λ u q. by_slot ls t l l' lt at (λ x. mode_of x q) NL u (λ k. if k && same_node q n then NL else held_by ls u q)
       (λ e was. modes q ∙ ap (λ x. if same_node q n then NL else x) was) refl;
@@ -133,6 +165,7 @@ struck-written ls t l l' n ps lt at modes listed counts leaves = record {
       (subst (λ (order : List NodeId). LeavesPlace n (keys l.entries) order)
       (sym (by_list-set ls t l' lt (λ x. keys x.entries) [] t ∙ if-true _ (number_same t t refl)))
       (leaves (sym (by_list-at (λ x. is_listed x n) false ls t l lt at) ∙ h)));
+  loses = set_loses ls t l l' lt at loses;
 }
 
 -- One list is written: all others agree as they did.

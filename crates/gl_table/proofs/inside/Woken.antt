@@ -7,6 +7,7 @@ use Rattle.gl_table.proofs.Words.{LockList, Members, Mode, mode_given, nat_tests
 use Rattle.gl_table.proofs.Words.{Option, or-false, or_elim, or_no, or_right, refl, restatus, room_by, same_mode, same_node, same_node-equal, same_number}
 use Rattle.gl_table.proofs.Words.{slice_index_or, Some, split, State, status_in, status_of, subst, suc, sym, take, true, Txn, TxnId, txns_of, unlisted_by}
 use Rattle.gl_table.proofs.Words.{Waiter, WaitsEnd, with_mode, Writing, zero, ℕ}
+use Rattle.gl_table.proofs.inside.Places.{lists_here, lose_then}
 use Rattle.gl_table.proofs.inside.Slots.{none_more}
 use Rattle.gl_model.proofs.queues.Waiters.{grants_other, if-false, if-true}
 
@@ -133,6 +134,7 @@ module _ {b mid : Books} {n : NodeId} {who : ℕ → Bool} {is : Writing} {says 
             ∙ ap (λ c. counted_by b.lists u q + (if c then is.more u q else 0)) (sym (both u));
         rooms = λ u off. let out = or_no (who u) (u == t) (sym (both u) ∙ off) in ends.lists.rooms u out.1 ∙ over.lists.rooms u out.0;
         orders = λ u off. let out = or_no (who u) (u == t) (sym (both u) ∙ off) in ends.lists.orders u out.1 ∙ over.lists.orders u out.0;
+        loses = lose_then over.lists.loses ends.lists.loses;
       };
       tells = record {
         by_slot = ends.tells.by_slot;
@@ -213,6 +215,7 @@ ends_none {b} {n} {is} {says} who none kept =
         counts = λ u q. none_more (counted_by b.lists u q);
         rooms = λ u e. refl;
         orders = λ u e. refl;
+        loses = lists_here b.lists;
       };
       tells = record { by_slot = kept.by_slot; notices = λ u. refl };
     })

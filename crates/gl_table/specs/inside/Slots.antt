@@ -19,6 +19,7 @@ use Rattle.gl_lock_lists.specs.declared.list.LockList.{LockList}
 use Rattle.gl_table.specs.declared.txn_entry.TxnEntry.{TxnEntry}
 use Rattle.gl_model.specs.declared.txn.Status.TheVariants.{Active}
 use Rattle.gl_lock_lists.specs.Lists.{count_of, is_listed, mode_of, unlisted}
+use Rattle.gl_table.specs.Orders.{KeepsPlaces, OnlyLoses}
 use Rattle.gl_table.specs.inside.TxnEntries.{TxnEntryList, txns_of}
 use Rattle.gl_model.specs.Calls.{held_children, is_covered}
 use Rattle.gl_model.specs.State.{State, members, restatus}
@@ -56,6 +57,14 @@ held_by ls t n = by_list (λ l. mode_of l n) NL ls t
 -- the nodes of a list, in their order
 abbrev pub nodes_by : List LockList → ℕ → List NodeId
 nodes_by ls t = by_list (λ l. keys l.entries) [] ls t
+
+-- each list only loses nodes
+pub record ListsLose (ls ls' : List LockList) : Type 0 where
+  pub each : (u : ℕ) → OnlyLoses (nodes_by ls u) (nodes_by ls' u)
+
+-- in each list, no node that stays moves to a later place
+pub record ListsKeepPlaces (ls ls' : List LockList) : Type 0 where
+  pub each : (u : ℕ) → KeepsPlaces (nodes_by ls u) (nodes_by ls' u)
 
 -- the node of a list's entry, if no child of it is counted
 abbrev pub childless_in : Option (NodeId × Entry) → Option NodeId
@@ -99,6 +108,7 @@ pub record IsWritten (ls : List LockList) (n : NodeId) (who : ℕ → Bool) (is 
   pub counts : (u : ℕ) (q : NodeId) → counted_by ls' u q ≡ counted_by ls u q + (if who u then is.more u q else 0)
   pub rooms : (u : ℕ) → who u ≡ false → room_by ls' u ≡ room_by ls u
   pub orders : (u : ℕ) → who u ≡ false → nodes_by ls' u ≡ nodes_by ls u
+  pub loses : ListsLose ls ls'
 
 -- a node with these parents is held in this mode; if it was not held before, it counts as a child of each parent
 abbrev pub as_held : List LockList → NodeId → List NodeId → (ℕ → Mode) → Writing
@@ -181,6 +191,7 @@ pub record Strikes (ls ls' : List LockList) (t : ℕ) (n : NodeId) (ps : List No
   pub counts : (u : ℕ) (q : NodeId) → counted_by ls' u q + (if u == t then count_by (same_node q) ps else 0) ≡ counted_by ls u q
   pub rooms : (u : ℕ) → (u == t) ≡ false → room_by ls' u ≡ room_by ls u
   pub place : listed_by ls t n ≡ true → LeavesPlace n (nodes_by ls t) (nodes_by ls' t)
+  pub loses : ListsLose ls ls'
 
 -- the list of t while the children of n that its lock covered in s are released: they are marked, and all else is as it is now
 pub record IsShedding (s now : State) (t : ℕ) (n : NodeId) (l : LockList) : Type 0 where

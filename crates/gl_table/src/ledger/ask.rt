@@ -9,7 +9,7 @@ ghost use Rattle.gl_modes.specs.declared.mode.Mode.TheVariants.{NL};
 ghost use Rattle.gl_modes.specs.declared.refusal.Refusal.{Refusal as ARefusal};
 ghost use Rattle.gl_modes.specs.Modes.{same_mode};
 ghost use Rattle.gl_table.specs.inside.Ledger.{AreExact, KeepsLocks, state_in};
-ghost use Rattle.gl_table.specs.inside.Slots.{HasRoomAt, KeepsLists};
+ghost use Rattle.gl_table.specs.inside.Slots.{HasRoomAt, KeepsLists, ListsKeepPlaces};
 ghost use Rattle.gl_table.specs.inside.Steps.{CanAsk, HasAsked, HasGrant, MayAct};
 
 use crate::ledger::Ledger;
@@ -82,6 +82,7 @@ impl Ledger {
         ensures exact { AreExact graph.now self.new }
         ensures asked { IfOk result (λ asked. HasAsked (state_in graph.now self.old) (state_in graph.now self.new) slot node mode asked) }
         ensures err { OnErr result (KeepsLocks self.old self.new) }
+        ensures orders { ListsKeepPlaces self.old.lists.items self.new.lists.items }
         ensures no_memory { IfErr result (λ refusal. refusal ≡ ARefusal.NoMemory) }
         ensures held { holds (members (state_in graph.now self.old) node) slot ≡ true
             → enters_at (state_in graph.now self.old) slot node mode ≡ true → IsOk result }
@@ -133,6 +134,7 @@ impl Ledger {
         ensures exact { AreExact graph.now self.new }
         ensures granted { IfOk result (λ given. HasGrant (state_in graph.now self.old) (state_in graph.now self.new) slot node mode given) }
         ensures err { OnErr result (KeepsLocks self.old self.new) }
+        ensures orders { ListsKeepPlaces self.old.lists.items self.new.lists.items }
         ensures no_memory { IfErr result (λ refusal. refusal ≡ ARefusal.NoMemory) }
         ensures held { holds (members (state_in graph.now self.old) node) slot ≡ true → IsOk result }
     {

@@ -6,7 +6,9 @@ ghost use Rattle.gl_model.specs.State.{is_wait, status_of};
 ghost use Rattle.gl_model.specs.declared.txn.Status.TheVariants.{Active};
 ghost use Rattle.gl_table.specs.inside.Ledger.{AreExact, state_in};
 ghost use Rattle.gl_table.specs.inside.Steps.{AreExactFor, CanEndAt, HasLeftAll, IsReleased};
-ghost use Rattle.gl_table.specs.inside.Slots.{CanStrike, CanTell, IsShedding, Strikes, TellsOthers, WaitsEnd, as_left, books_of, counted_by, room_by};
+ghost use Rattle.indexmap.specs.IndexMap.{keys};
+ghost use Rattle.gl_table.specs.Orders.{OnlyLoses};
+ghost use Rattle.gl_table.specs.inside.Slots.{CanStrike, CanTell, IsShedding, ListsLose, Strikes, TellsOthers, WaitsEnd, as_left, books_of, counted_by, room_by};
 
 use crate::ledger::Ledger;
 use crate::told::tell;
@@ -68,6 +70,7 @@ impl Ledger {
         ensures others { AreExactFor graph.now self.new (λ u. (u == slot) ≡ false) }
         ensures left { HasLeftAll (state_in graph.now self.old) (state_in graph.now self.new) slot }
         ensures tells { TellsOthers slot (state_in graph.now self.old) (state_in graph.now self.new) told.old.items told.new.items }
+        ensures orders { ListsLose self.old.lists.items self.new.lists.items }
     {
         graph.law();
         let mut at = self.rows(slot);
@@ -97,6 +100,8 @@ impl Ledger {
         ensures others { AreExactFor graph.now self.new (λ u. (u == slot) ≡ false) }
         ensures released { IsReleased (state_in graph.now self.old) (state_in graph.now self.new) slot node list.new }
         ensures tells { TellsOthers slot (state_in graph.now self.old) (state_in graph.now self.new) told.old.items told.new.items }
+        ensures orders { ListsLose self.old.lists.items self.new.lists.items }
+        ensures order { OnlyLoses (keys list.old.entries) (keys list.new.entries) }
     {
         graph.law();
         let mut at = list.len();

@@ -13,12 +13,12 @@ ghost use Rattle.gl_slots.specs.Slots.{has_slot};
 ghost use Rattle.gl_model.specs.Calls.{stays};
 ghost use Rattle.gl_header.specs.Headers.{members_at, queue_of};
 ghost use Rattle.gl_model.specs.State.{intends_over};
-ghost use Rattle.indexmap.specs.IndexMap.{spare};
+ghost use Rattle.indexmap.specs.IndexMap.{keys, spare};
 ghost use Rattle.gl_modes.specs.Modes.{same_mode};
 ghost use Rattle.gl_lock_lists.specs.Lists.{count_of, is_listed, mode_of, unlisted};
 ghost use Rattle.gl_table.specs.inside.Ledger.{state_in};
 ghost use Rattle.gl_table.specs.inside.Steps.{AreAgreed, AreShutOut, CanEndAt, CanRecount, CanTellWaiters, HasMoved, IsTurnedAway, Recounts, adds_to};
-ghost use Rattle.gl_table.specs.inside.Slots.{books_of, counted_by, room_by};
+ghost use Rattle.gl_table.specs.inside.Slots.{ListsLose, books_of, counted_by, room_by};
 
 use crate::ledger::Ledger;
 use crate::ledger::leave::end_wait;
@@ -61,6 +61,7 @@ fn recount(list: &mut LockList, node: NodeId, old: &[NodeId], new: &[NodeId])
     ensures counts { (q : Node) → count_of list.new q + adds_to (not (same_mode (mode_of list.old node) NL)) old.now q
         ≡ count_of list.old q + adds_to (not (same_mode (mode_of list.old node) NL)) new.now q }
     ensures room { spare list.old.loose ≤ spare list.new.loose }
+    ensures keys { keys list.new.entries ≡ keys list.old.entries }
 {
     if list.holds(node) {
         list.count_down(old);
@@ -89,6 +90,7 @@ impl Ledger {
         ensures moved { HasMoved graph.now node self.old self.new [] told.new.items }
         ensures counts { Recounts (state_in graph.now self.old) self.old.lists.items slot node old.now (parents_of (graph_of graph.now) node)
             self.new.lists.items }
+        ensures orders { ListsLose self.old.lists.items self.new.lists.items }
     {
         let list = &mut self.lists[slot as usize];
         recount(list, node, old, graph.parents(node));
@@ -103,6 +105,7 @@ impl Ledger {
         requires tell { CanTellWaiters (state_in graph.now self.old) node told.old.items }
         ensures moved { HasMoved graph.now node self.old self.new told.old.items told.new.items }
         ensures counts { (u : ℕ) (q : Node) → counted_by self.new.lists.items u q ≡ counted_by self.old.lists.items u q }
+        ensures orders { ListsLose self.old.lists.items self.new.lists.items }
     {
         let mut strays = self.strays(graph, node);
         while let Some(slot) = strays.take_lowest() {

@@ -8,7 +8,7 @@ ghost use Rattle.gl_modes.specs.declared.refusal.Refusal.{Refusal as ARefusal};
 ghost use Rattle.gl_graph.specs.View.{graph_of};
 ghost use Rattle.gl_header.specs.Header.{holds, is_among_waiters};
 ghost use Rattle.gl_model.specs.Calls.{departed, goes_with};
-ghost use Rattle.gl_table.specs.inside.Slots.{CanEnd, WaitsEnd, as_left, books_of, counted_by};
+ghost use Rattle.gl_table.specs.inside.Slots.{CanEnd, ListsKeepPlaces, ListsLose, WaitsEnd, as_left, books_of, counted_by};
 ghost use Rattle.gl_model.specs.Tellings.{IsBySlot, notices_in};
 ghost use Rattle.gl_table.specs.inside.Ledger.{AreExact, KeepsLocks, state_in};
 ghost use Rattle.gl_table.specs.inside.Steps.{CanTellWaiters, IsBranchLeftTo, IsFresh, IsLeftTo, IsPrepared, MayAct, TellsGone};
@@ -57,6 +57,7 @@ impl Ledger {
         ensures exact { AreExact graph.now self.new }
         ensures state { state_in graph.now self.new ≡ departed (state_in graph.now self.old) (λ q. same_node q node) (graph_of graph.now) }
         ensures tells { TellsGone (state_in graph.now self.old) node told.old.items told.new.items }
+        ensures orders { ListsLose self.old.lists.items self.new.lists.items }
     {
         graph.law();
         strike(&mut self.lists, slot, node, graph.parents(node));
@@ -79,6 +80,7 @@ impl Ledger {
         ensures state { state_in graph.now self.new ≡ departed (state_in graph.now self.old) (λ q. same_node q node) (graph_of graph.now) }
         ensures by_slot { IsBySlot told.new.items }
         ensures same { (u : ℕ) → notices_in told.new.items u ≡ notices_in told.old.items u }
+        ensures orders { ListsLose self.old.lists.items self.new.lists.items }
     {
         if self.lists[slot as usize].holds(node) {
             self.vacate(graph, slot, node, told);
@@ -95,6 +97,7 @@ impl Ledger {
         ensures exact { AreExact graph.now self.new }
         ensures state { state_in graph.now self.new ≡ departed (state_in graph.now self.old) (goes_with (graph_of graph.now) node) (graph_of graph.now) }
         ensures tells { TellsGone (state_in graph.now self.old) node told.old.items told.new.items }
+        ensures orders { ListsLose self.old.lists.items self.new.lists.items }
     {
         graph.law();
         for interval in graph.intervals(node) {
@@ -141,6 +144,7 @@ impl Ledger {
         requires ready { IsPrepared self.old slot node.key mode prepared }
         ensures exact { AreExact graph.now self.new }
         ensures state { state_in graph.now self.new ≡ with_grant (state_in graph.now self.old) slot node mode }
+        ensures orders { ListsKeepPlaces self.old.lists.items self.new.lists.items }
     {
         graph.law();
         self.headers.law();

@@ -8,7 +8,7 @@ ghost use Rattle.gl_model.specs.Calls.{GoesBack, Unlocks, holds_child};
 ghost use Rattle.gl_model.specs.State.{is_wait, status_of};
 ghost use Rattle.gl_model.specs.declared.txn.Status.TheVariants.{Active};
 ghost use Rattle.gl_table.specs.inside.Locks.{state_at};
-ghost use Rattle.gl_table.specs.inside.Slots.{CanTell, TellsOthers, nodes_by};
+ghost use Rattle.gl_table.specs.inside.Slots.{CanTell, ListsLose, TellsOthers, nodes_by};
 
 use crate::locks::Locks;
 use gl_model::Told;
@@ -26,6 +26,7 @@ impl Locks {
         ensures back { (ns : List Node) × GoesBack (state_at self.old) slot mark (nodes_by self.old.ledger.lists.items slot) ns
             (nodes_by self.new.ledger.lists.items slot) (state_at self.new) × (result ≡ length ns) }
         ensures tells { TellsOthers slot (state_at self.old) (state_at self.new) told.old.items told.new.items }
+        ensures orders { ListsLose self.old.ledger.lists.items self.new.ledger.lists.items }
     {
         let rows = self.ledger.rows(slot);
         'pass: while self.ledger.rows(slot) > mark {
@@ -49,6 +50,7 @@ impl Locks {
         ensures stays { result ≡ 0 → (n : Node) → list_any (same_node n) (drop mark (nodes_by self.new.ledger.lists.items slot)) ≡ true
             → holds_child (state_at self.new) slot n ≡ true }
         ensures tells { TellsOthers slot (state_at self.old) (state_at self.new) told.old.items told.new.items }
+        ensures orders { ListsLose self.old.ledger.lists.items self.new.ledger.lists.items }
     {
         let mut released = 0;
         let mut at = self.ledger.rows(slot);

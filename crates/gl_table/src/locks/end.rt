@@ -4,7 +4,7 @@ ghost use Rattle.std.specs.Prelude.{◌<◌, ◌≡◌, false};
 ghost use Rattle.gl_model.specs.Calls.{released};
 ghost use Rattle.gl_model.specs.State.{is_wait, status_of};
 ghost use Rattle.gl_table.specs.inside.Locks.{state_at};
-ghost use Rattle.gl_table.specs.inside.Slots.{CanTell, TellsOthers};
+ghost use Rattle.gl_table.specs.inside.Slots.{CanTell, ListsLose, TellsOthers};
 
 use crate::locks::Locks;
 use crate::txn_entry::TxnEntry;
@@ -19,6 +19,7 @@ impl Locks {
         requires tell { CanTell told.old.items (λ u. is_wait (status_of (state_at self.old) u)) }
         ensures state { state_at self.new ≡ released (state_at self.old) slot }
         ensures tells { TellsOthers slot (state_at self.old) (state_at self.new) told.old.items told.new.items }
+        ensures orders { ListsLose self.old.ledger.lists.items self.new.ledger.lists.items }
     {
         if let Some(
             TxnEntry {
@@ -40,6 +41,7 @@ impl Locks {
         requires tell { CanTell told.old.items (λ u. is_wait (status_of (state_at self.old) u)) }
         ensures state { state_at self.new ≡ released (state_at self.old) slot }
         ensures tells { TellsOthers slot (state_at self.old) (state_at self.new) told.old.items told.new.items }
+        ensures orders { ListsLose self.old.ledger.lists.items self.new.ledger.lists.items }
     {
         self.ledger
             .leave_all(&self.graph, slot, &mut self.granted, told);

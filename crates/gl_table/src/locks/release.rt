@@ -10,7 +10,7 @@ ghost use Rattle.gl_modes.specs.declared.mode.Mode.{Mode as AMode};
 ghost use Rattle.gl_modes.specs.declared.mode.Mode.TheVariants.{NL};
 ghost use Rattle.gl_modes.specs.declared.node.NodeId.{NodeId as Node};
 ghost use Rattle.gl_table.specs.inside.Locks.{state_at};
-ghost use Rattle.gl_table.specs.inside.Slots.{CanTell, LeavesPlace, nodes_by};
+ghost use Rattle.gl_table.specs.inside.Slots.{CanTell, LeavesPlace, ListsLose, nodes_by};
 
 use crate::ledger::leave::strike;
 use crate::locks::Locks;
@@ -29,6 +29,7 @@ impl Locks {
         ensures state { state_at self.new ≡ unlocked (state_at self.old) slot node }
         ensures place { LeavesPlace node (nodes_by self.old.ledger.lists.items slot) (nodes_by self.new.ledger.lists.items slot) }
         ensures tells { WakesTold (state_at self.old).txns node (front_at (with_grant (state_at self.old) slot node NL) node) told.old.items told.new.items }
+        ensures orders { ListsLose self.old.ledger.lists.items self.new.ledger.lists.items }
     {
         self.graph.law();
         self.ledger
@@ -44,6 +45,7 @@ impl Locks {
         requires tell { CanTell told.old.items (λ u. is_wait (status_of (state_at self.old) u)) }
         ensures state { state_at self.new ≡ pumped (without_wait (state_at self.old) slot status) (is_waiting_at (state_at self.old) slot) }
         ensures tells { WakesTold (state_at self.old).txns node (front_at (without_wait (state_at self.old) slot status) node) told.old.items told.new.items }
+        ensures orders { ListsLose self.old.ledger.lists.items self.new.ledger.lists.items }
     {
         self.graph.law();
         self.ledger

@@ -6,7 +6,7 @@ ghost use Rattle.gl_model.specs.Deadlocks.{SettlesKeeping, WaitSettlesKeeping};
 ghost use Rattle.gl_model.specs.State.{Settled, State, condemned, is_wait, status_of};
 ghost use Rattle.gl_model.specs.Tellings.{IsBetween, notices_in, told_but};
 ghost use Rattle.gl_table.specs.inside.Locks.{state_at};
-ghost use Rattle.gl_table.specs.inside.Slots.{CanTell, TellsAll};
+ghost use Rattle.gl_table.specs.inside.Slots.{CanTell, ListsLose, TellsAll};
 
 use crate::locks::Locks;
 use crate::told::tell;
@@ -32,6 +32,7 @@ impl Locks {
         ensures state { WaitSettles detect victims (state_at self.old) slot (state_at self.new) }
         ensures deadlock { WaitSettlesKeeping detect victims (state_at self.old) slot deadlock.old (state_at self.new) deadlock.new }
         ensures told { told.new.items ≡ told_but slot (state_at self.old) (state_at self.new) }
+        ensures orders { ListsLose self.old.ledger.lists.items self.new.ledger.lists.items }
     {
         if matches!(detect, Detect::AtBlock) {
             self.settle(victims, slot, deadlock, told);
@@ -53,6 +54,7 @@ impl Locks {
         ensures state { Settled victims (state_at self.old) slot (state_at self.new) }
         ensures deadlock { SettlesKeeping victims (state_at self.old) slot deadlock.old (state_at self.new) deadlock.new }
         ensures tells { TellsAll (state_at self.old) (state_at self.new) told.old.items told.new.items }
+        ensures orders { ListsLose self.old.ledger.lists.items self.new.ledger.lists.items }
     {
         while let Some(victim) = self.ledger.victim(victims, slot) {
             // Recorded first: once the victim's wait has ended, the cycle is gone.
@@ -70,6 +72,7 @@ impl Locks {
         ensures untold { (u : ℕ) → is_wait (status_of (state_at self.new) u) ≡ true → notices_in told.new.items u ≡ None }
         ensures keeps_between { (s : State) → IsBetween s (state_at self.old) → IsBetween s (state_at self.new) }
         ensures tells { TellsAll (state_at self.old) (state_at self.new) told.old.items told.new.items }
+        ensures orders { ListsLose self.old.ledger.lists.items self.new.ledger.lists.items }
     {
         if let Some(
             TxnEntry {

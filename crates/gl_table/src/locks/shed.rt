@@ -5,7 +5,7 @@ ghost use Rattle.gl_model.specs.Calls.{shed};
 ghost use Rattle.gl_model.specs.State.{is_wait, status_of};
 ghost use Rattle.gl_model.specs.declared.txn.Status.TheVariants.{Active};
 ghost use Rattle.gl_table.specs.inside.Locks.{state_at};
-ghost use Rattle.gl_table.specs.inside.Slots.{CanTell, TellsOthers};
+ghost use Rattle.gl_table.specs.inside.Slots.{CanTell, ListsLose, TellsOthers};
 
 use crate::locks::Locks;
 use gl_lock_lists::LockList;
@@ -24,6 +24,7 @@ impl Locks {
         requires tell { CanTell told.old.items (λ u. is_wait (status_of (state_at self.old) u)) }
         ensures state { state_at self.new ≡ shed (state_at self.old) slot node }
         ensures tells { TellsOthers slot (state_at self.old) (state_at self.new) told.old.items told.new.items }
+        ensures orders { ListsLose self.old.ledger.lists.items self.new.ledger.lists.items }
     {
         self.graph.law();
         let empty = LockList::new(self.ledger.alloc);

@@ -1,13 +1,14 @@
 //! The calls that answer with a list of notices of their own. Each makes the list, and calls its
 //! twin.
 
-ghost use Rattle.std.specs.Prelude.{◌≡◌, [], IfOk, OnErr, OnOk, true, ◌-◌};
+ghost use Rattle.std.specs.Prelude.{◌≡◌, [], IfOk, OnErr, OnOk, true, ◌-◌, ℕ};
 ghost use Rattle.gl_graph.specs.Refusals.{first_refusal};
 ghost use Rattle.gl_model.specs.Calls.{CanMove, CanRekey, IsActing, Locks, RefusesCycle, RefusesLock, RefusesOnly, locked_as};
 ghost use Rattle.gl_model.specs.Calls.{commit_tests, living_tests, released, unlock_tests, unlocked};
 ghost use Rattle.gl_model.specs.Calls.{cancelled, cancel_tests, deleted, moved_to};
 ghost use Rattle.gl_model.specs.Calls.{shed, covered_children, held_children};
-ghost use Rattle.gl_table.specs.Table.{state_of};
+ghost use Rattle.gl_table.specs.Orders.{OnlyLoses};
+ghost use Rattle.gl_table.specs.Table.{KeepsOrders, nodes_of, state_of};
 ghost use Rattle.gl_model.specs.Tellings.{told, told_but};
 ghost use Rattle.gl_modes.specs.declared.mode.Mode.TheVariants.{S, X};
 ghost use Rattle.gl_modes.specs.Modes.{same_mode, is_at_least};
@@ -32,6 +33,7 @@ impl Table {
         ensures told { IfOk result (λ list. list.items ≡ told (state_of self.old) (state_of self.new)) }
         ensures state { OnOk result (state_of self.new ≡ unlocked (state_of self.old) t.slot n) }
         ensures deadlock { self.new.deadlock ≡ self.old.deadlock }
+        ensures orders { OnOk result (KeepsOrders self.old self.new) }
         ensures refuses { RefusesOnly (first_refusal (unlock_tests (state_of self.old) t n)) result }
         ensures err { OnErr result (self.new ≡ self.old) }
     {
@@ -49,6 +51,7 @@ impl Table {
         ensures told { IfOk result (λ list. list.items ≡ told (state_of self.old) (state_of self.new)) }
         ensures state { OnOk result (state_of self.new ≡ released (state_of self.old) t.slot) }
         ensures deadlock { self.new.deadlock ≡ self.old.deadlock }
+        ensures orders { OnOk result (KeepsOrders self.old self.new) }
         ensures refuses { RefusesOnly (first_refusal (commit_tests (state_of self.old) t)) result }
         ensures err { OnErr result (self.new ≡ self.old) }
     {
@@ -66,6 +69,7 @@ impl Table {
         ensures told { IfOk result (λ list. list.items ≡ told (state_of self.old) (state_of self.new)) }
         ensures state { OnOk result (state_of self.new ≡ released (state_of self.old) t.slot) }
         ensures deadlock { self.new.deadlock ≡ self.old.deadlock }
+        ensures orders { OnOk result (KeepsOrders self.old self.new) }
         ensures refuses { RefusesOnly (first_refusal (living_tests (state_of self.old) t)) result }
         ensures err { OnErr result (self.new ≡ self.old) }
     {
@@ -88,6 +92,7 @@ impl Table {
         ensures told { IfOk result (λ answer. answer.1.items ≡ told_but t.slot (state_of self.old) (state_of self.new)) }
         ensures state { OnOk result (Locks (state_of self.old) t.slot n mode (state_of self.new)) }
         ensures deadlock { OnOk result (LocksKeeping (state_of self.old) t.slot n mode self.old.deadlock (state_of self.new) self.new.deadlock) }
+        ensures orders { OnOk result (KeepsOrders self.old self.new) }
         ensures refuses { RefusesLock (state_of self.old) t n mode result }
         ensures err { OnErr result (self.new ≡ self.old) }
     {
@@ -105,6 +110,7 @@ impl Table {
         ensures told { IfOk result (λ list. list.items ≡ told_but t.slot (state_of self.old) (state_of self.new)) }
         ensures state { OnOk result (state_of self.new ≡ cancelled (state_of self.old) t.slot) }
         ensures deadlock { self.new.deadlock ≡ self.old.deadlock }
+        ensures orders { OnOk result (KeepsOrders self.old self.new) }
         ensures refuses { RefusesOnly (first_refusal (cancel_tests (state_of self.old) t)) result }
         ensures err { OnErr result (self.new ≡ self.old) }
     {
@@ -125,6 +131,7 @@ impl Table {
         ensures state { OnOk result (Settled (state_of self.old).victims (state_of self.old) t.slot (state_of self.new)) }
         ensures deadlock { OnOk result (SettlesKeeping (state_of self.old).victims (state_of self.old) t.slot self.old.deadlock
             (state_of self.new) self.new.deadlock) }
+        ensures orders { OnOk result (KeepsOrders self.old self.new) }
         ensures idle { IsOnNoCycle (waits_for (state_of self.old)) t.slot → IfOk result (λ list. (list.items ≡ []) × (state_of self.new ≡ state_of self.old)) }
         ensures refuses { RefusesOnly (first_refusal (living_tests (state_of self.old) t)) result }
         ensures err { OnErr result (self.new ≡ self.old) }
@@ -144,6 +151,7 @@ impl Table {
         requires exclusive { same_mode ((state_of self.old).held t.slot rec) X ≡ true }
         ensures state { state_of self.new ≡ deleted (state_of self.old) rec }
         ensures deadlock { self.new.deadlock ≡ self.old.deadlock }
+        ensures orders { KeepsOrders self.old self.new }
         ensures told { result.items ≡ told (state_of self.old) (state_of self.new) }
     {
         let mut told = Told::new();
@@ -165,6 +173,7 @@ impl Table {
         ensures state { state_of self.new ≡ moved_to (state_of self.old) rec (rekeyed_parents (state_of self.old).graph rec index key)
             (rekeyed (state_of self.old).graph rec index key) }
         ensures deadlock { self.new.deadlock ≡ self.old.deadlock }
+        ensures orders { KeepsOrders self.old self.new }
         ensures told { result.items ≡ told (state_of self.old) (state_of self.new) }
     {
         let mut told = Told::new();
@@ -189,6 +198,7 @@ impl Table {
         ensures told { IfOk result (λ list. list.items ≡ told (state_of self.old) (state_of self.new)) }
         ensures state { OnOk result (state_of self.new ≡ moved_to (state_of self.old) n parents.now (with_parents (state_of self.old).graph n parents.now)) }
         ensures deadlock { self.new.deadlock ≡ self.old.deadlock }
+        ensures orders { OnOk result (KeepsOrders self.old self.new) }
         ensures refuses { RefusesCycle (state_of self.old).graph n parents.now result }
         ensures err { OnErr result (self.new ≡ self.old) }
     {
@@ -208,6 +218,7 @@ impl Table {
         requires reads { is_at_least ((state_of self.old).held t.slot n) S ≡ true }
         ensures state { state_of self.new ≡ shed (state_of self.old) t.slot n }
         ensures deadlock { self.new.deadlock ≡ self.old.deadlock }
+        ensures orders { (u : ℕ) → OnlyLoses (nodes_of self.old u) (nodes_of self.new u) }
         ensures released { result.0 ≡ covered_children (state_of self.old) t.slot n }
         ensures kept { result.1 ≡ held_children (state_of self.old) t.slot n - covered_children (state_of self.old) t.slot n }
         ensures told { result.2.items ≡ told (state_of self.old) (state_of self.new) }

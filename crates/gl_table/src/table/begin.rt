@@ -1,9 +1,9 @@
 //! Transactions begin.
 
-ghost use Rattle.std.specs.Prelude.{◌≡◌, ◌+◌, IfOk, IsOk, None, OnErr, Some};
+ghost use Rattle.std.specs.Prelude.{◌≡◌, ◌+◌, IfOk, IsOk, None, OnErr, Some, OnOk};
 ghost use Rattle.gl_graph.specs.Refusals.{Refuses, first_refusal};
 ghost use Rattle.gl_model.specs.Calls.{begun, begun_again, free_slot, begin_tests};
-ghost use Rattle.gl_table.specs.Table.{state_of};
+ghost use Rattle.gl_table.specs.Table.{KeepsOrders, state_of};
 
 use super::Table;
 use crate::txn_entry::TxnEntry;
@@ -19,6 +19,7 @@ impl Table {
             × (t.age ≡ (state_of self.old).begins + 1)
             × (state_of self.new ≡ begun (state_of self.old) t.slot)) }
         ensures deadlock { self.new.deadlock ≡ self.old.deadlock }
+        ensures orders { OnOk result (KeepsOrders self.old self.new) }
         ensures goes { first_refusal (begin_tests (state_of self.old)) ≡ None → IsOk result }
         ensures refuses { Refuses (first_refusal (begin_tests (state_of self.old))) result }
         ensures err { OnErr result (self.new ≡ self.old) }
@@ -35,6 +36,7 @@ impl Table {
             × (t.age ≡ (state_of self.old).begins + 1)
             × (state_of self.new ≡ begun_again (state_of self.old) t.slot since)) }
         ensures deadlock { self.new.deadlock ≡ self.old.deadlock }
+        ensures orders { OnOk result (KeepsOrders self.old self.new) }
         ensures goes { first_refusal (begin_tests (state_of self.old)) ≡ None → IsOk result }
         ensures refuses { Refuses (first_refusal (begin_tests (state_of self.old))) result }
         ensures err { OnErr result (self.new ≡ self.old) }

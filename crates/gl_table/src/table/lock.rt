@@ -6,7 +6,7 @@ ghost use Rattle.gl_header.specs.Header.{holds};
 ghost use Rattle.gl_model.specs.Calls.{KeepsAll, Locks, RefusesLock, granted, lock_tests, locked_as, try_tests, wanted};
 ghost use Rattle.gl_model.specs.Deadlocks.{LocksKeeping};
 ghost use Rattle.gl_model.specs.State.{members, status_of};
-ghost use Rattle.gl_table.specs.Table.{state_of};
+ghost use Rattle.gl_table.specs.Table.{KeepsOrders, state_of};
 ghost use Rattle.gl_model.specs.Tellings.{told_but};
 
 use super::Table;
@@ -38,6 +38,7 @@ impl Table {
         ensures told { OnOk result (notices.new.items ≡ told_but t.slot (state_of self.old) (state_of self.new)) }
         ensures state { OnOk result (Locks (state_of self.old) t.slot n mode (state_of self.new)) }
         ensures deadlock { OnOk result (LocksKeeping (state_of self.old) t.slot n mode self.old.deadlock (state_of self.new) self.new.deadlock) }
+        ensures orders { OnOk result (KeepsOrders self.old self.new) }
         ensures refuses { RefusesLock (state_of self.old) t n mode result }
         ensures kept { OnErr result (KeepsAll self.old self.new notices.old notices.new) }
     {
@@ -60,6 +61,7 @@ impl Table {
         ensures told { OnOk result (notices.new.items ≡ told_but t.slot (state_of self.old) (state_of self.new)) }
         ensures state { OnOk result (Locks (state_of self.old) t.slot n mode (state_of self.new)) }
         ensures deadlock { OnOk result (LocksKeeping (state_of self.old) t.slot n mode self.old.deadlock (state_of self.new) self.new.deadlock) }
+        ensures orders { OnOk result (KeepsOrders self.old self.new) }
         ensures refuses { RefusesLock (state_of self.old) t n mode result }
         ensures kept { OnErr result (KeepsAll self.old self.new notices.old notices.new) }
     {
@@ -93,6 +95,7 @@ impl Table {
         ensures mode { IfOk result (λ m. m ≡ wanted (state_of self.old) t.slot n mode) }
         ensures state { OnOk result (state_of self.new ≡ granted (state_of self.old) t.slot n mode) }
         ensures deadlock { self.new.deadlock ≡ self.old.deadlock }
+        ensures orders { OnOk result (KeepsOrders self.old self.new) }
         ensures refuses { Refuses (first_refusal (try_tests (state_of self.old) t n mode)) result }
         ensures held { first_refusal (try_tests (state_of self.old) t n mode) ≡ None → holds (members (state_of self.old) n) t.slot ≡ true → IsOk result }
         ensures err { OnErr result (self.new ≡ self.old) }

@@ -3,7 +3,7 @@
 ghost use Rattle.std.specs.Prelude.{◌≡◌, [], OnErr, OnOk};
 ghost use Rattle.gl_graph.specs.Changes.{rekeyed, rekeyed_parents, with_parents};
 ghost use Rattle.gl_model.specs.Calls.{CanMove, CanRekey, IsActing, KeepsAll, RefusesCycle, moved_to};
-ghost use Rattle.gl_table.specs.Table.{state_of};
+ghost use Rattle.gl_table.specs.Table.{KeepsOrders, state_of};
 ghost use Rattle.gl_model.specs.Tellings.{told};
 
 use super::Table;
@@ -27,6 +27,7 @@ impl Table {
         ensures state { state_of self.new ≡ moved_to (state_of self.old) rec (rekeyed_parents (state_of self.old).graph rec index key)
             (rekeyed (state_of self.old).graph rec index key) }
         ensures deadlock { self.new.deadlock ≡ self.old.deadlock }
+        ensures orders { KeepsOrders self.old self.new }
         ensures told { notices.new.items ≡ told (state_of self.old) (state_of self.new) }
     {
         let locks = &mut self.locks;
@@ -51,6 +52,7 @@ impl Table {
         ensures told { OnOk result (notices.new.items ≡ told (state_of self.old) (state_of self.new)) }
         ensures state { OnOk result (state_of self.new ≡ moved_to (state_of self.old) n parents.now (with_parents (state_of self.old).graph n parents.now)) }
         ensures deadlock { self.new.deadlock ≡ self.old.deadlock }
+        ensures orders { OnOk result (KeepsOrders self.old self.new) }
         ensures refuses { RefusesCycle (state_of self.old).graph n parents.now result }
         ensures kept { OnErr result (KeepsAll self.old self.new notices.old notices.new) }
     {

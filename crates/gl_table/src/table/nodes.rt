@@ -10,7 +10,7 @@ ghost use Rattle.gl_graph.specs.Shapes.{File, Inner, is_movable_shape};
 ghost use Rattle.gl_model.specs.Calls.{IsActing, RefusesForMemory, dropped, first_not_ix};
 ghost use Rattle.gl_model.specs.State.{with_grant, with_graph};
 ghost use Rattle.gl_model.specs.Tellings.{told};
-ghost use Rattle.gl_table.specs.Table.{state_of};
+ghost use Rattle.gl_table.specs.Table.{KeepsOrders, state_of};
 
 use super::Table;
 use gl_model::{Told, TxnId};
@@ -26,6 +26,7 @@ impl Table {
         ensures made { IfOk result (λ n. IsBorn (state_of self.old).graph (state_of self.new).graph n Inner parents.now) }
         ensures state { OnOk result (state_of self.new ≡ with_graph (state_of self.old) (state_of self.new).graph) }
         ensures deadlock { self.new.deadlock ≡ self.old.deadlock }
+        ensures orders { OnOk result (KeepsOrders self.old self.new) }
         ensures refuses { Refuses (inner_refusal (state_of self.old).graph parents.now) result }
         ensures err { OnErr result (self.new ≡ self.old) }
     {
@@ -41,6 +42,7 @@ impl Table {
         ensures made { IfOk result (λ n. IsBorn (state_of self.old).graph (state_of self.new).graph n (File false) parents.now) }
         ensures state { OnOk result (state_of self.new ≡ with_graph (state_of self.old) (state_of self.new).graph) }
         ensures deadlock { self.new.deadlock ≡ self.old.deadlock }
+        ensures orders { OnOk result (KeepsOrders self.old self.new) }
         ensures refuses { Refuses (file_refusal (state_of self.old).graph parents.now) result }
         ensures err { OnErr result (self.new ≡ self.old) }
     {
@@ -64,6 +66,7 @@ impl Table {
         ensures made { IfOk result (λ n. IsIndexBorn (state_of self.old).graph (state_of self.new).graph n parents.now file bounds.now) }
         ensures state { OnOk result (state_of self.new ≡ with_graph (state_of self.old) (state_of self.new).graph) }
         ensures deadlock { self.new.deadlock ≡ self.old.deadlock }
+        ensures orders { OnOk result (KeepsOrders self.old self.new) }
         ensures refuses { Refuses (index_refusal (state_of self.old).graph parents.now file bounds.now) result }
         ensures err { OnErr result (self.new ≡ self.old) }
     {
@@ -86,6 +89,7 @@ impl Table {
         ensures made { IfOk result (λ n. IsIndexBorn (state_of self.old).graph (state_of self.new).graph n parents.now file bounds.now) }
         ensures state { IfOk result (λ n. state_of self.new ≡ with_grant (with_graph (state_of self.old) (state_of self.new).graph) t.slot n X) }
         ensures deadlock { self.new.deadlock ≡ self.old.deadlock }
+        ensures orders { OnOk result (KeepsOrders self.old self.new) }
         ensures refuses { RefusesForMemory result self.old self.new }
     {
         let locks = &mut self.locks;
@@ -110,6 +114,7 @@ impl Table {
         requires exclusive { same_mode ((state_of self.old).held t.slot n) X ≡ true }
         ensures state { state_of self.new ≡ dropped (state_of self.old) n }
         ensures deadlock { self.new.deadlock ≡ self.old.deadlock }
+        ensures orders { KeepsOrders self.old self.new }
         ensures told { notices.new.items ≡ told (state_of self.old) (state_of self.new) }
     {
         let locks = &mut self.locks;

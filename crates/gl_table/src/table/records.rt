@@ -9,7 +9,7 @@ ghost use Rattle.gl_graph.specs.Refusals.{Refuses, first_refusal, record_refusal
 ghost use Rattle.gl_graph.specs.Shapes.{Rec, is_record_shape};
 ghost use Rattle.gl_model.specs.Calls.{CanPlace, CanTakeRecord, IsActing, RefusesForMemory, deleted, first_not_ix, is_idle, rule_refusal};
 ghost use Rattle.gl_model.specs.State.{lives, with_grant, with_graph};
-ghost use Rattle.gl_table.specs.Table.{state_of};
+ghost use Rattle.gl_table.specs.Table.{KeepsOrders, state_of};
 ghost use Rattle.gl_model.specs.Tellings.{told};
 
 use super::Table;
@@ -31,6 +31,7 @@ impl Table {
             (record_parents (state_of self.old).graph file keys.now)) }
         ensures state { IfOk result (λ n. state_of self.new ≡ with_grant (with_graph (state_of self.old) (state_of self.new).graph) t.slot n X) }
         ensures deadlock { self.new.deadlock ≡ self.old.deadlock }
+        ensures orders { OnOk result (KeepsOrders self.old self.new) }
         ensures refuses { Refuses (first_refusal (worn_births (state_of self.old).graph ∷ too_many_nodes (state_of self.old).graph 1 ∷ [])) result }
         ensures err { OnErr result (self.new ≡ self.old) }
     {
@@ -60,6 +61,7 @@ impl Table {
             (record_parents (state_of self.old).graph file keys.now)) }
         ensures state { IfOk result (λ n. state_of self.new ≡ with_grant (with_graph (state_of self.old) (state_of self.new).graph) t.slot n X) }
         ensures deadlock { self.new.deadlock ≡ self.old.deadlock }
+        ensures orders { OnOk result (KeepsOrders self.old self.new) }
         ensures refuses { RefusesForMemory result self.old self.new }
     {
         let locks = &mut self.locks;
@@ -103,6 +105,7 @@ impl Table {
         ensures made { IfOk result (λ n. IsAdopted (state_of self.old).graph (state_of self.new).graph n file keys.now) }
         ensures state { OnOk result (state_of self.new ≡ with_graph (state_of self.old) (state_of self.new).graph) }
         ensures deadlock { self.new.deadlock ≡ self.old.deadlock }
+        ensures orders { OnOk result (KeepsOrders self.old self.new) }
         ensures refuses { Refuses (record_refusal (state_of self.old).graph file keys.now) result }
         ensures err { OnErr result (self.new ≡ self.old) }
     {
@@ -127,6 +130,7 @@ impl Table {
         ensures made { IfOk result (λ n. IsAdopted (state_of self.old).graph (state_of self.new).graph n file keys.now) }
         ensures state { IfOk result (λ n. state_of self.new ≡ with_grant (with_graph (state_of self.old) (state_of self.new).graph) t.slot n mode) }
         ensures deadlock { self.new.deadlock ≡ self.old.deadlock }
+        ensures orders { OnOk result (KeepsOrders self.old self.new) }
         ensures refuses { RefusesForMemory result self.old self.new }
     {
         let locks = &mut self.locks;
@@ -145,6 +149,7 @@ impl Table {
         requires idle { is_idle (state_of self.old) rec ≡ true }
         ensures state { state_of self.new ≡ with_graph (state_of self.old) (without_node (state_of self.old).graph rec) }
         ensures deadlock { self.new.deadlock ≡ self.old.deadlock }
+        ensures orders { KeepsOrders self.old self.new }
     {
         self.locks.graph.remove_record(rec);
     }
@@ -157,6 +162,7 @@ impl Table {
         requires exclusive { same_mode ((state_of self.old).held t.slot rec) X ≡ true }
         ensures state { state_of self.new ≡ deleted (state_of self.old) rec }
         ensures deadlock { self.new.deadlock ≡ self.old.deadlock }
+        ensures orders { KeepsOrders self.old self.new }
         ensures told { notices.new.items ≡ told (state_of self.old) (state_of self.new) }
     {
         let locks = &mut self.locks;

@@ -4,7 +4,7 @@ ghost use Rattle.std.specs.Prelude.{◌≡◌, [], IfOk, List, OnErr, OnOk, leng
 ghost use Rattle.gl_graph.specs.Refusals.{first_refusal};
 ghost use Rattle.gl_modes.specs.declared.node.NodeId.{NodeId as Node};
 ghost use Rattle.gl_model.specs.Calls.{GoesBack, KeepsAll, RefusesOnly, released, unlocked, commit_tests, living_tests, unlock_tests};
-ghost use Rattle.gl_table.specs.Table.{nodes_of, state_of};
+ghost use Rattle.gl_table.specs.Table.{KeepsOrders, nodes_of, state_of};
 ghost use Rattle.gl_model.specs.Tellings.{told};
 
 use super::Table;
@@ -18,6 +18,7 @@ impl Table {
         ensures told { OnOk result (notices.new.items ≡ told (state_of self.old) (state_of self.new)) }
         ensures state { OnOk result (state_of self.new ≡ unlocked (state_of self.old) t.slot n) }
         ensures deadlock { self.new.deadlock ≡ self.old.deadlock }
+        ensures orders { OnOk result (KeepsOrders self.old self.new) }
         ensures refuses { RefusesOnly (first_refusal (unlock_tests (state_of self.old) t n)) result }
         ensures kept { OnErr result (KeepsAll self.old self.new notices.old notices.new) }
     {
@@ -47,6 +48,7 @@ impl Table {
             (nodes_of self.new t.slot) (state_of self.new) × (k ≡ length ns)) }
         ensures told { OnOk result (notices.new.items ≡ told (state_of self.old) (state_of self.new)) }
         ensures deadlock { self.new.deadlock ≡ self.old.deadlock }
+        ensures orders { OnOk result (KeepsOrders self.old self.new) }
         ensures refuses { RefusesOnly (first_refusal (commit_tests (state_of self.old) t)) result }
         ensures kept { OnErr result (KeepsAll self.old self.new notices.old notices.new) }
     {
@@ -60,6 +62,7 @@ impl Table {
         ensures told { OnOk result (notices.new.items ≡ told (state_of self.old) (state_of self.new)) }
         ensures state { OnOk result (state_of self.new ≡ released (state_of self.old) t.slot) }
         ensures deadlock { self.new.deadlock ≡ self.old.deadlock }
+        ensures orders { OnOk result (KeepsOrders self.old self.new) }
         ensures refuses { RefusesOnly (first_refusal (commit_tests (state_of self.old) t)) result }
         ensures kept { OnErr result (KeepsAll self.old self.new notices.old notices.new) }
     {
@@ -74,6 +77,7 @@ impl Table {
         ensures told { OnOk result (notices.new.items ≡ told (state_of self.old) (state_of self.new)) }
         ensures state { OnOk result (state_of self.new ≡ released (state_of self.old) t.slot) }
         ensures deadlock { self.new.deadlock ≡ self.old.deadlock }
+        ensures orders { OnOk result (KeepsOrders self.old self.new) }
         ensures refuses { RefusesOnly (first_refusal (living_tests (state_of self.old) t)) result }
         ensures kept { OnErr result (KeepsAll self.old self.new notices.old notices.new) }
     {

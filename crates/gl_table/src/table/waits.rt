@@ -5,7 +5,7 @@ ghost use Rattle.gl_graph.specs.Refusals.{first_refusal};
 ghost use Rattle.gl_model.specs.Calls.{KeepsAll, RefusesOnly, cancelled, cancel_tests, living_tests};
 ghost use Rattle.gl_model.specs.Deadlocks.{SettlesKeeping};
 ghost use Rattle.gl_model.specs.State.{is_waiting_at, Settled, waits_for};
-ghost use Rattle.gl_table.specs.Table.{state_of};
+ghost use Rattle.gl_table.specs.Table.{KeepsOrders, state_of};
 ghost use Rattle.gl_model.specs.Tellings.{told, told_but};
 ghost use Rattle.gl_waits.specs.Waits.{IsOnNoCycle};
 
@@ -20,6 +20,7 @@ impl Table {
         ensures told { OnOk result (notices.new.items ≡ told_but t.slot (state_of self.old) (state_of self.new)) }
         ensures state { OnOk result (state_of self.new ≡ cancelled (state_of self.old) t.slot) }
         ensures deadlock { self.new.deadlock ≡ self.old.deadlock }
+        ensures orders { OnOk result (KeepsOrders self.old self.new) }
         ensures refuses { RefusesOnly (first_refusal (cancel_tests (state_of self.old) t)) result }
         ensures kept { OnErr result (KeepsAll self.old self.new notices.old notices.new) }
     {
@@ -35,6 +36,7 @@ impl Table {
         ensures state { OnOk result (Settled (state_of self.old).victims (state_of self.old) t.slot (state_of self.new)) }
         ensures deadlock { OnOk result (SettlesKeeping (state_of self.old).victims (state_of self.old) t.slot self.old.deadlock
             (state_of self.new) self.new.deadlock) }
+        ensures orders { OnOk result (KeepsOrders self.old self.new) }
         ensures idle { IsOnNoCycle (waits_for (state_of self.old)) t.slot → OnOk result ((notices.new.items ≡ []) × (state_of self.new ≡ state_of self.old)) }
         ensures refuses { RefusesOnly (first_refusal (living_tests (state_of self.old) t)) result }
         ensures kept { OnErr result (KeepsAll self.old self.new notices.old notices.new) }

@@ -27,5 +27,5 @@ pub returns-clause-completes : goal.returns-clause-completes
 returns-clause-completes c =
     quiet_completed (view_of c.self.inside) c.args.self.now
     (record { table = c.adopt.new.self; accepted = c.self.inside.accepted + 1; counters = c.self.inside.counters }) c.self.view_is c.self.invariant
-    (command.Adopt c.args.file c.args.keys) refl (made c.in_ok-rec.rec) (returns-clause-step c) (c.in_ok-rec.ensures.deadlock
+    (command.Adopt c.args.file c.args.keys) refl c.in_ok-rec.ensures.orders (made c.in_ok-rec.rec) (returns-clause-step c) (c.in_ok-rec.ensures.deadlock
     ∙ ap (λ (v : ManagerView). v.table.deadlock) c.self.view_is) refl raised_by_none

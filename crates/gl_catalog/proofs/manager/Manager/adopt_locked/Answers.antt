@@ -11,6 +11,7 @@ use Rattle.gl_catalog.specs.Counters.{one_if, rises}
 use Rattle.gl_catalog.specs.Manager.{ManagerView, state_of}
 use Rattle.gl_catalog.proofs.Adopting.{adopts, counts_grant, locks, may_adopt, mid}
 use Rattle.gl_catalog.proofs.Insertions.{goes_none, refused_so}
+use Rattle.gl_table.specs.Table.{KeepsOrders}
 use Rattle.gl_catalog.proofs.manager.Manager.adopt_locked.Goals as goal
 
 pub returns-in_err-parents-clause-refuses : goal.returns-in_err-parents-clause-refuses
@@ -44,3 +45,6 @@ returns-clause-adopts c =
           ∙ sym (counts_grant (state_of m) s' c.law.ensures.lawful c.args.t c.args.file n c.args.keys c.args.mode may born m.counters);
       deadlock = c.in_ok-rec.ensures.deadlock ∙ ap (λ (v : ManagerView). v.table.deadlock) c.self.view_is;
     }
+
+pub returns-clause-orders : goal.returns-clause-orders
+returns-clause-orders c = subst (λ (v : ManagerView). KeepsOrders v.table c.adopt_under.new.self) c.self.view_is c.in_ok-rec.ensures.orders

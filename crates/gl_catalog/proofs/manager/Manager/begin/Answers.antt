@@ -30,5 +30,5 @@ pub returns-clause-completes : goal.returns-clause-completes
 returns-clause-completes c =
     quiet_completed (view_of c.self.inside) c.args.self.now
     (record { table = c.begin.new.self; accepted = c.self.inside.accepted + 1; counters = c.self.inside.counters }) c.self.view_is c.self.invariant
-    command.Begin refl (began c.in_ok-txn.txn) (returns-clause-step c) (c.in_ok-txn.ensures.deadlock
+    command.Begin refl c.in_ok-txn.ensures.orders (began c.in_ok-txn.txn) (returns-clause-step c) (c.in_ok-txn.ensures.deadlock
     ∙ ap (λ (v : ManagerView). v.table.deadlock) c.self.view_is) refl raised_by_none

@@ -94,7 +94,7 @@ returns-in-Insert c =
     c.node_answer-in-Insert.ensures c.in-Insert.is c.insert.ensures.err (λ x h. h)
     c.args.told.now c.requires.empty c.insert.ensures.step
     (insert_completes c.args.self.now c.insert.new.self c.in-Insert.txn c.in-Insert.file c.in-Insert.keys c.insert.result
-    c.insert.ensures.deadlock c.insert.ensures.others c.insert.ensures.counted c.insert.ensures.counters)
+    c.insert.ensures.deadlock c.insert.ensures.others c.insert.ensures.counted c.insert.ensures.counters c.insert.ensures.orders)
 
 pub returns-in-Delete : goal.returns-in-Delete
 returns-in-Delete c =

@@ -31,3 +31,6 @@ returns-clause-counted c = c.in_ok-delete_telling.ensures.completes.accepted
 
 pub returns-clause-counters : goal.returns-clause-counters
 returns-clause-counters c = c.in_ok-delete_telling.ensures.completes.counters
+
+pub returns-clause-orders : goal.returns-clause-orders
+returns-clause-orders c = c.in_ok-delete_telling.ensures.completes.orders

@@ -15,6 +15,8 @@ use Rattle.gl_catalog.specs.Sound.{view_of}
 use Rattle.gl_steps.specs.Tests.{escalate_asks, worn}
 use Rattle.gl_catalog.proofs.Completed.{completed, escalation_counted}
 use Rattle.gl_catalog.proofs.Raising.{asked_is, asks_err, raised_acting, reads, shed_step, tried_err}
+use Rattle.gl_table.specs.Table.{KeepsOrders}
+use Rattle.gl_table.proofs.inside.Places.{keeps_then}
 use Rattle.gl_catalog.proofs.manager.Manager.escalate_telling.Goals.{After-add_notices, After-try_lock, then-writes_below, else-writes_below}
 use Rattle.gl_catalog.proofs.manager.Manager.escalate_telling.Goals as goal
 
@@ -104,3 +106,4 @@ returns-clause-completes c =
     ∙ sym (escalation_counted (state_of c.args.self.now) (state_of
     (record { table = c.shed_telling-released.new.self; accepted = c.self.inside.accepted + 1; counters = c.add_notices.new.self })) c.args.t c.args.n
     did told c.raise_passes-passes.result c.args.self.now.counters (raised c)))
+    (subst (λ (v : ManagerView). KeepsOrders v.table c.shed_telling-released.new.self) c.self.view_is (record { each = λ u. keeps_then (c.in_ok-mode.ensures.orders.each u) (c.shed_telling-released.ensures.orders u) }))

@@ -27,5 +27,5 @@ pub returns-clause-completes : goal.returns-clause-completes
 returns-clause-completes c =
     quiet_completed (view_of c.self.inside) c.args.self.now
     (record { table = c.forget.new.self; accepted = c.self.inside.accepted + 1; counters = c.self.inside.counters }) c.self.view_is c.self.invariant
-    (command.Forget c.args.rec) refl (doing [] tt) (returns-clause-step c)
+    (command.Forget c.args.rec) refl c.forget.ensures.orders (doing [] tt) (returns-clause-step c)
     (c.forget.ensures.deadlock ∙ ap (λ (v : ManagerView). v.table.deadlock) c.self.view_is) refl raised_by_none

@@ -74,5 +74,5 @@ pub returns-clause-completes : goal.returns-clause-completes
 returns-clause-completes c =
     quiet_completed (view_of c.self.inside) c.args.self.now
     (record { table = c.add_index_held.new.self; accepted = c.self.inside.accepted + 1; counters = c.self.inside.counters }) c.self.view_is c.self.invariant
-    (command.IndexBy c.args.t c.args.parents c.args.file c.args.bounds) refl (made c.in_ok-index.index) (returns-clause-step c)
+    (command.IndexBy c.args.t c.args.parents c.args.file c.args.bounds) refl c.in_ok-index.ensures.orders (made c.in_ok-index.index) (returns-clause-step c)
     (c.in_ok-index.ensures.deadlock ∙ ap (λ (v : ManagerView). v.table.deadlock) c.self.view_is) refl raised_by_none

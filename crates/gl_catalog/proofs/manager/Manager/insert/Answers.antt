@@ -18,6 +18,7 @@ use Rattle.gl_catalog.proofs.Carried.{refused_step}
 use Rattle.gl_catalog.proofs.Insertions.{MayInsert, goes_none, may_insert, refused_so}
 use Rattle.gl_catalog.proofs.Managed.{managed_err_or_memory, managed_ok}
 use Rattle.gl_catalog.proofs.RunsOn.{step_leaves_others}
+use Rattle.gl_table.specs.Table.{KeepsOrders}
 use Rattle.gl_catalog.proofs.manager.Manager.insert.Goals.{In_ok-parents}
 use Rattle.gl_catalog.proofs.manager.Manager.insert.Goals as goal
 
@@ -79,3 +80,6 @@ returns-clause-others c =
     step_leaves_others (state_of c.args.self.now) (state_of
     (record { table = c.place_under.new.self; accepted = c.self.inside.accepted + 1; counters = c.self.inside.counters }))
     (command.Insert c.args.t c.args.file c.args.keys) (made c.in_ok-rec.rec) c.law.ensures.lawful (returns-clause-step c)
+
+pub returns-clause-orders : goal.returns-clause-orders
+returns-clause-orders c = subst (λ (v : ManagerView). KeepsOrders v.table c.place_under.new.self) c.self.view_is c.in_ok-rec.ensures.orders

@@ -24,6 +24,7 @@ use Rattle.gl_catalog.proofs.Completed.{completed, lock_counts, lock_lives}
 use Rattle.gl_catalog.proofs.Passing.{lock_passes_is}
 use Rattle.gl_model.proofs.law.Lock.{MayLock, may_lock}
 use Rattle.gl_catalog.specs.Sound.{view_of}
+use Rattle.gl_table.specs.Table.{KeepsOrders}
 use Rattle.gl_catalog.proofs.manager.Manager.lock_telling.Goals.{After-count_lock}
 use Rattle.gl_catalog.proofs.manager.Manager.lock_telling.Goals as goal
 
@@ -123,4 +124,5 @@ returns-clause-completes c =
     ∙ lock_counts (state_of c.args.self.now) (state_of
     (locked c)) c.args.t c.args.n c.args.mode c.lock_from.new.notices.items (not (same_mode c.in_ok-held.held NL))
     (lock_passes (state_of (locked c)) c.args.n c.in_ok-held.held c.in_ok-held.locked) c.args.self.now.counters (converts c) (passed c)
-    c.in_ok-held.locked))
+    c.in_ok-held.locked)
+    (subst (λ (v : ManagerView). KeepsOrders v.table c.lock_from.new.self) c.self.view_is c.in_ok-held.ensures.orders))

@@ -14,6 +14,7 @@ use Rattle.gl_catalog.specs.Savepoints.{TakesBack, back_tests}
 use Rattle.gl_catalog.specs.Sound.{view_of}
 use Rattle.gl_catalog.proofs.GoingBack.{count_decides, not_active, takes_back}
 use Rattle.gl_catalog.proofs.Insertions.{refused_so}
+use Rattle.gl_table.specs.Table.{KeepsOrders}
 use Rattle.gl_catalog.proofs.manager.Manager.release_since_telling.Goals.{After-release_since_telling}
 use Rattle.gl_catalog.proofs.manager.Manager.release_since_telling.Goals as goal
 
@@ -61,3 +62,6 @@ returns-clause-back c =
     (takes_back (view_of c.self.inside) c.args.t c.args.mark (passed p) after c.self.invariant.lawful back.0 back.1 c.in_ok-released.released
     c.release_since_telling.new.notices.items back.2 refl c.in_ok-released.ensures.told
     (c.add_notices.ensures ∙ ap (λ list. with_notices list c.self.inside.counters) c.as_slice.ensures.value) c.in_ok-released.ensures.deadlock)
+
+pub returns-clause-orders : goal.returns-clause-orders
+returns-clause-orders c = subst (λ (v : ManagerView). KeepsOrders v.table c.release_since_telling.new.self) c.self.view_is c.in_ok-released.ensures.orders

@@ -16,6 +16,7 @@ use Rattle.gl_catalog.specs.Manager.{IsLawfulManager, ManagerView, state_of}
 use Rattle.gl_catalog.specs.Replies.{CallSteps, took}
 use Rattle.gl_catalog.proofs.Managed.{managed_err_or_memory, managed_ok, managed_worn, never_true}
 use Rattle.gl_catalog.proofs.Completed.{completed, try_counted}
+use Rattle.gl_table.specs.Table.{KeepsOrders}
 use Rattle.gl_catalog.proofs.manager.Manager.try_lock.Goals.{After-add_grant}
 use Rattle.gl_catalog.proofs.manager.Manager.try_lock.Goals as goal
 
@@ -79,3 +80,4 @@ returns-clause-completes c =
     ∙ sym (try_counted (state_of c.args.self.now) (state_of
     (record { table = c.try_lock.new.self; accepted = c.self.inside.accepted + 1; counters = c.add_grant.new.self })) c.args.t c.args.n
     c.in_ok-mode.mode c.args.mode c.ne.result c.raise_passes-passes.result c.args.self.now.counters (converts c) (passed c)))
+    (subst (λ (v : ManagerView). KeepsOrders v.table c.try_lock.new.self) c.self.view_is c.in_ok-mode.ensures.orders)

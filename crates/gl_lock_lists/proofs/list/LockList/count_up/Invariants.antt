@@ -1,6 +1,6 @@
 use Rattle.gl_lock_lists.specs.Lists.{count_of, is_listed, mode_of, unlisted}
 use Rattle.gl_modes.specs.Nodes.{same_node}
-use Rattle.indexmap.specs.IndexMap.{spare}
+use Rattle.indexmap.specs.IndexMap.{keys, spare}
 use Rattle.std.specs.List.{count_by}
 use Rattle.std.specs.Prelude.{take, ◌+◌, ◌≡◌, ◌≤◌}
 use Rattle.gl_modes.specs.declared.node.NodeId.{NodeId as Node}
@@ -12,4 +12,5 @@ invariant-loop-parent l = record {
   modes : (q : Node) → mode_of l.self q ≡ mode_of l.fn.self q;
   counts : (q : Node) → count_of l.self q ≡ count_of l.fn.self q + count_by (same_node q) (take l.parent-index l.parents);
   room : spare l.fn.self.loose ≤ spare l.self.loose + unlisted l.fn.self (take l.parent-index l.parents);
+  keys : keys l.self.entries ≡ keys l.fn.self.entries;
 }

@@ -15,6 +15,9 @@ use Rattle.gl_lock_lists.proofs.Children.{nl_is}
 use Rattle.gl_table.proofs.ledger.Ledger.ask.Goals.{After-make_room_to_ask, After-count_up, After-set_mode, After-set_status, then-not-is_member}
 use Rattle.gl_table.proofs.ledger.Ledger.ask.Goals.{else-not-is_member}
 use Rattle.gl_table.proofs.ledger.Ledger.ask.Goals as goal
+use Rattle.gl_table.proofs.Words.{keys, KeepsPlaces, ListsKeepPlaces, LockList, slice_index_or, slice_set}
+use Rattle.gl_table.proofs.inside.Places.{enters_last, kept_lose, kept_then, lists_here, lists_keep, same_order}
+use Rattle.gl_table.proofs.inside.Slots.{set_keeps}
 
 -- whether the slot holds the node, as the caller says
 held_is : (c : After-make_room_to_ask) → c.ne-is_member.result ≡ not (same_mode c.args.held NL)
@@ -290,3 +293,46 @@ returns-after-not-is_member-clause-asked c = let at = goal.at.returns-after-not-
   enters = λ e. clash e (blocks at.After-set_status c.requires.act);
   waits = λ e. (put at.After-set_status c.requires.act (member_is p)).state;
 }
+
+-- In which order the lists have their nodes.
+
+pub returns-then-covers-clause-orders : goal.returns-then-covers-clause-orders
+returns-then-covers-clause-orders c = lists_keep (lists_here c.args.self.now.lists.items)
+
+pub returns-in_default-clause-orders : goal.returns-in_default-clause-orders
+returns-in_default-clause-orders c = lists_keep (kept_lose c.make_room_to_ask.ensures.kept)
+
+pub returns-in_err-asked-clause-orders : goal.returns-in_err-asked-clause-orders
+returns-in_err-asked-clause-orders c = lists_keep (kept_lose c.make_room_to_ask.ensures.kept)
+
+-- the list of the slot is written, which keeps its places
+written_keeps : (c : After-make_room_to_ask) (l l' : LockList) → l ≡ slice_index_or c.make_room_to_ask.new.self.lists.items c.args.slot l
+    → KeepsPlaces (keys l.entries) (keys l'.entries) → ListsKeepPlaces c.args.self.now.lists.items
+    (slice_set c.make_room_to_ask.new.self.lists.items c.args.slot l')
+written_keeps c l l' at here = kept_then c.make_room_to_ask.ensures.kept
+    (set_keeps c.make_room_to_ask.new.self.lists.items c.args.slot l l' (slot-listed c.args.graph.now c.make_room_to_ask.new.self c.args.slot (may_now c)) at
+    here)
+
+pub returns-in-Granted-clause-orders : goal.returns-in-Granted-clause-orders
+returns-in-Granted-clause-orders c =
+    let l = c.index_mut-list.result.now in
+    written_keeps (goal.at.returns-in-Granted-clause-orders c).After-make_room_to_ask l c.set_mode.new.self c.index_mut-list.ensures.value
+    (same_order (keys l.entries) (keys c.set_mode.new.self.entries) c.set_mode.ensures.keys).places
+
+pub returns-in-Granted-2-clause-orders : goal.returns-in-Granted-2-clause-orders
+returns-in-Granted-2-clause-orders c =
+    let l = c.index_mut-list.result.now in
+    written_keeps (goal.at.returns-in-Granted-2-clause-orders c).After-make_room_to_ask l c.count_up.new.self c.index_mut-list.ensures.value
+    (enters_last (keys l.entries) (keys c.count_up.new.self.entries) c.args.node (c.count_up.ensures.keys ∙ c.enter.ensures.keys))
+
+pub returns-after-not-is_member-clause-orders : goal.returns-after-not-is_member-clause-orders
+returns-after-not-is_member-clause-orders c =
+    let p = (goal.at.returns-after-not-is_member-clause-orders c).After-make_room_to_ask in
+    let l = c.index_mut-list.result.now in
+    elim c.if-not-is_member.branch [
+      | then-not-is_member w ↦ subst (λ ls. ListsKeepPlaces c.args.self.now.lists.items ls.items) (sym (ap (λ y. y.lists) w.self-is))
+          (written_keeps p l w.enter-then-not-is_member.new.self c.index_mut-list.ensures.value
+          (enters_last (keys l.entries) (keys w.enter-then-not-is_member.new.self.entries) c.args.node w.enter-then-not-is_member.ensures.keys))
+      | else-not-is_member w ↦ subst (λ ls. ListsKeepPlaces c.args.self.now.lists.items ls.items) (sym (ap (λ y. y.lists) w.self-is))
+          (written_keeps p l l c.index_mut-list.ensures.value (same_order (keys l.entries) (keys l.entries) refl).places)
+    ]

@@ -5,6 +5,7 @@ use Rattle.gl_table.proofs.inside.Branches.{departed_nothing}
 use Rattle.gl_table.proofs.inside.Slots.{by_list-at}
 use Rattle.gl_table.proofs.ledger.Ledger.clear.Goals.{After-holds}
 use Rattle.gl_table.proofs.ledger.Ledger.clear.Goals as goal
+use Rattle.gl_table.proofs.inside.Places.{lists_here}
 
 -- what the list says is what the slot holds
 holding : (c : After-holds) → c.holds.result ≡ holds (members (state_in c.args.graph.now c.args.self.now) c.args.node) c.args.slot
@@ -23,3 +24,6 @@ returns-else-holds-clause-state c =
     sym (departed_nothing s c.requires.act.orderly c.args.node
     (λ u. split (u == c.args.slot) (λ e. ap (λ v. s.held v c.args.node) (same_number u c.args.slot e) ∙ nl_is (s.held c.args.slot c.args.node) off)
     (λ e. c.requires.left.alone u e)) c.requires.unawaited)
+
+pub returns-else-holds-clause-orders : goal.returns-else-holds-clause-orders
+returns-else-holds-clause-orders c = lists_here c.args.self.now.lists.items

@@ -5,6 +5,9 @@ use Rattle.gl_model.specs.declared.answers.Notice.TheVariants as notice
 use Rattle.gl_table.proofs.inside.TurnedAway.{is_lost}
 use Rattle.gl_table.proofs.inside.Slots.{agrees_recounted, by_list-at, counts_recounted}
 use Rattle.gl_table.proofs.ledger.Ledger.follow.Goals as goal
+use Rattle.gl_table.proofs.Words.{keys}
+use Rattle.gl_table.proofs.inside.Places.{lose_then, same_order}
+use Rattle.gl_table.proofs.inside.Slots.{set_loses}
 
 -- the mover's list says what it holds of the node
 held_here : (c : goal.After-parents) → mode_of c.index_mut-list.result.now c.args.node
@@ -73,3 +76,9 @@ returns-clause-counts c = λ u q.
     (λ p. count_by (same_node p) old) (λ p. count_by (same_node p) ps)
     (λ p. subst (λ (b : Bool). count_of l' p + adds_to b old p ≡ count_of l p + adds_to b ps p) held
     (c.recount.ensures.counts p ∙ ap (λ (xs : List NodeId). count_of l p + adds_to (not (same_mode (mode_of l c.args.node) NL)) xs p) c.parents.ensures)) u q
+
+pub returns-clause-orders : goal.returns-clause-orders
+returns-clause-orders c =
+    let l = c.index_mut-list.result.now in
+    lose_then (set_loses c.args.self.now.lists.items c.args.slot l c.recount.new.list c.requires.recount.slot c.index_mut-list.ensures.value
+    (same_order (keys l.entries) (keys c.recount.new.list.entries) c.recount.ensures.keys)) c.turn_away.ensures.orders

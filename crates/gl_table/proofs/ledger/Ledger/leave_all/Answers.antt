@@ -6,6 +6,7 @@ use Rattle.gl_lock_lists.proofs.Children.{nl_is}
 use Rattle.gl_model.proofs.telling.Fronts.{in_no_queue, stands_other, waits_there}
 use Rattle.gl_table.proofs.inside.Departures.{holds_after, IsLeaving, leaving_begins, leaving_one, leaving_order, leaving_out, left_released}
 use Rattle.gl_table.proofs.inside.Orders.{all_but_this, among_these, listed_as, node_there, rows_are, unique_at}
+use Rattle.gl_table.proofs.inside.Places.{lists_here, lose_then}
 use Rattle.gl_table.proofs.ledger.Ledger.leave_all.Goals.{In-Some}
 use Rattle.gl_table.proofs.ledger.Ledger.leave_all.Goals as goal
 
@@ -23,6 +24,7 @@ loop-at-init c =
           (in_no_queue s c.requires.orderly c.args.slot c.requires.quiet q) ∙ or-false (holds (members s q) c.args.slot);
       leaving = leaving_begins s c.args.slot c.args.self.now.lists.items c.args.told.now.items c.requires.orderly
           (λ u e. c.requires.exact.agree u) (λ u e. c.requires.exact.count u) c.requires.tell;
+      orders = lists_here c.args.self.now.lists.items;
     }
 
 -- the node is at its place, and is held
@@ -70,6 +72,7 @@ loop-at-preserved-in-Some c =
       leaving = subst (λ (x : State). IsLeaving (state_in c.args.graph.now c.args.self.now) x c.args.slot c.drop_and_wake.new.self.lists.items
           c.args.told.now.items c.drop_and_wake.new.told.items) (sym ends.state)
           (leaving_one left c.requires.quiet c.in-Some.node (held p) c.law.ensures.lawful left.agree left.count ends.woken.lists ends.woken.tells);
+      orders = lose_then c.loop-at.invariant.orders ends.woken.lists.loses;
     }
 
 -- a node is at each place

@@ -1,4 +1,4 @@
-use Rattle.gl_table.proofs.Words.{◌≡◌, ◌≤◌, AreSound, holds, length, list_any, members, NodeId, nodes_by, same_node, state_in, take}
+use Rattle.gl_table.proofs.Words.{◌≡◌, ◌≤◌, AreSound, holds, length, list_any, ListsLose, members, NodeId, nodes_by, same_node, state_in, take}
 use Rattle.gl_table.proofs.inside.Departures.{IsLeaving}
 use Rattle.gl_table.proofs.ledger.Ledger.leave_all.Given as goal
 
@@ -10,6 +10,7 @@ invariant-loop-at l = record {
   within : l.at ≤ length (nodes_by l.fn.self.lists.items l.slot);
   listed : (q : NodeId) → list_any (same_node q) (take l.at (nodes_by l.fn.self.lists.items l.slot)) ≡ holds (members (state_in l.graph l.self) q) l.slot;
   leaving : IsLeaving (state_in l.graph l.fn.self) (state_in l.graph l.self) l.slot l.self.lists.items l.fn.told.items l.told.items;
+  orders : ListsLose l.fn.self.lists.items l.self.lists.items;
 }
 
 abbrev pub decreases-loop-at : goal.decreases-loop-at

@@ -5,6 +5,9 @@ use Rattle.gl_table.proofs.inside.Asks.{free_key}
 use Rattle.gl_table.proofs.inside.Slots.{counts-entered, has_node-set}
 use Rattle.gl_table.proofs.ledger.Ledger.place.Goals.{After-self-1}
 use Rattle.gl_table.proofs.ledger.Ledger.place.Goals as goal
+use Rattle.gl_table.proofs.Words.{keys}
+use Rattle.gl_table.proofs.inside.Places.{enters_last}
+use Rattle.gl_table.proofs.inside.Slots.{set_keeps}
 
 -- the node is the only one of its key that lives
 pub put-requires-clause-free : goal.put-requires-clause-free
@@ -59,3 +62,10 @@ returns-clause-state c =
     let s : State = state_in c.args.graph.now c.args.self.now in
     (placed c).state
     ∙ ap (λ y. with_grant s c.args.slot c.args.node (supremum y c.args.mode)) (c.requires.fresh.unheld c.args.slot)
+
+pub returns-clause-orders : goal.returns-clause-orders
+returns-clause-orders c =
+    let x = c.index_mut-list.result.now in
+    set_keeps c.args.self.now.lists.items c.args.slot x c.count_up.new.self (slot-listed c.args.graph.now c.args.self.now c.args.slot c.requires.act)
+    c.index_mut-list.ensures.value
+    (enters_last (keys x.entries) (keys c.count_up.new.self.entries) c.args.node (c.count_up.ensures.keys ∙ c.enter.ensures.keys))

@@ -3,6 +3,8 @@ use Rattle.gl_table.proofs.Words.{subst, sym, ℕ}
 use Rattle.gl_model.proofs.telling.Fronts.{stands_other, waits_there}
 use Rattle.gl_table.proofs.inside.Departures.{leaving_begins}
 use Rattle.gl_table.proofs.inside.Marked.{IsReleasing, marked_childless, marked_counted, releasing_ends, releasing_modes, releasing_one}
+use Rattle.gl_table.proofs.Words.{refl}
+use Rattle.gl_table.proofs.inside.Places.{lists_here, lose_then, loses_then, lost_one, same_order}
 use Rattle.gl_table.proofs.ledger.Ledger.release_marked.Goals as goal
 
 pub loop-at-init : goal.loop-at-init
@@ -16,6 +18,8 @@ loop-at-init c = record {
     marked = c.requires.marked;
     covered = λ q h. clash h (and-not_self (holds (members (state_in c.args.graph.now c.args.self.now) q) c.args.slot));
   };
+  orders = lists_here c.args.self.now.lists.items;
+  order = same_order (keys c.args.list.now.entries) (keys c.args.list.now.entries) refl;
 }
 
 pub take_marked-requires-clause-marked : goal.take_marked-requires-clause-marked
@@ -47,6 +51,9 @@ loop-at-preserved-in-Some c = record {
       (releasing_one c.loop-at.invariant.releasing (ap is_wait c.requires.active) c.law.ensures.lawful c.in-Some.child c.in-Some.ensures.taken.was
       c.in-Some.ensures.taken.was_marked c.in-Some.ensures.taken.listed c.in-Some.ensures.taken.modes c.in-Some.ensures.taken.counts
       c.drop_and_wake.ensures.woken.lists c.drop_and_wake.ensures.woken.tells);
+  orders = lose_then c.loop-at.invariant.orders c.drop_and_wake.ensures.woken.lists.loses;
+  order = loses_then c.loop-at.invariant.order
+      (lost_one c.loop-at.list c.take_marked.new.self c.in-Some.child c.in-Some.ensures.taken.keys c.in-Some.ensures.taken.listed);
 }
 
 pub returns-clause-others : goal.returns-clause-others

@@ -35,3 +35,6 @@ returns-clause-moved c = let none = c.in_default.ensures.none in record {
 
 pub returns-clause-counts : goal.returns-clause-counts
 returns-clause-counts c = λ u q. c.loop-slot.invariant.over.lists.counts u q ∙ none_if _ _
+
+pub returns-clause-orders : goal.returns-clause-orders
+returns-clause-orders c = c.loop-slot.invariant.over.lists.loses

@@ -7,6 +7,7 @@ use Rattle.gl_model.specs.declared.answers.Notice.TheVariants as notice
 use Rattle.gl_table.proofs.inside.Vacated.{agrees_vacated, can_free, can_strike, counts_vacated, MayVacate, txns_freed, waiter_childless}
 use Rattle.gl_table.proofs.ledger.Ledger.vacate.Goals.{After-parents, After-strike, Joined-taken, in-None, in-Some}
 use Rattle.gl_table.proofs.ledger.Ledger.vacate.Goals as goal
+use Rattle.gl_table.proofs.inside.Places.{lose_then}
 
 may : (c : After-parents) → MayVacate c.args.graph.now c.args.self.now c.args.slot c.args.node
 may c = record { law = c.law.ensures.lawful; act = c.requires.act; left = c.requires.left; holding = c.requires.holds }
@@ -87,3 +88,6 @@ returns-clause-exact c =
       agree = λ u. subst (λ (x : State). Agrees x ls u) state (agrees_vacated m cut all.lists u);
       count = λ u. subst (λ (x : State). CountsHeld x ls u) state (counts_vacated m cut all.lists u);
     }
+
+pub returns-clause-orders : goal.returns-clause-orders
+returns-clause-orders c = lose_then c.strike.ensures.loses c.free.ensures.lists.loses

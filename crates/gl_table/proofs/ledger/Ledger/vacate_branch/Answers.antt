@@ -3,6 +3,7 @@ use Rattle.gl_table.proofs.Words.{slice_index_or, State, state_in, sym, take}
 use Rattle.gl_model.proofs.law.Departures.{age_freed_among}
 use Rattle.gl_table.proofs.inside.Branches.{before_act, before_unawaited, child_here, child_left, end_left}
 use Rattle.gl_table.proofs.inside.Branches.{departed_none, end_held, end_queue, end_whole, item_at, MayClear, one_more, take_all, told_after}
+use Rattle.gl_table.proofs.inside.Places.{lists_here, lose_then}
 use Rattle.gl_table.proofs.ledger.Ledger.vacate_branch.Goals.{After-intervals-interval-items}
 use Rattle.gl_table.proofs.ledger.Ledger.vacate_branch.Goals as goal
 
@@ -24,6 +25,7 @@ loop-interval-init c = record {
   state = sym (departed_none (start c));
   by_slot = c.requires.tell.by_slot;
   same = λ u. refl;
+  orders = lists_here c.args.self.now.lists.items;
 }
 
 pub clear-requires-clause-act : goal.clear-requires-clause-act
@@ -61,6 +63,7 @@ loop-interval-preserved c =
           (record { key = 0; birth = 0 }) c.loop-interval-test.true);
       by_slot = c.clear.ensures.by_slot;
       same = λ u. c.clear.ensures.same u ∙ c.loop-interval.invariant.same u;
+      orders = lose_then c.loop-interval.invariant.orders c.clear.ensures.orders;
     }
 
 pub vacate-requires-clause-act : goal.vacate-requires-clause-act
@@ -108,3 +111,6 @@ returns-clause-tells c =
     ∙ age_freed_among (λ q. list_any (same_node q) (take c.loop-interval.interval-index c.intervals-interval-items.result.now))
     ((state_in c.args.graph.now c.args.self.now).txns u))
     c.loop-interval.invariant.same c.vacate.ensures.tells
+
+pub returns-clause-orders : goal.returns-clause-orders
+returns-clause-orders c = lose_then c.loop-interval.invariant.orders c.vacate.ensures.orders

@@ -18,5 +18,5 @@ leave-requires c = record {
 pub returns : goal.returns
 returns c = ends_one c.args.slot c.set_status-age.result c.args.why c.set_status-age.ensures.age c.set_status-age.ensures.len c.set_status-age.ensures.txns
     (written-left c.args.lists.now.items c.args.slot c.index_mut.result.now c.leave.new.self (listed (goal.at.returns c).After-index_mut)
-    c.index_mut.ensures.value c.args.node c.leave.ensures.modes c.leave.ensures.listed c.leave.ensures.counts)
+    c.index_mut.ensures.value c.args.node c.leave.ensures.modes c.leave.ensures.listed c.leave.ensures.counts c.leave.ensures.keys)
     c.tell.ensures.by_slot c.tell.ensures.notices

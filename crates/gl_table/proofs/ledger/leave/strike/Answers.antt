@@ -1,5 +1,6 @@
 use Rattle.gl_table.proofs.Words.{◌∙◌, ◌≤◌, count_by, count_of, same_node, subst, sym, ℕ}
 use Rattle.gl_table.proofs.inside.Orders.{leaves_place}
+use Rattle.gl_table.proofs.inside.Places.{lost_one}
 use Rattle.gl_table.proofs.inside.Slots.{by_list-at, struck-written}
 use Rattle.gl_table.proofs.ledger.leave.strike.Goals as goal
 
@@ -17,3 +18,5 @@ returns c =
     (λ q. c.count_down.ensures.modes q ∙ c.leave.ensures.modes q) (λ q. c.count_down.ensures.listed q ∙ c.leave.ensures.listed q)
     (λ q. c.count_down.ensures.counts q ∙ c.leave.ensures.counts q)
     (leaves_place c.index_mut-list.result.now c.count_down.new.self c.args.node (c.count_down.ensures.keys ∙ c.leave.ensures.keys))
+    (lost_one c.index_mut-list.result.now c.count_down.new.self c.args.node (c.count_down.ensures.keys ∙ c.leave.ensures.keys)
+    (λ q. c.count_down.ensures.listed q ∙ c.leave.ensures.listed q))

@@ -2,6 +2,9 @@ use Rattle.gl_table.proofs.Words.{◌∙◌, ◌≡◌, ap, cancelled, false, is
 use Rattle.gl_table.proofs.inside.Departures.{free_cancelled, free_idle, free_same, IsFree}
 use Rattle.gl_table.proofs.locks.Locks.abort.Goals.{Joined-txn_entry, in-Some-Waiting, in-Some+in-Active-1, in-None-1}
 use Rattle.gl_table.proofs.locks.Locks.abort.Goals as goal
+use Rattle.gl_table.specs.declared.locks.Locks.{Locks}
+use Rattle.gl_table.proofs.Words.{ListsLose}
+use Rattle.gl_table.proofs.inside.Places.{lists_here, lose_then}
 
 abbrev before : Joined-txn_entry → State
 before c = state_at c.args.self.now
@@ -24,6 +27,16 @@ free c = elim c.match-txn_entry.branch [
       w.withdraw.ensures.tells c.requires.tell.untold)
   | in-Some+in-Active-1 w ↦ idle c (search rules) w.self-is w.told-is
   | in-None-1 w ↦ idle c (search rules) w.self-is w.told-is
+]
+
+-- only the node of the wait left the lists
+cancelled_orders : (c : Joined-txn_entry) → ListsLose c.args.self.now.ledger.lists.items c.match-txn_entry.self.ledger.lists.items
+cancelled_orders c = elim c.match-txn_entry.branch [
+  | in-Some-Waiting w ↦ subst (λ (l : Locks). ListsLose c.args.self.now.ledger.lists.items l.ledger.lists.items) (sym w.self-is) w.withdraw.ensures.orders
+  | in-Some+in-Active-1 w ↦ subst (λ (l : Locks). ListsLose c.args.self.now.ledger.lists.items l.ledger.lists.items) (sym w.self-is)
+      (lists_here c.args.self.now.ledger.lists.items)
+  | in-None-1 w ↦ subst (λ (l : Locks). ListsLose c.args.self.now.ledger.lists.items l.ledger.lists.items) (sym w.self-is)
+      (lists_here c.args.self.now.ledger.lists.items)
 ]
 
 pub end-requires-clause-quiet : goal.end-requires-clause-quiet
@@ -49,3 +62,8 @@ returns-clause-tells c = let f = free (goal.at.returns-clause-tells c).Joined-tx
   others = λ s between same. let now = f.tells s between same in ends.others s now.0 now.1;
   own = ends.own ∙ f.own;
 }
+
+pub returns-clause-orders : goal.returns-clause-orders
+returns-clause-orders c =
+    let at = (goal.at.returns-clause-orders c).Joined-txn_entry in
+    lose_then (cancelled_orders at) c.end.ensures.orders

@@ -5,6 +5,9 @@ use Rattle.gl_table.proofs.inside.Lists.{IsBare}
 use Rattle.gl_table.proofs.inside.TxnEntries.{agrees-gone, counts-gone, orderly-gone, state-freed}
 use Rattle.gl_model.proofs.telling.Between.{gone_tells}
 use Rattle.gl_table.proofs.locks.Locks.end.Goals as goal
+use Rattle.gl_table.proofs.Words.{keys}
+use Rattle.gl_table.proofs.inside.Places.{lose_then, loses_all}
+use Rattle.gl_table.proofs.inside.Slots.{set_loses}
 
 pub invariant_of-self : goal.invariant_of-self
 invariant_of-self c =
@@ -50,3 +53,12 @@ returns-clause-tells c =
           ∙ gone_tells s now c.args.slot u ∙ ap (λ b. if b then None else told_to s now u) e);
       own = was.own;
     }
+
+pub returns-clause-orders : goal.returns-clause-orders
+returns-clause-orders c =
+    let left = c.leave_all.new.self in
+    let l = c.index_mut.result.now in
+    let has_entry : c.args.slot < length left.txn_entries.items = subst (λ (k : ℕ). c.args.slot < k) (sym c.leave_all.ensures.left.most) c.requires.has_entry in
+    let listed : c.args.slot < length left.lists.items = subst (λ (k : ℕ). c.args.slot < k) (sym c.leave_all.ensures.others.sound.lists) has_entry in
+    lose_then c.leave_all.ensures.orders (set_loses left.lists.items c.args.slot l c.clear.new.self listed c.index_mut.ensures.value
+    (loses_all (keys l.entries) (keys c.clear.new.self.entries) c.clear.ensures.keys))

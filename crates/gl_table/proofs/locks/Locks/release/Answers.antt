@@ -4,6 +4,7 @@ use Rattle.gl_table.proofs.inside.Released.{agrees_released, can_strike, counts_
 use Rattle.gl_model.proofs.law.Keeps.{txn_there}
 use Rattle.gl_model.proofs.telling.Fronts.{orderly_unlocked}
 use Rattle.gl_table.proofs.locks.Locks.release.Goals as goal
+use Rattle.gl_table.proofs.inside.Places.{lose_then}
 
 pub strike-requires : goal.strike-requires
 strike-requires c =
@@ -43,3 +44,6 @@ returns-clause-place c =
     let l = c.args.self.now in
     place_left (state_at l) l.orderly c.args.slot c.requires.active c.args.node c.requires.holds (l.agree c.args.slot) c.drop_and_wake.ensures.woken.lists
     c.strike.ensures.place
+
+pub returns-clause-orders : goal.returns-clause-orders
+returns-clause-orders c = lose_then c.drop_and_wake.ensures.woken.lists.loses c.strike.ensures.loses

@@ -4,6 +4,7 @@ use Rattle.gl_lock_lists.proofs.Lists.{place_from}
 use Rattle.gl_model.proofs.telling.Fronts.{waits_there}
 use Rattle.gl_table.proofs.inside.Back.{back_begins, back_one, back_tells, IsGoingBack, listed_held, none_held, some_held}
 use Rattle.gl_table.proofs.inside.Orders.{childless_there, parent_there, rows_are}
+use Rattle.gl_table.proofs.inside.Places.{lists_here, lose_then}
 use Rattle.gl_table.proofs.locks.Locks.release_childless.Goals as goal
 
 pub loop-at-init : goal.loop-at-init
@@ -15,6 +16,7 @@ loop-at-init c =
       counted = omega arith;
       going = back_begins (state_at c.args.self.now) c.args.slot c.args.mark order c.args.told.now.items c.requires.active c.requires.tell;
       passed = λ none i n le there. absurd (none_some (sym (slice_get_past order i (omega (arith, all))) ∙ there));
+      orders = lists_here c.args.self.now.ledger.lists.items;
     }
 
 -- the node at the place is held, and no child of it
@@ -56,6 +58,7 @@ loop-at-preserved-in-Some c =
           (nodes_by c.release.new.self.ledger.lists.items c.args.slot) c.args.told.now.items c.release.new.told.items) (sym c.release.ensures.state)
           (back_one is.going l.orderly c.in-Some.node held none.1 at (omega arith) found.0 leaves c.release.ensures.tells);
       passed = λ first i n le there. absurd (omega arith);
+      orders = lose_then is.orders c.release.ensures.orders;
     }
 
 pub loop-at-preserved : goal.loop-at-preserved
@@ -72,6 +75,7 @@ loop-at-preserved c =
           (parent_there l.ledger.lists.items c.args.slot at n (sym c.in_default.ensures)
           (ap (slice_get (nodes_by l.ledger.lists.items c.args.slot)) (sym (same_number i at e)) ∙ there)))
           (λ e. let apart = other_number i at e in is.passed first i n (grind (arith, nat_tests)) there);
+      orders = is.orders;
     }
 
 pub returns-clause-unlocks : goal.returns-clause-unlocks

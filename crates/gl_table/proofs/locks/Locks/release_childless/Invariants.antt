@@ -1,4 +1,4 @@
-use Rattle.gl_table.proofs.Words.{◌+◌, ◌≡◌, ◌≤◌, holds_child, length, NodeId, nodes_by, slice_get, Some, state_at, true, ℕ}
+use Rattle.gl_table.proofs.Words.{◌+◌, ◌≡◌, ◌≤◌, holds_child, length, ListsLose, NodeId, nodes_by, slice_get, Some, state_at, true, ℕ}
 use Rattle.gl_table.proofs.inside.Back.{IsGoingBack}
 use Rattle.gl_table.proofs.locks.Locks.release_childless.Given as goal
 
@@ -11,6 +11,7 @@ invariant-loop-at l = record {
       (nodes_by l.self.ledger.lists.items l.slot) l.fn.told.items l.told.items;
   passed : l.released ≡ 0 → (i : ℕ) (n : NodeId) → l.at ≤ i → slice_get (nodes_by l.self.ledger.lists.items l.slot) i ≡ Some n
       → holds_child (state_at l.self) l.slot n ≡ true;
+  orders : ListsLose l.fn.self.ledger.lists.items l.self.ledger.lists.items;
 }
 
 abbrev pub decreases-loop-at : goal.decreases-loop-at

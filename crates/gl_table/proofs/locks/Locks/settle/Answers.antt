@@ -1,6 +1,7 @@
 use Rattle.gl_table.proofs.Words.{◌<◌, ap, graph_of, refl, State, state_at, subst, sym, ℕ}
 use Rattle.gl_model.proofs.law.KeptRows.{keeping_turn, settles-keeping}
 use Rattle.gl_table.proofs.inside.Withdrawn.{fewer_wait, how_many_wait}
+use Rattle.gl_table.proofs.inside.Places.{lose_then}
 use Rattle.gl_table.proofs.locks.Locks.settle.Goals as goal
 
 pub loop-victim-smaller : goal.loop-victim-smaller
@@ -28,6 +29,7 @@ loop-victim-preserved c =
         all = λ s between same. now.tells.all s (before.keeps_between s between)
             (before.tells.all s between same);
       };
+      orders = lose_then before.orders now.orders;
     }
 
 pub returns-clause-deadlock : goal.returns-clause-deadlock

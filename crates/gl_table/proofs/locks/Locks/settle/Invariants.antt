@@ -1,4 +1,4 @@
-use Rattle.gl_table.proofs.Words.{◌<◌, ◌≡◌, Deadlock, IsBetween, is_wait, None, notices_in, SettlesKeeping}
+use Rattle.gl_table.proofs.Words.{◌<◌, ◌≡◌, Deadlock, IsBetween, is_wait, ListsLose, None, notices_in, SettlesKeeping}
 use Rattle.gl_table.proofs.Words.{State, state_at, status_of, TellsAll, true, ℕ}
 use Rattle.gl_table.proofs.inside.Withdrawn.{how_many_wait}
 use Rattle.gl_table.proofs.locks.Locks.settle.Given as goal
@@ -12,6 +12,7 @@ invariant-loop-victim l = record {
       → SettlesKeeping l.victims (state_at l.initial.self) l.slot l.initial.deadlock s' d';
   keeps_between : (s : State) → IsBetween s (state_at l.initial.self) → IsBetween s (state_at l.self);
   tells : TellsAll (state_at l.initial.self) (state_at l.self) l.initial.told.items l.told.items;
+  orders : ListsLose l.initial.self.ledger.lists.items l.self.ledger.lists.items;
 }
 
 -- each victim leaves fewer that wait

@@ -3,6 +3,7 @@ use Rattle.gl_model.proofs.telling.Fronts.{between_here}
 use Rattle.gl_model.proofs.telling.Lists.{told_in_order, told_nothing}
 use Rattle.gl_model.proofs.telling.Between.{nobody_told}
 use Rattle.gl_table.proofs.locks.Locks.settle_requester.Goals as goal
+use Rattle.gl_table.proofs.inside.Places.{lists_here}
 
 pub returns-then-matches-clause-told : goal.returns-then-matches-clause-told
 returns-then-matches-clause-told c =
@@ -20,3 +21,6 @@ pub returns-else-matches-clause-told : goal.returns-else-matches-clause-told
 returns-else-matches-clause-told c =
     let before = state_at c.args.self.now in
     c.requires.empty ∙ told_nothing before before c.args.slot c.args.self.now.orderly.below (λ u. refl)
+
+pub returns-else-matches-clause-orders : goal.returns-else-matches-clause-orders
+returns-else-matches-clause-orders c = lists_here c.args.self.now.ledger.lists.items

@@ -2,6 +2,9 @@ use Rattle.gl_table.proofs.Words.{◌∙◌, graph_of, length-set, State, state_
 use Rattle.gl_table.proofs.inside.Marked.{agrees-back, counts-back, list_there, parents_counted, shedding_begins, taken_out}
 use Rattle.gl_table.proofs.inside.Slots.{agrees-set, counts-set}
 use Rattle.gl_table.proofs.locks.Locks.shed.Goals as goal
+use Rattle.gl_table.proofs.Words.{keys}
+use Rattle.gl_table.proofs.inside.Places.{loses_then, same_order}
+use Rattle.gl_table.proofs.inside.Slots.{lists_back}
 
 pub mark_covered-requires : goal.mark_covered-requires
 mark_covered-requires c =
@@ -48,3 +51,16 @@ invariant_of-self c =
       agree = agrees-back now others.orderly c.args.slot is.active before c.args.node left.lists.items c.release_marked.new.list there is others.agree;
       count = counts-back now others.orderly c.args.slot is.active before c.args.node left.lists.items c.release_marked.new.list there is others.count;
     }
+
+pub returns-clause-orders : goal.returns-clause-orders
+returns-clause-orders c =
+    let l = c.args.self.now in
+    let left = c.release_marked.new.self in
+    let first = list_there l.ledger (graph_of l.graph) l.sound l.orderly c.args.slot c.requires.active in
+    let others = c.release_marked.ensures.others in
+    let last = list_there left (graph_of l.graph) others.sound others.orderly c.args.slot c.release_marked.ensures.released.active in
+    lists_back l.ledger.lists.items left.lists.items c.args.slot c.replace-list.result c.replace-list.new.dest c.release_marked.new.list first
+    (taken_out l.ledger.lists.items c.args.slot c.index_mut.result.now c.replace-list.result c.replace-list.ensures.value c.index_mut.ensures.value)
+    c.release_marked.ensures.orders last
+    (loses_then (same_order (keys c.replace-list.result.entries) (keys c.mark_covered.new.self.entries) c.mark_covered.ensures.keys)
+    c.release_marked.ensures.order)

@@ -9,6 +9,9 @@ use Rattle.gl_model.proofs.telling.Fronts.{waits_only, waits_there}
 use Rattle.gl_model.proofs.telling.GivenUp.{orderly_without}
 use Rattle.gl_table.proofs.locks.Locks.withdraw.Goals.{After-holds}
 use Rattle.gl_table.proofs.locks.Locks.withdraw.Goals as goal
+use Rattle.gl_table.proofs.Words.{keys, refl}
+use Rattle.gl_table.proofs.inside.Places.{lose_then, lost_one, same_order}
+use Rattle.gl_table.proofs.inside.Slots.{set_loses}
 
 abbrev before : After-holds → State
 before c = state_at c.args.self.now
@@ -91,3 +94,17 @@ invariant_of-self-else-not-holds c = let h = (goal.at.invariant_of-self-else-not
       agree = agrees h _ now;
       count = counts h _ now;
     }
+
+pub returns-then-not-holds-clause-orders : goal.returns-then-not-holds-clause-orders
+returns-then-not-holds-clause-orders c =
+    let h = (goal.at.returns-then-not-holds-clause-orders c).After-holds in
+    let l = c.index_mut-list.result.now in
+    lose_then c.leave_queue.ensures.woken.lists.loses (set_loses (mid h) c.args.slot l c.leave.new.self (slot_there h) c.index_mut-list.ensures.value
+    (lost_one l c.leave.new.self c.args.node c.leave.ensures.keys c.leave.ensures.listed))
+
+pub returns-else-not-holds-clause-orders : goal.returns-else-not-holds-clause-orders
+returns-else-not-holds-clause-orders c =
+    let h = (goal.at.returns-else-not-holds-clause-orders c).After-holds in
+    let l = c.index_mut-list.result.now in
+    lose_then c.leave_queue.ensures.woken.lists.loses (set_loses (mid h) c.args.slot l l (slot_there h) c.index_mut-list.ensures.value
+    (same_order (keys l.entries) (keys l.entries) refl))

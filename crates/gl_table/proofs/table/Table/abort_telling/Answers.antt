@@ -1,6 +1,8 @@
 use Rattle.gl_table.proofs.Words.{◌∙◌, ap, released, state_of, TableView, told, view_of}
 use Rattle.gl_table.proofs.calls.Calls.{sound_released, state_released}
 use Rattle.gl_table.proofs.calls.Ends.{told_ended}
+use Rattle.gl_table.proofs.Words.{refl}
+use Rattle.gl_table.proofs.calls.Orders.{losses_seen}
 use Rattle.gl_table.proofs.table.Table.abort_telling.Goals as goal
 
 pub invariant_of-self : goal.invariant_of-self
@@ -16,3 +18,8 @@ returns-clause-told c =
     told_ended c.self.inside c.self.invariant c.args.t.slot c.abort.new.self c.abort.ensures.state c.args.notices.now.items c.abort.new.told.items
     c.requires.empty c.abort.ensures.tells
     ∙ ap (λ (v : TableView). told (state_of v) (state_of (view_of (record c.self.inside { locks = c.abort.new.self })))) c.self.view_is
+
+pub returns-clause-orders : goal.returns-clause-orders
+returns-clause-orders c =
+    losses_seen c.self.inside.locks.ledger.lists.items c.abort.new.self.ledger.lists.items c.abort.ensures.orders
+    c.args.self.now _ (ap (λ (v : TableView). v.lists) c.self.view_is) refl

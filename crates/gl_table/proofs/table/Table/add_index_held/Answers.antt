@@ -6,6 +6,9 @@ use Rattle.gl_table.proofs.calls.Dropping.{index_fresh, stands_indexed, stands_p
 use Rattle.gl_table.proofs.calls.Records.{same_state, stands_roomy}
 use Rattle.gl_graph.specs.Refusals.{reindex_refusal}
 use Rattle.gl_table.proofs.calls.Stands.{may_act, MayStand, put}
+use Rattle.gl_table.proofs.Words.{refl}
+use Rattle.gl_table.proofs.calls.Orders.{orders_seen}
+use Rattle.gl_table.proofs.inside.Places.{kept_then}
 use Rattle.gl_table.proofs.table.Table.add_index_held.Goals.{After-add_index_unrefused, After-prepare}
 use Rattle.gl_table.proofs.table.Table.add_index_held.Goals as goal
 
@@ -88,3 +91,8 @@ returns-clause-state c = let at = (goal.at.returns-clause-state c).After-add_ind
     c.in_ok-index.ensures.made
     c.args.t.slot c.place.new.self c.place.ensures.state
     ∙ ap (λ (s : State). with_grant (with_graph s (graph_of c.add_index_unrefused.new.self)) c.args.t.slot c.in_ok-index.index X) (same at)
+
+pub returns-clause-orders : goal.returns-clause-orders
+returns-clause-orders c =
+    orders_seen c.self.inside.locks.ledger.lists.items c.place.new.self.lists.items (kept_then c.prepare.ensures.kept.lists c.place.ensures.orders)
+    c.args.self.now _ (ap (λ (v : TableView). v.lists) c.self.view_is) refl

@@ -7,6 +7,9 @@ use Rattle.gl_table.proofs.calls.Adopting.{adopted_fresh, file_stands, stands_ad
 use Rattle.gl_table.proofs.calls.Records.{same_state, stands_grown, stands_roomy}
 use Rattle.gl_table.proofs.calls.Stands.{may_act, MayStand, put, with_locks}
 use Rattle.gl_graph.specs.Changes.{marked}
+use Rattle.gl_table.proofs.Words.{refl}
+use Rattle.gl_table.proofs.calls.Orders.{orders_seen}
+use Rattle.gl_table.proofs.inside.Places.{kept_then}
 use Rattle.gl_table.proofs.table.Table.adopt_under.Goals.{After-add_record_under, After-prepare}
 use Rattle.gl_table.proofs.table.Table.adopt_under.Goals as goal
 
@@ -106,3 +109,8 @@ invariant_of-locks-2 c = (placed (goal.at.invariant_of-locks-2 c).After-add_reco
 pub returns-clause-state : goal.returns-clause-state
 returns-clause-state c = state_after (goal.at.returns-clause-state c).After-add_record_under c.in_ok-rec.rec c.in_ok-rec.ensures.made c.mark_adopted.new.self
     c.mark_adopted.ensures.marked c.place.new.self c.place.ensures.state
+
+pub returns-clause-orders : goal.returns-clause-orders
+returns-clause-orders c =
+    orders_seen c.self.inside.locks.ledger.lists.items c.place.new.self.lists.items (kept_then c.prepare.ensures.kept.lists c.place.ensures.orders)
+    c.args.self.now _ (ap (λ (v : TableView). v.lists) c.self.view_is) refl

@@ -7,6 +7,8 @@ use Rattle.gl_table.proofs.calls.Departing.{AreGone, stands_departed, state_depa
 use Rattle.gl_table.proofs.calls.Dropping.{branch_gone, branch_left}
 use Rattle.gl_table.proofs.calls.Stands.{as_it_was, may_act, MayStand, with_locks}
 use Rattle.gl_table.specs.declared.table.Table.TheInside.{Inside}
+use Rattle.gl_table.proofs.Words.{refl}
+use Rattle.gl_table.proofs.calls.Orders.{losses_seen}
 use Rattle.gl_table.proofs.table.Table.drop_telling.Goals.{After-remove_node}
 use Rattle.gl_table.proofs.table.Table.drop_telling.Goals as goal
 
@@ -75,3 +77,8 @@ returns-clause-told c =
     told_departed c.self.inside c.self.invariant (goes_with (graph_of c.self.inside.locks.graph) c.args.n) c.args.n c.vacate_branch.new.self
     c.remove_node.new.self (gone at) c.vacate_branch.ensures.state c.vacate_branch.new.told.items tells
     ∙ ap (λ (v : TableView). told (state_of v) (with_locks c.self.inside (state_in c.remove_node.new.self c.vacate_branch.new.self))) c.self.view_is
+
+pub returns-clause-orders : goal.returns-clause-orders
+returns-clause-orders c =
+    losses_seen c.self.inside.locks.ledger.lists.items c.vacate_branch.new.self.lists.items c.vacate_branch.ensures.orders
+    c.args.self.now _ (ap (λ (v : TableView). v.lists) c.self.view_is) refl

@@ -7,6 +7,8 @@ use Rattle.gl_table.proofs.calls.Stands.{MayStand, with_locks}
 use Rattle.gl_table.proofs.inside.Asks.{answer-enters, answer-granted, answer-waits}
 use Rattle.gl_model.proofs.law.Keeps.{txn_there}
 use Rattle.gl_model.proofs.law.Lock.{MayLock}
+use Rattle.gl_table.proofs.calls.Orders.{orders_seen}
+use Rattle.gl_table.proofs.inside.Places.{keep_then}
 use Rattle.gl_table.proofs.table.Table.lock_from.Goals.{In_ok-held, In_err-granted, In-Granted, In-Waiting}
 use Rattle.gl_table.proofs.table.Table.lock_from.Goals as goal
 
@@ -161,3 +163,13 @@ returns-in-Granted-clause-before c = (checked (goal.at.returns-in-Granted-clause
 
 pub returns-in-Waiting-clause-before : goal.returns-in-Waiting-clause-before
 returns-in-Waiting-clause-before c = (checked (goal.at.returns-in-Waiting-clause-before c).In_ok-held).1
+
+pub returns-in-Granted-clause-orders : goal.returns-in-Granted-clause-orders
+returns-in-Granted-clause-orders c =
+    orders_seen c.self.inside.locks.ledger.lists.items c.ask.new.self.lists.items c.ask.ensures.orders
+    c.args.self.now _ (ap (λ (v : TableView). v.lists) c.self.view_is) refl
+
+pub returns-in-Waiting-clause-orders : goal.returns-in-Waiting-clause-orders
+returns-in-Waiting-clause-orders c =
+    orders_seen c.self.inside.locks.ledger.lists.items c.settle_requester.new.self.ledger.lists.items
+    (keep_then c.ask.ensures.orders c.settle_requester.ensures.orders) c.args.self.now _ (ap (λ (v : TableView). v.lists) c.self.view_is) refl

@@ -5,6 +5,9 @@ use Rattle.gl_table.specs.declared.ledger.Ledger.{Ledger}
 use Rattle.gl_table.specs.declared.table.Table.TheInside.{Inside}
 use Rattle.gl_table.proofs.calls.Records.{record_fresh, same_state, stands_grown, stands_placed, stands_roomy, state_placed}
 use Rattle.gl_table.proofs.calls.Stands.{may_act, MayStand, put}
+use Rattle.gl_table.proofs.Words.{refl}
+use Rattle.gl_table.proofs.calls.Orders.{orders_seen}
+use Rattle.gl_table.proofs.inside.Places.{kept_then}
 use Rattle.gl_table.proofs.table.Table.place_under.Goals.{After-add_record_under, After-prepare}
 use Rattle.gl_table.proofs.table.Table.place_under.Goals as goal
 
@@ -90,3 +93,8 @@ returns-clause-state c = let at = (goal.at.returns-clause-state c).After-add_rec
     state_placed (roomy at) (ready at).safe c.args.file c.args.keys.now (free at) c.add_record_under.new.self c.in_ok-rec.rec c.in_ok-rec.ensures.made
     c.args.t.slot c.place.new.self c.place.ensures.state
     ∙ ap (λ (s : State). with_grant (with_graph s (graph_of c.add_record_under.new.self)) c.args.t.slot c.in_ok-rec.rec X) (same at)
+
+pub returns-clause-orders : goal.returns-clause-orders
+returns-clause-orders c =
+    orders_seen c.self.inside.locks.ledger.lists.items c.place.new.self.lists.items (kept_then c.prepare.ensures.kept.lists c.place.ensures.orders)
+    c.args.self.now _ (ap (λ (v : TableView). v.lists) c.self.view_is) refl

@@ -3,6 +3,8 @@ use Rattle.gl_table.proofs.calls.Moves.{agreed_moved, move_call, recount_moved, 
 use Rattle.gl_table.proofs.calls.Moves.{state_moved, told_moved}
 use Rattle.gl_model.proofs.law.Move.{moved_node, Moves}
 use Rattle.gl_table.proofs.calls.Stands.{MayStand, with_locks}
+use Rattle.gl_table.proofs.Words.{refl}
+use Rattle.gl_table.proofs.calls.Orders.{losses_seen}
 use Rattle.gl_table.proofs.table.Table.regraft_telling.Goals.{After-follow}
 use Rattle.gl_table.proofs.table.Table.regraft_telling.Goals as goal
 
@@ -58,3 +60,8 @@ returns-clause-told c = let at = (goal.at.returns-clause-told c).After-follow in
     c.follow.new.told.items c.follow.ensures.moved
     ∙ ap (λ (v : TableView). told (state_of v) (with_locks c.self.inside (state_in c.set_parents.new.self c.follow.new.self)))
     c.self.view_is
+
+pub returns-clause-orders : goal.returns-clause-orders
+returns-clause-orders c =
+    losses_seen c.self.inside.locks.ledger.lists.items c.follow.new.self.lists.items c.follow.ensures.orders
+    c.args.self.now _ (ap (λ (v : TableView). v.lists) c.self.view_is) refl

@@ -1,6 +1,8 @@
 use Rattle.gl_table.proofs.Words.{◌∙◌, ◌≡◌, Active, ap, GoesBack, nodes_of, Some, state_of, status_of, subst, sym, TableView, told, view_of}
 use Rattle.gl_table.proofs.calls.Back.{seen_back, sound_back, told_back}
 use Rattle.gl_table.proofs.calls.Calls.{is_active, test_passed}
+use Rattle.gl_table.proofs.Words.{refl}
+use Rattle.gl_table.proofs.calls.Orders.{losses_seen}
 use Rattle.gl_table.proofs.table.Table.release_since_telling.Goals.{After-release_since}
 use Rattle.gl_table.proofs.table.Table.release_since_telling.Goals as goal
 
@@ -29,3 +31,8 @@ returns-clause-told c =
     told_back c.self.inside c.self.invariant c.args.t.slot (active c) c.release_since.new.self c.args.notices.now.items c.release_since.new.told.items
     c.requires.empty c.release_since.ensures.tells
     ∙ ap (λ (v : TableView). told (state_of v) (state_of (view_of (record c.self.inside { locks = c.release_since.new.self })))) c.self.view_is
+
+pub returns-clause-orders : goal.returns-clause-orders
+returns-clause-orders c =
+    losses_seen c.self.inside.locks.ledger.lists.items c.release_since.new.self.ledger.lists.items c.release_since.ensures.orders
+    c.args.self.now _ (ap (λ (v : TableView). v.lists) c.self.view_is) refl

@@ -5,6 +5,8 @@ use Rattle.gl_table.proofs.calls.Departing.{AreGone, stands_departed, state_depa
 use Rattle.gl_table.proofs.calls.Records.{held_alone, record_gone}
 use Rattle.gl_table.proofs.calls.Stands.{as_it_was, may_act, MayStand, with_locks}
 use Rattle.gl_table.specs.declared.table.Table.TheInside.{Inside}
+use Rattle.gl_table.proofs.Words.{refl}
+use Rattle.gl_table.proofs.calls.Orders.{losses_seen}
 use Rattle.gl_table.proofs.table.Table.remove_telling.Goals.{After-remove_record}
 use Rattle.gl_table.proofs.table.Table.remove_telling.Goals as goal
 
@@ -61,3 +63,8 @@ returns-clause-told c =
     told_departed c.self.inside c.self.invariant (λ q. same_node q c.args.rec) c.args.rec c.vacate.new.self c.remove_record.new.self (gone at)
     c.vacate.ensures.state c.vacate.new.told.items tells
     ∙ ap (λ (v : TableView). told (state_of v) (with_locks c.self.inside (state_in c.remove_record.new.self c.vacate.new.self))) c.self.view_is
+
+pub returns-clause-orders : goal.returns-clause-orders
+returns-clause-orders c =
+    losses_seen c.self.inside.locks.ledger.lists.items c.vacate.new.self.lists.items c.vacate.ensures.orders
+    c.args.self.now _ (ap (λ (v : TableView). v.lists) c.self.view_is) refl

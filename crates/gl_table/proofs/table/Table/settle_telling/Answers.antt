@@ -1,6 +1,8 @@
 use Rattle.gl_table.proofs.Words.{◌∙◌, ap, IsLawful, Settled, SettlesKeeping, state_of, subst, TableView, told, view_of}
 use Rattle.gl_table.proofs.calls.Ends.{kept_settled, sound_settled, state_settled, told_settled}
 use Rattle.gl_model.proofs.telling.Lists.{settled_same, told_settled_same}
+use Rattle.gl_table.proofs.Words.{refl}
+use Rattle.gl_table.proofs.calls.Orders.{losses_seen}
 use Rattle.gl_table.proofs.table.Table.settle_telling.Goals as goal
 
 pub invariant_of-self : goal.invariant_of-self
@@ -33,3 +35,8 @@ returns-clause-idle c = λ none. (
   settled_same (state_of c.args.self.now).victims (state_of c.args.self.now)
       (state_of (view_of (record c.self.inside { locks = c.settle.new.self; deadlock = c.settle.new.deadlock }))) c.args.t.slot none (returns-clause-state c),
 )
+
+pub returns-clause-orders : goal.returns-clause-orders
+returns-clause-orders c =
+    losses_seen c.self.inside.locks.ledger.lists.items c.settle.new.self.ledger.lists.items c.settle.ensures.orders
+    c.args.self.now _ (ap (λ (v : TableView). v.lists) c.self.view_is) refl

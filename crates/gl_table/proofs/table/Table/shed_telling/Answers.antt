@@ -1,6 +1,8 @@
 use Rattle.gl_table.proofs.Words.{◌-◌, ◌∙◌, ◌≡◌, Active, ap, covered_children, held_children, is_at_least, S, shed, Some, state_of, status_of, subst, sym}
 use Rattle.gl_table.proofs.Words.{TableView, told, true, view_of}
 use Rattle.gl_table.proofs.calls.Records.{no_more_kept, number_kept, number_released, sound_shed, state_shed, told_shed}
+use Rattle.gl_table.proofs.Words.{refl}
+use Rattle.gl_table.proofs.calls.Orders.{lost_seen}
 use Rattle.gl_table.proofs.table.Table.shed_telling.Goals as goal
 
 pub overflow_sub-result : goal.overflow_sub-result
@@ -51,3 +53,8 @@ returns-clause-told c =
     c.shed.new.self c.shed.ensures.state
     c.args.notices.now.items c.shed.new.told.items c.requires.empty c.shed.ensures.tells
     ∙ ap (λ (v : TableView). told (state_of v) (state_of (view_of (record c.self.inside { locks = c.shed.new.self })))) c.self.view_is
+
+pub returns-clause-orders : goal.returns-clause-orders
+returns-clause-orders c =
+    lost_seen c.self.inside.locks.ledger.lists.items c.shed.new.self.ledger.lists.items c.shed.ensures.orders
+    c.args.self.now (view_of (record c.self.inside { locks = c.shed.new.self })) (ap (λ (v : TableView). v.lists) c.self.view_is) refl

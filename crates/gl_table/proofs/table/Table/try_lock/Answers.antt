@@ -4,6 +4,8 @@ use Rattle.gl_modes.specs.declared.refusal.Refusal.TheVariants as no
 use Rattle.gl_table.proofs.calls.Locking.{can_ask, decided, may_ask, may_lock_by, mode_tried, same_enters, stands_tried, state_tried, tests-seen, try_refused}
 use Rattle.gl_table.proofs.calls.Stands.{MayStand, with_locks}
 use Rattle.gl_model.proofs.law.Lock.{MayLock}
+use Rattle.gl_table.proofs.Words.{ap}
+use Rattle.gl_table.proofs.calls.Orders.{if_accepted, orders_seen}
 use Rattle.gl_table.proofs.table.Table.try_lock.Goals.{After-grant, In_err-held, In_ok-held}
 use Rattle.gl_table.proofs.table.Table.try_lock.Goals as goal
 
@@ -82,3 +84,8 @@ returns-clause-refuses c =
     let is = decided c.self.inside c.self.invariant c.args.self.now c.self.view_is c.args.t c.args.n c.args.mode
     (passed (goal.at.returns-clause-refuses c).In_ok-held) true c.if-not-would_grant.ensures in
     subst (λ (o : Option Refusal). Refuses {T = Mode} o c.grant.result) (sym is) c.grant.ensures.no_memory
+
+pub returns-clause-orders : goal.returns-clause-orders
+returns-clause-orders c =
+    if_accepted c.grant.result (orders_seen c.self.inside.locks.ledger.lists.items c.grant.new.self.lists.items c.grant.ensures.orders
+    c.args.self.now _ (ap (λ (v : TableView). v.lists) c.self.view_is) refl)
