@@ -7,5 +7,6 @@ pub mod Delivered
 pub mod GoingOn
 pub mod Paths
 pub mod RowCalls
+pub mod RowLocking
 pub mod Runs
 pub mod TriedPaths

@@ -151,8 +151,8 @@ impl Waiting {
 
     /// Carries out a request, with the notices of a single lock put into an empty list. If it waits, its transaction is a
     /// waiter from now on, with at most this time to wait. A node that the transaction does not hold may be requested for
-    /// an instant: its lock is released as it is granted. Waiters whose wait the request ends go on or end; it may be one
-    /// of them.
+    /// an instant: its lock is released as it is granted. `instant` says nothing of a row. Waiters whose wait the request
+    /// ends go on or end; it may be one of them.
     pub fn ask(
         &mut self,
         txn: TxnId,
@@ -165,7 +165,7 @@ impl Waiting {
         ensures { Asks self.old txn request instant until result told.new.items self.new }
     {
         self.delivery.law();
-        let instant = is_for_instant(self.delivery.manager(), txn, request.node(), instant);
+        let instant = is_for_instant(self.delivery.manager(), txn, request, instant);
         let (came, ended) = request_now(&mut self.delivery, txn, request, told);
         self.delivery.law();
         match came {
@@ -354,11 +354,17 @@ impl Waiting {
     }
 }
 
-/// Whether a request is for an instant: it is said so, and its transaction does not hold the node.
-fn is_for_instant(manager: &Manager, txn: TxnId, node: NodeId, instant: bool) -> bool
-    ensures { result ≡ is_for_instant (state_of manager.now) txn node instant }
+/// Whether a request is for an instant: it is said so, and its transaction does not hold the node. No request for a row
+/// is.
+fn is_for_instant(manager: &Manager, txn: TxnId, request: Request, instant: bool) -> bool
+    ensures { result ≡ is_for_instant (state_of manager.now) txn request instant }
 {
-    instant && matches!(manager.mode_on(txn, node), Some(Mode::NL))
+    match request {
+        Request::Node { node, .. } | Request::Path { node, .. } => {
+            instant && matches!(manager.mode_on(txn, node), Some(Mode::NL))
+        }
+        Request::Row { .. } => false,
+    }
 }
 
 /// Whether a command was done.
