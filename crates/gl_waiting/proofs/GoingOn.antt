@@ -197,14 +197,18 @@ goes_on_path w verdict node mode is = by w.request is
         row (Ok grant) e = cc e
         row (Err x) e = cc e
 
+-- a verdict that is a grant in this mode
+abbrev WasGranted : Result Grant Stop → Mode → Type 0
+WasGranted verdict granted = (grant : Grant) × (grant.mode ≡ granted) × (verdict ≡ Ok grant)
+
 -- a row is locked again for the keys and the mode of its request, after a grant
 pub again_row : (w : Waiter) (verdict : Result Grant Stop) (row : Row) (keys : RowKeys) (mode granted : Mode)
     → next.LockAgain row keys mode granted ≡ next_of w verdict
-    → (w.request ≡ request.Row row keys mode) × (grant : Grant) × (grant.mode ≡ granted) × (verdict ≡ Ok grant)
+    → (w.request ≡ request.Row row keys mode) × (WasGranted verdict granted)
 again_row w verdict row keys mode granted is = by w.request is
   where
     by : (asked : Request) → next.LockAgain row keys mode granted ≡ next_after asked w.at verdict
-        → (asked ≡ request.Row row keys mode) × (grant : Grant) × (grant.mode ≡ granted) × (verdict ≡ Ok grant)
+        → (asked ≡ request.Row row keys mode) × (WasGranted verdict granted)
     by (request.Node n m) e = absurd (cc e)
     by (request.Path n m) e = absurd (path (has_more n w.at verdict) e)
       where
@@ -214,13 +218,13 @@ again_row w verdict row keys mode granted is = by w.request is
     by (request.Row r k m) e = again verdict e
       where
         again : (v : Result Grant Stop) → next.LockAgain row keys mode granted ≡ next_of_row r k m w.at v
-            → (request.Row r k m ≡ request.Row row keys mode) × (grant : Grant) × (grant.mode ≡ granted) × (v ≡ Ok grant)
+            → (request.Row r k m ≡ request.Row row keys mode) × (WasGranted v granted)
         again (Ok grant) e = (cc e, (grant, cc e, refl))
         again (Err x) e = absurd (cc e)
 
 -- a wait that was granted so
 pub granted_in : (d : DeliveryView) (w : Waiter) (granted : Mode) (verdict : Result Grant Stop)
-    → Some verdict ≡ verdict_of (state_of d.manager) d.boxes w.txn w.at w.wanted → (grant : Grant) × (grant.mode ≡ granted) × (verdict ≡ Ok grant)
+    → Some verdict ≡ verdict_of (state_of d.manager) d.boxes w.txn w.at w.wanted → WasGranted verdict granted
     → IsGrantedIn d w granted
 granted_in d w granted verdict became (grant, mode, is) = (grant, mode, sym became ∙ ap (λ (x : Result Grant Stop). Some x) is)
 

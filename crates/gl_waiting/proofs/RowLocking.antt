@@ -1,7 +1,6 @@
 -- A row's lock, by its outcome: what it does, that it is a call of a delivery, and that a transaction that waits does not wait for it.
-use Rattle.gl_slots.specs.declared.slots.Slots.{Slots}
-use Rattle.std.specs.Prelude.{◌≡◌, ◌&&◌, Bool, true, false, Option, Some, None, Result, Ok, Err}
-use Rattle.std.proofs.Common.{refl, sym, ap, subst, ◌∙◌, inl, inr}
+use Rattle.std.specs.Prelude.{◌≡◌, Bool, true, false, Option, Some, None, Result, Ok, Err}
+use Rattle.std.proofs.Common.{refl, sym, subst}
 use Rattle.gl_modes.specs.declared.mode.Mode.{Mode}
 use Rattle.gl_modes.specs.declared.node.NodeId.{NodeId}
 use Rattle.gl_model.specs.declared.answers.Locked.{Locked}
@@ -9,7 +8,6 @@ use Rattle.gl_model.specs.declared.answers.Locked.TheVariants as locked
 use Rattle.gl_model.specs.declared.txn.TxnId.{TxnId}
 use Rattle.gl_model.specs.State.{State}
 use Rattle.gl_model.specs.Tellings.{Told}
-use Rattle.gl_catalog.specs.Manager.{ManagerView, state_of}
 use Rattle.gl_registry.specs.declared.answer.RowAnswer.{RowAnswer}
 use Rattle.gl_registry.specs.declared.answer.RowLocked.{RowLocked}
 use Rattle.gl_registry.specs.declared.answer.RowRefusal.{RowRefusal}
@@ -19,9 +17,8 @@ use Rattle.gl_registry.specs.Applying.{AppliesCall, CarriesOut, answer_in, own_c
 use Rattle.gl_registry.specs.Locking.{LocksRow, Wish}
 use Rattle.gl_waiting.specs.Delivering.{DeliveryView, registry_in}
 use Rattle.gl_waiting.specs.Ends.{is_given_back}
-use Rattle.gl_waiting.specs.RowLocks.{IsRowLockAnswer, LocksRowAs, after_grant, own_granted, row_came_as, row_held, row_lock}
+use Rattle.gl_waiting.specs.RowLocks.{IsRowLockAnswer, LocksRowAs, after_grant, row_came_as, row_lock}
 use Rattle.gl_waiting.specs.Waiters.{waits_as}
-use Rattle.gl_waiting.specs.declared.waiter.Came.{Came}
 use Rattle.gl_waiting.specs.declared.waiter.Came.TheVariants as came
 
 -- two outcomes with one answer are one

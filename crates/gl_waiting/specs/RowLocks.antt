@@ -1,5 +1,5 @@
 -- A row's lock, and what a request for a row comes to by it.
-use Rattle.std.specs.Prelude.{◌≡◌, ◌&&◌, Bool, List, ℕ, Option, Some, None, Result, Ok, Err, if◌then◌else◌}
+use Rattle.std.specs.Prelude.{◌≡◌, Bool, List, ℕ, Option, Some, None, Result, Ok, Err, if◌then◌else◌}
 use denote.Bor.{Bor}
 use Rattle.gl_modes.specs.declared.mode.Mode.{Mode}
 use Rattle.gl_modes.specs.declared.node.NodeId.{NodeId}

@@ -114,15 +114,10 @@ fn a_row_has_other_keys(rt: HostRuntime) {
 fn a_file_without_rows_is_told_so(rt: HostRuntime) {
     let mut scene = set_up(&rt, rt.alloc());
     let root = made(&mut scene.waiting, Command::Inner { parents: &[] });
-    let file = made(
-        &mut scene.waiting,
-        Command::File { parents: &[root] },
-    );
+    let file = made(&mut scene.waiting, Command::File { parents: &[root] });
     let mut told = Told::new();
     let asked = row(file, &[]);
-    let came = scene
-        .waiting
-        .ask(scene.old, asked, false, None, &mut told);
+    let came = scene.waiting.ask(scene.old, asked, false, None, &mut told);
     same(&rt, came, Came::Ended(Outcome::NotRows));
     let abort = Command::Abort { txn: scene.old };
     same(&rt, serve(&mut scene.waiting, abort), Some(Answer::Done));

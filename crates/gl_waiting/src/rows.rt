@@ -42,11 +42,13 @@ fn row_came_of(manager: &Manager, txn: TxnId, locked: Result<RowLocked, RowRefus
     ensures { result ≡ row_came_of (state_of manager.now) txn locked }
 {
     match locked {
-        Ok(RowLocked {
-            node,
-            locked,
-            own_keys,
-        }) => match locked {
+        Ok(
+            RowLocked {
+                node,
+                locked,
+                own_keys,
+            },
+        ) => match locked {
             Locked::Granted(mode) => Came::Ended(row_held(node, mode, own_keys)),
             Locked::Victim => Came::Ended(Outcome::Victim(node)),
             Locked::Waiting => wait_of(manager, txn),
@@ -86,8 +88,7 @@ pub(crate) fn lock_again(
     ensures low { delivery.old.manager.accepted ≤ delivery.new.manager.accepted }
 {
     let mut told = Told::new();
-    let (locked, ended) =
-        delivery.lock_row(waiter.txn, row, keys.as_slice(), mode, &mut told);
+    let (locked, ended) = delivery.lock_row(waiter.txn, row, keys.as_slice(), mode, &mut told);
     (again_as(waiter.at, granted, locked), ended)
 }
 
@@ -96,11 +97,13 @@ fn again_as(at: NodeId, granted: Mode, locked: Result<RowLocked, RowRefusal>) ->
     ensures { result ≡ again_as at granted locked }
 {
     match locked {
-        Ok(RowLocked {
-            node,
-            locked: Locked::Granted(mode),
-            own_keys: true,
-        }) => Outcome::RowGranted { node, mode },
+        Ok(
+            RowLocked {
+                node,
+                locked: Locked::Granted(mode),
+                own_keys: true,
+            },
+        ) => Outcome::RowGranted { node, mode },
         _ => Outcome::OtherKeys {
             node: at,
             mode: granted,

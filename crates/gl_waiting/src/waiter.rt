@@ -102,7 +102,10 @@ pub(crate) enum Next {
     /// The request has ended.
     End(Outcome),
     /// The rest of a path is to be locked, up to this node in this mode.
-    GoOn { node: NodeId, mode: Mode },
+    GoOn {
+        node: NodeId,
+        mode: Mode,
+    },
     /// A row was granted in this mode, and its lock is to be requested again: that tells whether it has these keys.
     LockAgain {
         row: Row,
