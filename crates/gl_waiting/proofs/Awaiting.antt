@@ -146,6 +146,11 @@ set_apart (b ∷ places) zero (suc k) p apart = refl
 set_apart (b ∷ places) (suc i) zero p apart = refl
 set_apart (b ∷ places) (suc i) (suc k) p apart = set_apart places i k p (λ is. apart (ap suc is))
 
+pub set_beyond : (places : List Place) (i : ℕ) (p : Place) → length places ≤ i → slice_set places i p ≡ places
+set_beyond [] i p less = refl
+set_beyond (b ∷ places) zero p less = absurd (omega (arith, less))
+set_beyond (b ∷ places) (suc i) p less = ap (λ (x : List Place). b ∷ x) (set_beyond places i p (omega (arith, less)))
+
 pub same_slot : (u k : ℕ) → (u == k) ≡ true → u ≡ k
 same_slot u k e = grind (arith, nat_tests)
 

@@ -8,5 +8,6 @@ pub mod GoingOn
 pub mod Paths
 pub mod RowCalls
 pub mod RowLocking
+pub mod RowTrying
 pub mod Runs
 pub mod TriedPaths

@@ -17,7 +17,10 @@ use Rattle.gl_waiting.specs.Delivering.{Carries, Delivered, DeliveryView, lock_s
 use Rattle.gl_waiting.specs.Ends.{EndsBetween, EndsInTime, EndsLate, GivesBack, GoesOn, PlaceGoes, PlaceGoesOn}
 use Rattle.gl_waiting.specs.Going.{Calls, IsRun}
 use Rattle.gl_waiting.specs.Paths.{LocksThrough}
+use Rattle.gl_registry.specs.Locking.{Wish}
 use Rattle.gl_waiting.specs.RowLocks.{RequestsRow}
+use Rattle.gl_waiting.specs.RowTries.{BeginsNoWait, KeepsQueues, TriesRow}
+use Rattle.gl_waiting.specs.declared.tries.RowTried.{RowTried}
 use Rattle.gl_waiting.specs.Waiters.{AnswersIn, HasWaiter, outcome_of, IsInTime, came_of, place_at, waiter_in}
 use Rattle.gl_waiting.specs.Waiting.{WaitingView, delivery_in}
 use Rattle.std.specs.List.{list_all}
@@ -111,6 +114,16 @@ pub record TriesThere (v : WaitingView) (t : TxnId) (ask : Ask) (keep : Keep) (r
   pub goes : GoesOn served v.places (delivery_in v') v'.places
   pub queue : v'.queue ≡ v.queue
 
+-- a row is tried, and then waiters go on
+pub record TriesRowThere (v : WaitingView) (w : Wish) (result : RowTried) (told : Told) (v' : WaitingView) : Type 0 where
+  pub served : DeliveryView
+  pub tries : TriesRow w (delivery_in v) result told served
+  pub waits : BeginsNoWait (state_of v.manager) (state_of served.manager)
+  pub queues : KeepsQueues result (state_of v.manager) (state_of served.manager)
+  pub run : IsRun (state_of v.manager) (state_of served.manager)
+  pub goes : GoesOn served v.places (delivery_in v') v'.places
+  pub queue : v'.queue ≡ v.queue
+
 -- the waiter that a request leaves waiting for this node
 abbrev pub waiter_for : TxnId → Request → Bool → Option ℕ → NodeId → Mode → Waiter
 waiter_for t asked instant until at wanted =
@@ -159,6 +172,15 @@ pub record Asks (v : WaitingView) (t : TxnId) (asked : Request) (instant : Bool)
   pub goes : GoesOn left (registered t asked (is_for_instant (state_of v.manager) t asked instant) until first v.places) (delivery_in v') after
   pub replies : Replies t first after c v'.places
   pub queue : v'.queue ≡ v.queue
+
+-- a table without the waiter of a slot whose request came to this, if it waits
+abbrev pub unregistered : ℕ → Came → WaitingView → WaitingView
+unregistered slot (came.Ended outcome) v = v
+unregistered slot (came.Waits at wanted) v = record v { places = slice_set v.places slot place.Empty }
+
+-- a request is carried out as an ask, and leaves no waiter
+abbrev pub AsksOnce : WaitingView → TxnId → Request → Bool → Came → Told → WaitingView → Type 0
+AsksOnce v t asked instant c told v' = (mid : WaitingView) × Asks v t asked instant None c told mid × (v' ≡ unregistered t.slot c mid)
 
 -- the transaction has a waiter, whichever
 abbrev pub IsAwaitedAlready : List Place → TxnId → Type 0

@@ -7,6 +7,7 @@ pub mod Keys
 pub mod Owned
 pub mod Paths
 pub mod RowLocks
+pub mod RowTries
 pub mod Tries
 pub mod Waiters
 pub mod Waiting

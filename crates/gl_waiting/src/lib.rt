@@ -19,6 +19,6 @@ mod waiting;
 pub use begins::{QueuedBegin, Turn};
 pub use delivery::Delivery;
 pub use keys::RowKeys;
-pub use tries::{Keep, Tried};
+pub use tries::{Keep, RowTried, Tried};
 pub use waiter::{Came, Outcome, Request};
 pub use waiting::Waiting;

@@ -1,10 +1,10 @@
 //! Requests for rows, in a small table with ample memory.
 
 use crate::tests::{commit, ends, made, same, serve, table};
-use crate::{Came, Outcome, Request, RowKeys, Waiting};
+use crate::{Came, Outcome, Request, RowKeys, RowTried, Waiting};
 use gl_catalog::{Answer, Command};
 use gl_modes::Mode::{IX, X};
-use gl_modes::NodeId;
+use gl_modes::{NodeId, Refusal};
 use gl_registry::{Row, RowAnswer, RowCall};
 use gl_table::{Told, TxnId};
 use std::alloc::Global;
@@ -121,4 +121,53 @@ fn a_file_without_rows_is_told_so(rt: HostRuntime) {
     same(&rt, came, Came::Ended(Outcome::NotRows));
     let abort = Command::Abort { txn: scene.old };
     same(&rt, serve(&mut scene.waiting, abort), Some(Answer::Done));
+}
+
+fn try_row(scene: &mut Scene, txn: TxnId, keys: &[u64]) -> RowTried {
+    let mut told = Told::new();
+    let row = Row {
+        file: scene.file,
+        number: 7,
+    };
+    scene.waiting.try_row(txn, row, keys, X, &mut told)
+}
+
+#[test]
+fn a_row_is_tried(rt: HostRuntime) {
+    let mut scene = set_up(&rt, rt.alloc());
+    let (old, young) = (scene.old, scene.young);
+    let tried = try_row(&mut scene, old, &[]);
+    let node = node(&rt, &scene);
+    same(&rt, tried, RowTried::Granted { node, mode: X });
+    let others = RowTried::OtherKeys { node, mode: X };
+    same(&rt, try_row(&mut scene, old, &[5]), others);
+    same(
+        &rt,
+        try_row(&mut scene, young, &[]),
+        RowTried::WouldBlock(node),
+    );
+    same(&rt, scene.waiting.manager().waiting(young), None);
+    commit(&rt, &mut scene.waiting, old);
+    let wrong = RowTried::Refused(Refusal::BadKeys);
+    same(&rt, try_row(&mut scene, young, &[5]), wrong);
+}
+
+#[test]
+fn a_command_of_a_list_leaves_no_waiter(rt: HostRuntime) {
+    let mut scene = set_up(&rt, rt.alloc());
+    let (old, young) = (scene.old, scene.young);
+    let _ = ask(&mut scene, old, &[]);
+    let node = node(&rt, &scene);
+    let mut told = Told::new();
+    let asked = row(scene.file, &[]);
+    let came = scene.waiting.request(young, asked, false, &mut told);
+    let waits = Came::Waits {
+        at: node,
+        wanted: X,
+    };
+    same(&rt, came, waits);
+    let awaited = scene.waiting.await_lock(young, node, X, None);
+    same(&rt, awaited, Some(waits));
+    commit(&rt, &mut scene.waiting, old);
+    ends(&rt, &mut scene.waiting, young, Outcome::Granted(X));
 }

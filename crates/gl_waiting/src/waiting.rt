@@ -7,8 +7,8 @@ ghost use Rattle.gl_registry.specs.Rows.{name_of};
 ghost use Rattle.gl_graph.specs.Refusals.{max_count};
 ghost use Rattle.gl_waiting.specs.Ends.{EndsInTime, PlaceGoes};
 ghost use Rattle.gl_waiting.specs.Going.{Calls};
-ghost use Rattle.gl_waiting.specs.Asking.{Asks, Awaits, Begins, BeginsInTurn, BeginsNext, Expires, IsBeginAnswer, RollsBackTo, Serves, ServesRow, TimesOut};
-ghost use Rattle.gl_waiting.specs.Asking.{TriesThere, begin_of, begin_said, is_done, is_for_instant, is_too_many};
+ghost use Rattle.gl_waiting.specs.Asking.{Asks, AsksOnce, Awaits, Begins, BeginsInTurn, BeginsNext, Expires, IsBeginAnswer, RollsBackTo, Serves, ServesRow, TimesOut};
+ghost use Rattle.gl_waiting.specs.Asking.{TriesRowThere, TriesThere, begin_of, begin_said, is_done, is_for_instant, is_too_many};
 ghost use Rattle.gl_waiting.specs.Begins.{earliest_of, has_word, is_late, without_first};
 ghost use Rattle.std.specs.List.{find, list_any};
 ghost use Rattle.gl_waiting.specs.Waiters.{Await, IsInTime, TakesEnd, earliest_until, place_at};
@@ -18,7 +18,7 @@ ghost use Rattle.gl_waiting.specs.declared.waiter.Place.TheVariants.{Empty as em
 use crate::begins::{BeginQueue, QueuedBegin, Turn, is_over};
 use crate::delivery::Delivery;
 use crate::places::Places;
-use crate::tries::{Keep, Tried};
+use crate::tries::{Keep, RowTried, Tried};
 use crate::waiter::{Came, Outcome, Place, Request, Waiter, outcome_of};
 use crate::waiters::{give_back, request_now, settle};
 use gl_catalog::{Answer, Command, Manager};
@@ -149,6 +149,24 @@ impl Waiting {
         tried
     }
 
+    /// Tries to lock a row that has these keys, as `Delivery::try_row`. Waiters whose wait a release ends go on or end.
+    pub fn try_row(
+        &mut self,
+        txn: TxnId,
+        row: Row,
+        keys: &[u64],
+        mode: Mode,
+        told: &mut Told,
+    ) -> RowTried
+        requires empty { told.old.items ≡ [] }
+        ensures { TriesRowThere self.old (record { txn = txn; row = row; keys = keys.entry; mode = mode }) result told.new.items self.new }
+    {
+        self.delivery.law();
+        let (tried, ended) = self.delivery.try_row(txn, row, keys, mode, told);
+        settle(&mut self.delivery, &mut self.places, ended);
+        tried
+    }
+
     /// Carries out a request, with the notices of a single lock put into an empty list. If it waits, its transaction is a
     /// waiter from now on, with at most this time to wait. A node that the transaction does not hold may be requested for
     /// an instant: its lock is released as it is granted. `instant` says nothing of a row. Waiters whose wait the request
@@ -187,6 +205,23 @@ impl Waiting {
                 self.places.put(txn.slot, Place::Waits(waiter));
                 settle(&mut self.delivery, &mut self.places, ended);
                 self.places.answer(txn.slot, came)
+            }
+        }
+    }
+
+    /// Carries out a request as `ask`, but leaves no waiter: if the request still waits after all waiters have gone on, the
+    /// answer says for which node and in which mode, and `await_lock` makes a waiter of its transaction. An instant that
+    /// still waits is awaited as a lock that stays.
+    pub fn request(&mut self, txn: TxnId, request: Request, instant: bool, told: &mut Told) -> Came
+        requires empty { told.old.items ≡ [] }
+        ensures { AsksOnce self.old txn request instant result told.new.items self.new }
+    {
+        let came = self.ask(txn, request, instant, None, told);
+        match came {
+            Came::Ended(_) => came,
+            Came::Waits { .. } => {
+                self.places.clear(txn.slot);
+                came
             }
         }
     }
