@@ -133,7 +133,7 @@ module _ (d d' : DeliveryView) (t : TxnId) (told : Told) (busy : IsBusy (status_
           let waits = row_waits_as (state_of d'.manager) t x.node x.locked x.own_keys at wanted (e ∙ ap (row_came_of (state_of d'.manager) t) so) in
           row_waits_not d.manager d'.manager d.rows d'.rows w told busy x waits.0
           (subst (λ (r : Result RowLocked RowRefusal). LocksRow d.manager d.rows w r told d'.manager d'.rows) so
-          (locks_row d d' w h.result told h.locks.locks))
+          (locks_row d d' w h.result told h.locks.locks.locks))
       by (Err (row_no.Refused r)) so e = cc (e ∙ ap (row_came_of (state_of d'.manager) t) so)
       by (Err row_no.NotRows) so e = cc (e ∙ ap (row_came_of (state_of d'.manager) t) so)
 

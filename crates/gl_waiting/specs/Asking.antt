@@ -117,7 +117,7 @@ pub record TriesThere (v : WaitingView) (t : TxnId) (ask : Ask) (keep : Keep) (r
 -- a row is tried, and then waiters go on
 pub record TriesRowThere (v : WaitingView) (w : Wish) (result : RowTried) (told : Told) (v' : WaitingView) : Type 0 where
   pub served : DeliveryView
-  pub tries : TriesRow w (delivery_in v) result told served
+  pub tries : (ended : Slots) × TriesRow w (delivery_in v) result told ended served
   pub waits : BeginsNoWait (state_of v.manager) (state_of served.manager)
   pub queues : KeepsQueues result (state_of v.manager) (state_of served.manager)
   pub run : IsRun (state_of v.manager) (state_of served.manager)

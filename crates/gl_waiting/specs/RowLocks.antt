@@ -1,6 +1,7 @@
 -- A row's lock, and what a request for a row comes to by it.
 use Rattle.std.specs.Prelude.{◌≡◌, Bool, List, ℕ, Option, Some, None, Result, Ok, Err, if◌then◌else◌}
 use denote.Bor.{Bor}
+use Rattle.gl_slots.specs.declared.slots.Slots.{Slots}
 use Rattle.gl_modes.specs.declared.mode.Mode.{Mode}
 use Rattle.gl_modes.specs.declared.node.NodeId.{NodeId}
 use Rattle.gl_model.specs.declared.answers.Locked.{Locked}
@@ -19,7 +20,7 @@ use Rattle.gl_registry.specs.declared.row.Row.{Row}
 use Rattle.gl_registry.specs.Answers.{lock_said}
 use Rattle.gl_registry.specs.Applying.{AppliesCall, CarriesOut, answer_in, own_command}
 use Rattle.gl_registry.specs.Locking.{Wish}
-use Rattle.gl_waiting.specs.Delivering.{DeliveryView, registry_in}
+use Rattle.gl_waiting.specs.Delivering.{Carries, DeliveryView, registry_in}
 use Rattle.gl_waiting.specs.Keys.{keys_in}
 use Rattle.gl_waiting.specs.Waiters.{waits_as}
 use Rattle.gl_waiting.specs.declared.keys.RowKeys.{RowKeys}
@@ -41,12 +42,18 @@ pub record LocksRowAs (d : DeliveryView) (w : Wish) (result : Result RowLocked R
   pub applies : AppliesCall (registry_in d) (row_lock w) (lock_said result) told (registry_in d')
   pub own : CarriesOut d.manager (own_command d'.rows (row_lock w)) (answer_in (lock_said result)) told d'.manager
 
+-- a row is locked in a delivery: its notices are in their boxes, and whose waits that ended is known
+pub record LocksRowIn (d : DeliveryView) (w : Wish) (result : Result RowLocked RowRefusal) (told : Told) (ended : Slots) (d' : DeliveryView) : Type 0 where
+  pub locks : LocksRowAs d w result told d'
+  pub carries : Carries d (own_command d'.rows (row_lock w)) told ended d'
+
 -- a row is locked with the keys of a request
 pub record LocksRowWith (d : DeliveryView) (t : TxnId) (row : Row) (keys : RowKeys) (mode : Mode) (result : Result RowLocked RowRefusal) (told : Told)
     (d' : DeliveryView) : Type 0 where
   pub lent : Bor (List ℕ)
   pub same : lent.now ≡ keys_in keys
-  pub locks : LocksRowAs d (record { txn = t; row = row; keys = lent; mode = mode }) result told d'
+  pub ended : Slots
+  pub locks : LocksRowIn d (record { txn = t; row = row; keys = lent; mode = mode }) result told ended d'
 
 -- the outcome for a row that is held by this node, by whether it has the keys of the request
 abbrev pub row_held : NodeId → Mode → Bool → Outcome

@@ -1,5 +1,7 @@
 -- Tries of rows: locks that are granted at once, or refused.
 use Rattle.std.specs.Prelude.{◌≡◌, ◌≢◌, ℕ, Bool, true, false, not, ◌&&◌, [], Option, Some, None, Result, Ok, Err, OnErr, OnOk, if◌then◌else◌}
+use Rattle.gl_slots.specs.declared.slots.Slots.{Slots}
+use Rattle.gl_slots.specs.Slots.{HasNoSlot}
 use Rattle.gl_modes.specs.declared.mode.Mode.{Mode}
 use Rattle.gl_modes.specs.declared.mode.Mode.TheVariants.{NL}
 use Rattle.gl_modes.specs.declared.node.NodeId.{NodeId}
@@ -23,8 +25,8 @@ use Rattle.gl_registry.specs.declared.call.RowCall.TheVariants as call
 use Rattle.gl_registry.specs.Applying.{AppliesCall, CarriesOut, answer_in, own_command}
 use Rattle.gl_registry.specs.Locking.{Wish}
 use Rattle.gl_registry.specs.Rows.{name_of}
-use Rattle.gl_waiting.specs.Delivering.{DeliveryView, registry_in}
-use Rattle.gl_waiting.specs.RowLocks.{LocksRowAs}
+use Rattle.gl_waiting.specs.Delivering.{Carries, DeliveryView, registry_in}
+use Rattle.gl_waiting.specs.RowLocks.{LocksRowIn}
 use Rattle.gl_waiting.specs.Tries.{try_of}
 use Rattle.gl_waiting.specs.declared.tries.RowTried.{RowTried}
 use Rattle.gl_waiting.specs.declared.tries.RowTried.TheVariants as tried
@@ -87,45 +89,48 @@ KeepsQueues (tried.Refused r) s s' = (q : NodeId) → s'.queue q ≡ s.queue q
 KeepsQueues tried.NotRows s s' = (q : NodeId) → s'.queue q ≡ s.queue q
 
 -- a row that was refused is released, and the refusal is answered; if the release is refused too, the row stays held
-pub record GivesRowBack (why : RowRefusal) (n : NodeId) (w : Wish) (d : DeliveryView) (came : RowTried) (told : Told) (d' : DeliveryView) : Type 0 where
+pub record GivesRowBack (why : RowRefusal) (n : NodeId) (w : Wish) (d : DeliveryView) (came : RowTried) (told : Told) (ended : Slots) (d' : DeliveryView)
+    : Type 0 where
   pub answer : RowAnswer
   pub applies : AppliesCall (registry_in d) (call.Unlock w.txn w.row) answer told (registry_in d')
   pub own : CarriesOut d.manager (own_command d.rows (call.Unlock w.txn w.row)) (answer_in answer) told d'.manager
+  pub carries : Carries d (own_command d.rows (call.Unlock w.txn w.row)) told ended d'
   pub came_to : came ≡ (if is_released answer then row_refused why else tried.OtherKeys n w.mode)
 
--- what a row's lock is followed by that was requested after a try of its node: if it is refused, a row that was not held before is released
-abbrev pub FollowsLock : Bool → NodeId → Wish → Result RowLocked RowRefusal → DeliveryView → RowTried → Told → DeliveryView → Type 0
-FollowsLock held n w (Ok x) d came told d' = (lock_of_tried came ≡ Ok x) × (d' ≡ d)
-FollowsLock true n w (Err why) d came told d' = (came ≡ tried.OtherKeys n w.mode) × (told ≡ []) × (d' ≡ d)
-FollowsLock false n w (Err why) d came told d' = GivesRowBack why n w d came told d'
+-- what follows a row's lock that was requested after a try of its node: if it is refused, a row that was not held before is released
+abbrev pub FollowsLock : Bool → NodeId → Wish → Result RowLocked RowRefusal → DeliveryView → RowTried → Told → Slots → DeliveryView → Type 0
+FollowsLock held n w (Ok x) d came told ended d' = (lock_of_tried came ≡ Ok x) × (d' ≡ d)
+FollowsLock true n w (Err why) d came told ended d' = (came ≡ tried.OtherKeys n w.mode) × (told ≡ []) × HasNoSlot ended × (d' ≡ d)
+FollowsLock false n w (Err why) d came told ended d' = GivesRowBack why n w d came told ended d'
 
 -- a row whose node a try has locked is locked as a row, in the mode in which its node is held
-pub record NotesRow (held : Bool) (n : NodeId) (w : Wish) (d : DeliveryView) (came : RowTried) (told : Told) (d' : DeliveryView) : Type 0 where
+pub record NotesRow (held : Bool) (n : NodeId) (w : Wish) (d : DeliveryView) (came : RowTried) (told : Told) (ended : Slots) (d' : DeliveryView) : Type 0 where
   pub result : Result RowLocked RowRefusal
-  pub first : Told
+  pub first_told : Told
+  pub first_ended : Slots
   pub mid : DeliveryView
-  pub locks : LocksRowAs d w result first mid
-  pub told_by : OnOk result (told ≡ first)
-  pub follows : FollowsLock held n w result mid came told d'
+  pub locks : LocksRowIn d w result first_told first_ended mid
+  pub tells : OnOk result ((told ≡ first_told) × (ended ≡ first_ended))
+  pub follows : FollowsLock held n w result mid came told ended d'
 
 -- after a try of a row's node that was refused nothing changes; a row whose node was granted is locked as a row
-abbrev pub FollowsTry : Result Mode Refusal → Bool → NodeId → Wish → DeliveryView → RowTried → Told → DeliveryView → Type 0
-FollowsTry (Err r) held n w d came told d' = (came ≡ refused_at n r) × (told ≡ []) × (d' ≡ d)
-FollowsTry (Ok m) held n w d came told d' = NotesRow held n (record w { mode = m }) d came told d'
+abbrev pub FollowsTry : Result Mode Refusal → Bool → NodeId → Wish → DeliveryView → RowTried → Told → Slots → DeliveryView → Type 0
+FollowsTry (Err r) held n w d came told ended d' = (came ≡ refused_at n r) × (told ≡ []) × HasNoSlot ended × (d' ≡ d)
+FollowsTry (Ok m) held n w d came told ended d' = NotesRow held n (record w { mode = m }) d came told ended d'
 
 -- a row is tried by its node
-pub record TriesNamed (n : NodeId) (w : Wish) (d : DeliveryView) (came : RowTried) (told : Told) (d' : DeliveryView) : Type 0 where
+pub record TriesNamed (n : NodeId) (w : Wish) (d : DeliveryView) (came : RowTried) (told : Told) (ended : Slots) (d' : DeliveryView) : Type 0 where
   pub tried : Result Mode Refusal
   pub mid : ManagerView
   pub step : CallSteps (state_of d.manager) (try_of w.txn (n, w.mode)) took tried (state_of mid)
   pub unchanged : OnErr tried (mid ≡ d.manager)
-  pub follows : FollowsTry tried (was_held (state_of d.manager) w.txn n) n w (record d { manager = mid }) came told d'
+  pub follows : FollowsTry tried (was_held (state_of d.manager) w.txn n) n w (record d { manager = mid }) came told ended d'
 
 -- a row whose node somebody holds or waits for is tried by that; any other is locked, and is granted at once or refused
-abbrev pub TriesRowBy : Option NodeId → Wish → DeliveryView → RowTried → Told → DeliveryView → Type 0
-TriesRowBy (Some n) w d came told d' = TriesNamed n w d came told d'
-TriesRowBy None w d came told d' = LocksRowAs d w (lock_of_tried came) told d'
+abbrev pub TriesRowBy : Option NodeId → Wish → DeliveryView → RowTried → Told → Slots → DeliveryView → Type 0
+TriesRowBy (Some n) w d came told ended d' = TriesNamed n w d came told ended d'
+TriesRowBy None w d came told ended d' = LocksRowIn d w (lock_of_tried came) told ended d'
 
 -- a row is tried
-abbrev pub TriesRow : Wish → DeliveryView → RowTried → Told → DeliveryView → Type 0
-TriesRow w d came told d' = TriesRowBy (busy_node (state_of d.manager) (name_of d.rows w.row)) w d came told d'
+abbrev pub TriesRow : Wish → DeliveryView → RowTried → Told → Slots → DeliveryView → Type 0
+TriesRow w d came told ended d' = TriesRowBy (busy_node (state_of d.manager) (name_of d.rows w.row)) w d came told ended d'

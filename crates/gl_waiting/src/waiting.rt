@@ -32,8 +32,8 @@ use std::marker::Model;
 /// A registry with a notice box and a place for each slot: its waiter, or the end of its wait.
 ///
 /// Each waiter waits: its transaction is in the queue of the node for which it waits. After each call every waiter that
-/// can go on has gone on: a path that was granted a node has requested the next. A slot keeps the last end alone, so the
-/// caller takes all ends after each call, before it releases the latch.
+/// can go on has gone on: a path that was granted a node has requested the next, and a row that was granted has been locked
+/// again. A slot keeps the last end alone, so the caller takes all ends after each call, before it releases the latch.
 #[derive(Drop)]
 pub struct Waiting {
     delivery: Delivery,

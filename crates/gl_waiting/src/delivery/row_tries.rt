@@ -34,7 +34,7 @@ impl Delivery {
         told: &mut Told,
     ) -> (RowTried, Slots)
         requires empty { told.old.items ≡ [] }
-        ensures tries { TriesRow (record { txn = txn; row = row; keys = keys.entry; mode = mode }) self.old result.0 told.new.items self.new }
+        ensures tries { TriesRow (record { txn = txn; row = row; keys = keys.entry; mode = mode }) self.old result.0 told.new.items result.1 self.new }
         ensures waits { BeginsNoWait (state_of self.old.manager) (state_of self.new.manager) }
         ensures queues { KeepsQueues result.0 (state_of self.old.manager) (state_of self.new.manager) }
         ensures run { IsRun (state_of self.old.manager) (state_of self.new.manager) }
@@ -81,7 +81,7 @@ impl Delivery {
         requires named { name_of self.old.rows row ≡ Some node }
         requires is_held { IsHeldIn (state_of self.old.manager) txn node mode }
         requires quiet { held ≡ false → BlocksNobody (state_of self.old.manager) txn node }
-        ensures notes { NotesRow held node (record { txn = txn; row = row; keys = keys.entry; mode = mode }) self.old result.0 told.new.items self.new }
+        ensures notes { NotesRow held node (record { txn = txn; row = row; keys = keys.entry; mode = mode }) self.old result.0 told.new.items result.1 self.new }
         ensures waits { BeginsNoWait (state_of self.old.manager) (state_of self.new.manager) }
         ensures queues { KeepsQueues result.0 (state_of self.old.manager) (state_of self.new.manager) }
         ensures run { IsRun (state_of self.old.manager) (state_of self.new.manager) }
@@ -96,7 +96,7 @@ impl Delivery {
             Err(refusal) => refusal,
         };
         if held {
-            return (RowTried::OtherKeys { node, mode }, ended);
+            return (RowTried::OtherKeys { node, mode }, Slots::empty());
         }
         let (answer, more) = self.serve_row(RowCall::Unlock { txn, row }, told);
         if is_released(answer) {

@@ -18,7 +18,12 @@ returns-clause-ends c =
       became = c.requires.became;
       result = c.lock_row-locked.result.0;
       told = c.lock_row-locked.new.told.items;
-      locks = record { lent = c.as_slice.result; same = c.as_slice.ensures; locks = c.lock_row-locked.ensures.locks };
+      locks = record {
+        lent = c.as_slice.result;
+        same = c.as_slice.ensures;
+        ended = c.lock_row-locked.result.1;
+        locks = record { locks = c.lock_row-locked.ensures.locks; carries = c.lock_row-locked.ensures.carries };
+      };
       ends = c.again_as.ensures;
     }
 

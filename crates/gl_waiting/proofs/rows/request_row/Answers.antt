@@ -9,7 +9,12 @@ pub returns-clause-requests : goal.returns-clause-requests
 returns-clause-requests c =
     record {
       result = c.lock_row-locked.result.0;
-      locks = record { lent = c.as_slice.result; same = c.as_slice.ensures; locks = c.lock_row-locked.ensures.locks };
+      locks = record {
+        lent = c.as_slice.result;
+        same = c.as_slice.ensures;
+        ended = c.lock_row-locked.result.1;
+        locks = record { locks = c.lock_row-locked.ensures.locks; carries = c.lock_row-locked.ensures.carries };
+      };
       came = c.row_came_of.ensures ∙ ap (λ (m : ManagerView). row_came_of (state_of m) c.args.txn c.lock_row-locked.result.0) c.manager.ensures;
     }
 

@@ -88,11 +88,11 @@ returns-in-Err-clause-tries c =
     let wish : Wish = record { txn = c.args.txn; row = c.args.row; keys = c.args.keys; mode = c.args.mode } in
     let d = c.args.self.now in
     let tried = c.in-Err.ensures in
-    subst (λ (o : Option NodeId). TriesRowBy o wish d c.refused_at.result c.try_at.new.told.items c.try_at.new.self) c.in-Some.ensures
+    subst (λ (o : Option NodeId). TriesRowBy o wish d c.refused_at.result c.try_at.new.told.items c.empty.result c.try_at.new.self) c.in-Some.ensures
     (record {
       tried = Err c.in-Err.refusal;
       mid = c.try_at.new.self.manager;
       step = tried.step;
       unchanged = ap (λ (x : DeliveryView). x.manager) tried.refused;
-      follows = (c.refused_at.ensures, tried.untold, tried.manager);
+      follows = (c.refused_at.ensures, tried.untold, c.empty.ensures.none, tried.manager);
     })

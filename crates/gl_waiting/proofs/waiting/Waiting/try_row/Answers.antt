@@ -21,7 +21,7 @@ returns c =
     (waiting_with c.settle.new.delivery c.settle.new.places c.self.inside.begins)) c.self.view_is
     (record {
       served = c.try_row-tried.new.self;
-      tries = tried.tries;
+      tries = (c.try_row-tried.result.1, tried.tries);
       waits = tried.waits;
       queues = tried.queues;
       run = tried.run;
