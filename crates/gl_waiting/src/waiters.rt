@@ -96,8 +96,8 @@ fn look_at(delivery: &mut Delivery, places: &mut Places, slot: Slot) -> Slots
             mode,
             granted,
         } => {
-            let (outcome, ended) = lock_again(delivery, waiter, row, keys, mode, granted);
-            places.put(slot, Place::Ended(waiter.txn, outcome));
+            let (end, ended) = lock_again(delivery, waiter, row, keys, mode, granted);
+            places.put(slot, Place::Ended(waiter.txn, end));
             ended
         }
     }

@@ -75,8 +75,8 @@ returns-in-GoOn-clause-goes c =
     c.go_on-place.result.0 (long c.args.places.now c.args.slot c.put-in-GoOn.ensures.slots c.requires.within)
     (waiter_there _ c.in-Some.waiter c.in-Some.ensures) c.go_on-place.ensures.place)
 
-pub lock_again-outcome-requires : goal.lock_again-outcome-requires
-lock_again-outcome-requires c =
+pub lock_again-end-requires : goal.lock_again-end-requires
+lock_again-end-requires c =
     let is = again_row c.in-Some.waiter c.in-Some-verdict.verdict c.in-LockAgain.row c.in-LockAgain.keys c.in-LockAgain.mode c.in-LockAgain.granted
     c.in-LockAgain.ensures in
     record {
@@ -88,22 +88,22 @@ pub returns-in-LockAgain-clause-awaits : goal.returns-in-LockAgain-clause-awaits
 returns-in-LockAgain-clause-awaits c =
     λ rest h.
     let was = waiter_there _ c.in-Some.waiter c.in-Some.ensures in
-    subst (λ (ps : List Place). AwaitBut (λ u. rest u || has_slot c.lock_again-outcome.result.1 u) (state_of c.lock_again-outcome.new.delivery.manager) ps)
+    subst (λ (ps : List Place). AwaitBut (λ u. rest u || has_slot c.lock_again-end.result.1 u) (state_of c.lock_again-end.new.delivery.manager) ps)
     (sym c.put-in-LockAgain.ensures.put)
-    (await_put rest c.args.slot (state_of c.args.delivery.now.manager) c.args.places.now h (state_of c.lock_again-outcome.new.delivery.manager)
-    c.lock_again-outcome.result.1 c.in-Some.waiter.txn (place.Ended c.in-Some.waiter.txn c.lock_again-outcome.result.0) c.law.ensures.lawful
-    c.lock_again-outcome.ensures.ended tt (h.own c.args.slot c.in-Some.waiter was).0
+    (await_put rest c.args.slot (state_of c.args.delivery.now.manager) c.args.places.now h (state_of c.lock_again-end.new.delivery.manager)
+    c.lock_again-end.result.1 c.in-Some.waiter.txn (place.Ended c.in-Some.waiter.txn c.lock_again-end.result.0) c.law.ensures.lawful
+    c.lock_again-end.ensures.ended tt (h.own c.args.slot c.in-Some.waiter was).0
     (long c.args.places.now c.args.slot c.put-in-LockAgain.ensures.slots c.requires.within) c.requires.within)
 
 pub returns-in-LockAgain-clause-goes : goal.returns-in-LockAgain-clause-goes
 returns-in-LockAgain-clause-goes c =
-    let again = c.lock_again-outcome.ensures in
-    subst (λ (ps : List Place). GoesOn c.args.delivery.now c.args.places.now c.lock_again-outcome.new.delivery ps) (sym c.put-in-LockAgain.ensures.put)
-    (goes_on_put c.args.delivery.now c.lock_again-outcome.new.delivery again.calls c.args.places.now c.args.slot c.in-Some.waiter
-    (place.Ended c.in-Some.waiter.txn c.lock_again-outcome.result.0)
+    let again = c.lock_again-end.ensures in
+    subst (λ (ps : List Place). GoesOn c.args.delivery.now c.args.places.now c.lock_again-end.new.delivery ps) (sym c.put-in-LockAgain.ensures.put)
+    (goes_on_put c.args.delivery.now c.lock_again-end.new.delivery again.calls c.args.places.now c.args.slot c.in-Some.waiter
+    (place.Ended c.in-Some.waiter.txn c.lock_again-end.result.0)
     (long c.args.places.now c.args.slot c.put-in-LockAgain.ensures.slots c.requires.within) (waiter_there _ c.in-Some.waiter c.in-Some.ensures)
     (inr (
-      c.lock_again-outcome.result.0,
+      c.lock_again-end.result.0,
       refl,
-      ends_by_row c.args.delivery.now c.lock_again-outcome.new.delivery c.in-Some.waiter c.lock_again-outcome.result.0 again.calls again.ends,
+      ends_by_row c.args.delivery.now c.lock_again-end.new.delivery c.in-Some.waiter c.lock_again-end.result.0 again.calls again.ends,
     )))
