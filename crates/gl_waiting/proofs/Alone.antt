@@ -21,13 +21,21 @@ use Rattle.gl_steps.specs.Tests.{refusal_of}
 use Rattle.gl_steps.specs.declared.command.Answer.{Answer}
 use Rattle.gl_steps.specs.declared.command.Answer.TheVariants as answer
 use Rattle.gl_steps.specs.declared.command.Command.TheVariants as command
-use Rattle.gl_catalog.specs.Manager.{state_of}
+use Rattle.gl_catalog.specs.Manager.{ManagerView, state_of}
 use Rattle.gl_catalog.specs.Paths.{Ask}
 use Rattle.gl_catalog.specs.declared.manager.paths.Reached.{Reached}
-use Rattle.gl_registry.specs.Rows.{RegistryView}
-use Rattle.gl_waiting.specs.Asking.{Reaches, Requests}
+use Rattle.gl_registry.specs.declared.answer.RowLocked.{RowLocked}
+use Rattle.gl_registry.specs.declared.answer.RowRefusal.{RowRefusal}
+use Rattle.gl_registry.specs.declared.answer.RowRefusal.TheVariants as row_no
+use Rattle.gl_registry.specs.declared.row.Row.{Row}
+use Rattle.gl_registry.specs.Locking.{LocksBy, LocksRow, Wish, first_locked}
+use Rattle.gl_registry.specs.Rows.{RegistryView, RowsView, name_of}
+use Rattle.gl_waiting.specs.Asking.{LocksAlone, Requests}
 use Rattle.gl_waiting.specs.Paths.{LocksParts}
 use Rattle.gl_waiting.specs.Delivering.{DeliveryView, registry_in}
+use Rattle.gl_waiting.proofs.RowLocking.{locks_row, row_waits_as}
+use Rattle.gl_waiting.specs.RowLocks.{RequestsRow, row_came_of}
+use Rattle.gl_waiting.specs.declared.keys.RowKeys.{RowKeys}
 use Rattle.gl_waiting.specs.Waiters.{Await, came_of, place_at, stops_above, waiter_in}
 use Rattle.gl_waiting.specs.declared.waiter.Came.{Came}
 use Rattle.gl_waiting.specs.declared.waiter.Came.TheVariants as came
@@ -81,19 +89,61 @@ module _ (t : TxnId) (ask : Ask) where
       let tests = busy_refused _ _ (waiting_test (status_of (state_of v.manager) t.slot)) _ busy in
       absurd (true≢false (sym above ∙ ap (stops_above ask.0) (way.tests tests.0 tests.1).0))
 
+-- and so is a row
+module _ (m m' : ManagerView) (v v' : RowsView) (w : Wish) (told : Told) (busy : IsBusy (status_of (state_of m) w.txn.slot)) where
+  row_waits_not : (x : RowLocked) → x.locked ≡ locked.Waiting → LocksRow m v w (Ok x) told m' v' → ⊥
+  row_waits_not x waits (inl err) = cc err.answer_is
+  row_waits_not x waits (inr by) = of (name_of v w.row) by
+    where
+      of : (o : Option NodeId) → LocksBy o m v w (Ok x) told m' v' → ⊥
+      of (Some n) (inl (held, does)) =
+          let refused = lock_refused (state_of m) w.txn busy n w.mode _ told (state_of m') does.0.step in
+          not_answered (state_of m) w.txn busy x.locked refused.0 refused.1
+      of (Some n) (inr (stale, new)) = at_once new.1.answer_is
+        where
+          at_once : x ≡ first_locked x.node w.mode → ⊥
+          at_once is = let so : x.locked ≡ locked.Granted w.mode = ap (λ (y : RowLocked). y.locked) is in cc (waits, so)
+      of None (inl (none, err)) = cc err.answer_is
+      of None (inr (has, new)) = at_once new.1.answer_is
+        where
+          at_once : x ≡ first_locked x.node w.mode → ⊥
+          at_once is = let so : x.locked ≡ locked.Granted w.mode = ap (λ (y : RowLocked). y.locked) is in cc (waits, so)
+
 module _ (d d' : DeliveryView) (t : TxnId) (told : Told) (busy : IsBusy (status_of (state_of d.manager) t.slot)) where
-  reached_refused : (asked : Request) (result : Result Reached Refusal) → Reaches d t asked result told d' → (r : Refusal) × (result ≡ Err r)
-  reached_refused (request.Node n m) (Ok x) h =
+  alone_refused : (n : NodeId) (m : Mode) (result : Result Reached Refusal) → LocksAlone t n m d result told d' → (r : Refusal) × (result ≡ Err r)
+  alone_refused n m (Ok x) h =
       let refused = lock_refused (state_of d.manager) t busy n m _ told (state_of d'.manager) h.1.step in
       absurd (not_answered (state_of d.manager) t busy x.locked refused.0 refused.1)
-  reached_refused (request.Node n m) (Err r) h = (r, refl)
-  reached_refused (request.Path n m) result h = parts_refused t (n, m) h.0.parts.0 (registry_in d) (registry_in d') result busy h.0.parts.1
+  alone_refused n m (Err r) h = (r, refl)
+
+  refused_ends : (reached : Result Reached Refusal) (c : Came) → c ≡ came_of (state_of d'.manager) t reached → (r : Refusal) → reached ≡ Err r
+      → (at : NodeId) (wanted : Mode) → c ≡ came.Waits at wanted → ⊥
+  refused_ends reached c came r so at wanted is =
+      let ended : c ≡ came_of (state_of d'.manager) t (Err r) = came ∙ ap (came_of (state_of d'.manager) t) so in cc (is, ended)
+
+  row_ends : (row : Row) (keys : RowKeys) (mode : Mode) (c : Came) → RequestsRow d t row keys mode c told d' → (at : NodeId) (wanted : Mode)
+      → c ≡ came.Waits at wanted → ⊥
+  row_ends row keys mode c h at wanted is = by h.result refl (sym is ∙ h.came)
+    where
+      w : Wish
+      w = record { txn = t; row = row; keys = h.locks.lent; mode = mode }
+
+      by : (result : Result RowLocked RowRefusal) → h.result ≡ result → came.Waits at wanted ≡ row_came_of (state_of d'.manager) t h.result → ⊥
+      by (Ok x) so e =
+          let waits = row_waits_as (state_of d'.manager) t x.node x.locked x.own_keys at wanted (e ∙ ap (row_came_of (state_of d'.manager) t) so) in
+          row_waits_not d.manager d'.manager d.rows d'.rows w told busy x waits.0
+          (subst (λ (r : Result RowLocked RowRefusal). LocksRow d.manager d.rows w r told d'.manager d'.rows) so
+          (locks_row d d' w h.result told h.locks.locks.locks))
+      by (Err (row_no.Refused r)) so e = cc (e ∙ ap (row_came_of (state_of d'.manager) t) so)
+      by (Err row_no.NotRows) so e = cc (e ∙ ap (row_came_of (state_of d'.manager) t) so)
 
   pub waits_not : (asked : Request) (c : Came) → Requests d t asked c told d' → (at : NodeId) (wanted : Mode) → c ≡ came.Waits at wanted → ⊥
-  waits_not asked c h at wanted is =
-      let refused = reached_refused asked h.reached h.reaches in
-      let so : c ≡ came_of (state_of d'.manager) t (Err refused.0) = h.came ∙ ap (came_of (state_of d'.manager) t) refused.1 in
-      cc (is, so)
+  waits_not (request.Node n m) c h at wanted is =
+      let refused = alone_refused n m h.reached h.reaches in refused_ends h.reached c h.came refused.0 refused.1 at wanted is
+  waits_not (request.Path n m) c h at wanted is =
+      let refused = parts_refused t (n, m) h.reaches.0.parts.0 (registry_in d) (registry_in d') h.reached busy h.reaches.0.parts.1 in
+      refused_ends h.reached c h.came refused.0 refused.1 at wanted is
+  waits_not (request.Row row keys mode) c h at wanted is = row_ends row keys mode c h at wanted is
 
 -- so the slot of a request that waits has no waiter
 pub slot_alone : (d d' : DeliveryView) (t : TxnId) (told : Told) (asked : Request) (c : Came) (places : List Place) → Await (state_of d.manager) places

@@ -50,6 +50,14 @@ use Rattle.gl_waiting.specs.Going.{Calls, IsRun}
 use Rattle.gl_waiting.proofs.Runs.{calls_one}
 use Rattle.gl_waiting.specs.Waiters.{AnswersIn, Await, AwaitBut, TakesEnd, came_as, came_of, waits_as, waits_for_node, IsWaitingPlace, is_granted}
 use Rattle.gl_waiting.specs.Waiters.{place_at, stops_above, waiter_in}
+use Rattle.gl_registry.specs.declared.answer.RowLocked.{RowLocked}
+use Rattle.gl_registry.specs.declared.answer.RowRefusal.{RowRefusal}
+use Rattle.gl_registry.specs.declared.answer.RowRefusal.TheVariants as row_no
+use Rattle.gl_waiting.proofs.RowLocking.{row_waits_as}
+use Rattle.gl_waiting.specs.Asking.{Requests}
+use Rattle.gl_waiting.specs.RowLocks.{row_came_of}
+use Rattle.gl_waiting.specs.declared.waiter.Request.{Request}
+use Rattle.gl_waiting.specs.declared.waiter.Request.TheVariants as request
 use Rattle.gl_waiting.specs.Waiting.{WaitingView}
 use Rattle.gl_waiting.specs.declared.begins.QueuedBegin.{QueuedBegin}
 use Rattle.gl_waiting.specs.declared.waiter.Came.{Came}
@@ -137,6 +145,11 @@ set_apart (b ∷ places) zero zero p apart = absurd (apart refl)
 set_apart (b ∷ places) zero (suc k) p apart = refl
 set_apart (b ∷ places) (suc i) zero p apart = refl
 set_apart (b ∷ places) (suc i) (suc k) p apart = set_apart places i k p (λ is. apart (ap suc is))
+
+pub set_beyond : (places : List Place) (i : ℕ) (p : Place) → length places ≤ i → slice_set places i p ≡ places
+set_beyond [] i p less = refl
+set_beyond (b ∷ places) zero p less = absurd (omega (arith, less))
+set_beyond (b ∷ places) (suc i) p less = ap (λ (x : List Place). b ∷ x) (set_beyond places i p (omega (arith, less)))
 
 pub same_slot : (u k : ℕ) → (u == k) ≡ true → u ≡ k
 same_slot u k e = grind (arith, nat_tests)
@@ -364,6 +377,11 @@ module _ (s : State) (t : TxnId) where
       by locked.Victim e = absurd (cc e)
       by locked.Waiting e = as_waits at wanted e
 
+  row_waits : (result : Result RowLocked RowRefusal) (at : NodeId) (wanted : Mode) → came.Waits at wanted ≡ row_came_of s t result → waits_on s t at ≡ true
+  row_waits (Ok x) at wanted e = as_waits at wanted (row_waits_as s t x.node x.locked x.own_keys at wanted e).1
+  row_waits (Err (row_no.Refused r)) at wanted e = absurd (cc e)
+  row_waits (Err row_no.NotRows) at wanted e = absurd (cc e)
+
   live_some : (o : Option Txn) → live_by t.age o ≡ true → is_some o ≡ true
   live_some None e = absurd (true≢false (sym e))
   live_some (Some x) e = refl
@@ -371,6 +389,13 @@ module _ (s : State) (t : TxnId) where
   pub waits_below : IsLawful s → s.most ≤ most_slots → (n : NodeId) → waits_on s t n ≡ true → t.slot < most_slots
   waits_below law few n waits =
       let low : t.slot < s.most = law.slots_below t.slot (live_some (s.txns t.slot) (and_both (lives s t) _ waits).0) in omega (arith, low, few)
+
+-- a request that waits
+pub requests_wait : (d d' : DeliveryView) (t : TxnId) (asked : Request) (c : Came) (told : Told) → Requests d t asked c told d' → (at : NodeId)
+    (wanted : Mode) → came.Waits at wanted ≡ c → waits_on (state_of d'.manager) t at ≡ true
+requests_wait d d' t (request.Node n m) c told h at wanted is = came_waits (state_of d'.manager) t h.reached at wanted (is ∙ h.came)
+requests_wait d d' t (request.Path n m) c told h at wanted is = came_waits (state_of d'.manager) t h.reached at wanted (is ∙ h.came)
+requests_wait d d' t (request.Row row keys mode) c told h at wanted is = row_waits (state_of d'.manager) t h.result at wanted (is ∙ h.came)
 
 -- a table of waiters of this delivery
 abbrev pub waiting_with : DeliveryView → List Place → List QueuedBegin → WaitingView

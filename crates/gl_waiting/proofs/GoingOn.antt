@@ -1,5 +1,5 @@
 -- What belongs to each slot, after waiters went on: one change after another.
-use Rattle.std.specs.Prelude.{◌≡◌, ◌≢◌, ◌<◌, ◌==◌, ℕ, Bool, true, false, List, Some, Result, if◌then◌else◌, length, slice_set}
+use Rattle.std.specs.Prelude.{◌≡◌, ◌≢◌, ◌<◌, ◌==◌, ℕ, Bool, true, false, List, Some, Result, Ok, Err, if◌then◌else◌, length, slice_set}
 use Rattle.std.proofs.Common.{refl, sym, ap, subst, ◌∙◌, inl, inr}
 use Rattle.gl_modes.specs.declared.mode.Mode.{Mode}
 use Rattle.gl_modes.specs.declared.node.NodeId.{NodeId}
@@ -12,10 +12,13 @@ use Rattle.gl_wakes.specs.declared.grant.Grant.{Grant}
 use Rattle.gl_wakes.specs.declared.grant.Stop.{Stop}
 use Rattle.gl_waiting.specs.Begins.{is_over}
 use Rattle.gl_waiting.specs.Delivering.{DeliveryView}
-use Rattle.gl_waiting.specs.Ends.{Cancels, EndsAt, EndsBetween, EndsInTime, GivesBack, GoesOn, PlaceGoes, PlaceGoesOn}
+use Rattle.gl_waiting.specs.Ends.{Cancels, EndsAt, EndsBetween, EndsByRow, EndsInTime, GivesBack, GoesOn, IsGrantedIn, PlaceGoes, PlaceGoesOn, UnlocksIf, is_given_back}
 use Rattle.gl_waiting.specs.Going.{Calls}
 use Rattle.gl_waiting.specs.Paths.{LocksThrough}
-use Rattle.gl_waiting.specs.Waiters.{IsInTime, StillRequests, came_of, has_more, next_after, next_of, outcome_of, place_at, place_of}
+use Rattle.gl_waiting.specs.Waiters.{IsInTime, StillRequests, came_of, has_more, next_after, next_of, next_of_row, node_in, outcome_of, place_at, place_of}
+use Rattle.gl_registry.specs.declared.row.Row.{Row}
+use Rattle.gl_waiting.specs.RowLocks.{LocksRowWith, granted_own}
+use Rattle.gl_waiting.specs.declared.keys.RowKeys.{RowKeys}
 use Rattle.gl_waiting.specs.declared.waiter.Came.TheVariants as came
 use Rattle.gl_waiting.specs.declared.waiter.Next.TheVariants as next
 use Rattle.gl_waiting.specs.declared.waiter.Outcome.{Outcome}
@@ -25,6 +28,7 @@ use Rattle.gl_waiting.specs.declared.waiter.Request.{Request}
 use Rattle.gl_waiting.specs.declared.waiter.Request.TheVariants as request
 use Rattle.gl_waiting.specs.declared.waiter.Waiter.{Waiter}
 use Rattle.gl_waiting.proofs.Awaiting.{apart_slot, same_slot, set_apart, set_there}
+use Rattle.gl_waiting.proofs.RowLocking.{row_kept}
 use Rattle.gl_waiting.proofs.Runs.{calls_none, calls_then}
 
 pub still_itself : (w : Waiter) → StillRequests w w
@@ -53,20 +57,39 @@ goes_with Ends Others also (place.Ended t outcome) q h = h
 goes_with Ends Others also (place.Waits w) q (inl h) = inl h
 goes_with Ends Others also (place.Waits w) q (inr (outcome, is, ends)) = inr (outcome, is, also w outcome ends)
 
--- an end is the same for the waiter that it was before
-ends_before : (d : DeliveryView) (w v : Waiter) (outcome : Outcome) → StillRequests w v → EndsAt d v outcome → EndsAt d w outcome
-ends_before d w v outcome still (inl h) =
+-- an end is the same for the waiter that it was before calls
+ends_before : (first from d : DeliveryView) (w v : Waiter) (outcome : Outcome) → Calls first from → StillRequests w v → EndsAt from d v outcome
+    → EndsAt first d w outcome
+ends_before first from d w v outcome calls still (inl h) =
     inl (record { waited = h.waited; still = still_then w v h.waited still h.still; verdict = h.verdict; became = h.became; ends = h.ends })
-ends_before d w v outcome still (inr h) =
-    inr (record {
+ends_before first from d w v outcome calls still (inr (inl h)) =
+    inr (inl (record {
       node = h.node;
       mode = h.mode;
       asked = sym still.request ∙ h.asked;
       before = h.before;
+      calls = calls_then first from h.before calls h.calls;
       result = h.result;
       locks = subst (λ (t : TxnId). LocksThrough t (h.node, h.mode) h.before h.result d) still.txn h.locks;
       came = subst (λ (t : TxnId). came_of (state_of d.manager) t h.result ≡ came.Ended outcome) still.txn h.came;
-    })
+    }))
+ends_before first from d w v outcome calls still (inr (inr h)) =
+    inr (inr (record {
+      row = h.row;
+      keys = h.keys;
+      mode = h.mode;
+      asked = sym still.request ∙ h.asked;
+      before = h.before;
+      calls = calls_then first from h.before calls h.calls;
+      waited = h.waited;
+      still = still_then w v h.waited still h.still;
+      granted = h.granted;
+      became = h.became;
+      result = h.result;
+      told = h.told;
+      locks = subst (λ (t : TxnId). LocksRowWith h.before t h.row h.keys h.mode h.result h.told d) still.txn h.locks;
+      ends = h.ends;
+    }))
 
 -- and so is what is unlocked after it
 gives_before : (d d' : DeliveryView) (w v : Waiter) (outcome : Outcome) → StillRequests w v → GivesBack v.instant v.txn v.request outcome d d'
@@ -101,7 +124,7 @@ module _ (d mid d' : DeliveryView) (one : Calls d mid) (other : Calls mid d') wh
       record {
         mid = h.mid;
         before = calls_then d mid h.mid one h.before;
-        ends = ends_before h.mid w v outcome still h.ends;
+        ends = ends_before d mid h.mid w v outcome one still h.ends;
         left = h.left;
         gives = gives_before h.mid h.left w v outcome still h.gives;
         after = h.after;
@@ -122,7 +145,7 @@ goes_on_then d mid d' ps qs rs one other = record {
 }
 
 -- what ends at a delivery, and is unlocked if it was for an instant, ends between it and the next
-pub ends_now : (d d' : DeliveryView) (w : Waiter) (outcome : Outcome) → EndsAt d w outcome → GivesBack w.instant w.txn w.request outcome d d'
+pub ends_now : (d d' : DeliveryView) (w : Waiter) (outcome : Outcome) → EndsAt d d w outcome → GivesBack w.instant w.txn w.request outcome d d'
     → EndsBetween d d' w outcome
 ends_now d d' w outcome ends gives =
     record { mid = d; before = calls_none d; ends = ends; left = d'; gives = gives; after = calls_none d' }
@@ -152,7 +175,7 @@ goes_on_put d d' calls places slot w p within was goes = record {
 
 -- a verdict that ends a request
 pub ends_by_verdict : (d : DeliveryView) (w : Waiter) (verdict : Result Grant Stop) (outcome : Outcome)
-    → Some verdict ≡ verdict_of (state_of d.manager) d.boxes w.txn w.at w.wanted → next.End outcome ≡ next_of w verdict → EndsAt d w outcome
+    → Some verdict ≡ verdict_of (state_of d.manager) d.boxes w.txn w.at w.wanted → next.End outcome ≡ next_of w verdict → EndsAt d d w outcome
 ends_by_verdict d w verdict outcome became ends =
     inl (record { waited = w; still = still_itself w; verdict = verdict; became = sym became; ends = sym ends })
 
@@ -168,16 +191,73 @@ goes_on_path w verdict node mode is = by w.request is
         path : (b : Bool) → next.GoOn node mode ≡ (if b then next.GoOn n m else next.End (outcome_of w.at verdict)) → request.Path n m ≡ request.Path node mode
         path true e = cc e
         path false e = absurd (cc e)
+    by (request.Row r k m) e = absurd (row verdict e)
+      where
+        row : (v : Result Grant Stop) → next.GoOn node mode ≡ next_of_row r k m w.at v → ⊥
+        row (Ok grant) e = cc e
+        row (Err x) e = cc e
+
+-- a verdict that is a grant in this mode
+abbrev WasGranted : Result Grant Stop → Mode → Type 0
+WasGranted verdict granted = (grant : Grant) × (grant.mode ≡ granted) × (verdict ≡ Ok grant)
+
+-- a row is locked again for the keys and the mode of its request, after a grant
+pub again_row : (w : Waiter) (verdict : Result Grant Stop) (row : Row) (keys : RowKeys) (mode granted : Mode)
+    → next.LockAgain row keys mode granted ≡ next_of w verdict
+    → (w.request ≡ request.Row row keys mode) × (WasGranted verdict granted)
+again_row w verdict row keys mode granted is = by w.request is
+  where
+    by : (asked : Request) → next.LockAgain row keys mode granted ≡ next_after asked w.at verdict
+        → (asked ≡ request.Row row keys mode) × (WasGranted verdict granted)
+    by (request.Node n m) e = absurd (cc e)
+    by (request.Path n m) e = absurd (path (has_more n w.at verdict) e)
+      where
+        path : (b : Bool) → next.LockAgain row keys mode granted ≡ (if b then next.GoOn n m else next.End (outcome_of w.at verdict)) → ⊥
+        path true e = cc e
+        path false e = cc e
+    by (request.Row r k m) e = again verdict e
+      where
+        again : (v : Result Grant Stop) → next.LockAgain row keys mode granted ≡ next_of_row r k m w.at v
+            → (request.Row r k m ≡ request.Row row keys mode) × (WasGranted v granted)
+        again (Ok grant) e = (cc e, (grant, cc e, refl))
+        again (Err x) e = absurd (cc e)
+
+-- a wait that was granted so
+pub granted_in : (d : DeliveryView) (w : Waiter) (granted : Mode) (verdict : Result Grant Stop)
+    → Some verdict ≡ verdict_of (state_of d.manager) d.boxes w.txn w.at w.wanted → WasGranted verdict granted
+    → IsGrantedIn d w granted
+granted_in d w granted verdict became (grant, mode, is) = (grant, mode, sym became ∙ ap (λ (x : Result Grant Stop). Some x) is)
+
+-- a row that was locked again, and ends the request so
+pub ends_by_row : (d d' : DeliveryView) (w : Waiter) (outcome : Outcome) → Calls d d' → EndsByRow d d' w outcome → EndsBetween d d' w outcome
+ends_by_row d d' w outcome calls h = record {
+  mid = d';
+  before = calls;
+  ends = inr (inr h);
+  left = d';
+  gives = subst (λ (b : Bool). UnlocksIf b w.txn (node_in w.request) d' d')
+      (sym (ap (is_given_back w.instant) h.ends ∙ row_kept w.instant h.waited.at h.granted (granted_own h.result))) refl;
+  after = calls_none d';
+}
 
 -- the rest of a path was locked, and ends the request so
 pub ends_by_path : (d d' : DeliveryView) (w : Waiter) (node : NodeId) (mode : Mode) (result : Result Reached Refusal) (outcome : Outcome)
     → w.request ≡ request.Path node mode → LocksThrough w.txn (node, mode) d result d' → came_of (state_of d'.manager) w.txn result ≡ came.Ended outcome
-    → EndsAt d' w outcome
+    → EndsAt d d' w outcome
 ends_by_path d d' w node mode result outcome asked locks came =
-    inr (record { node = node; mode = mode; asked = asked; before = d; result = result; locks = locks; came = came })
+    inr (inl (record {
+      node = node;
+      mode = mode;
+      asked = asked;
+      before = d;
+      calls = calls_none d;
+      result = result;
+      locks = locks;
+      came = came;
+    }))
 
 -- it ended before a request was unlocked, after these calls
-pub ends_after : (d mid d' : DeliveryView) → Calls d mid → (w : Waiter) (outcome : Outcome) → EndsAt mid w outcome
+pub ends_after : (d mid d' : DeliveryView) → Calls d mid → (w : Waiter) (outcome : Outcome) → EndsAt d mid w outcome
     → GivesBack w.instant w.txn w.request outcome mid d' → EndsBetween d d' w outcome
 ends_after d mid d' calls w outcome ends gives =
     record { mid = mid; before = calls; ends = ends; left = d'; gives = gives; after = calls_none d' }

@@ -7,5 +7,7 @@ pub mod Delivered
 pub mod GoingOn
 pub mod Paths
 pub mod RowCalls
+pub mod RowLocking
+pub mod RowTrying
 pub mod Runs
 pub mod TriedPaths

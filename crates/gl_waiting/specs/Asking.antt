@@ -17,7 +17,11 @@ use Rattle.gl_waiting.specs.Delivering.{Carries, Delivered, DeliveryView, lock_s
 use Rattle.gl_waiting.specs.Ends.{EndsBetween, EndsInTime, EndsLate, GivesBack, GoesOn, PlaceGoes, PlaceGoesOn}
 use Rattle.gl_waiting.specs.Going.{Calls, IsRun}
 use Rattle.gl_waiting.specs.Paths.{LocksThrough}
-use Rattle.gl_waiting.specs.Waiters.{AnswersIn, HasWaiter, node_in, outcome_of, IsInTime, came_of, place_at, waiter_in}
+use Rattle.gl_registry.specs.Locking.{Wish}
+use Rattle.gl_waiting.specs.RowLocks.{RequestsRow}
+use Rattle.gl_waiting.specs.RowTries.{BeginsNoWait, KeepsQueues, TriesRow}
+use Rattle.gl_waiting.specs.declared.tries.RowTried.{RowTried}
+use Rattle.gl_waiting.specs.Waiters.{AnswersIn, HasWaiter, outcome_of, IsInTime, came_of, place_at, waiter_in}
 use Rattle.gl_waiting.specs.Waiting.{WaitingView, delivery_in}
 use Rattle.std.specs.List.{list_all}
 use Rattle.std.specs.Prelude.{◌⊎◌, ◌==◌, ◌++◌, ◌∷◌, None, drop, is_some, length, slice_get}
@@ -53,18 +57,23 @@ use Rattle.gl_waiting.specs.declared.waiter.Request.{Request}
 use Rattle.gl_waiting.specs.declared.waiter.Request.TheVariants as request
 use Rattle.gl_waiting.specs.declared.waiter.Waiter.{Waiter}
 
--- the last lock of a request came to this: of a node, what its command is answered
-abbrev pub Reaches : DeliveryView → TxnId → Request → Result Reached Refusal → Told → DeliveryView → Type 0
-Reaches d t (request.Node node mode) (Ok x) told d' =
+-- a node was locked alone, and its command was answered by this
+abbrev pub LocksAlone : TxnId → NodeId → Mode → DeliveryView → Result Reached Refusal → Told → DeliveryView → Type 0
+LocksAlone t node mode d (Ok x) told d' =
     (x.node ≡ node) × Applies d.manager (lock_of t (node, mode)) (lock_said (Ok x.locked)) told d'.manager
-Reaches d t (request.Node node mode) (Err r) told d' = Applies d.manager (lock_of t (node, mode)) (lock_said (Err r)) told d'.manager
-Reaches d t (request.Path node mode) result told d' = LocksThrough t (node, mode) d result d' × (told ≡ [])
+LocksAlone t node mode d (Err r) told d' = Applies d.manager (lock_of t (node, mode)) (lock_said (Err r)) told d'.manager
+
+-- a request for a node came to this by its last lock
+pub record ComesTo (t : TxnId) (locks : Result Reached Refusal → Type 0) (d' : DeliveryView) (c : Came) : Type 0 where
+  pub reached : Result Reached Refusal
+  pub reaches : locks reached
+  pub came : c ≡ came_of (state_of d'.manager) t reached
 
 -- a request is carried out, and came to this
-pub record Requests (d : DeliveryView) (t : TxnId) (asked : Request) (c : Came) (told : Told) (d' : DeliveryView) : Type 0 where
-  pub reached : Result Reached Refusal
-  pub reaches : Reaches d t asked reached told d'
-  pub came : c ≡ came_of (state_of d'.manager) t reached
+abbrev pub Requests : DeliveryView → TxnId → Request → Came → Told → DeliveryView → Type 0
+Requests d t (request.Node node mode) c told d' = ComesTo t (λ reached. LocksAlone t node mode d reached told d') d' c
+Requests d t (request.Path node mode) c told d' = ComesTo t (λ reached. LocksThrough t (node, mode) d reached d' × (told ≡ [])) d' c
+Requests d t (request.Row row keys mode) c told d' = RequestsRow d t row keys mode c told d'
 
 -- a command is carried out, as a registry serves it, and then waiters go on
 pub record Serves (v : WaitingView) (c : Command) (a : Option Answer) (told : Told) (v' : WaitingView) : Type 0 where
@@ -105,6 +114,16 @@ pub record TriesThere (v : WaitingView) (t : TxnId) (ask : Ask) (keep : Keep) (r
   pub goes : GoesOn served v.places (delivery_in v') v'.places
   pub queue : v'.queue ≡ v.queue
 
+-- a row is tried, and then waiters go on
+pub record TriesRowThere (v : WaitingView) (w : Wish) (result : RowTried) (told : Told) (v' : WaitingView) : Type 0 where
+  pub served : DeliveryView
+  pub tries : (ended : Slots) × TriesRow w (delivery_in v) result told ended served
+  pub waits : BeginsNoWait (state_of v.manager) (state_of served.manager)
+  pub queues : KeepsQueues result (state_of v.manager) (state_of served.manager)
+  pub run : IsRun (state_of v.manager) (state_of served.manager)
+  pub goes : GoesOn served v.places (delivery_in v') v'.places
+  pub queue : v'.queue ≡ v.queue
+
 -- the waiter that a request leaves waiting for this node
 abbrev pub waiter_for : TxnId → Request → Bool → Option ℕ → NodeId → Mode → Waiter
 waiter_for t asked instant until at wanted =
@@ -120,9 +139,15 @@ abbrev pub is_no_mode : Option Mode → Bool
 is_no_mode (Some NL) = true
 is_no_mode o = false
 
--- a request is for an instant: it is said so, and its transaction lives and does not hold the node
-abbrev pub is_for_instant : State → TxnId → NodeId → Bool → Bool
-is_for_instant s t node said = said && is_no_mode (if lives s t then Some (s.held t.slot node) else None)
+-- a lock of this node is for an instant: it is said so, and its transaction lives and does not hold the node
+abbrev pub is_instant_at : State → TxnId → NodeId → Bool → Bool
+is_instant_at s t node said = said && is_no_mode (if lives s t then Some (s.held t.slot node) else None)
+
+-- the same of a request; none for a row is for an instant
+abbrev pub is_for_instant : State → TxnId → Request → Bool → Bool
+is_for_instant s t (request.Node node mode) said = is_instant_at s t node said
+is_for_instant s t (request.Path node mode) said = is_instant_at s t node said
+is_for_instant s t (request.Row row keys mode) said = false
 
 -- a request that ended at once is unlocked if it was granted for an instant; one that waits is left
 abbrev pub GivesBackFirst : Bool → TxnId → Request → Came → DeliveryView → DeliveryView → Type 0
@@ -142,11 +167,20 @@ pub record Asks (v : WaitingView) (t : TxnId) (asked : Request) (instant : Bool)
   pub calls : Calls (delivery_in v) served
   pub alone : (at : NodeId) (wanted : Mode) → first ≡ came.Waits at wanted → waiter_in (place_at v.places t.slot) ≡ None
   pub left : DeliveryView
-  pub gives : GivesBackFirst (is_for_instant (state_of v.manager) t (node_in asked) instant) t asked first served left
+  pub gives : GivesBackFirst (is_for_instant (state_of v.manager) t asked instant) t asked first served left
   pub after : List Place
-  pub goes : GoesOn left (registered t asked (is_for_instant (state_of v.manager) t (node_in asked) instant) until first v.places) (delivery_in v') after
+  pub goes : GoesOn left (registered t asked (is_for_instant (state_of v.manager) t asked instant) until first v.places) (delivery_in v') after
   pub replies : Replies t first after c v'.places
   pub queue : v'.queue ≡ v.queue
+
+-- a table without the waiter of a slot whose request came to this, if it waits
+abbrev pub unregistered : ℕ → Came → WaitingView → WaitingView
+unregistered slot (came.Ended outcome) v = v
+unregistered slot (came.Waits at wanted) v = record v { places = slice_set v.places slot place.Empty }
+
+-- a request is carried out as an ask, and leaves no waiter
+abbrev pub AsksOnce : WaitingView → TxnId → Request → Bool → Came → Told → WaitingView → Type 0
+AsksOnce v t asked instant c told v' = (mid : WaitingView) × Asks v t asked instant None c told mid × (v' ≡ unregistered t.slot c mid)
 
 -- the transaction has a waiter, whichever
 abbrev pub IsAwaitedAlready : List Place → TxnId → Type 0

@@ -1,5 +1,5 @@
 -- How waits end, and what belongs to each slot after waiters went on.
-use Rattle.std.specs.Prelude.{◌≡◌, ◌⊎◌, ◌&&◌, ℕ, Bool, true, false, List, Some, Result}
+use Rattle.std.specs.Prelude.{◌≡◌, ◌⊎◌, ◌&&◌, ℕ, Bool, true, false, List, Some, Result, Ok}
 use Rattle.gl_modes.specs.declared.mode.Mode.{Mode}
 use Rattle.gl_modes.specs.declared.node.NodeId.{NodeId}
 use Rattle.gl_modes.specs.declared.refusal.Refusal.{Refusal}
@@ -27,6 +27,11 @@ use Rattle.gl_steps.specs.declared.command.Answer.{Answer}
 use Rattle.gl_steps.specs.declared.command.Answer.TheVariants as answer
 use Rattle.gl_steps.specs.declared.command.Command.TheVariants as command
 use Rattle.gl_registry.specs.Serving.{Applies, ServesBy, touches_rows}
+use Rattle.gl_registry.specs.declared.answer.RowLocked.{RowLocked}
+use Rattle.gl_registry.specs.declared.answer.RowRefusal.{RowRefusal}
+use Rattle.gl_registry.specs.declared.row.Row.{Row}
+use Rattle.gl_waiting.specs.RowLocks.{LocksRowWith, again_as}
+use Rattle.gl_waiting.specs.declared.keys.RowKeys.{RowKeys}
 use Rattle.gl_waiting.specs.declared.waiter.Waiter.{Waiter}
 
 -- the wait of a request is over, for the node of now or one before it, and what became of the wait ends the request so
@@ -37,19 +42,41 @@ pub record EndsByVerdict (d : DeliveryView) (w : Waiter) (outcome : Outcome) : T
   pub became : verdict_of (state_of d.manager) d.boxes waited.txn waited.at waited.wanted ≡ Some verdict
   pub ends : next_of waited verdict ≡ next.End outcome
 
--- the rest of a path was locked, and its last lock came to this
-pub record EndsByPath (d : DeliveryView) (w : Waiter) (outcome : Outcome) : Type 0 where
+-- the rest of a path was locked after calls, and its last lock came to this
+pub record EndsByPath (first d : DeliveryView) (w : Waiter) (outcome : Outcome) : Type 0 where
   pub node : NodeId
   pub mode : Mode
   pub asked : w.request ≡ request.Path node mode
   pub before : DeliveryView
+  pub calls : Calls first before
   pub result : Result Reached Refusal
   pub locks : LocksThrough w.txn (node, mode) before result d
   pub came : came_of (state_of d.manager) w.txn result ≡ came.Ended outcome
 
--- a request ends so at this delivery
-abbrev pub EndsAt : DeliveryView → Waiter → Outcome → Type 0
-EndsAt d w outcome = EndsByVerdict d w outcome ⊎ EndsByPath d w outcome
+-- the wait of a request is over, and its node is held in this mode
+abbrev pub IsGrantedIn : DeliveryView → Waiter → Mode → Type 0
+IsGrantedIn d w mode = (grant : Grant) × (grant.mode ≡ mode) × (verdict_of (state_of d.manager) d.boxes w.txn w.at w.wanted ≡ Some (Ok grant))
+
+-- after calls the wait for a row was granted, the row was locked again, with the keys of its request, and that lock ends the request so
+pub record EndsByRow (first d : DeliveryView) (w : Waiter) (outcome : Outcome) : Type 0 where
+  pub row : Row
+  pub keys : RowKeys
+  pub mode : Mode
+  pub asked : w.request ≡ request.Row row keys mode
+  pub before : DeliveryView
+  pub calls : Calls first before
+  pub waited : Waiter
+  pub still : StillRequests w waited
+  pub granted : Mode
+  pub became : IsGrantedIn before waited granted
+  pub result : Result RowLocked RowRefusal
+  pub told : Told
+  pub locks : LocksRowWith before w.txn row keys mode result told d
+  pub ends : outcome ≡ again_as waited.at granted result
+
+-- a request ends so at the second delivery, after calls from the first
+abbrev pub EndsAt : DeliveryView → DeliveryView → Waiter → Outcome → Type 0
+EndsAt first d w outcome = EndsByVerdict d w outcome ⊎ EndsByPath first d w outcome ⊎ EndsByRow first d w outcome
 
 -- a node is unlocked, as a command of the registry
 pub record Unlocks (t : TxnId) (node : NodeId) (d d' : DeliveryView) : Type 0 where
@@ -75,7 +102,7 @@ GivesBack instant t asked outcome d d' = UnlocksIf (is_given_back instant outcom
 pub record EndsBetween (d d' : DeliveryView) (w : Waiter) (outcome : Outcome) : Type 0 where
   pub mid : DeliveryView
   pub before : Calls d mid
-  pub ends : EndsAt mid w outcome
+  pub ends : EndsAt d mid w outcome
   pub left : DeliveryView
   pub gives : GivesBack w.instant w.txn w.request outcome mid left
   pub after : Calls left d'

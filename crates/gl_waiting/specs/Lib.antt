@@ -3,8 +3,11 @@ pub mod Begins
 pub mod Delivering
 pub mod Ends
 pub mod Going
+pub mod Keys
 pub mod Owned
 pub mod Paths
+pub mod RowLocks
+pub mod RowTries
 pub mod Tries
 pub mod Waiters
 pub mod Waiting

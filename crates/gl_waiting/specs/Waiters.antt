@@ -11,6 +11,9 @@ use Rattle.gl_modes.specs.declared.refusal.Refusal.{Refusal}
 use Rattle.gl_model.specs.State.{State, lives, status_of}
 use Rattle.gl_modes.specs.declared.refusal.Refusal.TheVariants as no
 use Rattle.gl_catalog.specs.Replies.{wait_of}
+use Rattle.gl_registry.specs.declared.row.Row.{Row}
+use Rattle.gl_registry.specs.Releasing.{no_node}
+use Rattle.gl_waiting.specs.declared.keys.RowKeys.{RowKeys}
 use Rattle.gl_waiting.specs.declared.waiter.Came.{Came}
 use Rattle.gl_waiting.specs.declared.waiter.Came.TheVariants as came
 use Rattle.gl_model.specs.declared.answers.Locked.{Locked}
@@ -49,10 +52,16 @@ has_more node at (Ok grant) = if same_node at node then false else true
 has_more node at (Err stop.Moved) = true
 has_more node at (Err x) = false
 
--- what comes after a wait for this node: a path that has more to lock goes on, and any other request ends
+-- what comes after a wait for a row: a row that was granted is locked again, to compare its keys, and any other request ends
+abbrev pub next_of_row : Row → RowKeys → Mode → NodeId → Result Grant Stop → Next
+next_of_row row keys mode at (Ok grant) = next.LockAgain row keys mode grant.mode
+next_of_row row keys mode at (Err x) = next.End (outcome_of at (Err x))
+
+-- what comes after a wait for this node: a path that has more to lock goes on, a row that was granted is locked again, and any other request ends
 abbrev pub next_after : Request → NodeId → Result Grant Stop → Next
 next_after (request.Node node mode) at verdict = next.End (outcome_of at verdict)
 next_after (request.Path node mode) at verdict = if has_more node at verdict then next.GoOn node mode else next.End (outcome_of at verdict)
+next_after (request.Row row keys mode) at verdict = next_of_row row keys mode at verdict
 
 -- the same of a waiter
 abbrev pub next_of : Waiter → Result Grant Stop → Next
@@ -166,14 +175,18 @@ earliest_until places = reduce min (filter_map until_in places)
 abbrev pub IsInTime : ℕ → Place → Type 0
 IsInTime now p = is_over now (until_in p) ≡ false
 
--- the node that is requested
+-- the node that is requested; a request for a row names none
 abbrev pub node_in : Request → NodeId
 node_in (request.Node node mode) = node
 node_in (request.Path node mode) = node
+node_in (request.Row row keys mode) = no_node
 
--- a request was granted
+-- a node was granted
 abbrev pub is_granted_so : Outcome → Bool
 is_granted_so (end.Granted mode) = true
+is_granted_so (end.RowGranted node mode) = false
+is_granted_so (end.OtherKeys node mode) = false
+is_granted_so end.NotRows = false
 is_granted_so (end.Victim at) = false
 is_granted_so (end.Moved at) = false
 is_granted_so (end.Gone at) = false

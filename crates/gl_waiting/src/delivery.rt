@@ -24,6 +24,7 @@ use gl_wakes::{Boxes, Grant, Stop, ended_by};
 use std::marker::Model;
 
 mod lock;
+mod row_tries;
 mod rows;
 mod savepoints;
 mod tries;

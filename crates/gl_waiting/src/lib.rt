@@ -4,7 +4,11 @@
 
 mod begins;
 mod delivery;
+mod keys;
 mod places;
+#[cfg(test)]
+mod row_tests;
+mod rows;
 #[cfg(test)]
 mod tests;
 mod tries;
@@ -14,6 +18,7 @@ mod waiting;
 
 pub use begins::{QueuedBegin, Turn};
 pub use delivery::Delivery;
-pub use tries::{Keep, Tried};
+pub use keys::RowKeys;
+pub use tries::{Keep, RowTried, Tried};
 pub use waiter::{Came, Outcome, Request};
 pub use waiting::Waiting;

@@ -14,12 +14,12 @@ use std::fmt::Debug;
 use std::process::Abort;
 
 /// The answer must be the expected one.
-fn same<T: PartialEq + Debug + Drop>(rt: &impl Abort, came: T, wanted: T) {
+pub(crate) fn same<T: PartialEq + Debug + Drop>(rt: &impl Abort, came: T, wanted: T) {
     assert_eq!(rt; came, wanted);
 }
 
 /// A table without nodes, for at most this many transactions.
-fn table(rt: &impl Abort, alloc: Global, most: usize) -> Waiting
+pub(crate) fn table(rt: &impl Abort, alloc: Global, most: usize) -> Waiting
     requires some { 1 ≤ most }
     requires few { most ≤ most_slots }
 {
@@ -28,12 +28,12 @@ fn table(rt: &impl Abort, alloc: Global, most: usize) -> Waiting
     Waiting::new(alloc, Delivery::new(registry))
 }
 
-fn serve(waiting: &mut Waiting, command: Command<'_>) -> Option<Answer> {
+pub(crate) fn serve(waiting: &mut Waiting, command: Command<'_>) -> Option<Answer> {
     let mut told = Told::new();
     waiting.serve(command, &mut told)
 }
 
-fn commit(rt: &impl Abort, waiting: &mut Waiting, txn: TxnId) {
+pub(crate) fn commit(rt: &impl Abort, waiting: &mut Waiting, txn: TxnId) {
     same(
         rt,
         serve(waiting, Command::Commit { txn }),
@@ -41,7 +41,7 @@ fn commit(rt: &impl Abort, waiting: &mut Waiting, txn: TxnId) {
     );
 }
 
-fn made(waiting: &mut Waiting, command: Command<'_>) -> NodeId {
+pub(crate) fn made(waiting: &mut Waiting, command: Command<'_>) -> NodeId {
     match serve(waiting, command) {
         Some(Answer::Node(node)) => node,
         _ => NodeId::NONE,
@@ -103,7 +103,7 @@ fn set_up(rt: &impl Abort, alloc: Global) -> Scene {
 }
 
 /// The only end that is to be taken.
-fn ends(rt: &impl Abort, waiting: &mut Waiting, txn: TxnId, outcome: Outcome) {
+pub(crate) fn ends(rt: &impl Abort, waiting: &mut Waiting, txn: TxnId, outcome: Outcome) {
     same(rt, waiting.take_end(), Some((txn, outcome)));
     same(rt, waiting.take_end(), None);
 }

@@ -5,9 +5,13 @@ ghost use Rattle.gl_model.specs.State.{is_write};
 ghost use Rattle.gl_catalog.specs.Paths.{intention, next_ask};
 ghost use Rattle.gl_catalog.specs.Replies.{said, took};
 ghost use Rattle.gl_waiting.specs.Tries.{LowersTo, climbs_down, gives_back, parent_missing, tried_as};
+ghost use Rattle.gl_waiting.specs.RowTries.{IsAtOnce, is_released, lock_of_tried, refused_at, row_refused};
 
 use arrayvec::ArrayVec;
+use gl_catalog::Answer;
 use gl_modes::{Mode, NodeId, Refusal, covers};
+use gl_registry::{RowAnswer, RowLocked, RowRefusal};
+use gl_table::Locked;
 
 /// How many nodes above it a tried path remembers.
 const MOST_ABOVE: usize = 16;
@@ -114,4 +118,70 @@ pub(crate) fn gives_back(keep: Keep, tried: Tried) -> bool
         Tried::Granted(_) => false,
         _ => keep == Keep::Nothing,
     }
+}
+
+/// What a tried row came to.
+#[derive(Clone, Copy, PartialEq, Eq, Debug)]
+pub enum RowTried {
+    /// The row is held by this node, in this mode, and has the keys of the try.
+    Granted { node: NodeId, mode: Mode },
+    /// The row is held by this node, in this mode, and the caller must look at its keys again.
+    OtherKeys { node: NodeId, mode: Mode },
+    /// The row's node, which is this, cannot be granted at once.
+    WouldBlock(NodeId),
+    /// The try was refused otherwise.
+    Refused(Refusal),
+    /// The file of the row is no file of rows.
+    NotRows,
+}
+
+/// What a tried row came to whose lock came to this, without a wait.
+pub(crate) fn row_tried_as(locked: Result<RowLocked, RowRefusal>) -> RowTried
+    requires { IsAtOnce locked }
+    ensures { lock_of_tried result ≡ locked }
+{
+    match locked {
+        Ok(
+            RowLocked {
+                node,
+                locked: Locked::Granted(mode),
+                own_keys,
+            },
+        ) => {
+            if own_keys {
+                RowTried::Granted { node, mode }
+            } else {
+                RowTried::OtherKeys { node, mode }
+            }
+        }
+        Ok(_) => unreachable!(),
+        Err(refusal) => row_refused(refusal),
+    }
+}
+
+/// What a row came to that was refused.
+pub(crate) fn row_refused(refusal: RowRefusal) -> RowTried
+    ensures { result ≡ row_refused refusal }
+{
+    match refusal {
+        RowRefusal::Refused(refusal) => RowTried::Refused(refusal),
+        RowRefusal::NotRows => RowTried::NotRows,
+    }
+}
+
+/// What a row came to whose node, which is this, was refused to a try.
+pub(crate) fn refused_at(node: NodeId, refusal: Refusal) -> RowTried
+    ensures { result ≡ refused_at node refusal }
+{
+    match refusal {
+        Refusal::WouldBlock => RowTried::WouldBlock(node),
+        _ => RowTried::Refused(refusal),
+    }
+}
+
+/// Whether a row was released.
+pub(crate) fn is_released(answer: RowAnswer) -> bool
+    ensures { result ≡ is_released answer }
+{
+    matches!(answer, RowAnswer::Answered(Answer::Done))
 }

@@ -3,7 +3,9 @@
 ghost use Rattle.std.specs.Prelude.{◌≡◌};
 ghost use Rattle.gl_waiting.specs.Waiters.{has_more, is_granted_so, next_of, node_in, outcome_of, place_of, until_in};
 
+use crate::keys::RowKeys;
 use gl_modes::{Mode, NodeId, Refusal};
+use gl_registry::Row;
 use gl_table::TxnId;
 use gl_wakes::{Grant, Stop};
 
@@ -14,15 +16,18 @@ pub enum Request {
     Node { node: NodeId, mode: Mode },
     /// A mode on a node, with what must be held above it.
     Path { node: NodeId, mode: Mode },
+    /// A mode on a row that has these keys, with what must be held above it held already.
+    Row { row: Row, keys: RowKeys, mode: Mode },
 }
 
 impl Request {
-    /// The node that it requests.
+    /// The node that it requests; a request for a row names none.
     pub(crate) fn node(&self) -> NodeId
         ensures { result ≡ node_in self.now }
     {
         match self {
             Request::Node { node, .. } | Request::Path { node, .. } => *node,
+            Request::Row { .. } => NodeId::NONE,
         }
     }
 }
@@ -47,6 +52,12 @@ pub struct Waiter {
 pub enum Outcome {
     /// The node of the request is held, in this mode.
     Granted(Mode),
+    /// The row of the request is held by this node, in this mode, and has the keys of the request.
+    RowGranted { node: NodeId, mode: Mode },
+    /// The row of the request is held by this node, in this mode, and the caller must look at its keys again.
+    OtherKeys { node: NodeId, mode: Mode },
+    /// The file of the row is no file of rows.
+    NotRows,
     /// The transaction was chosen as victim while it waited for this node.
     Victim(NodeId),
     /// This node, for which it waited, has other parents or keys now.
@@ -60,7 +71,7 @@ pub enum Outcome {
 }
 
 impl Outcome {
-    /// Whether the request was granted.
+    /// Whether the request was for a node and was granted.
     pub(crate) fn is_granted(&self) -> bool
         ensures { result ≡ is_granted_so self.now }
     {
@@ -91,7 +102,17 @@ pub(crate) enum Next {
     /// The request has ended.
     End(Outcome),
     /// The rest of a path is to be locked, up to this node in this mode.
-    GoOn { node: NodeId, mode: Mode },
+    GoOn {
+        node: NodeId,
+        mode: Mode,
+    },
+    /// A row was granted in this mode, and its lock is to be requested again: that tells whether it has these keys.
+    LockAgain {
+        row: Row,
+        keys: RowKeys,
+        mode: Mode,
+        granted: Mode,
+    },
 }
 
 impl Waiter {
@@ -116,10 +137,16 @@ impl Waiter {
     pub(crate) fn next(&self, verdict: Result<Grant, Stop>) -> Next
         ensures { result ≡ next_of self.now verdict }
     {
-        match self.request {
-            Request::Path { node, mode } if has_more(node, self.at, verdict) => {
+        match (self.request, verdict) {
+            (Request::Path { node, mode }, _) if has_more(node, self.at, verdict) => {
                 Next::GoOn { node, mode }
             }
+            (Request::Row { row, keys, mode }, Ok(grant)) => Next::LockAgain {
+                row,
+                keys,
+                mode,
+                granted: grant.mode,
+            },
             _ => Next::End(outcome_of(self.at, verdict)),
         }
     }

@@ -6,16 +6,17 @@ ghost use Rattle.gl_slots.specs.Slots.{HasNoSlot, has_slot};
 ghost use Rattle.gl_catalog.specs.Manager.{state_of};
 ghost use Rattle.gl_steps.specs.Promises.{waits_on};
 ghost use Rattle.gl_wakes.specs.Wakes.{HasEnded};
-ghost use Rattle.gl_waiting.specs.Asking.{Reaches, Requests};
+ghost use Rattle.gl_waiting.specs.Asking.{LocksAlone, Requests};
 ghost use Rattle.gl_waiting.specs.Ends.{GivesBack, GoesOn, PlaceGoesOn, is_given_back};
 ghost use Rattle.gl_waiting.specs.Going.{Calls};
 ghost use Rattle.gl_waiting.specs.Paths.{LocksThrough};
 ghost use Rattle.gl_waiting.specs.Waiters.{Await, AwaitBut, IsWaitingPlace, came_of, stops_above, waits_as};
 ghost use Rattle.gl_waiting.specs.declared.waiter.Place.TheVariants.{Waits as waits};
-ghost use Rattle.gl_waiting.specs.declared.waiter.Request.TheVariants.{Node as NodeRequest, Path as PathRequest};
+ghost use Rattle.gl_waiting.specs.declared.waiter.Request.TheVariants.{Path as PathRequest};
 
 use crate::delivery::Delivery;
 use crate::places::Places;
+use crate::rows::{lock_again, request_row};
 use crate::waiter::{Came, Next, Outcome, Place, Request, Waiter};
 use gl_catalog::{Command, Manager, Reached};
 use gl_modes::{Mode, NodeId, Refusal};
@@ -87,6 +88,16 @@ fn look_at(delivery: &mut Delivery, places: &mut Places, slot: Slot) -> Slots
         Next::GoOn { node, mode } => {
             let (place, ended) = go_on(delivery, waiter, node, mode);
             places.put(slot, place);
+            ended
+        }
+        Next::LockAgain {
+            row,
+            keys,
+            mode,
+            granted,
+        } => {
+            let (end, ended) = lock_again(delivery, waiter, row, keys, mode, granted);
+            places.put(slot, Place::Ended(waiter.txn, end));
             ended
         }
     }
@@ -164,7 +175,7 @@ pub(crate) fn came_of(manager: &Manager, txn: TxnId, reached: Result<Reached, Re
 }
 
 /// For what a transaction waits.
-fn wait_of(manager: &Manager, txn: TxnId) -> Came
+pub(crate) fn wait_of(manager: &Manager, txn: TxnId) -> Came
     ensures { result ≡ waits_as (state_of manager.now) txn }
 {
     match manager.waiting(txn) {
@@ -217,7 +228,7 @@ fn stops_above(node: NodeId, reached: Result<Reached, Refusal>) -> bool
     }
 }
 
-/// Carries out a request. Answers what its last lock came to, and the slots whose wait it may have ended.
+/// Carries out a request. Answers what it came to, and the slots whose wait it may have ended.
 pub(crate) fn request_now(
     delivery: &mut Delivery,
     txn: TxnId,
@@ -229,11 +240,17 @@ pub(crate) fn request_now(
     ensures calls { Calls delivery.old delivery.new }
     ensures ended { HasEnded (state_of delivery.old.manager) (state_of delivery.new.manager) result.1 }
 {
-    let (reached, ended) = match request {
-        Request::Node { node, mode } => lock_node(delivery, txn, node, mode, told),
-        Request::Path { node, mode } => lock_path_through(delivery, txn, node, mode),
-    };
-    (came_of(delivery.manager(), txn, reached), ended)
+    match request {
+        Request::Node { node, mode } => {
+            let (reached, ended) = lock_node(delivery, txn, node, mode, told);
+            (came_of(delivery.manager(), txn, reached), ended)
+        }
+        Request::Path { node, mode } => {
+            let (reached, ended) = lock_path_through(delivery, txn, node, mode);
+            (came_of(delivery.manager(), txn, reached), ended)
+        }
+        Request::Row { row, keys, mode } => request_row(delivery, txn, row, keys, mode, told),
+    }
 }
 
 /// Locks a node alone. Answers the slots whose wait that may have ended.
@@ -245,7 +262,7 @@ fn lock_node(
     told: &mut Told,
 ) -> (Result<Reached, Refusal>, Slots)
     requires empty { told.old.items ≡ [] }
-    ensures reaches { Reaches delivery.old txn (NodeRequest node mode) result.0 told.new.items delivery.new }
+    ensures locks { LocksAlone txn node mode delivery.old result.0 told.new.items delivery.new }
     ensures calls { Calls delivery.old delivery.new }
     ensures ended { HasEnded (state_of delivery.old.manager) (state_of delivery.new.manager) result.1 }
 {

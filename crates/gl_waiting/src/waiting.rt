@@ -7,8 +7,8 @@ ghost use Rattle.gl_registry.specs.Rows.{name_of};
 ghost use Rattle.gl_graph.specs.Refusals.{max_count};
 ghost use Rattle.gl_waiting.specs.Ends.{EndsInTime, PlaceGoes};
 ghost use Rattle.gl_waiting.specs.Going.{Calls};
-ghost use Rattle.gl_waiting.specs.Asking.{Asks, Awaits, Begins, BeginsInTurn, BeginsNext, Expires, IsBeginAnswer, RollsBackTo, Serves, ServesRow, TimesOut};
-ghost use Rattle.gl_waiting.specs.Asking.{TriesThere, begin_of, begin_said, is_done, is_for_instant, is_too_many};
+ghost use Rattle.gl_waiting.specs.Asking.{Asks, AsksOnce, Awaits, Begins, BeginsInTurn, BeginsNext, Expires, IsBeginAnswer, RollsBackTo, Serves, ServesRow, TimesOut};
+ghost use Rattle.gl_waiting.specs.Asking.{TriesRowThere, TriesThere, begin_of, begin_said, is_done, is_for_instant, is_too_many};
 ghost use Rattle.gl_waiting.specs.Begins.{earliest_of, has_word, is_late, without_first};
 ghost use Rattle.std.specs.List.{find, list_any};
 ghost use Rattle.gl_waiting.specs.Waiters.{Await, IsInTime, TakesEnd, earliest_until, place_at};
@@ -18,7 +18,7 @@ ghost use Rattle.gl_waiting.specs.declared.waiter.Place.TheVariants.{Empty as em
 use crate::begins::{BeginQueue, QueuedBegin, Turn, is_over};
 use crate::delivery::Delivery;
 use crate::places::Places;
-use crate::tries::{Keep, Tried};
+use crate::tries::{Keep, RowTried, Tried};
 use crate::waiter::{Came, Outcome, Place, Request, Waiter, outcome_of};
 use crate::waiters::{give_back, request_now, settle};
 use gl_catalog::{Answer, Command, Manager};
@@ -32,8 +32,8 @@ use std::marker::Model;
 /// A registry with a notice box and a place for each slot: its waiter, or the end of its wait.
 ///
 /// Each waiter waits: its transaction is in the queue of the node for which it waits. After each call every waiter that
-/// can go on has gone on: a path that was granted a node has requested the next. A slot keeps the last end alone, so the
-/// caller takes all ends after each call, before it releases the latch.
+/// can go on has gone on: a path that was granted a node has requested the next, and a row that was granted has been locked
+/// again. A slot keeps the last end alone, so the caller takes all ends after each call, before it releases the latch.
 #[derive(Drop)]
 pub struct Waiting {
     delivery: Delivery,
@@ -149,10 +149,28 @@ impl Waiting {
         tried
     }
 
+    /// Tries to lock a row that has these keys, as `Delivery::try_row`. Waiters whose wait a release ends go on or end.
+    pub fn try_row(
+        &mut self,
+        txn: TxnId,
+        row: Row,
+        keys: &[u64],
+        mode: Mode,
+        told: &mut Told,
+    ) -> RowTried
+        requires empty { told.old.items ≡ [] }
+        ensures { TriesRowThere self.old (record { txn = txn; row = row; keys = keys.entry; mode = mode }) result told.new.items self.new }
+    {
+        self.delivery.law();
+        let (tried, ended) = self.delivery.try_row(txn, row, keys, mode, told);
+        settle(&mut self.delivery, &mut self.places, ended);
+        tried
+    }
+
     /// Carries out a request, with the notices of a single lock put into an empty list. If it waits, its transaction is a
     /// waiter from now on, with at most this time to wait. A node that the transaction does not hold may be requested for
-    /// an instant: its lock is released as it is granted. Waiters whose wait the request ends go on or end; it may be one
-    /// of them.
+    /// an instant: its lock is released as it is granted. `instant` says nothing of a row. Waiters whose wait the request
+    /// ends go on or end; it may be one of them.
     pub fn ask(
         &mut self,
         txn: TxnId,
@@ -165,7 +183,7 @@ impl Waiting {
         ensures { Asks self.old txn request instant until result told.new.items self.new }
     {
         self.delivery.law();
-        let instant = is_for_instant(self.delivery.manager(), txn, request.node(), instant);
+        let instant = is_for_instant(self.delivery.manager(), txn, request, instant);
         let (came, ended) = request_now(&mut self.delivery, txn, request, told);
         self.delivery.law();
         match came {
@@ -187,6 +205,23 @@ impl Waiting {
                 self.places.put(txn.slot, Place::Waits(waiter));
                 settle(&mut self.delivery, &mut self.places, ended);
                 self.places.answer(txn.slot, came)
+            }
+        }
+    }
+
+    /// Carries out a request as `ask`, but leaves no waiter: if the request still waits after all waiters have gone on, the
+    /// answer says for which node and in which mode, and `await_lock` makes a waiter of its transaction. An instant that
+    /// still waits is awaited as a lock that stays.
+    pub fn request(&mut self, txn: TxnId, request: Request, instant: bool, told: &mut Told) -> Came
+        requires empty { told.old.items ≡ [] }
+        ensures { AsksOnce self.old txn request instant result told.new.items self.new }
+    {
+        let came = self.ask(txn, request, instant, None, told);
+        match came {
+            Came::Ended(_) => came,
+            Came::Waits { .. } => {
+                self.places.clear(txn.slot);
+                came
             }
         }
     }
@@ -354,11 +389,17 @@ impl Waiting {
     }
 }
 
-/// Whether a request is for an instant: it is said so, and its transaction does not hold the node.
-fn is_for_instant(manager: &Manager, txn: TxnId, node: NodeId, instant: bool) -> bool
-    ensures { result ≡ is_for_instant (state_of manager.now) txn node instant }
+/// Whether a request is for an instant: it is said so, and its transaction does not hold the node. No request for a row
+/// is.
+fn is_for_instant(manager: &Manager, txn: TxnId, request: Request, instant: bool) -> bool
+    ensures { result ≡ is_for_instant (state_of manager.now) txn request instant }
 {
-    instant && matches!(manager.mode_on(txn, node), Some(Mode::NL))
+    match request {
+        Request::Node { node, .. } | Request::Path { node, .. } => {
+            instant && matches!(manager.mode_on(txn, node), Some(Mode::NL))
+        }
+        Request::Row { .. } => false,
+    }
 }
 
 /// Whether a command was done.

@@ -1,15 +1,19 @@
 //! Calls about rows.
 
 ghost use Rattle.std.specs.Prelude.{◌≡◌, []};
+ghost use Rattle.gl_registry.specs.Answers.{lock_said};
 ghost use Rattle.gl_catalog.specs.Manager.{state_of};
 ghost use Rattle.gl_registry.specs.Applying.{AppliesCall, CarriesOut, answer_in, naming, own_command};
 ghost use Rattle.gl_waiting.specs.Delivering.{Carries, registry_in};
 ghost use Rattle.gl_waiting.specs.Going.{IsRun};
+ghost use Rattle.gl_waiting.specs.RowLocks.{IsRowLockAnswer, LocksRowAs, row_lock};
 
 use super::{Delivery, deliver};
-use gl_registry::{RowAnswer, RowCall};
+use gl_catalog::Answer;
+use gl_modes::Mode;
+use gl_registry::{Row, RowAnswer, RowCall, RowLocked, RowRefusal};
 use gl_slots::Slots;
-use gl_table::Told;
+use gl_table::{Told, TxnId};
 
 impl Delivery {
     /// Carries out a call about rows, as `Registry::apply`, with its notices put into an empty list.
@@ -30,5 +34,43 @@ impl Delivery {
         let own = call.command();
         let ended = deliver(&mut self.boxes, &own, told);
         (answer, ended)
+    }
+
+    /// Locks a row that has these keys, as `RowCall::Lock`, with the notices put into an empty list.
+    pub fn lock_row(
+        &mut self,
+        txn: TxnId,
+        row: Row,
+        keys: &[u64],
+        mode: Mode,
+        told: &mut Told,
+    ) -> (Result<RowLocked, RowRefusal>, Slots)
+        requires empty { told.old.items ≡ [] }
+        ensures locks { LocksRowAs self.old (record { txn = txn; row = row; keys = keys.entry; mode = mode }) result.0 told.new.items self.new }
+        ensures carries { Carries self.old (own_command self.new.rows (row_lock (record { txn = txn; row = row; keys = keys.entry; mode = mode })))
+            told.new.items result.1 self.new }
+        ensures run { IsRun (state_of self.old.manager) (state_of self.new.manager) }
+    {
+        let call = RowCall::Lock {
+            txn,
+            row,
+            keys,
+            mode,
+        };
+        let (answer, ended) = self.serve_row(call, told);
+        (row_locked_in(answer), ended)
+    }
+}
+
+/// What a row's lock came to that was answered so.
+fn row_locked_in(answer: RowAnswer) -> Result<RowLocked, RowRefusal>
+    requires { IsRowLockAnswer answer }
+    ensures { lock_said result ≡ answer }
+{
+    match answer {
+        RowAnswer::Locked(locked) => Ok(locked),
+        RowAnswer::NotRows => Err(RowRefusal::NotRows),
+        RowAnswer::Answered(Answer::Refused(refusal)) => Err(RowRefusal::Refused(refusal)),
+        RowAnswer::Answered(_) => unreachable!(),
     }
 }

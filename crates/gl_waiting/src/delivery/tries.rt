@@ -117,7 +117,7 @@ impl Delivery {
     }
 
     /// Tries to lock one node.
-    fn try_at(
+    pub(super) fn try_at(
         &mut self,
         txn: TxnId,
         node: NodeId,

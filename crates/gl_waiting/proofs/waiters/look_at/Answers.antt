@@ -10,7 +10,7 @@ use Rattle.gl_waiting.specs.Ends.{GoesOn}
 use Rattle.gl_waiting.specs.Waiters.{AwaitBut}
 use Rattle.gl_waiting.specs.declared.waiter.Place.TheVariants as place
 use Rattle.gl_waiting.proofs.Awaiting.{await_put, await_still, verdict_still, waiter_there}
-use Rattle.gl_waiting.proofs.GoingOn.{ends_by_verdict, ends_now, goes_on_path, goes_on_put, goes_on_same}
+use Rattle.gl_waiting.proofs.GoingOn.{again_row, ends_by_row, ends_by_verdict, ends_now, goes_on_path, goes_on_put, goes_on_same, granted_in}
 use Rattle.gl_waiting.proofs.waiters.look_at.Goals as goal
 
 long : (places : List Place) (slot : ℕ) → length places ≡ most_slots → slot < most_slots → slot < length places
@@ -74,3 +74,36 @@ returns-in-GoOn-clause-goes c =
     (goes_on_put c.args.delivery.now c.go_on-place.new.delivery c.go_on-place.ensures.calls c.args.places.now c.args.slot c.in-Some.waiter
     c.go_on-place.result.0 (long c.args.places.now c.args.slot c.put-in-GoOn.ensures.slots c.requires.within)
     (waiter_there _ c.in-Some.waiter c.in-Some.ensures) c.go_on-place.ensures.place)
+
+pub lock_again-end-requires : goal.lock_again-end-requires
+lock_again-end-requires c =
+    let is = again_row c.in-Some.waiter c.in-Some-verdict.verdict c.in-LockAgain.row c.in-LockAgain.keys c.in-LockAgain.mode c.in-LockAgain.granted
+    c.in-LockAgain.ensures in
+    record {
+      asked = is.0;
+      became = granted_in c.args.delivery.now c.in-Some.waiter c.in-LockAgain.granted c.in-Some-verdict.verdict c.in-Some-verdict.ensures is.1;
+    }
+
+pub returns-in-LockAgain-clause-awaits : goal.returns-in-LockAgain-clause-awaits
+returns-in-LockAgain-clause-awaits c =
+    λ rest h.
+    let was = waiter_there _ c.in-Some.waiter c.in-Some.ensures in
+    subst (λ (ps : List Place). AwaitBut (λ u. rest u || has_slot c.lock_again-end.result.1 u) (state_of c.lock_again-end.new.delivery.manager) ps)
+    (sym c.put-in-LockAgain.ensures.put)
+    (await_put rest c.args.slot (state_of c.args.delivery.now.manager) c.args.places.now h (state_of c.lock_again-end.new.delivery.manager)
+    c.lock_again-end.result.1 c.in-Some.waiter.txn (place.Ended c.in-Some.waiter.txn c.lock_again-end.result.0) c.law.ensures.lawful
+    c.lock_again-end.ensures.ended tt (h.own c.args.slot c.in-Some.waiter was).0
+    (long c.args.places.now c.args.slot c.put-in-LockAgain.ensures.slots c.requires.within) c.requires.within)
+
+pub returns-in-LockAgain-clause-goes : goal.returns-in-LockAgain-clause-goes
+returns-in-LockAgain-clause-goes c =
+    let again = c.lock_again-end.ensures in
+    subst (λ (ps : List Place). GoesOn c.args.delivery.now c.args.places.now c.lock_again-end.new.delivery ps) (sym c.put-in-LockAgain.ensures.put)
+    (goes_on_put c.args.delivery.now c.lock_again-end.new.delivery again.calls c.args.places.now c.args.slot c.in-Some.waiter
+    (place.Ended c.in-Some.waiter.txn c.lock_again-end.result.0)
+    (long c.args.places.now c.args.slot c.put-in-LockAgain.ensures.slots c.requires.within) (waiter_there _ c.in-Some.waiter c.in-Some.ensures)
+    (inr (
+      c.lock_again-end.result.0,
+      refl,
+      ends_by_row c.args.delivery.now c.lock_again-end.new.delivery c.in-Some.waiter c.lock_again-end.result.0 again.calls again.ends,
+    )))

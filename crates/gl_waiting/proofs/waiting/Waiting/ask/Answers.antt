@@ -1,24 +1,23 @@
 use Rattle.std.proofs.Common.{Bool, ◌≡◌, ap, refl, subst, sym, ◌∙◌, List}
 use Rattle.gl_catalog.specs.Manager.{ManagerView, state_of}
-use Rattle.gl_modes.specs.declared.node.NodeId.{NodeId}
 use Rattle.gl_model.specs.declared.txn.TxnId.{TxnId}
 use Rattle.gl_waiting.specs.Asking.{Asks, Requests, is_for_instant, registered, waiter_for}
 use Rattle.gl_waiting.specs.Ends.{GivesBack, GoesOn}
-use Rattle.gl_waiting.specs.Waiters.{AwaitBut, node_in}
+use Rattle.gl_waiting.specs.Waiters.{AwaitBut}
 use Rattle.gl_slots.specs.Slots.{has_slot}
 use Rattle.gl_waiting.specs.Waiting.{WaitingView}
 use Rattle.gl_waiting.specs.declared.waiter.Came.{Came}
 use Rattle.gl_waiting.specs.declared.waiter.Came.TheVariants as came
 use Rattle.gl_waiting.specs.declared.waiter.Place.{Place}
+use Rattle.gl_waiting.specs.declared.waiter.Request.{Request}
 use Rattle.gl_waiting.proofs.Alone.{slot_alone}
-use Rattle.gl_waiting.proofs.Awaiting.{await_answers, await_on, await_registered, came_waits, ended_then, waiting_with, waits_below}
+use Rattle.gl_waiting.proofs.Awaiting.{await_answers, await_on, await_registered, ended_then, requests_wait, waiting_with, waits_below}
 use Rattle.gl_waiting.proofs.waiting.Waiting.ask.Goals as goal
 
 -- in the words of a table of waiters
-instant_as : (b : Bool) (m m' : ManagerView) (t : TxnId) (n n' : NodeId) (said : Bool) → b ≡ is_for_instant (state_of m) t n said → m ≡ m' → n ≡ n'
-    → b ≡ is_for_instant (state_of m') t n' said
-instant_as b m m' t n n' said is same node =
-    is ∙ ap (λ (x : ManagerView). is_for_instant (state_of x) t n said) same ∙ ap (λ (x : NodeId). is_for_instant (state_of m') t x said) node
+instant_as : (b : Bool) (m m' : ManagerView) (t : TxnId) (asked : Request) (said : Bool) → b ≡ is_for_instant (state_of m) t asked said → m ≡ m'
+    → b ≡ is_for_instant (state_of m') t asked said
+instant_as b m m' t asked said is same = is ∙ ap (λ (x : ManagerView). is_for_instant (state_of x) t asked said) same
 
 pub settle-requires : goal.settle-requires
 settle-requires c = record {
@@ -36,8 +35,8 @@ returns-in-Ended c =
     let served = c.request_now-came.new.delivery in
     let requests = subst (λ (x : Came). Requests c.self.inside.delivery c.args.txn c.args.request x c.request_now-came.new.told.items served) c.in-Ended.is
     asked.requests in
-    let instant = instant_as c.is_for_instant-instant.result c.manager.result.now c.self.inside.delivery.manager c.args.txn c.node.result
-    (node_in c.args.request) c.args.instant c.is_for_instant-instant.ensures c.manager.ensures c.node.ensures in
+    let instant = instant_as c.is_for_instant-instant.result c.manager.result.now c.self.inside.delivery.manager c.args.txn
+    c.args.request c.args.instant c.is_for_instant-instant.ensures c.manager.ensures in
     subst
     (λ (v : WaitingView). Asks v c.args.txn c.args.request c.args.instant c.args.until over c.request_now-came.new.told.items
     (waiting_with c.settle.new.delivery c.settle.new.places c.self.inside.begins)) c.self.view_is
@@ -61,13 +60,14 @@ pub put-requires : goal.put-requires
 put-requires c =
     let h = c.request_now-came.ensures.requests in
     waits_below (state_of c.request_now-came.new.delivery.manager) c.args.txn c.law-2.ensures.lawful c.law-2.ensures.few c.in-Waits.at
-    (came_waits (state_of c.request_now-came.new.delivery.manager) c.args.txn h.reached c.in-Waits.at c.in-Waits.wanted (sym c.in-Waits.is ∙ h.came))
+    (requests_wait c.self.inside.delivery c.request_now-came.new.delivery c.args.txn c.args.request _ c.request_now-came.new.told.items h c.in-Waits.at
+    c.in-Waits.wanted (sym c.in-Waits.is))
 
 pub settle-requires-in-Waits : goal.settle-requires-in-Waits
 settle-requires-in-Waits c =
     let h = c.request_now-came.ensures.requests in
-    let waits = came_waits (state_of c.request_now-came.new.delivery.manager) c.args.txn h.reached c.in-Waits.at c.in-Waits.wanted
-    (sym c.in-Waits.is ∙ h.came) in
+    let waits = requests_wait c.self.inside.delivery c.request_now-came.new.delivery c.args.txn c.args.request _ c.request_now-came.new.told.items h
+    c.in-Waits.at c.in-Waits.wanted (sym c.in-Waits.is) in
     record {
       awaits = subst (λ (ps : List Place). AwaitBut (has_slot c.request_now-came.result.1) (state_of c.request_now-came.new.delivery.manager) ps)
           (sym c.put.ensures.put)
@@ -90,8 +90,8 @@ returns-in-Waits c =
     let served = c.request_now-came.new.delivery in
     let requests = subst (λ (x : Came). Requests c.self.inside.delivery c.args.txn c.args.request x c.request_now-came.new.told.items served) c.in-Waits.is
     asked.requests in
-    let instant = instant_as c.is_for_instant-instant.result c.manager.result.now c.self.inside.delivery.manager c.args.txn c.node.result
-    (node_in c.args.request) c.args.instant c.is_for_instant-instant.ensures c.manager.ensures c.node.ensures in
+    let instant = instant_as c.is_for_instant-instant.result c.manager.result.now c.self.inside.delivery.manager c.args.txn
+    c.args.request c.args.instant c.is_for_instant-instant.ensures c.manager.ensures in
     subst
     (λ (v : WaitingView). Asks v c.args.txn c.args.request c.args.instant c.args.until c.answer.result c.request_now-came.new.told.items
     (waiting_with c.settle-in-Waits.new.delivery c.answer.new.self c.self.inside.begins)) c.self.view_is

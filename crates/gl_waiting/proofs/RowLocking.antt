@@ -1,0 +1,68 @@
+-- A row's lock, by its outcome: what it does, that it is a call of a delivery, and that a transaction that waits does not wait for it.
+use Rattle.std.specs.Prelude.{◌≡◌, Bool, true, false, Option, Some, None, Result, Ok, Err}
+use Rattle.std.proofs.Common.{refl, sym, subst}
+use Rattle.gl_modes.specs.declared.mode.Mode.{Mode}
+use Rattle.gl_modes.specs.declared.node.NodeId.{NodeId}
+use Rattle.gl_model.specs.declared.answers.Locked.{Locked}
+use Rattle.gl_model.specs.declared.answers.Locked.TheVariants as locked
+use Rattle.gl_model.specs.declared.txn.TxnId.{TxnId}
+use Rattle.gl_model.specs.State.{State}
+use Rattle.gl_model.specs.Tellings.{Told}
+use Rattle.gl_registry.specs.declared.answer.RowAnswer.{RowAnswer}
+use Rattle.gl_registry.specs.declared.answer.RowLocked.{RowLocked}
+use Rattle.gl_registry.specs.declared.answer.RowRefusal.{RowRefusal}
+use Rattle.gl_registry.specs.declared.answer.RowRefusal.TheVariants as row_no
+use Rattle.gl_registry.specs.Answers.{lock_said}
+use Rattle.gl_registry.specs.Applying.{AppliesCall, CarriesOut, answer_in, own_command}
+use Rattle.gl_registry.specs.Locking.{LocksRow, Wish}
+use Rattle.gl_waiting.specs.Delivering.{DeliveryView, registry_in}
+use Rattle.gl_waiting.specs.Ends.{is_given_back}
+use Rattle.gl_waiting.specs.RowLocks.{IsRowLockAnswer, LocksRowAs, after_grant, row_came_as, row_lock}
+use Rattle.gl_waiting.specs.Waiters.{waits_as}
+use Rattle.gl_waiting.specs.declared.waiter.Came.TheVariants as came
+
+-- two outcomes with one answer are one
+pub lock_said_once : (a b : Result RowLocked RowRefusal) → lock_said a ≡ lock_said b → a ≡ b
+lock_said_once (Ok x) (Ok y) e = cc e
+lock_said_once (Ok x) (Err (row_no.Refused q)) e = absurd (cc e)
+lock_said_once (Ok x) (Err row_no.NotRows) e = absurd (cc e)
+lock_said_once (Err (row_no.Refused r)) (Ok y) e = absurd (cc e)
+lock_said_once (Err (row_no.Refused r)) (Err (row_no.Refused q)) e = cc e
+lock_said_once (Err (row_no.Refused r)) (Err row_no.NotRows) e = absurd (cc e)
+lock_said_once (Err row_no.NotRows) (Ok y) e = absurd (cc e)
+lock_said_once (Err row_no.NotRows) (Err (row_no.Refused q)) e = absurd (cc e)
+lock_said_once (Err row_no.NotRows) (Err row_no.NotRows) e = refl
+
+-- what a row's lock does, by its outcome
+pub locks_row : (d d' : DeliveryView) (w : Wish) (result : Result RowLocked RowRefusal) (told : Told) → LocksRowAs d w result told d'
+    → LocksRow d.manager d.rows w result told d'.manager d'.rows
+locks_row d d' w result told h =
+    subst (λ (r : Result RowLocked RowRefusal). LocksRow d.manager d.rows w r told d'.manager d'.rows)
+    (lock_said_once h.applies.result result (sym h.applies.answered)) h.applies.was_done
+
+-- a row's lock, by its answer
+pub row_answered : (d d' : DeliveryView) (w : Wish) (a : RowAnswer) (told : Told) → AppliesCall (registry_in d) (row_lock w) a told (registry_in d')
+    → IsRowLockAnswer a
+row_answered d d' w a told h = (h.result, sym h.answered)
+
+pub locks_as : (d d' : DeliveryView) (w : Wish) (a : RowAnswer) (result : Result RowLocked RowRefusal) (told : Told) → lock_said result ≡ a
+    → AppliesCall (registry_in d) (row_lock w) a told (registry_in d')
+    → CarriesOut d.manager (own_command d'.rows (row_lock w)) (answer_in a) told d'.manager → LocksRowAs d w result told d'
+locks_as d d' w a result told is applies own =
+    record {
+      applies = subst (λ (x : RowAnswer). AppliesCall (registry_in d) (row_lock w) x told (registry_in d')) (sym is) applies;
+      own = subst (λ (x : RowAnswer). CarriesOut d.manager (own_command d'.rows (row_lock w)) (answer_in x) told d'.manager) (sym is) own;
+    }
+
+-- the lock of a row is never unlocked as that of a node that was granted for an instant
+pub row_kept : (instant : Bool) (at : NodeId) (granted : Mode) (o : Option (NodeId × Mode)) → is_given_back instant (after_grant at granted o) ≡ false
+row_kept true at granted (Some x) = refl
+row_kept true at granted None = refl
+row_kept false at granted o = refl
+
+-- a request for a row that waits has a lock that waits
+pub row_waits_as : (s : State) (t : TxnId) (n : NodeId) (x : Locked) (own : Bool) (at : NodeId) (wanted : Mode)
+    → came.Waits at wanted ≡ row_came_as s t n x own → (x ≡ locked.Waiting) × (came.Waits at wanted ≡ waits_as s t)
+row_waits_as s t n (locked.Granted m) own at wanted e = absurd (cc e)
+row_waits_as s t n locked.Victim own at wanted e = absurd (cc e)
+row_waits_as s t n locked.Waiting own at wanted e = (refl, e)

@@ -1,0 +1,99 @@
+use Rattle.std.proofs.Common.{◌≡◌, subst, sym, ◌∙◌}
+use Rattle.std.specs.Prelude.{Err, Result}
+use Rattle.gl_catalog.specs.Manager.{state_of}
+use Rattle.gl_registry.specs.declared.answer.RowLocked.{RowLocked}
+use Rattle.gl_registry.specs.declared.answer.RowRefusal.{RowRefusal}
+use Rattle.gl_registry.specs.Locking.{Wish}
+use Rattle.gl_waiting.specs.RowLocks.{LocksRowAs}
+use Rattle.gl_waiting.specs.RowTries.{KeepsQueues}
+use Rattle.gl_waiting.specs.declared.tries.RowTried.{RowTried}
+use Rattle.gl_waiting.proofs.RowTrying.{back_counted, back_ended, back_queues, back_waits, held_at_once, no_wait_locked}
+use Rattle.gl_waiting.proofs.Runs.{run_then}
+use Rattle.gl_waiting.proofs.delivery.Delivery.note_row.Goals as goal
+
+pub row_tried_as-requires : goal.row_tried_as-requires
+row_tried_as-requires c =
+    let wish : Wish = record { txn = c.args.txn; row = c.args.row; keys = c.args.keys; mode = c.args.mode } in
+    held_at_once c.args.self.now c.lock_row-locked.new.self wish c.lock_row-locked.new.told.items c.law.ensures.lawful c.args.node c.requires.named
+    c.requires.is_held c.lock_row-locked.result.0 c.lock_row-locked.ensures.locks
+
+pub returns-in-Ok-clause-waits : goal.returns-in-Ok-clause-waits
+returns-in-Ok-clause-waits c =
+    let wish : Wish = record { txn = c.args.txn; row = c.args.row; keys = c.args.keys; mode = c.args.mode } in
+    no_wait_locked c.args.self.now c.lock_row-locked.new.self wish c.lock_row-locked.result.0 c.lock_row-locked.new.told.items
+    (held_at_once c.args.self.now c.lock_row-locked.new.self wish c.lock_row-locked.new.told.items c.law.ensures.lawful c.args.node c.requires.named
+    c.requires.is_held c.lock_row-locked.result.0 c.lock_row-locked.ensures.locks) c.lock_row-locked.ensures.locks
+
+-- the row is released
+
+module _ (c : goal.After-row_refused) where
+  abbrev wish : Wish
+  wish = record { txn = c.args.txn; row = c.args.row; keys = c.args.keys; mode = c.args.mode }
+
+  locks : LocksRowAs c.args.self.now wish (Err c.in-Err.refusal) c.lock_row-locked.new.told.items c.lock_row-locked.new.self
+  locks = subst (λ (r : Result RowLocked RowRefusal). LocksRowAs c.args.self.now wish r c.lock_row-locked.new.told.items c.lock_row-locked.new.self)
+      c.in-Err.is c.lock_row-locked.ensures.locks
+
+pub returns-then-is_released-clause-waits : goal.returns-then-is_released-clause-waits
+returns-then-is_released-clause-waits c =
+    back_waits c.args.self.now c.lock_row-locked.new.self c.serve_row-answer.new.self (wish c) c.in-Err.refusal c.lock_row-locked.new.told.items (locks c)
+    c.serve_row-answer.result.0 c.serve_row-answer.new.told.items c.serve_row-answer.result.1 c.serve_row-answer.ensures.applies
+    c.serve_row-answer.ensures.own c.serve_row-answer.ensures.carries
+
+pub returns-then-is_released-clause-queues : goal.returns-then-is_released-clause-queues
+returns-then-is_released-clause-queues c =
+    subst (λ (x : RowTried). KeepsQueues x (state_of c.args.self.now.manager) (state_of c.serve_row-answer.new.self.manager)) (sym c.row_refused.ensures)
+    (back_queues c.args.self.now c.lock_row-locked.new.self c.serve_row-answer.new.self (wish c) c.in-Err.refusal c.lock_row-locked.new.told.items (locks c)
+    c.serve_row-answer.result.0 c.serve_row-answer.new.told.items c.serve_row-answer.result.1 c.serve_row-answer.ensures.applies
+    c.serve_row-answer.ensures.own c.serve_row-answer.ensures.carries c.args.node c.requires.named (sym c.if-is_released.ensures)
+    (c.requires.quiet c.if-held.false))
+
+pub returns-then-is_released-clause-run : goal.returns-then-is_released-clause-run
+returns-then-is_released-clause-run c =
+    run_then (state_of c.args.self.now.manager) (state_of c.lock_row-locked.new.self.manager) (state_of c.serve_row-answer.new.self.manager)
+    c.lock_row-locked.ensures.run c.serve_row-answer.ensures.run
+
+pub returns-then-is_released-clause-ended : goal.returns-then-is_released-clause-ended
+returns-then-is_released-clause-ended c =
+    back_ended c.args.self.now c.lock_row-locked.new.self c.serve_row-answer.new.self (wish c) c.in-Err.refusal c.lock_row-locked.new.told.items (locks c)
+    c.serve_row-answer.result.0 c.serve_row-answer.new.told.items c.serve_row-answer.result.1 c.serve_row-answer.ensures.applies
+    c.serve_row-answer.ensures.own c.serve_row-answer.ensures.carries
+
+pub returns-then-is_released-clause-counted : goal.returns-then-is_released-clause-counted
+returns-then-is_released-clause-counted c =
+    back_counted c.args.self.now c.lock_row-locked.new.self c.serve_row-answer.new.self (wish c) c.in-Err.refusal c.lock_row-locked.new.told.items (locks c)
+    c.serve_row-answer.result.0 c.serve_row-answer.new.told.items c.serve_row-answer.result.1 c.serve_row-answer.ensures.applies
+    c.serve_row-answer.ensures.own c.serve_row-answer.ensures.carries
+
+-- or that is refused too
+
+module _ (c : goal.Else-is_released) where
+  abbrev wish_too : Wish
+  wish_too = record { txn = c.args.txn; row = c.args.row; keys = c.args.keys; mode = c.args.mode }
+
+  locks_too : LocksRowAs c.args.self.now wish_too (Err c.in-Err.refusal) c.lock_row-locked.new.told.items c.lock_row-locked.new.self
+  locks_too = subst (λ (r : Result RowLocked RowRefusal). LocksRowAs c.args.self.now wish_too r c.lock_row-locked.new.told.items c.lock_row-locked.new.self)
+      c.in-Err.is c.lock_row-locked.ensures.locks
+
+pub returns-clause-waits : goal.returns-clause-waits
+returns-clause-waits c =
+    back_waits c.args.self.now c.lock_row-locked.new.self c.serve_row-answer.new.self (wish_too c) c.in-Err.refusal c.lock_row-locked.new.told.items
+    (locks_too c) c.serve_row-answer.result.0 c.serve_row-answer.new.told.items c.serve_row-answer.result.1 c.serve_row-answer.ensures.applies
+    c.serve_row-answer.ensures.own c.serve_row-answer.ensures.carries
+
+pub returns-clause-run : goal.returns-clause-run
+returns-clause-run c =
+    run_then (state_of c.args.self.now.manager) (state_of c.lock_row-locked.new.self.manager) (state_of c.serve_row-answer.new.self.manager)
+    c.lock_row-locked.ensures.run c.serve_row-answer.ensures.run
+
+pub returns-clause-ended : goal.returns-clause-ended
+returns-clause-ended c =
+    back_ended c.args.self.now c.lock_row-locked.new.self c.serve_row-answer.new.self (wish_too c) c.in-Err.refusal c.lock_row-locked.new.told.items
+    (locks_too c) c.serve_row-answer.result.0 c.serve_row-answer.new.told.items c.serve_row-answer.result.1 c.serve_row-answer.ensures.applies
+    c.serve_row-answer.ensures.own c.serve_row-answer.ensures.carries
+
+pub returns-clause-counted : goal.returns-clause-counted
+returns-clause-counted c =
+    back_counted c.args.self.now c.lock_row-locked.new.self c.serve_row-answer.new.self (wish_too c) c.in-Err.refusal c.lock_row-locked.new.told.items
+    (locks_too c) c.serve_row-answer.result.0 c.serve_row-answer.new.told.items c.serve_row-answer.result.1 c.serve_row-answer.ensures.applies
+    c.serve_row-answer.ensures.own c.serve_row-answer.ensures.carries

@@ -1,0 +1,98 @@
+-- A row's lock, and what a request for a row comes to by it.
+use Rattle.std.specs.Prelude.{◌≡◌, Bool, List, ℕ, Option, Some, None, Result, Ok, Err, if◌then◌else◌}
+use denote.Bor.{Bor}
+use Rattle.gl_slots.specs.declared.slots.Slots.{Slots}
+use Rattle.gl_modes.specs.declared.mode.Mode.{Mode}
+use Rattle.gl_modes.specs.declared.node.NodeId.{NodeId}
+use Rattle.gl_model.specs.declared.answers.Locked.{Locked}
+use Rattle.gl_model.specs.declared.answers.Locked.TheVariants as locked
+use Rattle.gl_model.specs.declared.txn.TxnId.{TxnId}
+use Rattle.gl_model.specs.State.{State}
+use Rattle.gl_model.specs.Tellings.{Told}
+use Rattle.gl_catalog.specs.Manager.{state_of}
+use Rattle.gl_registry.specs.declared.answer.RowAnswer.{RowAnswer}
+use Rattle.gl_registry.specs.declared.answer.RowLocked.{RowLocked}
+use Rattle.gl_registry.specs.declared.answer.RowRefusal.{RowRefusal}
+use Rattle.gl_registry.specs.declared.answer.RowRefusal.TheVariants as row_no
+use Rattle.gl_registry.specs.declared.call.RowCall.{RowCall}
+use Rattle.gl_registry.specs.declared.call.RowCall.TheVariants as call
+use Rattle.gl_registry.specs.declared.row.Row.{Row}
+use Rattle.gl_registry.specs.Answers.{lock_said}
+use Rattle.gl_registry.specs.Applying.{AppliesCall, CarriesOut, answer_in, own_command}
+use Rattle.gl_registry.specs.Locking.{Wish}
+use Rattle.gl_waiting.specs.Delivering.{Carries, DeliveryView, registry_in}
+use Rattle.gl_waiting.specs.Keys.{keys_in}
+use Rattle.gl_waiting.specs.Waiters.{waits_as}
+use Rattle.gl_waiting.specs.declared.keys.RowKeys.{RowKeys}
+use Rattle.gl_waiting.specs.declared.waiter.Came.{Came}
+use Rattle.gl_waiting.specs.declared.waiter.Came.TheVariants as came
+use Rattle.gl_waiting.specs.declared.waiter.Outcome.{Outcome}
+use Rattle.gl_waiting.specs.declared.waiter.Outcome.TheVariants as end
+
+-- the call that locks a row
+abbrev pub row_lock : Wish → RowCall
+row_lock w = call.Lock w.txn w.row w.keys w.mode
+
+-- a row's lock is answered so
+abbrev pub IsRowLockAnswer : RowAnswer → Type 0
+IsRowLockAnswer a = (result : Result RowLocked RowRefusal) × (lock_said result ≡ a)
+
+-- a row is locked, as a registry applies that call
+pub record LocksRowAs (d : DeliveryView) (w : Wish) (result : Result RowLocked RowRefusal) (told : Told) (d' : DeliveryView) : Type 0 where
+  pub applies : AppliesCall (registry_in d) (row_lock w) (lock_said result) told (registry_in d')
+  pub own : CarriesOut d.manager (own_command d'.rows (row_lock w)) (answer_in (lock_said result)) told d'.manager
+
+-- a row is locked in a delivery: its notices are in their boxes, and whose waits that ended is known
+pub record LocksRowIn (d : DeliveryView) (w : Wish) (result : Result RowLocked RowRefusal) (told : Told) (ended : Slots) (d' : DeliveryView) : Type 0 where
+  pub locks : LocksRowAs d w result told d'
+  pub carries : Carries d (own_command d'.rows (row_lock w)) told ended d'
+
+-- a row is locked with the keys of a request
+pub record LocksRowWith (d : DeliveryView) (t : TxnId) (row : Row) (keys : RowKeys) (mode : Mode) (result : Result RowLocked RowRefusal) (told : Told)
+    (d' : DeliveryView) : Type 0 where
+  pub lent : Bor (List ℕ)
+  pub same : lent.now ≡ keys_in keys
+  pub ended : Slots
+  pub locks : LocksRowIn d (record { txn = t; row = row; keys = lent; mode = mode }) result told ended d'
+
+-- the outcome for a row that is held by this node, by whether it has the keys of the request
+abbrev pub row_held : NodeId → Mode → Bool → Outcome
+row_held node mode own_keys = if own_keys then end.RowGranted node mode else end.OtherKeys node mode
+
+-- what a request for a row came to, by the lock of its node
+abbrev pub row_came_as : State → TxnId → NodeId → Locked → Bool → Came
+row_came_as s t node (locked.Granted mode) own_keys = came.Ended (row_held node mode own_keys)
+row_came_as s t node locked.Victim own_keys = came.Ended (end.Victim node)
+row_came_as s t node locked.Waiting own_keys = waits_as s t
+
+-- the same where it may be refused
+abbrev pub row_came_of : State → TxnId → Result RowLocked RowRefusal → Came
+row_came_of s t (Ok x) = row_came_as s t x.node x.locked x.own_keys
+row_came_of s t (Err (row_no.Refused r)) = came.Ended (end.Refused r)
+row_came_of s t (Err row_no.NotRows) = came.Ended end.NotRows
+
+-- a request for a row is carried out, and came to this
+pub record RequestsRow (d : DeliveryView) (t : TxnId) (row : Row) (keys : RowKeys) (mode : Mode) (c : Came) (told : Told) (d' : DeliveryView) : Type 0 where
+  pub result : Result RowLocked RowRefusal
+  pub locks : LocksRowWith d t row keys mode result told d'
+  pub came : c ≡ row_came_of (state_of d'.manager) t result
+
+-- the node and the mode of a row that was granted and has the keys of its request
+abbrev pub own_granted : NodeId → Locked → Bool → Option (NodeId × Mode)
+own_granted node (locked.Granted mode) own_keys = if own_keys then Some (node, mode) else None
+own_granted node locked.Waiting own_keys = None
+own_granted node locked.Victim own_keys = None
+
+-- the same of a row's lock
+abbrev pub granted_own : Result RowLocked RowRefusal → Option (NodeId × Mode)
+granted_own (Ok x) = own_granted x.node x.locked x.own_keys
+granted_own (Err r) = None
+
+-- the outcome after a wait for a row was granted at this node in this mode: only a row that is found to have the keys of its request is granted
+abbrev pub after_grant : NodeId → Mode → Option (NodeId × Mode) → Outcome
+after_grant at granted (Some x) = end.RowGranted x.0 x.1
+after_grant at granted None = end.OtherKeys at granted
+
+-- the same, by the lock that was requested again
+abbrev pub again_as : NodeId → Mode → Result RowLocked RowRefusal → Outcome
+again_as at granted result = after_grant at granted (granted_own result)
