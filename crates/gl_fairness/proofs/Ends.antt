@@ -158,7 +158,7 @@ lasts_or_ends s s' (c ∷ cs) (r ∷ rs) t n law run waits =
           waited = w.1;
           over = e;
           how = ended_so s t n w.0 (law.waits_live t.slot n (stands_in s law t.slot n w.0 w.1)) c r.1 mid
-          (waits_end_so s mid c r.0 r.1 t n w.0 law run.1 parts.0 w.1 e);
+              (waits_end_so s mid c r.0 r.1 t n w.0 law run.1 parts.0 w.1 e);
         },
         run.2,
       ),
