@@ -14,6 +14,7 @@ use Rattle.gl_model.specs.Deadlocks.{no_deadlock}
 use Rattle.gl_model.specs.Calls.{RefusesOnly}
 use Rattle.gl_model.specs.State.{State, choosing, empty_state, lives}
 use Rattle.gl_model.specs.Tellings.{Told}
+use Rattle.gl_table.specs.Orders.{KeepsPlaces}
 use Rattle.gl_table.specs.Table.{nodes_of}
 use Rattle.gl_steps.specs.declared.command.Answer.{Answer}
 use Rattle.gl_steps.specs.declared.command.Answer.TheVariants as answer
@@ -169,13 +170,14 @@ renamed names (Delete t r) a = without_deleted names r a
 renamed names (Drop t n) a = without_deleted names n a
 renamed names c a = named_as names (declared c) a
 
--- the manager's step; the orders are unchanged if it is not counted
+-- the manager's step; the orders are unchanged if it is not counted, and no lock that stays moves to a later place
 pub record Steps (s : Script) (c : Command) (asked : Asked) (a : Said) (told : Told) (s' : Script) : Type 0 where
   pub given : Answer
   pub said_is : a ≡ said.Answer given
   pub step : Step s.locks asked given told s'.locks
   pub deadlock : KeptBy asked s.locks s.deadlock given s'.locks s'.deadlock
   pub orders : s'.locks.accepted ≡ s.locks.accepted → s'.orders ≡ s.orders
+  pub places : (t : ℕ) → KeepsPlaces (s.orders t) (s'.orders t)
   pub names : s'.names ≡ renamed s.names c given
 
 -- the manager has the locks of the script, its last deadlock and its orders; so each order has exactly the nodes that its slot holds or waits for, each once

@@ -1,4 +1,6 @@
 use Rattle.std.proofs.Common.{refl, ap, sym, ◌∙◌, subst}
+use Rattle.std.specs.Prelude.{ℕ}
+use Rattle.gl_table.specs.Orders.{KeepsPlaces}
 use Rattle.gl_table.specs.Table.{nodes_of}
 use Rattle.gl_catalog.specs.Deadlocks.{KeepsDeadlock}
 use Rattle.gl_catalog.specs.Manager.{ManagerView, state_of}
@@ -55,6 +57,9 @@ returns-in-Apply c =
                   orders = λ uncounted. ap (λ (m : ManagerView). nodes_of m.table) (c.rename.ensures.manager ∙ c.apply_telling-answer.ensures.same
                       (ap (λ (m : ManagerView). m.accepted) (sym c.rename.ensures.manager) ∙ uncounted
                       ∙ ap (λ (m : ManagerView). m.accepted) (sym c.make_room.ensures.manager)) ∙ c.make_room.ensures.manager);
+                  places = rw c.rename.ensures.manager
+                      (subst (λ (m : ManagerView). (u : ℕ) → KeepsPlaces (nodes_of m.table u) (nodes_of c.apply_telling-answer.new.self.table u))
+                      c.make_room.ensures.manager c.apply_telling-answer.ensures.orders.each);
                   names = c.rename.ensures.names c.args.lists.now ∙ ap (λ n. renamed n asked c.apply_telling-answer.result) c.make_room.ensures.names;
                 });
             language = c.rename.ensures.language ∙ c.make_room.ensures.language;
