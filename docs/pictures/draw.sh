@@ -15,3 +15,4 @@ draw phantom <"$here/phantom.script"
 draw deadlock --waits --detect by-watcher <"$here/deadlock.script"
 { cat "$here/deadlock.script"; echo "settle first"; } | draw victim --waits --detect by-watcher
 draw escalation --graph <"$here/escalation.script"
+"$picture" --timeline "$here/timeline.script" >"$here/timeline.svg"

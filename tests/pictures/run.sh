@@ -1,0 +1,72 @@
+#!/usr/bin/env bash
+# run.sh: draws each example, the scripts of docs/pictures and one of eight transactions and sixty commands as a timeline,
+# and checks that each is well formed, has a row for each transaction, and marks waits, victims and ends as its script
+# has them. If there is rsvg-convert, chromium or firefox, one draws the largest. Ends with status 1 if anything is not so.
+set -uo pipefail
+top=$(cd "$(dirname "$0")/../.." && pwd) || exit 2
+command -v python3 >/dev/null || { echo "tests/pictures: not tried: python3 is not found"; exit 77; }
+work=$(mktemp -d) || exit 2
+trap 'rm -rf "$work"' EXIT
+fails() {
+  echo "tests/pictures: $*" >&2
+  exit 1
+}
+
+# Eight clerks lock a record each, and then the next one's: the last closes the cycle.
+{
+  echo "inner db"
+  echo "file accounts : db"
+  echo "begin maker"
+  for each in db accounts; do echo "lock maker IX $each"; done
+  for n in 1 2 3 4 5 6 7 8; do echo "insert maker r$n accounts"; done
+  echo "commit maker"
+  for n in 1 2 3 4 5 6 7; do
+    echo "begin clerk$n"
+    for each in db accounts; do echo "lock clerk$n IX $each"; done
+    echo "lock clerk$n X r$n"
+  done
+  for n in 1 2 3 4 5 6; do echo "lock clerk$n X r$((n + 1))"; done
+  echo "lock clerk7 X r1"
+  echo "abort clerk7"
+  for n in 6 5 4 3 2 1; do echo "commit clerk$n"; done
+} >"$work/ring.script"
+
+for script in "$top"/examples/*.script "$top"/docs/pictures/*.script "$work/ring.script"; do
+  name=$(basename "$script" .script)
+  "$top/glpicture" --timeline "$script" >"$work/$name.svg" 2>"$work/log" || { cat "$work/log" >&2; fails "$name is not drawn"; }
+  python3 - "$work/$name.svg" "$script" <<'END_OF_CHECK' || fails "the timeline of $name is not as it should be"
+import re
+import sys
+import xml.etree.ElementTree as tree
+
+root = tree.parse(sys.argv[1]).getroot()
+of = "{http://www.w3.org/2000/svg}"
+script = open(sys.argv[2], encoding="utf-8").read()
+texts = [it.text for it in root.iter(of + "text")]
+classes = [it.get("class") for it in root.iter() if it.get("class")]
+begun = re.findall(r"^begin (\w+)$", script, re.M)
+assert all(texts.count(name) >= 1 for name in begun), "a row is not there"
+titles = [it.text for it in root.iter(of + "title")]
+waits = sum(title.endswith(": wait") for title in titles)
+assert classes.count("waits") >= (1 if waits else 0) and (classes.count("way") >= 1) == bool(classes.count("waits"))
+victims = sum(title.endswith(": victim") for title in titles)
+assert classes.count("victim") >= victims, "a victim is not marked"
+assert classes.count("end") <= len(begun)
+END_OF_CHECK
+  echo "timeline: $name"
+done
+[ "$(grep -c 'class="victim"' "$work/ring.svg")" -eq 1 ] && [ "$(grep -c 'class="end"' "$work/ring.svg")" -eq 8 ] || fails "the ring is drawn otherwise"
+
+if command -v rsvg-convert >/dev/null; then
+  rsvg-convert -o "$work/ring.png" "$work/ring.svg" && [ -s "$work/ring.png" ] || fails "rsvg-convert does not draw it"
+  echo "timeline: ring, drawn by rsvg-convert"
+elif browser=$(command -v chromium || command -v chromium-browser); then
+  "$browser" --headless --no-sandbox --disable-gpu --screenshot="$work/ring.png" "file://$work/ring.svg" >"$work/log" 2>&1
+  [ -s "$work/ring.png" ] || fails "$browser does not draw it"
+  echo "timeline: ring, drawn by $browser"
+else
+  echo "timeline: not drawn: neither rsvg-convert nor chromium is found"
+fi
+[[ $("$top/tools/timeline.py" --help) == timeline.py* ]] || fails "--help says nothing"
+echo "inner db" | "$top/glpicture" --timeline >/dev/null 2>"$work/log" && fails "a script without a transaction is drawn"
+grep -q 'begins no transaction' "$work/log" || fails "it does not say why"

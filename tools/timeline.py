@@ -1,0 +1,211 @@
+#!/usr/bin/env python3
+"""timeline.py [WORD..] [SCRIPT]: draws a script of lock commands as one SVG, on standard output. Each transaction has a
+row, with a bar for each node that it holds or waits for, from left to right by commands: solid while it holds the node,
+in the colour and with the name of its mode, and hatched while it waits. A dotted line leads from the begin of a wait to
+each transaction that is in its way. A cross marks a victim, a full dot a commit, an empty one an abort. Without a
+SCRIPT it reads standard input. The words are those of gltool, which plays the script; GLTOOL names another than the one
+of this repository. Ends with gltool's status if it fails, and with 1 if the script begins no transaction."""
+import os
+import re
+import subprocess
+import sys
+from html import escape
+
+TOP = os.path.dirname(os.path.dirname(os.path.realpath(__file__)))
+COLOURS = {"IS": "#cfe3f7", "IX": "#f6dcb4", "S": "#7fb2e5", "SIX": "#c9a3dc", "X": "#e0803c"}
+STEP, BAR, GAP, LEFT, TEXT = 34, 15, 3, 96, 7
+ROW = re.compile(r"(holder|waiter|lock|blocker|txn|stuck|told|victim) ")
+
+
+class Step:
+    """A command with its answer, and by transaction what it does, its locks (node, mode, wanted) and who is in its way."""
+
+    def __init__(self, line, answer):
+        self.line, self.answer = line, answer
+        self.doing, self.locks, self.blockers = {}, {}, {}
+
+
+def is_command(line):
+    return line.strip() != "" and not line.startswith("#")
+
+
+def questions(names):
+    """The listings that are asked after each command."""
+    return ["txns"] + [f"{ask} {name}" for name in names for ask in ("locks", "waits")]
+
+
+def asked(script):
+    """The script with its questions between the commands: each line, with the step that it belongs to, if it has one."""
+    lines, names, count = [], [], 0
+    for line in script:
+        lines.append((line, None))
+        if not is_command(line):
+            continue
+        lines[-1] = (line, count)
+        begun = re.fullmatch(r"begin (\w+)", line)
+        if begun and begun.group(1) not in names:
+            names.append(begun.group(1))
+        lines += [(it, count) for it in questions(names)]
+        count += 1
+    return lines, names
+
+
+def played(lines, words):
+    """What gltool answers to each line that has an answer: that, and the rows below it."""
+    tool = os.environ.get("GLTOOL", f"{TOP}/gltool")
+    words = ["--listings"] + [it for it in words if it != "--listings"]
+    ran = subprocess.run([tool, *words], input="".join(f"{line}\n" for line, _ in lines), capture_output=True, text=True)
+    if ran.returncode != 0:
+        sys.stderr.write(ran.stderr)
+        sys.exit(ran.returncode)
+    answers = []
+    for line in ran.stdout.splitlines():
+        if ROW.match(line):
+            answers[-1][1].append(line.split())
+        else:
+            answers.append((line, []))
+    return answers
+
+
+def steps_of(lines, answers):
+    steps, answers = [], iter(answers)
+    for line, number in lines:
+        if number is None:
+            continue
+        answer, rows = next(answers)
+        if len(steps) <= number:
+            steps.append(Step(line, answer))
+            continue
+        kind, _, name = line.partition(" ")
+        if kind == "txns":
+            steps[-1].doing = {row[1]: row[3] for row in rows}
+        elif kind == "locks":
+            steps[-1].locks[name] = [(row[2], row[1], row[6] if len(row) > 6 else None) for row in rows]
+        else:
+            steps[-1].blockers[name] = [row[1] for row in rows]
+    return steps
+
+
+def bars_of(steps, name):
+    """The bars of a transaction, in lanes by node: (lane, first step, step after the last, text, mode or None)."""
+    lanes, bars, now = [], [], {}
+    for at, step in enumerate(steps):
+        shown = {}
+        for node, mode, wanted in step.locks.get(name, []):
+            if mode != "NL":
+                shown[node, "held"] = mode
+            if wanted:
+                shown[node, "waits"] = wanted
+        for key, (begun, mode) in list(now.items()):
+            if shown.get(key) != mode:
+                bars.append((key, begun, at, mode))
+                del now[key]
+        for key, mode in shown.items():
+            now.setdefault(key, (at, mode))
+            if key[0] not in lanes:
+                lanes.append(key[0])
+    bars += [(key, begun, len(steps), mode) for key, (begun, mode) in now.items()]
+    return lanes, bars
+
+
+class Drawing:
+    def __init__(self):
+        self.parts = []
+
+    def add(self, text):
+        self.parts.append(text)
+
+    def text(self, x, y, text, more=""):
+        self.add(f'<text x="{x}" y="{y}" {more}>{escape(text)}</text>')
+
+
+def draw(steps, names):
+    top = TEXT * max(len(step.line) for step in steps) // 2 + 30
+    drawing, y, heights, rows = Drawing(), top, {}, {}
+    for name in names:
+        lanes, bars = bars_of(steps, name)
+        heights[name] = y
+        rows[name] = (y, lanes, bars)
+        y += max(len(lanes), 1) * (BAR + GAP) + 14
+    width, height = LEFT + STEP * len(steps) + 40, y + 10
+    drawing.add(f'<svg xmlns="http://www.w3.org/2000/svg" viewBox="0 0 {width} {height}" width="{width}" height="{height}" '
+                'font-family="sans-serif" font-size="11">')
+    drawing.add('<defs><pattern id="waits" width="6" height="6" patternUnits="userSpaceOnUse" patternTransform="rotate(45)">'
+                '<rect width="6" height="6" fill="#fff"/><rect width="2" height="6" fill="#888"/></pattern></defs>')
+    drawing.add(f'<rect width="{width}" height="{height}" fill="#fff"/>')
+    for at, step in enumerate(steps):
+        x = LEFT + STEP * at
+        refused = ' fill="#b00" font-weight="bold"' if step.answer.startswith("no ") else ""
+        drawing.add(f'<g><title>{escape(f"{step.line}: {step.answer}")}</title>')
+        drawing.text(x + 8, top - 12, step.line, f'transform="rotate(-40 {x + 8} {top - 12})"{refused}')
+        drawing.add(f'<line x1="{x}" y1="{top - 8}" x2="{x}" y2="{height - 8}" stroke="#eee"/></g>')
+    for name, (y, lanes, bars) in rows.items():
+        draw_row(drawing, steps, name, y, lanes, bars)
+    for name in names:
+        draw_ways(drawing, steps, name, rows)
+    drawing.add("</svg>")
+    return "\n".join(drawing.parts)
+
+
+def draw_row(drawing, steps, name, y, lanes, bars):
+    drawing.text(8, y + 12, name, 'font-weight="bold" font-size="13"')
+    for (node, kind), begun, ended, mode in bars:
+        x, above = LEFT + STEP * begun, y + lanes.index(node) * (BAR + GAP)
+        size = max(STEP * (ended - begun) - 2, 4)
+        held = kind == "held"
+        word = f"{node} {mode}" if held else f"{node} waits {mode}"
+        fill, inset = (COLOURS[mode], 0) if held else ("url(#waits)", 3)
+        drawing.add(f'<g class="{kind}"><title>{escape(f"{name}: {word}")}</title><rect x="{x}" y="{above + inset}" width="{size}" '
+                    f'height="{BAR - 2 * inset}" fill="{fill}" stroke="#555" stroke-width="0.6"/>')
+        drawing.text(x + 3, above + 11, word, 'paint-order="stroke" stroke="#fff" stroke-width="2.5"')
+        drawing.add("</g>")
+    was = None
+    for at, step in enumerate(steps):
+        is_now = step.doing.get(name)
+        x = LEFT + STEP * at
+        if is_now == "condemned" and was != "condemned":
+            drawing.text(x - 11, y + 13, "✕", 'class="victim" fill="#b00" font-size="15" font-weight="bold"')
+        if was and not is_now:
+            fill = "#333" if step.line.startswith("commit") else "#fff"
+            drawing.add(f'<circle class="end" cx="{x + 5}" cy="{y + 7}" r="4.5" fill="{fill}" stroke="#333"/>')
+        was = is_now
+
+
+def draw_ways(drawing, steps, name, rows):
+    """From the begin of each wait, and of each change of it, to those that are in its way."""
+    y, lanes, _ = rows[name]
+    seen = set()
+    for at, step in enumerate(steps):
+        waits = {node for node, _, wanted in step.locks.get(name, []) if wanted}
+        ways = {(node, other) for node in waits for other in step.blockers.get(name, [])}
+        for node, other in sorted(ways - seen):
+            if other not in rows:
+                continue
+            to, others, _ = rows[other]
+            x = LEFT + STEP * at + 6
+            begun = y + lanes.index(node) * (BAR + GAP) + BAR // 2
+            ended = to + (others.index(node) if node in others else 0) * (BAR + GAP) + BAR // 2
+            drawing.add(f'<path class="way" d="M{x} {begun} L{x + 9} {ended}" stroke="#b00" stroke-dasharray="2 2" fill="none"/>'
+                        f'<circle cx="{x + 9}" cy="{ended}" r="2.5" fill="#b00"/>')
+        seen = ways
+
+
+def main():
+    words = sys.argv[1:]
+    if words in (["--help"], ["-h"]):
+        print(__doc__)
+        return 0
+    file = words.pop() if words and os.path.isfile(words[-1]) else None
+    with open(file, encoding="utf-8") if file else sys.stdin as source:
+        script = source.read().splitlines()
+    lines, names = asked(script)
+    steps = steps_of(lines, played(lines, words))
+    if not names:
+        print("timeline.py: the script begins no transaction", file=sys.stderr)
+        return 1
+    print(draw(steps, names))
+    return 0
+
+
+if __name__ == "__main__":
+    sys.exit(main())
