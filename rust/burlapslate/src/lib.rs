@@ -96,8 +96,8 @@
 #![deny(unsafe_code)] // But for `sys`.
 #![deny(clippy::undocumented_unsafe_blocks)]
 
-mod begin_queue;
 mod board;
+mod clock;
 mod listing;
 mod manager;
 mod mode;

@@ -3,8 +3,10 @@
 use crate::manager::{Escalated, Mark};
 use crate::mode::Mode;
 use crate::names::{Node, Row, Txn};
-use crate::refusal::Refusal;
-use crate::table::{Sought, Stay, Table};
+use crate::refusal::{accepted, done, Refusal};
+use crate::sys::shared::{self, Command, Shared};
+use crate::sys::{self, Reply};
+use crate::table::{node_of, Sought, Table};
 use std::error::Error;
 use std::fmt;
 use std::ops::Deref;
@@ -29,6 +31,20 @@ pub enum Stop {
     TimedOut,
     /// Another thread cancelled the wait, and the transaction is active.
     Cancelled,
+}
+
+impl Stop {
+    /// By what a lock that was not granted was answered.
+    pub(crate) fn of(reply: &Reply) -> Stop {
+        match reply.status {
+            sys::VICTIM => Stop::Victim,
+            sys::MOVED => Stop::Moved,
+            sys::GONE => Stop::Gone,
+            sys::TIMED_OUT => Stop::TimedOut,
+            sys::NOT_WAITING => Stop::Cancelled,
+            _ => Stop::Refused(Refusal::of(reply)),
+        }
+    }
 }
 
 /// What it is, for a log.
@@ -66,8 +82,17 @@ pub enum RowLocked {
 }
 
 impl RowLocked {
+    /// By what a lock was answered; `None` if it was not granted.
+    pub(crate) fn of(reply: &Reply) -> Option<RowLocked> {
+        match reply.status {
+            sys::DONE => Some(RowLocked::Own(Mode::of(reply.mode))),
+            sys::OTHER_KEYS => Some(RowLocked::OtherKeys(Mode::of(reply.mode))),
+            _ => None,
+        }
+    }
+
     /// The mode in which it is held.
-    pub(crate) fn mode(self) -> Mode {
+    fn mode(self) -> Mode {
         match self {
             RowLocked::Own(mode) | RowLocked::OtherKeys(mode) => mode,
         }
@@ -84,6 +109,17 @@ pub enum Tried<T> {
     WouldBlock(Node),
 }
 
+impl Tried<RowLocked> {
+    /// By what a try was answered.
+    fn of(reply: &Reply) -> Result<Tried<RowLocked>, Refusal> {
+        match RowLocked::of(reply) {
+            Some(locked) => Ok(Tried::Locked(locked)),
+            None if reply.status == sys::WOULD_BLOCK => Ok(Tried::WouldBlock(reply.node)),
+            None => Err(Refusal::of(reply)),
+        }
+    }
+}
+
 /// What a failed try of a path keeps of the locks that it acquired.
 #[derive(Clone, Copy, PartialEq, Eq, Hash, Debug)]
 pub enum Keep {
@@ -91,6 +127,15 @@ pub enum Keep {
     Nothing,
     /// All of it.
     Way,
+}
+
+impl Keep {
+    fn as_number(self) -> u32 {
+        match self {
+            Keep::Nothing => shared::KEEP_NOTHING,
+            Keep::Way => shared::KEEP_WAY,
+        }
+    }
 }
 
 /// A try of a list ([`Session::try_first`]).
@@ -121,6 +166,19 @@ pub enum Try<'a> {
         /// Its mode.
         mode: Mode,
     },
+}
+
+impl<'a> Try<'a> {
+    /// As a command of a transaction.
+    fn command(&self, txn: Txn) -> Command<'a> {
+        match *self {
+            Try::Node { node, mode } => Command::try_node(txn, node, mode as u32),
+            Try::Path { node, mode, keep } => {
+                Command::try_path(txn, node, mode as u32, keep.as_number())
+            }
+            Try::Row { row, keys, mode } => Command::try_row(txn, row, keys, mode as u32),
+        }
+    }
 }
 
 /// The try of a list that was done.
@@ -218,6 +276,11 @@ impl<'t> Session<'t> {
         self.deadline = deadline;
     }
 
+    /// What the calls of the library take.
+    fn as_sys(&self) -> &Shared {
+        self.table.as_sys()
+    }
+
     /// The earlier of this time and its own.
     fn until(&self, time: Option<Instant>) -> Option<Instant> {
         time.into_iter().chain(self.deadline).min()
@@ -237,7 +300,7 @@ impl<'t> Session<'t> {
         mode: Mode,
         time: Option<Instant>,
     ) -> Result<RowLocked, Stop> {
-        let sought = Sought::Row { row, keys, mode };
+        let sought = Sought::Row(row, keys, mode as u32);
         self.table.lock(self.txn, sought, self.until(time))
     }
 
@@ -251,7 +314,7 @@ impl<'t> Session<'t> {
     /// As [`Manager::lock`](crate::Manager::lock), but the call sleeps until the lock is granted or the
     /// wait ends otherwise. It answers the mode that is held then.
     pub fn lock(&mut self, node: Node, mode: Mode) -> Result<Mode, Stop> {
-        self.sought(Sought::node(node, mode, Stay::Kept), None)
+        self.sought(Sought::node(node, mode), None)
     }
 
     /// As [`lock`](Session::lock), for an instant: the lock is requested and waited for as any other, and
@@ -274,13 +337,13 @@ impl<'t> Session<'t> {
     /// # Ok::<(), Stop>(())
     /// ```
     pub fn lock_instant(&mut self, node: Node, mode: Mode) -> Result<Mode, Stop> {
-        self.sought(Sought::node(node, mode, Stay::Instant), None)
+        self.sought(Sought::node_instant(node, mode), None)
     }
 
     /// As [`lock_path`](Session::lock_path), with the node itself for an instant, as
     /// [`lock_instant`](Session::lock_instant). The locks above it stay.
     pub fn lock_path_instant(&mut self, node: Node, mode: Mode) -> Result<Mode, Stop> {
-        self.sought(Sought::path(node, mode, Stay::Instant), None)
+        self.sought(Sought::path_instant(node, mode), None)
     }
 
     /// As [`lock`](Session::lock), but after this time the wait is cancelled and answered with
@@ -299,12 +362,12 @@ impl<'t> Session<'t> {
     /// # Ok::<(), burlapslate::Refusal>(())
     /// ```
     pub fn lock_timeout(&mut self, node: Node, mode: Mode, time: Duration) -> Result<Mode, Stop> {
-        self.sought(Sought::node(node, mode, Stay::Kept), deadline(time))
+        self.sought(Sought::node(node, mode), deadline(time))
     }
 
     /// As [`lock_timeout`](Session::lock_timeout), with the time at which the wait is cancelled.
     pub fn lock_until(&mut self, node: Node, mode: Mode, until: Instant) -> Result<Mode, Stop> {
-        self.sought(Sought::node(node, mode, Stay::Kept), Some(until))
+        self.sought(Sought::node(node, mode), Some(until))
     }
 
     /// Locks a node with what must be held above it: intentions, root first, on all parents to write; to
@@ -325,7 +388,7 @@ impl<'t> Session<'t> {
     /// # Ok::<(), burlapslate::Refusal>(())
     /// ```
     pub fn lock_path(&mut self, node: Node, mode: Mode) -> Result<Mode, Stop> {
-        self.sought(Sought::path(node, mode, Stay::Kept), None)
+        self.sought(Sought::path(node, mode), None)
     }
 
     /// As [`lock_path`](Session::lock_path), within this time.
@@ -335,7 +398,7 @@ impl<'t> Session<'t> {
         mode: Mode,
         time: Duration,
     ) -> Result<Mode, Stop> {
-        self.sought(Sought::path(node, mode, Stay::Kept), deadline(time))
+        self.sought(Sought::path(node, mode), deadline(time))
     }
 
     /// As [`lock_path_timeout`](Session::lock_path_timeout), with the time at which a wait is cancelled.
@@ -345,7 +408,7 @@ impl<'t> Session<'t> {
         mode: Mode,
         until: Instant,
     ) -> Result<Mode, Stop> {
-        self.sought(Sought::path(node, mode, Stay::Kept), Some(until))
+        self.sought(Sought::path(node, mode), Some(until))
     }
 
     /// As [`Manager::lock_row`](crate::Manager::lock_row), but the call sleeps until the row is granted or
@@ -430,22 +493,19 @@ impl<'t> Session<'t> {
     /// # Ok::<(), burlapslate::Refusal>(())
     /// ```
     pub async fn lock_async(&mut self, node: Node, mode: Mode) -> Result<Mode, Stop> {
-        self.sought_async(Sought::node(node, mode, Stay::Kept))
-            .await
+        self.sought_async(Sought::node(node, mode)).await
     }
 
     /// As [`lock_instant`](Session::lock_instant), for a task, as [`lock_async`](Session::lock_async).
     pub async fn lock_instant_async(&mut self, node: Node, mode: Mode) -> Result<Mode, Stop> {
-        self.sought_async(Sought::node(node, mode, Stay::Instant))
-            .await
+        self.sought_async(Sought::node_instant(node, mode)).await
     }
 
     /// As [`lock_path`](Session::lock_path), for a task, as [`lock_async`](Session::lock_async). After each
     /// grant on the way the task is woken, to request the next lock. If the future is dropped, the locks
     /// acquired before stay.
     pub async fn lock_path_async(&mut self, node: Node, mode: Mode) -> Result<Mode, Stop> {
-        self.sought_async(Sought::path(node, mode, Stay::Kept))
-            .await
+        self.sought_async(Sought::path(node, mode)).await
     }
 
     /// As [`lock_row`](Session::lock_row), for a task, as [`lock_async`](Session::lock_async). If the future
@@ -457,7 +517,7 @@ impl<'t> Session<'t> {
         mode: Mode,
     ) -> Result<RowLocked, Stop> {
         let until = self.until(None);
-        let sought = Sought::Row { row, keys, mode };
+        let sought = Sought::Row(row, keys, mode as u32);
         self.table.lock_async(self.txn, sought, until).await
     }
 
@@ -495,7 +555,12 @@ impl<'t> Session<'t> {
         mode: Mode,
         keep: Keep,
     ) -> Result<Tried<Mode>, Refusal> {
-        self.table.try_lock_path(self.txn, node, mode, keep)
+        let (mode, keep) = (mode as u32, keep.as_number());
+        let reply = shared::bs_table_try_path(self.as_sys(), self.txn, node, mode, keep);
+        Ok(match Tried::of(&reply)? {
+            Tried::Locked(locked) => Tried::Locked(locked.mode()),
+            Tried::WouldBlock(node) => Tried::WouldBlock(node),
+        })
     }
 
     /// As [`lock_row`](Session::lock_row), but the call never sleeps, joins no queue and makes nobody a
@@ -510,7 +575,8 @@ impl<'t> Session<'t> {
         keys: &[u64],
         mode: Mode,
     ) -> Result<Tried<RowLocked>, Refusal> {
-        self.table.try_lock_row(self.txn, row, keys, mode)
+        let reply = shared::try_row(self.as_sys(), self.txn, row, keys, mode as u32);
+        Tried::of(&reply)
     }
 
     /// Makes tries one after the other in one hold of the latch, up to the first that is done: `None` if there is none.
@@ -537,33 +603,55 @@ impl<'t> Session<'t> {
     /// # Ok::<(), burlapslate::Refusal>(())
     /// ```
     pub fn try_first(&mut self, tries: &[Try<'_>]) -> Result<Option<Taken>, Refusal> {
-        self.table.try_first(self.txn, tries)
+        let mut commands = Vec::new();
+        let room = commands.try_reserve_exact(tries.len());
+        room.map_err(|_refused| Refusal::NoMemory)?;
+        commands.extend(tries.iter().map(|each| each.command(self.txn)));
+        let place = shared::try_first(self.as_sys(), &mut commands);
+        let Some(Command { reply, .. }) = commands.get(place) else {
+            return Ok(None);
+        };
+        match RowLocked::of(reply) {
+            Some(locked) => Ok(Some(Taken { place, locked })),
+            None => Err(Refusal::of(reply)),
+        }
     }
 
     /// As [`Manager::unlock_row`](crate::Manager::unlock_row).
     pub fn unlock_row(&mut self, row: Row) -> Result<(), Refusal> {
-        self.table.serve(|m| m.unlock_row(self.txn, row).map(drop))
+        let Row { file, number } = row;
+        done(shared::bs_table_unlock_row(
+            self.as_sys(),
+            self.txn,
+            file,
+            number,
+            None,
+        ))
     }
 
     /// As [`Manager::rekey_row`](crate::Manager::rekey_row).
     pub fn rekey_row(&mut self, row: Row, index: Node, key: u64) -> Result<(), Refusal> {
-        self.table
-            .serve(|m| m.rekey_row(self.txn, row, index, key).map(drop))
+        let (table, Row { file, number }) = (self.as_sys(), row);
+        done(shared::bs_table_rekey_row(
+            table, self.txn, file, number, index, key, None,
+        ))
     }
 
     /// As [`Manager::try_lock`](crate::Manager::try_lock).
     pub fn try_lock(&mut self, node: Node, mode: Mode) -> Result<Mode, Refusal> {
-        self.table.ask(|m| m.try_lock(self.txn, node, mode))
+        let reply = shared::bs_table_try(self.as_sys(), self.txn, node, mode as u32);
+        accepted(reply).map(|reply| Mode::of(reply.mode))
     }
 
     /// As [`Manager::unlock`](crate::Manager::unlock).
     pub fn unlock(&mut self, node: Node) -> Result<(), Refusal> {
-        self.table.serve(|m| m.unlock(self.txn, node).map(drop))
+        done(shared::bs_table_unlock(self.as_sys(), self.txn, node, None))
     }
 
     /// As [`Manager::mark`](crate::Manager::mark).
     pub fn mark(&self) -> Result<Mark, Refusal> {
-        self.table.with(|m| m.mark(self.txn))
+        let reply = accepted(shared::bs_table_mark(self.as_sys(), self.txn))?;
+        Ok(Mark(reply.count as usize))
     }
 
     /// As [`Manager::release_since`](crate::Manager::release_since): how many nodes it released.
@@ -582,44 +670,49 @@ impl<'t> Session<'t> {
     /// # Ok::<(), Stop>(())
     /// ```
     pub fn release_since(&mut self, mark: Mark) -> Result<usize, Refusal> {
-        self.table.serve(|m| {
-            m.release_since(self.txn, mark)
-                .map(|(released, _)| released)
-        })
+        let savepoint = mark.0 as u64;
+        let reply = shared::bs_table_release_since(self.as_sys(), self.txn, savepoint, None);
+        accepted(reply).map(|reply| reply.count as usize)
     }
 
     /// As [`Manager::escalate`](crate::Manager::escalate).
     pub fn escalate(&mut self, node: Node) -> Result<Escalated, Refusal> {
-        self.table
-            .serve(|m| m.escalate(self.txn, node).map(|(escalated, _)| escalated))
+        let reply = shared::bs_table_escalate(self.as_sys(), self.txn, node, None);
+        accepted(reply).map(|reply| Escalated::of(&reply))
     }
 
     /// As [`Manager::insert`](crate::Manager::insert).
     pub fn insert(&mut self, file: Node, keys: &[u64]) -> Result<Node, Refusal> {
-        self.table.ask(|m| m.insert(self.txn, file, keys))
+        node_of(shared::insert(self.as_sys(), self.txn, file, keys))
     }
 
     /// As [`Manager::delete`](crate::Manager::delete). Threads that sleep for the record are woken.
     pub fn delete(&mut self, record: Node) -> Result<(), Refusal> {
-        self.table.serve(|m| m.delete(self.txn, record).map(drop))
+        done(shared::bs_table_delete(
+            self.as_sys(),
+            self.txn,
+            record,
+            None,
+        ))
     }
 
     /// As [`Manager::rekey`](crate::Manager::rekey).
     pub fn rekey(&mut self, record: Node, index: Node, key: u64) -> Result<(), Refusal> {
-        self.table
-            .serve(|m| m.rekey(self.txn, record, index, key).map(drop))
+        let table = self.as_sys();
+        done(shared::bs_table_rekey(
+            table, self.txn, record, index, key, None,
+        ))
     }
 
     /// As [`Manager::move_node`](crate::Manager::move_node).
     pub fn move_node(&mut self, node: Node, parents: &[Node]) -> Result<(), Refusal> {
-        self.table
-            .serve(|m| m.move_node(self.txn, node, parents).map(drop))
+        done(shared::move_node(self.as_sys(), self.txn, node, parents))
     }
 
     /// As [`Manager::drop_node`](crate::Manager::drop_node). Threads that sleep for the node are woken and
     /// answered [`Stop::Gone`].
     pub fn drop_node(&mut self, node: Node) -> Result<(), Refusal> {
-        self.table.serve(|m| m.drop_node(self.txn, node).map(drop))
+        done(shared::bs_table_drop(self.as_sys(), self.txn, node, None))
     }
 
     /// As [`Manager::index_by`](crate::Manager::index_by).
@@ -629,8 +722,13 @@ impl<'t> Session<'t> {
         file: Node,
         bounds: &[u64],
     ) -> Result<Node, Refusal> {
-        self.table
-            .ask(|m| m.index_by(self.txn, parents, file, bounds))
+        node_of(shared::index_by(
+            self.as_sys(),
+            self.txn,
+            parents,
+            file,
+            bounds,
+        ))
     }
 
     /// Commits, wakes the waiters that are granted by it, and lets its rows go. If the commit is refused,
@@ -638,7 +736,7 @@ impl<'t> Session<'t> {
     ///
     /// Refused as [`Manager::commit`](crate::Manager::commit).
     pub fn commit(mut self) -> Result<(), Refusal> {
-        let end = self.table.serve(|m| m.commit(self.txn).map(drop));
+        let end = self.table.commit(self.txn);
         self.has_ended = end.is_ok();
         end
     }
