@@ -11,6 +11,7 @@ use std::error::Error;
 use std::fmt;
 use std::ops::Deref;
 use std::sync::Arc;
+use std::thread;
 use std::time::{Duration, Instant};
 
 /// Why a lock was not granted.
@@ -192,7 +193,8 @@ pub struct Taken {
 
 /// A transaction of a [`Table`], which one thread drives. A lock call sleeps until the lock is granted.
 /// A session that is dropped without a commit is aborted, so that its locks never outlive it: undo what
-/// it wrote first. It borrows its table, or is one of its owners ([`Table::begin_shared`]).
+/// it wrote first. Within the closure of [`Table::with`] it cannot be aborted: a drop panics there. It borrows
+/// its table, or is one of its owners ([`Table::begin_shared`]).
 ///
 /// ```
 /// use burlapslate::{Detect, Mode, Table, SLOTS};
@@ -313,6 +315,9 @@ impl<'t> Session<'t> {
 
     /// As [`Manager::lock`](crate::Manager::lock), but the call sleeps until the lock is granted or the
     /// wait ends otherwise. It answers the mode that is held then.
+    ///
+    /// This call, and each other that may sleep, is refused with [`InUse`](Refusal::InUse) in a waker and while
+    /// the thread holds a table ([`Table::with`]).
     pub fn lock(&mut self, node: Node, mode: Mode) -> Result<Mode, Stop> {
         self.sought(Sought::node(node, mode), None)
     }
@@ -461,14 +466,17 @@ impl<'t> Session<'t> {
     /// As [`lock`](Session::lock), for a task: no thread sleeps while the lock waits, and the task is woken
     /// when the wait is over. It needs no runtime, and requests the lock at the first poll.
     ///
+    /// The thread that ends the wait wakes the task, within its call of the table and without the latch. So the
+    /// waker may call the table, as by polling the future, and delays that thread alone. In a waker each call
+    /// that could sleep is refused with [`InUse`](Refusal::InUse). A waker that panics ends the program.
+    ///
     /// A future that is dropped while it waits cancels its wait. If the lock was granted by then, the
     /// transaction keeps it until its end, as all its locks: no command lowers a mode. So a task that gave
     /// up a lock by a timeout may request it again, and it is granted at once. If the transaction was
-    /// condemned by then, it can only abort. A leaked future waits on until the session is dropped; a
-    /// leaked path counts as one that continues until the session's next wait.
+    /// condemned by then, it can only abort. A leaked future waits on until the session is dropped.
     ///
-    /// The session's deadline counts ([`set_deadline`](Session::set_deadline)) if the future is polled then
-    /// ([`Table::expire`]).
+    /// The session's deadline counts ([`set_deadline`](Session::set_deadline)) if the future is polled then, or
+    /// by [`Table::expire`]. Refused with [`NoMemory`](Refusal::NoMemory) also if there is none for the wait.
     ///
     /// ```
     /// # use burlapslate::{Detect, Mode, Table, SLOTS};
@@ -501,9 +509,9 @@ impl<'t> Session<'t> {
         self.sought_async(Sought::node_instant(node, mode)).await
     }
 
-    /// As [`lock_path`](Session::lock_path), for a task, as [`lock_async`](Session::lock_async). After each
-    /// grant on the way the task is woken, to request the next lock. If the future is dropped, the locks
-    /// acquired before stay.
+    /// As [`lock_path`](Session::lock_path), for a task, as [`lock_async`](Session::lock_async). The call that
+    /// grants a lock on the way requests the next one, and the task is woken at the end of the path. If the
+    /// future is dropped, the locks acquired before stay.
     pub async fn lock_path_async(&mut self, node: Node, mode: Mode) -> Result<Mode, Stop> {
         self.sought_async(Sought::path(node, mode)).await
     }
@@ -583,7 +591,7 @@ impl<'t> Session<'t> {
     /// A try is passed over if it would block, if its record or row has moved to where the transaction holds nothing
     /// above it ([`NeedParents`](Refusal::NeedParents)), and if it is gone ([`NoSuchNode`](Refusal::NoSuchNode)). Of a
     /// path that is passed over nothing is kept but what its `keep` says. The first try that is refused otherwise ends
-    /// the list, and is answered.
+    /// the list, and is answered. Takes memory for the list.
     ///
     /// ```
     /// # use burlapslate::{Detect, Mode, Row, Table, Try, SLOTS};
@@ -755,7 +763,12 @@ impl<'t> Session<'t> {
 impl Drop for Session<'_> {
     fn drop(&mut self) {
         if !self.has_ended {
-            let _ = self.table.abort(self.txn); // Refused if another thread has ended it.
+            let end = self.table.abort(self.txn); // Refused if another thread has ended it.
+            let is_lost = end == Err(Refusal::InUse) && !thread::panicking();
+            assert!(
+                !is_lost,
+                "a session was dropped while its thread held the table"
+            );
         }
     }
 }

@@ -18,6 +18,7 @@ use crate::{FITS, SLOTS};
 use std::alloc::{alloc_zeroed, Layout};
 use std::cell::UnsafeCell;
 use std::ffi::c_void;
+use std::panic::UnwindSafe;
 use std::ptr::NonNull;
 
 pub(crate) mod shared;
@@ -262,6 +263,9 @@ impl Pinned {
         (place, told)
     }
 }
+
+// By `&` it can only be asked.
+impl UnwindSafe for Pinned {}
 
 impl Drop for Pinned {
     fn drop(&mut self) {

@@ -18,7 +18,6 @@ use std::ffi::c_void;
 use std::future::Future;
 use std::mem::forget;
 use std::ptr::null_mut;
-use std::sync::atomic::{AtomicBool, Ordering};
 use std::sync::Arc;
 use std::task::{Context, Poll, Wake, Waker};
 use std::thread;
@@ -42,11 +41,7 @@ enum Refused {
     /// One, and all behind it.
     From(usize),
     All,
-    /// All, once [`IS_TOLD`] says so.
-    WhenTold,
 }
-
-static IS_TOLD: AtomicBool = AtomicBool::new(false);
 
 thread_local! {
     static REFUSED: Cell<Refused> = const { Cell::new(Refused::None) };
@@ -71,7 +66,6 @@ fn is_refused() -> bool {
             false
         }
         Refused::All => true,
-        Refused::WhenTold => IS_TOLD.load(Ordering::SeqCst),
     }
 }
 
@@ -309,40 +303,6 @@ fn a_settle_takes_none() {
     );
     let settled = without_memory(|| m.settle(a).map(told));
     assert_eq!(settled, Ok([Some(Notice::Victim { txn: b }), None, None]));
-}
-
-/// Of two that hold S and ask for X the younger falls by whoever watches over the table.
-fn one_is_victim(table: &Table, root: Node) {
-    let (mut older, mut younger) = (table.begin().unwrap(), table.begin().unwrap());
-    older.lock(root, Mode::S).unwrap();
-    younger.lock(root, Mode::S).unwrap();
-    thread::scope(|scope| {
-        let waits = scope.spawn(move || older.lock(root, Mode::X));
-        assert_eq!(younger.lock(root, Mode::X), Err(Stop::Victim));
-        let accepted = table.with(|m| m.accepted());
-        thread::sleep(Duration::from_millis(20));
-        assert_eq!(table.with(|m| m.accepted()), accepted);
-        younger.abort();
-        assert_eq!(waits.join().unwrap(), Ok(Mode::X));
-    });
-}
-
-/// Who watches without the memory to show what it did itself settles once, and sleeps.
-#[test]
-fn who_watches_without_memory_settles_once() {
-    let table = &Table::new(Detect::ByWatcher, SLOTS).unwrap();
-    let root = table.add_inner(&[]).unwrap();
-    thread::scope(|scope| {
-        scope.spawn(|| {
-            REFUSED.set(Refused::WhenTold);
-            table.watch_over(Duration::ZERO).unwrap();
-            REFUSED.set(Refused::None);
-        });
-        one_is_victim(table, root);
-        IS_TOLD.store(true, Ordering::SeqCst); // It has what a watcher takes at its beginning.
-        one_is_victim(table, root);
-        table.end_watch();
-    });
 }
 
 /// A task of this session asks for X on the root, and is left waiting. Whether an allocation was refused then, which is that

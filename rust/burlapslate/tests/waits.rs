@@ -151,13 +151,15 @@ fn poll(task: &mut Task) -> Poll<()> {
     task.as_mut().poll(&mut Context::from_waker(&bell()))
 }
 
-/// The next transaction of the slot waits on a path. Whenever the late one is polled, a cancel ends that path.
+/// The next transaction of the slot waits on a path, on its way and then for the record. Whenever the late one is polled, a
+/// cancel ends that path.
 #[test]
 fn a_late_task_and_the_next_path() {
     for is_late in [false, true] {
         let store = Store::new(Detect::AtBlock);
-        let mut reader = store.begin();
+        let (mut reader, mut keeper) = (store.begin(), store.begin());
         reader.lock(store.root, Mode::S).unwrap();
+        keeper.lock_path(store.low, Mode::S).unwrap();
         let (mut late, mut next) = next_in_its_slot(&store);
         let name = next.txn();
         {
@@ -167,6 +169,7 @@ fn a_late_task_and_the_next_path() {
                 assert!(poll(&mut late).is_ready());
             }
             reader.commit().unwrap();
+            assert_eq!(store.waits_for(name), Some(store.low));
             assert_eq!(store.table.cancel(name), Ok(()));
             assert_eq!(
                 poll_by(&mut path, bell()),
@@ -178,6 +181,7 @@ fn a_late_task_and_the_next_path() {
         }
         assert_eq!(store.held(name, store.root), Mode::IX);
         assert_eq!(store.table.cancel(name), Err(Refusal::NotWaiting));
+        keeper.commit().unwrap();
         assert_eq!(next.lock_path(store.low, Mode::X), Ok(Mode::X));
     }
 }

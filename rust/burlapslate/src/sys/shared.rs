@@ -16,6 +16,7 @@ use std::ffi::c_void;
 use std::marker::PhantomData;
 use std::mem::{forget, ManuallyDrop};
 use std::ops::Deref;
+use std::panic::{RefUnwindSafe, UnwindSafe};
 use std::ptr::{null, null_mut, NonNull};
 use std::sync::atomic::{fence, AtomicUsize, Ordering};
 use std::sync::{Mutex, MutexGuard, PoisonError};
@@ -345,6 +346,10 @@ unsafe impl Send for Table {}
 
 // SAFETY: the same.
 unsafe impl Sync for Table {}
+
+// No panic passes through a call of the library.
+impl UnwindSafe for Table {}
+impl RefUnwindSafe for Table {}
 
 impl Deref for Table {
     type Target = Shared;
