@@ -667,3 +667,32 @@ unsafe extern "C" fn on_end(_context: *mut c_void, _txn: Txn, end: Reply, word: 
         waker.wake();
     }
 }
+
+/// The layouts of the header's types, by a C compiler for machines of 64 bits.
+#[cfg(all(test, target_pointer_width = "64"))]
+mod layouts {
+    use super::*;
+    use std::mem::offset_of;
+
+    #[test]
+    fn options_and_times() {
+        assert_eq!(size_of::<Options>(), 20);
+        assert_eq!(size_of::<Time>(), 16);
+        assert_eq!(offset_of!(Time, nanoseconds), 8);
+        assert_eq!(size_of::<Option<&Time>>(), 8);
+    }
+
+    #[test]
+    fn commands() {
+        assert_eq!((size_of::<Command>(), align_of::<Command>()), (216, 8));
+        assert_eq!(offset_of!(Command, txn), 8);
+        assert_eq!(offset_of!(Command, node), 24);
+        assert_eq!(offset_of!(Command, file), 40);
+        assert_eq!(offset_of!(Command, number), 72);
+        assert_eq!(offset_of!(Command, keys), 88);
+        assert_eq!(offset_of!(Command, key_count), 96);
+        assert_eq!(offset_of!(Command, told), 136);
+        assert_eq!(offset_of!(Command, keep), 144);
+        assert_eq!(offset_of!(Command, reply), 152);
+    }
+}
