@@ -8,7 +8,7 @@ use crate::notices::{Notice, Notices};
 use crate::refusal::{accepted, done, Refusal};
 use crate::session::{deadline, Session, Stop};
 use crate::sys::shared::{self, Shared, Time};
-use crate::sys::{Reply, DONE};
+use crate::sys::{Reply, DONE, IN_USE};
 use crate::watcher::Watcher;
 use std::fmt;
 use std::sync::{Arc, Condvar, Mutex, MutexGuard, PoisonError};
@@ -17,7 +17,7 @@ use std::time::{Duration, Instant};
 pub(crate) use asks::Sought;
 
 /// A table of granular locks that threads share: a [`Manager`] behind one mutex, its latch, with a
-/// condition for each slot.
+/// condition for each slot. It is a `bs_table` of the library.
 ///
 /// A thread begins a [`Session`], whose calls sleep while their locks wait. Each command that ends a wait
 /// wakes the thread or task that waits.
@@ -46,18 +46,9 @@ pub(crate) use asks::Sought;
 pub struct Table {
     shared: shared::Table,
     clock: Clock,
-    watch: Mutex<Watch>,
-    /// The watches end.
+    /// Whether the calls that watch over the table must return.
+    is_unwatched: Mutex<bool>,
     unwatched: Condvar,
-}
-
-/// Who watches over a table.
-#[derive(Default)]
-struct Watch {
-    /// The table's own thread, until the table ends.
-    has_thread: bool,
-    /// The calls that wait for its end return.
-    has_ended: bool,
 }
 
 impl Table {
@@ -81,7 +72,7 @@ impl Table {
         Ok(Table {
             shared: shared::Table::new(&options.checked()?)?,
             clock: Clock::new(),
-            watch: Mutex::default(),
+            is_unwatched: Mutex::new(false),
             unwatched: Condvar::new(),
         })
     }
@@ -359,28 +350,31 @@ impl Table {
     /// # Ok::<(), burlapslate::Refusal>(())
     /// ```
     pub fn watch_over(&self, rest: Duration) -> Result<(), Refusal> {
-        let mut watch = self.watch_state();
-        if !watch.has_ended && !watch.has_thread {
-            let pace = u64::try_from(rest.as_nanos()).unwrap_or(u64::MAX);
-            done(shared::bs_table_watch_thread(&self.shared, pace))?;
-            watch.has_thread = true;
+        if *self.is_unwatched() {
+            return Ok(());
         }
-        while !watch.has_ended {
-            let woken = self.unwatched.wait(watch);
-            watch = woken.unwrap_or_else(PoisonError::into_inner);
+        let pace = u64::try_from(rest.as_nanos()).unwrap_or(u64::MAX);
+        let started = shared::bs_table_watch_thread(&self.shared, pace);
+        let has_one = started.status == IN_USE && shared::bs_call_table_shut(&self.shared) == DONE;
+        if !has_one {
+            done(started)?;
         }
+        let ended = self
+            .unwatched
+            .wait_while(self.is_unwatched(), |is_unwatched| !*is_unwatched);
+        drop(ended);
         Ok(())
     }
 
     /// Ends all calls of [`watch_over`](Table::watch_over), now and from now on.
     pub fn end_watch(&self) {
-        self.watch_state().has_ended = true;
+        *self.is_unwatched() = true;
         self.unwatched.notify_all();
     }
 
-    fn watch_state(&self) -> MutexGuard<'_, Watch> {
-        let watch = self.watch.lock();
-        watch.unwrap_or_else(PoisonError::into_inner) // No holder of it panics.
+    fn is_unwatched(&self) -> MutexGuard<'_, bool> {
+        let is_unwatched = self.is_unwatched.lock();
+        is_unwatched.unwrap_or_else(PoisonError::into_inner) // No holder of it panics.
     }
 
     /// What the calls of the library take.

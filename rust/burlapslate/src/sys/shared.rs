@@ -14,7 +14,7 @@ use std::alloc::{alloc, Layout};
 use std::cell::UnsafeCell;
 use std::ffi::c_void;
 use std::marker::PhantomData;
-use std::mem::{forget, ManuallyDrop};
+use std::mem::{forget, swap, ManuallyDrop};
 use std::ops::Deref;
 use std::panic::{RefUnwindSafe, UnwindSafe};
 use std::ptr::{null, null_mut, NonNull};
@@ -327,6 +327,7 @@ unsafe extern "C" {
 
     safe fn bs_table_hold(table: &Shared) -> Option<NonNull<Place>>;
     safe fn bs_table_let_go(table: &Shared) -> Reply;
+    pub(crate) safe fn bs_call_table_shut(table: &Shared) -> u32;
     pub(crate) safe fn bs_call_table_watch(table: &Shared, watcher: &mut WatcherPlace) -> Reply;
     pub(crate) safe fn bs_table_watch_thread(table: &Shared, pace: u64) -> Reply;
 }
@@ -599,15 +600,20 @@ impl Awaited {
 
     /// How the wait ended. If it has not ended, it wakes this waker from now on.
     pub(crate) fn poll(&self, waker: &Waker) -> Poll<Reply> {
-        let mut waker = Some(waker.clone()); // Dropped after the lock, since that may call the table.
-        let mut state = self.state();
-        match state.end {
-            Some(end) => Poll::Ready(end),
-            None => {
-                std::mem::swap(&mut state.waker, &mut waker);
-                Poll::Pending
-            }
+        match &*self.state() {
+            State { end: Some(end), .. } => return Poll::Ready(*end),
+            State {
+                waker: Some(own), ..
+            } if own.will_wake(waker) => return Poll::Pending,
+            _ => {}
         }
+        let mut waker = Some(waker.clone()); // Made and dropped without the lock, since that may call the table.
+        let mut state = self.state();
+        if let Some(end) = state.end {
+            return Poll::Ready(end);
+        }
+        swap(&mut state.waker, &mut waker);
+        Poll::Pending
     }
 
     /// From now on it wakes nobody.
