@@ -1,4 +1,5 @@
-//! The library's calls, as `include/burlapslate_calls.h` declares them. All unsafe code is here and in [`shared`].
+//! The library's calls, as `include/burlapslate_calls.h` declares them. All unsafe code is here, in
+//! [`shared`] and in [`awaited`].
 //!
 //! A reference stands for a pointer that is not null, and says for the call what the header asks of
 //! it: what a call writes is behind a `&mut`, so it overlaps with nothing else and nobody else uses
@@ -21,6 +22,7 @@ use std::ffi::c_void;
 use std::panic::UnwindSafe;
 use std::ptr::NonNull;
 
+pub(crate) mod awaited;
 pub(crate) mod shared;
 
 pub(crate) const DONE: u32 = 0;

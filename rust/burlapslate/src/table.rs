@@ -359,9 +359,8 @@ impl Table {
         if !has_one {
             done(started)?;
         }
-        let ended = self
-            .unwatched
-            .wait_while(self.is_unwatched(), |is_unwatched| !*is_unwatched);
+        let is_watched = |is_unwatched: &mut bool| !*is_unwatched;
+        let ended = self.unwatched.wait_while(self.is_unwatched(), is_watched);
         drop(ended);
         Ok(())
     }

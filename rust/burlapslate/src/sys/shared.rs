@@ -1,26 +1,21 @@
-//! The calls with a table that threads share, as `include/burlapslate_shared.h` declares them, and what a future shares
-//! with the end of its ask.
+//! The calls with a table that threads share, as `include/burlapslate_shared.h` declares them. The asks are in
+//! [`awaited`](super::awaited).
 //!
 //! Any thread may make any call with a table, so these take it by `&`. A [`Table`] is freed when its owner drops it, and
 //! no thread is in a call then, because each call borrows it.
 
-use super::{assert_fits, nodes, numbers, Notice, Notices, Options, Pinned, Place, Reply};
-use super::{WatcherPlace, DONE, IN_USE, WAITING};
+use super::{assert_fits, awaited, nodes, numbers, Notice, Notices, Options, Pinned, Place, Reply};
+use super::{WatcherPlace, DONE, IN_USE};
 use crate::manager::Manager;
 use crate::names::{Node, Row, Txn};
 use crate::refusal::{accepted, Refusal};
 use crate::SLOTS;
-use std::alloc::{alloc, Layout};
 use std::cell::UnsafeCell;
-use std::ffi::c_void;
 use std::marker::PhantomData;
-use std::mem::{forget, swap, ManuallyDrop};
+use std::mem::ManuallyDrop;
 use std::ops::Deref;
 use std::panic::{RefUnwindSafe, UnwindSafe};
 use std::ptr::{null, null_mut, NonNull};
-use std::sync::atomic::{fence, AtomicUsize, Ordering};
-use std::sync::{Mutex, MutexGuard, PoisonError};
-use std::task::{Poll, Waker};
 use std::thread;
 
 /// Joined to the mode of a lock for an instant.
@@ -125,13 +120,18 @@ impl<'k> Command<'k> {
     }
 }
 
+/// Where a call writes whom it notified; `None` if its caller does not ask.
+type Told<'a> = Option<&'a mut Notices>;
+
+/// The time up to which a call sleeps, or an ask waits; `None`: up to the end.
+pub(super) type Until<'a> = Option<&'a Time>;
+
 // SAFETY: these are the calls of the header, and their types have the layout of its types. Those that are safe have no
 // conditions but what their types say: an `Option` of a reference is a pointer that may be null.
 unsafe extern "C" {
     fn bs_call_table_make(table: &mut *mut Shared, options: &Options, size: usize) -> Reply;
     safe fn bs_table_end(table: &Shared) -> Reply;
     fn bs_table_free(table: &mut *mut Shared) -> Reply;
-    fn bs_table_on_end(table: &Shared, function: OnEnd, context: *mut c_void) -> Reply;
     safe fn bs_after(milliseconds: u64) -> Time;
 
     fn bs_table_add_inner(table: &Shared, parents: *const Node, count: usize) -> Reply;
@@ -148,25 +148,25 @@ unsafe extern "C" {
 
     pub(crate) safe fn bs_table_begin(table: &Shared) -> Reply;
     pub(crate) safe fn bs_table_begin_again(table: &Shared, since: u64) -> Reply;
-    pub(crate) safe fn bs_table_begin_in_turn(table: &Shared, until: Option<&Time>) -> Reply;
+    pub(crate) safe fn bs_table_begin_in_turn(table: &Shared, until: Until<'_>) -> Reply;
     pub(crate) safe fn bs_table_begin_again_in_turn(
         table: &Shared,
         since: u64,
-        until: Option<&Time>,
+        until: Until<'_>,
     ) -> Reply;
     pub(crate) safe fn bs_table_lock(
         table: &Shared,
         txn: Txn,
         node: Node,
         mode: u32,
-        until: Option<&Time>,
+        until: Until<'_>,
     ) -> Reply;
     pub(crate) safe fn bs_table_lock_path(
         table: &Shared,
         txn: Txn,
         node: Node,
         mode: u32,
-        until: Option<&Time>,
+        until: Until<'_>,
     ) -> Reply;
     pub(crate) safe fn bs_table_try(table: &Shared, txn: Txn, node: Node, mode: u32) -> Reply;
     pub(crate) safe fn bs_table_try_path(
@@ -181,36 +181,24 @@ unsafe extern "C" {
         table: &Shared,
         txn: Txn,
         node: Node,
-        told: Option<&mut Notices>,
+        told: Told<'_>,
     ) -> Reply;
     pub(crate) safe fn bs_table_mark(table: &Shared, txn: Txn) -> Reply;
     pub(crate) safe fn bs_table_release_since(
         table: &Shared,
         txn: Txn,
         savepoint: u64,
-        told: Option<&mut Notices>,
+        told: Told<'_>,
     ) -> Reply;
-    pub(crate) safe fn bs_table_cancel(
-        table: &Shared,
-        txn: Txn,
-        told: Option<&mut Notices>,
-    ) -> Reply;
-    pub(crate) safe fn bs_table_commit(
-        table: &Shared,
-        txn: Txn,
-        told: Option<&mut Notices>,
-    ) -> Reply;
-    pub(crate) safe fn bs_table_abort(
-        table: &Shared,
-        txn: Txn,
-        told: Option<&mut Notices>,
-    ) -> Reply;
-    safe fn bs_table_settle(table: &Shared, txn: Txn, told: Option<&mut Notices>) -> Reply;
+    pub(crate) safe fn bs_table_cancel(table: &Shared, txn: Txn, told: Told<'_>) -> Reply;
+    pub(crate) safe fn bs_table_commit(table: &Shared, txn: Txn, told: Told<'_>) -> Reply;
+    pub(crate) safe fn bs_table_abort(table: &Shared, txn: Txn, told: Told<'_>) -> Reply;
+    safe fn bs_table_settle(table: &Shared, txn: Txn, told: Told<'_>) -> Reply;
     pub(crate) safe fn bs_table_escalate(
         table: &Shared,
         txn: Txn,
         node: Node,
-        told: Option<&mut Notices>,
+        told: Told<'_>,
     ) -> Reply;
 
     fn bs_table_insert(
@@ -224,7 +212,7 @@ unsafe extern "C" {
         table: &Shared,
         txn: Txn,
         record: Node,
-        told: Option<&mut Notices>,
+        told: Told<'_>,
     ) -> Reply;
     fn bs_table_adopt(table: &Shared, file: Node, keys: *const u64, count: usize) -> Reply;
     pub(crate) safe fn bs_table_forget(table: &Shared, record: Node) -> Reply;
@@ -234,7 +222,7 @@ unsafe extern "C" {
         record: Node,
         index: Node,
         key: u64,
-        told: Option<&mut Notices>,
+        told: Told<'_>,
     ) -> Reply;
     fn bs_table_move(
         table: &Shared,
@@ -242,14 +230,10 @@ unsafe extern "C" {
         node: Node,
         parents: *const Node,
         count: usize,
-        told: Option<&mut Notices>,
+        told: Told<'_>,
     ) -> Reply;
-    pub(crate) safe fn bs_table_drop(
-        table: &Shared,
-        txn: Txn,
-        node: Node,
-        told: Option<&mut Notices>,
-    ) -> Reply;
+    pub(crate) safe fn bs_table_drop(table: &Shared, txn: Txn, node: Node, told: Told<'_>)
+        -> Reply;
     fn bs_table_index_by(
         table: &Shared,
         txn: Txn,
@@ -268,7 +252,7 @@ unsafe extern "C" {
         keys: *const u64,
         count: usize,
         mode: u32,
-        until: Option<&Time>,
+        until: Until<'_>,
     ) -> Reply;
     fn bs_table_try_row(
         table: &Shared,
@@ -284,7 +268,7 @@ unsafe extern "C" {
         txn: Txn,
         file: Node,
         number: u64,
-        told: Option<&mut Notices>,
+        told: Told<'_>,
     ) -> Reply;
     pub(crate) safe fn bs_table_rekey_row(
         table: &Shared,
@@ -293,36 +277,9 @@ unsafe extern "C" {
         number: u64,
         index: Node,
         key: u64,
-        told: Option<&mut Notices>,
+        told: Told<'_>,
     ) -> Reply;
 
-    fn bs_table_ask(
-        table: &Shared,
-        txn: Txn,
-        node: Node,
-        mode: u32,
-        until: Option<&Time>,
-        word: *mut c_void,
-    ) -> Reply;
-    fn bs_table_ask_path(
-        table: &Shared,
-        txn: Txn,
-        node: Node,
-        mode: u32,
-        until: Option<&Time>,
-        word: *mut c_void,
-    ) -> Reply;
-    fn bs_table_ask_row(
-        table: &Shared,
-        txn: Txn,
-        file: Node,
-        number: u64,
-        keys: *const u64,
-        count: usize,
-        mode: u32,
-        until: Option<&Time>,
-        word: *mut c_void,
-    ) -> Reply;
     pub(crate) safe fn bs_table_expire(table: &Shared, next: &mut Time) -> Reply;
 
     safe fn bs_table_hold(table: &Shared) -> Option<NonNull<Place>>;
@@ -362,7 +319,7 @@ impl Deref for Table {
 }
 
 impl Table {
-    /// Makes a table, whose asks are ended by [`on_end`].
+    /// Makes a table, whose asks have their ends told.
     pub(crate) fn new(options: &Options) -> Result<Table, Refusal> {
         assert_fits();
         let mut at = null_mut();
@@ -371,8 +328,7 @@ impl Table {
         let table = Table {
             at: NonNull::new(at).expect("a table that was made"),
         };
-        // SAFETY: the function does what the header asks of it, and needs no context.
-        accepted(unsafe { bs_table_on_end(&table, on_end, null_mut()) })?;
+        accepted(awaited::has_ends_told(&table))?;
         Ok(table)
     }
 }
@@ -485,7 +441,7 @@ pub(crate) fn lock_row(
     row: Row,
     keys: &[u64],
     mode: u32,
-    until: Option<&Time>,
+    until: Until<'_>,
 ) -> Reply {
     let (Row { file, number }, start) = (row, numbers(keys));
     // SAFETY: the count is the list's own.
@@ -502,176 +458,6 @@ pub(crate) fn try_row(table: &Shared, txn: Txn, row: Row, keys: &[u64], mode: u3
 pub(crate) fn try_first(table: &Shared, tries: &mut [Command<'_>]) -> usize {
     // SAFETY: the count is the list's own, and so is that of the keys of each, which outlive it.
     unsafe { bs_table_try_first(table, tries.as_mut_ptr(), tries.len()) }
-}
-
-/// What an ask that waits is told by, and its future asks.
-struct Told {
-    state: Mutex<State>,
-    /// Its [`Awaited`]s: that of the future, and one for the table while the ask waits.
-    owners: AtomicUsize,
-}
-
-/// How a wait ended, and before that the waker of its task.
-struct State {
-    waker: Option<Waker>,
-    end: Option<Reply>,
-}
-
-/// The wait of an ask, as one of two know it: its future, and the table by its word. The last that is dropped frees it.
-pub(crate) struct Awaited(NonNull<Told>);
-
-// SAFETY: what it points to is used by several threads, and any of them may free it: a waker and a mutex.
-unsafe impl Send for Awaited {}
-
-// SAFETY: the same.
-unsafe impl Sync for Awaited {}
-
-impl Awaited {
-    /// A wait that wakes this waker; `None` if memory is refused.
-    pub(crate) fn new(waker: Waker) -> Option<Awaited> {
-        let state = State {
-            waker: Some(waker),
-            end: None,
-        };
-        // SAFETY: the type is not empty.
-        let at = NonNull::new(unsafe { alloc(Layout::new::<Told>()) })?.cast::<Told>();
-        let told = Told {
-            state: Mutex::new(state),
-            owners: AtomicUsize::new(1),
-        };
-        // SAFETY: the memory has the layout of the type, and is nobody else's.
-        unsafe { at.write(told) };
-        Some(Awaited(at))
-    }
-
-    /// Asks for a node.
-    pub(crate) fn ask(
-        &self,
-        table: &Shared,
-        txn: Txn,
-        node: Node,
-        mode: u32,
-        until: Option<&Time>,
-    ) -> Reply {
-        // SAFETY: the word is an owner.
-        self.asked(|word| unsafe { bs_table_ask(table, txn, node, mode, until, word) })
-    }
-
-    /// Asks for a node and what must be held above it.
-    pub(crate) fn ask_path(
-        &self,
-        table: &Shared,
-        txn: Txn,
-        node: Node,
-        mode: u32,
-        until: Option<&Time>,
-    ) -> Reply {
-        // SAFETY: the word is an owner.
-        self.asked(|word| unsafe { bs_table_ask_path(table, txn, node, mode, until, word) })
-    }
-
-    /// Asks for a row, whose keys the table copies.
-    pub(crate) fn ask_row(
-        &self,
-        table: &Shared,
-        txn: Txn,
-        row: Row,
-        keys: &[u64],
-        mode: u32,
-        until: Option<&Time>,
-    ) -> Reply {
-        let (Row { file, number }, start, count) = (row, numbers(keys), keys.len());
-        // SAFETY: the word is an owner, and the count is the list's own.
-        self.asked(|word| unsafe {
-            bs_table_ask_row(table, txn, file, number, start, count, mode, until, word)
-        })
-    }
-
-    /// Makes an ask whose word is one more owner, which the table has while the ask waits.
-    fn asked(&self, ask: impl FnOnce(*mut c_void) -> Reply) -> Reply {
-        self.told().owners.fetch_add(1, Ordering::Relaxed);
-        let tables = Awaited(self.0);
-        let reply = ask(self.0.as_ptr().cast());
-        if reply.status == WAITING {
-            forget(tables);
-        }
-        reply
-    }
-
-    /// How the wait ended. If it has not ended, it wakes this waker from now on.
-    pub(crate) fn poll(&self, waker: &Waker) -> Poll<Reply> {
-        match &*self.state() {
-            State { end: Some(end), .. } => return Poll::Ready(*end),
-            State {
-                waker: Some(own), ..
-            } if own.will_wake(waker) => return Poll::Pending,
-            _ => {}
-        }
-        let mut waker = Some(waker.clone()); // Made and dropped without the lock, since that may call the table.
-        let mut state = self.state();
-        if let Some(end) = state.end {
-            return Poll::Ready(end);
-        }
-        swap(&mut state.waker, &mut waker);
-        Poll::Pending
-    }
-
-    /// From now on it wakes nobody.
-    pub(crate) fn forget_waker(&self) {
-        let waker = self.state().waker.take();
-        drop(waker); // Without the lock, since that may call the table.
-    }
-
-    /// Whether the wait has ended.
-    pub(crate) fn has_ended(&self) -> bool {
-        self.state().end.is_some()
-    }
-
-    /// The wait has ended so: answers which waker to wake.
-    fn end(&self, end: Reply) -> Option<Waker> {
-        let mut state = self.state();
-        state.end = Some(end);
-        state.waker.take()
-    }
-
-    fn state(&self) -> MutexGuard<'_, State> {
-        let state = self.told().state.lock();
-        state.unwrap_or_else(PoisonError::into_inner) // No holder of it panics.
-    }
-
-    fn told(&self) -> &Told {
-        // SAFETY: this is one of its owners.
-        unsafe { self.0.as_ref() }
-    }
-}
-
-impl Drop for Awaited {
-    fn drop(&mut self) {
-        if self.told().owners.fetch_sub(1, Ordering::Release) > 1 {
-            return;
-        }
-        fence(Ordering::Acquire); // After all that the other owner did.
-                                  // SAFETY: this was the last owner, and the memory is of `new`, with the layout of a box of the type.
-        drop(unsafe { Box::from_raw(self.0.as_ptr()) });
-    }
-}
-
-type OnEnd = unsafe extern "C" fn(*mut c_void, Txn, Reply, *mut c_void);
-
-/// The callback of all tables: stores how a wait ended, and wakes the task after that. A waker that panics ends the
-/// program, since it would leave the table's call in another way than by its return.
-///
-/// # Safety
-///
-/// The word is of an ask that was answered [`WAITING`], and comes once.
-unsafe extern "C" fn on_end(_context: *mut c_void, _txn: Txn, end: Reply, word: *mut c_void) {
-    // SAFETY: the word is an owner that `asked` has left to the table.
-    let tables = unsafe { Awaited(NonNull::new_unchecked(word.cast())) };
-    let waker = tables.end(end);
-    drop(tables);
-    if let Some(waker) = waker {
-        waker.wake();
-    }
 }
 
 /// The layouts of the header's types, by a C compiler for machines of 64 bits.
