@@ -6,7 +6,7 @@ use std::time::{Duration, Instant};
 /// How often both clocks are read, to read them at one moment.
 const READINGS: usize = 4;
 
-/// The same moment by both clocks. A time goes from one to the other and back unchanged.
+/// The same moment by both clocks. A time that is converted to the other clock and back is the same.
 pub(crate) struct Clock {
     instant: Instant,
     /// By the library's clock, from its zero on.
@@ -14,7 +14,7 @@ pub(crate) struct Clock {
 }
 
 impl Clock {
-    /// The readings that were closest to each other. By the library's clock a time never comes earlier.
+    /// The two readings that were closest to each other. A time is never earlier by the library's clock.
     pub(crate) fn new() -> Clock {
         let readings = (0..READINGS).map(|_| {
             let instant = Instant::now();
@@ -55,7 +55,7 @@ mod tests {
     use super::*;
 
     #[test]
-    fn a_time_goes_there_and_back() {
+    fn a_time_is_converted_and_back() {
         let clock = Clock::new();
         for nanos in [0, 1, 999_999_999, 1_000_000_000, u64::MAX / 4] {
             let instant = clock.instant + Duration::from_nanos(nanos);

@@ -52,7 +52,7 @@ pub struct Table {
 }
 
 impl Table {
-    /// Makes a table for `most` transactions at once, 1 to [`SLOTS`], with a way of detection. The victim
+    /// Makes a table for `most` transactions at once, 1 to [`SLOTS`](crate::SLOTS), with a way of detection. The victim
     /// of a deadlock is its youngest member.
     ///
     /// Refused as [`Manager::new`].

@@ -110,7 +110,7 @@ fn a_closure_calls_tables() {
     assert_eq!(session.lock(store.root, Mode::S), Ok(Mode::S));
 }
 
-/// A closure that panics gives the latch back; so do one that holds the table anew, and one that drops a session.
+/// A closure that panics releases the latch, and so does one that holds the table anew or drops a session.
 #[test]
 fn a_closure_panics() {
     let store = Store::new(Detect::AtBlock);
@@ -147,7 +147,7 @@ impl Wake for Kept {
     }
 }
 
-/// A table with a task that waits for ever, since its future was leaked; and what is left of its waker.
+/// A table with a task that waits until the table ends, since its future was leaked; and its waker, to be looked for.
 fn with_a_leaked_future() -> (Table, Weak<Kept>, Arc<AtomicUsize>) {
     let table = Table::new(Detect::AtBlock, SLOTS).unwrap();
     let root = table.add_inner(&[]).unwrap();
