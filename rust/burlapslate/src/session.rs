@@ -4,7 +4,7 @@ use crate::manager::{Escalated, Mark};
 use crate::mode::Mode;
 use crate::names::{Node, Row, Txn};
 use crate::refusal::{accepted, done, Refusal};
-use crate::sys::shared::{self, Command, Shared};
+use crate::sys::shared::{self, Calling, Command};
 use crate::sys::{self, Reply};
 use crate::table::{node_of, Sought, Table};
 use std::error::Error;
@@ -278,9 +278,9 @@ impl<'t> Session<'t> {
         self.deadline = deadline;
     }
 
-    /// What the calls of the library take.
-    fn as_sys(&self) -> &Shared {
-        self.table.as_sys()
+    /// The table for one call of the library.
+    fn call(&self) -> Calling<'_> {
+        self.table.call()
     }
 
     /// The earlier of this time and its own.
@@ -468,7 +468,8 @@ impl<'t> Session<'t> {
     ///
     /// The thread that ends the wait wakes the task, within its call of the table and without the latch. So the
     /// waker may call the table, as by polling the future, and delays that thread alone. In a waker each call
-    /// that could sleep is refused with [`InUse`](Refusal::InUse). A waker that panics ends the program.
+    /// that could sleep is refused with [`InUse`](Refusal::InUse). If it panics, that call of the thread panics
+    /// after all that it does.
     ///
     /// A future that is dropped while it waits cancels its wait. If the lock was granted by then, the
     /// transaction keeps it until its end, as all its locks: no command lowers a mode. So a task that gave
@@ -564,7 +565,7 @@ impl<'t> Session<'t> {
         keep: Keep,
     ) -> Result<Tried<Mode>, Refusal> {
         let (mode, keep) = (mode as u32, keep.as_number());
-        let reply = shared::bs_table_try_path(self.as_sys(), self.txn, node, mode, keep);
+        let reply = shared::bs_table_try_path(&self.call(), self.txn, node, mode, keep);
         Ok(match Tried::of(&reply)? {
             Tried::Locked(locked) => Tried::Locked(locked.mode()),
             Tried::WouldBlock(node) => Tried::WouldBlock(node),
@@ -583,7 +584,7 @@ impl<'t> Session<'t> {
         keys: &[u64],
         mode: Mode,
     ) -> Result<Tried<RowLocked>, Refusal> {
-        let reply = shared::try_row(self.as_sys(), self.txn, row, keys, mode as u32);
+        let reply = shared::try_row(&self.call(), self.txn, row, keys, mode as u32);
         Tried::of(&reply)
     }
 
@@ -615,7 +616,7 @@ impl<'t> Session<'t> {
         let room = commands.try_reserve_exact(tries.len());
         room.map_err(|_refused| Refusal::NoMemory)?;
         commands.extend(tries.iter().map(|each| each.command(self.txn)));
-        let place = shared::try_first(self.as_sys(), &mut commands);
+        let place = shared::try_first(&self.call(), &mut commands);
         let Some(Command { reply, .. }) = commands.get(place) else {
             return Ok(None);
         };
@@ -629,7 +630,7 @@ impl<'t> Session<'t> {
     pub fn unlock_row(&mut self, row: Row) -> Result<(), Refusal> {
         let Row { file, number } = row;
         done(shared::bs_table_unlock_row(
-            self.as_sys(),
+            &self.call(),
             self.txn,
             file,
             number,
@@ -639,7 +640,7 @@ impl<'t> Session<'t> {
 
     /// As [`Manager::rekey_row`](crate::Manager::rekey_row).
     pub fn rekey_row(&mut self, row: Row, index: Node, key: u64) -> Result<(), Refusal> {
-        let (table, Row { file, number }) = (self.as_sys(), row);
+        let (table, Row { file, number }) = (&self.call(), row);
         done(shared::bs_table_rekey_row(
             table, self.txn, file, number, index, key, None,
         ))
@@ -647,18 +648,18 @@ impl<'t> Session<'t> {
 
     /// As [`Manager::try_lock`](crate::Manager::try_lock).
     pub fn try_lock(&mut self, node: Node, mode: Mode) -> Result<Mode, Refusal> {
-        let reply = shared::bs_table_try(self.as_sys(), self.txn, node, mode as u32);
+        let reply = shared::bs_table_try(&self.call(), self.txn, node, mode as u32);
         accepted(reply).map(|reply| Mode::of(reply.mode))
     }
 
     /// As [`Manager::unlock`](crate::Manager::unlock).
     pub fn unlock(&mut self, node: Node) -> Result<(), Refusal> {
-        done(shared::bs_table_unlock(self.as_sys(), self.txn, node, None))
+        done(shared::bs_table_unlock(&self.call(), self.txn, node, None))
     }
 
     /// As [`Manager::mark`](crate::Manager::mark).
     pub fn mark(&self) -> Result<Mark, Refusal> {
-        let reply = accepted(shared::bs_table_mark(self.as_sys(), self.txn))?;
+        let reply = accepted(shared::bs_table_mark(&self.call(), self.txn))?;
         Ok(Mark(reply.count as usize))
     }
 
@@ -679,25 +680,25 @@ impl<'t> Session<'t> {
     /// ```
     pub fn release_since(&mut self, mark: Mark) -> Result<usize, Refusal> {
         let savepoint = mark.0 as u64;
-        let reply = shared::bs_table_release_since(self.as_sys(), self.txn, savepoint, None);
+        let reply = shared::bs_table_release_since(&self.call(), self.txn, savepoint, None);
         accepted(reply).map(|reply| reply.count as usize)
     }
 
     /// As [`Manager::escalate`](crate::Manager::escalate).
     pub fn escalate(&mut self, node: Node) -> Result<Escalated, Refusal> {
-        let reply = shared::bs_table_escalate(self.as_sys(), self.txn, node, None);
+        let reply = shared::bs_table_escalate(&self.call(), self.txn, node, None);
         accepted(reply).map(|reply| Escalated::of(&reply))
     }
 
     /// As [`Manager::insert`](crate::Manager::insert).
     pub fn insert(&mut self, file: Node, keys: &[u64]) -> Result<Node, Refusal> {
-        node_of(shared::insert(self.as_sys(), self.txn, file, keys))
+        node_of(shared::insert(&self.call(), self.txn, file, keys))
     }
 
     /// As [`Manager::delete`](crate::Manager::delete). Threads that sleep for the record are woken.
     pub fn delete(&mut self, record: Node) -> Result<(), Refusal> {
         done(shared::bs_table_delete(
-            self.as_sys(),
+            &self.call(),
             self.txn,
             record,
             None,
@@ -706,7 +707,7 @@ impl<'t> Session<'t> {
 
     /// As [`Manager::rekey`](crate::Manager::rekey).
     pub fn rekey(&mut self, record: Node, index: Node, key: u64) -> Result<(), Refusal> {
-        let table = self.as_sys();
+        let table = &self.call();
         done(shared::bs_table_rekey(
             table, self.txn, record, index, key, None,
         ))
@@ -714,13 +715,13 @@ impl<'t> Session<'t> {
 
     /// As [`Manager::move_node`](crate::Manager::move_node).
     pub fn move_node(&mut self, node: Node, parents: &[Node]) -> Result<(), Refusal> {
-        done(shared::move_node(self.as_sys(), self.txn, node, parents))
+        done(shared::move_node(&self.call(), self.txn, node, parents))
     }
 
     /// As [`Manager::drop_node`](crate::Manager::drop_node). Threads that sleep for the node are woken and
     /// answered [`Stop::Gone`].
     pub fn drop_node(&mut self, node: Node) -> Result<(), Refusal> {
-        done(shared::bs_table_drop(self.as_sys(), self.txn, node, None))
+        done(shared::bs_table_drop(&self.call(), self.txn, node, None))
     }
 
     /// As [`Manager::index_by`](crate::Manager::index_by).
@@ -731,7 +732,7 @@ impl<'t> Session<'t> {
         bounds: &[u64],
     ) -> Result<Node, Refusal> {
         node_of(shared::index_by(
-            self.as_sys(),
+            &self.call(),
             self.txn,
             parents,
             file,

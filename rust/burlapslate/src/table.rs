@@ -7,7 +7,7 @@ use crate::names::{Node, Row, Txn};
 use crate::notices::{Notice, Notices};
 use crate::refusal::{accepted, done, Refusal};
 use crate::session::{deadline, Session, Stop};
-use crate::sys::shared::{self, Shared, Time};
+use crate::sys::shared::{self, Calling, Time};
 use crate::sys::{Reply, DONE, IN_USE};
 use crate::watcher::Watcher;
 use std::fmt;
@@ -83,7 +83,7 @@ impl Table {
     ///
     /// Refused as [`Manager::begin`].
     pub fn begin(&self) -> Result<Session<'_>, Refusal> {
-        self.begun(shared::bs_table_begin(&self.shared))
+        self.begun(shared::bs_table_begin(&self.call()))
     }
 
     /// As [`begin`](Table::begin), but if all slots are taken the thread sleeps until it has one. Threads
@@ -116,7 +116,7 @@ impl Table {
     /// # Ok::<(), burlapslate::Refusal>(())
     /// ```
     pub fn begin_in_turn(&self) -> Result<Session<'_>, Refusal> {
-        self.begun(shared::bs_table_begin_in_turn(&self.shared, None))
+        self.begun(shared::bs_table_begin_in_turn(&self.call(), None))
     }
 
     /// As [`begin`](Table::begin), for work that an earlier transaction began, as
@@ -136,13 +136,13 @@ impl Table {
     /// # Ok::<(), Stop>(())
     /// ```
     pub fn begin_again(&self, since: u64) -> Result<Session<'_>, Refusal> {
-        self.begun(shared::bs_table_begin_again(&self.shared, since))
+        self.begun(shared::bs_table_begin_again(&self.call(), since))
     }
 
     /// As [`begin_in_turn`](Table::begin_in_turn), for work that an earlier transaction began. It gives no
     /// earlier place in the begin queue.
     pub fn begin_again_in_turn(&self, since: u64) -> Result<Session<'_>, Refusal> {
-        let reply = shared::bs_table_begin_again_in_turn(&self.shared, since, None);
+        let reply = shared::bs_table_begin_again_in_turn(&self.call(), since, None);
         self.begun(reply)
     }
 
@@ -150,7 +150,7 @@ impl Table {
     /// answer is then [`Stop::TimedOut`]. If a slot was freed for it by then, the transaction has begun.
     pub fn begin_timeout(&self, time: Duration) -> Result<Session<'_>, Stop> {
         let until = self.time(deadline(time));
-        let reply = shared::bs_table_begin_in_turn(&self.shared, until.as_ref());
+        let reply = shared::bs_table_begin_in_turn(&self.call(), until.as_ref());
         if reply.status == DONE {
             Ok(Session::of(self, reply.txn))
         } else {
@@ -211,32 +211,32 @@ impl Table {
 
     /// As [`Manager::add_inner`].
     pub fn add_inner(&self, parents: &[Node]) -> Result<Node, Refusal> {
-        node_of(shared::add_inner(&self.shared, parents))
+        node_of(shared::add_inner(&self.call(), parents))
     }
 
     /// As [`Manager::add_file`].
     pub fn add_file(&self, parents: &[Node]) -> Result<Node, Refusal> {
-        node_of(shared::add_file(&self.shared, parents))
+        node_of(shared::add_file(&self.call(), parents))
     }
 
     /// As [`Manager::add_row_file`].
     pub fn add_row_file(&self, parents: &[Node]) -> Result<Node, Refusal> {
-        node_of(shared::add_row_file(&self.shared, parents))
+        node_of(shared::add_row_file(&self.call(), parents))
     }
 
     /// As [`Manager::add_index`].
     pub fn add_index(&self, parents: &[Node], file: Node, bounds: &[u64]) -> Result<Node, Refusal> {
-        node_of(shared::add_index(&self.shared, parents, file, bounds))
+        node_of(shared::add_index(&self.call(), parents, file, bounds))
     }
 
     /// As [`Manager::adopt`].
     pub fn adopt(&self, file: Node, keys: &[u64]) -> Result<Node, Refusal> {
-        node_of(shared::adopt(&self.shared, file, keys))
+        node_of(shared::adopt(&self.call(), file, keys))
     }
 
     /// As [`Manager::forget`].
     pub fn forget(&self, record: Node) -> Result<(), Refusal> {
-        done(shared::bs_table_forget(&self.shared, record))
+        done(shared::bs_table_forget(&self.call(), record))
     }
 
     /// As [`Manager::row_node`].
@@ -249,7 +249,7 @@ impl Table {
     ///
     /// Refused as [`Manager::abort`].
     pub fn abort(&self, txn: Txn) -> Result<(), Refusal> {
-        done(shared::bs_table_abort(&self.shared, txn, None))
+        done(shared::bs_table_abort(&self.call(), txn, None))
     }
 
     /// Commits a transaction that no session drives any more ([`Session::leave`]), and lets its rows
@@ -257,7 +257,7 @@ impl Table {
     ///
     /// Refused as [`Manager::commit`].
     pub fn commit(&self, txn: Txn) -> Result<(), Refusal> {
-        done(shared::bs_table_commit(&self.shared, txn, None))
+        done(shared::bs_table_commit(&self.call(), txn, None))
     }
 
     /// Cancels the wait of a transaction, from any thread. The thread or task that waits is woken and
@@ -267,14 +267,14 @@ impl Table {
     ///
     /// Refused as [`Manager::cancel`].
     pub fn cancel(&self, txn: Txn) -> Result<(), Refusal> {
-        done(shared::bs_table_cancel(&self.shared, txn, None))
+        done(shared::bs_table_cancel(&self.call(), txn, None))
     }
 
     /// Condemns victims until a transaction is on no cycle of waits, and wakes them; how many.
     ///
     /// Refused as [`Manager::settle`].
     pub fn settle(&self, txn: Txn) -> Result<usize, Refusal> {
-        let (reply, told) = shared::settle(&self.shared, txn);
+        let (reply, told) = shared::settle(&self.call(), txn);
         accepted(reply)?;
         let is_victim = |notice: &Notice| matches!(notice, Notice::Victim { .. });
         Ok(Notices::of(&told).filter(is_victim).count())
@@ -302,7 +302,7 @@ impl Table {
     ///
     /// Within the closure of another such call of this table.
     pub fn with<T>(&self, ask: impl FnOnce(&Manager) -> T) -> T {
-        shared::with(&self.shared, ask)
+        shared::with(&self.call(), ask)
     }
 
     /// All that there is, of one moment, as text in columns.
@@ -314,7 +314,7 @@ impl Table {
     ///
     /// Refused as [`Manager::watch`].
     pub fn watch(&self) -> Result<Watcher, Refusal> {
-        Watcher::made_by(|watcher| shared::bs_call_table_watch(&self.shared, watcher))
+        Watcher::made_by(|watcher| shared::bs_call_table_watch(&self.call(), watcher))
     }
 
     /// Has a thread end deadlocks, for a table with [`Detect::ByWatcher`], and waits until
@@ -354,8 +354,8 @@ impl Table {
             return Ok(());
         }
         let pace = u64::try_from(rest.as_nanos()).unwrap_or(u64::MAX);
-        let started = shared::bs_table_watch_thread(&self.shared, pace);
-        let has_one = started.status == IN_USE && shared::bs_call_table_shut(&self.shared) == DONE;
+        let started = shared::bs_table_watch_thread(&self.call(), pace);
+        let has_one = started.status == IN_USE && shared::bs_call_table_shut(&self.call()) == DONE;
         if !has_one {
             done(started)?;
         }
@@ -376,9 +376,9 @@ impl Table {
         is_unwatched.unwrap_or_else(PoisonError::into_inner) // No holder of it panics.
     }
 
-    /// What the calls of the library take.
-    pub(crate) fn as_sys(&self) -> &Shared {
-        &self.shared
+    /// The table for one call of the library.
+    pub(crate) fn call(&self) -> Calling<'_> {
+        self.shared.call()
     }
 
     /// A time as the library takes it.

@@ -83,6 +83,25 @@ fn a_wait_ends_within_a_waker() {
     }
 }
 
+/// The panic of a waker continues after the call that woke it, which has done all; others are woken too.
+#[test]
+fn a_waker_panics() {
+    let store = Store::new(Detect::AtBlock);
+    let (mut holder, node) = (store.begin(), store.add_root());
+    holder.lock(node, Mode::X).unwrap();
+    let table = Arc::clone(&store.table);
+    let panics = Does::waker(|| panic!("as it is wanted"));
+    let calls = Does::waker(move || assert!(table.begin().unwrap().commit().is_ok()));
+    let mut waiters = [panics, calls].map(|waker| store.waits(store.begin(), node, Mode::S, waker));
+    let name = holder.txn();
+    let died = catch_unwind(AssertUnwindSafe(|| holder.commit()));
+    assert!(died.is_err());
+    assert!(!store.lives(name));
+    for waiter in &mut waiters {
+        assert_eq!(waiter.ended(), Ok(Mode::S));
+    }
+}
+
 /// Within a closure that holds the table its calls are refused, and those of another table that could sleep.
 #[test]
 fn a_closure_calls_tables() {

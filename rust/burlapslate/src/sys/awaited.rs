@@ -4,12 +4,16 @@ use super::shared::{Shared, Until};
 use super::{numbers, Reply, WAITING};
 use crate::names::{Node, Row, Txn};
 use std::alloc::{alloc, Layout};
+use std::any::Any;
+use std::cell::Cell;
 use std::ffi::c_void;
 use std::mem::{forget, swap};
+use std::panic::{catch_unwind, resume_unwind, AssertUnwindSafe};
 use std::ptr::{null_mut, NonNull};
 use std::sync::atomic::{fence, AtomicUsize, Ordering};
 use std::sync::{Mutex, MutexGuard, PoisonError};
 use std::task::{Poll, Waker};
+use std::thread;
 
 type OnEnd = unsafe extern "C" fn(*mut c_void, Txn, Reply, *mut c_void);
 
@@ -203,8 +207,36 @@ impl Drop for Awaited {
     }
 }
 
-/// The callback of all tables: stores how a wait ended, and wakes the task after that. A waker that panics ends the
-/// program, since it would leave the table's call in another way than by its return.
+thread_local! {
+    /// Whether this thread is in a waker that [`on_end`] calls.
+    static IS_WAKING: Cell<bool> = const { Cell::new(false) };
+    /// With what such a waker has panicked, until the thread's call of the library has returned.
+    static PANIC: Cell<Option<Box<dyn Any + Send>>> = const { Cell::new(None) };
+}
+
+/// After a call of the library: continues the panic of a waker, which could not pass through that call. In a waker it is
+/// another's, and the thread continues it later; and a thread that is panicking continues its own.
+pub(super) fn resume_panic() {
+    if IS_WAKING.get() {
+        return;
+    }
+    let panic = PANIC.try_with(Cell::take).ok().flatten();
+    if let Some(panic) = panic.filter(|_| !thread::panicking()) {
+        resume_unwind(panic);
+    }
+}
+
+/// Wakes a task, and keeps the panic of its waker.
+fn wake(waker: Waker) {
+    let was_waking = IS_WAKING.replace(true);
+    let woken = catch_unwind(AssertUnwindSafe(|| waker.wake()));
+    IS_WAKING.set(was_waking);
+    if let Err(panic) = woken {
+        PANIC.set(Some(panic));
+    }
+}
+
+/// The callback of all tables: stores how a wait ended, and wakes the task after that.
 ///
 /// # Safety
 ///
@@ -214,7 +246,5 @@ unsafe extern "C" fn on_end(_context: *mut c_void, _txn: Txn, end: Reply, word: 
     let tables = unsafe { Awaited(NonNull::new_unchecked(word.cast())) };
     let waker = tables.end(end);
     drop(tables);
-    if let Some(waker) = waker {
-        waker.wake();
-    }
+    waker.into_iter().for_each(wake);
 }

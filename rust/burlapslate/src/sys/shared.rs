@@ -294,6 +294,23 @@ pub(crate) fn now() -> Time {
     bs_after(0)
 }
 
+/// A table for the time of a call with it.
+pub(crate) struct Calling<'t>(&'t Shared);
+
+impl Deref for Calling<'_> {
+    type Target = Shared;
+
+    fn deref(&self) -> &Shared {
+        self.0
+    }
+}
+
+impl Drop for Calling<'_> {
+    fn drop(&mut self) {
+        awaited::resume_panic();
+    }
+}
+
 /// A table, which ends with this.
 pub(crate) struct Table {
     at: NonNull<Shared>,
@@ -309,15 +326,6 @@ unsafe impl Sync for Table {}
 impl UnwindSafe for Table {}
 impl RefUnwindSafe for Table {}
 
-impl Deref for Table {
-    type Target = Shared;
-
-    fn deref(&self) -> &Shared {
-        // SAFETY: the table is there until the drop.
-        unsafe { self.at.as_ref() }
-    }
-}
-
 impl Table {
     /// Makes a table, whose asks have their ends told.
     pub(crate) fn new(options: &Options) -> Result<Table, Refusal> {
@@ -328,8 +336,18 @@ impl Table {
         let table = Table {
             at: NonNull::new(at).expect("a table that was made"),
         };
-        accepted(awaited::has_ends_told(&table))?;
+        accepted(awaited::has_ends_told(table.shared()))?;
         Ok(table)
+    }
+
+    /// For one call.
+    pub(crate) fn call(&self) -> Calling<'_> {
+        Calling(self.shared())
+    }
+
+    fn shared(&self) -> &Shared {
+        // SAFETY: the table is there until the drop.
+        unsafe { self.at.as_ref() }
     }
 }
 
@@ -338,10 +356,10 @@ impl Drop for Table {
     /// there can be none, the table stays.
     fn drop(&mut self) {
         let mut at = self.at.as_ptr();
-        if bs_table_end(self).status != IN_USE {
+        if bs_table_end(self.shared()).status != IN_USE {
             // SAFETY: the table was ended, and no thread is in a call with it: each borrows its owner.
             unsafe { bs_table_free(&mut at) };
-            return;
+            return awaited::resume_panic();
         }
         let table = ManuallyDrop::new(Table { at: self.at });
         let ends = move || drop(ManuallyDrop::into_inner(table));

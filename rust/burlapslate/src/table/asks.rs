@@ -58,7 +58,8 @@ impl Locking<'_> {
         let Some(wait) = Awaited::new(waker.clone()) else {
             return Poll::Ready(Reply::with_status(NO_MEMORY));
         };
-        let (table, txn, until) = (self.table.as_sys(), self.txn, self.table.time(self.until));
+        let (table, txn) = (&self.table.call(), self.txn);
+        let until = self.table.time(self.until);
         let until = until.as_ref();
         let reply = match self.sought {
             Sought::Node(node, mode) => wait.ask(table, txn, node, mode, until),
@@ -87,7 +88,7 @@ impl Locking<'_> {
     /// Cancels the wait, whose task is not woken for that; whether it still waited.
     fn cancels(&self, wait: &Awaited) -> bool {
         wait.forget_waker();
-        shared::bs_table_cancel(self.table.as_sys(), self.txn, None).status == DONE
+        shared::bs_table_cancel(&self.table.call(), self.txn, None).status == DONE
     }
 }
 
@@ -128,7 +129,7 @@ impl Table {
         sought: Sought<'_>,
         until: Option<Instant>,
     ) -> Result<RowLocked, Stop> {
-        let (table, until) = (self.as_sys(), self.time(until));
+        let (table, until) = (&self.call(), self.time(until));
         let until: Option<&Time> = until.as_ref();
         answer(&match sought {
             Sought::Node(node, mode) => shared::bs_table_lock(table, txn, node, mode, until),
@@ -171,7 +172,7 @@ impl Table {
     /// ```
     pub fn expire(&self) -> Option<Instant> {
         let mut next = shared::now();
-        let reply = shared::bs_table_expire(&self.shared, &mut next);
+        let reply = shared::bs_table_expire(&self.call(), &mut next);
         assert_eq!(reply.status, DONE, "this thread holds the table");
         (reply.count > 0).then(|| self.clock.instant(next))?
     }
