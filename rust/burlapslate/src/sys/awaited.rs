@@ -201,8 +201,9 @@ impl Drop for Awaited {
         if self.wait().owners.fetch_sub(1, Ordering::Release) > 1 {
             return;
         }
-        fence(Ordering::Acquire); // After all that the other owner did.
-                                  // SAFETY: this was the last owner, and the memory is of `new`, with the layout of a box of the type.
+        fence(Ordering::Acquire); // It comes after all that the other owner did.
+
+        // SAFETY: this was the last owner, and the memory is of `new`, with the layout of a box of the type.
         drop(unsafe { Box::from_raw(self.0.as_ptr()) });
     }
 }
