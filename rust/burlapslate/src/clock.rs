@@ -64,13 +64,8 @@ mod tests {
     }
 
     #[test]
-    fn a_time_beyond_the_clock_never_comes() {
+    fn a_time_before_the_clock_is_over() {
         let clock = Clock::new();
-        let time = Time {
-            seconds: i64::MAX,
-            nanoseconds: 0,
-        };
-        assert_eq!(clock.instant(time), None);
         let before = clock.instant.checked_sub(Duration::from_nanos(1));
         let over = clock.time(before.unwrap_or(clock.instant));
         assert_eq!(clock.instant(over), Some(clock.instant));
