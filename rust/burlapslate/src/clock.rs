@@ -29,7 +29,8 @@ impl Clock {
         closest.expect("there are readings").1
     }
 
-    /// A time of Rust by the library's clock. One before this clock was made is over.
+    /// A time of Rust by the library's clock. Not inlined, since few calls have a time. One before this clock was made is over.
+    #[inline(never)]
     pub(crate) fn time(&self, instant: Instant) -> Time {
         let later = instant.saturating_duration_since(self.instant);
         let time = self.since_zero.saturating_add(later);

@@ -289,6 +289,7 @@ impl<'t> Session<'t> {
     }
 
     /// Locks a node or a path, within the earlier of this time and its own.
+    #[inline(always)]
     fn sought(&mut self, sought: Sought<'_>, time: Option<Instant>) -> Result<Mode, Stop> {
         let locked = self.table.lock(self.txn, sought, self.until(time));
         locked.map(RowLocked::mode)

@@ -10,7 +10,7 @@ use std::ffi::c_void;
 use std::mem::{forget, swap};
 use std::panic::{catch_unwind, resume_unwind, AssertUnwindSafe};
 use std::ptr::{null_mut, NonNull};
-use std::sync::atomic::{fence, AtomicUsize, Ordering};
+use std::sync::atomic::{fence, AtomicBool, AtomicUsize, Ordering};
 use std::sync::{Mutex, MutexGuard, PoisonError};
 use std::task::{Poll, Waker};
 use std::thread;
@@ -208,16 +208,27 @@ impl Drop for Awaited {
     }
 }
 
+/// Whether a waker has panicked in any thread: before that no call looks for a panic of its own.
+static HAS_PANICKED: AtomicBool = AtomicBool::new(false);
+
 thread_local! {
     /// Whether this thread is in a waker that [`on_end`] calls.
     static IS_WAKING: Cell<bool> = const { Cell::new(false) };
-    /// With what such a waker has panicked, until the thread's call of the library has returned.
+    /// With what such a waker has panicked, until the panic continues.
     static PANIC: Cell<Option<Box<dyn Any + Send>>> = const { Cell::new(None) };
 }
 
-/// After a call of the library: continues the panic of a waker, which could not pass through that call. In a waker it is
-/// another's, and the thread continues it later; and a thread that is panicking continues its own.
+/// After a call of the library: continues the panic of a waker, which could not pass through that call.
+#[inline]
 pub(super) fn resume_panic() {
+    if HAS_PANICKED.load(Ordering::Relaxed) {
+        resume();
+    }
+}
+
+/// Not in a waker, where the panic is another's; and a thread that is panicking continues its own.
+#[cold]
+fn resume() {
     if IS_WAKING.get() {
         return;
     }
@@ -234,6 +245,7 @@ fn wake(waker: Waker) {
     IS_WAKING.set(was_waking);
     if let Err(panic) = woken {
         PANIC.set(Some(panic));
+        HAS_PANICKED.store(true, Ordering::Relaxed);
     }
 }
 

@@ -122,7 +122,8 @@ impl Drop for Locking<'_> {
 
 /// Locks of a [`Session`](crate::Session).
 impl Table {
-    /// Locks what is requested, and sleeps while it must wait.
+    /// Locks what is requested, and sleeps while it must wait. Inlined, since each caller requests one kind.
+    #[inline(always)]
     pub(crate) fn lock(
         &self,
         txn: Txn,
@@ -179,6 +180,7 @@ impl Table {
 }
 
 /// How a lock was answered, or its wait has ended.
+#[inline(always)]
 fn answer(reply: &Reply) -> Result<RowLocked, Stop> {
     match RowLocked::of(reply) {
         Some(locked) => Ok(locked),
