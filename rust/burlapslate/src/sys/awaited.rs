@@ -1,40 +1,42 @@
-//! What a future shares with the end of its ask, as `include/burlapslate_shared.h` declares the calls of both.
+//! Asks of futures, and the ends of their waits, as `include/burlapslate_shared.h` declares the calls of both.
+//!
+//! A slot has one ask that waits at most. So each slot of a table has one place for a waker and for the end of a wait, and
+//! the word of an ask is a number: by that a late end, of an ask that nobody awaits any more, is told from the next one's.
 
 use super::shared::{Shared, Until};
-use super::{numbers, Reply, WAITING};
+use super::{numbers, Reply, NO_SUCH_TXN, WAITING};
 use crate::names::{Node, Row, Txn};
-use std::alloc::{alloc, Layout};
+use crate::SLOTS;
 use std::any::Any;
 use std::cell::Cell;
 use std::ffi::c_void;
-use std::mem::{forget, swap};
+use std::mem::swap;
 use std::panic::{catch_unwind, resume_unwind, AssertUnwindSafe};
-use std::ptr::{null_mut, NonNull};
-use std::sync::atomic::{fence, AtomicBool, AtomicUsize, Ordering};
+use std::sync::atomic::{AtomicBool, Ordering};
 use std::sync::{Mutex, MutexGuard, PoisonError};
 use std::task::{Poll, Waker};
 use std::thread;
 
-type OnEnd = unsafe extern "C" fn(*mut c_void, Txn, Reply, *mut c_void);
+type OnEnd = unsafe extern "C" fn(*const c_void, Txn, Reply, usize);
 
-// SAFETY: these are the calls of the header, and their types have the layout of its types.
+// SAFETY: these are the calls of the header, and their types have the layout of its types. The word of an ask is a number.
 unsafe extern "C" {
-    fn bs_table_on_end(table: &Shared, function: OnEnd, context: *mut c_void) -> Reply;
-    fn bs_table_ask(
+    fn bs_table_on_end(table: &Shared, function: OnEnd, context: *const c_void) -> Reply;
+    safe fn bs_table_ask(
         table: &Shared,
         txn: Txn,
         node: Node,
         mode: u32,
         until: Until<'_>,
-        word: *mut c_void,
+        word: usize,
     ) -> Reply;
-    fn bs_table_ask_path(
+    safe fn bs_table_ask_path(
         table: &Shared,
         txn: Txn,
         node: Node,
         mode: u32,
         until: Until<'_>,
-        word: *mut c_void,
+        word: usize,
     ) -> Reply;
     fn bs_table_ask_row(
         table: &Shared,
@@ -45,167 +47,158 @@ unsafe extern "C" {
         count: usize,
         mode: u32,
         until: Until<'_>,
-        word: *mut c_void,
+        word: usize,
     ) -> Reply;
 }
 
-/// Gives a table its callback, [`on_end`].
-pub(super) fn has_ends_told(table: &Shared) -> Reply {
-    // SAFETY: the function does what the header asks of it, and needs no context.
-    unsafe { bs_table_on_end(table, on_end, null_mut()) }
-}
+/// The waits of futures, by slot. The context of the callback points here, so this stays where it is.
+#[repr(transparent)]
+pub(super) struct Waits([Mutex<Wait>; SLOTS]);
 
-/// What the future and the end of an ask that waits have in common.
+/// The wait of a slot's last ask.
 struct Wait {
-    state: Mutex<State>,
-    /// Its [`Awaited`]s: that of the future, and one for the table while the ask waits.
-    owners: AtomicUsize,
-}
-
-/// How a wait ended, and before that the waker of its task.
-struct State {
+    /// That of the ask: each has another.
+    number: usize,
     waker: Option<Waker>,
+    /// How it ended, after that.
     end: Option<Reply>,
 }
 
-/// The wait of an ask, as one of two know it: its future, and the table by its word. The last that is dropped frees it.
-pub(crate) struct Awaited(NonNull<Wait>);
+/// What a future asks for.
+#[derive(Clone, Copy)]
+pub(crate) enum Asked<'k> {
+    Node(Node, u32),
+    Path(Node, u32),
+    Row(Row, &'k [u64], u32),
+}
 
-// SAFETY: what it points to is used by several threads, and any of them may free it: a waker and a mutex.
-unsafe impl Send for Awaited {}
+impl Waits {
+    /// A place for each slot; `None` if memory is refused.
+    pub(super) fn new() -> Option<Box<Waits>> {
+        let mut places = Vec::new();
+        places.try_reserve_exact(SLOTS).ok()?;
+        places.resize_with(SLOTS, || {
+            Mutex::new(Wait {
+                number: 0,
+                waker: None,
+                end: None,
+            })
+        });
+        let places: Box<[Mutex<Wait>; SLOTS]> = places.into_boxed_slice().try_into().ok()?;
+        // SAFETY: the type is transparent.
+        Some(unsafe { Box::from_raw(Box::into_raw(places).cast()) })
+    }
 
-// SAFETY: the same.
-unsafe impl Sync for Awaited {}
-
-impl Awaited {
-    /// A wait that wakes this waker; `None` if memory is refused.
-    pub(crate) fn new(waker: Waker) -> Option<Awaited> {
-        let state = State {
-            waker: Some(waker),
-            end: None,
+    /// Makes an ask whose end wakes this waker if it waits; answers its number too.
+    pub(super) fn ask(
+        &self,
+        table: &Shared,
+        txn: Txn,
+        asked: Asked<'_>,
+        until: Until<'_>,
+        waker: &Waker,
+    ) -> (Reply, usize) {
+        let word = self.begin(txn, waker.clone());
+        let reply = match asked {
+            Asked::Node(node, mode) => bs_table_ask(table, txn, node, mode, until, word),
+            Asked::Path(node, mode) => bs_table_ask_path(table, txn, node, mode, until, word),
+            Asked::Row(Row { file, number }, keys, mode) => {
+                let (start, count) = (numbers(keys), keys.len());
+                // SAFETY: the count is the list's own.
+                unsafe {
+                    bs_table_ask_row(table, txn, file, number, start, count, mode, until, word)
+                }
+            }
         };
-        // SAFETY: the type is not empty.
-        let at = NonNull::new(unsafe { alloc(Layout::new::<Wait>()) })?.cast::<Wait>();
-        let wait = Wait {
-            state: Mutex::new(state),
-            owners: AtomicUsize::new(1),
-        };
-        // SAFETY: the memory has the layout of the type, and is nobody else's.
-        unsafe { at.write(wait) };
-        Some(Awaited(at))
-    }
-
-    /// Asks for a node.
-    pub(crate) fn ask(
-        &self,
-        table: &Shared,
-        txn: Txn,
-        node: Node,
-        mode: u32,
-        until: Until<'_>,
-    ) -> Reply {
-        // SAFETY: the word is an owner.
-        self.asked(|word| unsafe { bs_table_ask(table, txn, node, mode, until, word) })
-    }
-
-    /// Asks for a node and what must be held above it.
-    pub(crate) fn ask_path(
-        &self,
-        table: &Shared,
-        txn: Txn,
-        node: Node,
-        mode: u32,
-        until: Until<'_>,
-    ) -> Reply {
-        // SAFETY: the word is an owner.
-        self.asked(|word| unsafe { bs_table_ask_path(table, txn, node, mode, until, word) })
-    }
-
-    /// Asks for a row, whose keys the table copies.
-    pub(crate) fn ask_row(
-        &self,
-        table: &Shared,
-        txn: Txn,
-        row: Row,
-        keys: &[u64],
-        mode: u32,
-        until: Until<'_>,
-    ) -> Reply {
-        let (Row { file, number }, start, count) = (row, numbers(keys), keys.len());
-        // SAFETY: the word is an owner, and the count is the list's own.
-        self.asked(|word| unsafe {
-            bs_table_ask_row(table, txn, file, number, start, count, mode, until, word)
-        })
-    }
-
-    /// Makes an ask whose word is one more owner, which the table has while the ask waits.
-    fn asked(&self, ask: impl FnOnce(*mut c_void) -> Reply) -> Reply {
-        self.wait().owners.fetch_add(1, Ordering::Relaxed);
-        let tables = Awaited(self.0);
-        let reply = ask(self.0.as_ptr().cast());
-        if reply.status == WAITING {
-            forget(tables);
+        if reply.status != WAITING {
+            self.forget_waker(txn, word);
         }
-        reply
+        (reply, word)
     }
 
-    /// How the wait ended. If it has not ended, it wakes this waker from now on.
-    pub(crate) fn poll(&self, waker: &Waker) -> Poll<Reply> {
-        match &*self.state() {
-            State { end: Some(end), .. } => return Poll::Ready(*end),
-            State {
-                waker: Some(own), ..
-            } if own.will_wake(waker) => return Poll::Pending,
-            _ => {}
+    /// The number of a new wait.
+    fn begin(&self, txn: Txn, waker: Waker) -> usize {
+        let mut wait = self.of(txn);
+        wait.number += 1;
+        wait.end = None;
+        let before = wait.waker.replace(waker);
+        let number = wait.number;
+        drop(wait);
+        drop(before); // Without the lock, since that may call the table. It is of a future that was leaked.
+        number
+    }
+
+    /// How the wait of this number ended; if it has not, it wakes this waker from now on. If the slot has another wait, the
+    /// transaction has ended.
+    pub(super) fn poll(&self, txn: Txn, number: usize, waker: &Waker) -> Poll<Reply> {
+        let is_woken = |own: &Waker| own.will_wake(waker);
+        let wait = self.of(txn);
+        if wait.number != number {
+            return Poll::Ready(Reply::with_status(NO_SUCH_TXN));
         }
-        let mut waker = Some(waker.clone()); // Made and dropped without the lock, since that may call the table.
-        let mut state = self.state();
-        if let Some(end) = state.end {
+        if let Some(end) = wait.end {
             return Poll::Ready(end);
         }
-        swap(&mut state.waker, &mut waker);
-        Poll::Pending
+        if wait.waker.as_ref().is_some_and(is_woken) {
+            return Poll::Pending;
+        }
+        drop(wait);
+        self.wake_by(txn, number, waker.clone())
     }
 
-    /// From now on it wakes nobody.
-    pub(crate) fn forget_waker(&self) {
-        let waker = self.state().waker.take();
+    /// The same with another waker, which is made and dropped without the lock, since that may call the table.
+    fn wake_by(&self, txn: Txn, number: usize, waker: Waker) -> Poll<Reply> {
+        let mut waker = Some(waker);
+        let mut wait = self.of(txn);
+        if wait.number != number {
+            return Poll::Ready(Reply::with_status(NO_SUCH_TXN));
+        }
+        match wait.end {
+            Some(end) => Poll::Ready(end),
+            None => {
+                swap(&mut wait.waker, &mut waker);
+                Poll::Pending
+            }
+        }
+    }
+
+    /// From now on the wait of this number wakes nobody; whether it has not ended.
+    pub(super) fn forget_waker(&self, txn: Txn, number: usize) -> bool {
+        let mut wait = self.of(txn);
+        if wait.number != number {
+            return false;
+        }
+        let waker = wait.waker.take();
+        let waits = wait.end.is_none();
+        drop(wait);
         drop(waker); // Without the lock, since that may call the table.
+        waits
     }
 
-    /// Whether the wait has ended.
-    pub(crate) fn has_ended(&self) -> bool {
-        self.state().end.is_some()
+    /// The wait of this number has ended so: answers which waker to wake.
+    fn end(&self, txn: Txn, number: usize, end: Reply) -> Option<Waker> {
+        let mut wait = self.of(txn);
+        if wait.number != number {
+            return None;
+        }
+        wait.end = Some(end);
+        wait.waker.take()
     }
 
-    /// The wait has ended so: answers which waker to wake.
-    fn end(&self, end: Reply) -> Option<Waker> {
-        let mut state = self.state();
-        state.end = Some(end);
-        state.waker.take()
-    }
-
-    fn state(&self) -> MutexGuard<'_, State> {
-        let state = self.wait().state.lock();
-        state.unwrap_or_else(PoisonError::into_inner) // No holder of it panics.
-    }
-
-    fn wait(&self) -> &Wait {
-        // SAFETY: this is one of its owners.
-        unsafe { self.0.as_ref() }
+    fn of(&self, txn: Txn) -> MutexGuard<'_, Wait> {
+        let wait = self.0[txn.slot()].lock();
+        wait.unwrap_or_else(PoisonError::into_inner) // No holder of it panics.
     }
 }
 
-impl Drop for Awaited {
-    fn drop(&mut self) {
-        if self.wait().owners.fetch_sub(1, Ordering::Release) > 1 {
-            return;
-        }
-        fence(Ordering::Acquire); // It comes after all that the other owner did.
-
-        // SAFETY: this was the last owner, and the memory is of `new`, with the layout of a box of the type.
-        drop(unsafe { Box::from_raw(self.0.as_ptr()) });
-    }
+/// Gives a table its callback, [`on_end`].
+///
+/// # Safety
+///
+/// The waits stay until the table has ended.
+pub(super) unsafe fn has_ends_told(table: &Shared, waits: *const Waits) -> Reply {
+    // SAFETY: the function does what the header asks of it, and its context is there for each of its calls.
+    unsafe { bs_table_on_end(table, on_end, waits.cast()) }
 }
 
 /// Whether a waker has panicked in any thread: before that no call looks for a panic of its own.
@@ -253,11 +246,10 @@ fn wake(waker: Waker) {
 ///
 /// # Safety
 ///
-/// The word is of an ask that was answered [`WAITING`], and comes once.
-unsafe extern "C" fn on_end(_context: *mut c_void, _txn: Txn, end: Reply, word: *mut c_void) {
-    // SAFETY: the word is an owner that `asked` has left to the table.
-    let tables = unsafe { Awaited(NonNull::new_unchecked(word.cast())) };
-    let waker = tables.end(end);
-    drop(tables);
+/// The context is the table's [`Waits`], which are there until the table has ended.
+unsafe extern "C" fn on_end(context: *const c_void, txn: Txn, end: Reply, word: usize) {
+    // SAFETY: the table has not ended.
+    let waits = unsafe { &*context.cast::<Waits>() };
+    let waker = waits.end(txn, word, end);
     waker.into_iter().for_each(wake);
 }

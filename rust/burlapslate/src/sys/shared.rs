@@ -4,7 +4,8 @@
 //! Any thread may make any call with a table, so these take it by `&`. A [`Table`] is freed when its owner drops it, and
 //! no thread is in a call then, because each call borrows it.
 
-use super::{assert_fits, awaited, nodes, numbers, Notice, Notices, Options, Pinned, Place, Reply};
+use super::awaited::{self, Asked, Waits};
+use super::{assert_fits, nodes, numbers, Notice, Notices, Options, Pinned, Place, Reply};
 use super::{WatcherPlace, DONE, IN_USE};
 use crate::manager::Manager;
 use crate::names::{Node, Row, Txn};
@@ -16,6 +17,7 @@ use std::mem::ManuallyDrop;
 use std::ops::Deref;
 use std::panic::{RefUnwindSafe, UnwindSafe};
 use std::ptr::{null, null_mut, NonNull};
+use std::task::{Poll, Waker};
 use std::thread;
 
 /// Joined to the mode of a lock for an instant.
@@ -314,6 +316,7 @@ impl Drop for Calling<'_> {
 /// A table, which ends with this.
 pub(crate) struct Table {
     at: NonNull<Shared>,
+    waits: NonNull<Waits>,
 }
 
 // SAFETY: any thread may make any call with a table, and any thread may end it.
@@ -330,14 +333,44 @@ impl Table {
     /// Makes a table, whose asks have their ends told.
     pub(crate) fn new(options: &Options) -> Result<Table, Refusal> {
         assert_fits();
+        let waits = Waits::new().ok_or(Refusal::NoMemory)?;
         let mut at = null_mut();
         // SAFETY: the size is that of the options.
         accepted(unsafe { bs_call_table_make(&mut at, options, size_of::<Options>()) })?;
         let table = Table {
             at: NonNull::new(at).expect("a table that was made"),
+            waits: NonNull::from(Box::leak(waits)),
         };
-        accepted(awaited::has_ends_told(table.shared()))?;
+        // SAFETY: the waits are freed after the table has ended.
+        accepted(unsafe { awaited::has_ends_told(table.shared(), table.waits.as_ptr()) })?;
         Ok(table)
+    }
+
+    /// Makes an ask whose end wakes this waker if it waits; answers its number too. It is a call of its caller.
+    pub(crate) fn ask(
+        &self,
+        txn: Txn,
+        asked: Asked<'_>,
+        until: Until<'_>,
+        waker: &Waker,
+    ) -> (Reply, usize) {
+        self.waits().ask(self.shared(), txn, asked, until, waker)
+    }
+
+    /// How the wait of an ask ended; if it has not, it wakes this waker from now on.
+    pub(crate) fn poll(&self, txn: Txn, number: usize, waker: &Waker) -> Poll<Reply> {
+        self.waits().poll(txn, number, waker)
+    }
+
+    /// Cancels the wait of an ask, which wakes nobody then; whether it still waited.
+    pub(crate) fn cancels(&self, txn: Txn, number: usize) -> bool {
+        let waits = self.waits().forget_waker(txn, number);
+        waits && bs_table_cancel(&self.call(), txn, None).status == DONE
+    }
+
+    fn waits(&self) -> &Waits {
+        // SAFETY: they are there until the drop.
+        unsafe { self.waits.as_ref() }
     }
 
     /// For one call.
@@ -359,9 +392,12 @@ impl Drop for Table {
         if bs_table_end(self.shared()).status != IN_USE {
             // SAFETY: the table was ended, and no thread is in a call with it: each borrows its owner.
             unsafe { bs_table_free(&mut at) };
+            // SAFETY: they are of `new`, which leaked the box, and nobody tells an end any more.
+            drop(unsafe { Box::from_raw(self.waits.as_ptr()) });
             return awaited::resume_panic();
         }
-        let table = ManuallyDrop::new(Table { at: self.at });
+        let Table { at, waits } = *self;
+        let table = ManuallyDrop::new(Table { at, waits });
         let ends = move || drop(ManuallyDrop::into_inner(table));
         let _ = thread::Builder::new().spawn(ends);
     }

@@ -2,26 +2,17 @@
 
 use super::Table;
 use crate::mode::Mode;
-use crate::names::{Node, Row, Txn};
+use crate::names::{Node, Txn};
 use crate::session::{RowLocked, Stop};
-use crate::sys::awaited::Awaited;
 use crate::sys::shared::{self, Time, INSTANT};
-use crate::sys::{Reply, DONE, NO_MEMORY, TIMED_OUT, WAITING};
+use crate::sys::{Reply, DONE, TIMED_OUT, WAITING};
 use std::future::Future;
 use std::pin::Pin;
 use std::task::{Context, Poll, Waker};
 use std::time::Instant;
 
 /// What a session requests. The mode of a lock for an instant says so.
-#[derive(Clone, Copy)]
-pub(crate) enum Sought<'k> {
-    /// A node.
-    Node(Node, u32),
-    /// A node with what must be held above it.
-    Path(Node, u32),
-    /// A row, with its keys.
-    Row(Row, &'k [u64], u32),
-}
+pub(crate) use crate::sys::awaited::Asked as Sought;
 
 impl Sought<'_> {
     pub(crate) fn node(node: Node, mode: Mode) -> Sought<'static> {
@@ -48,47 +39,33 @@ pub(crate) struct Locking<'a> {
     txn: Txn,
     sought: Sought<'a>,
     until: Option<Instant>,
-    /// While it waits.
-    wait: Option<Awaited>,
+    /// The number of its ask, while that waits.
+    wait: Option<usize>,
 }
 
 impl Locking<'_> {
     /// Makes the ask, whose end wakes this waker if it waits.
     fn ask(&mut self, waker: &Waker) -> Poll<Reply> {
-        let Some(wait) = Awaited::new(waker.clone()) else {
-            return Poll::Ready(Reply::with_status(NO_MEMORY));
-        };
-        let (table, txn) = (&self.table.call(), self.txn);
+        let _calling = self.table.call(); // So the panic of a waker finds the wait noted.
         let until = self.table.time(self.until);
-        let until = until.as_ref();
-        let reply = match self.sought {
-            Sought::Node(node, mode) => wait.ask(table, txn, node, mode, until),
-            Sought::Path(node, mode) => wait.ask_path(table, txn, node, mode, until),
-            Sought::Row(row, keys, mode) => wait.ask_row(table, txn, row, keys, mode, until),
-        };
+        let shared = &self.table.shared;
+        let (reply, number) = shared.ask(self.txn, self.sought, until.as_ref(), waker);
         if reply.status != WAITING {
             return Poll::Ready(reply);
         }
-        self.wait = Some(wait);
+        self.wait = Some(number);
         Poll::Pending
     }
 
     /// After a poll that found it waiting: cancels the wait if its time is over.
-    fn time_out(&self, waker: &Waker) -> Poll<Reply> {
-        let is_late = self.until.is_some_and(|until| until <= Instant::now());
-        match &self.wait {
-            Some(wait) if is_late && self.cancels(wait) => {
-                Poll::Ready(Reply::with_status(TIMED_OUT))
-            }
-            Some(wait) if is_late => wait.poll(waker), // It has ended, and that is told now.
-            _ => Poll::Pending,
+    fn time_out(&self, number: usize, waker: &Waker) -> Poll<Reply> {
+        if self.until.is_none_or(|until| until > Instant::now()) {
+            return Poll::Pending;
         }
-    }
-
-    /// Cancels the wait, whose task is not woken for that; whether it still waited.
-    fn cancels(&self, wait: &Awaited) -> bool {
-        wait.forget_waker();
-        shared::bs_table_cancel(&self.table.call(), self.txn, None).status == DONE
+        if self.table.shared.cancels(self.txn, number) {
+            return Poll::Ready(Reply::with_status(TIMED_OUT));
+        }
+        self.table.shared.poll(self.txn, number, waker) // It has ended, and that is told now.
     }
 }
 
@@ -98,12 +75,12 @@ impl Future for Locking<'_> {
     fn poll(self: Pin<&mut Self>, context: &mut Context<'_>) -> Poll<Self::Output> {
         let own = self.get_mut();
         let waker = context.waker();
-        let mut polled = match &own.wait {
+        let mut polled = match own.wait {
             None => own.ask(waker),
-            Some(wait) => wait.poll(waker),
+            Some(number) => own.table.shared.poll(own.txn, number, waker),
         };
-        if polled.is_pending() {
-            polled = own.time_out(waker);
+        if let (Poll::Pending, Some(number)) = (polled, own.wait) {
+            polled = own.time_out(number, waker);
         }
         if polled.is_ready() {
             own.wait = None;
@@ -114,8 +91,8 @@ impl Future for Locking<'_> {
 
 impl Drop for Locking<'_> {
     fn drop(&mut self) {
-        if let Some(wait) = self.wait.take().filter(|wait| !wait.has_ended()) {
-            self.cancels(&wait);
+        if let Some(number) = self.wait {
+            self.table.shared.cancels(self.txn, number);
         }
     }
 }
