@@ -6,7 +6,7 @@ use crate::names::{Node, Row, Txn};
 use crate::refusal::{accepted, done, Refusal};
 use crate::sys::shared::{self, Calling, Command};
 use crate::sys::{self, Reply};
-use crate::table::{node_of, Sought, Table};
+use crate::table::{node_of, Locking, Sought, Table};
 use std::error::Error;
 use std::fmt;
 use std::ops::Deref;
@@ -97,6 +97,18 @@ impl RowLocked {
         match self {
             RowLocked::Own(mode) | RowLocked::OtherKeys(mode) => mode,
         }
+    }
+}
+
+/// How a lock was answered, or its wait ended.
+pub(crate) type Ended = Result<RowLocked, Stop>;
+
+/// By what a lock was answered.
+#[inline(always)]
+pub(crate) fn ended(reply: &Reply) -> Ended {
+    match RowLocked::of(reply) {
+        Some(locked) => Ok(locked),
+        None => Err(Stop::of(reply)),
     }
 }
 
@@ -307,11 +319,9 @@ impl<'t> Session<'t> {
         self.table.lock(self.txn, sought, self.until(time))
     }
 
-    /// Locks a node or a path, for a task.
-    async fn sought_async(&mut self, sought: Sought<'_>) -> Result<Mode, Stop> {
-        let until = self.until(None);
-        let locked = self.table.lock_async(self.txn, sought, until).await;
-        locked.map(RowLocked::mode)
+    /// Locks what is requested, for a task.
+    fn locking<'a>(&'a mut self, sought: Sought<'a>) -> Locking<'a> {
+        Locking::new(&self.table, self.txn, sought, self.until(None))
     }
 
     /// As [`Manager::lock`](crate::Manager::lock), but the call sleeps until the lock is granted or the
@@ -503,19 +513,22 @@ impl<'t> Session<'t> {
     /// # Ok::<(), burlapslate::Refusal>(())
     /// ```
     pub async fn lock_async(&mut self, node: Node, mode: Mode) -> Result<Mode, Stop> {
-        self.sought_async(Sought::node(node, mode)).await
+        let locked = self.locking(Sought::node(node, mode)).await;
+        locked.map(RowLocked::mode)
     }
 
     /// As [`lock_instant`](Session::lock_instant), for a task, as [`lock_async`](Session::lock_async).
     pub async fn lock_instant_async(&mut self, node: Node, mode: Mode) -> Result<Mode, Stop> {
-        self.sought_async(Sought::node_instant(node, mode)).await
+        let locked = self.locking(Sought::node_instant(node, mode)).await;
+        locked.map(RowLocked::mode)
     }
 
     /// As [`lock_path`](Session::lock_path), for a task, as [`lock_async`](Session::lock_async). The call that
     /// grants a lock on the way requests the next one, and the task is woken at the end of the path. If the
     /// future is dropped, the locks acquired before stay.
     pub async fn lock_path_async(&mut self, node: Node, mode: Mode) -> Result<Mode, Stop> {
-        self.sought_async(Sought::path(node, mode)).await
+        let locked = self.locking(Sought::path(node, mode)).await;
+        locked.map(RowLocked::mode)
     }
 
     /// As [`lock_row`](Session::lock_row), for a task, as [`lock_async`](Session::lock_async). If the future
@@ -526,9 +539,7 @@ impl<'t> Session<'t> {
         keys: &[u64],
         mode: Mode,
     ) -> Result<RowLocked, Stop> {
-        let until = self.until(None);
-        let sought = Sought::Row(row, keys, mode as u32);
-        self.table.lock_async(self.txn, sought, until).await
+        self.locking(Sought::Row(row, keys, mode as u32)).await
     }
 
     /// Locks a node with what must be held above it, as [`lock_path`](Session::lock_path) does, but each

@@ -14,7 +14,7 @@ use std::fmt;
 use std::sync::{Arc, Condvar, Mutex, MutexGuard, PoisonError};
 use std::time::{Duration, Instant};
 
-pub(crate) use asks::Sought;
+pub(crate) use asks::{Locking, Sought};
 
 /// A table of granular locks that threads share: a [`Manager`] behind one mutex, its latch, with a
 /// condition for each slot. It is a `bs_table` of the library.

@@ -4,8 +4,10 @@
 //! the word of an ask is a number: by that a late end, of an ask that nobody awaits any more, is told from the next one's.
 
 use super::shared::{Shared, Until};
-use super::{numbers, Reply, NO_SUCH_TXN, WAITING};
+use super::{numbers, Reply, WAITING};
 use crate::names::{Node, Row, Txn};
+use crate::refusal::Refusal;
+use crate::session::{ended, Ended, Stop};
 use crate::SLOTS;
 use std::any::Any;
 use std::cell::Cell;
@@ -61,7 +63,7 @@ struct Wait {
     number: usize,
     waker: Option<Waker>,
     /// How it ended, after that.
-    end: Option<Reply>,
+    end: Option<Ended>,
 }
 
 /// What a future asks for.
@@ -97,7 +99,7 @@ impl Waits {
         asked: Asked<'_>,
         until: Until<'_>,
         waker: &Waker,
-    ) -> (Reply, usize) {
+    ) -> (Poll<Ended>, usize) {
         let word = self.begin(txn, waker.clone());
         let reply = match asked {
             Asked::Node(node, mode) => bs_table_ask(table, txn, node, mode, until, word),
@@ -110,10 +112,11 @@ impl Waits {
                 }
             }
         };
-        if reply.status != WAITING {
-            self.forget_waker(txn, word);
+        if reply.status == WAITING {
+            return (Poll::Pending, word);
         }
-        (reply, word)
+        self.forget_waker(txn, word);
+        (Poll::Ready(ended(&reply)), word)
     }
 
     /// The number of a new wait.
@@ -130,11 +133,11 @@ impl Waits {
 
     /// How the wait of this number ended; if it has not, it wakes this waker from now on. If the slot has another wait, the
     /// transaction has ended.
-    pub(super) fn poll(&self, txn: Txn, number: usize, waker: &Waker) -> Poll<Reply> {
+    pub(super) fn poll(&self, txn: Txn, number: usize, waker: &Waker) -> Poll<Ended> {
         let is_woken = |own: &Waker| own.will_wake(waker);
         let wait = self.of(txn);
         if wait.number != number {
-            return Poll::Ready(Reply::with_status(NO_SUCH_TXN));
+            return Poll::Ready(Err(Stop::Refused(Refusal::NoSuchTxn)));
         }
         if let Some(end) = wait.end {
             return Poll::Ready(end);
@@ -147,11 +150,11 @@ impl Waits {
     }
 
     /// The same with another waker, which is made and dropped without the lock, since that may call the table.
-    fn wake_by(&self, txn: Txn, number: usize, waker: Waker) -> Poll<Reply> {
+    fn wake_by(&self, txn: Txn, number: usize, waker: Waker) -> Poll<Ended> {
         let mut waker = Some(waker);
         let mut wait = self.of(txn);
         if wait.number != number {
-            return Poll::Ready(Reply::with_status(NO_SUCH_TXN));
+            return Poll::Ready(Err(Stop::Refused(Refusal::NoSuchTxn)));
         }
         match wait.end {
             Some(end) => Poll::Ready(end),
@@ -176,7 +179,7 @@ impl Waits {
     }
 
     /// The wait of this number has ended so: answers which waker to wake.
-    fn end(&self, txn: Txn, number: usize, end: Reply) -> Option<Waker> {
+    fn end(&self, txn: Txn, number: usize, end: Ended) -> Option<Waker> {
         let mut wait = self.of(txn);
         if wait.number != number {
             return None;
@@ -250,6 +253,6 @@ fn wake(waker: Waker) {
 unsafe extern "C" fn on_end(context: *const c_void, txn: Txn, end: Reply, word: usize) {
     // SAFETY: the table has not ended.
     let waits = unsafe { &*context.cast::<Waits>() };
-    let waker = waits.end(txn, word, end);
+    let waker = waits.end(txn, word, ended(&end));
     waker.into_iter().for_each(wake);
 }

@@ -10,6 +10,7 @@ use super::{WatcherPlace, DONE, IN_USE};
 use crate::manager::Manager;
 use crate::names::{Node, Row, Txn};
 use crate::refusal::{accepted, Refusal};
+use crate::session::Ended;
 use crate::SLOTS;
 use std::cell::UnsafeCell;
 use std::marker::PhantomData;
@@ -353,12 +354,12 @@ impl Table {
         asked: Asked<'_>,
         until: Until<'_>,
         waker: &Waker,
-    ) -> (Reply, usize) {
+    ) -> (Poll<Ended>, usize) {
         self.waits().ask(self.shared(), txn, asked, until, waker)
     }
 
     /// How the wait of an ask ended; if it has not, it wakes this waker from now on.
-    pub(crate) fn poll(&self, txn: Txn, number: usize, waker: &Waker) -> Poll<Reply> {
+    pub(crate) fn poll(&self, txn: Txn, number: usize, waker: &Waker) -> Poll<Ended> {
         self.waits().poll(txn, number, waker)
     }
 

@@ -3,9 +3,9 @@
 use super::Table;
 use crate::mode::Mode;
 use crate::names::{Node, Txn};
-use crate::session::{RowLocked, Stop};
+use crate::session::{ended, Ended, Stop};
 use crate::sys::shared::{self, Time, INSTANT};
-use crate::sys::{Reply, DONE, TIMED_OUT, WAITING};
+use crate::sys::DONE;
 use std::future::Future;
 use std::pin::Pin;
 use std::task::{Context, Poll, Waker};
@@ -43,36 +43,49 @@ pub(crate) struct Locking<'a> {
     wait: Option<usize>,
 }
 
-impl Locking<'_> {
+impl<'a> Locking<'a> {
+    pub(crate) fn new(
+        table: &'a Table,
+        txn: Txn,
+        sought: Sought<'a>,
+        until: Option<Instant>,
+    ) -> Locking<'a> {
+        Locking {
+            table,
+            txn,
+            sought,
+            until,
+            wait: None,
+        }
+    }
+
     /// Makes the ask, whose end wakes this waker if it waits.
-    fn ask(&mut self, waker: &Waker) -> Poll<Reply> {
+    fn ask(&mut self, waker: &Waker) -> Poll<Ended> {
         let _calling = self.table.call(); // So the panic of a waker finds the wait noted.
         let until = self.table.time(self.until);
         let shared = &self.table.shared;
-        let (reply, number) = shared.ask(self.txn, self.sought, until.as_ref(), waker);
-        if reply.status != WAITING {
-            return Poll::Ready(reply);
-        }
+        let (polled, number) = shared.ask(self.txn, self.sought, until.as_ref(), waker);
         self.wait = Some(number);
-        Poll::Pending
+        polled
     }
 
     /// After a poll that found it waiting: cancels the wait if its time is over.
-    fn time_out(&self, number: usize, waker: &Waker) -> Poll<Reply> {
+    fn time_out(&self, number: usize, waker: &Waker) -> Poll<Ended> {
         if self.until.is_none_or(|until| until > Instant::now()) {
             return Poll::Pending;
         }
         if self.table.shared.cancels(self.txn, number) {
-            return Poll::Ready(Reply::with_status(TIMED_OUT));
+            return Poll::Ready(Err(Stop::TimedOut));
         }
         self.table.shared.poll(self.txn, number, waker) // It has ended, and that is told now.
     }
 }
 
 impl Future for Locking<'_> {
-    type Output = Result<RowLocked, Stop>;
+    type Output = Ended;
 
-    fn poll(self: Pin<&mut Self>, context: &mut Context<'_>) -> Poll<Self::Output> {
+    #[inline]
+    fn poll(self: Pin<&mut Self>, context: &mut Context<'_>) -> Poll<Ended> {
         let own = self.get_mut();
         let waker = context.waker();
         let mut polled = match own.wait {
@@ -85,7 +98,7 @@ impl Future for Locking<'_> {
         if polled.is_ready() {
             own.wait = None;
         }
-        polled.map(|reply| answer(&reply))
+        polled
     }
 }
 
@@ -101,35 +114,14 @@ impl Drop for Locking<'_> {
 impl Table {
     /// Locks what is requested, and sleeps while it must wait. Inlined, since each caller requests one kind.
     #[inline(always)]
-    pub(crate) fn lock(
-        &self,
-        txn: Txn,
-        sought: Sought<'_>,
-        until: Option<Instant>,
-    ) -> Result<RowLocked, Stop> {
+    pub(crate) fn lock(&self, txn: Txn, sought: Sought<'_>, until: Option<Instant>) -> Ended {
         let (table, until) = (&self.call(), self.time(until));
         let until: Option<&Time> = until.as_ref();
-        answer(&match sought {
+        ended(&match sought {
             Sought::Node(node, mode) => shared::bs_table_lock(table, txn, node, mode, until),
             Sought::Path(node, mode) => shared::bs_table_lock_path(table, txn, node, mode, until),
             Sought::Row(row, keys, mode) => shared::lock_row(table, txn, row, keys, mode, until),
         })
-    }
-
-    /// The same for a task.
-    pub(crate) fn lock_async<'a>(
-        &'a self,
-        txn: Txn,
-        sought: Sought<'a>,
-        until: Option<Instant>,
-    ) -> Locking<'a> {
-        Locking {
-            table: self,
-            txn,
-            sought,
-            until,
-            wait: None,
-        }
     }
 
     /// Cancels the wait of each task whose deadline ([`Session::set_deadline`](crate::Session::set_deadline)) is
@@ -153,14 +145,5 @@ impl Table {
         let reply = shared::bs_table_expire(&self.call(), &mut next);
         assert_eq!(reply.status, DONE, "this thread holds the table");
         (reply.count > 0).then(|| self.clock.instant(next))?
-    }
-}
-
-/// How a lock was answered, or its wait has ended.
-#[inline(always)]
-fn answer(reply: &Reply) -> Result<RowLocked, Stop> {
-    match RowLocked::of(reply) {
-        Some(locked) => Ok(locked),
-        None => Err(Stop::of(reply)),
     }
 }
