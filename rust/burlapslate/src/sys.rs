@@ -54,6 +54,7 @@ pub(crate) const GONE: u32 = 35;
 pub(crate) const TIMED_OUT: u32 = 36;
 pub(crate) const ON_THE_WAY: u32 = 37;
 pub(crate) const OTHER_KEYS: u32 = 38;
+pub(crate) const NO_MANAGER: u32 = 65;
 pub(crate) const BAD_NUMBER: u32 = 66;
 pub(crate) const IN_USE: u32 = 67;
 pub(crate) const NO_PLACE: u32 = 68;

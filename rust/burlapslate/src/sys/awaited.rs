@@ -4,7 +4,7 @@
 //! the word of an ask is a number: by that a late end, of an ask that nobody awaits any more, is told from the next one's.
 
 use super::shared::{Shared, Until};
-use super::{numbers, Reply, WAITING};
+use super::{numbers, Reply, NO_MANAGER, WAITING};
 use crate::names::{Node, Row, Txn};
 use crate::refusal::Refusal;
 use crate::session::{ended, Ended, Stop};
@@ -253,6 +253,10 @@ fn wake(waker: Waker) {
 unsafe extern "C" fn on_end(context: *const c_void, txn: Txn, end: Reply, word: usize) {
     // SAFETY: the table has not ended.
     let waits = unsafe { &*context.cast::<Waits>() };
-    let waker = waits.end(txn, word, ended(&end));
+    let end = match end.status {
+        NO_MANAGER => Err(Stop::Refused(Refusal::NoSuchTxn)), // The table ends, and the transaction with it.
+        _ => ended(&end),
+    };
+    let waker = waits.end(txn, word, end);
     waker.into_iter().for_each(wake);
 }
