@@ -76,8 +76,9 @@
 //! [`abort`](Manager::abort), [`settle`](Manager::settle), [`delete`](Manager::delete),
 //! [`rekey`](Manager::rekey), [`escalate`](Manager::escalate), of nodes and of rows. The others are
 //! refused with [`Refusal::NoMemory`] if the allocator refuses, and can be made again. Beside the library's
-//! memory a manager takes 40 bytes for each slot when it is made, for the notices, and none afterwards. A list of tries
-//! takes some for the list, a future for its wait, and a try of a path that keeps nothing for the nodes that it acquires.
+//! memory a manager takes 40 bytes for each slot when it is made, for the notices, and a table 56, for the waits of
+//! futures; and none afterwards. But a list of tries takes some for the list, and a try of a path that keeps nothing for
+//! the nodes that it acquires.
 //!
 //! With 1,024 slots, making a manager takes two megabytes of stack, and reading a board 0.7: more than a thread has by
 //! default ([`std::thread::Builder::stack_size`]).

@@ -488,7 +488,7 @@ impl<'t> Session<'t> {
     /// condemned by then, it can only abort. A leaked future waits on until the session is dropped.
     ///
     /// The session's deadline counts ([`set_deadline`](Session::set_deadline)) if the future is polled then, or
-    /// by [`Table::expire`]. Refused with [`NoMemory`](Refusal::NoMemory) also if there is none for the wait.
+    /// by [`Table::expire`].
     ///
     /// ```
     /// # use burlapslate::{Detect, Mode, Table, SLOTS};

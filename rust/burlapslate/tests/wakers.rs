@@ -83,6 +83,32 @@ fn a_wait_ends_within_a_waker() {
     }
 }
 
+/// A transaction is aborted in a waker, so the end of its wait is told after that; before, the next one of its slot waits.
+/// The task of each is woken, and is answered its own end.
+#[test]
+fn a_slot_waits_again_before_an_end_is_told() {
+    let store = Store::new(Detect::AtBlock);
+    let mut holder = store.begin();
+    holder.lock(store.root, Mode::X).unwrap();
+    let woken = Arc::new(Bell::default());
+    let waker = Waker::from(Arc::clone(&woken));
+    let mut first = store.waits(store.begin(), store.root, Mode::S, waker);
+    let (own, name) = (store.clone(), first.name);
+    let next = Arc::new(Mutex::new(None));
+    let begun = Arc::clone(&next);
+    in_a_waker(&store, move || {
+        own.table.abort(name).unwrap();
+        let session = own.begin();
+        assert_eq!(session.txn().slot(), name.slot());
+        *begun.lock().unwrap() = Some(own.waits(session, own.root, Mode::S, bell()));
+    });
+    assert_eq!(woken.rung(), 1);
+    assert_eq!(first.ended(), Err(Stop::Refused(Refusal::NoSuchTxn)));
+    holder.commit().unwrap();
+    let mut next = next.lock().unwrap().take().unwrap();
+    assert_eq!(next.ended(), Ok(Mode::S));
+}
+
 /// The panic of a waker continues after the call that woke it, which has done all; others are woken too.
 #[test]
 fn a_waker_panics() {

@@ -66,11 +66,14 @@ struct Wait {
     end: Option<Ended>,
 }
 
-/// What a future asks for.
+/// What a session requests. The mode of a lock for an instant says so.
 #[derive(Clone, Copy)]
-pub(crate) enum Asked<'k> {
+pub(crate) enum Sought<'k> {
+    /// A node.
     Node(Node, u32),
+    /// A node with what must be held above it.
     Path(Node, u32),
+    /// A row, with its keys.
     Row(Row, &'k [u64], u32),
 }
 
@@ -96,15 +99,15 @@ impl Waits {
         &self,
         table: &Shared,
         txn: Txn,
-        asked: Asked<'_>,
+        sought: Sought<'_>,
         until: Until<'_>,
         waker: &Waker,
     ) -> (Poll<Ended>, usize) {
         let word = self.begin(txn, waker.clone());
-        let reply = match asked {
-            Asked::Node(node, mode) => bs_table_ask(table, txn, node, mode, until, word),
-            Asked::Path(node, mode) => bs_table_ask_path(table, txn, node, mode, until, word),
-            Asked::Row(Row { file, number }, keys, mode) => {
+        let reply = match sought {
+            Sought::Node(node, mode) => bs_table_ask(table, txn, node, mode, until, word),
+            Sought::Path(node, mode) => bs_table_ask_path(table, txn, node, mode, until, word),
+            Sought::Row(Row { file, number }, keys, mode) => {
                 let (start, count) = (numbers(keys), keys.len());
                 // SAFETY: the count is the list's own.
                 unsafe {
@@ -119,7 +122,8 @@ impl Waits {
         (Poll::Ready(ended(&reply)), word)
     }
 
-    /// The number of a new wait.
+    /// The number of a new wait. If the slot's last wait still has a waker, its transaction has ended, and the end is not
+    /// told yet: then that task is woken here, since its end finds another number.
     fn begin(&self, txn: Txn, waker: Waker) -> usize {
         let mut wait = self.of(txn);
         wait.number += 1;
@@ -127,7 +131,7 @@ impl Waits {
         let before = wait.waker.replace(waker);
         let number = wait.number;
         drop(wait);
-        drop(before); // Without the lock, since that may call the table. It is of a future that was leaked.
+        before.into_iter().for_each(wake);
         number
     }
 
@@ -258,5 +262,19 @@ unsafe extern "C" fn on_end(context: *const c_void, txn: Txn, end: Reply, word: 
         _ => ended(&end),
     };
     let waker = waits.end(txn, word, end);
-    waker.into_iter().for_each(wake);
+    if let Some(waker) = waker {
+        wake(waker);
+    }
+}
+
+#[cfg(test)]
+mod tests {
+    use super::*;
+
+    /// As the documentation of the crate has it.
+    #[test]
+    #[cfg(target_pointer_width = "64")]
+    fn what_a_slot_takes() {
+        assert_eq!(size_of::<Mutex<Wait>>(), 56);
+    }
 }

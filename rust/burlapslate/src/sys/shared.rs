@@ -4,7 +4,7 @@
 //! Any thread may make any call with a table, so these take it by `&`. A [`Table`] is freed when its owner drops it, and
 //! no thread is in a call then, because each call borrows it.
 
-use super::awaited::{self, Asked, Waits};
+use super::awaited::{self, Sought, Waits};
 use super::{assert_fits, nodes, numbers, Notice, Notices, Options, Pinned, Place, Reply};
 use super::{WatcherPlace, DONE, IN_USE};
 use crate::manager::Manager;
@@ -351,11 +351,11 @@ impl Table {
     pub(crate) fn ask(
         &self,
         txn: Txn,
-        asked: Asked<'_>,
+        sought: Sought<'_>,
         until: Until<'_>,
         waker: &Waker,
     ) -> (Poll<Ended>, usize) {
-        self.waits().ask(self.shared(), txn, asked, until, waker)
+        self.waits().ask(self.shared(), txn, sought, until, waker)
     }
 
     /// How the wait of an ask ended; if it has not, it wakes this waker from now on.

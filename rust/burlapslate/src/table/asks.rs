@@ -4,15 +4,13 @@ use super::Table;
 use crate::mode::Mode;
 use crate::names::{Node, Txn};
 use crate::session::{ended, Ended, Stop};
+pub(crate) use crate::sys::awaited::Sought;
 use crate::sys::shared::{self, Time, INSTANT};
 use crate::sys::DONE;
 use std::future::Future;
 use std::pin::Pin;
 use std::task::{Context, Poll, Waker};
 use std::time::Instant;
-
-/// What a session requests. The mode of a lock for an instant says so.
-pub(crate) use crate::sys::awaited::Asked as Sought;
 
 impl Sought<'_> {
     pub(crate) fn node(node: Node, mode: Mode) -> Sought<'static> {
