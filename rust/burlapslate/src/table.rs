@@ -365,7 +365,7 @@ impl Table {
         Ok(())
     }
 
-    /// Ends all calls of [`watch_over`](Table::watch_over), now and from now on.
+    /// Ends all calls of [`watch_over`](Table::watch_over), now and from now on. The table's thread watches on.
     pub fn end_watch(&self) {
         *self.is_unwatched() = true;
         self.unwatched.notify_all();

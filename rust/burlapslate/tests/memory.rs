@@ -10,7 +10,7 @@ mod common;
 
 use burlapslate::{
     Detect, Keep, Manager, Mode, Node, Notice, Refusal, Row, RowAsked, RowLocked, Session, Stop,
-    Table, Tried, Txn, SLOTS,
+    Table, Taken, Tried, Try, Txn, SLOTS,
 };
 use common::{at_block, begin, grant, manager, store, wait};
 use std::cell::Cell;
@@ -169,6 +169,42 @@ fn managers_that_are_not_made() {
     assert!(n > 3);
     let refused = without_memory(|| Manager::new(Detect::AtBlock, 0).map(drop));
     assert_eq!(refused, Err(Refusal::BadNumber));
+}
+
+/// Tables that are made or not leave nothing behind.
+#[test]
+fn tables_that_are_not_made() {
+    let before = BLOCKS.get();
+    let mut n = 1;
+    loop {
+        let (made, left) = refusing(Refused::Nth(n), || Table::new(Detect::AtBlock, SLOTS));
+        if left != Refused::None {
+            assert!(made.is_ok());
+            break;
+        }
+        assert_eq!(made.unwrap_err(), Refusal::NoMemory);
+        assert_eq!(BLOCKS.get(), before);
+        n += 1;
+    }
+    assert!(n > 4);
+    assert_eq!(BLOCKS.get(), before);
+}
+
+/// A list of tries for which there is no memory locks nothing.
+#[test]
+fn a_list_that_is_not_made() {
+    let table = Table::new(Detect::AtBlock, SLOTS).unwrap();
+    let node = table.add_inner(&[]).unwrap();
+    let mut session = table.begin().unwrap();
+    let mode = Mode::S;
+    let tries = [Try::Node { node, mode }];
+    let tried = without_memory(|| session.try_first(&tries));
+    assert_eq!(tried, Err(Refusal::NoMemory));
+    assert_eq!(table.with(|m| m.group(node)), Ok(Mode::NL));
+    assert_eq!(session.try_first(&[]), Ok(None));
+    let locked = RowLocked::Own(mode);
+    let taken = session.try_first(&tries);
+    assert_eq!(taken, Ok(Some(Taken { place: 0, locked })));
 }
 
 /// Watchers that are made or not leave nothing behind.
