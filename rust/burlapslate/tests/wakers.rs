@@ -3,10 +3,10 @@
 
 mod waiters;
 
-use burlapslate::{Detect, Keep, Mode, Refusal, Session, Stop, Table, Tried, Try, SLOTS};
+use burlapslate::{Detect, Keep, Mode, Node, Refusal, Session, Stop, Table, Tried, Try, SLOTS};
 use std::panic::{catch_unwind, AssertUnwindSafe, RefUnwindSafe, UnwindSafe};
 use std::pin::pin;
-use std::sync::atomic::{AtomicUsize, Ordering};
+use std::sync::atomic::{AtomicBool, AtomicUsize, Ordering};
 use std::sync::{Arc, Mutex, Weak};
 use std::task::{Wake, Waker};
 use std::thread;
@@ -196,17 +196,22 @@ impl Wake for Kept {
 fn with_a_leaked_future() -> (Table, Weak<Kept>, Arc<AtomicUsize>) {
     let table = Table::new(Detect::AtBlock, SLOTS).unwrap();
     let root = table.add_inner(&[]).unwrap();
-    let (mut holder, mut waiter) = (table.begin().unwrap(), table.begin().unwrap());
+    let (mut holder, waiter) = (table.begin().unwrap(), table.begin().unwrap());
     holder.lock(root, Mode::X).unwrap();
     let woken = Arc::new(AtomicUsize::new(0));
     let kept = Arc::new(Kept(Arc::clone(&woken)));
     let left = Arc::downgrade(&kept);
-    let mut lock = Box::pin(waiter.lock_async(root, Mode::S));
-    assert!(poll_by(&mut lock.as_mut(), Waker::from(kept)).is_pending());
-    std::mem::forget(lock);
-    waiter.leave();
+    leaks(waiter, root, Waker::from(kept));
     holder.leave();
     (table, left, woken)
+}
+
+/// A session waits for X on a node, and nobody awaits it.
+fn leaks(mut session: Session<'_>, node: Node, waker: Waker) {
+    let mut lock = Box::pin(session.lock_async(node, Mode::X));
+    assert!(poll_by(&mut lock.as_mut(), waker).is_pending());
+    std::mem::forget(lock);
+    session.leave();
 }
 
 /// The drop of a table ends all waits, wherever it is dropped.
@@ -224,6 +229,46 @@ fn a_table_is_dropped() {
         await_that(|| left.upgrade().is_none());
         assert_eq!(woken.load(Ordering::SeqCst), 1);
     }
+}
+
+/// The last owner of a table is the waker of a victim, which the table's own thread wakes.
+#[test]
+fn a_table_is_dropped_by_its_own_thread() {
+    let table = Arc::new(Table::new(Detect::ByWatcher, SLOTS).unwrap());
+    let root = table.add_inner(&[]).unwrap();
+    let [mut older, mut younger] = [(); 2].map(|()| table.begin_shared().unwrap());
+    for session in [&mut older, &mut younger] {
+        session.lock(root, Mode::S).unwrap();
+    }
+    let kept = Arc::new(Kept(Arc::default()));
+    let left = Arc::downgrade(&kept);
+    let (is_woken, is_alone) = (
+        Arc::new(AtomicBool::new(false)),
+        Arc::new(AtomicBool::new(false)),
+    );
+    let (woken, alone, own) = (
+        Arc::clone(&is_woken),
+        Arc::clone(&is_alone),
+        Arc::clone(&table),
+    );
+    let drops = Does::waker(move || {
+        woken.store(true, Ordering::SeqCst);
+        while !alone.load(Ordering::SeqCst) {
+            thread::yield_now();
+        }
+        drop(own);
+    });
+    leaks(older, root, Waker::from(kept));
+    leaks(younger, root, drops);
+    thread::scope(|scope| {
+        scope.spawn(|| table.watch_over(Duration::ZERO).unwrap());
+        await_that(|| is_woken.load(Ordering::SeqCst));
+        table.end_watch();
+    });
+    drop(table);
+    assert!(left.upgrade().is_some());
+    is_alone.store(true, Ordering::SeqCst);
+    await_that(|| left.upgrade().is_none());
 }
 
 /// A table and its sessions pass a `catch_unwind`, as the mutexes of the standard library do.
