@@ -426,7 +426,7 @@ pub(crate) fn with<T>(table: &Shared, ask: impl FnOnce(&Manager) -> T) -> T {
     ask(&manager)
 }
 
-/// Settles a transaction, and counts those that this notifies.
+/// Settles a transaction; answers whom this notified too.
 pub(crate) fn settle(table: &Shared, txn: Txn) -> (Reply, Notices) {
     let none = Notice {
         txn: Txn::NONE,
