@@ -115,13 +115,18 @@ fn a_waker_panics() {
     let store = Store::new(Detect::AtBlock);
     let (mut holder, node) = (store.begin(), store.add_root());
     holder.lock(node, Mode::X).unwrap();
-    let table = Arc::clone(&store.table);
+    let (table, is_done) = (Arc::clone(&store.table), Arc::new(AtomicBool::new(false)));
+    let done = Arc::clone(&is_done);
     let panics = Does::waker(|| panic!("as it is wanted"));
-    let calls = Does::waker(move || assert!(table.begin().unwrap().commit().is_ok()));
+    let calls = Does::waker(move || {
+        table.begin().unwrap().commit().unwrap();
+        done.store(true, Ordering::SeqCst);
+    });
     let mut waiters = [panics, calls].map(|waker| store.waits(store.begin(), node, Mode::S, waker));
     let name = holder.txn();
     let died = catch_unwind(AssertUnwindSafe(|| holder.commit()));
     assert!(died.is_err());
+    assert!(is_done.load(Ordering::SeqCst));
     assert!(!store.lives(name));
     for waiter in &mut waiters {
         assert_eq!(waiter.ended(), Ok(Mode::S));
