@@ -160,11 +160,6 @@ impl Board {
         })
     }
 
-    /// This slot waits for nobody any more.
-    pub(crate) fn clear_row(&mut self, slot: usize) {
-        self.0.rows[slot] = Slots::NONE;
-    }
-
     pub(crate) fn as_sys(&mut self) -> &mut sys::Board {
         &mut self.0
     }

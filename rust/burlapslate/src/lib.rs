@@ -76,8 +76,9 @@
 //! [`abort`](Manager::abort), [`settle`](Manager::settle), [`delete`](Manager::delete),
 //! [`rekey`](Manager::rekey), [`escalate`](Manager::escalate), of nodes and of rows. The others are
 //! refused with [`Refusal::NoMemory`] if the allocator refuses, and can be made again. Beside the library's
-//! memory a manager takes 40 bytes for each slot when it is made, for the notices, and none afterwards; and a try of
-//! a path that keeps nothing takes some for the nodes that it acquires.
+//! memory a manager takes 40 bytes for each slot when it is made, for the notices, and a table 56, for the waits of
+//! futures; and none afterwards. But a list of tries takes some for the list, and a try of a path that keeps nothing for
+//! the nodes that it acquires.
 //!
 //! With 1,024 slots, making a manager takes two megabytes of stack, and reading a board 0.7: more than a thread has by
 //! default ([`std::thread::Builder::stack_size`]).
@@ -96,8 +97,8 @@
 #![deny(unsafe_code)] // But for `sys`.
 #![deny(clippy::undocumented_unsafe_blocks)]
 
-mod begin_queue;
 mod board;
+mod clock;
 mod listing;
 mod manager;
 mod mode;

@@ -97,7 +97,7 @@ pub struct Wait {
 
 /// A savepoint of a transaction: how many nodes it held or waited for.
 #[derive(Clone, Copy, PartialEq, Eq, Hash, Debug)]
-pub struct Mark(usize);
+pub struct Mark(pub(crate) usize);
 
 /// What an escalation did.
 #[derive(Clone, Copy, PartialEq, Eq, Hash, Debug)]
@@ -111,7 +111,7 @@ pub struct Escalated {
 }
 
 impl Escalated {
-    fn of(reply: &Reply) -> Escalated {
+    pub(crate) fn of(reply: &Reply) -> Escalated {
         Escalated {
             mode: Mode::of(reply.mode),
             released: reply.released,
@@ -148,7 +148,7 @@ impl Escalated {
 /// # Ok::<(), burlapslate::Refusal>(())
 /// ```
 pub struct Manager {
-    pinned: Box<Pinned>,
+    pinned: Pinned,
 }
 
 /// What a manager or a table is made with.
@@ -204,6 +204,24 @@ impl Options {
     pub fn bounds(self, bounds: usize) -> Options {
         Options { bounds, ..self }
     }
+
+    /// As the library takes them; refused if a number is out of range.
+    pub(crate) fn checked(self) -> Result<sys::Options, Refusal> {
+        let can_be = 1..=1 << 31;
+        let can_have = (1..=SLOTS).contains(&self.transactions)
+            && can_be.contains(&self.nodes)
+            && can_be.contains(&self.bounds);
+        if !can_have {
+            return Err(Refusal::BadNumber);
+        }
+        Ok(sys::Options {
+            detect: self.detect as u32,
+            victims: self.victims as u32,
+            transactions: self.transactions as u32,
+            nodes: self.nodes as u32,
+            bounds: self.bounds as u32,
+        })
+    }
 }
 
 impl Manager {
@@ -226,23 +244,22 @@ impl Manager {
     /// Refused with [`BadNumber`](Refusal::BadNumber), [`NoMemory`](Refusal::NoMemory). Memory for
     /// nodes is taken as they are made.
     pub fn with_options(options: Options) -> Result<Manager, Refusal> {
-        let can_be = 1..=1 << 31;
-        let can_have = (1..=SLOTS).contains(&options.transactions)
-            && can_be.contains(&options.nodes)
-            && can_be.contains(&options.bounds);
-        if !can_have {
-            return Err(Refusal::BadNumber);
-        }
+        let options = options.checked()?;
         let mut pinned = Pinned::new().ok_or(Refusal::NoMemory)?;
         accepted(sys::bs_call_make_with(
-            &mut pinned.place,
-            options.detect as u32,
-            options.victims as u32,
-            options.transactions as u32,
-            options.nodes as u32,
-            options.bounds as u32,
+            pinned.place_mut(),
+            options.detect,
+            options.victims,
+            options.transactions,
+            options.nodes,
+            options.bounds,
         ))?;
         Ok(Manager { pinned })
+    }
+
+    /// The manager of a table, which is lent for questions.
+    pub(crate) fn lent(pinned: Pinned) -> Manager {
+        Manager { pinned }
     }
 }
 
@@ -258,14 +275,14 @@ impl Manager {
     /// [`TooManyNodes`](Refusal::TooManyNodes), [`NoMemory`](Refusal::NoMemory). Costs a look-up
     /// for each parent.
     pub fn add_inner(&mut self, parents: &[Node]) -> Result<Node, Refusal> {
-        accepted(sys::add_inner(&mut self.pinned.place, parents)).map(|reply| reply.node)
+        accepted(sys::add_inner(self.pinned.place_mut(), parents)).map(|reply| reply.node)
     }
 
     /// A new file of records, under 1 to 8 different inner nodes. Its records are named by their nodes.
     ///
     /// Refused as [`add_inner`](Manager::add_inner).
     pub fn add_file(&mut self, parents: &[Node]) -> Result<Node, Refusal> {
-        accepted(sys::add_file(&mut self.pinned.place, parents)).map(|reply| reply.node)
+        accepted(sys::add_file(self.pinned.place_mut(), parents)).map(|reply| reply.node)
     }
 
     /// A new file of rows, under 1 to 8 different inner nodes. Each of its records is a [`Row`], which
@@ -287,7 +304,7 @@ impl Manager {
     /// # Ok::<(), burlapslate::Refusal>(())
     /// ```
     pub fn add_row_file(&mut self, parents: &[Node]) -> Result<Node, Refusal> {
-        accepted(sys::add_row_file(&mut self.pinned.place, parents)).map(|reply| reply.node)
+        accepted(sys::add_row_file(self.pinned.place_mut(), parents)).map(|reply| reply.node)
     }
 
     /// A new index of a file that has no records, and of which no row ever had a node by
@@ -319,7 +336,7 @@ impl Manager {
         file: Node,
         bounds: &[u64],
     ) -> Result<Node, Refusal> {
-        let reply = sys::add_index(&mut self.pinned.place, parents, file, bounds);
+        let reply = sys::add_index(self.pinned.place_mut(), parents, file, bounds);
         accepted(reply).map(|reply| reply.node)
     }
 }
@@ -335,7 +352,7 @@ impl Manager {
     /// Refused with [`WornOut`](Refusal::WornOut), [`TooManyTxns`](Refusal::TooManyTxns),
     /// [`NoMemory`](Refusal::NoMemory). Takes memory. Costs a search for a free slot.
     pub fn begin(&mut self) -> Result<Txn, Refusal> {
-        accepted(sys::bs_call_begin(&mut self.pinned.place)).map(|reply| reply.txn)
+        accepted(sys::bs_call_begin(self.pinned.place_mut())).map(|reply| reply.txn)
     }
 
     /// A new transaction, as by [`begin`](Manager::begin), that retries work of an earlier one, which was a
@@ -363,7 +380,7 @@ impl Manager {
     /// # Ok::<(), burlapslate::Refusal>(())
     /// ```
     pub fn begin_again(&mut self, since: u64) -> Result<Txn, Refusal> {
-        accepted(sys::bs_call_begin_again(&mut self.pinned.place, since)).map(|reply| reply.txn)
+        accepted(sys::bs_call_begin_again(self.pinned.place_mut(), since)).map(|reply| reply.txn)
     }
 
     /// Requests a mode on a node. To read ([`IS`](Mode::IS), [`S`](Mode::S)) the transaction needs `IS` or
@@ -403,7 +420,7 @@ impl Manager {
         node: Node,
         mode: Mode,
     ) -> Result<(Asked, Notices<'_>), Refusal> {
-        let Pinned { place, told } = &mut *self.pinned;
+        let (place, told) = self.pinned.parts();
         let reply = sys::bs_call_lock(place, txn, node, mode as u32, told);
         Ok((Asked::of(&reply)?, Notices::of(told)))
     }
@@ -434,7 +451,7 @@ impl Manager {
         node: Node,
         mode: Mode,
     ) -> Result<(Reached, Notices<'_>), Refusal> {
-        let Pinned { place, told } = &mut *self.pinned;
+        let (place, told) = self.pinned.parts();
         let reply = sys::bs_call_lock_path(place, txn, node, mode as u32, told);
         let reached = match reply.status {
             sys::DONE => Reached::Granted(Mode::of(reply.mode)),
@@ -451,7 +468,7 @@ impl Manager {
     /// [`NoMemory`](Refusal::NoMemory). The call never waits and notifies nobody; it answers the mode that
     /// is held now.
     pub fn try_lock(&mut self, txn: Txn, node: Node, mode: Mode) -> Result<Mode, Refusal> {
-        let reply = sys::bs_call_try(&mut self.pinned.place, txn, node, mode as u32);
+        let reply = sys::bs_call_try(self.pinned.place_mut(), txn, node, mode as u32);
         accepted(reply).map(|reply| Mode::of(reply.mode))
     }
 
@@ -463,7 +480,7 @@ impl Manager {
     /// [`HeldChild`](Refusal::HeldChild). Takes no memory. Costs a look-up, and a step for each
     /// waiter that is granted.
     pub fn unlock(&mut self, txn: Txn, node: Node) -> Result<Notices<'_>, Refusal> {
-        let Pinned { place, told } = &mut *self.pinned;
+        let (place, told) = self.pinned.parts();
         accepted(sys::bs_call_unlock(place, txn, node, told))?;
         Ok(Notices::of(told))
     }
@@ -505,7 +522,7 @@ impl Manager {
     /// # Ok::<(), burlapslate::Refusal>(())
     /// ```
     pub fn release_since(&mut self, txn: Txn, mark: Mark) -> Result<(usize, Notices<'_>), Refusal> {
-        let Pinned { place, told } = &mut *self.pinned;
+        let (place, told) = self.pinned.parts();
         let reply = accepted(sys::bs_call_release_since(place, txn, mark.0, told))?;
         Ok((reply.count as usize, Notices::of(told)))
     }
@@ -516,7 +533,7 @@ impl Manager {
     /// [`TxnCondemned`](Refusal::TxnCondemned), [`NotWaiting`](Refusal::NotWaiting). Takes no
     /// memory.
     pub fn cancel(&mut self, txn: Txn) -> Result<Notices<'_>, Refusal> {
-        let Pinned { place, told } = &mut *self.pinned;
+        let (place, told) = self.pinned.parts();
         accepted(sys::bs_call_cancel_rows(place, txn, told))?;
         Ok(Notices::of(told))
     }
@@ -543,7 +560,7 @@ impl Manager {
     /// # Ok::<(), burlapslate::Refusal>(())
     /// ```
     pub fn commit(&mut self, txn: Txn) -> Result<Notices<'_>, Refusal> {
-        let Pinned { place, told } = &mut *self.pinned;
+        let (place, told) = self.pinned.parts();
         accepted(sys::bs_call_commit_rows(place, txn, told))?;
         Ok(Notices::of(told))
     }
@@ -554,7 +571,7 @@ impl Manager {
     /// Refused with [`WornOut`](Refusal::WornOut), [`NoSuchTxn`](Refusal::NoSuchTxn). Takes no
     /// memory. Costs as [`commit`](Manager::commit).
     pub fn abort(&mut self, txn: Txn) -> Result<Notices<'_>, Refusal> {
-        let Pinned { place, told } = &mut *self.pinned;
+        let (place, told) = self.pinned.parts();
         accepted(sys::bs_call_abort_rows(place, txn, told))?;
         Ok(Notices::of(told))
     }
@@ -566,7 +583,7 @@ impl Manager {
     /// Refused with [`WornOut`](Refusal::WornOut), [`NoSuchTxn`](Refusal::NoSuchTxn). Takes no
     /// memory.
     pub fn settle(&mut self, txn: Txn) -> Result<Notices<'_>, Refusal> {
-        let Pinned { place, told } = &mut *self.pinned;
+        let (place, told) = self.pinned.parts();
         accepted(sys::bs_call_settle(place, txn, told))?;
         Ok(Notices::of(told))
     }
@@ -581,7 +598,7 @@ impl Manager {
     /// [`NotHeld`](Refusal::NotHeld), [`WouldBlock`](Refusal::WouldBlock). Takes no memory. Costs a
     /// step for each lock of the transaction.
     pub fn escalate(&mut self, txn: Txn, node: Node) -> Result<(Escalated, Notices<'_>), Refusal> {
-        let Pinned { place, told } = &mut *self.pinned;
+        let (place, told) = self.pinned.parts();
         let reply = accepted(sys::bs_call_escalate_rows(place, txn, node, told))?;
         Ok((Escalated::of(&reply), Notices::of(told)))
     }
@@ -603,7 +620,7 @@ impl Manager {
     /// [`IX`](Mode::IX) or more), [`TooManyNodes`](Refusal::TooManyNodes),
     /// [`NoMemory`](Refusal::NoMemory). Takes memory. It tells nobody.
     pub fn insert(&mut self, txn: Txn, file: Node, keys: &[u64]) -> Result<Node, Refusal> {
-        accepted(sys::insert(&mut self.pinned.place, txn, file, keys)).map(|reply| reply.node)
+        accepted(sys::insert(self.pinned.place_mut(), txn, file, keys)).map(|reply| reply.node)
     }
 
     /// A new record of a file, as [`insert`](Manager::insert) makes one, but for no transaction: nobody
@@ -615,7 +632,7 @@ impl Manager {
     /// [`TooManyNodes`](Refusal::TooManyNodes), [`NoMemory`](Refusal::NoMemory). Takes memory. It
     /// tells nobody.
     pub fn adopt(&mut self, file: Node, keys: &[u64]) -> Result<Node, Refusal> {
-        accepted(sys::adopt(&mut self.pinned.place, file, keys)).map(|reply| reply.node)
+        accepted(sys::adopt(self.pinned.place_mut(), file, keys)).map(|reply| reply.node)
     }
 
     /// Removes a record that nobody holds and nobody waits for.
@@ -624,7 +641,7 @@ impl Manager {
     /// [`BadParents`](Refusal::BadParents) (no record), [`RecordInUse`](Refusal::RecordInUse). Takes no
     /// memory, and tells nobody.
     pub fn forget(&mut self, record: Node) -> Result<(), Refusal> {
-        accepted(sys::bs_call_forget(&mut self.pinned.place, record)).map(drop)
+        accepted(sys::bs_call_forget(self.pinned.place_mut(), record)).map(drop)
     }
 
     /// Removes a record that the transaction holds in [`X`](Mode::X). Its waiters are told
@@ -635,7 +652,7 @@ impl Manager {
     /// [`NoSuchNode`](Refusal::NoSuchNode), [`BadParents`](Refusal::BadParents) (no record),
     /// [`NeedExclusive`](Refusal::NeedExclusive). Takes no memory.
     pub fn delete(&mut self, txn: Txn, record: Node) -> Result<Notices<'_>, Refusal> {
-        let Pinned { place, told } = &mut *self.pinned;
+        let (place, told) = self.pinned.parts();
         accepted(sys::bs_call_delete(place, txn, record, told))?;
         Ok(Notices::of(told))
     }
@@ -657,7 +674,7 @@ impl Manager {
         index: Node,
         key: u64,
     ) -> Result<Notices<'_>, Refusal> {
-        let Pinned { place, told } = &mut *self.pinned;
+        let (place, told) = self.pinned.parts();
         accepted(sys::bs_call_rekey(place, txn, record, index, key, told))?;
         Ok(Notices::of(told))
     }
@@ -680,7 +697,7 @@ impl Manager {
         node: Node,
         parents: &[Node],
     ) -> Result<Notices<'_>, Refusal> {
-        let Pinned { place, told } = &mut *self.pinned;
+        let (place, told) = self.pinned.parts();
         accepted(sys::move_node(place, txn, node, parents, told))?;
         Ok(Notices::of(told))
     }
@@ -719,7 +736,7 @@ impl Manager {
     /// # Ok::<(), burlapslate::Refusal>(())
     /// ```
     pub fn drop_node(&mut self, txn: Txn, node: Node) -> Result<Notices<'_>, Refusal> {
-        let Pinned { place, told } = &mut *self.pinned;
+        let (place, told) = self.pinned.parts();
         accepted(sys::bs_call_drop(place, txn, node, told))?;
         Ok(Notices::of(told))
     }
@@ -744,7 +761,7 @@ impl Manager {
         file: Node,
         bounds: &[u64],
     ) -> Result<Node, Refusal> {
-        let reply = sys::index_by(&mut self.pinned.place, txn, parents, file, bounds);
+        let reply = sys::index_by(self.pinned.place_mut(), txn, parents, file, bounds);
         accepted(reply).map(|reply| reply.node)
     }
 }
@@ -808,7 +825,7 @@ impl Manager {
         keys: &[u64],
         mode: Mode,
     ) -> Result<(RowAsked, Node, Notices<'_>), Refusal> {
-        let Pinned { place, told } = &mut *self.pinned;
+        let (place, told) = self.pinned.parts();
         let reply = sys::lock_row(place, txn, row, keys, mode as u32, told);
         Ok((RowAsked::of(&reply)?, reply.node, Notices::of(told)))
     }
@@ -819,7 +836,7 @@ impl Manager {
     /// Refused with [`NotRows`](Refusal::NotRows), and then as [`unlock`](Manager::unlock); a row without
     /// a node is refused as a removed node. Takes no memory.
     pub fn unlock_row(&mut self, txn: Txn, row: Row) -> Result<Notices<'_>, Refusal> {
-        let Pinned { place, told } = &mut *self.pinned;
+        let (place, told) = self.pinned.parts();
         accepted(sys::bs_call_unlock_row(
             place, txn, row.file, row.number, told,
         ))?;
@@ -837,7 +854,7 @@ impl Manager {
         index: Node,
         key: u64,
     ) -> Result<Notices<'_>, Refusal> {
-        let Pinned { place, told } = &mut *self.pinned;
+        let (place, told) = self.pinned.parts();
         accepted(sys::bs_call_rekey_row(
             place, txn, row.file, row.number, index, key, told,
         ))?;
@@ -847,7 +864,7 @@ impl Manager {
     /// The node of a row, for questions and for [`verdict`](Manager::verdict). `None` if it has none, also
     /// if its file is no file of rows.
     pub fn row_node(&self, row: Row) -> Option<Node> {
-        let reply = sys::bs_call_row_node(&self.pinned.place, row.file, row.number);
+        let reply = sys::bs_call_row_node(self.pinned.place(), row.file, row.number);
         (reply.status == sys::DONE).then_some(reply.node)
     }
 }
@@ -863,14 +880,14 @@ impl Manager {
     ///
     /// Refused with [`NoSuchNode`](Refusal::NoSuchNode).
     pub fn group(&self, node: Node) -> Result<Mode, Refusal> {
-        mode_in(sys::bs_call_group(&self.pinned.place, node))
+        mode_in(sys::bs_call_group(self.pinned.place(), node))
     }
 
     /// The mode in which a transaction holds a node, [`NL`](Mode::NL) for none.
     ///
     /// Refused with [`NoSuchTxn`](Refusal::NoSuchTxn), [`NoSuchNode`](Refusal::NoSuchNode).
     pub fn held(&self, txn: Txn, node: Node) -> Result<Mode, Refusal> {
-        mode_in(sys::bs_call_held(&self.pinned.place, txn, node))
+        mode_in(sys::bs_call_held(self.pinned.place(), txn, node))
     }
 
     /// What a transaction may do to a node by all its locks together: [`NL`](Mode::NL),
@@ -879,7 +896,7 @@ impl Manager {
     /// Refused with [`NoSuchTxn`](Refusal::NoSuchTxn), [`NoSuchNode`](Refusal::NoSuchNode),
     /// [`NoMemory`](Refusal::NoMemory). Takes memory, and looks at each ancestor.
     pub fn effective(&self, txn: Txn, node: Node) -> Result<Mode, Refusal> {
-        mode_in(sys::bs_call_effective(&self.pinned.place, txn, node))
+        mode_in(sys::bs_call_effective(self.pinned.place(), txn, node))
     }
 
     /// What a transaction waits for; `None` if it does not wait, or does not live.
@@ -894,14 +911,14 @@ impl Manager {
     ///
     /// Refused with [`NotHeld`](Refusal::NotHeld) if it does not live or does not hold the node.
     pub fn children(&self, txn: Txn, node: Node) -> Result<u64, Refusal> {
-        accepted(sys::bs_call_children(&self.pinned.place, txn, node)).map(|reply| reply.count)
+        accepted(sys::bs_call_children(self.pinned.place(), txn, node)).map(|reply| reply.count)
     }
 
     /// What a node is.
     ///
     /// Refused with [`NoSuchNode`](Refusal::NoSuchNode).
     pub fn kind(&self, node: Node) -> Result<Kind, Refusal> {
-        accepted(sys::bs_call_kind(&self.pinned.place, node)).map(|reply| Kind::of(reply.count))
+        accepted(sys::bs_call_kind(self.pinned.place(), node)).map(|reply| Kind::of(reply.count))
     }
 
     /// A parent of a node, by its place from 0 on; of a record first its file and then, for each
@@ -917,20 +934,20 @@ impl Manager {
     /// # Ok::<(), burlapslate::Refusal>(())
     /// ```
     pub fn parent(&self, node: Node, place: usize) -> Option<Node> {
-        placed(sys::bs_call_parent(&self.pinned.place, node, place)).map(|reply| reply.node)
+        placed(sys::bs_call_parent(self.pinned.place(), node, place)).map(|reply| reply.node)
     }
 
     /// A key of a record, by the place of its index. `None` if there are fewer, or the name
     /// names no record.
     pub fn key(&self, record: Node, place: usize) -> Option<u64> {
-        placed(sys::bs_call_key(&self.pinned.place, record, place)).map(|reply| reply.count)
+        placed(sys::bs_call_key(self.pinned.place(), record, place)).map(|reply| reply.count)
     }
 
     /// An index of a file, by its place in the order of making; `None` if there are fewer.
     ///
     /// Refused with [`NoSuchNode`](Refusal::NoSuchNode) if the name names no file.
     pub fn index(&self, file: Node, place: usize) -> Result<Option<Node>, Refusal> {
-        let reply = sys::bs_call_index(&self.pinned.place, file, place);
+        let reply = sys::bs_call_index(self.pinned.place(), file, place);
         if reply.status == sys::NO_PLACE {
             return Ok(None);
         }
@@ -940,7 +957,7 @@ impl Manager {
     /// An interval of an index, by its place. `None` if there are fewer, or the name names no
     /// index.
     pub fn interval(&self, index: Node, place: usize) -> Option<Node> {
-        placed(sys::bs_call_interval(&self.pinned.place, index, place)).map(|reply| reply.node)
+        placed(sys::bs_call_interval(self.pinned.place(), index, place)).map(|reply| reply.node)
     }
 
     /// The interval of an index that contains a key.
@@ -948,14 +965,14 @@ impl Manager {
     /// Refused with [`NoSuchNode`](Refusal::NoSuchNode) if the name names no index. Costs a
     /// binary search.
     pub fn interval_of(&self, index: Node, key: u64) -> Result<Node, Refusal> {
-        accepted(sys::bs_call_interval_of(&self.pinned.place, index, key)).map(|reply| reply.node)
+        accepted(sys::bs_call_interval_of(self.pinned.place(), index, key)).map(|reply| reply.node)
     }
 
     /// The place of an interval in its index.
     ///
     /// Refused with [`NoSuchNode`](Refusal::NoSuchNode) if the name names no interval.
     pub fn place(&self, interval: Node) -> Result<usize, Refusal> {
-        let reply = sys::bs_call_place(&self.pinned.place, interval);
+        let reply = sys::bs_call_place(self.pinned.place(), interval);
         accepted(reply).map(|reply| reply.count as usize)
     }
 
@@ -963,12 +980,12 @@ impl Manager {
     ///
     /// Refused with [`NoSuchNode`](Refusal::NoSuchNode) if the name names no file.
     pub fn has_records(&self, file: Node) -> Result<bool, Refusal> {
-        accepted(sys::bs_call_has_records(&self.pinned.place, file)).map(|reply| reply.count != 0)
+        accepted(sys::bs_call_has_records(self.pinned.place(), file)).map(|reply| reply.count != 0)
     }
 
     /// How many nodes live.
     pub fn len(&self) -> usize {
-        answered(sys::bs_call_len(&self.pinned.place)) as usize
+        answered(sys::bs_call_len(self.pinned.place())) as usize
     }
 
     /// Whether no node lives.
@@ -978,17 +995,17 @@ impl Manager {
 
     /// How many commands were accepted; refused commands and questions do not count.
     pub fn accepted(&self) -> u64 {
-        answered(sys::bs_call_accepted(&self.pinned.place))
+        answered(sys::bs_call_accepted(self.pinned.place()))
     }
 
     /// How deadlocks are found.
     pub fn detect(&self) -> Detect {
-        Detect::of(answered(sys::bs_call_detect(&self.pinned.place)))
+        Detect::of(answered(sys::bs_call_detect(self.pinned.place())))
     }
 
     /// The choice of a deadlock's victims.
     pub fn victims(&self) -> Victims {
-        Victims::of(answered(sys::bs_call_victims(&self.pinned.place)))
+        Victims::of(answered(sys::bs_call_victims(self.pinned.place())))
     }
 
     /// The board of this moment: who waits for whom.
@@ -1005,7 +1022,7 @@ impl Manager {
     ///
     /// Costs as [`board`](Manager::board), without the making of one.
     pub fn read_board(&self, board: &mut Board) {
-        answered(sys::bs_call_board(&self.pinned.place, board.as_sys()));
+        answered(sys::bs_call_board(self.pinned.place(), board.as_sys()));
     }
 }
 
@@ -1031,23 +1048,19 @@ impl Manager {
     /// # Ok::<(), burlapslate::Refusal>(())
     /// ```
     pub fn verdict(&self, txn: Txn, node: Node, mode: Mode) -> Option<Result<Mode, Stop>> {
-        let reply = sys::bs_call_verdict(&self.pinned.place, txn, node, mode as u32);
-        Some(match reply.status {
-            sys::WAITING => return None,
-            sys::DONE => Ok(Mode::of(reply.mode)),
-            sys::VICTIM => Err(Stop::Victim),
-            sys::MOVED => Err(Stop::Moved),
-            sys::GONE => Err(Stop::Gone),
-            sys::NOT_WAITING => Err(Stop::Cancelled),
-            _ => Err(Stop::Refused(Refusal::of(&reply))),
-        })
+        let reply = sys::bs_call_verdict(self.pinned.place(), txn, node, mode as u32);
+        match reply.status {
+            sys::WAITING => None,
+            sys::DONE => Some(Ok(Mode::of(reply.mode))),
+            _ => Some(Err(Stop::of(&reply))),
+        }
     }
 
     /// The slots whose wait the last accepted command may have ended, whose sleepers must be woken. It ended
     /// no other transaction's wait. A [`release_since`](Manager::release_since) that releases nothing leaves
     /// none.
     pub fn ended(&self) -> Slots {
-        found(sys::bs_call_ended(&self.pinned.place)).unwrap_or(Slots::NONE)
+        found(sys::bs_call_ended(self.pinned.place())).unwrap_or(Slots::NONE)
     }
 
     /// Makes a watcher, which knows the board of this moment.
@@ -1055,11 +1068,7 @@ impl Manager {
     /// Refused with [`TooManyWatchers`](Refusal::TooManyWatchers), [`NoMemory`](Refusal::NoMemory).
     /// Takes memory.
     pub fn watch(&mut self) -> Result<Watcher, Refusal> {
-        Watcher::of(self)
-    }
-
-    pub(crate) fn as_place(&self) -> &sys::Place {
-        &self.pinned.place
+        Watcher::made_by(|watcher| sys::bs_call_watch(self.pinned.place(), watcher))
     }
 }
 
@@ -1070,17 +1079,17 @@ impl Manager {
 impl Manager {
     /// How many transactions may live at once.
     pub fn most(&self) -> usize {
-        answered(sys::bs_call_most(&self.pinned.place)) as usize
+        answered(sys::bs_call_most(self.pinned.place())) as usize
     }
 
     /// How many nodes may live at once.
     pub fn most_nodes(&self) -> usize {
-        answered(sys::bs_call_most_nodes(&self.pinned.place)) as usize
+        answered(sys::bs_call_most_nodes(self.pinned.place())) as usize
     }
 
     /// How many bounds an index may have.
     pub fn most_bounds(&self) -> usize {
-        answered(sys::bs_call_most_bounds(&self.pinned.place)) as usize
+        answered(sys::bs_call_most_bounds(self.pinned.place())) as usize
     }
 
     /// The transactions that live, by rising slot.
@@ -1097,7 +1106,7 @@ impl Manager {
     /// ```
     pub fn transactions(&self) -> impl Iterator<Item = TxnRow> + '_ {
         let living = (0..SLOTS as u32).filter_map(|slot| {
-            placed(sys::bs_call_living(&self.pinned.place, slot)).map(|reply| reply.txn)
+            placed(sys::bs_call_living(self.pinned.place(), slot)).map(|reply| reply.txn)
         });
         living.filter_map(|txn| {
             let doing = self.doing(txn).ok()?;
@@ -1114,7 +1123,7 @@ impl Manager {
     ///
     /// Refused with [`NoSuchTxn`](Refusal::NoSuchTxn).
     pub fn doing(&self, txn: Txn) -> Result<Doing, Refusal> {
-        let reply = accepted(sys::bs_call_doing(&self.pinned.place, txn))?;
+        let reply = accepted(sys::bs_call_doing(self.pinned.place(), txn))?;
         Ok(match reply.count {
             sys::ACTIVE => Doing::Active,
             sys::WAITS => Doing::Waiting(Wait {
@@ -1130,7 +1139,7 @@ impl Manager {
     ///
     /// Refused with [`NoSuchTxn`](Refusal::NoSuchTxn).
     pub fn lock_count(&self, txn: Txn) -> Result<usize, Refusal> {
-        let reply = accepted(sys::bs_call_lock_count(&self.pinned.place, txn))?;
+        let reply = accepted(sys::bs_call_lock_count(self.pinned.place(), txn))?;
         Ok(reply.count as usize)
     }
 
@@ -1144,7 +1153,7 @@ impl Manager {
             children: reply.count,
         };
         (0..).map_while(move |place| {
-            placed(sys::bs_call_lock_at(&self.pinned.place, txn, place)).map(row)
+            placed(sys::bs_call_lock_at(self.pinned.place(), txn, place)).map(row)
         })
     }
 
@@ -1152,7 +1161,7 @@ impl Manager {
     ///
     /// Refused with [`NoSuchNode`](Refusal::NoSuchNode).
     pub fn holders(&self, node: Node) -> Result<Slots, Refusal> {
-        found(sys::bs_call_holders(&self.pinned.place, node))
+        found(sys::bs_call_holders(self.pinned.place(), node))
     }
 
     /// The mode in which the transaction of a slot holds a node, [`NL`](Mode::NL) for none, also
@@ -1161,7 +1170,7 @@ impl Manager {
         if slot >= SLOTS {
             return Mode::NL;
         }
-        let reply = sys::bs_call_mode_at(&self.pinned.place, slot as u32, node);
+        let reply = sys::bs_call_mode_at(self.pinned.place(), slot as u32, node);
         Mode::of(answered_in_full(reply).mode)
     }
 
@@ -1169,9 +1178,9 @@ impl Manager {
     ///
     /// Refused with [`NoSuchNode`](Refusal::NoSuchNode).
     pub fn queue(&self, node: Node) -> Result<impl Iterator<Item = Waiter> + '_, Refusal> {
-        let len = accepted(sys::bs_call_queue_len(&self.pinned.place, node))?.count;
+        let len = accepted(sys::bs_call_queue_len(self.pinned.place(), node))?.count;
         Ok((0..len as usize).map(move |place| {
-            let reply = answered_in_full(sys::bs_call_queue_at(&self.pinned.place, node, place));
+            let reply = answered_in_full(sys::bs_call_queue_at(self.pinned.place(), node, place));
             Waiter {
                 txn: reply.txn,
                 wants: Mode::of(reply.mode),
@@ -1183,7 +1192,7 @@ impl Manager {
     ///
     /// Refused with [`NoSuchTxn`](Refusal::NoSuchTxn).
     pub fn waits_for(&self, txn: Txn) -> Result<Slots, Refusal> {
-        found(sys::bs_call_waits_for(&self.pinned.place, txn))
+        found(sys::bs_call_waits_for(self.pinned.place(), txn))
     }
 
     /// How many waiters are ahead of a waiting transaction in the queue of its node. Only those, and holders
@@ -1191,14 +1200,14 @@ impl Manager {
     ///
     /// Refused with [`NoSuchTxn`](Refusal::NoSuchTxn), [`NotWaiting`](Refusal::NotWaiting).
     pub fn ahead(&self, txn: Txn) -> Result<u64, Refusal> {
-        accepted(sys::bs_call_ahead(&self.pinned.place, txn)).map(|reply| reply.count)
+        accepted(sys::bs_call_ahead(self.pinned.place(), txn)).map(|reply| reply.count)
     }
 
     /// The deadlock that the last victim was condemned for; `None` if there was no victim yet.
     pub fn last_deadlock(&self) -> Option<Deadlock> {
         let mut deadlock = sys::Deadlock::new();
         placed(sys::bs_call_last_deadlock(
-            &self.pinned.place,
+            self.pinned.place(),
             &mut deadlock,
         ))?;
         Some(Deadlock::of(&deadlock))
@@ -1207,19 +1216,13 @@ impl Manager {
     /// What the manager has been doing since it was made.
     pub fn counters(&self) -> Counters {
         let mut counters = Counters::default();
-        answered(sys::bs_call_counters(&self.pinned.place, &mut counters));
+        answered(sys::bs_call_counters(self.pinned.place(), &mut counters));
         counters
     }
 
     /// All of it, to be printed.
     pub fn listing(&self) -> Listing<'_> {
         Listing { manager: self }
-    }
-}
-
-impl Drop for Manager {
-    fn drop(&mut self) {
-        sys::bs_call_end(&mut self.pinned.place);
     }
 }
 

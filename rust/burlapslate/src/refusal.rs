@@ -64,6 +64,9 @@ pub enum Refusal {
     NotRows,
     /// There are [`MOST_WATCHERS`](crate::MOST_WATCHERS) watchers already.
     TooManyWatchers,
+    /// A call that could sleep, in a waker or while the thread holds a table
+    /// ([`Table::with`](crate::Table::with)); or any call of the table that the thread holds.
+    InUse,
     /// More than 8 parents, or a manager for none or more than [`SLOTS`](crate::SLOTS) transactions. It
     /// is answered before all other refusals.
     BadNumber,
@@ -97,6 +100,7 @@ impl Refusal {
             sys::TOO_MANY_WATCHERS => Refusal::TooManyWatchers,
             sys::ROWS_BY_NUMBER => Refusal::RowsByNumber,
             sys::NOT_ROWS => Refusal::NotRows,
+            sys::IN_USE => Refusal::InUse,
             sys::BAD_NUMBER => Refusal::BadNumber,
             // Null pointers, places without a manager and the like cannot come from these types.
             status => unreachable!("the library answered with status {status}"),
@@ -130,6 +134,7 @@ impl Refusal {
             Refusal::RowsByNumber => "RowsByNumber",
             Refusal::NotRows => "NotRows",
             Refusal::TooManyWatchers => "TooManyWatchers",
+            Refusal::InUse => "InUse",
             Refusal::BadNumber => "BadNumber",
         }
     }
@@ -153,6 +158,11 @@ pub(crate) fn accepted(reply: Reply) -> Result<Reply, Refusal> {
     }
 }
 
+/// The same of a call that answers nothing else.
+pub(crate) fn done(reply: Reply) -> Result<(), Refusal> {
+    accepted(reply).map(drop)
+}
+
 #[cfg(test)]
 mod tests {
     use super::*;
@@ -165,7 +175,7 @@ mod tests {
     }
 
     /// The names of the statuses by number, those that the safe calls never answer left out.
-    const TEXTS: [(u32, &str); 25] = [
+    const TEXTS: [(u32, &str); 26] = [
         (1, "NoMemory"),
         (2, "NoSuchNode"),
         (3, "NoSuchTxn"),
@@ -188,6 +198,7 @@ mod tests {
         (22, "RecordInUse"),
         (23, "HasChildren"),
         (66, "BadNumber"),
+        (67, "InUse"),
         (70, "TooManyWatchers"),
         (71, "RowsByNumber"),
         (72, "NotRows"),

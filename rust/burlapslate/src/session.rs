@@ -3,12 +3,15 @@
 use crate::manager::{Escalated, Mark};
 use crate::mode::Mode;
 use crate::names::{Node, Row, Txn};
-use crate::refusal::Refusal;
-use crate::table::{Sought, Stay, Table};
+use crate::refusal::{accepted, done, Refusal};
+use crate::sys::shared::{self, Calling, Command};
+use crate::sys::{self, Reply};
+use crate::table::{node_of, Locking, Sought, Table};
 use std::error::Error;
 use std::fmt;
 use std::ops::Deref;
 use std::sync::Arc;
+use std::thread;
 use std::time::{Duration, Instant};
 
 /// Why a lock was not granted.
@@ -29,6 +32,20 @@ pub enum Stop {
     TimedOut,
     /// Another thread cancelled the wait, and the transaction is active.
     Cancelled,
+}
+
+impl Stop {
+    /// By what a lock that was not granted was answered.
+    pub(crate) fn of(reply: &Reply) -> Stop {
+        match reply.status {
+            sys::VICTIM => Stop::Victim,
+            sys::MOVED => Stop::Moved,
+            sys::GONE => Stop::Gone,
+            sys::TIMED_OUT => Stop::TimedOut,
+            sys::NOT_WAITING => Stop::Cancelled,
+            _ => Stop::Refused(Refusal::of(reply)),
+        }
+    }
 }
 
 /// What it is, for a log.
@@ -66,11 +83,32 @@ pub enum RowLocked {
 }
 
 impl RowLocked {
+    /// By what a lock was answered; `None` if it was not granted.
+    pub(crate) fn of(reply: &Reply) -> Option<RowLocked> {
+        match reply.status {
+            sys::DONE => Some(RowLocked::Own(Mode::of(reply.mode))),
+            sys::OTHER_KEYS => Some(RowLocked::OtherKeys(Mode::of(reply.mode))),
+            _ => None,
+        }
+    }
+
     /// The mode in which it is held.
-    pub(crate) fn mode(self) -> Mode {
+    fn mode(self) -> Mode {
         match self {
             RowLocked::Own(mode) | RowLocked::OtherKeys(mode) => mode,
         }
+    }
+}
+
+/// How a lock was answered, or its wait ended.
+pub(crate) type Ended = Result<RowLocked, Stop>;
+
+/// By what a lock was answered.
+#[inline(always)]
+pub(crate) fn ended(reply: &Reply) -> Ended {
+    match RowLocked::of(reply) {
+        Some(locked) => Ok(locked),
+        None => Err(Stop::of(reply)),
     }
 }
 
@@ -84,6 +122,17 @@ pub enum Tried<T> {
     WouldBlock(Node),
 }
 
+impl Tried<RowLocked> {
+    /// By what a try was answered.
+    fn of(reply: &Reply) -> Result<Tried<RowLocked>, Refusal> {
+        match RowLocked::of(reply) {
+            Some(locked) => Ok(Tried::Locked(locked)),
+            None if reply.status == sys::WOULD_BLOCK => Ok(Tried::WouldBlock(reply.node)),
+            None => Err(Refusal::of(reply)),
+        }
+    }
+}
+
 /// What a failed try of a path keeps of the locks that it acquired.
 #[derive(Clone, Copy, PartialEq, Eq, Hash, Debug)]
 pub enum Keep {
@@ -91,6 +140,15 @@ pub enum Keep {
     Nothing,
     /// All of it.
     Way,
+}
+
+impl Keep {
+    fn as_number(self) -> u32 {
+        match self {
+            Keep::Nothing => shared::KEEP_NOTHING,
+            Keep::Way => shared::KEEP_WAY,
+        }
+    }
 }
 
 /// A try of a list ([`Session::try_first`]).
@@ -123,6 +181,19 @@ pub enum Try<'a> {
     },
 }
 
+impl<'a> Try<'a> {
+    /// As a command of a transaction.
+    fn command(&self, txn: Txn) -> Command<'a> {
+        match *self {
+            Try::Node { node, mode } => Command::try_node(txn, node, mode as u32),
+            Try::Path { node, mode, keep } => {
+                Command::try_path(txn, node, mode as u32, keep.as_number())
+            }
+            Try::Row { row, keys, mode } => Command::try_row(txn, row, keys, mode as u32),
+        }
+    }
+}
+
 /// The try of a list that was done.
 #[derive(Clone, Copy, PartialEq, Eq, Hash, Debug)]
 pub struct Taken {
@@ -134,7 +205,8 @@ pub struct Taken {
 
 /// A transaction of a [`Table`], which one thread drives. A lock call sleeps until the lock is granted.
 /// A session that is dropped without a commit is aborted, so that its locks never outlive it: undo what
-/// it wrote first. It borrows its table, or is one of its owners ([`Table::begin_shared`]).
+/// it wrote first. Within the closure of [`Table::with`] it cannot be aborted: a drop panics there. It borrows
+/// its table, or is one of its owners ([`Table::begin_shared`]).
 ///
 /// ```
 /// use burlapslate::{Detect, Mode, Table, SLOTS};
@@ -218,12 +290,18 @@ impl<'t> Session<'t> {
         self.deadline = deadline;
     }
 
+    /// The table for one call of the library.
+    fn call(&self) -> Calling<'_> {
+        self.table.call()
+    }
+
     /// The earlier of this time and its own.
     fn until(&self, time: Option<Instant>) -> Option<Instant> {
         time.into_iter().chain(self.deadline).min()
     }
 
     /// Locks a node or a path, within the earlier of this time and its own.
+    #[inline(always)]
     fn sought(&mut self, sought: Sought<'_>, time: Option<Instant>) -> Result<Mode, Stop> {
         let locked = self.table.lock(self.txn, sought, self.until(time));
         locked.map(RowLocked::mode)
@@ -237,21 +315,22 @@ impl<'t> Session<'t> {
         mode: Mode,
         time: Option<Instant>,
     ) -> Result<RowLocked, Stop> {
-        let sought = Sought::Row { row, keys, mode };
+        let sought = Sought::Row(row, keys, mode as u32);
         self.table.lock(self.txn, sought, self.until(time))
     }
 
-    /// Locks a node or a path, for a task.
-    async fn sought_async(&mut self, sought: Sought<'_>) -> Result<Mode, Stop> {
-        let until = self.until(None);
-        let locked = self.table.lock_async(self.txn, sought, until).await;
-        locked.map(RowLocked::mode)
+    /// Locks what is requested, for a task.
+    fn locking<'a>(&'a mut self, sought: Sought<'a>) -> Locking<'a> {
+        Locking::new(&self.table, self.txn, sought, self.until(None))
     }
 
     /// As [`Manager::lock`](crate::Manager::lock), but the call sleeps until the lock is granted or the
     /// wait ends otherwise. It answers the mode that is held then.
+    ///
+    /// This call, and each other that may sleep, is refused with [`InUse`](Refusal::InUse) in a waker and while
+    /// the thread holds a table ([`Table::with`]).
     pub fn lock(&mut self, node: Node, mode: Mode) -> Result<Mode, Stop> {
-        self.sought(Sought::node(node, mode, Stay::Kept), None)
+        self.sought(Sought::node(node, mode), None)
     }
 
     /// As [`lock`](Session::lock), for an instant: the lock is requested and waited for as any other, and
@@ -274,13 +353,13 @@ impl<'t> Session<'t> {
     /// # Ok::<(), Stop>(())
     /// ```
     pub fn lock_instant(&mut self, node: Node, mode: Mode) -> Result<Mode, Stop> {
-        self.sought(Sought::node(node, mode, Stay::Instant), None)
+        self.sought(Sought::node_instant(node, mode), None)
     }
 
     /// As [`lock_path`](Session::lock_path), with the node itself for an instant, as
     /// [`lock_instant`](Session::lock_instant). The locks above it stay.
     pub fn lock_path_instant(&mut self, node: Node, mode: Mode) -> Result<Mode, Stop> {
-        self.sought(Sought::path(node, mode, Stay::Instant), None)
+        self.sought(Sought::path_instant(node, mode), None)
     }
 
     /// As [`lock`](Session::lock), but after this time the wait is cancelled and answered with
@@ -299,12 +378,12 @@ impl<'t> Session<'t> {
     /// # Ok::<(), burlapslate::Refusal>(())
     /// ```
     pub fn lock_timeout(&mut self, node: Node, mode: Mode, time: Duration) -> Result<Mode, Stop> {
-        self.sought(Sought::node(node, mode, Stay::Kept), deadline(time))
+        self.sought(Sought::node(node, mode), deadline(time))
     }
 
     /// As [`lock_timeout`](Session::lock_timeout), with the time at which the wait is cancelled.
     pub fn lock_until(&mut self, node: Node, mode: Mode, until: Instant) -> Result<Mode, Stop> {
-        self.sought(Sought::node(node, mode, Stay::Kept), Some(until))
+        self.sought(Sought::node(node, mode), Some(until))
     }
 
     /// Locks a node with what must be held above it: intentions, root first, on all parents to write; to
@@ -325,7 +404,7 @@ impl<'t> Session<'t> {
     /// # Ok::<(), burlapslate::Refusal>(())
     /// ```
     pub fn lock_path(&mut self, node: Node, mode: Mode) -> Result<Mode, Stop> {
-        self.sought(Sought::path(node, mode, Stay::Kept), None)
+        self.sought(Sought::path(node, mode), None)
     }
 
     /// As [`lock_path`](Session::lock_path), within this time.
@@ -335,7 +414,7 @@ impl<'t> Session<'t> {
         mode: Mode,
         time: Duration,
     ) -> Result<Mode, Stop> {
-        self.sought(Sought::path(node, mode, Stay::Kept), deadline(time))
+        self.sought(Sought::path(node, mode), deadline(time))
     }
 
     /// As [`lock_path_timeout`](Session::lock_path_timeout), with the time at which a wait is cancelled.
@@ -345,7 +424,7 @@ impl<'t> Session<'t> {
         mode: Mode,
         until: Instant,
     ) -> Result<Mode, Stop> {
-        self.sought(Sought::path(node, mode, Stay::Kept), Some(until))
+        self.sought(Sought::path(node, mode), Some(until))
     }
 
     /// As [`Manager::lock_row`](crate::Manager::lock_row), but the call sleeps until the row is granted or
@@ -398,14 +477,18 @@ impl<'t> Session<'t> {
     /// As [`lock`](Session::lock), for a task: no thread sleeps while the lock waits, and the task is woken
     /// when the wait is over. It needs no runtime, and requests the lock at the first poll.
     ///
+    /// The thread that ends the wait wakes the task, within its call of the table and without the latch. So the
+    /// waker may call the table, as by polling the future, and delays that thread alone. In a waker each call
+    /// that could sleep is refused with [`InUse`](Refusal::InUse). If it panics, that call of the thread panics
+    /// after all that it does.
+    ///
     /// A future that is dropped while it waits cancels its wait. If the lock was granted by then, the
     /// transaction keeps it until its end, as all its locks: no command lowers a mode. So a task that gave
     /// up a lock by a timeout may request it again, and it is granted at once. If the transaction was
-    /// condemned by then, it can only abort. A leaked future waits on until the session is dropped; a
-    /// leaked path counts as one that continues until the session's next wait.
+    /// condemned by then, it can only abort. A leaked future waits on until the session is dropped.
     ///
-    /// The session's deadline counts ([`set_deadline`](Session::set_deadline)) if the future is polled then
-    /// ([`Table::expire`]).
+    /// The session's deadline counts ([`set_deadline`](Session::set_deadline)) if the future is polled then, or
+    /// by [`Table::expire`].
     ///
     /// ```
     /// # use burlapslate::{Detect, Mode, Table, SLOTS};
@@ -430,22 +513,22 @@ impl<'t> Session<'t> {
     /// # Ok::<(), burlapslate::Refusal>(())
     /// ```
     pub async fn lock_async(&mut self, node: Node, mode: Mode) -> Result<Mode, Stop> {
-        self.sought_async(Sought::node(node, mode, Stay::Kept))
-            .await
+        let locked = self.locking(Sought::node(node, mode)).await;
+        locked.map(RowLocked::mode)
     }
 
     /// As [`lock_instant`](Session::lock_instant), for a task, as [`lock_async`](Session::lock_async).
     pub async fn lock_instant_async(&mut self, node: Node, mode: Mode) -> Result<Mode, Stop> {
-        self.sought_async(Sought::node(node, mode, Stay::Instant))
-            .await
+        let locked = self.locking(Sought::node_instant(node, mode)).await;
+        locked.map(RowLocked::mode)
     }
 
-    /// As [`lock_path`](Session::lock_path), for a task, as [`lock_async`](Session::lock_async). After each
-    /// grant on the way the task is woken, to request the next lock. If the future is dropped, the locks
-    /// acquired before stay.
+    /// As [`lock_path`](Session::lock_path), for a task, as [`lock_async`](Session::lock_async). The call that
+    /// grants a lock on the way requests the next one, and the task is woken at the end of the path. If the
+    /// future is dropped, the locks acquired before stay.
     pub async fn lock_path_async(&mut self, node: Node, mode: Mode) -> Result<Mode, Stop> {
-        self.sought_async(Sought::path(node, mode, Stay::Kept))
-            .await
+        let locked = self.locking(Sought::path(node, mode)).await;
+        locked.map(RowLocked::mode)
     }
 
     /// As [`lock_row`](Session::lock_row), for a task, as [`lock_async`](Session::lock_async). If the future
@@ -456,9 +539,7 @@ impl<'t> Session<'t> {
         keys: &[u64],
         mode: Mode,
     ) -> Result<RowLocked, Stop> {
-        let until = self.until(None);
-        let sought = Sought::Row { row, keys, mode };
-        self.table.lock_async(self.txn, sought, until).await
+        self.locking(Sought::Row(row, keys, mode as u32)).await
     }
 
     /// Locks a node with what must be held above it, as [`lock_path`](Session::lock_path) does, but each
@@ -495,7 +576,12 @@ impl<'t> Session<'t> {
         mode: Mode,
         keep: Keep,
     ) -> Result<Tried<Mode>, Refusal> {
-        self.table.try_lock_path(self.txn, node, mode, keep)
+        let (mode, keep) = (mode as u32, keep.as_number());
+        let reply = shared::bs_table_try_path(&self.call(), self.txn, node, mode, keep);
+        Ok(match Tried::of(&reply)? {
+            Tried::Locked(locked) => Tried::Locked(locked.mode()),
+            Tried::WouldBlock(node) => Tried::WouldBlock(node),
+        })
     }
 
     /// As [`lock_row`](Session::lock_row), but the call never sleeps, joins no queue and makes nobody a
@@ -510,14 +596,15 @@ impl<'t> Session<'t> {
         keys: &[u64],
         mode: Mode,
     ) -> Result<Tried<RowLocked>, Refusal> {
-        self.table.try_lock_row(self.txn, row, keys, mode)
+        let reply = shared::try_row(&self.call(), self.txn, row, keys, mode as u32);
+        Tried::of(&reply)
     }
 
     /// Makes tries one after the other in one hold of the latch, up to the first that is done: `None` if there is none.
     /// A try is passed over if it would block, if its record or row has moved to where the transaction holds nothing
     /// above it ([`NeedParents`](Refusal::NeedParents)), and if it is gone ([`NoSuchNode`](Refusal::NoSuchNode)). Of a
     /// path that is passed over nothing is kept but what its `keep` says. The first try that is refused otherwise ends
-    /// the list, and is answered.
+    /// the list, and is answered. Takes memory for the list.
     ///
     /// ```
     /// # use burlapslate::{Detect, Mode, Row, Table, Try, SLOTS};
@@ -537,33 +624,55 @@ impl<'t> Session<'t> {
     /// # Ok::<(), burlapslate::Refusal>(())
     /// ```
     pub fn try_first(&mut self, tries: &[Try<'_>]) -> Result<Option<Taken>, Refusal> {
-        self.table.try_first(self.txn, tries)
+        let mut commands = Vec::new();
+        let room = commands.try_reserve_exact(tries.len());
+        room.map_err(|_refused| Refusal::NoMemory)?;
+        commands.extend(tries.iter().map(|each| each.command(self.txn)));
+        let place = shared::try_first(&self.call(), &mut commands);
+        let Some(Command { reply, .. }) = commands.get(place) else {
+            return Ok(None);
+        };
+        match RowLocked::of(reply) {
+            Some(locked) => Ok(Some(Taken { place, locked })),
+            None => Err(Refusal::of(reply)),
+        }
     }
 
     /// As [`Manager::unlock_row`](crate::Manager::unlock_row).
     pub fn unlock_row(&mut self, row: Row) -> Result<(), Refusal> {
-        self.table.serve(|m| m.unlock_row(self.txn, row).map(drop))
+        let Row { file, number } = row;
+        done(shared::bs_table_unlock_row(
+            &self.call(),
+            self.txn,
+            file,
+            number,
+            None,
+        ))
     }
 
     /// As [`Manager::rekey_row`](crate::Manager::rekey_row).
     pub fn rekey_row(&mut self, row: Row, index: Node, key: u64) -> Result<(), Refusal> {
-        self.table
-            .serve(|m| m.rekey_row(self.txn, row, index, key).map(drop))
+        let (table, Row { file, number }) = (&self.call(), row);
+        done(shared::bs_table_rekey_row(
+            table, self.txn, file, number, index, key, None,
+        ))
     }
 
     /// As [`Manager::try_lock`](crate::Manager::try_lock).
     pub fn try_lock(&mut self, node: Node, mode: Mode) -> Result<Mode, Refusal> {
-        self.table.ask(|m| m.try_lock(self.txn, node, mode))
+        let reply = shared::bs_table_try(&self.call(), self.txn, node, mode as u32);
+        accepted(reply).map(|reply| Mode::of(reply.mode))
     }
 
     /// As [`Manager::unlock`](crate::Manager::unlock).
     pub fn unlock(&mut self, node: Node) -> Result<(), Refusal> {
-        self.table.serve(|m| m.unlock(self.txn, node).map(drop))
+        done(shared::bs_table_unlock(&self.call(), self.txn, node, None))
     }
 
     /// As [`Manager::mark`](crate::Manager::mark).
     pub fn mark(&self) -> Result<Mark, Refusal> {
-        self.table.with(|m| m.mark(self.txn))
+        let reply = accepted(shared::bs_table_mark(&self.call(), self.txn))?;
+        Ok(Mark(reply.count as usize))
     }
 
     /// As [`Manager::release_since`](crate::Manager::release_since): how many nodes it released.
@@ -582,44 +691,49 @@ impl<'t> Session<'t> {
     /// # Ok::<(), Stop>(())
     /// ```
     pub fn release_since(&mut self, mark: Mark) -> Result<usize, Refusal> {
-        self.table.serve(|m| {
-            m.release_since(self.txn, mark)
-                .map(|(released, _)| released)
-        })
+        let savepoint = mark.0 as u64;
+        let reply = shared::bs_table_release_since(&self.call(), self.txn, savepoint, None);
+        accepted(reply).map(|reply| reply.count as usize)
     }
 
     /// As [`Manager::escalate`](crate::Manager::escalate).
     pub fn escalate(&mut self, node: Node) -> Result<Escalated, Refusal> {
-        self.table
-            .serve(|m| m.escalate(self.txn, node).map(|(escalated, _)| escalated))
+        let reply = shared::bs_table_escalate(&self.call(), self.txn, node, None);
+        accepted(reply).map(|reply| Escalated::of(&reply))
     }
 
     /// As [`Manager::insert`](crate::Manager::insert).
     pub fn insert(&mut self, file: Node, keys: &[u64]) -> Result<Node, Refusal> {
-        self.table.ask(|m| m.insert(self.txn, file, keys))
+        node_of(shared::insert(&self.call(), self.txn, file, keys))
     }
 
     /// As [`Manager::delete`](crate::Manager::delete). Threads that sleep for the record are woken.
     pub fn delete(&mut self, record: Node) -> Result<(), Refusal> {
-        self.table.serve(|m| m.delete(self.txn, record).map(drop))
+        done(shared::bs_table_delete(
+            &self.call(),
+            self.txn,
+            record,
+            None,
+        ))
     }
 
     /// As [`Manager::rekey`](crate::Manager::rekey).
     pub fn rekey(&mut self, record: Node, index: Node, key: u64) -> Result<(), Refusal> {
-        self.table
-            .serve(|m| m.rekey(self.txn, record, index, key).map(drop))
+        let table = &self.call();
+        done(shared::bs_table_rekey(
+            table, self.txn, record, index, key, None,
+        ))
     }
 
     /// As [`Manager::move_node`](crate::Manager::move_node).
     pub fn move_node(&mut self, node: Node, parents: &[Node]) -> Result<(), Refusal> {
-        self.table
-            .serve(|m| m.move_node(self.txn, node, parents).map(drop))
+        done(shared::move_node(&self.call(), self.txn, node, parents))
     }
 
     /// As [`Manager::drop_node`](crate::Manager::drop_node). Threads that sleep for the node are woken and
     /// answered [`Stop::Gone`].
     pub fn drop_node(&mut self, node: Node) -> Result<(), Refusal> {
-        self.table.serve(|m| m.drop_node(self.txn, node).map(drop))
+        done(shared::bs_table_drop(&self.call(), self.txn, node, None))
     }
 
     /// As [`Manager::index_by`](crate::Manager::index_by).
@@ -629,8 +743,13 @@ impl<'t> Session<'t> {
         file: Node,
         bounds: &[u64],
     ) -> Result<Node, Refusal> {
-        self.table
-            .ask(|m| m.index_by(self.txn, parents, file, bounds))
+        node_of(shared::index_by(
+            &self.call(),
+            self.txn,
+            parents,
+            file,
+            bounds,
+        ))
     }
 
     /// Commits, wakes the waiters that are granted by it, and lets its rows go. If the commit is refused,
@@ -638,7 +757,7 @@ impl<'t> Session<'t> {
     ///
     /// Refused as [`Manager::commit`](crate::Manager::commit).
     pub fn commit(mut self) -> Result<(), Refusal> {
-        let end = self.table.serve(|m| m.commit(self.txn).map(drop));
+        let end = self.table.commit(self.txn);
         self.has_ended = end.is_ok();
         end
     }
@@ -657,7 +776,12 @@ impl<'t> Session<'t> {
 impl Drop for Session<'_> {
     fn drop(&mut self) {
         if !self.has_ended {
-            let _ = self.table.abort(self.txn); // Refused if another thread has ended it.
+            let end = self.table.abort(self.txn); // Refused if another thread has ended it.
+            let is_lost = end == Err(Refusal::InUse) && !thread::panicking();
+            assert!(
+                !is_lost,
+                "a session was dropped while its thread held the table"
+            );
         }
     }
 }

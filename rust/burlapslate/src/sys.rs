@@ -1,4 +1,5 @@
-//! The library's calls, as `include/burlapslate_calls.h` declares them. All that is unsafe stands here.
+//! The library's calls, as `include/burlapslate_calls.h` declares them. All unsafe code is here, in
+//! [`shared`] and in [`awaited`].
 //!
 //! A reference stands for a pointer that is not null, and says for the call what the header asks of
 //! it: what a call writes is behind a `&mut`, so it overlaps with nothing else and nobody else uses
@@ -6,10 +7,10 @@
 //! those with a list, whose count is a word beside it: each of them has a safe one that takes a
 //! slice.
 //!
-//! A [`Place`] is made by [`Pinned::new`] alone, as zero, and stays where it is. It is changed by
-//! questions too, which take what it has out and put it back: so they take it by `&`, and what they
-//! change is in an `UnsafeCell`. It is not `Sync`, so no two threads are in questions of one
-//! manager at once; and no call calls back, so a question never meets another one half done.
+//! A [`Place`] is made by [`Pinned::new`], as zero, or is that of a table, and stays where it is. It is
+//! changed by questions too, which take what it has out and put it back: so they take it by `&`, and what
+//! they change is in an `UnsafeCell`. It is not `Sync`, so no two threads are in questions of one
+//! manager at once; and no call of a manager calls back, so a question never meets another one half done.
 
 use crate::board::Slots;
 use crate::listing::Counters;
@@ -18,6 +19,11 @@ use crate::{FITS, SLOTS};
 use std::alloc::{alloc_zeroed, Layout};
 use std::cell::UnsafeCell;
 use std::ffi::c_void;
+use std::panic::UnwindSafe;
+use std::ptr::NonNull;
+
+pub(crate) mod awaited;
+pub(crate) mod shared;
 
 pub(crate) const DONE: u32 = 0;
 pub(crate) const NO_MEMORY: u32 = 1;
@@ -45,9 +51,12 @@ pub(crate) const WAITING: u32 = 32;
 pub(crate) const VICTIM: u32 = 33;
 pub(crate) const MOVED: u32 = 34;
 pub(crate) const GONE: u32 = 35;
+pub(crate) const TIMED_OUT: u32 = 36;
 pub(crate) const ON_THE_WAY: u32 = 37;
 pub(crate) const OTHER_KEYS: u32 = 38;
+pub(crate) const NO_MANAGER: u32 = 65;
 pub(crate) const BAD_NUMBER: u32 = 66;
+pub(crate) const IN_USE: u32 = 67;
 pub(crate) const NO_PLACE: u32 = 68;
 pub(crate) const TOO_MANY_WATCHERS: u32 = 70;
 pub(crate) const ROWS_BY_NUMBER: u32 = 71;
@@ -188,18 +197,86 @@ pub(crate) struct Found {
     pub(crate) slots: Slots,
 }
 
-/// What stays where it is on the heap: the place of a manager, and the notices of its last command.
-pub(crate) struct Pinned {
-    pub(crate) place: Place,
-    pub(crate) told: Notices,
+/// `bs_options`, with each number chosen.
+#[repr(C)]
+pub(crate) struct Options {
+    pub(crate) detect: u32,
+    pub(crate) victims: u32,
+    pub(crate) transactions: u32,
+    pub(crate) nodes: u32,
+    pub(crate) bounds: u32,
 }
+
+/// What stays where it is on the heap: the place of a manager, and the notices of its last command.
+struct Own {
+    place: Place,
+    told: Notices,
+}
+
+/// A manager in its place: one's own, which ends with this, or that of a table, which is lent for questions.
+pub(crate) struct Pinned {
+    place: NonNull<Place>,
+    own: Option<NonNull<Own>>,
+}
+
+// SAFETY: what is pinned is its owner's alone, and can go to another thread as a `Place` can.
+unsafe impl Send for Pinned {}
 
 impl Pinned {
     /// A place without a manager, and no notices; `None` if memory is refused.
-    pub(crate) fn new() -> Option<Box<Pinned>> {
+    pub(crate) fn new() -> Option<Pinned> {
         assert_fits();
         // SAFETY: zero in all bytes is a value of it: numbers, `false`, and a null pointer.
-        unsafe { zeroed() }
+        let own = NonNull::from(Box::leak(unsafe { zeroed::<Own>() }?));
+        // SAFETY: it is there until the drop.
+        let place = unsafe { NonNull::new_unchecked(&raw mut (*own.as_ptr()).place) };
+        Some(Pinned {
+            place,
+            own: Some(own),
+        })
+    }
+
+    /// The manager of a table.
+    ///
+    /// # Safety
+    ///
+    /// It is there for as long as this is used, and no other thread uses it.
+    unsafe fn lent(place: NonNull<Place>) -> Pinned {
+        Pinned { place, own: None }
+    }
+
+    pub(crate) fn place(&self) -> &Place {
+        // SAFETY: it is there until the drop, and what changes by `&` is in an `UnsafeCell`.
+        unsafe { self.place.as_ref() }
+    }
+
+    pub(crate) fn place_mut(&mut self) -> &mut Place {
+        // SAFETY: it is there until the drop, and by `&mut self` nobody else uses it.
+        unsafe { self.place.as_mut() }
+    }
+
+    /// The place, and the notices that a command writes. A manager that is lent has none, and makes no command.
+    pub(crate) fn parts(&mut self) -> (&mut Place, &mut Notices) {
+        let own = self
+            .own
+            .as_mut()
+            .expect("a command of a manager of one's own");
+        // SAFETY: both are there until the drop, and by `&mut self` nobody else uses them.
+        let Own { place, told } = unsafe { own.as_mut() };
+        (place, told)
+    }
+}
+
+// By `&` it can only be asked.
+impl UnwindSafe for Pinned {}
+
+impl Drop for Pinned {
+    fn drop(&mut self) {
+        if let Some(own) = self.own {
+            bs_call_end(self.place_mut());
+            // SAFETY: it is of `new`, which leaked the box, and is dropped once.
+            drop(unsafe { Box::from_raw(own.as_ptr()) });
+        }
     }
 }
 
@@ -229,7 +306,7 @@ unsafe extern "C" {
         nodes: u32,
         bounds: u32,
     ) -> Reply;
-    pub(crate) safe fn bs_call_end(manager: &mut Place) -> Reply;
+    safe fn bs_call_end(manager: &mut Place) -> Reply;
 
     fn bs_call_add_inner(manager: &mut Place, parents: *const Node, count: usize) -> Reply;
     fn bs_call_add_file(manager: &mut Place, parents: *const Node, count: usize) -> Reply;

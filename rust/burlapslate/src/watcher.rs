@@ -1,9 +1,8 @@
 //! Watchers: who waits for whom, without the mutex of a table.
 
 use crate::board::Board;
-use crate::manager::Manager;
 use crate::refusal::{accepted, Refusal};
-use crate::sys::{self, WatcherPlace};
+use crate::sys::{self, Reply, WatcherPlace};
 use std::fmt;
 
 /// A watcher reads the boards that a manager publishes, with no mutex and no wait.
@@ -31,10 +30,12 @@ pub struct Watcher {
 }
 
 impl Watcher {
-    /// A watcher of a manager.
-    pub(crate) fn of(manager: &Manager) -> Result<Watcher, Refusal> {
+    /// A watcher that this call of a manager or a table makes in its place.
+    pub(crate) fn made_by(
+        watch: impl FnOnce(&mut WatcherPlace) -> Reply,
+    ) -> Result<Watcher, Refusal> {
         let mut place = WatcherPlace::new().ok_or(Refusal::NoMemory)?;
-        accepted(sys::bs_call_watch(manager.as_place(), &mut place))?;
+        accepted(watch(&mut place))?;
         Ok(Watcher { place })
     }
 

@@ -264,6 +264,7 @@ fn a_watch_condemns_a_task() {
     });
 }
 
+/// A path continues within the call that grants a lock on its way; its task is woken at its end.
 #[test]
 fn a_path_goes_on() {
     let store = Store::new(Detect::AtBlock);
@@ -276,11 +277,11 @@ fn a_path_goes_on() {
     assert_eq!(poll(&mut lock, &waker), Poll::Pending);
     assert_eq!(store.waits_for(name), Some(store.below));
     second.commit().unwrap();
-    assert_eq!(bell.rung(), 1);
-    assert_eq!(poll(&mut lock, &waker), Poll::Pending);
+    assert_eq!(bell.rung(), 0);
     assert_eq!(store.waits_for(name), Some(store.low));
+    assert_eq!(poll(&mut lock, &waker), Poll::Pending);
     first.commit().unwrap();
-    assert_eq!(bell.rung(), 2);
+    assert_eq!(bell.rung(), 1);
     assert_eq!(poll(&mut lock, &waker), Poll::Ready(Ok(Mode::X)));
     assert_eq!(store.held(name, store.below), Mode::IX);
 }
@@ -296,33 +297,46 @@ fn a_path_begins_anew() {
     let mut lock = pin!(requester.lock_path_async(store.low, Mode::X));
     assert_eq!(poll(&mut lock, &waker), Poll::Pending);
     first.rekey(store.low, store.index, 150).unwrap();
-    assert_eq!(bell.rung(), 1);
-    assert_eq!(poll(&mut lock, &waker), Poll::Pending);
+    assert_eq!(bell.rung(), 0);
     assert_eq!(store.held(name, store.above), Mode::IX);
+    assert_eq!(poll(&mut lock, &waker), Poll::Pending);
     first.commit().unwrap();
+    assert_eq!(bell.rung(), 1);
     assert_eq!(poll(&mut lock, &waker), Poll::Ready(Ok(Mode::X)));
 }
 
-/// A path whose lock on the way is granted, and that was not polled since, is cancelled.
+/// A path whose lock on the way was granted, and that was not polled since, is cancelled at its next wait; if it has
+/// none, it is at its end, and there is nothing to cancel.
 #[test]
 fn a_path_is_cancelled_on_its_way() {
-    let store = Store::new(Detect::AtBlock);
-    let (_bell, waker) = store.bell();
-    let (mut first, mut requester) = (store.begin(), store.begin());
-    let name = requester.txn();
-    first.lock_path(store.below, Mode::S).unwrap();
-    {
-        let mut lock = pin!(requester.lock_path_async(store.low, Mode::X));
-        assert_eq!(poll(&mut lock, &waker), Poll::Pending);
-        first.commit().unwrap();
-        assert_eq!(store.table.cancel(name), Ok(()));
-        assert_eq!(poll(&mut lock, &waker), Poll::Ready(Err(Stop::Cancelled)));
+    for has_next in [false, true] {
+        let store = Store::new(Detect::AtBlock);
+        let (_bell, waker) = store.bell();
+        let (mut first, mut reader, mut requester) = (store.begin(), store.begin(), store.begin());
+        let name = requester.txn();
+        first.lock_path(store.below, Mode::S).unwrap();
+        if has_next {
+            reader.lock_path(store.low, Mode::S).unwrap();
+        }
+        {
+            let mut lock = pin!(requester.lock_path_async(store.low, Mode::X));
+            assert_eq!(poll(&mut lock, &waker), Poll::Pending);
+            first.commit().unwrap();
+            let (cancelled, end) = if has_next {
+                (Ok(()), Err(Stop::Cancelled))
+            } else {
+                (Err(Refusal::NotWaiting), Ok(Mode::X))
+            };
+            assert_eq!(store.table.cancel(name), cancelled);
+            assert_eq!(poll(&mut lock, &waker), Poll::Ready(end));
+        }
+        assert_eq!(store.table.cancel(name), Err(Refusal::NotWaiting));
+        drop(reader);
+        assert_eq!(requester.lock_path(store.low, Mode::X), Ok(Mode::X));
     }
-    assert_eq!(store.table.cancel(name), Err(Refusal::NotWaiting));
-    assert_eq!(requester.lock_path(store.low, Mode::X), Ok(Mode::X));
 }
 
-/// One that is dropped there is no path any more.
+/// The locks of a path that is dropped after its last grant stay.
 #[test]
 fn a_path_is_dropped_on_its_way() {
     let store = Store::new(Detect::AtBlock);
@@ -337,6 +351,7 @@ fn a_path_is_dropped_on_its_way() {
     }
     assert_eq!(store.table.cancel(name), Err(Refusal::NotWaiting));
     assert_eq!(store.held(name, store.below), Mode::IX);
+    assert_eq!(store.held(name, store.low), Mode::X);
     requester.commit().unwrap();
 }
 
@@ -398,8 +413,8 @@ fn a_path_is_cancelled_between_two_locks() {
     assert_eq!(store.table.cancel(name), Err(Refusal::NotWaiting));
 }
 
-/// The future of a path is leaked where it was granted on its way: it counts as a path that continues, which a cancel
-/// ends, until the session waits again. The next wait is one like any other.
+/// The future of a path is leaked while it waits on its way: the path continues to its end, and there is nothing to cancel
+/// then. The next wait is one like any other.
 #[test]
 fn a_path_is_leaked_on_its_way() {
     let store = Store::new(Detect::AtBlock);
@@ -412,7 +427,8 @@ fn a_path_is_leaked_on_its_way() {
     assert_eq!(poll(&mut path.as_mut(), &waker), Poll::Pending);
     std::mem::forget(path);
     first.commit().unwrap();
-    assert_eq!(store.table.cancel(name), Ok(()));
+    assert_eq!(store.held(name, store.low), Mode::X);
+    assert_eq!(store.table.cancel(name), Err(Refusal::NotWaiting));
     {
         let mut lock = pin!(requester.lock_async(store.above, Mode::IX));
         assert_eq!(poll(&mut lock, &waker), Poll::Pending);

@@ -10,7 +10,7 @@ mod common;
 
 use burlapslate::{
     Detect, Keep, Manager, Mode, Node, Notice, Refusal, Row, RowAsked, RowLocked, Session, Stop,
-    Table, Tried, Txn, SLOTS,
+    Table, Taken, Tried, Try, Txn, SLOTS,
 };
 use common::{at_block, begin, grant, manager, store, wait};
 use std::cell::Cell;
@@ -18,7 +18,6 @@ use std::ffi::c_void;
 use std::future::Future;
 use std::mem::forget;
 use std::ptr::null_mut;
-use std::sync::atomic::{AtomicBool, Ordering};
 use std::sync::Arc;
 use std::task::{Context, Poll, Wake, Waker};
 use std::thread;
@@ -42,11 +41,7 @@ enum Refused {
     /// One, and all behind it.
     From(usize),
     All,
-    /// All, once [`IS_TOLD`] says so.
-    WhenTold,
 }
-
-static IS_TOLD: AtomicBool = AtomicBool::new(false);
 
 thread_local! {
     static REFUSED: Cell<Refused> = const { Cell::new(Refused::None) };
@@ -71,7 +66,6 @@ fn is_refused() -> bool {
             false
         }
         Refused::All => true,
-        Refused::WhenTold => IS_TOLD.load(Ordering::SeqCst),
     }
 }
 
@@ -175,6 +169,42 @@ fn managers_that_are_not_made() {
     assert!(n > 3);
     let refused = without_memory(|| Manager::new(Detect::AtBlock, 0).map(drop));
     assert_eq!(refused, Err(Refusal::BadNumber));
+}
+
+/// Tables that are made or not leave nothing behind.
+#[test]
+fn tables_that_are_not_made() {
+    let before = BLOCKS.get();
+    let mut n = 1;
+    loop {
+        let (made, left) = refusing(Refused::Nth(n), || Table::new(Detect::AtBlock, SLOTS));
+        if left != Refused::None {
+            assert!(made.is_ok());
+            break;
+        }
+        assert_eq!(made.unwrap_err(), Refusal::NoMemory);
+        assert_eq!(BLOCKS.get(), before);
+        n += 1;
+    }
+    assert!(n > 4);
+    assert_eq!(BLOCKS.get(), before);
+}
+
+/// A list of tries for which there is no memory locks nothing.
+#[test]
+fn a_list_that_is_not_made() {
+    let table = Table::new(Detect::AtBlock, SLOTS).unwrap();
+    let node = table.add_inner(&[]).unwrap();
+    let mut session = table.begin().unwrap();
+    let mode = Mode::S;
+    let tries = [Try::Node { node, mode }];
+    let tried = without_memory(|| session.try_first(&tries));
+    assert_eq!(tried, Err(Refusal::NoMemory));
+    assert_eq!(table.with(|m| m.group(node)), Ok(Mode::NL));
+    assert_eq!(session.try_first(&[]), Ok(None));
+    let locked = RowLocked::Own(mode);
+    let taken = session.try_first(&tries);
+    assert_eq!(taken, Ok(Some(Taken { place: 0, locked })));
 }
 
 /// Watchers that are made or not leave nothing behind.
@@ -309,40 +339,6 @@ fn a_settle_takes_none() {
     );
     let settled = without_memory(|| m.settle(a).map(told));
     assert_eq!(settled, Ok([Some(Notice::Victim { txn: b }), None, None]));
-}
-
-/// Of two that hold S and ask for X the younger falls by whoever watches over the table.
-fn one_is_victim(table: &Table, root: Node) {
-    let (mut older, mut younger) = (table.begin().unwrap(), table.begin().unwrap());
-    older.lock(root, Mode::S).unwrap();
-    younger.lock(root, Mode::S).unwrap();
-    thread::scope(|scope| {
-        let waits = scope.spawn(move || older.lock(root, Mode::X));
-        assert_eq!(younger.lock(root, Mode::X), Err(Stop::Victim));
-        let accepted = table.with(|m| m.accepted());
-        thread::sleep(Duration::from_millis(20));
-        assert_eq!(table.with(|m| m.accepted()), accepted);
-        younger.abort();
-        assert_eq!(waits.join().unwrap(), Ok(Mode::X));
-    });
-}
-
-/// Who watches without the memory to show what it did itself settles once, and sleeps.
-#[test]
-fn who_watches_without_memory_settles_once() {
-    let table = &Table::new(Detect::ByWatcher, SLOTS).unwrap();
-    let root = table.add_inner(&[]).unwrap();
-    thread::scope(|scope| {
-        scope.spawn(|| {
-            REFUSED.set(Refused::WhenTold);
-            table.watch_over(Duration::ZERO).unwrap();
-            REFUSED.set(Refused::None);
-        });
-        one_is_victim(table, root);
-        IS_TOLD.store(true, Ordering::SeqCst); // It has what a watcher takes at its beginning.
-        one_is_victim(table, root);
-        table.end_watch();
-    });
 }
 
 /// A task of this session asks for X on the root, and is left waiting. Whether an allocation was refused then, which is that

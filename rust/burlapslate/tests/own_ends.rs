@@ -76,7 +76,7 @@ fn answer(
         is_task,
     };
     let end = ask.make(&mut caller, until);
-    assert_eq!(loser.ended(), Err(Stop::Refused(Refusal::NoSuchTxn)));
+    assert_eq!(loser.ended(), Err(Stop::Victim)); // So its wait ended, before its waker aborted it.
     assert_eq!(store.waits_for(caller.txn()), None);
     caller.leave();
     drop(holds);

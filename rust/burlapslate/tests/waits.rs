@@ -3,7 +3,9 @@
 
 mod waiters;
 
-use burlapslate::{Detect, Mode, Node, Refusal, Row, RowLocked, Session, Stop, Txn, SLOTS};
+use burlapslate::{
+    Detect, Mode, Node, Refusal, Row, RowLocked, Session, Stop, Txn, MOST_WATCHERS, SLOTS,
+};
 use std::pin::{pin, Pin};
 use std::sync::{Arc, Mutex};
 use std::task::{Context, Poll, Waker};
@@ -151,13 +153,15 @@ fn poll(task: &mut Task) -> Poll<()> {
     task.as_mut().poll(&mut Context::from_waker(&bell()))
 }
 
-/// The next transaction of the slot waits on a path. Whenever the late one is polled, a cancel ends that path.
+/// The next transaction of the slot waits on a path, on its way and then for the record. Whenever the late one is polled, a
+/// cancel ends that path.
 #[test]
 fn a_late_task_and_the_next_path() {
     for is_late in [false, true] {
         let store = Store::new(Detect::AtBlock);
-        let mut reader = store.begin();
+        let (mut reader, mut keeper) = (store.begin(), store.begin());
         reader.lock(store.root, Mode::S).unwrap();
+        keeper.lock_path(store.low, Mode::S).unwrap();
         let (mut late, mut next) = next_in_its_slot(&store);
         let name = next.txn();
         {
@@ -167,6 +171,7 @@ fn a_late_task_and_the_next_path() {
                 assert!(poll(&mut late).is_ready());
             }
             reader.commit().unwrap();
+            assert_eq!(store.waits_for(name), Some(store.low));
             assert_eq!(store.table.cancel(name), Ok(()));
             assert_eq!(
                 poll_by(&mut path, bell()),
@@ -178,6 +183,7 @@ fn a_late_task_and_the_next_path() {
         }
         assert_eq!(store.held(name, store.root), Mode::IX);
         assert_eq!(store.table.cancel(name), Err(Refusal::NotWaiting));
+        keeper.commit().unwrap();
         assert_eq!(next.lock_path(store.low, Mode::X), Ok(Mode::X));
     }
 }
@@ -581,6 +587,8 @@ fn a_watch_frees_the_latch_between_victims() {
         *sees.lock().unwrap() = Some(waits);
     });
     let youngest = sessions.pop().unwrap();
+    let woken = Arc::new(Bell::default());
+    let bell = || Waker::from(Arc::clone(&woken));
     let mut waits: Vec<_> = sessions
         .into_iter()
         .enumerate()
@@ -589,10 +597,46 @@ fn a_watch_frees_the_latch_between_victims() {
     let mut last = store.waits(youngest, nodes[1], Mode::X, waker);
     thread::scope(|scope| {
         scope.spawn(|| store.table.watch_over(Duration::from_secs(3600)).unwrap());
-        await_that(|| store.table.with(|m| m.counters().condemned) == 2);
+        await_that(|| woken.rung() == 1 && seen.lock().unwrap().is_some());
         store.table.end_watch();
     });
     assert_eq!(*seen.lock().unwrap(), Some(true));
     assert_eq!(last.ended(), Err(Stop::Victim));
     assert_eq!(waits[2].ended(), Err(Stop::Victim));
+}
+
+/// Two calls wait for the end of the watch, and one thread watches, also after both have returned.
+#[test]
+fn a_watch_outlives_its_calls() {
+    let store = Store::new(Detect::ByWatcher);
+    let table = &store.table;
+    thread::scope(|scope| {
+        let calls = [(); 2].map(|()| scope.spawn(|| table.watch_over(Duration::ZERO)));
+        a_deadlock_ends(&store);
+        table.end_watch();
+        for call in calls {
+            assert_eq!(call.join().unwrap(), Ok(()));
+        }
+    });
+    let watchers: Vec<_> = (0..).map_while(|_| table.watch().ok()).collect();
+    assert_eq!(watchers.len(), MOST_WATCHERS - 1);
+    assert_eq!(table.watch_over(Duration::ZERO), Ok(()));
+    a_deadlock_ends(&store);
+}
+
+/// Of two that read the root and wait to write it, the younger is condemned.
+fn a_deadlock_ends(store: &Store) {
+    let mut sessions = [(); 2].map(|()| store.begin());
+    for session in &mut sessions {
+        session.lock(store.root, Mode::S).unwrap();
+    }
+    let woken = Arc::new(Bell::default());
+    let bell = || Waker::from(Arc::clone(&woken));
+    let wait = |session| store.waits(session, store.root, Mode::X, bell());
+    let [mut older, mut younger] = sessions.map(wait);
+    await_that(|| woken.rung() == 1);
+    assert_eq!(younger.ended(), Err(Stop::Victim));
+    store.table.abort(younger.name).unwrap();
+    assert_eq!(older.ended(), Ok(Mode::X));
+    store.table.commit(older.name).unwrap();
 }

@@ -1,0 +1,280 @@
+//! Asks of futures, and the ends of their waits, as `include/burlapslate_shared.h` declares the calls of both.
+//!
+//! A slot has one ask that waits at most. So each slot of a table has one place for a waker and for the end of a wait, and
+//! the word of an ask is a number: by that a late end, of an ask that nobody awaits any more, is told from the next one's.
+
+use super::shared::{Shared, Until};
+use super::{numbers, Reply, NO_MANAGER, WAITING};
+use crate::names::{Node, Row, Txn};
+use crate::refusal::Refusal;
+use crate::session::{ended, Ended, Stop};
+use crate::SLOTS;
+use std::any::Any;
+use std::cell::Cell;
+use std::ffi::c_void;
+use std::mem::swap;
+use std::panic::{catch_unwind, resume_unwind, AssertUnwindSafe};
+use std::sync::atomic::{AtomicBool, Ordering};
+use std::sync::{Mutex, MutexGuard, PoisonError};
+use std::task::{Poll, Waker};
+use std::thread;
+
+type OnEnd = unsafe extern "C" fn(*const c_void, Txn, Reply, usize);
+
+// SAFETY: these are the calls of the header, and their types have the layout of its types. The word of an ask is a number.
+unsafe extern "C" {
+    fn bs_table_on_end(table: &Shared, function: OnEnd, context: *const c_void) -> Reply;
+    safe fn bs_table_ask(
+        table: &Shared,
+        txn: Txn,
+        node: Node,
+        mode: u32,
+        until: Until<'_>,
+        word: usize,
+    ) -> Reply;
+    safe fn bs_table_ask_path(
+        table: &Shared,
+        txn: Txn,
+        node: Node,
+        mode: u32,
+        until: Until<'_>,
+        word: usize,
+    ) -> Reply;
+    fn bs_table_ask_row(
+        table: &Shared,
+        txn: Txn,
+        file: Node,
+        number: u64,
+        keys: *const u64,
+        count: usize,
+        mode: u32,
+        until: Until<'_>,
+        word: usize,
+    ) -> Reply;
+}
+
+/// The waits of futures, by slot. The context of the callback points here, so this stays where it is.
+#[repr(transparent)]
+pub(super) struct Waits([Mutex<Wait>; SLOTS]);
+
+/// The wait of a slot's last ask.
+struct Wait {
+    /// That of the ask: each has another.
+    number: usize,
+    waker: Option<Waker>,
+    /// How it ended, after that.
+    end: Option<Ended>,
+}
+
+/// What a session requests. The mode of a lock for an instant says so.
+#[derive(Clone, Copy)]
+pub(crate) enum Sought<'k> {
+    /// A node.
+    Node(Node, u32),
+    /// A node with what must be held above it.
+    Path(Node, u32),
+    /// A row, with its keys.
+    Row(Row, &'k [u64], u32),
+}
+
+impl Waits {
+    /// A place for each slot; `None` if memory is refused.
+    pub(super) fn new() -> Option<Box<Waits>> {
+        let mut places = Vec::new();
+        places.try_reserve_exact(SLOTS).ok()?;
+        places.resize_with(SLOTS, || {
+            Mutex::new(Wait {
+                number: 0,
+                waker: None,
+                end: None,
+            })
+        });
+        let places: Box<[Mutex<Wait>; SLOTS]> = places.into_boxed_slice().try_into().ok()?;
+        // SAFETY: the type is transparent.
+        Some(unsafe { Box::from_raw(Box::into_raw(places).cast()) })
+    }
+
+    /// Makes an ask whose end wakes this waker if it waits; answers its number too.
+    pub(super) fn ask(
+        &self,
+        table: &Shared,
+        txn: Txn,
+        sought: Sought<'_>,
+        until: Until<'_>,
+        waker: &Waker,
+    ) -> (Poll<Ended>, usize) {
+        let word = self.begin(txn, waker.clone());
+        let reply = match sought {
+            Sought::Node(node, mode) => bs_table_ask(table, txn, node, mode, until, word),
+            Sought::Path(node, mode) => bs_table_ask_path(table, txn, node, mode, until, word),
+            Sought::Row(Row { file, number }, keys, mode) => {
+                let (start, count) = (numbers(keys), keys.len());
+                // SAFETY: the count is the list's own.
+                unsafe {
+                    bs_table_ask_row(table, txn, file, number, start, count, mode, until, word)
+                }
+            }
+        };
+        if reply.status == WAITING {
+            return (Poll::Pending, word);
+        }
+        self.forget_waker(txn, word);
+        (Poll::Ready(ended(&reply)), word)
+    }
+
+    /// The number of a new wait. If the slot's last wait still has a waker, its transaction has ended, and the end is not
+    /// told yet: then that task is woken here, since its end finds another number.
+    fn begin(&self, txn: Txn, waker: Waker) -> usize {
+        let mut wait = self.of(txn);
+        wait.number += 1;
+        wait.end = None;
+        let before = wait.waker.replace(waker);
+        let number = wait.number;
+        drop(wait);
+        before.into_iter().for_each(wake);
+        number
+    }
+
+    /// How the wait of this number ended; if it has not, it wakes this waker from now on. If the slot has another wait, the
+    /// transaction has ended.
+    pub(super) fn poll(&self, txn: Txn, number: usize, waker: &Waker) -> Poll<Ended> {
+        let is_woken = |own: &Waker| own.will_wake(waker);
+        let wait = self.of(txn);
+        if wait.number != number {
+            return Poll::Ready(Err(Stop::Refused(Refusal::NoSuchTxn)));
+        }
+        if let Some(end) = wait.end {
+            return Poll::Ready(end);
+        }
+        if wait.waker.as_ref().is_some_and(is_woken) {
+            return Poll::Pending;
+        }
+        drop(wait);
+        self.wake_by(txn, number, waker.clone())
+    }
+
+    /// The same with another waker, which is made and dropped without the lock, since that may call the table.
+    fn wake_by(&self, txn: Txn, number: usize, waker: Waker) -> Poll<Ended> {
+        let mut waker = Some(waker);
+        let mut wait = self.of(txn);
+        if wait.number != number {
+            return Poll::Ready(Err(Stop::Refused(Refusal::NoSuchTxn)));
+        }
+        match wait.end {
+            Some(end) => Poll::Ready(end),
+            None => {
+                swap(&mut wait.waker, &mut waker);
+                Poll::Pending
+            }
+        }
+    }
+
+    /// From now on the wait of this number wakes nobody; whether it has not ended.
+    pub(super) fn forget_waker(&self, txn: Txn, number: usize) -> bool {
+        let mut wait = self.of(txn);
+        if wait.number != number {
+            return false;
+        }
+        let waker = wait.waker.take();
+        let waits = wait.end.is_none();
+        drop(wait);
+        drop(waker); // Without the lock, since that may call the table.
+        waits
+    }
+
+    /// The wait of this number has ended so: answers which waker to wake.
+    fn end(&self, txn: Txn, number: usize, end: Ended) -> Option<Waker> {
+        let mut wait = self.of(txn);
+        if wait.number != number {
+            return None;
+        }
+        wait.end = Some(end);
+        wait.waker.take()
+    }
+
+    fn of(&self, txn: Txn) -> MutexGuard<'_, Wait> {
+        let wait = self.0[txn.slot()].lock();
+        wait.unwrap_or_else(PoisonError::into_inner) // No holder of it panics.
+    }
+}
+
+/// Gives a table its callback, [`on_end`].
+///
+/// # Safety
+///
+/// The waits stay until the table has ended.
+pub(super) unsafe fn has_ends_told(table: &Shared, waits: *const Waits) -> Reply {
+    // SAFETY: the function does what the header asks of it, and its context is there for each of its calls.
+    unsafe { bs_table_on_end(table, on_end, waits.cast()) }
+}
+
+/// Whether a waker has panicked in any thread: before that no call looks for a panic of its own.
+static HAS_PANICKED: AtomicBool = AtomicBool::new(false);
+
+thread_local! {
+    /// Whether this thread is in a waker that [`on_end`] calls.
+    static IS_WAKING: Cell<bool> = const { Cell::new(false) };
+    /// With what such a waker has panicked, until the panic continues.
+    static PANIC: Cell<Option<Box<dyn Any + Send>>> = const { Cell::new(None) };
+}
+
+/// After a call of the library: continues the panic of a waker, which could not pass through that call.
+#[inline]
+pub(super) fn resume_panic() {
+    if HAS_PANICKED.load(Ordering::Relaxed) {
+        resume();
+    }
+}
+
+/// Not in a waker, where the panic is another's; and a thread that is panicking continues its own.
+#[cold]
+fn resume() {
+    if IS_WAKING.get() {
+        return;
+    }
+    let panic = PANIC.try_with(Cell::take).ok().flatten();
+    if let Some(panic) = panic.filter(|_| !thread::panicking()) {
+        resume_unwind(panic);
+    }
+}
+
+/// Wakes a task, and keeps the panic of its waker.
+fn wake(waker: Waker) {
+    let was_waking = IS_WAKING.replace(true);
+    let woken = catch_unwind(AssertUnwindSafe(|| waker.wake()));
+    IS_WAKING.set(was_waking);
+    if let Err(panic) = woken {
+        PANIC.set(Some(panic));
+        HAS_PANICKED.store(true, Ordering::Relaxed);
+    }
+}
+
+/// The callback of all tables: stores how a wait ended, and wakes the task after that.
+///
+/// # Safety
+///
+/// The context is the table's [`Waits`], which are there until the table has ended.
+unsafe extern "C" fn on_end(context: *const c_void, txn: Txn, end: Reply, word: usize) {
+    // SAFETY: the table has not ended.
+    let waits = unsafe { &*context.cast::<Waits>() };
+    let end = match end.status {
+        NO_MANAGER => Err(Stop::Refused(Refusal::NoSuchTxn)), // The table ends, and the transaction with it.
+        _ => ended(&end),
+    };
+    let waker = waits.end(txn, word, end);
+    if let Some(waker) = waker {
+        wake(waker);
+    }
+}
+
+#[cfg(test)]
+mod tests {
+    use super::*;
+
+    /// As the documentation of the crate has it.
+    #[test]
+    #[cfg(target_pointer_width = "64")]
+    fn what_a_slot_takes() {
+        assert_eq!(size_of::<Mutex<Wait>>(), 56);
+    }
+}

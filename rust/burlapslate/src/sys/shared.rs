@@ -1,0 +1,545 @@
+//! The calls with a table that threads share, as `include/burlapslate_shared.h` declares them. The asks are in
+//! [`awaited`](super::awaited).
+//!
+//! Any thread may make any call with a table, so these take it by `&`. A [`Table`] is freed when its owner drops it, and
+//! no thread is in a call then, because each call borrows it.
+
+use super::awaited::{self, Sought, Waits};
+use super::{assert_fits, nodes, numbers, Notice, Notices, Options, Pinned, Place, Reply};
+use super::{WatcherPlace, DONE, IN_USE};
+use crate::manager::Manager;
+use crate::names::{Node, Row, Txn};
+use crate::refusal::{accepted, Refusal};
+use crate::session::Ended;
+use crate::SLOTS;
+use std::cell::UnsafeCell;
+use std::marker::PhantomData;
+use std::mem::ManuallyDrop;
+use std::ops::Deref;
+use std::panic::{RefUnwindSafe, UnwindSafe};
+use std::ptr::{null, null_mut, NonNull};
+use std::task::{Poll, Waker};
+use std::thread;
+
+/// Joined to the mode of a lock for an instant.
+pub(crate) const INSTANT: u32 = 256;
+
+/// What a failed try of a path keeps.
+pub(crate) const KEEP_NOTHING: u32 = 0;
+pub(crate) const KEEP_WAY: u32 = 1;
+
+const DO_TRY: u32 = 4;
+const DO_TRY_PATH: u32 = 26;
+const DO_TRY_ROW: u32 = 27;
+
+/// `bs_table`, which callers know by its address alone.
+#[repr(C)]
+pub(crate) struct Shared {
+    _own: UnsafeCell<[u8; 0]>,
+}
+
+// SAFETY: any thread may make any call with a table, as the header says.
+unsafe impl Sync for Shared {}
+
+/// `struct timespec`: a time by `CLOCK_MONOTONIC`.
+#[repr(C)]
+#[derive(Clone, Copy)]
+pub(crate) struct Time {
+    pub(crate) seconds: i64,
+    pub(crate) nanoseconds: i64,
+}
+
+/// `bs_command`, of those that are tries. The keys of a row outlive it.
+#[repr(C)]
+pub(crate) struct Command<'k> {
+    kind: u32,
+    mode: u32,
+    txn: Txn,
+    node: Node,
+    file: Node,
+    index: Node,
+    number: u64,
+    key: u64,
+    keys: *const u64,
+    key_count: usize,
+    parents: *const Node,
+    parent_count: usize,
+    bounds: *const u64,
+    bound_count: usize,
+    told: *mut Notices,
+    keep: u32,
+    pub(crate) reply: Reply,
+    _keys: PhantomData<&'k [u64]>,
+}
+
+impl<'k> Command<'k> {
+    /// With all other fields zero.
+    fn new(kind: u32, txn: Txn, mode: u32) -> Command<'k> {
+        Command {
+            kind,
+            mode,
+            txn,
+            node: Node::NONE,
+            file: Node::NONE,
+            index: Node::NONE,
+            number: 0,
+            key: 0,
+            keys: null(),
+            key_count: 0,
+            parents: null(),
+            parent_count: 0,
+            bounds: null(),
+            bound_count: 0,
+            told: null_mut(),
+            keep: KEEP_NOTHING,
+            reply: Reply::with_status(DONE),
+            _keys: PhantomData,
+        }
+    }
+
+    pub(crate) fn try_node(txn: Txn, node: Node, mode: u32) -> Command<'k> {
+        Command {
+            node,
+            ..Command::new(DO_TRY, txn, mode)
+        }
+    }
+
+    pub(crate) fn try_path(txn: Txn, node: Node, mode: u32, keep: u32) -> Command<'k> {
+        Command {
+            node,
+            keep,
+            ..Command::new(DO_TRY_PATH, txn, mode)
+        }
+    }
+
+    pub(crate) fn try_row(txn: Txn, row: Row, keys: &'k [u64], mode: u32) -> Command<'k> {
+        Command {
+            file: row.file,
+            number: row.number,
+            keys: numbers(keys),
+            key_count: keys.len(),
+            ..Command::new(DO_TRY_ROW, txn, mode)
+        }
+    }
+}
+
+/// Where a call writes whom it notified; `None` if its caller does not ask.
+type Told<'a> = Option<&'a mut Notices>;
+
+/// The time up to which a call sleeps, or an ask waits; `None`: up to the end.
+pub(super) type Until<'a> = Option<&'a Time>;
+
+// SAFETY: these are the calls of the header, and their types have the layout of its types. Those that are safe have no
+// conditions but what their types say: an `Option` of a reference is a pointer that may be null.
+unsafe extern "C" {
+    fn bs_call_table_make(table: &mut *mut Shared, options: &Options, size: usize) -> Reply;
+    safe fn bs_table_end(table: &Shared) -> Reply;
+    fn bs_table_free(table: &mut *mut Shared) -> Reply;
+    safe fn bs_after(milliseconds: u64) -> Time;
+
+    fn bs_table_add_inner(table: &Shared, parents: *const Node, count: usize) -> Reply;
+    fn bs_table_add_file(table: &Shared, parents: *const Node, count: usize) -> Reply;
+    fn bs_table_add_row_file(table: &Shared, parents: *const Node, count: usize) -> Reply;
+    fn bs_table_add_index(
+        table: &Shared,
+        parents: *const Node,
+        count: usize,
+        file: Node,
+        bounds: *const u64,
+        bound_count: usize,
+    ) -> Reply;
+
+    pub(crate) safe fn bs_table_begin(table: &Shared) -> Reply;
+    pub(crate) safe fn bs_table_begin_again(table: &Shared, since: u64) -> Reply;
+    pub(crate) safe fn bs_table_begin_in_turn(table: &Shared, until: Until<'_>) -> Reply;
+    pub(crate) safe fn bs_table_begin_again_in_turn(
+        table: &Shared,
+        since: u64,
+        until: Until<'_>,
+    ) -> Reply;
+    pub(crate) safe fn bs_table_lock(
+        table: &Shared,
+        txn: Txn,
+        node: Node,
+        mode: u32,
+        until: Until<'_>,
+    ) -> Reply;
+    pub(crate) safe fn bs_table_lock_path(
+        table: &Shared,
+        txn: Txn,
+        node: Node,
+        mode: u32,
+        until: Until<'_>,
+    ) -> Reply;
+    pub(crate) safe fn bs_table_try(table: &Shared, txn: Txn, node: Node, mode: u32) -> Reply;
+    pub(crate) safe fn bs_table_try_path(
+        table: &Shared,
+        txn: Txn,
+        node: Node,
+        mode: u32,
+        keep: u32,
+    ) -> Reply;
+    fn bs_table_try_first(table: &Shared, commands: *mut Command<'_>, count: usize) -> usize;
+    pub(crate) safe fn bs_table_unlock(
+        table: &Shared,
+        txn: Txn,
+        node: Node,
+        told: Told<'_>,
+    ) -> Reply;
+    pub(crate) safe fn bs_table_mark(table: &Shared, txn: Txn) -> Reply;
+    pub(crate) safe fn bs_table_release_since(
+        table: &Shared,
+        txn: Txn,
+        savepoint: u64,
+        told: Told<'_>,
+    ) -> Reply;
+    pub(crate) safe fn bs_table_cancel(table: &Shared, txn: Txn, told: Told<'_>) -> Reply;
+    pub(crate) safe fn bs_table_commit(table: &Shared, txn: Txn, told: Told<'_>) -> Reply;
+    pub(crate) safe fn bs_table_abort(table: &Shared, txn: Txn, told: Told<'_>) -> Reply;
+    safe fn bs_table_settle(table: &Shared, txn: Txn, told: Told<'_>) -> Reply;
+    pub(crate) safe fn bs_table_escalate(
+        table: &Shared,
+        txn: Txn,
+        node: Node,
+        told: Told<'_>,
+    ) -> Reply;
+
+    fn bs_table_insert(
+        table: &Shared,
+        txn: Txn,
+        file: Node,
+        keys: *const u64,
+        count: usize,
+    ) -> Reply;
+    pub(crate) safe fn bs_table_delete(
+        table: &Shared,
+        txn: Txn,
+        record: Node,
+        told: Told<'_>,
+    ) -> Reply;
+    fn bs_table_adopt(table: &Shared, file: Node, keys: *const u64, count: usize) -> Reply;
+    pub(crate) safe fn bs_table_forget(table: &Shared, record: Node) -> Reply;
+    pub(crate) safe fn bs_table_rekey(
+        table: &Shared,
+        txn: Txn,
+        record: Node,
+        index: Node,
+        key: u64,
+        told: Told<'_>,
+    ) -> Reply;
+    fn bs_table_move(
+        table: &Shared,
+        txn: Txn,
+        node: Node,
+        parents: *const Node,
+        count: usize,
+        told: Told<'_>,
+    ) -> Reply;
+    pub(crate) safe fn bs_table_drop(table: &Shared, txn: Txn, node: Node, told: Told<'_>)
+        -> Reply;
+    fn bs_table_index_by(
+        table: &Shared,
+        txn: Txn,
+        parents: *const Node,
+        count: usize,
+        file: Node,
+        bounds: *const u64,
+        bound_count: usize,
+    ) -> Reply;
+
+    fn bs_table_lock_row(
+        table: &Shared,
+        txn: Txn,
+        file: Node,
+        number: u64,
+        keys: *const u64,
+        count: usize,
+        mode: u32,
+        until: Until<'_>,
+    ) -> Reply;
+    fn bs_table_try_row(
+        table: &Shared,
+        txn: Txn,
+        file: Node,
+        number: u64,
+        keys: *const u64,
+        count: usize,
+        mode: u32,
+    ) -> Reply;
+    pub(crate) safe fn bs_table_unlock_row(
+        table: &Shared,
+        txn: Txn,
+        file: Node,
+        number: u64,
+        told: Told<'_>,
+    ) -> Reply;
+    pub(crate) safe fn bs_table_rekey_row(
+        table: &Shared,
+        txn: Txn,
+        file: Node,
+        number: u64,
+        index: Node,
+        key: u64,
+        told: Told<'_>,
+    ) -> Reply;
+
+    pub(crate) safe fn bs_table_expire(table: &Shared, next: &mut Time) -> Reply;
+
+    safe fn bs_table_hold(table: &Shared) -> Option<NonNull<Place>>;
+    safe fn bs_table_let_go(table: &Shared) -> Reply;
+    pub(crate) safe fn bs_call_table_shut(table: &Shared) -> u32;
+    pub(crate) safe fn bs_call_table_watch(table: &Shared, watcher: &mut WatcherPlace) -> Reply;
+    pub(crate) safe fn bs_table_watch_thread(table: &Shared, pace: u64) -> Reply;
+}
+
+/// The time of this moment.
+pub(crate) fn now() -> Time {
+    bs_after(0)
+}
+
+/// A table for the time of a call with it.
+pub(crate) struct Calling<'t>(&'t Shared);
+
+impl Deref for Calling<'_> {
+    type Target = Shared;
+
+    fn deref(&self) -> &Shared {
+        self.0
+    }
+}
+
+impl Drop for Calling<'_> {
+    fn drop(&mut self) {
+        awaited::resume_panic();
+    }
+}
+
+/// A table, which ends with this.
+pub(crate) struct Table {
+    at: NonNull<Shared>,
+    waits: NonNull<Waits>,
+}
+
+// SAFETY: any thread may make any call with a table, and any thread may end it.
+unsafe impl Send for Table {}
+
+// SAFETY: the same.
+unsafe impl Sync for Table {}
+
+// No panic passes through a call of the library.
+impl UnwindSafe for Table {}
+impl RefUnwindSafe for Table {}
+
+impl Table {
+    /// Makes a table, whose asks have their ends told.
+    pub(crate) fn new(options: &Options) -> Result<Table, Refusal> {
+        assert_fits();
+        let waits = Waits::new().ok_or(Refusal::NoMemory)?;
+        let mut at = null_mut();
+        // SAFETY: the size is that of the options.
+        accepted(unsafe { bs_call_table_make(&mut at, options, size_of::<Options>()) })?;
+        let table = Table {
+            at: NonNull::new(at).expect("a table that was made"),
+            waits: NonNull::from(Box::leak(waits)),
+        };
+        // SAFETY: the waits are freed after the table has ended.
+        accepted(unsafe { awaited::has_ends_told(table.shared(), table.waits.as_ptr()) })?;
+        Ok(table)
+    }
+
+    /// Makes an ask whose end wakes this waker if it waits; answers its number too. It is a call of its caller.
+    pub(crate) fn ask(
+        &self,
+        txn: Txn,
+        sought: Sought<'_>,
+        until: Until<'_>,
+        waker: &Waker,
+    ) -> (Poll<Ended>, usize) {
+        self.waits().ask(self.shared(), txn, sought, until, waker)
+    }
+
+    /// How the wait of an ask ended; if it has not, it wakes this waker from now on.
+    pub(crate) fn poll(&self, txn: Txn, number: usize, waker: &Waker) -> Poll<Ended> {
+        self.waits().poll(txn, number, waker)
+    }
+
+    /// Cancels the wait of an ask, which wakes nobody then; whether it still waited.
+    pub(crate) fn cancels(&self, txn: Txn, number: usize) -> bool {
+        let waits = self.waits().forget_waker(txn, number);
+        waits && bs_table_cancel(&self.call(), txn, None).status == DONE
+    }
+
+    fn waits(&self) -> &Waits {
+        // SAFETY: they are there until the drop.
+        unsafe { self.waits.as_ref() }
+    }
+
+    /// For one call.
+    pub(crate) fn call(&self) -> Calling<'_> {
+        Calling(self.shared())
+    }
+
+    fn shared(&self) -> &Shared {
+        // SAFETY: the table is there until the drop.
+        unsafe { self.at.as_ref() }
+    }
+}
+
+impl Drop for Table {
+    /// The end may sleep, which a waker must not, nor a thread that holds another table: another thread ends it then. If
+    /// there can be none, the table stays.
+    fn drop(&mut self) {
+        let mut at = self.at.as_ptr();
+        if bs_table_end(self.shared()).status != IN_USE {
+            // SAFETY: the table was ended, and no thread is in a call with it: each borrows its owner.
+            unsafe { bs_table_free(&mut at) };
+            // SAFETY: they are of `new`, which leaked the box, and nobody tells an end any more.
+            drop(unsafe { Box::from_raw(self.waits.as_ptr()) });
+            return awaited::resume_panic();
+        }
+        let Table { at, waits } = *self;
+        let table = ManuallyDrop::new(Table { at, waits });
+        let ends = move || drop(ManuallyDrop::into_inner(table));
+        let _ = thread::Builder::new().spawn(ends);
+    }
+}
+
+/// A table whose latch this thread holds.
+struct Held<'t>(&'t Shared);
+
+impl Drop for Held<'_> {
+    fn drop(&mut self) {
+        bs_table_let_go(self.0);
+    }
+}
+
+/// Asks the manager of a table, with the latch held for so long, also if that panics.
+///
+/// # Panics
+///
+/// If this thread holds the table already.
+pub(crate) fn with<T>(table: &Shared, ask: impl FnOnce(&Manager) -> T) -> T {
+    let place = bs_table_hold(table).expect("this thread holds the table already");
+    let _held = Held(table);
+    // SAFETY: the manager is there, and no other thread uses it, as long as the latch is held, which outlives this.
+    let manager = Manager::lent(unsafe { Pinned::lent(place) });
+    ask(&manager)
+}
+
+/// Settles a transaction; answers whom this notified too.
+pub(crate) fn settle(table: &Shared, txn: Txn) -> (Reply, Notices) {
+    let none = Notice {
+        txn: Txn::NONE,
+        node: Node::NONE,
+        kind: 0,
+        mode: 0,
+    };
+    let mut told = Notices {
+        count: 0,
+        at: [none; SLOTS],
+    };
+    (bs_table_settle(table, txn, Some(&mut told)), told)
+}
+
+pub(crate) fn add_inner(table: &Shared, parents: &[Node]) -> Reply {
+    // SAFETY: the count is the list's own.
+    unsafe { bs_table_add_inner(table, nodes(parents), parents.len()) }
+}
+
+pub(crate) fn add_file(table: &Shared, parents: &[Node]) -> Reply {
+    // SAFETY: the count is the list's own.
+    unsafe { bs_table_add_file(table, nodes(parents), parents.len()) }
+}
+
+pub(crate) fn add_row_file(table: &Shared, parents: &[Node]) -> Reply {
+    // SAFETY: the count is the list's own.
+    unsafe { bs_table_add_row_file(table, nodes(parents), parents.len()) }
+}
+
+pub(crate) fn add_index(table: &Shared, parents: &[Node], file: Node, bounds: &[u64]) -> Reply {
+    let (above, count) = (nodes(parents), parents.len());
+    // SAFETY: the counts are the lists' own.
+    unsafe { bs_table_add_index(table, above, count, file, numbers(bounds), bounds.len()) }
+}
+
+pub(crate) fn index_by(
+    table: &Shared,
+    txn: Txn,
+    parents: &[Node],
+    file: Node,
+    bounds: &[u64],
+) -> Reply {
+    let (above, count) = (nodes(parents), parents.len());
+    let (below, bound_count) = (numbers(bounds), bounds.len());
+    // SAFETY: the counts are the lists' own.
+    unsafe { bs_table_index_by(table, txn, above, count, file, below, bound_count) }
+}
+
+pub(crate) fn insert(table: &Shared, txn: Txn, file: Node, keys: &[u64]) -> Reply {
+    // SAFETY: the count is the list's own.
+    unsafe { bs_table_insert(table, txn, file, numbers(keys), keys.len()) }
+}
+
+pub(crate) fn adopt(table: &Shared, file: Node, keys: &[u64]) -> Reply {
+    // SAFETY: the count is the list's own.
+    unsafe { bs_table_adopt(table, file, numbers(keys), keys.len()) }
+}
+
+pub(crate) fn move_node(table: &Shared, txn: Txn, node: Node, parents: &[Node]) -> Reply {
+    // SAFETY: the count is the list's own.
+    unsafe { bs_table_move(table, txn, node, nodes(parents), parents.len(), None) }
+}
+
+pub(crate) fn lock_row(
+    table: &Shared,
+    txn: Txn,
+    row: Row,
+    keys: &[u64],
+    mode: u32,
+    until: Until<'_>,
+) -> Reply {
+    let (Row { file, number }, start) = (row, numbers(keys));
+    // SAFETY: the count is the list's own.
+    unsafe { bs_table_lock_row(table, txn, file, number, start, keys.len(), mode, until) }
+}
+
+pub(crate) fn try_row(table: &Shared, txn: Txn, row: Row, keys: &[u64], mode: u32) -> Reply {
+    let (Row { file, number }, start) = (row, numbers(keys));
+    // SAFETY: the count is the list's own.
+    unsafe { bs_table_try_row(table, txn, file, number, start, keys.len(), mode) }
+}
+
+/// The place of the first try that is not passed over, or how many there are.
+pub(crate) fn try_first(table: &Shared, tries: &mut [Command<'_>]) -> usize {
+    // SAFETY: the count is the list's own, and so is that of the keys of each, which outlive it.
+    unsafe { bs_table_try_first(table, tries.as_mut_ptr(), tries.len()) }
+}
+
+/// The layouts of the header's types, by a C compiler for machines of 64 bits.
+#[cfg(all(test, target_pointer_width = "64"))]
+mod layouts {
+    use super::*;
+    use std::mem::offset_of;
+
+    #[test]
+    fn options_and_times() {
+        assert_eq!(size_of::<Options>(), 20);
+        assert_eq!(size_of::<Time>(), 16);
+        assert_eq!(offset_of!(Time, nanoseconds), 8);
+        assert_eq!(size_of::<Option<&Time>>(), 8);
+    }
+
+    #[test]
+    fn commands() {
+        assert_eq!((size_of::<Command>(), align_of::<Command>()), (216, 8));
+        assert_eq!(offset_of!(Command, txn), 8);
+        assert_eq!(offset_of!(Command, node), 24);
+        assert_eq!(offset_of!(Command, file), 40);
+        assert_eq!(offset_of!(Command, number), 72);
+        assert_eq!(offset_of!(Command, keys), 88);
+        assert_eq!(offset_of!(Command, key_count), 96);
+        assert_eq!(offset_of!(Command, told), 136);
+        assert_eq!(offset_of!(Command, keep), 144);
+        assert_eq!(offset_of!(Command, reply), 152);
+    }
+}
