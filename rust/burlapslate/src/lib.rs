@@ -157,3 +157,8 @@ pub const MOST_PARENTS: usize = 8;
 
 /// How many watchers a manager can have at once.
 pub const MOST_WATCHERS: usize = 8;
+
+/// The examples of the README.
+#[cfg(doctest)]
+#[doc = include_str!("../README.md")]
+struct Readme;
