@@ -3526,7 +3526,9 @@ static void a_dump_has_names(void) {
   ANSWERS(BS_NULL_POINTER, bs_table_name_nodes(NULL, name_of, NULL));
   DONE(bs_table_name_nodes(table, name_of, &told));
   DONE(bs_table_dump(table, text));
+  is_held = true;
   DONE(bs_dump(bs_table_hold(table), text));
+  is_held = false;
   ANSWERS(BS_IN_USE, bs_table_name_nodes(table, NULL, NULL));
   DONE(bs_table_let_go(table));
   DONE(bs_table_name_nodes(table, NULL, NULL));
