@@ -19,6 +19,7 @@ others are told, or the rows of a listing. Empty lines count for nothing, and \\
   @report                 all that is printed is below this line, and the lines above have no answers
   @status N               the exit status, if it is not 0
   @errors TEXT            the line on standard error
+  @usage TEXT             the same, and after it the bad word and the usage (beside.py)
 """
 
 import difflib
@@ -65,6 +66,7 @@ class Script:
     report: bytes = None
     status: int = 0
     errors: bytes = b""
+    has_usage: bool = False
     # Whether it is tried with failing reads and writes too.
     has_faults: bool = True
 
@@ -85,7 +87,7 @@ class Script:
         return answers
 
     def reads_nothing(self, words):
-        return self.status == 2 or any(word.startswith("--crew") for word in words)
+        return self.status == 2 or b"cannot be read" in self.errors or any(word.startswith("--crew") for word in words)
 
     def first_line(self, printed):
         """The first line whose answer is not as wanted."""
@@ -101,6 +103,11 @@ class Script:
             head += f" at '{self.first_line(came)}'"
         shown = difflib.unified_diff(lines_of(wanted), lines_of(came), "wanted", "came", lineterm="")
         raise NotAsWanted("\n".join([head, *list(shown)[:40]]))
+
+    def said(self, errors):
+        """What is compared of what was said: of a usage the line ahead of it."""
+        first, _, rest = errors.partition(b"\n")
+        return first + b"\n" if self.has_usage and b"\nusage: gltool " in rest else errors
 
 
 def lines_of(value):
@@ -184,7 +191,8 @@ def scripts_of(path):
         script.words = [shlex.split(words) for words in marks.get("@words", [""])]
         script.program = marks.get("@program", ["gltool"])[0]
         script.status = int(marks.get("@status", ["0"])[0])
-        script.errors = "".join(line + "\n" for line in marks.get("@errors", [])).encode()
+        script.has_usage = "@usage" in marks
+        script.errors = "".join(line + "\n" for line in marks.get("@errors", marks.get("@usage", []))).encode()
         script.has_faults = path.stem != "words"
         scripts.append(script)
     return scripts
@@ -329,7 +337,7 @@ def plays(script, words, how, **streams):
     done, count = run(script, words, text, **streams)
     for what, wanted, came in (
         ("printed", script.wanted(), done.stdout),
-        ("said on standard error", script.errors, done.stderr),
+        ("said on standard error", script.errors, script.said(done.stderr)),
         ("status", script.status, done.returncode),
         ("bytes read", 0 if script.reads_nothing(words) else len(text), count),
     ):

@@ -97,6 +97,13 @@ dropped_dead g x n e = or_elim (same_node x n) (is_child g x n) e
     gone : ((n.birth == x.birth) || list_any (same_node x) (parents_in (g.at n.birth))) ≡ true → is_live (without_branch g x) n ≡ false
     gone k = ap (λ b. is_some (with_key n.key (if b then None else g.at n.birth))) k
 
+-- what is told to t is among what is told
+told_something : (t : TxnId) (x : Notice) (list : Told) → is_told_that t x list ≡ true → is_told t list ≡ true
+told_something t x [] h = h
+told_something t x (y ∷ ys) h =
+    or_elim (same_txn t y.0 && same_notice x y.1) (is_told_that t x ys) h (λ here. or_left (same_txn t y.0) (is_told t ys) (and_both _ _ here).0)
+    (λ there. or_right (same_txn t y.0) (is_told t ys) (told_something t x ys there))
+
 -- t lives in s, and waits on n for m
 module _ (s : State) (law : IsLawful s) (t : TxnId) (alive : lives s t ≡ true) (n : NodeId) (m : Mode) (waits : status_of s t.slot ≡ Some (Waiting n m)) where
   -- one that lives on and waits no more is told something
@@ -153,8 +160,8 @@ module _ (s : State) (law : IsLawful s) (t : TxnId) (alive : lives s t ≡ true)
         by (Some Condemned) st k = let f : notice.Victim ≡ notice.Moved = cc in cc
         by (Some Active) st k = at (is_live now.graph n) refl (same_mode (now.held t.slot n) m) refl st k
 
-    told_over : is_told_that t its (told s now) ≡ true
-    told_over =
+    its_told : is_told_that t its (told s now) ≡ true
+    its_told =
         let x = some_notice now (status_of now t.slot) there quiet in
         any_mapped (λ y. same_txn t y.0 && same_notice its y.1) (λ u. addressed (record { slot = u; age = age_of s u }) (told_from now u (status_of s u))) t.slot
         (record { slot = t.slot; age = age_of s t.slot }, x.0)
@@ -162,14 +169,18 @@ module _ (s : State) (law : IsLawful s) (t : TxnId) (alive : lives s t ≡ true)
         ∙ ap (addressed (record { slot = t.slot; age = age_of s t.slot })) x.1)
         (both _ _ itself (same_notice-refl its)) 0 s.most (omega arith) (let below = law.slots_below t.slot (txn_there t.age (s.txns t.slot) alive) in omega arith)
 
+    -- so something is told to it
+    pub told_over : is_told t (told s now) ≡ true
+    told_over = told_something t its (told s now) its_told
+
     other_told : (u : ℕ) → u ≢ t.slot → (x : TxnId × Notice) → (same_txn t x.0 && same_notice its x.1) ≡ true → not (x.0.slot == u) ≡ true
     other_told u ne x h =
         let e : (t.slot == x.0.slot) ≡ true = (and_both _ _ (and_both _ _ h).0).0 in
         split (x.0.slot == u) (λ k. absurd
         (let a : t.slot ≡ x.0.slot = grind (arith, nat_tests) in let b : x.0.slot ≡ u = grind (arith, nat_tests) in ne (sym (a ∙ b)))) (λ k. ap not k)
 
-    told_but_over : (u : ℕ) → u ≢ t.slot → is_told_that t its (told_but u s now) ≡ true
-    told_but_over u ne = any_filtered (λ x. same_txn t x.0 && same_notice its x.1) (λ x. not (x.0.slot == u)) (told s now) (other_told u ne) told_over
+    its_told_but : (u : ℕ) → u ≢ t.slot → is_told_that t its (told_but u s now) ≡ true
+    its_told_but u ne = any_filtered (λ x. same_txn t x.0 && same_notice its x.1) (λ x. not (x.0.slot == u)) (told s now) (other_told u ne) its_told
 
   -- a slot that is as it was waits on
   still : (now : State) → now.txns t.slot ≡ s.txns t.slot → waits_on now t n ≡ false → ⊥
@@ -200,11 +211,11 @@ module _ (s : State) (law : IsLawful s) (t : TxnId) (alive : lives s t ≡ true)
 
     all_told : (c : Command) → list ≡ told s next → (on : GoesOn s next t.slot) → MovesIf c on → Ended c
     all_told c is on moved = let x = its_end on in
-        inl (record { said = x.0; is = x.1; told_so = ap (is_told_that t x.0) is ∙ told_over next on over; moved = moved })
+        inl (record { said = x.0; is = x.1; told_so = ap (is_told_that t x.0) is ∙ its_told next on over; moved = moved })
 
     others_told : (c : Command) (u : ℕ) → u ≢ t.slot → list ≡ told_but u s next → (on : GoesOn s next t.slot) → MovesIf c on → Ended c
     others_told c u ne is on moved = let x = its_end on in
-        inl (record { said = x.0; is = x.1; told_so = ap (is_told_that t x.0) is ∙ told_but_over next on over u ne; moved = moved })
+        inl (record { said = x.0; is = x.1; told_so = ap (is_told_that t x.0) is ∙ its_told_but next on over u ne; moved = moved })
 
     -- a change by others that moves no node grants what it waited for
     granted_by : Follows s next t.slot → (on : GoesOn s next t.slot) (c : Command) → MovesIf c on
@@ -330,13 +341,6 @@ waits_end_so s s' c a list t n m law step alive waits over =
     (λ h. absurd (still s law t alive n m waits s refl h))
     (λ next h k. ⊎_elim (λ x. inl (record { said = x.said; is = x.is; told_so = x.told_so; moved = x.moved })) (λ x. inr x) (h k))
     (λ free next acc h. accepted s law t alive n m waits a list next h c (all_none (tests_of s c) free) acc) step over
-
--- what is told to t is among what is told
-told_something : (t : TxnId) (x : Notice) (list : Told) → is_told_that t x list ≡ true → is_told t list ≡ true
-told_something t x [] h = h
-told_something t x (y ∷ ys) h =
-    or_elim (same_txn t y.0 && same_notice x y.1) (is_told_that t x ys) h (λ here. or_left (same_txn t y.0) (is_told t ys) (and_both _ _ here).0)
-    (λ there. or_right (same_txn t y.0) (is_told t ys) (told_something t x ys there))
 
 -- so something was told, or the command named it
 pub ends_waits : (s s' : State) (c : Command) (a : Answer) (told : Told) (t : TxnId) (n : NodeId) → IsLawful s → Step s c a told s' → waits_on s t n ≡ true
