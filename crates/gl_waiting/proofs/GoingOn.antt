@@ -12,7 +12,8 @@ use Rattle.gl_wakes.specs.declared.grant.Grant.{Grant}
 use Rattle.gl_wakes.specs.declared.grant.Stop.{Stop}
 use Rattle.gl_waiting.specs.Begins.{is_over}
 use Rattle.gl_waiting.specs.Delivering.{DeliveryView}
-use Rattle.gl_waiting.specs.Ends.{Cancels, EndsAt, EndsBetween, EndsByRow, EndsInTime, GivesBack, GoesOn, IsGrantedIn, PlaceGoes, PlaceGoesOn, UnlocksIf, is_given_back}
+use Rattle.gl_waiting.specs.Ends.{Cancels, EndsAt, EndsBetween, EndsByRow, EndsInTime, GivesBack, GoesOn, IsGrantedIn, PlaceGoes, PlaceGoesOn, UnlocksIf}
+use Rattle.gl_waiting.specs.Ends.{is_given_back}
 use Rattle.gl_waiting.specs.Going.{Calls}
 use Rattle.gl_waiting.specs.Paths.{LocksThrough}
 use Rattle.gl_waiting.specs.Waiters.{IsInTime, StillRequests, came_of, has_more, next_after, next_of, next_of_row, node_in, outcome_of, place_at, place_of}

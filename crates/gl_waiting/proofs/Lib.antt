@@ -7,6 +7,7 @@ pub mod Delivered
 pub mod GoingOn
 pub mod Paths
 pub mod RowCalls
+pub mod RowHolding
 pub mod RowLocking
 pub mod RowTrying
 pub mod Runs

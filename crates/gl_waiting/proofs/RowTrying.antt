@@ -1,7 +1,8 @@
 -- Tries of rows: each lock of one is granted at once or refused, no transaction begins to wait, and what each call leaves. For Delivery.try_row.
 use Rattle.gl_slots.specs.declared.slots.Slots.{Slots}
 use Rattle.gl_slots.specs.Slots.{HasNoSlot}
-use Rattle.std.specs.Prelude.{◌≡◌, ◌≢◌, ℕ, ◌&&◌, ◌||◌, ◌⊎◌, ◌+◌, ◌<◌, ◌≤◌, ◌==◌, not, Bool, true, false, List, [], drop, length, unwrap_or, Option, Some, None, Result, Ok, Err, OnErr, if◌then◌else◌}
+use Rattle.std.specs.Prelude.{◌≡◌, ℕ, ◌&&◌, ◌||◌, ◌⊎◌, ◌+◌, ◌<◌, ◌≤◌, ◌==◌, not, Bool, true, false, List, [], drop, length, unwrap_or}
+use Rattle.std.specs.Prelude.{Option, Some, None, Result, Ok, Err, if◌then◌else◌}
 use Rattle.std.proofs.Common.{refl, sym, ap, subst, ◌∙◌, inl, inr, ⊎_elim, arith}
 use mathlib.Core.Bool.{true≢false}
 use Rattle.gl_modes.proofs.NodeLemmas.{same_node-equal, same_node-refl}
@@ -158,21 +159,28 @@ busy_some s (Some q) n e = by (is_idle s q) e
     by false e = e
 
 -- the lock of a row whose node nobody holds or waits for
+pub free_enters : (d : DeliveryView) (w : Wish) → IsLawful (state_of d.manager) → busy_node (state_of d.manager) (name_of d.rows w.row) ≡ None → (n : NodeId)
+    → name_of d.rows w.row ≡ Some n → enters_at (state_of d.manager) w.txn.slot n w.mode ≡ true
+free_enters d w law none n is =
+    idle_enters (state_of d.manager) law w.txn.slot n w.mode (busy_none (state_of d.manager) (name_of d.rows w.row) none n is)
+
 pub free_at_once : (d d' : DeliveryView) (w : Wish) (told : Told) → IsLawful (state_of d.manager)
     → busy_node (state_of d.manager) (name_of d.rows w.row) ≡ None → (result : Result RowLocked RowRefusal) → LocksRowAs d w result told d'
     → IsAtOnce result
-free_at_once d d' w told law none =
-    locked_at_once d d' w told
-    (λ n is. idle_enters (state_of d.manager) law w.txn.slot n w.mode (busy_none (state_of d.manager) (name_of d.rows w.row) none n is))
+free_at_once d d' w told law none = locked_at_once d d' w told (free_enters d w law none)
 
 -- the lock of a row whose node its transaction holds in that mode
+pub held_enters_row : (d : DeliveryView) (w : Wish) → IsLawful (state_of d.manager) → (n : NodeId) → name_of d.rows w.row ≡ Some n
+    → IsHeldIn (state_of d.manager) w.txn n w.mode → (q : NodeId) → name_of d.rows w.row ≡ Some q
+    → enters_at (state_of d.manager) w.txn.slot q w.mode ≡ true
+held_enters_row d w law n named held q is =
+    let same : n ≡ q = cc (named, is) in
+    subst (λ x. enters_at (state_of d.manager) w.txn.slot x w.mode ≡ true) same
+    (held_enters (state_of d.manager) law w.txn.slot n w.mode held.0 held.1)
+
 pub held_at_once : (d d' : DeliveryView) (w : Wish) (told : Told) → IsLawful (state_of d.manager) → (n : NodeId) → name_of d.rows w.row ≡ Some n
     → IsHeldIn (state_of d.manager) w.txn n w.mode → (result : Result RowLocked RowRefusal) → LocksRowAs d w result told d' → IsAtOnce result
-held_at_once d d' w told law n named held =
-    locked_at_once d d' w told
-    (λ q is. let same : n ≡ q = cc (named, is) in
-    subst (λ x. enters_at (state_of d.manager) w.txn.slot x w.mode ≡ true) same
-    (held_enters (state_of d.manager) law w.txn.slot n w.mode held.0 held.1))
+held_at_once d d' w told law n named held = locked_at_once d d' w told (held_enters_row d w law n named held)
 
 -- No transaction begins to wait.
 
@@ -248,9 +256,9 @@ no_wait_tried s s' t ask (Ok m) step = no_wait_step s s' (try_of t ask) _ [] (λ
 no_wait_tried s s' t ask (Err r) step = no_wait_step s s' (try_of t ask) _ [] (λ is. cc is) step
 
 unlocked_at_once : (a : RowAnswer) (r : Result (Unit {0}) RowRefusal) → a ≡ done_said r → answer_in a ≡ Some answer.Waiting → ⊥
-unlocked_at_once a (Ok u) is e = cc (e, ap answer_in is)
-unlocked_at_once a (Err (row_no.Refused r)) is e = cc (e, ap answer_in is)
-unlocked_at_once a (Err row_no.NotRows) is e = cc (e, ap answer_in is)
+unlocked_at_once a (Ok u) is e = cc (sym (ap answer_in is) ∙ e)
+unlocked_at_once a (Err (row_no.Refused r)) is e = cc (sym (ap answer_in is) ∙ e)
+unlocked_at_once a (Err row_no.NotRows) is e = cc (sym (ap answer_in is) ∙ e)
 
 pub no_wait_unlocked : (d d' : DeliveryView) (t : TxnId) (row : Row) (a : RowAnswer) (told : Told)
     → AppliesCall (registry_in d) (call.Unlock t row) a told (registry_in d')

@@ -19,7 +19,7 @@ use Rattle.gl_waiting.specs.Going.{Calls, IsRun}
 use Rattle.gl_waiting.specs.Paths.{LocksThrough}
 use Rattle.gl_registry.specs.Locking.{Wish}
 use Rattle.gl_waiting.specs.RowLocks.{RequestsRow}
-use Rattle.gl_waiting.specs.RowTries.{BeginsNoWait, KeepsQueues, TriesRow}
+use Rattle.gl_waiting.specs.RowTries.{BeginsNoWait, HoldsTried, KeepsQueues, TriesRow}
 use Rattle.gl_waiting.specs.declared.tries.RowTried.{RowTried}
 use Rattle.gl_waiting.specs.Waiters.{AnswersIn, HasWaiter, outcome_of, IsInTime, came_of, place_at, waiter_in}
 use Rattle.gl_waiting.specs.Waiting.{WaitingView, delivery_in}
@@ -118,6 +118,7 @@ pub record TriesThere (v : WaitingView) (t : TxnId) (ask : Ask) (keep : Keep) (r
 pub record TriesRowThere (v : WaitingView) (w : Wish) (result : RowTried) (told : Told) (v' : WaitingView) : Type 0 where
   pub served : DeliveryView
   pub tries : (ended : Slots) × TriesRow w (delivery_in v) result told ended served
+  pub holds : HoldsTried w.txn w.mode result (state_of served.manager)
   pub waits : BeginsNoWait (state_of v.manager) (state_of served.manager)
   pub queues : KeepsQueues result (state_of v.manager) (state_of served.manager)
   pub run : IsRun (state_of v.manager) (state_of served.manager)

@@ -65,7 +65,7 @@ row_came_as s t node (locked.Granted mode) own_keys = came.Ended (row_held node 
 row_came_as s t node locked.Victim own_keys = came.Ended (end.Victim node)
 row_came_as s t node locked.Waiting own_keys = waits_as s t
 
--- the same where it may be refused
+-- the same of a lock that may be refused
 abbrev pub row_came_of : State → TxnId → Result RowLocked RowRefusal → Came
 row_came_of s t (Ok x) = row_came_as s t x.node x.locked x.own_keys
 row_came_of s t (Err (row_no.Refused r)) = came.Ended (end.Refused r)

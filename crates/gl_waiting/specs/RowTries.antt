@@ -1,5 +1,5 @@
 -- Tries of rows: locks that are granted at once, or refused.
-use Rattle.std.specs.Prelude.{◌≡◌, ◌≢◌, ℕ, Bool, true, false, not, ◌&&◌, [], Option, Some, None, Result, Ok, Err, OnErr, OnOk, if◌then◌else◌}
+use Rattle.std.specs.Prelude.{◌≡◌, ℕ, Bool, true, false, not, ◌&&◌, [], Option, Some, None, Result, Ok, Err, OnErr, OnOk, if◌then◌else◌}
 use Rattle.gl_slots.specs.declared.slots.Slots.{Slots}
 use Rattle.gl_slots.specs.Slots.{HasNoSlot}
 use Rattle.gl_modes.specs.declared.mode.Mode.{Mode}
@@ -7,7 +7,7 @@ use Rattle.gl_modes.specs.declared.mode.Mode.TheVariants.{NL}
 use Rattle.gl_modes.specs.declared.node.NodeId.{NodeId}
 use Rattle.gl_modes.specs.declared.refusal.Refusal.{Refusal}
 use Rattle.gl_modes.specs.declared.refusal.Refusal.TheVariants as no
-use Rattle.gl_modes.specs.Modes.{same_mode}
+use Rattle.gl_modes.specs.Modes.{is_at_least, same_mode}
 use Rattle.gl_model.specs.declared.answers.Locked.TheVariants as locked
 use Rattle.gl_model.specs.declared.txn.TxnId.{TxnId}
 use Rattle.gl_model.specs.Calls.{is_idle}
@@ -71,6 +71,18 @@ was_held s t n = lives s t && not (same_mode (s.held t.slot n) NL)
 -- the transaction holds the node in this mode, which is a lock
 abbrev pub IsHeldIn : State → TxnId → NodeId → Mode → Type 0
 IsHeldIn s t n m = (s.held t.slot n ≡ m) × (same_mode m NL ≡ false)
+
+-- the transaction holds the node in this mode, which is that one or greater
+abbrev pub HoldsAtLeast : State → TxnId → NodeId → Mode → Mode → Type 0
+HoldsAtLeast s t n m least = (s.held t.slot n ≡ m) × (is_at_least m least ≡ true)
+
+-- a row that was granted is held as the answer says, in the mode of the try or a greater one
+abbrev pub HoldsTried : TxnId → Mode → RowTried → State → Type 0
+HoldsTried t k (tried.Granted n m) s = HoldsAtLeast s t n m k
+HoldsTried t k (tried.OtherKeys n m) s = HoldsAtLeast s t n m k
+HoldsTried t k (tried.WouldBlock n) s = Unit {0}
+HoldsTried t k (tried.Refused r) s = Unit {0}
+HoldsTried t k tried.NotRows s = Unit {0}
 
 -- no transaction begins to wait
 abbrev pub BeginsNoWait : State → State → Type 0

@@ -1,10 +1,11 @@
 //! Waiters whose wait is over: how each goes on or ends.
 
 ghost use Rattle.gl_slots.specs.Limit.{most_slots};
-ghost use Rattle.std.specs.Prelude.{◌≡◌, ◌<◌, ◌≤◌, ◌||◌, ◌==◌, ◌⊎◌, ℕ, Bool, true, []};
+ghost use Rattle.std.specs.Prelude.{◌≡◌, ◌<◌, ◌≤◌, ◌||◌, ◌==◌, ◌⊎◌, ℕ, Bool, Some, true, []};
 ghost use Rattle.gl_slots.specs.Slots.{HasNoSlot, has_slot};
 ghost use Rattle.gl_catalog.specs.Manager.{state_of};
 ghost use Rattle.gl_steps.specs.Promises.{waits_on};
+ghost use Rattle.gl_wakes.specs.Boxes.{verdict_of};
 ghost use Rattle.gl_wakes.specs.Wakes.{HasEnded};
 ghost use Rattle.gl_waiting.specs.Asking.{LocksAlone, Requests};
 ghost use Rattle.gl_waiting.specs.Ends.{GivesBack, GoesOn, PlaceGoesOn, is_given_back};
@@ -22,6 +23,7 @@ use gl_catalog::{Command, Manager, Reached};
 use gl_modes::{Mode, NodeId, Refusal};
 use gl_slots::{Slot, Slots};
 use gl_table::{Locked, Told, TxnId};
+use gl_wakes::{Grant, Stop};
 
 /// Continues each waiter of these slots whose wait is over, and each whose wait ends by that.
 pub(crate) fn settle(delivery: &mut Delivery, places: &mut Places, due: Slots)
@@ -74,22 +76,38 @@ fn look_at(delivery: &mut Delivery, places: &mut Places, slot: Slot) -> Slots
     let Some(verdict) = delivery.verdict(waiter.txn, waiter.at, waiter.wanted) else {
         return Slots::empty();
     };
+    let (place, ended) = continue_by(delivery, waiter, verdict);
+    places.put(slot, place);
+    ended
+}
+
+/// Continues a waiter whose wait came to this. Answers what belongs to its slot after that, and the slots whose wait that
+/// may have ended.
+fn continue_by(
+    delivery: &mut Delivery,
+    waiter: Waiter,
+    verdict: Result<Grant, Stop>,
+) -> (Place, Slots)
+    requires became { verdict_of (state_of delivery.old.manager) delivery.old.boxes waiter.txn waiter.at waiter.wanted ≡ Some verdict }
+    ensures place { PlaceGoesOn delivery.old delivery.new (waits waiter) result.0 }
+    ensures waits { IsWaitingPlace (state_of delivery.new.manager) waiter.txn result.0 }
+    ensures calls { Calls delivery.old delivery.new }
+    ensures ended { HasEnded (state_of delivery.old.manager) (state_of delivery.new.manager) result.1 }
+    ensures counted { HasNoSlot result.1 ⊎ (delivery.old.manager.accepted < delivery.new.manager.accepted) }
+    ensures low { delivery.old.manager.accepted ≤ delivery.new.manager.accepted }
+{
+    let Waiter {
+        txn,
+        request,
+        instant,
+        ..
+    } = waiter;
     match waiter.next(verdict) {
         Next::End(outcome) => {
-            places.put(slot, Place::Ended(waiter.txn, outcome));
-            give_back(
-                delivery,
-                waiter.instant,
-                waiter.txn,
-                waiter.request,
-                outcome,
-            )
+            let ended = give_back(delivery, instant, txn, request, outcome);
+            (Place::Ended(txn, outcome), ended)
         }
-        Next::GoOn { node, mode } => {
-            let (place, ended) = go_on(delivery, waiter, node, mode);
-            places.put(slot, place);
-            ended
-        }
+        Next::GoOn { node, mode } => go_on(delivery, waiter, node, mode),
         Next::LockAgain {
             row,
             keys,
@@ -97,8 +115,7 @@ fn look_at(delivery: &mut Delivery, places: &mut Places, slot: Slot) -> Slots
             granted,
         } => {
             let (end, ended) = lock_again(delivery, waiter, row, keys, mode, granted);
-            places.put(slot, Place::Ended(waiter.txn, end));
-            ended
+            (Place::Ended(txn, end), ended)
         }
     }
 }

@@ -6,7 +6,7 @@ ghost use Rattle.gl_catalog.specs.Manager.{state_of};
 ghost use Rattle.gl_registry.specs.Rows.{name_of};
 ghost use Rattle.gl_wakes.specs.Wakes.{HasEnded};
 ghost use Rattle.gl_waiting.specs.Going.{IsRun};
-ghost use Rattle.gl_waiting.specs.RowTries.{BeginsNoWait, BlocksNobody, IsHeldIn, KeepsQueues, NotesRow, TriesRow, busy_node, was_held};
+ghost use Rattle.gl_waiting.specs.RowTries.{BeginsNoWait, BlocksNobody, HoldsTried, IsHeldIn, KeepsQueues, NotesRow, TriesRow, busy_node, was_held};
 
 use super::Delivery;
 use crate::tries::{RowTried, is_released, refused_at, row_refused, row_tried_as};
@@ -35,6 +35,7 @@ impl Delivery {
     ) -> (RowTried, Slots)
         requires empty { told.old.items ≡ [] }
         ensures tries { TriesRow (record { txn = txn; row = row; keys = keys.entry; mode = mode }) self.old result.0 told.new.items result.1 self.new }
+        ensures holds { HoldsTried txn mode result.0 (state_of self.new.manager) }
         ensures waits { BeginsNoWait (state_of self.old.manager) (state_of self.new.manager) }
         ensures queues { KeepsQueues result.0 (state_of self.old.manager) (state_of self.new.manager) }
         ensures run { IsRun (state_of self.old.manager) (state_of self.new.manager) }
@@ -81,7 +82,9 @@ impl Delivery {
         requires named { name_of self.old.rows row ≡ Some node }
         requires is_held { IsHeldIn (state_of self.old.manager) txn node mode }
         requires quiet { held ≡ false → BlocksNobody (state_of self.old.manager) txn node }
-        ensures notes { NotesRow held node (record { txn = txn; row = row; keys = keys.entry; mode = mode }) self.old result.0 told.new.items result.1 self.new }
+        ensures notes { NotesRow held node (record { txn = txn; row = row; keys = keys.entry; mode = mode }) self.old result.0 told.new.items result.1
+            self.new }
+        ensures holds { HoldsTried txn mode result.0 (state_of self.new.manager) }
         ensures waits { BeginsNoWait (state_of self.old.manager) (state_of self.new.manager) }
         ensures queues { KeepsQueues result.0 (state_of self.old.manager) (state_of self.new.manager) }
         ensures run { IsRun (state_of self.old.manager) (state_of self.new.manager) }

@@ -1,13 +1,14 @@
-use Rattle.std.proofs.Common.{◌≡◌, subst, sym, ◌∙◌}
+use Rattle.std.proofs.Common.{ap, subst, sym, ◌∙◌}
 use Rattle.std.specs.Prelude.{Err, Result}
-use Rattle.gl_catalog.specs.Manager.{state_of}
+use Rattle.gl_catalog.specs.Manager.{ManagerView, state_of}
 use Rattle.gl_registry.specs.declared.answer.RowLocked.{RowLocked}
 use Rattle.gl_registry.specs.declared.answer.RowRefusal.{RowRefusal}
 use Rattle.gl_registry.specs.Locking.{Wish}
 use Rattle.gl_waiting.specs.RowLocks.{LocksRowAs}
-use Rattle.gl_waiting.specs.RowTries.{KeepsQueues}
+use Rattle.gl_waiting.specs.RowTries.{HoldsTried, KeepsQueues}
 use Rattle.gl_waiting.specs.declared.tries.RowTried.{RowTried}
-use Rattle.gl_waiting.proofs.RowTrying.{back_counted, back_ended, back_queues, back_waits, held_at_once, no_wait_locked}
+use Rattle.gl_waiting.proofs.RowHolding.{held_holds, lock_holds, refused_holds, unreleased_same}
+use Rattle.gl_waiting.proofs.RowTrying.{back_counted, back_ended, back_queues, back_waits, held_at_once, held_enters_row, no_wait_locked, refused_same}
 use Rattle.gl_waiting.proofs.Runs.{run_then}
 use Rattle.gl_waiting.proofs.delivery.Delivery.note_row.Goals as goal
 
@@ -97,3 +98,39 @@ returns-clause-counted c =
     back_counted c.args.self.now c.lock_row-locked.new.self c.serve_row-answer.new.self (wish_too c) c.in-Err.refusal c.lock_row-locked.new.told.items
     (locks_too c) c.serve_row-answer.result.0 c.serve_row-answer.new.told.items c.serve_row-answer.result.1 c.serve_row-answer.ensures.applies
     c.serve_row-answer.ensures.own c.serve_row-answer.ensures.carries
+
+-- what is held
+
+pub returns-in-Ok-clause-holds : goal.returns-in-Ok-clause-holds
+returns-in-Ok-clause-holds c =
+    let wish : Wish = record { txn = c.args.txn; row = c.args.row; keys = c.args.keys; mode = c.args.mode } in
+    lock_holds c.args.self.now c.lock_row-locked.new.self wish c.lock_row-locked.new.told.items
+    (held_enters_row c.args.self.now wish c.law.ensures.lawful c.args.node c.requires.named c.requires.is_held) c.lock_row-locked.result.0
+    c.row_tried_as.result c.row_tried_as.ensures c.lock_row-locked.ensures.locks
+
+pub returns-then-held-clause-holds : goal.returns-then-held-clause-holds
+returns-then-held-clause-holds c =
+    let wish : Wish = record { txn = c.args.txn; row = c.args.row; keys = c.args.keys; mode = c.args.mode } in
+    let d = c.args.self.now in
+    let mid = c.lock_row-locked.new.self in
+    let told = c.lock_row-locked.new.told.items in
+    let refused = subst (λ (r : Result RowLocked RowRefusal). LocksRowAs d wish r told mid) c.in-Err.is c.lock_row-locked.ensures.locks in
+    held_holds (state_of d.manager) (state_of mid.manager) c.args.txn c.args.node c.args.mode c.requires.is_held
+    (ap (λ (m : ManagerView). (state_of m).held c.args.txn.slot c.args.node) (refused_same d mid wish c.in-Err.refusal told refused).1)
+
+pub returns-then-is_released-clause-holds : goal.returns-then-is_released-clause-holds
+returns-then-is_released-clause-holds c =
+    subst (λ (x : RowTried). HoldsTried c.args.txn c.args.mode x (state_of c.serve_row-answer.new.self.manager)) (sym c.row_refused.ensures)
+    (refused_holds c.args.txn c.args.mode c.in-Err.refusal (state_of c.serve_row-answer.new.self.manager))
+
+pub returns-clause-holds : goal.returns-clause-holds
+returns-clause-holds c =
+    let d = c.args.self.now in
+    let mid = c.lock_row-locked.new.self in
+    let new = c.serve_row-answer.new.self in
+    let same = refused_same d mid (wish_too c) c.in-Err.refusal c.lock_row-locked.new.told.items (locks_too c) in
+    held_holds (state_of d.manager) (state_of new.manager) c.args.txn c.args.node c.args.mode c.requires.is_held
+    (ap (λ (m : ManagerView). (state_of m).held c.args.txn.slot c.args.node)
+    (unreleased_same mid new c.args.txn c.args.row c.serve_row-answer.result.0 c.serve_row-answer.new.told.items c.serve_row-answer.ensures.applies
+    (sym c.if-is_released.ensures)
+    ∙ same.1))

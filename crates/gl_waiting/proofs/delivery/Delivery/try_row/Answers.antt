@@ -1,17 +1,19 @@
-use Rattle.std.proofs.Common.{◌≡◌, ap, false, refl, subst, sym, ◌∙◌, Bool}
+use Rattle.std.proofs.Common.{◌≡◌, [], ap, false, subst, sym, ◌∙◌, Bool}
 use Rattle.std.specs.Prelude.{Err, Ok, Option}
 use Rattle.gl_modes.specs.declared.node.NodeId.{NodeId}
 use Rattle.gl_catalog.specs.Manager.{ManagerView, state_of}
+use Rattle.gl_catalog.specs.Paths.{Ask}
 use Rattle.gl_model.specs.declared.txn.TxnId.{TxnId}
 use Rattle.gl_registry.specs.Locking.{Wish}
-use Rattle.gl_registry.specs.Rows.{name_of}
-use Rattle.gl_steps.specs.declared.command.Answer.TheVariants as answer
 use Rattle.gl_waiting.specs.Delivering.{DeliveryView}
-use Rattle.gl_waiting.specs.RowTries.{TriesRowBy, was_held}
+use Rattle.gl_waiting.specs.RowTries.{HoldsTried, TriesRowBy, was_held}
+use Rattle.gl_waiting.specs.declared.tries.RowTried.{RowTried}
 use Rattle.gl_waiting.specs.Tries.{try_of}
-use Rattle.gl_waiting.proofs.RowTrying.{free_at_once, no_wait_locked, no_wait_then, no_wait_tried, then_counted, then_ended, then_low, then_queues}
+use Rattle.gl_waiting.proofs.RowHolding.{holds_least, lock_holds, refused_at_holds}
+use Rattle.gl_waiting.proofs.RowTrying.{free_at_once, free_enters, no_wait_locked, no_wait_then, no_wait_tried, then_counted, then_ended, then_low, then_queues}
 use Rattle.gl_waiting.proofs.RowTrying.{tried_blocks, tried_holds, was_unheld}
 use Rattle.gl_waiting.proofs.Runs.{run_one, run_then}
+use Rattle.gl_waiting.proofs.TriedPaths.{took_is, took_least}
 use Rattle.gl_waiting.proofs.delivery.Delivery.try_row.Goals as goal
 
 -- in the words of a delivery
@@ -51,8 +53,8 @@ pub returns-in-Ok-clause-waits : goal.returns-in-Ok-clause-waits
 returns-in-Ok-clause-waits c =
     let s = state_of c.args.self.now.manager in
     let mid = state_of c.try_at.new.self.manager in
-    no_wait_then s mid (state_of c.note_row.new.self.manager) (no_wait_tried s mid c.args.txn (c.in-Some.node, c.args.mode) (Ok c.in-Ok.mode) c.in-Ok.ensures.step)
-    c.note_row.ensures.waits
+    no_wait_then s mid (state_of c.note_row.new.self.manager)
+    (no_wait_tried s mid c.args.txn (c.in-Some.node, c.args.mode) (Ok c.in-Ok.mode) c.in-Ok.ensures.step) c.note_row.ensures.waits
 
 pub returns-in-Ok-clause-queues : goal.returns-in-Ok-clause-queues
 returns-in-Ok-clause-queues c =
@@ -96,3 +98,25 @@ returns-in-Err-clause-tries c =
       unchanged = ap (λ (x : DeliveryView). x.manager) tried.refused;
       follows = (c.refused_at.ensures, tried.untold, c.empty.ensures.none, tried.manager);
     })
+
+-- what is held
+
+pub returns-in_default-clause-holds : goal.returns-in_default-clause-holds
+returns-in_default-clause-holds c =
+    let wish : Wish = record { txn = c.args.txn; row = c.args.row; keys = c.args.keys; mode = c.args.mode } in
+    lock_holds c.args.self.now c.lock_row-locked.new.self wish c.lock_row-locked.new.told.items
+    (free_enters c.args.self.now wish c.law.ensures.lawful (sym c.in_default.ensures)) c.lock_row-locked.result.0 c.row_tried_as.result
+    c.row_tried_as.ensures c.lock_row-locked.ensures.locks
+
+pub returns-in-Ok-clause-holds : goal.returns-in-Ok-clause-holds
+returns-in-Ok-clause-holds c =
+    let s = state_of c.args.self.now.manager in
+    let mid = state_of c.try_at.new.self.manager in
+    let ask : Ask = (c.in-Some.node, c.args.mode) in
+    holds_least c.args.txn c.args.mode c.in-Ok.mode c.note_row.result.0 (state_of c.note_row.new.self.manager)
+    (took_least s c.args.txn ask c.in-Ok.mode mid (took_is s c.args.txn ask c.in-Ok.mode [] mid c.in-Ok.ensures.step)) c.note_row.ensures.holds
+
+pub returns-in-Err-clause-holds : goal.returns-in-Err-clause-holds
+returns-in-Err-clause-holds c =
+    subst (λ (x : RowTried). HoldsTried c.args.txn c.args.mode x (state_of c.try_at.new.self.manager)) (sym c.refused_at.ensures)
+    (refused_at_holds c.args.txn c.args.mode c.in-Some.node c.in-Err.refusal (state_of c.try_at.new.self.manager))

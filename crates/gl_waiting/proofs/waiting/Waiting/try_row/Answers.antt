@@ -22,6 +22,7 @@ returns c =
     (record {
       served = c.try_row-tried.new.self;
       tries = (c.try_row-tried.result.1, tried.tries);
+      holds = tried.holds;
       waits = tried.waits;
       queues = tried.queues;
       run = tried.run;
