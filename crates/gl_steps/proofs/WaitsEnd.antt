@@ -163,11 +163,13 @@ module _ (s : State) (law : IsLawful s) (t : TxnId) (alive : lives s t ≡ true)
     its_told : is_told_that t its (told s now) ≡ true
     its_told =
         let x = some_notice now (status_of now t.slot) there quiet in
-        any_mapped (λ y. same_txn t y.0 && same_notice its y.1) (λ u. addressed (record { slot = u; age = age_of s u }) (told_from now u (status_of s u))) t.slot
+        any_mapped (λ y. same_txn t y.0 && same_notice its y.1)
+        (λ u. addressed (record { slot = u; age = age_of s u }) (told_from now u (status_of s u))) t.slot
         (record { slot = t.slot; age = age_of s t.slot }, x.0)
         (ap (λ o. addressed (record { slot = t.slot; age = age_of s t.slot }) (told_from now t.slot o)) waits
         ∙ ap (addressed (record { slot = t.slot; age = age_of s t.slot })) x.1)
-        (both _ _ itself (same_notice-refl its)) 0 s.most (omega arith) (let below = law.slots_below t.slot (txn_there t.age (s.txns t.slot) alive) in omega arith)
+        (both _ _ itself (same_notice-refl its)) 0 s.most (omega arith)
+        (let below = law.slots_below t.slot (txn_there t.age (s.txns t.slot) alive) in omega arith)
 
     -- so something is told to it
     pub told_over : is_told t (told s now) ≡ true
@@ -349,5 +351,6 @@ pub ends_waits : (s s' : State) (c : Command) (a : Answer) (told : Told) (t : Tx
 ends_waits s s' c a list t n law step begin over =
     let b = and_both _ _ begin in
     let w = waiting_is (status_of s t.slot) n b.1 in
-    ⊎_elim (λ told. or_left (is_told t list) (ends_wait_of t c) (told_something t told.said list told.told_so)) (λ named. or_right (is_told t list) (ends_wait_of t c) named)
+    ⊎_elim (λ told. or_left (is_told t list) (ends_wait_of t c) (told_something t told.said list told.told_so))
+    (λ named. or_right (is_told t list) (ends_wait_of t c) named)
     (waits_end_so s s' c a list t n w.0 law step b.0 w.1 over)

@@ -78,7 +78,8 @@ pub use Rattle.gl_model.specs.Calls.{held_children, holds_child, is_covered, is_
 pub use Rattle.gl_model.specs.Calls.{need_parents, none_but, not_held, RefusesOnly, released, rule_refusal, shed, some_given, stays, too_many_txns, try_tests}
 pub use Rattle.gl_model.specs.Calls.{unlock_tests, unlocked, Unlocks, WaitSettles, wanted, would_block}
 pub use Rattle.gl_model.specs.Lawful.{effect_on, effective, HasNoConflict, is_read, IsLawful, IsOrderly, WaitWell}
-pub use Rattle.gl_table.specs.Table.{AreRowsOf, board_of, entry_at, is_row_of, KeepsOrders, ListsAgree, nodes_of, row_of, rows_of, shown, StandOnce, state_of, TableView}
+pub use Rattle.gl_table.specs.Table.{AreRowsOf, board_of, entry_at, is_row_of, KeepsOrders, ListsAgree, nodes_of, row_of, rows_of, shown}
+pub use Rattle.gl_table.specs.Table.{StandOnce, state_of, TableView}
 pub use Rattle.gl_model.specs.Deadlocks.{IsDeadlock, IsStuck, LocksKeeping, SettlesKeeping, SettlesKeepingWithin, WaitSettlesKeeping}
 pub use Rattle.gl_table.specs.inside.Slots.{AreKept, as_held, as_left, Books, books_of, by_list, CanEnd, CanHold, CanStrike, CanTell, childless_in, counted_by}
 pub use Rattle.gl_table.specs.inside.Slots.{HasRoomAt, held_by, IsShedding, IsWritten, KeepsLists, LeavesPlace, listed_by, nodes_by, room_by, Strikes}

@@ -54,7 +54,8 @@ module _ (s : State) (law : IsLawful s) (t : ℕ) (gone chosen : NodeId → Bool
 module _ (s : State) (law : IsLawful s) (t : ℕ) (held : ℕ → NodeId → Mode) (x : Option Txn) (chosen : NodeId → Bool)
     (others : (u : ℕ) (q : NodeId) → u ≢ t → held u q ≡ s.held u q)
     (own : ((q : NodeId) → held t q ≡ NL) ⊎ (((q : NodeId) → held t q ≡ s.held t q) × (is_some (s.txns t) ≡ true → is_some x ≡ true)))
-    (quiet : (q : NodeId) (m : Mode) → status_in x ≡ Some (Waiting q m) → ⊥) (same : is_some x ≡ true → (is_some (s.txns t) ≡ true) × (age_in x ≡ age_of s t) × (since_in x ≡ since_of s t))
+    (quiet : (q : NodeId) (m : Mode) → status_in x ≡ Some (Waiting q m) → ⊥)
+    (same : is_some x ≡ true → (is_some (s.txns t) ≡ true) × (age_in x ≡ age_of s t) × (since_in x ≡ since_of s t))
     (all_chosen : (q : NodeId) → chosen q ≡ false → (is_waiting_at s t q ≡ false) × (held t q ≡ s.held t q)) where
   abbrev txns_but : ℕ → Option Txn
   txns_but u = if u == t then x else s.txns u
@@ -116,7 +117,8 @@ pub without_wait-less : (s : State) → IsLawful s → (t : ℕ) (st : Status) �
     → IsLess s s.held (λ n. without_waiter t (s.queue n)) (λ u. if u == t then restatus st (s.txns t) else s.txns u) (is_waiting_at s t)
 without_wait-less s law t st quiet =
     out-less s law t s.held (restatus st (s.txns t)) (is_waiting_at s t) (λ u q ne. refl) (inr (λ q. refl, λ h. restatus_some st (s.txns t) ∙ h))
-    (restatus_quiet st quiet (s.txns t)) (λ h. (sym (restatus_some st (s.txns t)) ∙ h, restatus_age st (s.txns t), restatus_since st (s.txns t))) (λ q no. (no, refl))
+    (restatus_quiet st quiet (s.txns t)) (λ h. (sym (restatus_some st (s.txns t)) ∙ h, restatus_age st (s.txns t), restatus_since st (s.txns t)))
+    (λ q no. (no, refl))
 
 -- a wait that ends, by its transaction or by the manager
 pub without_wait-lawful : (s : State) → IsLawful s → (t : ℕ) (st : Status) → IsQuiet st → IsLawful (pumped (without_wait s t st) (is_waiting_at s t))
@@ -282,7 +284,8 @@ module _ (s : State) (law : IsLawful s) (t : ℕ) (free : is_some (s.txns t) ≡
         (λ ne' k. law.ages_differ u v (ap is_some (sym f) ∙ h) (ap age_in (sym f) ∙ e ∙ ap age_in k)));
     known = λ u h. begun_case u (λ is e. let a : age_of (begun_since s t since) u ≡ s.begins + 1 = ap age_in e in
         let b : since_of (begun_since s t since) u ≡ since = ap since_in e in omega (arith, low, a, b))
-        (λ ne e. let a : age_of (begun_since s t since) u ≡ age_of s u = ap age_in e in let b : since_of (begun_since s t since) u ≡ since_of s u = ap since_in e in
+        (λ ne e. let a : age_of (begun_since s t since) u ≡ age_of s u = ap age_in e in
+        let b : since_of (begun_since s t since) u ≡ since_of s u = ap since_in e in
         let old = law.known u (ap is_some (sym e) ∙ h) in omega (arith, old, a, b));
   }
 

@@ -8,7 +8,8 @@ ghost use Rattle.gl_table.specs.inside.Ledger.{AreExact, state_in};
 ghost use Rattle.gl_table.specs.inside.Steps.{AreExactFor, CanEndAt, HasLeftAll, IsReleased};
 ghost use Rattle.indexmap.specs.IndexMap.{keys};
 ghost use Rattle.gl_table.specs.Orders.{OnlyLoses};
-ghost use Rattle.gl_table.specs.inside.Slots.{CanStrike, CanTell, IsShedding, ListsLose, Strikes, TellsOthers, WaitsEnd, as_left, books_of, counted_by, room_by};
+ghost use Rattle.gl_table.specs.inside.Slots.{CanStrike, CanTell, IsShedding, ListsLose, Strikes, TellsOthers, WaitsEnd, as_left, books_of};
+ghost use Rattle.gl_table.specs.inside.Slots.{counted_by, room_by};
 
 use crate::ledger::Ledger;
 use crate::told::tell;

@@ -37,5 +37,6 @@ pub returns-clause-completes : goal.returns-clause-completes
 returns-clause-completes c =
     quiet_completed (view_of c.self.inside) c.args.self.now
     (record { table = c.add_index.new.self; accepted = c.self.inside.accepted + 1; counters = c.self.inside.counters }) c.self.view_is c.self.invariant
-    (command.Index c.args.parents c.args.file c.args.bounds) refl c.in_ok-node.ensures.orders (made c.in_ok-node.node) (returns-clause-step c) (c.in_ok-node.ensures.deadlock
+    (command.Index c.args.parents c.args.file c.args.bounds) refl c.in_ok-node.ensures.orders (made c.in_ok-node.node) (returns-clause-step c)
+    (c.in_ok-node.ensures.deadlock
     ∙ ap (λ (v : ManagerView). v.table.deadlock) c.self.view_is) refl raised_by_none

@@ -23,6 +23,7 @@ pub returns-clause-completes : goal.returns-clause-completes
 returns-clause-completes c =
     told_completed (view_of c.self.inside) c.args.self.now
     (record { table = c.commit_telling.new.self; accepted = c.self.inside.accepted + 1; counters = c.add_notices.new.self }) c.self.view_is c.self.invariant
-    (command.Commit c.args.t) refl c.in_ok-commit_telling.ensures.orders answer.Done c.commit_telling.new.notices.items c.as_slice.result.now (returns-clause-step c)
+    (command.Commit c.args.t) refl c.in_ok-commit_telling.ensures.orders
+    answer.Done c.commit_telling.new.notices.items c.as_slice.result.now (returns-clause-step c)
     (c.in_ok-commit_telling.ensures.deadlock ∙ ap (λ (v : ManagerView). v.table.deadlock) c.self.view_is) c.as_slice.ensures.value c.add_notices.ensures
     (notices_counted c.commit_telling.new.notices.items)

@@ -106,4 +106,5 @@ returns-clause-completes c =
     ∙ sym (escalation_counted (state_of c.args.self.now) (state_of
     (record { table = c.shed_telling-released.new.self; accepted = c.self.inside.accepted + 1; counters = c.add_notices.new.self })) c.args.t c.args.n
     did told c.raise_passes-passes.result c.args.self.now.counters (raised c)))
-    (subst (λ (v : ManagerView). KeepsOrders v.table c.shed_telling-released.new.self) c.self.view_is (record { each = λ u. keeps_then (c.in_ok-mode.ensures.orders.each u) (c.shed_telling-released.ensures.orders u) }))
+    (subst (λ (v : ManagerView). KeepsOrders v.table c.shed_telling-released.new.self) c.self.view_is
+    (record { each = λ u. keeps_then (c.in_ok-mode.ensures.orders.each u) (c.shed_telling-released.ensures.orders u) }))

@@ -56,7 +56,8 @@ returns-clause-completes c =
     told_completed (view_of c.self.inside) c.args.self.now
     (record { table = c.reparent_telling.new.self; accepted = c.self.inside.accepted + 1; counters = c.add_notices.new.self }) c.self.view_is
     c.self.invariant
-    (command.Rekey c.args.t c.args.rec c.args.index c.args.key) refl c.reparent_telling.ensures.orders answer.Done c.reparent_telling.new.notices.items c.as_slice.result.now
+    (command.Rekey c.args.t c.args.rec c.args.index c.args.key) refl c.reparent_telling.ensures.orders
+    answer.Done c.reparent_telling.new.notices.items c.as_slice.result.now
     (returns-clause-step c)
     (c.reparent_telling.ensures.deadlock ∙ ap (λ (v : ManagerView). v.table.deadlock) c.self.view_is) c.as_slice.ensures.value c.add_notices.ensures
     (notices_counted c.reparent_telling.new.notices.items)

@@ -63,7 +63,8 @@ returns-clause-completes c =
     told_completed (view_of c.self.inside) c.args.self.now
     (record { table = c.regraft_telling.new.self; accepted = c.self.inside.accepted + 1; counters = c.add_notices.new.self }) c.self.view_is
     c.self.invariant
-    (command.Move c.args.t c.args.n c.args.parents) refl c.in_ok-regraft_telling.ensures.orders answer.Done c.regraft_telling.new.notices.items c.as_slice.result.now (returns-clause-step c)
+    (command.Move c.args.t c.args.n c.args.parents) refl c.in_ok-regraft_telling.ensures.orders
+    answer.Done c.regraft_telling.new.notices.items c.as_slice.result.now (returns-clause-step c)
     (c.in_ok-regraft_telling.ensures.deadlock
     ∙ ap (λ (v : ManagerView). v.table.deadlock) c.self.view_is) c.as_slice.ensures.value c.add_notices.ensures
     (notices_counted c.regraft_telling.new.notices.items)

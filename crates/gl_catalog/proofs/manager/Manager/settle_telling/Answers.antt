@@ -29,7 +29,8 @@ pub returns-clause-completes : goal.returns-clause-completes
 returns-clause-completes c =
     told_completed (view_of c.self.inside) c.args.self.now
     (record { table = c.settle_telling.new.self; accepted = c.self.inside.accepted + 1; counters = c.add_notices.new.self }) c.self.view_is c.self.invariant
-    (command.Settle c.args.t) refl c.in_ok-settle_telling.ensures.orders answer.Done c.settle_telling.new.notices.items c.as_slice.result.now (returns-clause-step c)
+    (command.Settle c.args.t) refl c.in_ok-settle_telling.ensures.orders
+    answer.Done c.settle_telling.new.notices.items c.as_slice.result.now (returns-clause-step c)
     (subst (λ (v : ManagerView). SettlesKeeping (state_of v).victims (state_of v) c.args.t.slot v.table.deadlock (counting v.accepted
     (table_state c.settle_telling.new.self)) c.settle_telling.new.self.deadlock) c.self.view_is
     (keeping_counting c.self.inside.accepted (table_state c.self.inside.table).victims

@@ -40,6 +40,7 @@ pub returns-clause-completes : goal.returns-clause-completes
 returns-clause-completes c =
     told_completed (view_of c.self.inside) c.args.self.now
     (record { table = c.unlock_telling.new.self; accepted = c.self.inside.accepted + 1; counters = c.add_notices.new.self }) c.self.view_is c.self.invariant
-    (command.Unlock c.args.t c.args.n) refl c.in_ok-unlock_telling.ensures.orders answer.Done c.unlock_telling.new.notices.items c.as_slice.result.now (returns-clause-step c)
+    (command.Unlock c.args.t c.args.n) refl c.in_ok-unlock_telling.ensures.orders
+    answer.Done c.unlock_telling.new.notices.items c.as_slice.result.now (returns-clause-step c)
     (c.in_ok-unlock_telling.ensures.deadlock ∙ ap (λ (v : ManagerView). v.table.deadlock) c.self.view_is) c.as_slice.ensures.value c.add_notices.ensures
     (notices_counted c.unlock_telling.new.notices.items)
