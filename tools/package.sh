@@ -99,11 +99,10 @@ papers() {
 
 # others PREFIX: copies the programs, the crate for Rust and the module for Python.
 others() {
-  local program share=$1/share/burlapslate
-  mkdir -p "$1/bin" "$share/rust/burlapslate" "$share/python/burlapslate" || return
-  for program in gltool glpicture; do
-    cp "$top/crates/$program/out/$program" "$1/bin/" || return
-  done
+  local share=$1/share/burlapslate parts=$1/libexec/burlapslate
+  mkdir -p "$1/bin" "$parts" "$share/rust/burlapslate" "$share/python/burlapslate" &&
+    cp "$top/crates/gltool/out/gltool" "$top/glpicture" "$1/bin/" &&
+    cp "$top/crates/glpicture/out/glpicture" "$top/tools/timeline.py" "$parts/" || return
   (cd "$top/rust/burlapslate" && tar --exclude=target --exclude=tests -cf - .) | tar -C "$share/rust/burlapslate" -xf - &&
     cp "$top"/python/burlapslate/*.py "$share/python/burlapslate/"
 }

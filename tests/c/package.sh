@@ -143,6 +143,7 @@ others() {
   has "$name, by Python" python3 || return 0
   BURLAPSLATE_LIBRARY=$libdir/libburlapslate.so PYTHONPATH=$prefix/share/burlapslate/python PYTHONDONTWRITEBYTECODE=1 timeout 60 \
     python3 "$top/tests/python/test_burlapslate.py" >"$work/log" 2>&1 || fails "the module for Python does not run with it"
+  "$prefix/bin/glpicture" --timeline "$1/examples/first.script" 2>"$work/log" | grep -q '^<svg' || fails "glpicture draws no timeline"
   echo "the_package_by_python: $name"
 }
 

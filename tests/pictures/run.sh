@@ -1,7 +1,8 @@
 #!/usr/bin/env bash
 # run.sh: draws each example, the scripts of docs/pictures and one of eight transactions and sixty commands as a timeline,
 # and checks that each is well formed, has a row for each transaction, and marks waits, victims and ends as its script
-# has them. If there is rsvg-convert, chromium or firefox, one draws the largest. Ends with status 1 if anything is not so.
+# has them. If there is rsvg-convert or chromium, it draws the largest. Then what glpicture does beside its picture: it names
+# refused lines, ends at the first by --strict, leaves out idle nodes, and calls dot. Ends with status 1 if anything is not so.
 set -uo pipefail
 top=$(cd "$(dirname "$0")/../.." && pwd) || exit 2
 command -v python3 >/dev/null || { echo "tests/pictures: not tried: python3 is not found"; exit 77; }
@@ -70,3 +71,19 @@ fi
 [[ $("$top/tools/timeline.py" --help) == timeline.py* ]] || fails "--help says nothing"
 echo "inner db" | "$top/glpicture" --timeline >/dev/null 2>"$work/log" && fails "a script without a transaction is drawn"
 grep -q 'begins no transaction' "$work/log" || fails "it does not say why"
+
+printf 'inner db\nfile f : db\nlokc a S db\n' >"$work/bad.script"
+"$top/glpicture" "$work/bad.script" >"$work/picture" 2>"$work/log" || fails "a script with a bad line is not drawn"
+grep -q '^line 3: unknown command "lokc"$' "$work/log" && grep -q '^digraph' "$work/picture" || fails "a bad line is not named"
+"$top/glpicture" --strict "$work/bad.script" >"$work/picture" 2>"$work/log"
+[ $? -eq 3 ] && [ ! -s "$work/picture" ] || fails "a bad line is drawn by --strict"
+"$top/glpicture" --held <"$work/bad.script" 2>"$work/log" | grep -q label && fails "--held draws an idle node"
+"$top/glpicture" --hold "$work/bad.script" >"$work/picture" 2>"$work/log"
+[ $? -eq 2 ] && grep -q '^usage: glpicture' "$work/log" || fails "an unknown word is not refused with the usage"
+echo "pictures: what glpicture says"
+if command -v dot >/dev/null; then
+  "$top/glpicture" --svg --graph "$top/docs/pictures/phantom.script" 2>"$work/log" | grep -q '</svg>' || fails "--svg draws nothing"
+  echo "pictures: phantom, by dot"
+else
+  echo "pictures: not drawn: dot is not found"
+fi

@@ -18,9 +18,18 @@ abbrev pub behind_part : List Text → List Text
 behind_part [] = []
 behind_part (word ∷ rest) = if is_part word then rest else word ∷ rest
 
--- the words ask for a picture: those of a script, after an optional word for a part
+-- the words after a first word that leaves out idle nodes, or all
+abbrev pub behind_held : List Text → List Text
+behind_held [] = []
+behind_held (word ∷ rest) = if bytes_eq word (codes "--held") then rest else word ∷ rest
+
+-- the words after those that say what is shown
+abbrev pub behind_shown : List Text → List Text
+behind_shown words = behind_held (behind_part words)
+
+-- the words ask for a picture: those of a script, after an optional word for a part and one that leaves out idle nodes
 abbrev pub AsksForPicture : List Text → Type 0
-AsksForPicture words = (choices : Choices) × AsksFor (behind_part words) (Script choices)
+AsksForPicture words = (choices : Choices) × AsksFor (behind_shown words) (Script choices)
 
 -- how much was read: at most one byte more than a script's limit, and with status 0 no more than the limit
 abbrev pub DrawsWithin : Option Text → Option Text → ℕ → Type 0

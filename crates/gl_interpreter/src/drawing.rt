@@ -2,7 +2,7 @@
 
 ghost use Rattle.std.specs.Prelude.{◌≡◌, ◌≢◌, ◌≤◌, IfErr, OnOk, map};
 ghost use Rattle.std.specs.Io.KnownBytes.{IsAtEnd};
-ghost use Rattle.gl_interpreter.specs.Picture.{AsksForPicture, DrawsWithin, behind_part, status_of};
+ghost use Rattle.gl_interpreter.specs.Picture.{AsksForPicture, DrawsWithin, behind_part, behind_shown, status_of};
 ghost use Rattle.gl_interpreter.specs.Report.{ReadsWithin};
 
 use crate::answers::{put_number, put_place};
@@ -10,7 +10,8 @@ use crate::desk::Desk;
 use crate::script::{RunFault, answer_script, new_block, new_tool};
 use crate::sink::{Sink, flush, new_sink, put, send};
 use arrayvec::ArrayString;
-use gl_modes::{Mode, NodeId};
+use gl_graph::Kind;
+use gl_modes::{Mode, NodeId, sup};
 use gl_slots::Slots;
 use gl_table::{Status, TxnId};
 use gl_waits::{SLOTS, on_cycle};
@@ -27,7 +28,15 @@ const MOST_INTERVALS: usize = 257;
 
 /// What a picture shows.
 #[derive(Clone, Copy, Debug, PartialEq, Eq)]
-pub enum Shown {
+pub struct Shown {
+    pub part: Part,
+    /// Nodes that nobody holds or waits for are left out.
+    pub held_alone: bool,
+}
+
+/// Which part of a state a picture shows.
+#[derive(Clone, Copy, Debug, PartialEq, Eq)]
+pub enum Part {
     /// The lock graph and the transactions.
     All,
     /// The lock graph alone: each node with its holders and its queue.
@@ -48,7 +57,7 @@ pub enum PictureFault {
 }
 
 /// Draws the final state of the script that `reader` gives. The words are those of a script, after an
-/// optional `--graph` or `--waits`. They may include `--listings`, which changes no picture: neither a
+/// optional `--graph` or `--waits` and then an optional `--held`. They may include `--listings`, which changes no picture: neither a
 /// listing nor a bad line changes the state. They may include `--schema` and `--savepoints`: what was
 /// dropped or released is then not drawn. Returns the exit status: 0 at the end, 1 after a fault, 2 for
 /// words that ask for no picture. If it is not 0, one line that says why was written to `faults`.
@@ -89,14 +98,37 @@ pub fn complain_of_picture<E: Write>(fault: PictureFault, faults: &mut E) -> u8
     }
 }
 
-/// What the first word asks for, and the words after it.
+/// What the first words ask for, and the words after them.
 fn shown_by<S: AsStr>(words: &[S]) -> (Shown, &[S])
+    ensures { map S.text result.1.now ≡ behind_shown (map S.text words.now) }
+{
+    let (part, rest) = part_by(words);
+    match rest.first() {
+        Some(word) if word.as_str() == "--held" => (
+            Shown {
+                part,
+                held_alone: true,
+            },
+            &rest[1..],
+        ),
+        _ => (
+            Shown {
+                part,
+                held_alone: false,
+            },
+            rest,
+        ),
+    }
+}
+
+/// Which part the first word asks for, and the words after it.
+fn part_by<S: AsStr>(words: &[S]) -> (Part, &[S])
     ensures { map S.text result.1.now ≡ behind_part (map S.text words.now) }
 {
     match words.first() {
-        Some(word) if word.as_str() == "--graph" => (Shown::Graph, &words[1..]),
-        Some(word) if word.as_str() == "--waits" => (Shown::Waits, &words[1..]),
-        _ => (Shown::All, words),
+        Some(word) if word.as_str() == "--graph" => (Part::Graph, &words[1..]),
+        Some(word) if word.as_str() == "--waits" => (Part::Waits, &words[1..]),
+        _ => (Part::All, words),
     }
 }
 
@@ -142,56 +174,128 @@ pub fn picture<R: Read, W: Write>(
 /// Draws a state.
 fn draw<W: Write>(sink: &mut Sink, writer: &mut W, desk: &Desk, shown: Shown) {
     put(sink, writer, b"digraph locks {\n");
-    if shown != Shown::Waits {
-        draw_nodes(sink, writer, desk);
+    if shown.part != Part::Waits {
+        draw_nodes(sink, writer, desk, shown);
     }
-    if shown != Shown::Graph {
+    if shown.part != Part::Graph {
         draw_txns(sink, writer, desk);
     }
     put(sink, writer, b"}\n");
 }
 
 /// Draws the lock graph.
-fn draw_nodes<W: Write>(sink: &mut Sink, writer: &mut W, desk: &Desk) {
-    put(sink, writer, b"  node [shape=box];\n");
+fn draw_nodes<W: Write>(sink: &mut Sink, writer: &mut W, desk: &Desk, shown: Shown) {
+    put(
+        sink,
+        writer,
+        b"  node [shape=box, style=filled, fillcolor=white];\n",
+    );
     for place in 0..desk.node_count() {
         if let Some(node) = desk.node_at(place) {
-            draw_node(sink, writer, desk, node);
-            draw_intervals(sink, writer, desk, node);
+            draw_node(sink, writer, desk, node, shown);
+            draw_intervals(sink, writer, desk, node, shown);
         }
     }
 }
 
 /// Draws the intervals of a node, if it is an index.
-fn draw_intervals<W: Write>(sink: &mut Sink, writer: &mut W, desk: &Desk, index: NodeId) {
+fn draw_intervals<W: Write>(
+    sink: &mut Sink,
+    writer: &mut W,
+    desk: &Desk,
+    index: NodeId,
+    shown: Shown,
+) {
     for place in 0..MOST_INTERVALS {
         match desk.manager.graph().interval(index, place) {
-            Some(interval) => draw_node(sink, writer, desk, interval),
+            Some(interval) => draw_node(sink, writer, desk, interval, shown),
             None => return,
         }
     }
 }
 
-/// Draws a node, and the arrows to it from its parents.
-fn draw_node<W: Write>(sink: &mut Sink, writer: &mut W, desk: &Desk, node: NodeId) {
+/// Draws a node, if it is to be drawn, and the arrows to it from its parents.
+fn draw_node<W: Write>(sink: &mut Sink, writer: &mut W, desk: &Desk, node: NodeId, shown: Shown) {
+    if !is_drawn(desk, node, shown) {
+        return;
+    }
     put(sink, writer, b"  ");
     put_node(sink, writer, node);
     put(sink, writer, b" [label=\"");
     put_node_name(sink, writer, desk, node);
     put_holders(sink, writer, desk, node);
     put_waiters(sink, writer, desk, node);
-    put(sink, writer, b"\"];\n");
-    draw_parents(sink, writer, desk, node);
+    put(sink, writer, b"\"");
+    put(sink, writer, shape(desk.manager.graph().kind(node)));
+    put(sink, writer, colour(group_mode(desk, node)));
+    put(sink, writer, b"];\n");
+    draw_parents(sink, writer, desk, node, shown);
+}
+
+/// Whether a node is drawn: not if nobody holds it or waits for it, where such nodes are left out.
+fn is_drawn(desk: &Desk, node: NodeId, shown: Shown) -> bool {
+    !shown.held_alone || group_mode(desk, node) != Mode::NL || has_waiters(desk, node)
+}
+
+/// Whether a transaction waits for a node.
+fn has_waiters(desk: &Desk, node: NodeId) -> bool {
+    match desk.manager.queue(node) {
+        Ok(queue) => !queue.is_empty(),
+        Err(_) => false,
+    }
+}
+
+/// The supremum of the modes in which a node is held.
+fn group_mode(desk: &Desk, node: NodeId) -> Mode {
+    let Ok(slots) = desk.manager.holders(node) else {
+        return Mode::NL;
+    };
+    let mut group = Mode::NL;
+    for slot in slots.iter() {
+        group = sup(group, desk.manager.mode_at(slot, node));
+    }
+    group
+}
+
+/// The shape of a kind of nodes; inner nodes have the usual one, a box.
+fn shape(kind: Option<Kind>) -> &'static [u8] {
+    match kind {
+        Some(Kind::File) => b", shape=folder",
+        Some(Kind::Index) => b", shape=tab",
+        Some(Kind::Interval) => b", style=\"rounded,filled\"",
+        Some(Kind::Rec) => b", shape=note",
+        Some(Kind::Inner) | None => b"",
+    }
+}
+
+/// The colour of a node that is held in this group mode.
+fn colour(group: Mode) -> &'static [u8] {
+    match group {
+        Mode::NL => b"",
+        Mode::IS => b", fillcolor=\"#cfe3f7\"",
+        Mode::IX => b", fillcolor=\"#f6dcb4\"",
+        Mode::S => b", fillcolor=\"#7fb2e5\"",
+        Mode::SIX => b", fillcolor=\"#c9a3dc\"",
+        Mode::X => b", fillcolor=\"#e0803c\"",
+    }
 }
 
 /// Draws the arrows to a node from its parents.
-fn draw_parents<W: Write>(sink: &mut Sink, writer: &mut W, desk: &Desk, node: NodeId) {
+fn draw_parents<W: Write>(
+    sink: &mut Sink,
+    writer: &mut W,
+    desk: &Desk,
+    node: NodeId,
+    shown: Shown,
+) {
     for parent in desk.manager.graph().parents(node) {
-        put(sink, writer, b"  ");
-        put_node(sink, writer, *parent);
-        put(sink, writer, b" -> ");
-        put_node(sink, writer, node);
-        put(sink, writer, b";\n");
+        if is_drawn(desk, *parent, shown) {
+            put(sink, writer, b"  ");
+            put_node(sink, writer, *parent);
+            put(sink, writer, b" -> ");
+            put_node(sink, writer, node);
+            put(sink, writer, b";\n");
+        }
     }
 }
 
@@ -243,7 +347,7 @@ fn put_claim<W: Write>(sink: &mut Sink, writer: &mut W, desk: &Desk, slot: u8, m
 
 /// Draws the transactions, and who waits for whom.
 fn draw_txns<W: Write>(sink: &mut Sink, writer: &mut W, desk: &Desk) {
-    put(sink, writer, b"  node [shape=ellipse];\n");
+    put(sink, writer, b"  node [shape=ellipse, style=solid];\n");
     desk.manager.law(); // No slot is past 127.
     for slot in 0..desk.manager.most() {
         if let Some((txn, status)) = desk.manager.living(slot as u8) {

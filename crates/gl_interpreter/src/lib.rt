@@ -19,7 +19,7 @@ mod script;
 mod sink;
 
 pub use answers::put_number;
-pub use drawing::{PictureFault, Shown, complain_of_picture, draw_script, picture};
+pub use drawing::{Part, PictureFault, Shown, complain_of_picture, draw_script, picture};
 pub use gl_words::Choices;
 pub use script::{RunFault, run, run_choosing};
 pub use sink::{Sink, flush, new_sink, put, send};
