@@ -1,13 +1,24 @@
 #!/usr/bin/env bash
-# faults.sh NAME.. LIBRARY LIBRARY: plants faults in a copy of the C sources, the shared table and its dump, one at a time.
-# The stories or the crowd must find each: by a check that fails, or because they hang. `all` means every fault there is.
-# The libraries are the proved one and the calls for memory, the last two that tools/c_library.sh prints. Ends with status 1
-# if one is not found. CC names another compiler than cc.
+# faults.sh [--tenth] [NAME..] [LIBRARY LIBRARY]: plants faults in a copy of the C sources, the shared table and its dump,
+# one at a time. The stories or the crowd must find each: by a check that fails, or because they hang. `all` means every
+# fault there is, --tenth each tenth, by turns: which one is chosen by the sum of the folder c. The libraries are the proved
+# one and the calls for memory; without them they are the last two that tools/c_library.sh prints. Ends with status 1 if a
+# fault is not found. CC names another compiler than cc.
 set -uo pipefail
 top=$(cd "$(dirname "$0")/../.." && pwd) || exit 2
-[ $# -ge 3 ] || { sed -n '2,5s/^# //p' "$0" >&2; exit 2; }
-names=("${@:1:$#-2}")
-libraries=("${@:$#-1:2}")
+names=() libraries=() turn=
+for word in "$@"; do
+  case $word in
+    --tenth) turn=$((0x$("$top/tools/sources.sh" c | cut -c 1-6) % 10)) ;;
+    *.a) libraries+=("$word") ;;
+    *) names+=("$word") ;;
+  esac
+done
+[ -n "$turn${names[*]}" ] || { sed -n '2,6s/^# //p' "$0" >&2; exit 2; }
+if [ "${#libraries[@]}" -eq 0 ]; then
+  built=$("$top/tools/c_library.sh") || exit 1
+  mapfile -t libraries < <(tail -n 2 <<<"$built")
+fi
 work=$(mktemp -d) || exit 2
 trap 'rm -rf "$work"' EXIT
 
@@ -242,29 +253,36 @@ list-path-says-not-how-it-waits	/ table_path_made_on(/,/^}/s/^    if (reply.stat
 FAULTS
 }
 
+# says THERE WORD..: compiles a program of the tests with the sources there, and ends with its status.
+says() {
+  local there=$1 program=$2 with=()
+  [ "$program" = crowd ] || with=("-Wl,--wrap=malloc,--wrap=realloc,--wrap=free")
+  # shellcheck disable=SC2086 # CC and FAULT_LINKS may have several words.
+  ${CC:-cc} -std=c99 -D_POSIX_C_SOURCE=200809L -pthread -O1 -w -I"$top/include" -I"$there" -o "$there/$program" \
+    "$top/tests/c/$program.c" "${libraries[@]}" ${FAULT_LINKS:-} "${with[@]}" || return 2
+  timeout 60 "$there/$program" "${@:3}" >>"$there/said" 2>&1
+}
+
 # found NAME EDIT: whether the fault is found.
 found() {
-  local there=$work/$1 compiler=${CC:-cc} program
+  local there=$work/$1
   mkdir -p "$there" && cp "$top"/c/*.c "$there/" && sed -i "$2" "$there"/*.c || return 1
   ! diff -q "$top/c" "$there" -x out >/dev/null || { echo "faults.sh: $1 changes nothing"; return 1; }
-  for program in shared asks waits own_ends crowd; do
-    local with=()
-    [ "$program" = crowd ] || with=(-Wl,--wrap=malloc,--wrap=realloc,--wrap=free)
-    # shellcheck disable=SC2086 # CC and FAULT_LINKS may have several words.
-    $compiler -std=c99 -D_POSIX_C_SOURCE=200809L -pthread -O1 -w -I"$top/include" -I"$there" -o "$there/$program" \
-      "$top/tests/c/$program.c" "${libraries[@]}" ${FAULT_LINKS:-} "${with[@]}" || return 1
-  done
-  timeout 60 "$there/shared" 5 >"$there/said" 2>&1 && timeout 60 "$there/asks" 5 100 >>"$there/said" 2>&1 &&
-    timeout 60 "$there/waits" 5 >>"$there/said" 2>&1 && timeout 60 "$there/own_ends" 5 >>"$there/said" 2>&1 &&
-    timeout 60 "$there/crowd" 4 4 >>"$there/said" 2>&1
+  says "$there" shared 5 && says "$there" asks 5 100 && says "$there" waits 5 && says "$there" own_ends 5 && says "$there" crowd 4 4
   [ $? -eq 1 ] || { echo "faults.sh: $1 was not found"; return 1; }
   echo "$1: found: $(grep -E ': (hangs|not so|[a-z_]*: not so)' "$there/said" | tail -n 1 | sed 's/^[^ ]*\.[ch]:[0-9]*: //')"
 }
 
-status=0
+for name in "${names[@]}"; do
+  [ "$name" = all ] || faults | grep -q "^$name	" || { echo "faults.sh: there is no fault $name" >&2; exit 2; }
+done
+status=0 place=0
 while IFS=$'\t' read -r name edit; do
+  place=$((place + 1))
   case " ${names[*]} " in
-    *" all "* | *" $name "*) found "$name" "$edit" || status=1 ;;
+    *" all "* | *" $name "*) ;;
+    *) [ "$((place % 10))" = "$turn" ] || continue ;;
   esac
+  found "$name" "$edit" || status=1
 done < <(faults)
 exit "$status"
