@@ -42,6 +42,8 @@ def pages():
         wanted(status == 0 and out == block, f"the example at {place} is what --echo prints", block, out, err)
         count += 1
     wanted(count > 10, "the pages have examples")
+    told = run("--echo", f"{TOP}/examples/two_upgrades.script")[1]
+    wanted(f"```\n{told}```\n" in (Path(TOP) / "README.md").read_text(encoding="utf-8"), "README shows what --echo prints", told)
     print(f"{count} examples of the pages, as gltool prints them")
 
 
