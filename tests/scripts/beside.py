@@ -26,6 +26,10 @@ def wanted(is_so, what, *came):
         sys.exit(f"tests/scripts/beside.py: {what}: not so\n" + "\n".join(map(str, came)))
 
 
+# The words by which the pages run their examples.
+WORDS = (), ("--listings", "--schema", "--savepoints"), ("--detect", "by-watcher")
+
+
 def examples():
     """The whole examples of the pages, each with its script: each block that begins one."""
     for page in ("docs/SCRIPT.md", "docs/LOCKS.md"):
@@ -38,8 +42,8 @@ def examples():
 def pages():
     count = 0
     for place, block, script in examples():
-        status, out, err = run("--echo", "--listings", "--schema", "--savepoints", text=script)
-        wanted(status == 0 and out == block, f"the example at {place} is what --echo prints", block, out, err)
+        printed = [run("--echo", *words, text=script) for words in WORDS]
+        wanted((0, block, "") in printed, f"the example at {place} is what --echo prints", block, *(out for _, out, _ in printed))
         count += 1
     wanted(count > 10, "the pages have examples")
     told = run("--echo", f"{TOP}/examples/two_upgrades.script")[1]
