@@ -67,9 +67,17 @@ refused_line() {
   awk '/^(told|holder|waiter|lock|blocker|txn|victim|stuck) / { next } { ++line } /^no 1 NoMemory$/ { found = line; ++count } END { if (count == 1) print found }' "$1"
 }
 
+# says FAULT: standard error has this fault; after bad words the usage follows.
+says() {
+  {
+    echo "gltool: $1"
+    [ "$1" != "bad words" ] || { echo "these words do not go together, or there was no memory for them"; "$program" --help; }
+  } | cmp -s - "$work/fault" || fail "on standard error: $(cat "$work/fault")"
+}
+
 # Nothing may have been read, or written except the fault.
 ended_early() {
-  echo "gltool: $1" | cmp -s - "$work/fault" || fail "on standard error: $(cat "$work/fault")"
+  says "$1"
   [ ! -s "$work/came" ] || fail "something was written before: $(head -n 1 "$work/came")"
   cmp -s "$script" "$work/left" || fail "something was read before"
 }
@@ -112,7 +120,7 @@ counted() {
 
 # Nothing was written except why the crew did not do its rounds.
 stopped() {
-  echo "gltool: $1" | cmp -s - "$work/fault" || fail "on standard error: $(cat "$work/fault")"
+  says "$1"
   [ ! -s "$work/came" ] || fail "written all the same: $(head -n 1 "$work/came")"
 }
 

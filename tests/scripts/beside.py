@@ -112,7 +112,7 @@ def words():
         lines = err.splitlines()
         wanted(status == 2 and out == "" and lines[0] == "gltool: bad words" and lines[1].endswith(f": {word}") and lines[2].startswith("usage: "),
                f"the bad word of {bad} is named", err)
-    wanted(run("--crew", "2")[2].splitlines()[1] == "these words do not go together", "half of a crew is none")
+    wanted(run("--crew", "2")[2].splitlines()[1] == "these words do not go together, or there was no memory for them", "half of a crew is none")
     print("gltool's own words")
 
 

@@ -93,7 +93,9 @@ fn put_usage<E: Write>(call: &Call<'_>, faults: &mut E) -> io::Result<()> {
             faults,
             "unknown, or not a value of the word before it, or without its value: {word}"
         )?,
-        None => faults.write_all(b"these words do not go together\n")?,
+        None => faults.write_all(
+            b"these words do not go together, or there was no memory for them\n",
+        )?,
     }
     faults.write_all(USAGE.as_bytes())
 }
