@@ -47,8 +47,9 @@ said_of_verdicts() {
     echo "package.sh: no test run of these crates by this toolchain has left its verdicts here: run ./check first" >&2
     return 1
   fi
-  echo "The last test run (./check) passed. It proved each of these crates by this toolchain, or an earlier run on the"
-  echo "same machine had proved the same files over the same libraries:"
+  echo "In the last test run (./check) all proofs and the tests in Rattle passed; what those of C and Rust said is not"
+  echo "noted. It proved each of these crates by this toolchain, or an earlier run on the same machine had proved the same"
+  echo "files over the same libraries:"
   echo
   for crate in "${crates[@]}"; do
     if ! grep -qx "proved $crate" "$kept"; then
