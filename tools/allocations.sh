@@ -67,12 +67,13 @@ refused_line() {
   awk '/^(told|holder|waiter|lock|blocker|txn|victim|stuck) / { next } { ++line } /^no 1 NoMemory$/ { found = line; ++count } END { if (count == 1) print found }' "$1"
 }
 
-# says FAULT: standard error has this fault; after bad words the usage follows.
+# says FAULT: standard error has this fault. After bad words, if they could be had, the usage follows.
 says() {
-  {
-    echo "gltool: $1"
-    [ "$1" != "bad words" ] || { echo "these words do not go together, or there was no memory for them"; "$program" --help; }
-  } | cmp -s - "$work/fault" || fail "on standard error: $(cat "$work/fault")"
+  echo "gltool: $1" >"$work/says"
+  if [ "$1" = "bad words" ] && [ "$(wc -l <"$work/fault")" -gt 1 ]; then
+    { echo "these words do not go together, or there was no memory for them"; "$program" --help; } >>"$work/says"
+  fi
+  cmp -s "$work/says" "$work/fault" || fail "on standard error: $(cat "$work/fault")"
 }
 
 # Nothing may have been read, or written except the fault.
@@ -140,7 +141,12 @@ refuse_in_crews() {
       status=$?
       case $status in
         0) counted "$detect" ;;
-        1) stopped "crew stopped" ;;
+        1) # The words alone may lack memory, before there is a crew.
+          case $(cat "$work/fault") in
+            *"no memory") stopped "no memory" ;;
+            *) stopped "crew stopped" ;;
+          esac
+          ;;
         2) stopped "bad words" ;;
         *) fail "status $status" ;;
       esac
