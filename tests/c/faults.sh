@@ -274,7 +274,7 @@ found() {
 }
 
 for name in "${names[@]}"; do
-  [ "$name" = all ] || faults | grep -q "^$name	" || { echo "faults.sh: there is no fault $name" >&2; exit 2; }
+  [ "$name" = all ] || grep -q "^$name	" < <(faults) || { echo "faults.sh: there is no fault $name" >&2; exit 2; }
 done
 status=0 place=0
 while IFS=$'\t' read -r name edit; do

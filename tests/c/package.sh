@@ -136,14 +136,16 @@ others() {
   for script in "$1"/examples/*.script; do
     "$prefix/bin/gltool" <"$script" 2>"$work/log" | cmp - "${script%.script}.expected" >>"$work/log" 2>&1 || fails "gltool answers otherwise"
   done
-  "$prefix/bin/glpicture" <"$1/examples/first.script" 2>"$work/log" | grep -q '^digraph' || fails "glpicture draws nothing"
+  "$prefix/bin/glpicture" <"$1/examples/first.script" >"$work/picture" 2>"$work/log" && grep -q '^digraph' "$work/picture" ||
+    fails "glpicture draws nothing"
   diff -r "$top/rust/burlapslate/src" "$prefix/share/burlapslate/rust/burlapslate/src" >"$work/log" || fails "the crate for Rust is not whole"
   [ -s "$1/CONTRIBUTING.md" ] && [ -s "$1/docs/INSTALL.md" ] || fails "a document is not there"
   echo "the_package_has_programs: $name"
   has "$name, by Python" python3 || return 0
   BURLAPSLATE_LIBRARY=$libdir/libburlapslate.so PYTHONPATH=$prefix/share/burlapslate/python PYTHONDONTWRITEBYTECODE=1 timeout 60 \
     python3 "$top/tests/python/test_burlapslate.py" >"$work/log" 2>&1 || fails "the module for Python does not run with it"
-  "$prefix/bin/glpicture" --timeline "$1/examples/first.script" 2>"$work/log" | grep -q '^<svg' || fails "glpicture draws no timeline"
+  "$prefix/bin/glpicture" --timeline "$1/examples/first.script" >"$work/svg" 2>"$work/log" && grep -q '^<svg' "$work/svg" ||
+    fails "glpicture draws no timeline"
   echo "the_package_by_python: $name"
 }
 

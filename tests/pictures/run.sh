@@ -77,12 +77,14 @@ printf 'inner db\nfile f : db\nlokc a S db\n' >"$work/bad.script"
 grep -q '^line 3: unknown command "lokc"$' "$work/log" && grep -q '^digraph' "$work/picture" || fails "a bad line is not named"
 "$top/glpicture" --strict "$work/bad.script" >"$work/picture" 2>"$work/log"
 [ $? -eq 3 ] && [ ! -s "$work/picture" ] || fails "a bad line is drawn by --strict"
-"$top/glpicture" --held <"$work/bad.script" 2>"$work/log" | grep -q label && fails "--held draws an idle node"
+"$top/glpicture" --held <"$work/bad.script" >"$work/picture" 2>"$work/log" || fails "--held draws nothing"
+grep -q label "$work/picture" && fails "--held draws an idle node"
 "$top/glpicture" --hold "$work/bad.script" >"$work/picture" 2>"$work/log"
 [ $? -eq 2 ] && grep -q '^usage: glpicture' "$work/log" || fails "an unknown word is not refused with the usage"
 echo "pictures: what glpicture says"
 if command -v dot >/dev/null; then
-  "$top/glpicture" --svg --graph "$top/docs/pictures/phantom.script" 2>"$work/log" | grep -q '</svg>' || fails "--svg draws nothing"
+  "$top/glpicture" --svg --graph "$top/docs/pictures/phantom.script" >"$work/picture" 2>"$work/log" &&
+    grep -q '</svg>' "$work/picture" || fails "--svg draws nothing"
   echo "pictures: phantom, by dot"
 else
   echo "pictures: not drawn: dot is not found"
