@@ -3232,16 +3232,16 @@ static void watchers_come_and_go(void) {
   close_table();
 }
 
-/* The epoch of a board that is known to be shown; and whether those who look are to end. */
+/* The epoch of a board that is known to be shown; and until when they look. */
 static uint64_t known_epoch;
-static bool looks_are_over;
+static struct timespec looks_until;
 
 /* No look gives an older board than one that was shown before it. */
 static void *look_for_known(void *arg) {
   bs_watcher watcher = BS_NO_WATCHER_HERE;
   bs_board board;
   DONE(bs_table_watch(table, &watcher));
-  while (!__atomic_load_n(&looks_are_over, __ATOMIC_SEQ_CST)) {
+  while (!is_over(&looks_until)) {
     uint64_t known = __atomic_load_n(&known_epoch, __ATOMIC_SEQ_CST);
     DONE(bs_look(&watcher, &board));
     WANT(board.epoch >= known);
@@ -3250,7 +3250,8 @@ static void *look_for_known(void *arg) {
   return arg;
 }
 
-/* Eight look at once, while a wait begins and ends again and again: each tries again if another was in its way. */
+/* Eight look at once for a third of a second, while a wait begins and ends again and again: each tries again if another was
+ * in its way. */
 static void looks_miss_nothing(void) {
   pthread_t threads[BS_MOST_WATCHERS];
   bs_txn a, b;
@@ -3260,9 +3261,9 @@ static void looks_miss_nothing(void) {
   a = begin(), b = begin();
   DONE(bs_table_lock(table, a, root, BS_X, NULL));
   known_epoch = 0;
-  looks_are_over = false;
+  looks_until = moment_in(300000);
   for (i = 0; i < BS_MOST_WATCHERS; i++) WANT(pthread_create(&threads[i], NULL, look_for_known, NULL) == 0);
-  for (i = 0; i < 3000; i++) {
+  for (i = 0; !is_over(&looks_until); i++) {
     lock = bs_do(BS_DO_LOCK, b);
     lock.node = root;
     lock.mode = BS_S;
@@ -3270,7 +3271,6 @@ static void looks_miss_nothing(void) {
     if (i > 100) __atomic_store_n(&known_epoch, accepted_in(table), __ATOMIC_SEQ_CST);
     DONE(bs_table_cancel(table, b, NULL));
   }
-  __atomic_store_n(&looks_are_over, true, __ATOMIC_SEQ_CST);
   for (i = 0; i < BS_MOST_WATCHERS; i++) pthread_join(threads[i], NULL);
   close_table();
 }
