@@ -30,7 +30,8 @@ bs_reply bs_dump(const bs_manager *manager, FILE *file);
  * writes it into `text`, which has `room` bytes, with a zero at its end; it may leave `text` as it is, which is empty. A
  * byte below a blank is printed as `?`. The thread that dumps calls it, without the latch unless that thread holds the
  * table. It may make any call that does not sleep. `context` is its first argument. A null function takes the names
- * back. Refused with BS_NULL_POINTER and as any call with a table. */
+ * back; a dump that has begun in another thread may still call the function that was there. Refused with
+ * BS_NULL_POINTER and as any call with a table. */
 bs_reply bs_table_name_nodes(bs_table *table,
                              void (*function)(void *context, bs_node node, char *text, size_t room), void *context);
 

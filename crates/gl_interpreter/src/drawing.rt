@@ -57,10 +57,11 @@ pub enum PictureFault {
 }
 
 /// Draws the final state of the script that `reader` gives. The words are those of a script, after an
-/// optional `--graph` or `--waits` and then an optional `--held`. They may include `--listings`, which changes no picture: neither a
-/// listing nor a bad line changes the state. They may include `--schema` and `--savepoints`: what was
-/// dropped or released is then not drawn. Returns the exit status: 0 at the end, 1 after a fault, 2 for
-/// words that ask for no picture. If it is not 0, one line that says why was written to `faults`.
+/// optional `--graph` or `--waits` and then an optional `--held`. They may include `--listings`, which
+/// changes no picture: neither a listing nor a bad line changes the state. They may include `--schema`
+/// and `--savepoints`: what was dropped or released is then not drawn. Returns the exit status: 0 at the
+/// end, 1 after a fault, 2 for words that ask for no picture. If it is not 0, one line that says why was
+/// written to `faults`.
 pub fn draw_script<S: AsStr, R: Read, W: Write, E: Write>(
     alloc: Global,
     words: &[S],
@@ -103,22 +104,9 @@ fn shown_by<S: AsStr>(words: &[S]) -> (Shown, &[S])
     ensures { map S.text result.1.now ≡ behind_shown (map S.text words.now) }
 {
     let (part, rest) = part_by(words);
-    match rest.first() {
-        Some(word) if word.as_str() == "--held" => (
-            Shown {
-                part,
-                held_alone: true,
-            },
-            &rest[1..],
-        ),
-        _ => (
-            Shown {
-                part,
-                held_alone: false,
-            },
-            rest,
-        ),
-    }
+    let held_alone = matches!(rest.first(), Some(word) if word.as_str() == "--held");
+    let rest = if held_alone { &rest[1..] } else { rest };
+    (Shown { part, held_alone }, rest)
 }
 
 /// Which part the first word asks for, and the words after it.
@@ -232,17 +220,9 @@ fn draw_node<W: Write>(sink: &mut Sink, writer: &mut W, desk: &Desk, node: NodeI
     draw_parents(sink, writer, desk, node, shown);
 }
 
-/// Whether a node is drawn: not if nobody holds it or waits for it, where such nodes are left out.
+/// Whether a node is drawn: all are, or those alone that somebody holds or waits for.
 fn is_drawn(desk: &Desk, node: NodeId, shown: Shown) -> bool {
-    !shown.held_alone || group_mode(desk, node) != Mode::NL || has_waiters(desk, node)
-}
-
-/// Whether a transaction waits for a node.
-fn has_waiters(desk: &Desk, node: NodeId) -> bool {
-    match desk.manager.queue(node) {
-        Ok(queue) => !queue.is_empty(),
-        Err(_) => false,
-    }
+    !shown.held_alone || !desk.manager.is_idle(node)
 }
 
 /// The supremum of the modes in which a node is held.

@@ -1,5 +1,6 @@
 //! Why a line of a script was refused, for whoever wrote it.
 
+use gl_modes::Mode;
 use std::io;
 use std::io::Write;
 
@@ -101,7 +102,7 @@ fn put_form<W: Write>(writer: &mut W, line: &[u8], lines: Lines) -> io::Result<(
         writer.write_all(b"it needs the word ")?;
         return writer.write_all(word);
     }
-    if is_request(verb) && !is_mode(field(line, 2)) {
+    if is_request(verb) && Mode::read(field(line, 2)).is_none() {
         writer.write_all(b"unknown mode \"")?;
         writer.write_all(field(line, 2))?;
         return writer.write_all(b"\"; modes are IS, IX, S, SIX, X");
@@ -173,10 +174,6 @@ fn is_name_first(line: &[u8]) -> bool {
 
 fn is_request(verb: &[u8]) -> bool {
     matches!(verb, b"lock" | b"try")
-}
-
-fn is_mode(text: &[u8]) -> bool {
-    matches!(text, b"NL" | b"IS" | b"IX" | b"S" | b"SIX" | b"X")
 }
 
 /// The form of a command.

@@ -21,10 +21,7 @@ use std::{env, io};
 use usage::{USAGE, VERSION};
 
 /// The most bytes of a script, and one more.
-const TOO_MANY: usize = 16_777_217;
-
-/// How many bytes are read at once.
-const BLOCK: usize = 65_536;
+const TOO_MANY: u64 = 16_777_217;
 
 fn main(rt: HostRuntime) -> ExitCode {
     let mut faults = rt.stderr();
@@ -151,13 +148,6 @@ fn run<H: Threads + Wait + Sync, R: Read, W: Write, E: Write>(
 /// Reads all bytes, up to one more than a script may have.
 fn read_all<R: Read>(alloc: Global, reader: &mut R) -> io::Result<Vec<u8>> {
     let mut all: Vec<u8> = Vec::new(alloc);
-    let mut block = [0u8; BLOCK];
-    for _read in 0..TOO_MANY {
-        let count = reader.read(&mut block)?;
-        if count == 0 || all.len() >= TOO_MANY {
-            break;
-        }
-        all.extend_from_slice(&block[..count])?;
-    }
+    reader.take(TOO_MANY).read_to_end(&mut all)?;
     Ok(all)
 }
