@@ -2,6 +2,7 @@
 
 ghost use Rattle.std.specs.Prelude.{◌≡◌, ◌≢◌, ◌≤◌, ◌^◌, ℕ, true, Option, None, slice_get};
 ghost use Rattle.gl_graph.specs.Shapes.{
+  bounds_in,
   file_in,
   is_adopted,
   is_file_shape,
@@ -238,6 +239,17 @@ impl Graph {
     {
         match find(&self.nodes, index) {
             Some(node) => node.body.intervals(),
+            None => &[],
+        }
+    }
+
+    /// The bounds of an index, rising: an interval has the keys from the bound before it, and below its own; none if the
+    /// id names no index.
+    pub fn bounds(&self, index: NodeId) -> &[u64]
+        ensures { result.now ≡ bounds_in (shape_of (graph_of self.now) index) }
+    {
+        match find(&self.nodes, index) {
+            Some(node) => node.body.bounds(),
             None => &[],
         }
     }

@@ -211,6 +211,7 @@ fn draw_node<W: Write>(sink: &mut Sink, writer: &mut W, desk: &Desk, node: NodeI
     put_node(sink, writer, node);
     put(sink, writer, b" [label=\"");
     put_node_name(sink, writer, desk, node);
+    put_keys(sink, writer, desk, node);
     put_holders(sink, writer, desk, node);
     put_waiters(sink, writer, desk, node);
     put(sink, writer, b"\"");
@@ -293,6 +294,34 @@ fn put_node_name<W: Write>(sink: &mut Sink, writer: &mut W, desk: &Desk, node: N
             put(sink, writer, desk.index_name(node));
             put_place(sink, writer, Some(place as u64));
         }
+    }
+}
+
+/// Prints a line of a label with the keys of an interval, unless it has all keys.
+fn put_keys<W: Write>(sink: &mut Sink, writer: &mut W, desk: &Desk, node: NodeId) {
+    let graph = desk.manager.graph();
+    let (Some(place), Some(index)) = (graph.place(node), graph.parents(node).first()) else {
+        return;
+    };
+    let bounds = graph.bounds(*index);
+    let low = if place > 0 { bounds.get(place - 1) } else { None };
+    match (low, bounds.get(place)) {
+        (Some(low), Some(high)) => {
+            put(sink, writer, b"\\n[");
+            put_number(sink, writer, *low);
+            put(sink, writer, b",");
+            put_number(sink, writer, *high);
+            put(sink, writer, b")");
+        }
+        (Some(low), None) => {
+            put(sink, writer, b"\\nfrom ");
+            put_number(sink, writer, *low);
+        }
+        (None, Some(high)) => {
+            put(sink, writer, b"\\nbelow ");
+            put_number(sink, writer, *high);
+        }
+        (None, None) => {}
     }
 }
 
