@@ -18,7 +18,7 @@ touches() {
 own=$(sed -nE 's#^crates/([^/]+)/(src|specs|proofs|must-fail)/.*#\1#p' <<<"$changed" | sort -u)
 affected=()
 while read -r crate; do
-  tools/below.sh "$crate" | grep -qxF -f <(echo "${own:-none}") && affected+=("$crate")
+  tools/library.sh crates_below "$crate" | grep -qxF -f <(echo "${own:-none}") && affected+=("$crate")
 done < <(sed -n 's/^\([a-z][a-z_]*\).*:.*/\1/p' crates.txt)
 [ "${#affected[@]}" -eq 0 ] || echo "rt ci ${affected[*]}"
 
@@ -44,6 +44,6 @@ fi
 ! touches '^c/' || echo "tests/c/faults.sh all"
 if has gl_c || touches '^(c|include|python|tests/python)/'; then echo "tests/python/run.sh"; fi
 if has gl_c || touches '^(c|include|rust)/'; then echo "rust/run.sh && rust/installed.sh"; fi
-if has gl_slots || touches '^tools/wide' || touches '^crates/gl_wide_slots/'; then echo "tools/wide.sh"; fi
+if has gl_slots || touches '^tools/(wide|library)' || touches '^crates/gl_wide_slots/'; then echo "tools/wide.sh"; fi
 ! touches '\.md$' || echo "tools/links.py && tools/pages.sh && tests/scripts/run.py"
 ! touches '^crates/.*\.(rt|antt)$' || echo "tools/lines.py"

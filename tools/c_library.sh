@@ -162,7 +162,7 @@ build_c() {
 
 # build_wide: builds the library for more slots, in a copy of the crates.
 build_wide() {
-  "$top/tools/wide_sources.sh" "$built" && cd "$built/crates/gl_c" && rt lib
+  "$top/tools/library.sh" wide_sources "$built" && cd "$built/crates/gl_c" && rt lib
 }
 
 if [ "$asked" = --look ]; then
@@ -171,7 +171,7 @@ if [ "$asked" = --look ]; then
 fi
 [ -z "$log" ] || ! is_old || put_beside >&2
 if is_old || [ -n "$log" ]; then
-  sum=$("$top/tools/sources.sh" crates) || exit 1
+  sum=$("$top/tools/library.sh" sum_of crates) || exit 1
   if ! is_old; then
     true # It is there by now.
   elif [ "$slots" = 128 ]; then
@@ -182,7 +182,7 @@ if is_old || [ -n "$log" ]; then
   # The sums that tools/package.sh quotes.
   echo "crates $sum library $(sha256sum <"$library" | cut -d ' ' -f 1)" >"${library%/*}/built_from" || exit 1
 fi
-[ "$slots" = 128 ] || "$top/tools/headers.sh" "$slots" "$built/include" || exit 1
+[ "$slots" = 128 ] || "$top/tools/library.sh" headers_for "$slots" "$built/include" || exit 1
 if is_c_old; then
   build_c >&2 || exit 1
 fi

@@ -63,8 +63,8 @@ said_of_verdicts() {
 # proof FOLDER: what was seen of the proof of the library that is installed in the folder.
 proof() {
   local sum included written toolchain logic verdicts
-  sum=$("$top/tools/sources.sh" crates) && included=$("$top/tools/sources.sh" include) &&
-    written=$("$top/tools/sources.sh" c) || return
+  sum=$("$top/tools/library.sh" sum_of crates) && included=$("$top/tools/library.sh" sum_of include) &&
+    written=$("$top/tools/library.sh" sum_of c) || return
   toolchain=$(rt version) && verdicts=$(said_of_verdicts "$sum" "$toolchain") || return
   logic=$(readelf -p .comment "$1/lib/libburlapslate.a" | sed -n 's/.*rattle logic=//p') || return
   cat <<END_OF_FILE
@@ -78,7 +78,7 @@ Archive:   $(sha256sum <"$1/lib/libburlapslate.a" | cut -d ' ' -f 1)
 Shared:    $(sha256sum <"$1/lib/libburlapslate.so" | cut -d ' ' -f 1)
 
 The sums of crates, of headers and of what is written in C are those of the folders crates, include and c, as
-tools/sources.sh prints them. What is written in C, the shared table and its dump, is compiled by ${CC:-cc}, and is not
+tools/library.sh prints them. What is written in C, the shared table and its dump, is compiled by ${CC:-cc}, and is not
 proved.
 $(said_of_building "$sum")
 

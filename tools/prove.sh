@@ -24,7 +24,7 @@ chained=$!
 # By then it has begun the chain. The other run waits for each crate of the chain, and checks once a second whether it
 # is there: by then the next one is begun. Meanwhile it proves all others.
 sleep 5
-export RT_JOBS=${RT_JOBS:-$(tools/jobs.sh)}
+export RT_JOBS=${RT_JOBS:-$(tools/library.sh proof_jobs)}
 nice -n 5 rt ci
 status=$?
 wait "$chained"

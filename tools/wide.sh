@@ -36,7 +36,7 @@ for name in "$@"; do
   grep -Eq "^$name( staticlib)?:" "$top/crates.txt" || { echo "wide.sh: no crate $name in crates.txt" >&2; exit 2; }
 done
 
-"$top/tools/wide_sources.sh" "$scratch" || exit 2
+"$top/tools/library.sh" wide_sources "$scratch" || exit 2
 for name in "$@"; do
   log=$scratch/$name.log
   if (cd "$scratch/crates/$name" && rt check) >"$log" 2>&1; then

@@ -422,7 +422,7 @@ def chosen(every, words):
 
 
 def jobs():
-    said = subprocess.run([f"{TOP}/tools/jobs.sh"], stdout=subprocess.PIPE, text=True).stdout.strip()
+    said = subprocess.run([f"{TOP}/tools/library.sh", "proof_jobs"], stdout=subprocess.PIPE, text=True).stdout.strip()
     return int(said) if said else 1
 
 

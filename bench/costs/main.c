@@ -1,6 +1,5 @@
 /*
- * What single pieces of work cost through the library for C. It is run by bench/locks.sh, bench/sessions.sh and
- * bench/waits.sh, of which each prints a group.
+ * What single pieces of work cost through the library for C. It is run by bench/costs.sh, which prints a group.
  *
  *   costs lines GROUP         for each piece of the group its word, a few rounds and many for a count of instructions,
  *                             and its title, parted by tabs

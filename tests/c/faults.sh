@@ -9,7 +9,7 @@ top=$(cd "$(dirname "$0")/../.." && pwd) || exit 2
 names=() libraries=() turn=
 for word in "$@"; do
   case $word in
-    --tenth) turn=$((0x$("$top/tools/sources.sh" c | cut -c 1-6) % 10)) ;;
+    --tenth) turn=$((0x$("$top/tools/library.sh" sum_of c | cut -c 1-6) % 10)) ;;
     *.a) libraries+=("$word") ;;
     *) names+=("$word") ;;
   esac

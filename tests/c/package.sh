@@ -186,7 +186,7 @@ version=$(basename "$work/packed"/*.tar.gz | cut -d - -f 2)
 verdicts=$top/crates/gl_c/out/verdicts
 cp "$verdicts" "$work/verdicts" || exit 1
 sed -n 's/^proved \(.*\)/rt: \1 is kept: an earlier run on this machine proved the same/p' "$work/verdicts" |
-  "$top/tools/verdicts.sh" "$(sed -n 's/^crates //p' "$work/verdicts")" | cmp - "$work/verdicts" >"$work/log" || fails "kept proofs are other verdicts"
+  "$top/tools/library.sh" verdicts_of "$(sed -n 's/^crates //p' "$work/verdicts")" | cmp - "$work/verdicts" >"$work/log" || fails "kept proofs are other verdicts"
 grep -vx 'proved gl_graph' "$work/verdicts" >"$verdicts"
 ! "$top/tools/package.sh" "$work/lacking" >"$work/log" 2>&1 || fails "a crate without a verdict is packed"
 grep -q gl_graph "$work/log" || fails "it does not say which crate has no verdict"

@@ -111,7 +111,7 @@ refused() {
 with() {
   cp "$ours"/*.h "$headers/" && sed -i "s/^#define BS_VERSION_$1 .*/#define BS_VERSION_$1 $2/" "$headers/burlapslate.h"
 }
-"$top/tools/headers.sh" "$other" "$headers" || exit 1
+"$top/tools/library.sh" headers_for "$other" "$headers" || exit 1
 refused BS_OTHER_SLOTS
 sed -i 's/^#define BS_VERSION_MINOR .*/#define BS_VERSION_MINOR 999/' "$headers/burlapslate.h" && refused BS_OTHER_VERSION
 with MINOR 999 && refused BS_OTHER_VERSION
