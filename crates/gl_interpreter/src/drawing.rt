@@ -304,7 +304,11 @@ fn put_keys<W: Write>(sink: &mut Sink, writer: &mut W, desk: &Desk, node: NodeId
         return;
     };
     let bounds = graph.bounds(*index);
-    let low = if place > 0 { bounds.get(place - 1) } else { None };
+    let low = if place > 0 {
+        bounds.get(place - 1)
+    } else {
+        None
+    };
     match (low, bounds.get(place)) {
         (Some(low), Some(high)) => {
             put(sink, writer, b"\\n[");
