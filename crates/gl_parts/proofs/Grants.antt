@@ -1,22 +1,22 @@
 -- Grants of the whole are compatible, and meet the rule of the graph, if those of each part do.
-use Rattle.std.specs.Prelude.{◌≡◌, ◌≢◌, ◌⊎◌, ℕ, Bool, true, false, not, ◌&&◌, ◌||◌, List, [], ◌∷◌, ◌++◌, Option, Some, None, if◌then◌else◌, is_some, map, ⊤}
+use Rattle.std.specs.Prelude.{◌≡◌, ◌≢◌, ℕ, Bool, true, false, not, ◌&&◌, ◌||◌, List, [], ◌∷◌, ◌++◌, Option, Some, None, if◌then◌else◌, is_some, map}
 use Rattle.std.specs.List.{list_all, list_any}
-use Rattle.std.proofs.Common.{refl, sym, ap, ap₂, inl, inr, ⊎_elim, ◌∙◌}
+use Rattle.std.proofs.Common.{refl, sym, ap, ap₂, ⊎_elim, ◌∙◌}
 use Rattle.gl_modes.specs.declared.mode.Mode.{Mode}
 use Rattle.gl_modes.specs.declared.mode.Mode.TheVariants.{NL, IS, IX, S, SIX, X}
 use Rattle.gl_modes.specs.declared.node.NodeId.{NodeId}
 use Rattle.gl_modes.specs.Modes.{are_compatible, is_at_least, same_mode, supremum}
 use Rattle.gl_modes.proofs.Each.{every-true, same, same-equal}
-use Rattle.gl_modes.proofs.ModeLemmas.{compatible-symmetric, lesser-compatible, NL-compatible, NL-compatible_left, same_mode-equal, supremum-NL, supremum-tested, supremum-tested_left}
-use Rattle.gl_modes.proofs.Words.{and_both, both, cases_of, clash, no, none_some, or_elim, or_left, or_right, some_is, split}
+use Rattle.gl_modes.proofs.ModeLemmas.{compatible-symmetric, lesser-compatible, NL-compatible, NL-compatible_left, same_mode-equal, supremum-NL}
+use Rattle.gl_modes.proofs.ModeLemmas.{supremum-tested, supremum-tested_left}
+use Rattle.gl_modes.proofs.Words.{and_both, both, cases_of, clash, or_elim, or_left, or_right, split}
 use Rattle.gl_graph.specs.Graph.{Graph, parents_of}
-use Rattle.gl_header.specs.Header.{holds}
 use Rattle.gl_model.specs.Lawful.{GrantsGoTogether, GrantsIntend}
-use Rattle.gl_model.specs.State.{State, intends, intends_over, is_write, members, no_parents}
+use Rattle.gl_model.specs.State.{intends_over, is_write, no_parents}
 use Rattle.gl_model.proofs.law.Effects.{no_conflict_on}
 use Rattle.gl_parts.specs.Whole.{Each, HasParentsOf, Part, held_at, held_by_name, held_in, holds_everywhere, intention, intention_in, is_in, strength_in, whole}
-use Rattle.gl_parts.specs.Laws.{GrantsOfOnePart, IsPartOf, ModesBy, ModesOfTheWhole, PartsGoTogether, PartsHaveNoConflict, PartsIntend}
-use Rattle.gl_parts.proofs.Strengths.{beside_intention_reads, beside_intention_writes, everywhere_less, everywhere_some, held_by_all, HeldAll, holds_somewhere}
+use Rattle.gl_parts.specs.Laws.{GrantsOfOnePart, ModesOfTheWhole, PartsGoTogether, PartsHaveNoConflict, PartsIntend}
+use Rattle.gl_parts.proofs.Strengths.{beside_intention_reads, beside_intention_writes, everywhere_some, held_by_all, holds_somewhere}
 use Rattle.gl_parts.proofs.Strengths.{intention_again, intention_below, intention_holds, intention_writes, intentions_fit, reads_all, supremum_holds}
 use Rattle.gl_parts.proofs.Strengths.{supremum_writes, writes_all, writes_everywhere}
 
@@ -214,27 +214,33 @@ each_within g ps t h =
       parents = x.0.1;
       writes = λ q w. (modes_by g ps t q).to_write ∙ x.1.0 q w;
       reads = λ q r. holds_is (held_in ps t q) ∙ (modes_by g ps t q).something ∙ x.1.1 q (sym (holds_is (held_at p t q)) ∙ r);
-    }) ps (each_both _ _ ps h (each_both _ _ ps (each_among (λ q p. is_at_least (held_at p t q) IX) ps) (each_among (λ q p. not (same_mode (held_at p t q) NL)) ps)))
+    }) ps
+    (each_both _ _ ps h (each_both _ _ ps (each_among (λ q p. is_at_least (held_at p t q) IX) ps)
+    (each_among (λ q p. not (same_mode (held_at p t q) NL)) ps)))
+
+-- the rule, by whether the mode writes
+abbrev rule_by : (NodeId → Mode) → List NodeId → Bool → Bool
+rule_by held ps b = if b then list_all (λ p. is_at_least (held p) IX) ps else (no_parents ps || list_any (λ p. is_at_least (held p) IS) ps)
 
 -- the rule for a mode that writes, and for one that does not
 intends_writing : (held : NodeId → Mode) (ps : List NodeId) (m : Mode) → is_write m ≡ true → list_all (λ p. is_at_least (held p) IX) ps ≡ true
     → intends_over held ps m ≡ true
-intends_writing held ps m w h = ap (λ b. if b then list_all (λ p. is_at_least (held p) IX) ps else (no_parents ps || list_any (λ p. is_at_least (held p) IS) ps)) w ∙ h
+intends_writing held ps m w h = ap (rule_by held ps) w ∙ h
 
 intends_reading : (held : NodeId → Mode) (ps : List NodeId) (m : Mode) → is_write m ≡ false
     → (no_parents ps || list_any (λ p. is_at_least (held p) IS) ps) ≡ true
     → intends_over held ps m ≡ true
-intends_reading held ps m w h = ap (λ b. if b then list_all (λ p. is_at_least (held p) IX) ps else (no_parents ps || list_any (λ p. is_at_least (held p) IS) ps)) w ∙ h
+intends_reading held ps m w h = ap (rule_by held ps) w ∙ h
 
 writing_intends : (held : NodeId → Mode) (ps : List NodeId) (m : Mode) → is_write m ≡ true → intends_over held ps m ≡ true
     → list_all (λ p. is_at_least (held p) IX) ps ≡ true
 writing_intends held ps m w h =
-    sym (ap (λ b. if b then list_all (λ p. is_at_least (held p) IX) ps else (no_parents ps || list_any (λ p. is_at_least (held p) IS) ps)) w) ∙ h
+    sym (ap (rule_by held ps) w) ∙ h
 
 reading_intends : (held : NodeId → Mode) (ps : List NodeId) (m : Mode) → is_write m ≡ false → intends_over held ps m ≡ true
     → (no_parents ps || list_any (λ p. is_at_least (held p) IS) ps) ≡ true
 reading_intends held ps m w h =
-    sym (ap (λ b. if b then list_all (λ p. is_at_least (held p) IX) ps else (no_parents ps || list_any (λ p. is_at_least (held p) IS) ps)) w) ∙ h
+    sym (ap (rule_by held ps) w) ∙ h
 
 -- a node that is held in a part has a name there
 named : (p : Part) (t : ℕ) (n : NodeId) → not (same_mode (held_at p t n) NL) ≡ true → (m : NodeId) × (p.name n ≡ Some m)
@@ -268,7 +274,7 @@ reads_above g all t n out (p ∷ ps) within h = or_elim _ _ h (λ here. by here 
         let at = ap (held_by_name (p.state.held t)) e in
         let held = sym (ap (λ x. not (same_mode x NL)) at) ∙ has in
         let read = split (is_at_least (p.state.held t m) IX) (λ w. clash (within.0.writes n (ap (λ x. is_at_least x IX) at ∙ w)) out)
-            (λ r. reading_intends (p.state.held t) (parents_of p.state.graph m) (p.state.held t m) r (within.0.rule t m held)) in
+        (λ r. reading_intends (p.state.held t) (parents_of p.state.graph m) (p.state.held t m) r (within.0.rule t m held)) in
         or_elim _ _ read (λ root. or_left _ _ (root_named p.name (parents_of p.state.graph m) (parents_of g n) (within.0.parents n m e) root))
         (λ some. or_right (no_parents (parents_of g n)) _ (any_named (p.state.held t) p.name (λ x. is_at_least x IS) (λ x. is_at_least x IS) (held_in all t)
         within.0.reads (parents_of p.state.graph m) (parents_of g n) (within.0.parents n m e) some))
@@ -350,8 +356,11 @@ everywhere_of_one m before after p t n here none rest =
         (all bs (neither (is_in n b) _ h).1)
 
 -- an intention with what is had in the one part is its mode
-rejoined : (m : Mode) → supremum (intention m) (if is_at_least m X then X else (if is_at_least m S then S else NL)) ≡ m
-rejoined m = same_mode-equal _ _ (every-true (λ x. same_mode (supremum (intention x) (if is_at_least x X then X else (if is_at_least x S then S else NL))) x) refl m)
+abbrev rejoined_mode : Mode → Mode
+rejoined_mode m = supremum (intention m) (if is_at_least m X then X else (if is_at_least m S then S else NL))
+
+rejoined : (m : Mode) → rejoined_mode m ≡ m
+rejoined m = same_mode-equal _ _ (every-true (λ x. same_mode (rejoined_mode x) x) refl m)
 
 pub grants_of_one_part : GrantsOfOnePart
 grants_of_one_part before after p t n here none rest =

@@ -1,15 +1,12 @@
 -- A step of one part, and cycles of waits in one part.
-use Rattle.std.specs.Prelude.{◌≡◌, ℕ, true, ◌||◌, List, [], ◌∷◌, ◌++◌, Some, map, ⊤}
-use Rattle.std.specs.List.{list_any}
-use Rattle.std.proofs.Common.{refl, sym, ap, ◌∙◌}
-use Rattle.gl_modes.specs.declared.node.NodeId.{NodeId}
+use Rattle.std.specs.Prelude.{◌≡◌, ℕ, true, List, [], ◌∷◌, ◌++◌, Some, map}
+use Rattle.std.proofs.Common.{ap, ◌∙◌}
 use Rattle.gl_modes.proofs.Words.{or_left, or_right}
-use Rattle.gl_graph.specs.Graph.{Graph, parents_of}
-use Rattle.gl_waits.specs.Waits.{IsOnNoCycle}
+use Rattle.gl_graph.specs.Graph.{parents_of}
 use Rattle.gl_waits.proofs.WalkLemmas.{reaches_more}
-use Rattle.gl_model.specs.State.{State, waits_for}
+use Rattle.gl_model.specs.State.{waits_for}
 use Rattle.gl_steps.proofs.StepsKeepLaw.{steps_keep_law}
-use Rattle.gl_parts.specs.Whole.{Each, HasParentsOf, Part, waits_in}
+use Rattle.gl_parts.specs.Whole.{Each, Part, waits_in}
 use Rattle.gl_parts.proofs.Grants.{each_map}
 use Rattle.gl_parts.specs.Laws.{CyclesOfPartsAreCycles, IsPartOf, StepsKeepParts}
 
@@ -37,6 +34,8 @@ waits_of_parts (p ∷ ps) = (λ t u w. or_left _ _ w, each_more ps (waits_of_par
     each_more (q ∷ qs) h = (λ t u w. or_right (waits_for p.state t u) _ (h.0 t u w), each_more qs h.1)
 
 pub cycles_of_parts : CyclesOfPartsAreCycles
-cycles_of_parts ps t none = each_map
-    (λ p more v on. none v (record { there = reaches_more (waits_for p.state) (waits_in ps) more t v on.there; back = reaches_more (waits_for p.state) (waits_in ps) more v t on.back }))
-    ps (waits_of_parts ps)
+cycles_of_parts ps t none =
+    each_map (λ p more v on. none v (record {
+      there = reaches_more (waits_for p.state) (waits_in ps) more t v on.there;
+      back = reaches_more (waits_for p.state) (waits_in ps) more v t on.back;
+    })) ps (waits_of_parts ps)

@@ -1,15 +1,15 @@
 -- Intentions, suprema and what is held everywhere, by tests of the six modes.
-use Rattle.std.specs.Prelude.{◌≡◌, ◌⊎◌, ℕ, Bool, true, false, not, ◌&&◌, ◌||◌, List, [], ◌∷◌, Option, Some, None, if◌then◌else◌, is_some}
+use Rattle.std.specs.Prelude.{◌≡◌, ◌⊎◌, ℕ, Bool, true, false, not, ◌||◌, List, [], ◌∷◌, if◌then◌else◌}
 use Rattle.std.specs.List.{list_all, list_any}
-use Rattle.std.proofs.Common.{refl, sym, ap, ap₂, inl, inr, ◌∙◌}
+use Rattle.std.proofs.Common.{refl, sym, ap, inl, inr, ◌∙◌}
 use Rattle.gl_modes.specs.declared.mode.Mode.{Mode}
-use Rattle.gl_modes.specs.declared.mode.Mode.TheVariants.{NL, IS, IX, S, SIX, X}
+use Rattle.gl_modes.specs.declared.mode.Mode.TheVariants.{NL, IX, S, X}
 use Rattle.gl_modes.specs.declared.node.NodeId.{NodeId}
 use Rattle.gl_modes.specs.Modes.{are_compatible, is_at_least, same_mode, supremum}
-use Rattle.gl_modes.proofs.Each.{every-true, every2-true, implied, implies, same, same-equal}
+use Rattle.gl_modes.proofs.Each.{every-true, every2-true, same, same-equal}
 use Rattle.gl_modes.proofs.ModeLemmas.{at_least-transitive, same_mode-equal}
-use Rattle.gl_modes.proofs.Words.{and_both, both, clash, or_elim, or_left, or_right, split}
-use Rattle.gl_parts.specs.Whole.{Each, Part, held_at, holds_everywhere, intention, intention_in, is_in, strength_in}
+use Rattle.gl_modes.proofs.Words.{and_both, both, clash, or_elim, or_left, or_right}
+use Rattle.gl_parts.specs.Whole.{Part, held_at, holds_everywhere, intention, intention_in, is_in, strength_in}
 
 -- Of one mode and of two.
 

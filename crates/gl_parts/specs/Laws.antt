@@ -1,6 +1,6 @@
 -- The laws of the whole, each said once and proved once.
-use Rattle.std.specs.Prelude.{◌≡◌, ℕ, true, false, not, List, ◌∷◌, ◌++◌}
-use Rattle.std.specs.List.{list_all, list_any}
+use Rattle.std.specs.Prelude.{◌≡◌, ℕ, true, false, List, ◌∷◌, ◌++◌}
+use Rattle.std.specs.List.{list_any}
 use Rattle.gl_modes.specs.declared.mode.Mode.TheVariants.{S, X}
 use Rattle.gl_modes.specs.declared.node.NodeId.{NodeId}
 use Rattle.gl_modes.specs.Modes.{is_at_least, same_mode}
