@@ -1,5 +1,6 @@
 -- What a contract sees of the fields, and what holds of them. For the crate.
-use Rattle.std.specs.Prelude.{◌≡◌, ◌+◌, ◌≤◌, ℕ, List, deque_capacity, deque_len, is_some}
+use Rattle.std.specs.Prelude.{◌≡◌, ◌+◌, ◌≤◌, ℕ, List, is_some}
+use Rattle.std.specs.VecDeque.{deque_capacity, deque_len}
 use Rattle.gl_slots.specs.Slots.{has_slot}
 use Rattle.gl_waiting.specs.declared.delivery.Delivery.TheInside.{Inside}
 use Rattle.gl_waiting.specs.declared.places.Places.TheInside.{Inside as PlacesInside}

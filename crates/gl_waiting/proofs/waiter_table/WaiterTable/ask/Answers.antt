@@ -5,6 +5,8 @@ use Rattle.gl_waiting.specs.Asking.{Asks, Requests, is_for_instant, registered, 
 use Rattle.gl_waiting.specs.Ends.{GivesBack, GoesOn}
 use Rattle.gl_waiting.specs.Waiters.{AwaitBut}
 use Rattle.gl_slots.specs.Slots.{has_slot}
+use Rattle.gl_slots.specs.declared.slots.Slots.{Slots}
+use Rattle.gl_wakes.specs.Wakes.{HasEnded}
 use Rattle.gl_waiting.specs.Waiting.{WaitingView}
 use Rattle.gl_waiting.specs.declared.waiter.Came.{Came}
 use Rattle.gl_waiting.specs.declared.waiter.Came.TheVariants as came
@@ -38,7 +40,7 @@ returns-in-Ended c =
     let instant = instant_as c.is_for_instant-instant.result c.manager.result.now c.self.inside.delivery.manager c.args.txn
     c.args.request c.args.instant c.is_for_instant-instant.ensures c.manager.ensures in
     subst
-    (λ (v : WaitingView). Asks v c.args.txn c.args.request c.args.instant c.args.until over c.request_now-came.new.told.items
+    (λ (v : WaitingView). Asks v c.args.txn c.args.request c.args.instant c.args.until over c.request_now-came.new.told.items c.settle.result
     (waiting_with c.settle.new.delivery c.settle.new.places c.self.inside.begins)) c.self.view_is
     (record {
       first = over;
@@ -48,11 +50,17 @@ returns-in-Ended c =
           c.self.invariant requests;
       calls = asked.calls;
       left = c.give_back-more.new.delivery;
+      ended = subst (λ (ended : Slots). HasEnded (state_of c.self.inside.delivery.manager) (state_of c.give_back-more.new.delivery.manager) ended)
+          (sym c.settle.ensures.ended)
+          (ended_then (state_of c.self.inside.delivery.manager) (state_of c.request_now-came.new.delivery.manager)
+          (state_of c.give_back-more.new.delivery.manager) c.request_now-came.result.1 c.give_back-more.result c.union-due.result c.union-due.ensures
+          c.law-2.ensures.lawful c.request_now-came.ensures.ended c.give_back-more.ensures.ended);
       gives = subst (λ (b : Bool). GivesBack b c.args.txn c.args.request c.in-Ended.outcome served c.give_back-more.new.delivery) instant
           c.give_back-more.ensures.gives;
       after = c.settle.new.places;
       goes = c.settle.ensures.goes;
-      queue = refl;
+      went_on = c.settle.ensures.went_on;
+      turns = (refl, refl);
       replies = (refl, refl);
     })
 
@@ -63,8 +71,8 @@ put-requires c =
     (requests_wait c.self.inside.delivery c.request_now-came.new.delivery c.args.txn c.args.request _ c.request_now-came.new.told.items h c.in-Waits.at
     c.in-Waits.wanted (sym c.in-Waits.is))
 
-pub settle-requires-in-Waits : goal.settle-requires-in-Waits
-settle-requires-in-Waits c =
+pub settle-off-requires : goal.settle-off-requires
+settle-off-requires c =
     let h = c.request_now-came.ensures.requests in
     let waits = requests_wait c.self.inside.delivery c.request_now-came.new.delivery c.args.txn c.args.request _ c.request_now-came.new.told.items h
     c.in-Waits.at c.in-Waits.wanted (sym c.in-Waits.is) in
@@ -80,8 +88,8 @@ settle-requires-in-Waits c =
 
 pub invariant_of-self-in-Waits : goal.invariant_of-self-in-Waits
 invariant_of-self-in-Waits c =
-    await_answers (state_of c.settle-in-Waits.new.delivery.manager) _ c.args.txn.slot c.settle-in-Waits.new.places c.answer.new.self _ c.answer.result
-    c.answer.ensures c.settle-in-Waits.ensures.awaits
+    await_answers (state_of c.settle-off.new.delivery.manager) _ c.args.txn.slot c.settle-off.new.places c.answer.new.self _ c.answer.result
+    c.answer.ensures c.settle-off.ensures.awaits
 
 pub returns-in-Waits : goal.returns-in-Waits
 returns-in-Waits c =
@@ -93,8 +101,8 @@ returns-in-Waits c =
     let instant = instant_as c.is_for_instant-instant.result c.manager.result.now c.self.inside.delivery.manager c.args.txn
     c.args.request c.args.instant c.is_for_instant-instant.ensures c.manager.ensures in
     subst
-    (λ (v : WaitingView). Asks v c.args.txn c.args.request c.args.instant c.args.until c.answer.result c.request_now-came.new.told.items
-    (waiting_with c.settle-in-Waits.new.delivery c.answer.new.self c.self.inside.begins)) c.self.view_is
+    (λ (v : WaitingView). Asks v c.args.txn c.args.request c.args.instant c.args.until c.answer.result c.request_now-came.new.told.items c.settle-off.result
+    (waiting_with c.settle-off.new.delivery c.answer.new.self c.self.inside.begins)) c.self.view_is
     (record {
       first = first;
       served = served;
@@ -104,11 +112,14 @@ returns-in-Waits c =
       calls = asked.calls;
       left = served;
       gives = refl;
-      after = c.settle-in-Waits.new.places;
-      goes = subst (λ (b : Bool). GoesOn served (registered c.args.txn c.args.request b c.args.until first c.self.inside.places) c.settle-in-Waits.new.delivery
-          c.settle-in-Waits.new.places) instant
-          (subst (λ (ps : List Place). GoesOn served ps c.settle-in-Waits.new.delivery c.settle-in-Waits.new.places) c.put.ensures.put
-          c.settle-in-Waits.ensures.goes);
-      queue = refl;
+      ended = subst (λ (ended : Slots). HasEnded (state_of c.self.inside.delivery.manager) (state_of served.manager) ended) (sym c.settle-off.ensures.ended)
+          asked.ended;
+      went_on = c.settle-off.ensures.went_on;
+      after = c.settle-off.new.places;
+      goes = subst (λ (b : Bool). GoesOn served (registered c.args.txn c.args.request b c.args.until first c.self.inside.places) c.settle-off.new.delivery
+          c.settle-off.new.places) instant
+          (subst (λ (ps : List Place). GoesOn served ps c.settle-off.new.delivery c.settle-off.new.places) c.put.ensures.put
+          c.settle-off.ensures.goes);
+      turns = (refl, refl);
       replies = c.answer.ensures;
     })

@@ -14,7 +14,7 @@ slots-init c =
     record {
       calls = calls_none d;
       low = omega arith;
-      queue = refl;
+      turns = (refl, refl);
       goes = λ u. goes_same (EndsInTime c.args.now d d) (place_at c.args.self.now.places u);
       in_time = λ u less below. absurd (omega (arith, less));
     }
@@ -31,7 +31,7 @@ slots-preserved c =
     record {
       calls = calls_then d mid now was.calls one.calls;
       low = omega (arith, low, before);
-      queue = one.queue ∙ was.queue;
+      turns = (one.turns.0 ∙ was.turns.0, one.turns.1 ∙ was.turns.1);
       goes = λ u. times_then c.args.now d mid now was.calls one.calls (place_at c.args.self.now.places u) (place_at c.slots.self.places u)
           (place_at c.expire_at.new.self.places u) (was.goes u) (one.places u);
       in_time = below_next (λ u. c.expire_at.new.self.manager.accepted < max_count → IsInTime c.args.now (place_at c.expire_at.new.self.places u))

@@ -20,16 +20,6 @@ back_ended t d d' told ended (Ok k) done none = done.wakes.all
 back_ended t d d' told ended (Err r) done none =
     subst (λ (x : DeliveryView). HasEnded (state_of d.manager) (state_of x.manager) ended) (sym none.same) (ended_none (state_of d.manager) ended)
 
-also_done : (t : TxnId) (d d' : DeliveryView) (told : Told) (ended : Slots) (result : Result ℕ Refusal) → OnOk result (Delivered d (unlocking t) told ended d')
-    → OnOk result ((x : Slots) × Delivered d (unlocking t) told x d')
-also_done t d d' told ended (Ok k) done = (ended, done)
-also_done t d d' told ended (Err r) done = done
-
-also_none : (d d' : DeliveryView) (told : Told) (ended : Slots) (result : Result ℕ Refusal) → OnErr result (ComesToNothing d told ended d')
-    → OnErr result ((d' ≡ d) × (told ≡ []))
-also_none d d' told ended (Ok k) none = none
-also_none d d' told ended (Err r) none = (none.same, none.untold)
-
 pub settle-requires : goal.settle-requires
 settle-requires c = record {
   awaits = await_on (state_of c.self.inside.delivery.manager) (state_of c.release_since-released.new.self.manager) c.self.inside.places
@@ -47,14 +37,15 @@ returns c =
     let told = c.release_since-released.new.told.items in
     let result = c.release_since-released.result in
     subst
-    (λ (v : WaitingView). RollsBackTo v c.args.txn c.args.mark result.0 told
+    (λ (v : WaitingView). RollsBackTo v c.args.txn c.args.mark result.0 told c.settle.result
     (waiting_with c.settle.new.delivery c.settle.new.places c.self.inside.begins)) c.self.view_is
     (record {
       served = served;
       back = back.back;
-      delivered = also_done c.args.txn d served told result.1 result.0 back.delivered;
-      refused = also_none d served told result.1 result.0 back.refused;
+      delivered = subst (λ (ended : Slots). OnOk result.0 (Delivered d (unlocking c.args.txn) told ended served)) (sym c.settle.ensures.ended) back.delivered;
+      refused = subst (λ (ended : Slots). OnErr result.0 (ComesToNothing d told ended served)) (sym c.settle.ensures.ended) back.refused;
       run = back.run;
       goes = c.settle.ensures.goes;
-      queue = refl;
+      went_on = c.settle.ensures.went_on;
+      turns = (refl, refl);
     })

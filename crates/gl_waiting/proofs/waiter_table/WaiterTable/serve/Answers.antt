@@ -1,4 +1,6 @@
-use Rattle.std.proofs.Common.{refl, subst}
+use Rattle.std.proofs.Common.{refl, subst, sym}
+use Rattle.gl_slots.specs.declared.slots.Slots.{Slots}
+use Rattle.gl_waiting.specs.Delivering.{Carries}
 use Rattle.gl_catalog.specs.Manager.{state_of}
 use Rattle.gl_waiting.specs.Asking.{Serves}
 use Rattle.gl_waiting.specs.Waiting.{WaitingView}
@@ -17,12 +19,14 @@ pub returns : goal.returns
 returns c =
     subst
     (λ (v : WaitingView). Serves v c.args.command c.serve-answer.result.0 c.serve-answer.new.told.items
-    (waiting_with c.settle.new.delivery c.settle.new.places c.self.inside.begins)) c.self.view_is
+    c.settle.result (waiting_with c.settle.new.delivery c.settle.new.places c.self.inside.begins)) c.self.view_is
     (record {
       served = c.serve-answer.new.self;
       serves = c.serve-answer.ensures.serves;
-      delivers = (c.serve-answer.result.1, c.serve-answer.ensures.carries);
+      delivers = subst (λ (ended : Slots). Carries c.self.inside.delivery c.args.command c.serve-answer.new.told.items ended c.serve-answer.new.self)
+          (sym c.settle.ensures.ended) c.serve-answer.ensures.carries;
       run = c.serve-answer.ensures.run;
       goes = c.settle.ensures.goes;
-      queue = refl;
+      went_on = c.settle.ensures.went_on;
+      turns = (refl, refl);
     })

@@ -1,4 +1,7 @@
-use Rattle.std.proofs.Common.{refl, subst}
+use Rattle.std.proofs.Common.{refl, subst, sym}
+use Rattle.gl_slots.specs.declared.slots.Slots.{Slots}
+use Rattle.gl_registry.specs.Applying.{naming, own_command}
+use Rattle.gl_waiting.specs.Delivering.{Carries}
 use Rattle.gl_catalog.specs.Manager.{state_of}
 use Rattle.gl_waiting.specs.Asking.{ServesRow}
 use Rattle.gl_waiting.specs.Waiting.{WaitingView}
@@ -18,13 +21,17 @@ returns c =
     let served = c.serve_row-answer.ensures in
     subst
     (λ (v : WaitingView). ServesRow v c.args.call c.serve_row-answer.result.0 c.serve_row-answer.new.told.items
-    (waiting_with c.settle.new.delivery c.settle.new.places c.self.inside.begins)) c.self.view_is
+    c.settle.result (waiting_with c.settle.new.delivery c.settle.new.places c.self.inside.begins)) c.self.view_is
     (record {
       served = c.serve_row-answer.new.self;
       applies = served.applies;
       own = served.own;
-      delivers = (c.serve_row-answer.result.1, served.carries);
+      delivers = subst (λ (ended : Slots). Carries c.self.inside.delivery
+          (own_command (naming c.args.call c.self.inside.delivery.rows c.serve_row-answer.new.self.rows) c.args.call) c.serve_row-answer.new.told.items ended
+          c.serve_row-answer.new.self)
+          (sym c.settle.ensures.ended) served.carries;
       run = served.run;
       goes = c.settle.ensures.goes;
-      queue = refl;
+      went_on = c.settle.ensures.went_on;
+      turns = (refl, refl);
     })

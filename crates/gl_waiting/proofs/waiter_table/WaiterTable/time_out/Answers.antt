@@ -1,4 +1,4 @@
-use Rattle.std.proofs.Common.{◌≡◌, ◌<◌, ℕ, arith, refl, subst, sym, ap, ◌∙◌, ◌⊎◌, inl, inr, true, false, List}
+use Rattle.std.proofs.Common.{◌≡◌, ◌<◌, ℕ, Bool, [], arith, refl, subst, sym, ap, ◌∙◌, ◌⊎◌, inl, inr, true, false, List}
 use mathlib.Core.Bool.{true≢false}
 use Rattle.gl_steps.specs.Promises.{waits_on}
 use Rattle.std.specs.Prelude.{Option, Some}
@@ -9,7 +9,9 @@ use Rattle.gl_steps.specs.declared.command.Answer.{Answer}
 use Rattle.gl_steps.specs.declared.command.Answer.TheVariants as answer
 use Rattle.gl_catalog.specs.Manager.{state_of}
 use Rattle.gl_waiting.specs.Asking.{TimesOut, is_done}
-use Rattle.gl_waiting.specs.Delivering.{registry_in}
+use Rattle.gl_waiting.specs.Delivering.{Carries, registry_in}
+use Rattle.gl_waiting.specs.Going.{WentOn}
+use Rattle.gl_slots.specs.declared.slots.Slots.{Slots}
 use Rattle.gl_waiting.specs.Ends.{Cancels, EndsBetween, EndsLate, GoesOn, PlaceGoes, PlaceGoesOn}
 use Rattle.gl_registry.specs.Serving.{ServesBy, touches_rows}
 use Rattle.gl_steps.specs.declared.command.Command.TheVariants as command
@@ -58,8 +60,13 @@ returns-then-not-is_done c =
     (place_at c.self.inside.places u) (place_at c.settle.new.places u) (goes.each u) in
     let waits = subst (λ (t : TxnId). waits_on (state_of c.self.inside.delivery.manager) t c.in-Some.waiter.at ≡ true) has.1
     (c.self.invariant.waits c.args.txn.slot c.in-Some.waiter has.0 refl) in
-    subst (λ (v : WaitingView). TimesOut v c.args.txn (waiting_with c.settle.new.delivery c.settle.new.places c.self.inside.begins)) c.self.view_is
+    subst (λ (v : WaitingView). TimesOut v c.args.txn c.settle.result (waiting_with c.settle.new.delivery c.settle.new.places c.self.inside.begins)) c.self.view_is
     (record {
+      cancelled = c.serve-answer.new.self;
+      told = c.serve-answer.new.told.items;
+      cancels = subst (λ (ended : Slots). Carries c.self.inside.delivery (command.Cancel c.args.txn) c.serve-answer.new.told.items ended
+          c.serve-answer.new.self) (sym c.settle.ensures.ended) c.serve-answer.ensures.carries;
+      went_on = c.settle.ensures.went_on;
       calls = calls_then c.self.inside.delivery c.serve-answer.new.self c.settle.new.delivery called c.settle.ensures.goes.calls;
       low = omega (arith, low, more);
       ends = λ w mine below.
@@ -69,7 +76,7 @@ returns-then-not-is_done c =
           made.2.step));
       others = λ u apart. later u;
       own = goes_with (EndsBetween c.self.inside.delivery c.settle.new.delivery) _ (λ w outcome ends. inl ends) _ _ (later c.args.txn.slot);
-      queue = refl;
+      turns = (refl, refl);
       without = λ none. absurd (none c.in-Some.waiter has);
     })
 
@@ -103,8 +110,13 @@ returns c =
     let here = set_here c.self.inside.places c.args.txn.slot over c.put.ensures.slots mine.1 in
     let ended = subst (λ (x : Place). PlaceGoesOn c.serve-answer.new.self c.settle-2.new.delivery x (place_at c.settle-2.new.places c.args.txn.slot)) here
     (goes.each c.args.txn.slot) in
-    subst (λ (v : WaitingView). TimesOut v c.args.txn (waiting_with c.settle-2.new.delivery c.settle-2.new.places c.self.inside.begins)) c.self.view_is
+    subst (λ (v : WaitingView). TimesOut v c.args.txn c.settle-2.result (waiting_with c.settle-2.new.delivery c.settle-2.new.places c.self.inside.begins)) c.self.view_is
     (record {
+      cancelled = c.serve-answer.new.self;
+      told = c.serve-answer.new.told.items;
+      cancels = subst (λ (ended : Slots). Carries c.self.inside.delivery (command.Cancel c.args.txn) c.serve-answer.new.told.items ended
+          c.serve-answer.new.self) (sym c.settle-2.ensures.ended) c.serve-answer.ensures.carries;
+      went_on = c.settle-2.ensures.went_on;
       calls = calls_then c.self.inside.delivery c.serve-answer.new.self c.settle-2.new.delivery called goes.calls;
       low = omega (arith, low, more);
       ends = λ w other below.
@@ -141,7 +153,7 @@ returns c =
               },
             ),
           ));
-      queue = refl;
+      turns = (refl, refl);
       without = λ none. absurd (none c.in-Some.waiter has);
     })
 
@@ -149,12 +161,17 @@ pub returns-in_default : goal.returns-in_default
 returns-in_default c =
     let v = c.args.self.now in
     let none = subst (λ (x : WaitingView). (w : Waiter) → HasWaiter x.places c.args.txn w → ⊥) c.self.view_is c.in_default.ensures.none in
+    let nothing = c.nothing.ensures in
     record {
+      cancelled = delivery_in v;
+      told = [];
+      cancels = inr (record { same = refl; untold = refl; none = nothing.0 });
+      went_on = subst (λ (b : Bool). WentOn b (delivery_in v) (delivery_in v)) (sym nothing.1) refl;
       calls = calls_none (delivery_in v);
       low = omega arith;
       ends = λ w other below. absurd (none w other);
       others = λ u apart. goes_same (EndsBetween (delivery_in v) (delivery_in v)) (place_at v.places u);
       own = goes_same _ (place_at v.places c.args.txn.slot);
-      queue = refl;
-      without = λ none. refl;
+      turns = (refl, refl);
+      without = λ none. (nothing, refl);
     }

@@ -1,4 +1,6 @@
-use Rattle.std.proofs.Common.{refl, subst}
+use Rattle.std.proofs.Common.{refl, subst, sym}
+use Rattle.gl_slots.specs.declared.slots.Slots.{Slots}
+use Rattle.gl_waiting.specs.Tries.{IsTried}
 use Rattle.gl_catalog.specs.Manager.{state_of}
 use Rattle.gl_waiting.specs.Asking.{TriesThere}
 use Rattle.gl_waiting.specs.Waiting.{WaitingView}
@@ -16,13 +18,15 @@ returns c =
     let tried = c.try_path-tried.ensures in
     subst
     (λ (v : WaitingView). TriesThere v c.args.txn (c.args.node, c.args.mode) c.args.keep c.try_path-tried.result.0 c.try_path-tried.new.told.items
-    (waiting_with c.settle.new.delivery c.settle.new.places c.self.inside.begins)) c.self.view_is
+    c.settle.result (waiting_with c.settle.new.delivery c.settle.new.places c.self.inside.begins)) c.self.view_is
     (record {
       served = c.try_path-tried.new.self;
-      tries = (c.try_path-tried.result.1, tried.tries);
+      tries = subst (λ (ended : Slots). IsTried c.args.keep c.args.txn (c.args.node, c.args.mode) c.self.inside.delivery c.try_path-tried.result.0
+          c.try_path-tried.new.told.items ended c.try_path-tried.new.self) (sym c.settle.ensures.ended) tried.tries;
       held = tried.held;
       tests = tried.tests;
       run = tried.run;
       goes = c.settle.ensures.goes;
-      queue = refl;
+      went_on = c.settle.ensures.went_on;
+      turns = (refl, refl);
     })

@@ -1,4 +1,6 @@
-use Rattle.std.proofs.Common.{refl, subst}
+use Rattle.std.proofs.Common.{refl, subst, sym}
+use Rattle.gl_slots.specs.declared.slots.Slots.{Slots}
+use Rattle.gl_waiting.specs.RowTries.{TriesRow}
 use Rattle.gl_catalog.specs.Manager.{state_of}
 use Rattle.gl_registry.specs.Locking.{Wish}
 use Rattle.gl_waiting.specs.Asking.{TriesRowThere}
@@ -18,14 +20,16 @@ returns c =
     let wish : Wish = record { txn = c.args.txn; row = c.args.row; keys = c.args.keys; mode = c.args.mode } in
     subst
     (λ (v : WaitingView). TriesRowThere v wish c.try_row-tried.result.0 c.try_row-tried.new.told.items
-    (waiting_with c.settle.new.delivery c.settle.new.places c.self.inside.begins)) c.self.view_is
+    c.settle.result (waiting_with c.settle.new.delivery c.settle.new.places c.self.inside.begins)) c.self.view_is
     (record {
       served = c.try_row-tried.new.self;
-      tries = (c.try_row-tried.result.1, tried.tries);
+      tries = subst (λ (ended : Slots). TriesRow wish c.self.inside.delivery c.try_row-tried.result.0 c.try_row-tried.new.told.items ended
+          c.try_row-tried.new.self) (sym c.settle.ensures.ended) tried.tries;
       holds = tried.holds;
       waits = tried.waits;
       queues = tried.queues;
       run = tried.run;
       goes = c.settle.ensures.goes;
-      queue = refl;
+      went_on = c.settle.ensures.went_on;
+      turns = (refl, refl);
     })
