@@ -94,7 +94,11 @@ impl WaiterTable {
 
     /// Carries out a command, as `Registry::serve`, with its notices put into an empty list. Waiters whose wait it ends
     /// go on or end.
-    pub(crate) fn serve(&mut self, command: Command<'_>, told: &mut Told) -> (Option<Answer>, SetOff)
+    pub(crate) fn serve(
+        &mut self,
+        command: Command<'_>,
+        told: &mut Told,
+    ) -> (Option<Answer>, SetOff)
         requires empty { told.old.items ≡ [] }
         ensures { Serves self.old command.entry result.0 told.new.items result.1 self.new }
     {
@@ -127,7 +131,10 @@ impl WaiterTable {
     {
         self.delivery.law();
         let (released, ended) = self.delivery.release_since(txn, mark, told);
-        (released, settle(&mut self.delivery, &mut self.places, ended))
+        (
+            released,
+            settle(&mut self.delivery, &mut self.places, ended),
+        )
     }
 
     /// Tries to lock a node with what must be held above it, as `Delivery::try_path`. Waiters whose wait a rollback ends
@@ -338,10 +345,7 @@ impl WaiterTable {
         let (answer, ended) = self.delivery.serve(begin_command(since), &mut told);
         let Some(answer) = answer else { unreachable!() };
         match begun_in(answer) {
-            Ok(txn) => (
-                Ok(txn),
-                settle(&mut self.delivery, &mut self.places, ended),
-            ),
+            Ok(txn) => (Ok(txn), settle(&mut self.delivery, &mut self.places, ended)),
             Err(refusal) => (Err(refusal), SetOff::nothing()),
         }
     }

@@ -1,4 +1,4 @@
-use Rattle.std.proofs.Common.{◌≡◌, ℕ, [], refl, subst, sym}
+use Rattle.std.proofs.Common.{ℕ, refl, subst, sym}
 use Rattle.std.specs.Prelude.{OnErr, OnOk, Result, Ok, Err}
 use Rattle.gl_slots.specs.declared.slots.Slots.{Slots}
 use Rattle.gl_modes.specs.declared.refusal.Refusal.{Refusal}

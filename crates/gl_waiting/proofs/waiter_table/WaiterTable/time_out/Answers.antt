@@ -60,7 +60,9 @@ returns-then-not-is_done c =
     (place_at c.self.inside.places u) (place_at c.settle.new.places u) (goes.each u) in
     let waits = subst (λ (t : TxnId). waits_on (state_of c.self.inside.delivery.manager) t c.in-Some.waiter.at ≡ true) has.1
     (c.self.invariant.waits c.args.txn.slot c.in-Some.waiter has.0 refl) in
-    subst (λ (v : WaitingView). TimesOut v c.args.txn c.settle.result (waiting_with c.settle.new.delivery c.settle.new.places c.self.inside.begins)) c.self.view_is
+    subst
+    (λ (v : WaitingView). TimesOut v c.args.txn c.settle.result (waiting_with c.settle.new.delivery c.settle.new.places c.self.inside.begins))
+    c.self.view_is
     (record {
       cancelled = c.serve-answer.new.self;
       told = c.serve-answer.new.told.items;
@@ -110,7 +112,9 @@ returns c =
     let here = set_here c.self.inside.places c.args.txn.slot over c.put.ensures.slots mine.1 in
     let ended = subst (λ (x : Place). PlaceGoesOn c.serve-answer.new.self c.settle-2.new.delivery x (place_at c.settle-2.new.places c.args.txn.slot)) here
     (goes.each c.args.txn.slot) in
-    subst (λ (v : WaitingView). TimesOut v c.args.txn c.settle-2.result (waiting_with c.settle-2.new.delivery c.settle-2.new.places c.self.inside.begins)) c.self.view_is
+    subst
+    (λ (v : WaitingView). TimesOut v c.args.txn c.settle-2.result (waiting_with c.settle-2.new.delivery c.settle-2.new.places c.self.inside.begins))
+    c.self.view_is
     (record {
       cancelled = c.serve-answer.new.self;
       told = c.serve-answer.new.told.items;

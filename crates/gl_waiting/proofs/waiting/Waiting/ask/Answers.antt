@@ -5,6 +5,10 @@ use Rattle.gl_waiting.proofs.waiting.Waiting.ask.Goals as goal
 
 pub returns : goal.returns
 returns c =
-    subst
-    (λ (v : WaitingView). InTurn (λ off mid. Asks v c.args.txn c.args.request c.args.instant c.args.until c.ask-came.result.0 c.ask-came.new.told.items off mid) c.hand_on.result c.hand_on.new.self) c.self.view_is
-    (c.ask-came.result.1, c.ask-came.new.self, c.ask-came.ensures, c.hand_on.ensures.hands)
+    let call = c.ask-came in
+    let txn = c.args.txn in
+    let request = c.args.request in
+    let until = c.args.until in
+    let told = call.new.told.items in
+    subst (λ (v : WaitingView). InTurn (λ off mid. Asks v txn request c.args.instant until call.result.0 told off mid) c.hand_on.result c.hand_on.new.self)
+    c.self.view_is (call.result.1, call.new.self, call.ensures, c.hand_on.ensures.hands)

@@ -5,6 +5,9 @@ use Rattle.gl_waiting.proofs.waiting.Waiting.request.Goals as goal
 
 pub returns : goal.returns
 returns c =
-    subst
-    (λ (v : WaitingView). InTurn (λ off mid. AsksOnce v c.args.txn c.args.request c.args.instant c.request-came.result.0 c.request-came.new.told.items off mid) c.hand_on.result c.hand_on.new.self) c.self.view_is
-    (c.request-came.result.1, c.request-came.new.self, c.request-came.ensures, c.hand_on.ensures.hands)
+    let call = c.request-came in
+    let txn = c.args.txn in
+    let request = c.args.request in
+    let told = call.new.told.items in
+    subst (λ (v : WaitingView). InTurn (λ off mid. AsksOnce v txn request c.args.instant call.result.0 told off mid) c.hand_on.result c.hand_on.new.self)
+    c.self.view_is (call.result.1, call.new.self, call.ensures, c.hand_on.ensures.hands)

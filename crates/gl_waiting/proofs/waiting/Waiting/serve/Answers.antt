@@ -5,6 +5,6 @@ use Rattle.gl_waiting.proofs.waiting.Waiting.serve.Goals as goal
 
 pub returns : goal.returns
 returns c =
-    subst
-    (λ (v : WaitingView). InTurn (λ off mid. Serves v c.args.command c.serve-answer.result.0 c.serve-answer.new.told.items off mid) c.hand_on.result c.hand_on.new.self) c.self.view_is
-    (c.serve-answer.result.1, c.serve-answer.new.self, c.serve-answer.ensures, c.hand_on.ensures.hands)
+    let call = c.serve-answer in
+    subst (λ (v : WaitingView). InTurn (λ off mid. Serves v c.args.command call.result.0 call.new.told.items off mid) c.hand_on.result c.hand_on.new.self)
+    c.self.view_is (call.result.1, call.new.self, call.ensures, c.hand_on.ensures.hands)
