@@ -239,7 +239,7 @@ abbrev pub is_done : Option Answer → Bool
 is_done (Some answer.Done) = true
 is_done o = false
 
--- each wait whose time is over has ended, if a command can still be counted, and others go on; all commands are what it set off
+-- each wait whose time is over has ended, if a command can still be counted, and others go on; the call has no command of its own
 pub record Expires (v : WaitingView) (now : ℕ) (off : SetOff) (v' : WaitingView) : Type 0 where
   pub ended : HasNoSlot off.ended
   pub went_on : WentOn off.went_on (delivery_in v) (delivery_in v')
@@ -297,7 +297,7 @@ pub record HandsFirst (v v' : WaitingView) : Type 0 where
   pub begins : Begins v first.since result off mid
   pub handed : v' ≡ record mid { queue = drop 1 v.queue; begun = v.begun ++ (first, result) ∷ [] }
 
--- the next begin is handed on; nothing changes if nobody waits for a slot, or every slot is taken
+-- the first begin is handed on; nothing changes if none waits for a slot, or every slot is taken
 abbrev pub BeginsNext : WaitingView → Bool → WaitingView → Type 0
 BeginsNext v true v' = HandsFirst v v'
 BeginsNext v false v' = IsInTurn v × (v' ≡ v)
@@ -307,7 +307,7 @@ abbrev pub HandsOn : ℕ → WaitingView → WaitingView → Type 0
 HandsOn zero v v' = v' ≡ v
 HandsOn (suc k) v v' = (mid : WaitingView) × HandsFirst v mid × HandsOn k mid v'
 
--- begins are handed on after what a call set off so far; with them it went on
+-- begins are handed on after a call that set off the first of these; if any was, the call went on
 pub record HandsOnAfter (own : SetOff) (v : WaitingView) (off : SetOff) (v' : WaitingView) : Type 0 where
   pub count : ℕ
   pub hands : HandsOn count v v'

@@ -368,8 +368,8 @@ impl WaiterTable {
         }
     }
 
-    /// Hands on begins until nobody waits for a slot, or every slot is taken. Answers what a call set off that set off this
-    /// before.
+    /// Hands on begins until nobody waits for a slot, or every slot is taken. `own` is what the call set off before that; the
+    /// answer is what it set off in all.
     pub(crate) fn hand_on(&mut self, own: SetOff) -> SetOff
         ensures hands { HandsOnAfter own self.old result self.new }
         ensures turn { IsInTurn self.new }
