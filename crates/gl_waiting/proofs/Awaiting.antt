@@ -59,7 +59,7 @@ use Rattle.gl_waiting.specs.RowLocks.{row_came_of}
 use Rattle.gl_waiting.specs.declared.waiter.Request.{Request}
 use Rattle.gl_waiting.specs.declared.waiter.Request.TheVariants as request
 use Rattle.gl_waiting.specs.Waiting.{WaitingView}
-use Rattle.gl_waiting.specs.declared.begins.QueuedBegin.{QueuedBegin}
+use Rattle.gl_waiting.specs.Begins.{BeginsView}
 use Rattle.gl_waiting.specs.declared.waiter.Came.{Came}
 use Rattle.gl_waiting.specs.declared.waiter.Came.TheVariants as came
 use Rattle.gl_waiting.specs.declared.waiter.Outcome.{Outcome}
@@ -398,8 +398,9 @@ requests_wait d d' t (request.Path n m) c told h at wanted is = came_waits (stat
 requests_wait d d' t (request.Row row keys mode) c told h at wanted is = row_waits (state_of d'.manager) t h.result at wanted (is ∙ h.came)
 
 -- a table of waiters of this delivery
-abbrev pub waiting_with : DeliveryView → List Place → List QueuedBegin → WaitingView
-waiting_with d places queue = record { manager = d.manager; rows = d.rows; boxes = d.boxes; places = places; queue = queue }
+abbrev pub waiting_with : DeliveryView → List Place → BeginsView → WaitingView
+waiting_with d places begins =
+    record { manager = d.manager; rows = d.rows; boxes = d.boxes; places = places; queue = begins.waiting; begun = begins.begun }
 
 -- A cancel of a wait is done, if a command can still be counted.
 module _ (s : State) (t : TxnId) (n : NodeId) (waits : waits_on s t n ≡ true) (low : s.accepted < max_count) where

@@ -16,7 +16,10 @@ use Rattle.gl_waiting.specs.Ends.{Cancels, EndsAt, EndsBetween, EndsByRow, EndsI
 use Rattle.gl_waiting.specs.Ends.{is_given_back}
 use Rattle.gl_waiting.specs.Going.{Calls}
 use Rattle.gl_waiting.specs.Paths.{LocksThrough}
-use Rattle.gl_waiting.specs.Waiters.{IsInTime, StillRequests, came_of, has_more, next_after, next_of, next_of_row, node_in, outcome_of, place_at, place_of}
+use Rattle.gl_model.specs.State.{State}
+use Rattle.gl_slots.specs.Limit.{most_slots}
+use Rattle.gl_waiting.specs.Waiters.{Await, IsInTime, StillRequests, came_of, has_more, next_after, next_of, next_of_row, node_in}
+use Rattle.gl_waiting.specs.Waiters.{outcome_of, place_at, place_of}
 use Rattle.gl_registry.specs.declared.row.Row.{Row}
 use Rattle.gl_waiting.specs.RowLocks.{LocksRowWith, granted_own}
 use Rattle.gl_waiting.specs.declared.keys.RowKeys.{RowKeys}
@@ -274,6 +277,16 @@ in_time_on Ends now place.Empty q goes h = subst (IsInTime now) (sym goes) refl
 in_time_on Ends now (place.Ended t outcome) q goes h = subst (IsInTime now) (sym goes) refl
 in_time_on Ends now (place.Waits w) q (inl (v, is, still)) h = subst (IsInTime now) (sym is) (ap (is_over now) still.until ∙ h)
 in_time_on Ends now (place.Waits w) q (inr (outcome, is, ends)) h = subst (IsInTime now) (sym is) refl
+
+-- only the slots of transactions have waiters, so all waits are in time if theirs are
+pub in_time_all : (now : ℕ) (s : State) (places : List Place) → Await s places → ((u : ℕ) → u < most_slots → IsInTime now (place_at places u)) → (u : ℕ)
+    → IsInTime now (place_at places u)
+in_time_all now s places awaits below u = by (place_at places u) refl
+  where
+    by : (p : Place) → place_at places u ≡ p → IsInTime now p
+    by place.Empty is = refl
+    by (place.Ended t outcome) is = refl
+    by (place.Waits w) is = subst (IsInTime now) is (below u (awaits.own u w is).1)
 
 -- waiters go on or end in time, and again
 module _ (now : ℕ) (d mid d' : DeliveryView) (one : Calls d mid) (other : Calls mid d') where

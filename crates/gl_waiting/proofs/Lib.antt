@@ -12,3 +12,4 @@ pub mod RowLocking
 pub mod RowTrying
 pub mod Runs
 pub mod TriedPaths
+pub mod Turns

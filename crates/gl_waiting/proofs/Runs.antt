@@ -1,6 +1,7 @@
 -- Runs of commands, one after the other.
-use Rattle.std.specs.Prelude.{◌≡◌, List, [], ◌∷◌, ◌++◌}
-use Rattle.std.proofs.Common.{ap, refl, subst}
+use Rattle.std.specs.Prelude.{◌≡◌, ◌≤◌, ◌==◌, Bool, true, false, not, List, [], ◌∷◌, ◌++◌}
+use Rattle.std.proofs.Common.{ap, refl, subst, sym, ◌∙◌, inl, inr, arith}
+use Rattle.std.proofs.lemmas.Bool.Decides.{nat_tests}
 use Rattle.gl_slots.specs.declared.slots.Slots.{Slots}
 use Rattle.gl_catalog.specs.Manager.{state_of}
 use Rattle.gl_model.specs.State.{State}
@@ -11,7 +12,7 @@ use Rattle.gl_steps.specs.declared.command.Command.{Command}
 use Rattle.gl_steps.specs.Step.{Run, Step}
 use Rattle.gl_registry.specs.Locking.{Line, Runs}
 use Rattle.gl_waiting.specs.Delivering.{Carries, DeliveryView}
-use Rattle.gl_waiting.specs.Going.{Calls, CallsTo, IsRun}
+use Rattle.gl_waiting.specs.Going.{Calls, CallsTo, IsRun, WentOn}
 
 -- no command
 pub run_none : (s : State) → IsRun s s
@@ -65,3 +66,37 @@ calls_are (mid ∷ mids) d d' h = run_then (state_of d.manager) (state_of mid.ma
 -- calls are a run of the model
 pub calls_run : (d d' : DeliveryView) → Calls d d' → IsRun (state_of d.manager) (state_of d'.manager)
 calls_run d d' h = calls_are h.0 d d' h.1
+
+-- Calls count what they carry out.
+
+call_low : (d d' : DeliveryView) (c : Command) (told : Told) (ended : Slots) → Carries d c told ended d' → d.manager.accepted ≤ d'.manager.accepted
+call_low d d' c told ended (inl so) = let more = so.0 in omega (arith, more)
+call_low d d' c told ended (inr idle) =
+    let same : d'.manager.accepted ≡ d.manager.accepted = ap (λ (x : DeliveryView). x.manager.accepted) idle.same in omega (arith, same)
+
+calls_low : (mids : List DeliveryView) (d d' : DeliveryView) → CallsTo d mids d' → d.manager.accepted ≤ d'.manager.accepted
+calls_low [] d d' same =
+    let e : d'.manager.accepted ≡ d.manager.accepted = ap (λ (x : DeliveryView). x.manager.accepted) same in omega (arith, e)
+calls_low (mid ∷ mids) d d' h =
+    let one = call_low d mid h.0.command h.0.told h.0.ended h.0.carries in
+    let rest = calls_low mids mid d' h.1 in
+    omega (arith, one, rest)
+
+-- calls of which none was counted changed nothing
+still_first : (d mid d' : DeliveryView) (c : Command) (told : Told) (ended : Slots) → Carries d c told ended mid
+    → mid.manager.accepted ≤ d'.manager.accepted → d'.manager.accepted ≤ d.manager.accepted → (d'.manager.accepted ≤ mid.manager.accepted → d' ≡ mid)
+    → d' ≡ d
+still_first d mid d' c told ended (inl so) low none rest = let more = so.0 in absurd (omega (arith, more, low, none))
+still_first d mid d' c told ended (inr idle) low none rest =
+    rest (subst (λ (x : DeliveryView). d'.manager.accepted ≤ x.manager.accepted) (sym idle.same) none) ∙ idle.same
+
+calls_still : (mids : List DeliveryView) (d d' : DeliveryView) → CallsTo d mids d' → d'.manager.accepted ≤ d.manager.accepted → d' ≡ d
+calls_still [] d d' same none = same
+calls_still (mid ∷ mids) d d' h none =
+    still_first d mid d' h.0.command h.0.told h.0.ended h.0.carries (calls_low mids mid d' h.1) none (λ few. calls_still mids mid d' h.1 few)
+
+-- whether calls carried anything out, by their count
+pub went_on_by : (d d' : DeliveryView) (b : Bool) → Calls d d' → b ≡ not (d'.manager.accepted == d.manager.accepted) → WentOn b d d'
+went_on_by d d' true calls is = let low = calls_low calls.0 d d' calls.1 in grind (arith, nat_tests, low, is)
+went_on_by d d' false calls is =
+    let few : d'.manager.accepted ≤ d.manager.accepted = grind (arith, nat_tests, is) in calls_still calls.0 d d' calls.1 few

@@ -1,8 +1,7 @@
 -- What a request does, and what it is answered.
-use Rattle.std.specs.Prelude.{◌≡◌, ◌≢◌, ◌<◌, ◌≤◌, ℕ, Bool, true, false, Some, List, [], Option, Result, Ok, Err, slice_set}
+use Rattle.std.specs.Prelude.{◌≡◌, ◌≢◌, ◌<◌, ◌≤◌, ◌||◌, ℕ, zero, suc, not, Bool, true, false, Some, List, [], Option, Result, Ok, Err, slice_set}
 use Rattle.gl_modes.specs.declared.mode.Mode.{Mode}
 use Rattle.gl_modes.specs.declared.node.NodeId.{NodeId}
-use Rattle.gl_slots.specs.declared.slots.Slots.{Slots}
 use Rattle.gl_steps.specs.declared.command.Answer.{Answer}
 use Rattle.gl_steps.specs.declared.command.Answer.TheVariants as answer
 use Rattle.gl_steps.specs.declared.command.Command.{Command}
@@ -13,9 +12,12 @@ use Rattle.gl_catalog.specs.Manager.{state_of}
 use Rattle.gl_catalog.specs.Paths.{Ask, lock_of}
 use Rattle.gl_catalog.specs.declared.manager.paths.Reached.{Reached}
 use Rattle.gl_registry.specs.Serving.{Applies, ServesBy, touches_rows}
-use Rattle.gl_waiting.specs.Delivering.{Carries, Delivered, DeliveryView, lock_said, registry_in, unlocking}
+use Rattle.gl_waiting.specs.Delivering.{Carries, ComesToNothing, Delivered, DeliveryView, lock_said, registry_in, unlocking}
 use Rattle.gl_waiting.specs.Ends.{EndsBetween, EndsInTime, EndsLate, GivesBack, GoesOn, PlaceGoes, PlaceGoesOn}
-use Rattle.gl_waiting.specs.Going.{Calls, IsRun}
+use Rattle.gl_waiting.specs.Going.{Calls, IsRun, WentOn}
+use Rattle.gl_waiting.specs.declared.set_off.SetOff.{SetOff}
+use Rattle.gl_slots.specs.Slots.{HasNoSlot}
+use Rattle.gl_wakes.specs.Wakes.{HasEnded}
 use Rattle.gl_waiting.specs.Paths.{LocksThrough}
 use Rattle.gl_registry.specs.Locking.{Wish}
 use Rattle.gl_waiting.specs.RowLocks.{RequestsRow}
@@ -24,7 +26,7 @@ use Rattle.gl_waiting.specs.declared.tries.RowTried.{RowTried}
 use Rattle.gl_waiting.specs.Waiters.{AnswersIn, HasWaiter, outcome_of, IsInTime, came_of, place_at, waiter_in}
 use Rattle.gl_waiting.specs.Waiting.{WaitingView, delivery_in}
 use Rattle.std.specs.List.{list_all}
-use Rattle.std.specs.Prelude.{◌⊎◌, ◌==◌, ◌++◌, ◌∷◌, None, drop, is_some, length, slice_get}
+use Rattle.std.specs.Prelude.{◌⊎◌, ◌==◌, ◌++◌, ◌∷◌, None, drop, is_some, slice_get}
 use Rattle.gl_model.specs.State.{State, lives, slots}
 use Rattle.gl_modes.specs.declared.mode.Mode.TheVariants.{NL}
 use Rattle.gl_modes.specs.declared.refusal.Refusal.TheVariants as no
@@ -75,55 +77,69 @@ Requests d t (request.Node node mode) c told d' = ComesTo t (λ reached. LocksAl
 Requests d t (request.Path node mode) c told d' = ComesTo t (λ reached. LocksThrough t (node, mode) d reached d' × (told ≡ [])) d' c
 Requests d t (request.Row row keys mode) c told d' = RequestsRow d t row keys mode c told d'
 
+-- the begin queue stays as it is
+abbrev pub KeepsTurns : WaitingView → WaitingView → Type 0
+KeepsTurns v v' = (v'.queue ≡ v.queue) × (v'.begun ≡ v.begun)
+
+-- nothing was set off
+abbrev pub IsNothing : SetOff → Type 0
+IsNothing off = HasNoSlot off.ended × (off.went_on ≡ false)
+
 -- a command is carried out, as a registry serves it, and then waiters go on
-pub record Serves (v : WaitingView) (c : Command) (a : Option Answer) (told : Told) (v' : WaitingView) : Type 0 where
+pub record Serves (v : WaitingView) (c : Command) (a : Option Answer) (told : Told) (off : SetOff) (v' : WaitingView) : Type 0 where
   pub served : DeliveryView
   pub serves : ServesBy (touches_rows (registry_in (delivery_in v)) c) (registry_in (delivery_in v)) c a told (registry_in served)
-  pub delivers : (ended : Slots) × Carries (delivery_in v) c told ended served
+  pub delivers : Carries (delivery_in v) c told off.ended served
   pub run : IsRun (state_of v.manager) (state_of served.manager)
   pub goes : GoesOn served v.places (delivery_in v') v'.places
-  pub queue : v'.queue ≡ v.queue
+  pub went_on : WentOn off.went_on served (delivery_in v')
+  pub turns : KeepsTurns v v'
 
 -- a call about rows is carried out, as a registry applies it, and then waiters go on
-pub record ServesRow (v : WaitingView) (c : RowCall) (a : RowAnswer) (told : Told) (v' : WaitingView) : Type 0 where
+pub record ServesRow (v : WaitingView) (c : RowCall) (a : RowAnswer) (told : Told) (off : SetOff) (v' : WaitingView) : Type 0 where
   pub served : DeliveryView
   pub applies : AppliesCall (registry_in (delivery_in v)) c a told (registry_in served)
   pub own : CarriesOut v.manager (own_command (naming c v.rows served.rows) c) (answer_in a) told served.manager
-  pub delivers : (ended : Slots) × Carries (delivery_in v) (own_command (naming c v.rows served.rows) c) told ended served
+  pub delivers : Carries (delivery_in v) (own_command (naming c v.rows served.rows) c) told off.ended served
   pub run : IsRun (state_of v.manager) (state_of served.manager)
   pub goes : GoesOn served v.places (delivery_in v') v'.places
-  pub queue : v'.queue ≡ v.queue
+  pub went_on : WentOn off.went_on served (delivery_in v')
+  pub turns : KeepsTurns v v'
 
 -- a transaction rolls back to a savepoint, as a registry releases, and then waiters go on
-pub record RollsBackTo (v : WaitingView) (t : TxnId) (mark : ℕ) (result : Result ℕ Refusal) (told : Told) (v' : WaitingView) : Type 0 where
+pub record RollsBackTo (v : WaitingView) (t : TxnId) (mark : ℕ) (result : Result ℕ Refusal) (told : Told) (off : SetOff) (v' : WaitingView) : Type 0 where
   pub served : DeliveryView
   pub back : GoesBackTo t mark v.manager v.rows result told served.manager served.rows
-  pub delivered : OnOk result ((ended : Slots) × Delivered (delivery_in v) (unlocking t) told ended served)
-  pub refused : OnErr result ((served ≡ delivery_in v) × (told ≡ []))
+  pub delivered : OnOk result (Delivered (delivery_in v) (unlocking t) told off.ended served)
+  pub refused : OnErr result (ComesToNothing (delivery_in v) told off.ended served)
   pub run : IsRun (state_of v.manager) (state_of served.manager)
   pub goes : GoesOn served v.places (delivery_in v') v'.places
-  pub queue : v'.queue ≡ v.queue
+  pub went_on : WentOn off.went_on served (delivery_in v')
+  pub turns : KeepsTurns v v'
 
 -- a path is tried, and then waiters go on
-pub record TriesThere (v : WaitingView) (t : TxnId) (ask : Ask) (keep : Keep) (result : Tried) (told : Told) (v' : WaitingView) : Type 0 where
+pub record TriesThere (v : WaitingView) (t : TxnId) (ask : Ask) (keep : Keep) (result : Tried) (told : Told) (off : SetOff) (v' : WaitingView)
+    : Type 0 where
   pub served : DeliveryView
-  pub tries : (ended : Slots) × IsTried keep t ask (delivery_in v) result told ended served
+  pub tries : IsTried keep t ask (delivery_in v) result told off.ended served
   pub held : HoldsAsTried t ask result (state_of served.manager)
   pub tests : (r : Refusal) → first_refusal (path_tests (state_of v.manager) t ask.0 ask.1) ≡ Some r → (result ≡ tried.Refused r) × (served ≡ delivery_in v)
   pub run : IsRun (state_of v.manager) (state_of served.manager)
   pub goes : GoesOn served v.places (delivery_in v') v'.places
-  pub queue : v'.queue ≡ v.queue
+  pub went_on : WentOn off.went_on served (delivery_in v')
+  pub turns : KeepsTurns v v'
 
 -- a row is tried, and then waiters go on
-pub record TriesRowThere (v : WaitingView) (w : Wish) (result : RowTried) (told : Told) (v' : WaitingView) : Type 0 where
+pub record TriesRowThere (v : WaitingView) (w : Wish) (result : RowTried) (told : Told) (off : SetOff) (v' : WaitingView) : Type 0 where
   pub served : DeliveryView
-  pub tries : (ended : Slots) × TriesRow w (delivery_in v) result told ended served
+  pub tries : TriesRow w (delivery_in v) result told off.ended served
   pub holds : HoldsTried w.txn w.mode result (state_of served.manager)
   pub waits : BeginsNoWait (state_of v.manager) (state_of served.manager)
   pub queues : KeepsQueues result (state_of v.manager) (state_of served.manager)
   pub run : IsRun (state_of v.manager) (state_of served.manager)
   pub goes : GoesOn served v.places (delivery_in v') v'.places
-  pub queue : v'.queue ≡ v.queue
+  pub went_on : WentOn off.went_on served (delivery_in v')
+  pub turns : KeepsTurns v v'
 
 -- the waiter that a request leaves waiting for this node
 abbrev pub waiter_for : TxnId → Request → Bool → Option ℕ → NodeId → Mode → Waiter
@@ -161,7 +177,8 @@ Replies t (came.Ended outcome) places c places' = (c ≡ came.Ended outcome) × 
 Replies t (came.Waits at wanted) places c places' = AnswersIn (place_at places t.slot) t.slot places (came.Waits at wanted) c places'
 
 -- a request is carried out; one that waits is registered; waiters go on, and the request may be one of them
-pub record Asks (v : WaitingView) (t : TxnId) (asked : Request) (instant : Bool) (until : Option ℕ) (c : Came) (told : Told) (v' : WaitingView) : Type 0 where
+pub record Asks (v : WaitingView) (t : TxnId) (asked : Request) (instant : Bool) (until : Option ℕ) (c : Came) (told : Told) (off : SetOff)
+    (v' : WaitingView) : Type 0 where
   pub first : Came
   pub served : DeliveryView
   pub requests : Requests (delivery_in v) t asked first told served
@@ -169,10 +186,12 @@ pub record Asks (v : WaitingView) (t : TxnId) (asked : Request) (instant : Bool)
   pub alone : (at : NodeId) (wanted : Mode) → first ≡ came.Waits at wanted → waiter_in (place_at v.places t.slot) ≡ None
   pub left : DeliveryView
   pub gives : GivesBackFirst (is_for_instant (state_of v.manager) t asked instant) t asked first served left
+  pub ended : HasEnded (state_of v.manager) (state_of left.manager) off.ended
   pub after : List Place
   pub goes : GoesOn left (registered t asked (is_for_instant (state_of v.manager) t asked instant) until first v.places) (delivery_in v') after
+  pub went_on : WentOn off.went_on left (delivery_in v')
   pub replies : Replies t first after c v'.places
-  pub queue : v'.queue ≡ v.queue
+  pub turns : KeepsTurns v v'
 
 -- a table without the waiter of a slot whose request came to this, if it waits
 abbrev pub unregistered : ℕ → Came → WaitingView → WaitingView
@@ -180,8 +199,8 @@ unregistered slot (came.Ended outcome) v = v
 unregistered slot (came.Waits at wanted) v = record v { places = slice_set v.places slot place.Empty }
 
 -- a request is carried out as an ask, and leaves no waiter
-abbrev pub AsksOnce : WaitingView → TxnId → Request → Bool → Came → Told → WaitingView → Type 0
-AsksOnce v t asked instant c told v' = (mid : WaitingView) × Asks v t asked instant None c told mid × (v' ≡ unregistered t.slot c mid)
+abbrev pub AsksOnce : WaitingView → TxnId → Request → Bool → Came → Told → SetOff → WaitingView → Type 0
+AsksOnce v t asked instant c told off v' = (mid : WaitingView) × Asks v t asked instant None c told off mid × (v' ≡ unregistered t.slot c mid)
 
 -- the transaction has a waiter, whichever
 abbrev pub IsAwaitedAlready : List Place → TxnId → Type 0
@@ -201,26 +220,32 @@ Awaits v t node mode until (Some c) v' =
     (IsAwaitedAlready v.places t → ⊥) × AwaitsBy (verdict_of (state_of v.manager) v.boxes t node mode) v t node mode until c v'
 
 -- the time of a transaction's wait is over: its waiter ends so, if a command can still be counted, and others go on
-pub record TimesOut (v : WaitingView) (t : TxnId) (v' : WaitingView) : Type 0 where
+pub record TimesOut (v : WaitingView) (t : TxnId) (off : SetOff) (v' : WaitingView) : Type 0 where
+  pub cancelled : DeliveryView
+  pub told : Told
+  pub cancels : Carries (delivery_in v) (command.Cancel t) told off.ended cancelled
+  pub went_on : WentOn off.went_on cancelled (delivery_in v')
   pub calls : Calls (delivery_in v) (delivery_in v')
   pub low : v.manager.accepted ≤ v'.manager.accepted
   pub ends : (w : Waiter) → HasWaiter v.places t w → v'.manager.accepted < max_count → place_at v'.places t.slot ≡ place.Ended t (end.TimedOut w.at)
   pub others : (u : ℕ) → u ≢ t.slot → PlaceGoesOn (delivery_in v) (delivery_in v') (place_at v.places u) (place_at v'.places u)
   pub own : PlaceGoes (λ w outcome. EndsBetween (delivery_in v) (delivery_in v') w outcome
       ⊎ ((outcome ≡ end.TimedOut w.at) × EndsLate (delivery_in v) (delivery_in v') w outcome)) (place_at v.places t.slot) (place_at v'.places t.slot)
-  pub queue : v'.queue ≡ v.queue
-  pub without : ((w : Waiter) → HasWaiter v.places t w → ⊥) → v' ≡ v
+  pub turns : KeepsTurns v v'
+  pub without : ((w : Waiter) → HasWaiter v.places t w → ⊥) → IsNothing off × (v' ≡ v)
 
 -- a command was done
 abbrev pub is_done : Option Answer → Bool
 is_done (Some answer.Done) = true
 is_done o = false
 
--- each wait whose time is over has ended, if a command can still be counted, and others go on
-pub record Expires (v : WaitingView) (now : ℕ) (v' : WaitingView) : Type 0 where
+-- each wait whose time is over has ended, if a command can still be counted, and others go on; the call has no command of its own
+pub record Expires (v : WaitingView) (now : ℕ) (off : SetOff) (v' : WaitingView) : Type 0 where
+  pub ended : HasNoSlot off.ended
+  pub went_on : WentOn off.went_on (delivery_in v) (delivery_in v')
   pub calls : Calls (delivery_in v) (delivery_in v')
   pub places : (u : ℕ) → PlaceGoes (EndsInTime now (delivery_in v) (delivery_in v')) (place_at v.places u) (place_at v'.places u)
-  pub queue : v'.queue ≡ v.queue
+  pub turns : KeepsTurns v v'
   pub in_time : (u : ℕ) → v'.manager.accepted < max_count → IsInTime now (place_at v'.places u)
 
 -- every slot is taken
@@ -247,23 +272,47 @@ abbrev pub IsBeginAnswer : Answer → Type 0
 IsBeginAnswer a = (result : Result TxnId Refusal) × (begin_said result ≡ a)
 
 -- a transaction begins; a begin that is refused changes nothing
-abbrev pub Begins : WaitingView → Option ℕ → Result TxnId Refusal → WaitingView → Type 0
-Begins v since (Ok t) v' = (told : Told) × Serves v (begin_of since) (Some (answer.Begun t)) told v'
-Begins v since (Err r) v' = Step (state_of v.manager) (begin_of since) (answer.Refused r) [] (state_of v.manager) × (v' ≡ v)
+abbrev pub Begins : WaitingView → Option ℕ → Result TxnId Refusal → SetOff → WaitingView → Type 0
+Begins v since (Ok t) off v' = (told : Told) × Serves v (begin_of since) (Some (answer.Begun t)) told off v'
+Begins v since (Err r) off v' = Step (state_of v.manager) (begin_of since) (answer.Refused r) [] (state_of v.manager) × IsNothing off × (v' ≡ v)
 
--- a begin waits for a slot: others do, or every slot is taken
-abbrev pub MustQueue : WaitingView → Type 0
-MustQueue v = ((length v.queue == 0) ≡ false) ⊎ IsFull (state_of v.manager)
+-- nobody waits for a slot while one is free
+abbrev pub IsInTurn : WaitingView → Type 0
+IsInTurn v = (v.queue ≡ []) ⊎ IsFull (state_of v.manager)
 
 -- a begin in turn came to this: if nobody waits for a slot and one is free it begins, or is refused; else it waits for one, as the last
-abbrev pub BeginsInTurn : WaitingView → QueuedBegin → Turn → WaitingView → Type 0
-BeginsInTurn v b (turn.Came result) v' = ((length v.queue == 0) ≡ true) × (is_too_many result ≡ false) × Begins v b.since result v'
-BeginsInTurn v b turn.Queued v' = MustQueue v × (v' ≡ record v { queue = v.queue ++ b ∷ [] })
-BeginsInTurn v b turn.NoMemory v' = MustQueue v × (v' ≡ v)
+abbrev pub BeginsInTurn : WaitingView → QueuedBegin → Turn → SetOff → WaitingView → Type 0
+BeginsInTurn v b (turn.Came result) off v' = (v.queue ≡ []) × (is_too_many result ≡ false) × Begins v b.since result off v'
+BeginsInTurn v b turn.Queued off v' = IsFull (state_of v.manager) × IsNothing off × (v' ≡ record v { queue = v.queue ++ b ∷ [] })
+BeginsInTurn v b turn.NoMemory off v' = IsFull (state_of v.manager) × IsNothing off × (v' ≡ v)
 
--- the first begin that waits for a slot begins, or is refused, and leaves the queue; nothing changes if none waits, or every slot is taken
-abbrev pub BeginsNext : WaitingView → Option (QueuedBegin × Result TxnId Refusal) → WaitingView → Type 0
-BeginsNext v (Some x) v' =
-    (slice_get v.queue 0 ≡ Some x.0) × (is_too_many x.1 ≡ false)
-    × ((mid : WaitingView) × Begins v x.0.since x.1 mid × (v' ≡ record mid { queue = drop 1 v.queue }))
-BeginsNext v None v' = ((slice_get v.queue 0 ≡ None) ⊎ IsFull (state_of v.manager)) × (v' ≡ v)
+-- the first begin that waits for a slot begins, or is refused, and is handed on with its answer
+pub record HandsFirst (v v' : WaitingView) : Type 0 where
+  pub first : QueuedBegin
+  pub is_first : slice_get v.queue 0 ≡ Some first
+  pub result : Result TxnId Refusal
+  pub answered : is_too_many result ≡ false
+  pub off : SetOff
+  pub mid : WaitingView
+  pub begins : Begins v first.since result off mid
+  pub handed : v' ≡ record mid { queue = drop 1 v.queue; begun = v.begun ++ (first, result) ∷ [] }
+
+-- the first begin is handed on; nothing changes if none waits for a slot, or every slot is taken
+abbrev pub BeginsNext : WaitingView → Bool → WaitingView → Type 0
+BeginsNext v true v' = HandsFirst v v'
+BeginsNext v false v' = IsInTurn v × (v' ≡ v)
+
+-- so many begins are handed on, one after the other
+abbrev pub HandsOn : ℕ → WaitingView → WaitingView → Type 0
+HandsOn zero v v' = v' ≡ v
+HandsOn (suc k) v v' = (mid : WaitingView) × HandsFirst v mid × HandsOn k mid v'
+
+-- begins are handed on after a call that set off the first of these; if any was, the call went on
+pub record HandsOnAfter (own : SetOff) (v : WaitingView) (off : SetOff) (v' : WaitingView) : Type 0 where
+  pub count : ℕ
+  pub hands : HandsOn count v v'
+  pub sets : off ≡ record own { went_on = own.went_on || not (count == 0) }
+
+-- a call is carried out, and then begins are handed on
+abbrev pub InTurn : (SetOff → WaitingView → Type 0) → SetOff → WaitingView → Type 0
+InTurn IsCalled off v' = (own : SetOff) × (mid : WaitingView) × IsCalled own mid × HandsOnAfter own mid off v'

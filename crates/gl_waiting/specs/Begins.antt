@@ -1,7 +1,18 @@
--- The begin queue: which begin leaves it, and when the first of them ends.
-use Rattle.std.specs.Prelude.{ℕ, ◌==◌, Bool, false, List, [], ◌∷◌, Option, Some, None, if◌then◌else◌, min, nat_le}
+-- The begin queue: which begin leaves it, when the first of them ends, and the begins that were handed on.
+use Rattle.std.specs.Prelude.{ℕ, ◌==◌, Bool, false, List, [], ◌∷◌, Option, Some, None, Result, if◌then◌else◌, min, nat_le}
 use Rattle.std.specs.List.{filter_map, reduce}
+use Rattle.gl_modes.specs.declared.refusal.Refusal.{Refusal}
+use Rattle.gl_model.specs.declared.txn.TxnId.{TxnId}
 use Rattle.gl_waiting.specs.declared.begins.QueuedBegin.{QueuedBegin}
+
+-- a begin that was handed on, with its answer
+abbrev pub Begun : Type 0
+Begun = QueuedBegin × Result TxnId Refusal
+
+-- the begins that wait for a slot, and those that were handed on and are not taken yet, the first first
+pub record BeginsView : Type 0 where
+  pub waiting : List QueuedBegin
+  pub begun : List Begun
 
 -- the begin has this name
 abbrev pub has_word : ℕ → QueuedBegin → Bool

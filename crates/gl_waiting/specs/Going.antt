@@ -1,6 +1,6 @@
 -- Runs of commands of the model, and calls of a delivery one after the other.
 use Rattle.gl_slots.specs.declared.slots.Slots.{Slots}
-use Rattle.std.specs.Prelude.{◌≡◌, List, [], ◌∷◌}
+use Rattle.std.specs.Prelude.{◌≡◌, ◌<◌, Bool, true, false, List, [], ◌∷◌}
 use Rattle.gl_model.specs.State.{State}
 use Rattle.gl_model.specs.Tellings.{Told}
 use Rattle.gl_steps.specs.declared.command.Command.{Command}
@@ -28,3 +28,8 @@ CallsTo d (mid ∷ mids) d' = Call d mid × CallsTo mid mids d'
 -- some calls lead from one delivery to the other
 abbrev pub Calls : DeliveryView → DeliveryView → Type 0
 Calls d d' = (mids : List DeliveryView) × CallsTo d mids d'
+
+-- whether any command was carried out from one delivery to the other: if not, it is the same
+abbrev pub WentOn : Bool → DeliveryView → DeliveryView → Type 0
+WentOn true d d' = d.manager.accepted < d'.manager.accepted
+WentOn false d d' = d' ≡ d

@@ -1,9 +1,10 @@
 //! The begin queue: begins that wait until a slot is free, first come, first served.
 
-ghost use Rattle.std.specs.Prelude.{◌≡◌, ◌==◌, ◌∷◌, ◌++◌, [], IfErr, OnErr, OnOk, drop, length, slice_get};
+ghost use Rattle.std.specs.Prelude.{◌≡◌, ◌==◌, ◌∷◌, ◌++◌, [], IfErr, OnErr, OnOk, Some, drop, length, slice_get};
 ghost use Rattle.std.specs.List.{find, list_any, position};
 ghost use Rattle.gl_modes.specs.declared.refusal.Refusal.{Refusal as ARefusal};
 ghost use Rattle.gl_waiting.specs.Begins.{earliest_of, has_word, is_late, is_over, without_first};
+ghost use Rattle.gl_waiting.specs.declared.begins.QueuedBegin.{QueuedBegin as ABegin};
 
 use gl_modes::Refusal;
 use gl_table::TxnId;
@@ -52,52 +53,64 @@ pub(crate) fn is_over(until: Option<u64>, now: u64) -> bool
     }
 }
 
-/// Begins that wait for a slot, in the order of their requests.
+/// A begin that was handed on, with its answer.
+pub(crate) type Begun = (QueuedBegin, Result<TxnId, Refusal>);
+
+/// Begins that wait for a slot, in the order of their requests, and those that were handed on. For each that waits there
+/// is room among those.
 #[derive(Drop)]
 pub(crate) struct BeginQueue {
-    begins: VecDeque<QueuedBegin>,
+    waiting: VecDeque<QueuedBegin>,
+    begun: VecDeque<Begun>,
 }
 
 impl Model for BeginQueue {
-    ghost use Rattle.std.specs.Prelude.{List};
-    ghost use Rattle.gl_waiting.specs.declared.begins.QueuedBegin.{QueuedBegin};
+    ghost use Rattle.gl_waiting.specs.Begins.{BeginsView};
 
-    ghost Value = { List QueuedBegin };
+    ghost Value = { BeginsView };
 
-    ghost view = { λ q. q.begins.items };
+    ghost use Rattle.gl_waiting.specs.Owned.{begins_of, HasRoom};
+
+    ghost view = { begins_of };
+
+    ghost invariant = { HasRoom };
 }
 
 impl BeginQueue {
-    /// No begin waits.
+    /// No begins.
     pub(crate) fn new(alloc: Global) -> Self
-        ensures { result ≡ [] }
+        ensures { result ≡ record { waiting = []; begun = [] } }
     {
         BeginQueue {
-            begins: VecDeque::new(alloc),
+            waiting: VecDeque::new(alloc),
+            begun: VecDeque::new(alloc),
         }
     }
 
     /// Whether no begin waits.
     pub(crate) fn is_empty(&self) -> bool
-        ensures { result ≡ (length self.now == 0) }
+        ensures { result ≡ (length self.now.waiting == 0) }
     {
-        self.begins.is_empty()
+        self.waiting.is_empty()
     }
 
     /// How many begins wait.
     pub(crate) fn len(&self) -> usize
-        ensures { result ≡ length self.now }
+        ensures { result ≡ length self.now.waiting }
     {
-        self.begins.len()
+        self.waiting.len()
     }
 
     /// Appends a begin. The only refusal is `NoMemory`.
     pub(crate) fn enter(&mut self, begin: QueuedBegin) -> Result<(), Refusal>
-        ensures entered { OnOk result (self.new ≡ self.old ++ begin ∷ []) }
+        ensures entered { OnOk result (self.new ≡ record self.old { waiting = self.old.waiting ++ begin ∷ [] }) }
         ensures unchanged { OnErr result (self.new ≡ self.old) }
         ensures no_memory { IfErr result (λ refusal. refusal ≡ ARefusal.NoMemory) }
     {
-        match self.begins.push_back(begin) {
+        if self.begun.reserve(self.waiting.len() + 1).is_err() {
+            return Err(Refusal::NoMemory);
+        }
+        match self.waiting.push_back(begin) {
             Ok(()) => Ok(()),
             Err(_) => Err(Refusal::NoMemory),
         }
@@ -105,57 +118,67 @@ impl BeginQueue {
 
     /// The next begin: the first of the queue.
     pub(crate) fn first(&self) -> Option<QueuedBegin>
-        ensures { result ≡ slice_get self.now 0 }
+        ensures { result ≡ slice_get self.now.waiting 0 }
     {
-        self.begins.front().copied()
+        self.waiting.front().copied()
     }
 
-    /// Removes the next begin.
-    pub(crate) fn leave_first(&mut self) -> Option<QueuedBegin>
-        ensures taken { result ≡ slice_get self.old 0 }
-        ensures rest { self.new ≡ drop 1 self.old }
+    /// Hands on the next begin, with this answer.
+    pub(crate) fn hand_on(&mut self, came: Result<TxnId, Refusal>)
+        ensures { (first : ABegin) → slice_get self.old.waiting 0 ≡ Some first
+            → self.new ≡ record { waiting = drop 1 self.old.waiting; begun = self.old.begun ++ (first, came) ∷ [] } }
     {
-        self.begins.pop_front()
+        if let Some(first) = self.waiting.pop_front() {
+            self.begun.push_back_reserved((first, came));
+        }
+    }
+
+    /// Removes the first of the begins that were handed on.
+    pub(crate) fn take_begun(&mut self) -> Option<Begun>
+        ensures taken { result ≡ slice_get self.old.begun 0 }
+        ensures rest { self.new ≡ record self.old { begun = drop 1 self.old.begun } }
+    {
+        self.begun.pop_front()
     }
 
     /// Removes the first begin of this name. Answers whether there was one.
     pub(crate) fn withdraw(&mut self, word: u64) -> bool
-        ensures found { result ≡ list_any (has_word word) self.old }
-        ensures rest { self.new ≡ without_first (has_word word) self.old }
+        ensures found { result ≡ list_any (has_word word) self.old.waiting }
+        ensures rest { self.new ≡ record self.old { waiting = without_first (has_word word) self.old.waiting } }
     {
         match self.place_of(word) {
-            Some(place) => self.begins.remove(place).is_some(),
+            Some(place) => self.waiting.remove(place).is_some(),
             None => false,
         }
     }
 
     /// Removes the first begin whose time is over; `None` if no begin's is.
     pub(crate) fn take_late(&mut self, now: u64) -> Option<QueuedBegin>
-        ensures taken { result ≡ find (is_late now) self.old }
-        ensures rest { self.new ≡ without_first (is_late now) self.old }
+        ensures taken { result ≡ find (is_late now) self.old.waiting }
+        ensures rest { self.new ≡ record self.old { waiting = without_first (is_late now) self.old.waiting } }
     {
         let place = self.place_of_late(now)?;
-        self.begins.remove(place)
+        self.waiting.remove(place)
     }
 
     /// The earliest time at which a begin ends; `None` if none has such a time.
     pub(crate) fn earliest(&self) -> Option<u64>
-        ensures { result ≡ earliest_of self.now }
+        ensures { result ≡ earliest_of self.now.waiting }
     {
-        self.begins.iter().filter_map(|begin| begin.until).min()
+        self.waiting.iter().filter_map(|begin| begin.until).min()
     }
 
     /// The place of the first begin of this name.
     fn place_of(&self, word: u64) -> Option<usize>
-        ensures { result ≡ position (has_word word) self.now }
+        ensures { result ≡ position (has_word word) self.now.waiting }
     {
-        self.begins.iter().position(|begin| begin.word == word)
+        self.waiting.iter().position(|begin| begin.word == word)
     }
 
     /// The place of the first begin whose time is over.
     fn place_of_late(&self, now: u64) -> Option<usize>
-        ensures { result ≡ position (is_late now) self.now }
+        ensures { result ≡ position (is_late now) self.now.waiting }
     {
-        self.begins.iter().position(|begin| begin.is_late(now))
+        self.waiting.iter().position(|begin| begin.is_late(now))
     }
 }

@@ -9,16 +9,19 @@ mod places;
 #[cfg(test)]
 mod row_tests;
 mod rows;
+mod set_off;
 #[cfg(test)]
 mod tests;
 mod tries;
 mod waiter;
+mod waiter_table;
 mod waiters;
 mod waiting;
 
 pub use begins::{QueuedBegin, Turn};
 pub use delivery::Delivery;
 pub use keys::RowKeys;
+pub use set_off::SetOff;
 pub use tries::{Keep, RowTried, Tried};
 pub use waiter::{Came, Outcome, Request};
 pub use waiting::Waiting;

@@ -1,6 +1,6 @@
 //! Requests for rows, in a small table with ample memory.
 
-use crate::tests::{commit, ends, made, same, serve, table};
+use crate::tests::{begin, commit, ends, made, same, serve, table};
 use crate::{Came, Outcome, Request, RowKeys, RowTried, Waiting};
 use gl_catalog::{Answer, Command};
 use gl_modes::Mode::{IX, X};
@@ -21,7 +21,8 @@ struct Scene {
 
 fn row_file(waiting: &mut Waiting, root: NodeId) -> NodeId {
     let mut told = Told::new();
-    match waiting.serve_row(RowCall::File { parents: &[root] }, &mut told) {
+    let (answer, _off) = waiting.serve_row(RowCall::File { parents: &[root] }, &mut told);
+    match answer {
         RowAnswer::Answered(Answer::Node(file)) => file,
         _ => NodeId::NONE,
     }
@@ -31,15 +32,15 @@ fn set_up(rt: &impl Abort, alloc: Global) -> Scene {
     let mut waiting = table(rt, alloc, 8);
     let root = made(&mut waiting, Command::Inner { parents: &[] });
     let file = row_file(&mut waiting, root);
-    let old = waiting.begin(None).expect(rt, "no transaction");
-    let young = waiting.begin(None).expect(rt, "no transaction");
+    let old = begin(rt, &mut waiting);
+    let young = begin(rt, &mut waiting);
     for txn in [old, young] {
         let mut told = Told::new();
         let asked = Request::Path {
             node: file,
             mode: IX,
         };
-        let came = waiting.ask(txn, asked, false, None, &mut told);
+        let (came, _off) = waiting.ask(txn, asked, false, None, &mut told);
         same(rt, came, Came::Ended(Outcome::Granted(IX)));
     }
     Scene {
@@ -62,7 +63,8 @@ fn row(file: NodeId, keys: &[u64]) -> Request {
 fn ask(scene: &mut Scene, txn: TxnId, keys: &[u64]) -> Came {
     let mut told = Told::new();
     let asked = row(scene.file, keys);
-    scene.waiting.ask(txn, asked, false, None, &mut told)
+    let (came, _off) = scene.waiting.ask(txn, asked, false, None, &mut told);
+    came
 }
 
 /// The node of row 7.
@@ -117,7 +119,7 @@ fn a_file_without_rows_is_told_so(rt: HostRuntime) {
     let file = made(&mut scene.waiting, Command::File { parents: &[root] });
     let mut told = Told::new();
     let asked = row(file, &[]);
-    let came = scene.waiting.ask(scene.old, asked, false, None, &mut told);
+    let (came, _off) = scene.waiting.ask(scene.old, asked, false, None, &mut told);
     same(&rt, came, Came::Ended(Outcome::NotRows));
     let abort = Command::Abort { txn: scene.old };
     same(&rt, serve(&mut scene.waiting, abort), Some(Answer::Done));
@@ -129,7 +131,8 @@ fn try_row(scene: &mut Scene, txn: TxnId, keys: &[u64]) -> RowTried {
         file: scene.file,
         number: 7,
     };
-    scene.waiting.try_row(txn, row, keys, X, &mut told)
+    let (tried, _off) = scene.waiting.try_row(txn, row, keys, X, &mut told);
+    tried
 }
 
 #[test]
@@ -160,7 +163,7 @@ fn a_command_of_a_list_leaves_no_waiter(rt: HostRuntime) {
     let node = node(&rt, &scene);
     let mut told = Told::new();
     let asked = row(scene.file, &[]);
-    let came = scene.waiting.request(young, asked, false, &mut told);
+    let (came, _off) = scene.waiting.request(young, asked, false, &mut told);
     let waits = Came::Waits {
         at: node,
         wanted: X,

@@ -3,7 +3,7 @@
 ghost use Rattle.gl_slots.specs.Limit.{most_slots};
 ghost use Rattle.std.specs.Prelude.{◌≤◌};
 
-use crate::{Came, Delivery, Outcome, QueuedBegin, Request, Turn, Waiting};
+use crate::{Came, Delivery, Outcome, QueuedBegin, Request, SetOff, Turn, Waiting};
 use gl_catalog::{Answer, Command, Manager};
 use gl_modes::Mode::{IX, X};
 use gl_modes::{NodeId, Refusal};
@@ -30,7 +30,8 @@ pub(crate) fn table(rt: &impl Abort, alloc: Global, most: usize) -> Waiting
 
 pub(crate) fn serve(waiting: &mut Waiting, command: Command<'_>) -> Option<Answer> {
     let mut told = Told::new();
-    waiting.serve(command, &mut told)
+    let (answer, _off) = waiting.serve(command, &mut told);
+    answer
 }
 
 pub(crate) fn commit(rt: &impl Abort, waiting: &mut Waiting, txn: TxnId) {
@@ -51,13 +52,15 @@ pub(crate) fn made(waiting: &mut Waiting, command: Command<'_>) -> NodeId {
 /// Requests a path in X, with a time at which its wait ends.
 fn path(waiting: &mut Waiting, txn: TxnId, node: NodeId, until: Option<u64>) -> Came {
     let mut told = Told::new();
-    waiting.ask(
-        txn,
-        Request::Path { node, mode: X },
-        false,
-        until,
-        &mut told,
-    )
+    let asked = Request::Path { node, mode: X };
+    let (came, _off) = waiting.ask(txn, asked, false, until, &mut told);
+    came
+}
+
+/// A transaction that begins at once.
+pub(crate) fn begin(rt: &impl Abort, waiting: &mut Waiting) -> TxnId {
+    let (came, _off) = waiting.begin(None);
+    came.expect(rt, "no transaction")
 }
 
 /// The transaction holds the node in X, and what must be held above it.
@@ -84,14 +87,14 @@ fn set_up(rt: &impl Abort, alloc: Global) -> Scene {
     let mut waiting = table(rt, alloc, 8);
     let root = made(&mut waiting, Command::Inner { parents: &[] });
     let file = made(&mut waiting, Command::File { parents: &[root] });
-    let txn = waiting.begin(None).expect(rt, "no transaction");
+    let txn = begin(rt, &mut waiting);
     holds(rt, &mut waiting, txn, file);
     let keys = &[];
     let one = made(&mut waiting, Command::Insert { txn, file, keys });
     let two = made(&mut waiting, Command::Insert { txn, file, keys });
     commit(rt, &mut waiting, txn);
-    let old = waiting.begin(None).expect(rt, "no transaction");
-    let young = waiting.begin(None).expect(rt, "no transaction");
+    let old = begin(rt, &mut waiting);
+    let young = begin(rt, &mut waiting);
     Scene {
         waiting,
         root,
@@ -117,7 +120,7 @@ fn a_commit_grants_a_node(rt: HostRuntime) {
         node: scene.root,
         mode: IX,
     };
-    let came = scene
+    let (came, _off) = scene
         .waiting
         .ask(scene.young, asked, false, None, &mut told);
     let waits = Came::Waits {
@@ -184,9 +187,11 @@ fn a_wait_ends_at_its_time(rt: HostRuntime) {
         wanted: X,
     };
     same(&rt, came, waits);
-    same(&rt, scene.waiting.expire(9), Some(10));
+    let (next, off) = scene.waiting.expire(9);
+    same(&rt, (next, off), (Some(10), SetOff::nothing()));
     same(&rt, scene.waiting.take_end(), None);
-    same(&rt, scene.waiting.expire(10), None);
+    let (next, off) = scene.waiting.expire(10);
+    same(&rt, (next, off.went_on), (None, true));
     ends(
         &rt,
         &mut scene.waiting,
@@ -197,22 +202,93 @@ fn a_wait_ends_at_its_time(rt: HostRuntime) {
     commit(&rt, &mut scene.waiting, scene.young);
 }
 
-#[test]
-fn a_begin_waits_for_a_slot(rt: HostRuntime) {
-    let mut waiting = table(&rt, rt.alloc(), 1);
-    let first = waiting.begin(None).expect(&rt, "no transaction");
-    let begin = QueuedBegin {
-        word: 7,
+fn queued(word: u64, until: Option<u64>) -> QueuedBegin {
+    QueuedBegin {
+        word,
         since: None,
-        until: Some(10),
-    };
-    same(&rt, waiting.begin_in_turn(begin), Turn::Queued);
-    same(&rt, waiting.begin(None), Err(Refusal::TooManyTxns));
-    same(&rt, waiting.next_begin(), None);
+        until,
+    }
+}
+
+/// The begin waits for a slot.
+fn waits(rt: &impl Abort, waiting: &mut Waiting, begin: QueuedBegin) {
+    let (turn, _off) = waiting.begin_in_turn(begin);
+    same(rt, turn, Turn::Queued);
+}
+
+/// The only begin that was handed on, with its transaction.
+fn begun(rt: &impl Abort, waiting: &mut Waiting) -> (u64, TxnId) {
+    let (begin, came) = waiting.take_begun().expect(rt, "nobody begins");
+    same(rt, waiting.take_begun(), None);
+    (begin.word, came.expect(rt, "it is refused"))
+}
+
+#[test]
+fn begins_wait_their_turn(rt: HostRuntime) {
+    let mut waiting = table(&rt, rt.alloc(), 2);
+    let mut old = begin(&rt, &mut waiting);
+    let mut young = begin(&rt, &mut waiting);
+    for word in 0..8 {
+        waits(&rt, &mut waiting, queued(word, None));
+    }
+    let (came, _off) = waiting.begin(None);
+    same(&rt, came, Err(Refusal::TooManyTxns));
+    same(&rt, waiting.take_begun(), None);
+    for word in 0..8 {
+        commit(&rt, &mut waiting, old);
+        let (first, txn) = begun(&rt, &mut waiting);
+        same(&rt, first, word);
+        (old, young) = (young, txn);
+    }
+    commit(&rt, &mut waiting, old);
+    commit(&rt, &mut waiting, young);
+    same(&rt, waiting.take_begun(), None);
+}
+
+#[test]
+fn begins_leave_the_queue(rt: HostRuntime) {
+    let mut waiting = table(&rt, rt.alloc(), 1);
+    let first = begin(&rt, &mut waiting);
+    waits(&rt, &mut waiting, queued(1, None));
+    waits(&rt, &mut waiting, queued(2, Some(10)));
+    waits(&rt, &mut waiting, queued(3, Some(20)));
+    same(&rt, waiting.withdraw_begin(1), true);
+    same(&rt, waiting.withdraw_begin(1), false);
+    same(&rt, waiting.take_late_begin(9), None);
     same(&rt, waiting.earliest_begin(), Some(10));
+    same(&rt, waiting.take_late_begin(10), Some(queued(2, Some(10))));
     commit(&rt, &mut waiting, first);
-    let (begun, came) = waiting.next_begin().expect(&rt, "nobody begins");
-    same(&rt, begun, begin);
-    same(&rt, waiting.next_begin(), None);
-    commit(&rt, &mut waiting, came.expect(&rt, "it is refused"));
+    let (word, txn) = begun(&rt, &mut waiting);
+    same(&rt, word, 3);
+    commit(&rt, &mut waiting, txn);
+    same(&rt, waiting.take_begun(), None);
+}
+
+/// What a commit set off.
+fn set_off(rt: &impl Abort, waiting: &mut Waiting, txn: TxnId) -> SetOff {
+    let mut told = Told::new();
+    let (answer, off) = waiting.serve(Command::Commit { txn }, &mut told);
+    same(rt, answer, Some(Answer::Done));
+    off
+}
+
+#[test]
+fn a_commit_tells_what_it_set_off(rt: HostRuntime) {
+    let mut scene = set_up(&rt, rt.alloc());
+    let (one, two) = (scene.one, scene.two);
+    let (old, young) = (scene.old, scene.young);
+    let third = begin(&rt, &mut scene.waiting);
+    holds(&rt, &mut scene.waiting, old, one);
+    holds(&rt, &mut scene.waiting, third, two);
+    let _ = path(&mut scene.waiting, young, one, None);
+    let off = set_off(&rt, &mut scene.waiting, old);
+    let woken = (off.ended.lowest(), off.went_on);
+    same(&rt, woken, (Some(young.slot), false));
+    let off = set_off(&rt, &mut scene.waiting, third);
+    same(&rt, off, SetOff::nothing());
+    holds(&rt, &mut scene.waiting, young, scene.root);
+    let other = begin(&rt, &mut scene.waiting);
+    let _ = path(&mut scene.waiting, other, one, None);
+    let off = set_off(&rt, &mut scene.waiting, young);
+    same(&rt, off.went_on, true);
 }

@@ -9,7 +9,7 @@ ghost use Rattle.gl_wakes.specs.Boxes.{verdict_of};
 ghost use Rattle.gl_wakes.specs.Wakes.{HasEnded};
 ghost use Rattle.gl_waiting.specs.Asking.{LocksAlone, Requests};
 ghost use Rattle.gl_waiting.specs.Ends.{GivesBack, GoesOn, PlaceGoesOn, is_given_back};
-ghost use Rattle.gl_waiting.specs.Going.{Calls};
+ghost use Rattle.gl_waiting.specs.Going.{Calls, WentOn};
 ghost use Rattle.gl_waiting.specs.Paths.{LocksThrough};
 ghost use Rattle.gl_waiting.specs.Waiters.{Await, AwaitBut, IsWaitingPlace, came_of, stops_above, waits_as};
 ghost use Rattle.gl_waiting.specs.declared.waiter.Place.TheVariants.{Waits as waits};
@@ -18,6 +18,7 @@ ghost use Rattle.gl_waiting.specs.declared.waiter.Request.TheVariants.{Path as P
 use crate::delivery::Delivery;
 use crate::places::Places;
 use crate::rows::{lock_again, request_row};
+use crate::set_off::SetOff;
 use crate::waiter::{Came, Next, Outcome, Place, Request, Waiter};
 use gl_catalog::{Command, Manager, Reached};
 use gl_modes::{Mode, NodeId, Refusal};
@@ -25,21 +26,28 @@ use gl_slots::{Slot, Slots};
 use gl_table::{Locked, Told, TxnId};
 use gl_wakes::{Grant, Stop};
 
-/// Continues each waiter of these slots whose wait is over, and each whose wait ends by that.
-pub(crate) fn settle(delivery: &mut Delivery, places: &mut Places, due: Slots)
-    requires awaits { AwaitBut (has_slot due) (state_of delivery.old.manager) places.old }
+/// Continues each waiter of these slots whose wait is over, and each whose wait ends by that. Answers these slots, and
+/// whether anything was carried out.
+pub(crate) fn settle(delivery: &mut Delivery, places: &mut Places, ended: Slots) -> SetOff
+    requires awaits { AwaitBut (has_slot ended) (state_of delivery.old.manager) places.old }
     ensures awaits { Await (state_of delivery.new.manager) places.new }
     ensures goes { GoesOn delivery.old places.old delivery.new places.new }
     ensures low { delivery.old.manager.accepted ≤ delivery.new.manager.accepted }
+    ensures ended { result.ended ≡ ended }
+    ensures went_on { WentOn result.went_on delivery.old delivery.new }
 {
-    let mut due = due;
+    let before = delivery.manager().accepted();
+    let mut due = ended;
     'due: loop {
         due = look_at_all(delivery, places, due);
-        if due.is_empty() {
-            return;
-        }
         // Who went on was counted, so that this ends when the count does, if not before.
-        let _counted = delivery.manager().accepted();
+        let after = delivery.manager().accepted();
+        if due.is_empty() {
+            return SetOff {
+                ended,
+                went_on: after != before,
+            };
+        }
     }
 }
 

@@ -1,44 +1,42 @@
-//! The table of waiters: all that a latch protects.
+//! The table of waiters that a latch protects.
 
 ghost use Rattle.gl_slots.specs.Limit.{most_slots};
-ghost use Rattle.std.specs.Prelude.{◌≡◌, ◌<◌, ◌≤◌, ℕ, [], replicate};
+ghost use Rattle.std.specs.Prelude.{◌≡◌, [], drop, replicate, slice_get};
+ghost use Rattle.std.specs.List.{find, list_any};
 ghost use Rattle.gl_catalog.specs.Manager.{IsLawfulManager, state_of};
 ghost use Rattle.gl_registry.specs.Rows.{name_of};
-ghost use Rattle.gl_graph.specs.Refusals.{max_count};
-ghost use Rattle.gl_waiting.specs.Ends.{EndsInTime, PlaceGoes};
-ghost use Rattle.gl_waiting.specs.Going.{Calls};
-ghost use Rattle.gl_waiting.specs.Asking.{Asks, AsksOnce, Awaits, Begins, BeginsInTurn, BeginsNext, Expires, IsBeginAnswer, RollsBackTo, Serves, ServesRow};
-ghost use Rattle.gl_waiting.specs.Asking.{TimesOut, TriesRowThere, TriesThere, begin_of, begin_said, is_done, is_for_instant, is_too_many};
+ghost use Rattle.gl_waiting.specs.Asking.{Asks, AsksOnce, Awaits, Begins, BeginsInTurn, Expires, InTurn, IsInTurn, KeepsTurns, RollsBackTo, Serves};
+ghost use Rattle.gl_waiting.specs.Asking.{ServesRow, TimesOut, TriesRowThere, TriesThere};
 ghost use Rattle.gl_waiting.specs.Begins.{earliest_of, has_word, is_late, without_first};
-ghost use Rattle.std.specs.List.{find, list_any};
-ghost use Rattle.gl_waiting.specs.Waiters.{Await, IsInTime, TakesEnd, earliest_until, place_at};
+ghost use Rattle.gl_waiting.specs.Waiters.{Await, TakesEnd, earliest_until};
 ghost use Rattle.gl_waiting.specs.Waiting.{delivery_in};
 ghost use Rattle.gl_waiting.specs.declared.waiter.Place.TheVariants.{Empty as empty};
 
-use crate::begins::{BeginQueue, QueuedBegin, Turn, is_over};
+use crate::begins::{QueuedBegin, Turn};
 use crate::delivery::Delivery;
-use crate::places::Places;
+use crate::set_off::SetOff;
 use crate::tries::{Keep, RowTried, Tried};
-use crate::waiter::{Came, Outcome, Place, Request, Waiter, outcome_of};
-use crate::waiters::{give_back, request_now, settle};
+use crate::waiter::{Came, Outcome, Request};
+use crate::waiter_table::WaiterTable;
 use gl_catalog::{Answer, Command, Manager};
 use gl_modes::{Mode, NodeId, Refusal};
 use gl_registry::{Row, RowAnswer, RowCall};
-use gl_slots::{SLOTS, Slot};
 use gl_table::{Told, TxnId};
 use std::alloc::Global;
 use std::marker::Model;
 
-/// A registry with a notice box and a place for each slot: its waiter, or the end of its wait.
+/// A registry with a notice box and a place for each slot, and the begins that wait for a slot.
 ///
 /// Each waiter waits: its transaction is in the queue of the node for which it waits. After each call every waiter that
 /// can go on has gone on: a path that was granted a node has requested the next, and a row that was granted has been locked
 /// again. A slot keeps the last end alone, so the caller takes all ends after each call, before it releases the latch.
+///
+/// No begin waits while a slot is free: each call that may have freed one hands on the begins that can begin by that, the
+/// first first, and the caller takes them with `take_begun`. Handing on needs no memory. What a call set off is answered
+/// beside its own answer.
 #[derive(Drop)]
 pub struct Waiting {
-    delivery: Delivery,
-    places: Places,
-    begins: BeginQueue,
+    table: WaiterTable,
 }
 
 impl Model for Waiting {
@@ -46,11 +44,11 @@ impl Model for Waiting {
 
     ghost Value = { WaitingView };
 
-    ghost use Rattle.gl_waiting.specs.Owned.{waiting_of, IsAwaited};
+    ghost use Rattle.gl_waiting.specs.Owned.{waiting_of, HandsOnInTurn};
 
     ghost view = { waiting_of };
 
-    ghost invariant = { IsAwaited };
+    ghost invariant = { HandsOnInTurn };
 }
 
 impl Waiting {
@@ -59,11 +57,10 @@ impl Waiting {
         ensures delivery { delivery_in result ≡ delivery }
         ensures places { result.places ≡ replicate most_slots empty }
         ensures queue { result.queue ≡ [] }
+        ensures begun { result.begun ≡ [] }
     {
         Waiting {
-            delivery,
-            places: Places::new(),
-            begins: BeginQueue::new(alloc),
+            table: WaiterTable::new(alloc, delivery),
         }
     }
 
@@ -71,46 +68,43 @@ impl Waiting {
     pub fn law(&self)
         ensures manager { IsLawfulManager self.now.manager }
         ensures awaits { Await (state_of self.now.manager) self.now.places }
+        ensures turn { IsInTurn self.now }
     {
-        self.delivery.law();
+        self.table.law();
     }
 
     /// The manager, to be asked.
     pub fn manager(&self) -> &Manager
         ensures { result.now ≡ self.now.manager }
     {
-        self.delivery.manager()
+        self.table.manager()
     }
 
     /// The node of a row; `None` if it has none.
     pub fn node(&self, row: Row) -> Option<NodeId>
         ensures { result ≡ name_of self.now.rows row }
     {
-        self.delivery.node(row)
+        self.table.node(row)
     }
 
     /// Carries out a command, as `Registry::serve`, with its notices put into an empty list. Waiters whose wait it ends
     /// go on or end.
-    pub fn serve(&mut self, command: Command<'_>, told: &mut Told) -> Option<Answer>
+    pub fn serve(&mut self, command: Command<'_>, told: &mut Told) -> (Option<Answer>, SetOff)
         requires empty { told.old.items ≡ [] }
-        ensures { Serves self.old command.entry result told.new.items self.new }
+        ensures { InTurn (λ off mid. Serves self.old command.entry result.0 told.new.items off mid) result.1 self.new }
     {
-        self.delivery.law();
-        let (answer, ended) = self.delivery.serve(command, told);
-        settle(&mut self.delivery, &mut self.places, ended);
-        answer
+        let (answer, own) = self.table.serve(command, told);
+        (answer, self.table.hand_on(own))
     }
 
     /// Carries out a call about rows, as `Registry::apply`, with its notices put into an empty list. Waiters whose wait it
     /// ends go on or end.
-    pub fn serve_row(&mut self, call: RowCall<'_>, told: &mut Told) -> RowAnswer
+    pub fn serve_row(&mut self, call: RowCall<'_>, told: &mut Told) -> (RowAnswer, SetOff)
         requires empty { told.old.items ≡ [] }
-        ensures { ServesRow self.old call.entry result told.new.items self.new }
+        ensures { InTurn (λ off mid. ServesRow self.old call.entry result.0 told.new.items off mid) result.1 self.new }
     {
-        self.delivery.law();
-        let (answer, ended) = self.delivery.serve_row(call, told);
-        settle(&mut self.delivery, &mut self.places, ended);
-        answer
+        let (answer, own) = self.table.serve_row(call, told);
+        (answer, self.table.hand_on(own))
     }
 
     /// Rolls back to a savepoint, as `Registry::release_since`, with its notices put into an empty list. Waiters whose
@@ -120,14 +114,12 @@ impl Waiting {
         txn: TxnId,
         mark: usize,
         told: &mut Told,
-    ) -> Result<usize, Refusal>
+    ) -> (Result<usize, Refusal>, SetOff)
         requires empty { told.old.items ≡ [] }
-        ensures { RollsBackTo self.old txn mark result told.new.items self.new }
+        ensures { InTurn (λ off mid. RollsBackTo self.old txn mark result.0 told.new.items off mid) result.1 self.new }
     {
-        self.delivery.law();
-        let (released, ended) = self.delivery.release_since(txn, mark, told);
-        settle(&mut self.delivery, &mut self.places, ended);
-        released
+        let (released, own) = self.table.release_since(txn, mark, told);
+        (released, self.table.hand_on(own))
     }
 
     /// Tries to lock a node with what must be held above it, as `Delivery::try_path`. Waiters whose wait a rollback ends
@@ -139,14 +131,12 @@ impl Waiting {
         mode: Mode,
         keep: Keep,
         told: &mut Told,
-    ) -> Tried
+    ) -> (Tried, SetOff)
         requires empty { told.old.items ≡ [] }
-        ensures { TriesThere self.old txn (node, mode) keep result told.new.items self.new }
+        ensures { InTurn (λ off mid. TriesThere self.old txn (node, mode) keep result.0 told.new.items off mid) result.1 self.new }
     {
-        self.delivery.law();
-        let (tried, ended) = self.delivery.try_path(txn, node, mode, keep, told);
-        settle(&mut self.delivery, &mut self.places, ended);
-        tried
+        let (tried, own) = self.table.try_path(txn, node, mode, keep, told);
+        (tried, self.table.hand_on(own))
     }
 
     /// Tries to lock a row that has these keys, as `Delivery::try_row`. Waiters whose wait a release ends go on or end.
@@ -157,14 +147,13 @@ impl Waiting {
         keys: &[u64],
         mode: Mode,
         told: &mut Told,
-    ) -> RowTried
+    ) -> (RowTried, SetOff)
         requires empty { told.old.items ≡ [] }
-        ensures { TriesRowThere self.old (record { txn = txn; row = row; keys = keys.entry; mode = mode }) result told.new.items self.new }
+        ensures { InTurn (λ off mid. TriesRowThere self.old (record { txn = txn; row = row; keys = keys.entry; mode = mode }) result.0 told.new.items off mid)
+            result.1 self.new }
     {
-        self.delivery.law();
-        let (tried, ended) = self.delivery.try_row(txn, row, keys, mode, told);
-        settle(&mut self.delivery, &mut self.places, ended);
-        tried
+        let (tried, own) = self.table.try_row(txn, row, keys, mode, told);
+        (tried, self.table.hand_on(own))
     }
 
     /// Carries out a request, with the notices of a single lock put into an empty list. If it waits, its transaction is a
@@ -178,61 +167,38 @@ impl Waiting {
         instant: bool,
         until: Option<u64>,
         told: &mut Told,
-    ) -> Came
+    ) -> (Came, SetOff)
         requires empty { told.old.items ≡ [] }
-        ensures { Asks self.old txn request instant until result told.new.items self.new }
+        ensures { InTurn (λ off mid. Asks self.old txn request instant until result.0 told.new.items off mid) result.1 self.new }
     {
-        self.delivery.law();
-        let instant = is_for_instant(self.delivery.manager(), txn, request, instant);
-        let (came, ended) = request_now(&mut self.delivery, txn, request, told);
-        self.delivery.law();
-        match came {
-            Came::Ended(outcome) => {
-                let more = give_back(&mut self.delivery, instant, txn, request, outcome);
-                let due = ended.union(more);
-                settle(&mut self.delivery, &mut self.places, due);
-                came
-            }
-            Came::Waits { at, wanted } => {
-                let waiter = Waiter {
-                    txn,
-                    request,
-                    instant,
-                    at,
-                    wanted,
-                    until,
-                };
-                self.places.put(txn.slot, Place::Waits(waiter));
-                settle(&mut self.delivery, &mut self.places, ended);
-                self.places.answer(txn.slot, came)
-            }
-        }
+        let (came, own) = self.table.ask(txn, request, instant, until, told);
+        (came, self.table.hand_on(own))
     }
 
     /// Carries out a request as `ask`, but leaves no waiter: if the request still waits after all waiters have gone on, the
     /// answer says for which node and in which mode, and `await_lock` makes a waiter of its transaction. An instant that
     /// still waits is awaited as a lock that stays.
-    pub fn request(&mut self, txn: TxnId, request: Request, instant: bool, told: &mut Told) -> Came
+    pub fn request(
+        &mut self,
+        txn: TxnId,
+        request: Request,
+        instant: bool,
+        told: &mut Told,
+    ) -> (Came, SetOff)
         requires empty { told.old.items ≡ [] }
-        ensures { AsksOnce self.old txn request instant result told.new.items self.new }
+        ensures { InTurn (λ off mid. AsksOnce self.old txn request instant result.0 told.new.items off mid) result.1 self.new }
     {
-        let came = self.ask(txn, request, instant, None, told);
-        match came {
-            Came::Ended(_) => came,
-            Came::Waits { .. } => {
-                self.places.clear(txn.slot);
-                came
-            }
-        }
+        let (came, own) = self.table.request(txn, request, instant, told);
+        (came, self.table.hand_on(own))
     }
 
     /// Takes the end of a wait, that of the lowest slot; `None` if there is none.
     pub fn take_end(&mut self) -> Option<(TxnId, Outcome)>
         ensures ends { TakesEnd self.old.places result self.new.places }
         ensures kept { delivery_in self.new ≡ delivery_in self.old }
-        ensures queue { self.new.queue ≡ self.old.queue }
+        ensures turns { KeepsTurns self.old self.new }
     {
-        self.places.take_end()
+        self.table.take_end()
     }
 
     /// Makes a waiter of a transaction that a command left waiting for a node, in this mode, with at most this time to
@@ -246,123 +212,51 @@ impl Waiting {
     ) -> Option<Came>
         ensures { Awaits self.old txn node mode until result self.new }
     {
-        self.delivery.law();
-        if self.places.waiter_of(txn).is_some() {
-            return None;
-        }
-        if let Some(verdict) = self.delivery.verdict(txn, node, mode) {
-            return Some(Came::Ended(outcome_of(node, verdict)));
-        }
-        let waiter = Waiter {
-            txn,
-            request: Request::Node { node, mode },
-            instant: false,
-            at: node,
-            wanted: mode,
-            until,
-        };
-        self.places.put(txn.slot, Place::Waits(waiter));
-        Some(Came::Waits {
-            at: node,
-            wanted: mode,
-        })
+        self.table.await_lock(txn, node, mode, until)
     }
 
     /// Ends the wait of a transaction whose time is over, if it has a waiter: its end is to be taken. Waiters whose wait
     /// that ends go on or end. It waits on only if no command can be counted any more (`WornOut`).
-    pub fn time_out(&mut self, txn: TxnId)
-        ensures { TimesOut self.old txn self.new }
+    pub fn time_out(&mut self, txn: TxnId) -> SetOff
+        ensures { InTurn (λ off mid. TimesOut self.old txn off mid) result self.new }
     {
-        self.delivery.law();
-        let Some(waiter) = self.places.waiter_of(txn) else {
-            return;
-        };
-        let mut told = Told::new();
-        let (answer, ended) = self.delivery.serve(Command::Cancel { txn }, &mut told);
-        if !is_done(answer) {
-            settle(&mut self.delivery, &mut self.places, ended);
-            return;
-        }
-        self.places
-            .put(txn.slot, Place::Ended(txn, Outcome::TimedOut(waiter.at)));
-        settle(&mut self.delivery, &mut self.places, ended);
+        let own = self.table.time_out(txn);
+        self.table.hand_on(own)
     }
 
     /// Ends each wait whose time is at or before now, as `time_out`. Answers the earliest time of those that are left.
-    pub fn expire(&mut self, now: u64) -> Option<u64>
-        ensures expires { Expires self.old now self.new }
-        ensures next { result ≡ earliest_until self.new.places }
+    /// What it set off names no slot: it went on if it carried out any command.
+    pub fn expire(&mut self, now: u64) -> (Option<u64>, SetOff)
+        ensures expires { InTurn (λ off mid. Expires self.old now off mid) result.1 self.new }
+        ensures next { result.0 ≡ earliest_until self.new.places }
     {
-        'slots: for slot in 0..SLOTS {
-            self.expire_at(slot as Slot, now);
-        }
-        self.places.earliest()
+        let own = self.table.expire(now);
+        let off = self.table.hand_on(own);
+        (self.table.earliest_wait(), off)
     }
 
-    /// Ends the wait of a slot, if its time is over.
-    fn expire_at(&mut self, slot: Slot, now: u64)
-        ensures calls { Calls (delivery_in self.old) (delivery_in self.new) }
-        ensures low { self.old.manager.accepted ≤ self.new.manager.accepted }
-        ensures places { (u : ℕ) → PlaceGoes (EndsInTime now (delivery_in self.old) (delivery_in self.new)) (place_at self.old.places u)
-            (place_at self.new.places u) }
-        ensures queue { self.new.queue ≡ self.old.queue }
-        ensures over { self.new.manager.accepted < max_count → IsInTime now (place_at self.new.places slot) }
+    /// Begins a transaction, for new work or for work since an earlier begin. It is refused while others wait for a slot,
+    /// since none is free.
+    pub fn begin(&mut self, since: Option<u64>) -> (Result<TxnId, Refusal>, SetOff)
+        ensures { Begins self.old since result.0 result.1 self.new }
     {
-        let Some(waiter) = self.places.waiter(slot) else {
-            return;
-        };
-        if is_over(waiter.until, now) {
-            self.time_out(waiter.txn);
-        }
-    }
-
-    /// Begins a transaction, for new work or for work since an earlier begin. It does not ask who waits for a slot.
-    pub fn begin(&mut self, since: Option<u64>) -> Result<TxnId, Refusal>
-        ensures { Begins self.old since result self.new }
-    {
-        self.delivery.law();
-        let mut told = Told::new();
-        let (answer, ended) = self.delivery.serve(begin_command(since), &mut told);
-        let Some(answer) = answer else { unreachable!() };
-        match begun_in(answer) {
-            Ok(txn) => {
-                settle(&mut self.delivery, &mut self.places, ended);
-                Ok(txn)
-            }
-            Err(refusal) => Err(refusal),
-        }
+        self.table.begin(since)
     }
 
     /// Begins a transaction if nobody waits for a slot and one is free; otherwise the begin waits for one, after all who
     /// wait already.
-    pub fn begin_in_turn(&mut self, begin: QueuedBegin) -> Turn
-        ensures { BeginsInTurn self.old begin result self.new }
+    pub fn begin_in_turn(&mut self, begin: QueuedBegin) -> (Turn, SetOff)
+        ensures { BeginsInTurn self.old begin result.0 result.1 self.new }
     {
-        if self.begins.is_empty() {
-            let came = self.begin(begin.since);
-            if !is_too_many(came) {
-                return Turn::Came(came);
-            }
-        }
-        match self.begins.enter(begin) {
-            Ok(()) => Turn::Queued,
-            Err(_) => Turn::NoMemory,
-        }
+        self.table.begin_in_turn(begin)
     }
 
-    /// Begins for the first who waits for a slot, if one is free; `None` if nobody waits, or every slot is taken. The
-    /// caller repeats it after each call that may have ended a transaction, before it releases the latch: so no slot is
-    /// free while somebody waits for one.
-    pub fn next_begin(&mut self) -> Option<(QueuedBegin, Result<TxnId, Refusal>)>
-        ensures { BeginsNext self.old result self.new }
+    /// Takes the first of the begins that were handed on, with its answer; `None` if there is none.
+    pub fn take_begun(&mut self) -> Option<(QueuedBegin, Result<TxnId, Refusal>)>
+        ensures taken { result ≡ slice_get self.old.begun 0 }
+        ensures rest { self.new ≡ record self.old { begun = drop 1 self.old.begun } }
     {
-        let first = self.begins.first()?;
-        let came = self.begin(first.since);
-        if is_too_many(came) {
-            return None;
-        }
-        self.begins.leave_first();
-        Some((first, came))
+        self.table.take_begun()
     }
 
     /// Takes a begin of this name out of those that wait for a slot; whether there was one.
@@ -370,7 +264,7 @@ impl Waiting {
         ensures found { result ≡ list_any (has_word word) self.old.queue }
         ensures rest { self.new ≡ record self.old { queue = without_first (has_word word) self.old.queue } }
     {
-        self.begins.withdraw(word)
+        self.table.withdraw_begin(word)
     }
 
     /// Takes a begin whose time is at or before now out of those that wait for a slot, the first of them.
@@ -378,62 +272,13 @@ impl Waiting {
         ensures taken { result ≡ find (is_late now) self.old.queue }
         ensures rest { self.new ≡ record self.old { queue = without_first (is_late now) self.old.queue } }
     {
-        self.begins.take_late(now)
+        self.table.take_late_begin(now)
     }
 
     /// The earliest time at which a begin ends that waits for a slot; `None` if none has one.
     pub fn earliest_begin(&self) -> Option<u64>
         ensures { result ≡ earliest_of self.now.queue }
     {
-        self.begins.earliest()
+        self.table.earliest_begin()
     }
-}
-
-/// Whether a request is for an instant: it is said so, and its transaction does not hold the node. No request for a row
-/// is.
-fn is_for_instant(manager: &Manager, txn: TxnId, request: Request, instant: bool) -> bool
-    ensures { result ≡ is_for_instant (state_of manager.now) txn request instant }
-{
-    match request {
-        Request::Node { node, .. } | Request::Path { node, .. } => {
-            instant && matches!(manager.mode_on(txn, node), Some(Mode::NL))
-        }
-        Request::Row { .. } => false,
-    }
-}
-
-/// Whether a command was done.
-fn is_done(answer: Option<Answer>) -> bool
-    ensures { result ≡ is_done answer }
-{
-    matches!(answer, Some(Answer::Done))
-}
-
-/// The command of a begin, for new work or for work since an earlier begin.
-fn begin_command(since: Option<u64>) -> Command<'static>
-    ensures { result ≡ begin_of since }
-{
-    match since {
-        Some(since) => Command::BeginAgain { since },
-        None => Command::Begin,
-    }
-}
-
-/// What a begin came to that was answered so.
-fn begun_in(answer: Answer) -> Result<TxnId, Refusal>
-    requires { IsBeginAnswer answer }
-    ensures { begin_said result ≡ answer }
-{
-    match answer {
-        Answer::Begun(txn) => Ok(txn),
-        Answer::Refused(refusal) => Err(refusal),
-        _ => unreachable!(),
-    }
-}
-
-/// Whether a begin was refused since every slot is taken.
-fn is_too_many(came: Result<TxnId, Refusal>) -> bool
-    ensures { result ≡ is_too_many came }
-{
-    matches!(came, Err(Refusal::TooManyTxns))
 }

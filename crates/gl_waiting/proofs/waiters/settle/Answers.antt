@@ -1,4 +1,6 @@
-use Rattle.std.proofs.Common.{arith}
+use Rattle.std.proofs.Common.{◌≡◌, ◌==◌, ◌∙◌, ℕ, ap, arith, not}
+use Rattle.gl_catalog.specs.Manager.{ManagerView}
+use Rattle.gl_waiting.proofs.Runs.{calls_then, went_on_by}
 use Rattle.gl_waiting.proofs.GoingOn.{goes_on_same, goes_on_then}
 use Rattle.gl_waiting.proofs.waiters.settle.Goals as goal
 
@@ -27,3 +29,14 @@ due-preserved c =
           c.due.invariant.goes c.look_at_all-due.ensures.goes;
       low = omega (arith, low, before);
     }
+
+pub returns-then-is_empty-clause-went_on : goal.returns-then-is_empty-clause-went_on
+returns-then-is_empty-clause-went_on c =
+    let before : c.accepted-before.result ≡ c.args.delivery.now.manager.accepted =
+    c.accepted-before.ensures ∙ ap (λ (m : ManagerView). m.accepted) c.manager.ensures in
+    let after : c.accepted-after.result ≡ c.look_at_all-due.new.delivery.manager.accepted =
+    c.accepted-after.ensures ∙ ap (λ (m : ManagerView). m.accepted) c.manager-in-due.ensures in
+    went_on_by c.args.delivery.now c.look_at_all-due.new.delivery (not (c.accepted-after.result == c.accepted-before.result))
+    (calls_then c.args.delivery.now c.due.delivery c.look_at_all-due.new.delivery c.due.invariant.goes.calls c.look_at_all-due.ensures.goes.calls)
+    (ap (λ (k : ℕ). not (k == c.accepted-before.result)) after
+    ∙ ap (λ (k : ℕ). not (c.look_at_all-due.new.delivery.manager.accepted == k)) before)

@@ -1,42 +1,10 @@
-use Rattle.std.proofs.Common.{◌∙◌, ◌<◌, arith, refl}
-use Rattle.gl_graph.specs.Refusals.{max_count}
-use Rattle.gl_waiting.specs.Ends.{EndsInTime}
-use Rattle.gl_waiting.specs.Waiters.{IsInTime, place_at}
-use Rattle.gl_waiting.specs.Waiting.{delivery_in}
-use Rattle.gl_waiting.proofs.Awaiting.{below_next}
-use Rattle.gl_waiting.proofs.GoingOn.{goes_same, in_time_on, times_then}
-use Rattle.gl_waiting.proofs.Runs.{calls_none, calls_then}
+use Rattle.std.proofs.Common.{subst}
+use Rattle.gl_waiting.specs.Asking.{InTurn, Expires}
+use Rattle.gl_waiting.specs.Waiting.{WaitingView}
 use Rattle.gl_waiting.proofs.waiting.Waiting.expire.Goals as goal
 
-pub slots-init : goal.slots-init
-slots-init c =
-    let d = delivery_in c.args.self.now in
-    record {
-      calls = calls_none d;
-      low = omega arith;
-      queue = refl;
-      goes = λ u. goes_same (EndsInTime c.args.now d d) (place_at c.args.self.now.places u);
-      in_time = λ u less below. absurd (omega (arith, less));
-    }
-
-pub slots-preserved : goal.slots-preserved
-slots-preserved c =
-    let was = c.slots.invariant in
-    let one = c.expire_at.ensures in
-    let low = one.low in
-    let before = was.low in
-    let d = delivery_in c.args.self.now in
-    let mid = delivery_in c.slots.self in
-    let now = delivery_in c.expire_at.new.self in
-    record {
-      calls = calls_then d mid now was.calls one.calls;
-      low = omega (arith, low, before);
-      queue = one.queue ∙ was.queue;
-      goes = λ u. times_then c.args.now d mid now was.calls one.calls (place_at c.args.self.now.places u) (place_at c.slots.self.places u)
-          (place_at c.expire_at.new.self.places u) (was.goes u) (one.places u);
-      in_time = below_next (λ u. c.expire_at.new.self.manager.accepted < max_count → IsInTime c.args.now (place_at c.expire_at.new.self.places u))
-          c.slots.slot
-          (λ u less below. in_time_on (EndsInTime c.args.now mid now) c.args.now (place_at c.slots.self.places u) _ (one.places u)
-          (let fewer : c.slots.self.manager.accepted < max_count = omega (arith, low, below) in was.in_time u less fewer))
-          one.over;
-    }
+pub returns-clause-expires : goal.returns-clause-expires
+returns-clause-expires c =
+    subst
+    (λ (v : WaitingView). InTurn (λ off mid. Expires v c.args.now off mid) c.hand_on-off.result c.hand_on-off.new.self) c.self.view_is
+    (c.expire-own.result, c.expire-own.new.self, c.expire-own.ensures, c.hand_on-off.ensures.hands)

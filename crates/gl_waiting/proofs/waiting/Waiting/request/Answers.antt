@@ -1,11 +1,13 @@
-use Rattle.std.proofs.Common.{List, subst, sym}
-use Rattle.gl_catalog.specs.Manager.{state_of}
-use Rattle.gl_waiting.specs.Waiters.{Await}
-use Rattle.gl_waiting.specs.declared.waiter.Place.{Place}
-use Rattle.gl_waiting.proofs.Awaiting.{await_taken}
+use Rattle.std.proofs.Common.{subst}
+use Rattle.gl_waiting.specs.Asking.{InTurn, AsksOnce}
+use Rattle.gl_waiting.specs.Waiting.{WaitingView}
 use Rattle.gl_waiting.proofs.waiting.Waiting.request.Goals as goal
 
-pub invariant_of-self : goal.invariant_of-self
-invariant_of-self c =
-    subst (λ (ps : List Place). Await (state_of c.self.inside.delivery.manager) ps) (sym c.clear.ensures)
-    (await_taken (state_of c.self.inside.delivery.manager) c.self.inside.places c.args.txn.slot c.self.invariant)
+pub returns : goal.returns
+returns c =
+    let call = c.request-came in
+    let txn = c.args.txn in
+    let request = c.args.request in
+    let told = call.new.told.items in
+    subst (λ (v : WaitingView). InTurn (λ off mid. AsksOnce v txn request c.args.instant call.result.0 told off mid) c.hand_on.result c.hand_on.new.self)
+    c.self.view_is (call.result.1, call.new.self, call.ensures, c.hand_on.ensures.hands)

@@ -1,28 +1,10 @@
-use Rattle.std.proofs.Common.{refl, subst}
-use Rattle.gl_catalog.specs.Manager.{state_of}
-use Rattle.gl_waiting.specs.Asking.{Serves}
+use Rattle.std.proofs.Common.{subst}
+use Rattle.gl_waiting.specs.Asking.{InTurn, Serves}
 use Rattle.gl_waiting.specs.Waiting.{WaitingView}
-use Rattle.gl_waiting.proofs.Awaiting.{await_on, carries_ended, waiting_with}
 use Rattle.gl_waiting.proofs.waiting.Waiting.serve.Goals as goal
-
-pub settle-requires : goal.settle-requires
-settle-requires c = record {
-  awaits = await_on (state_of c.self.inside.delivery.manager) (state_of c.serve-answer.new.self.manager) c.self.inside.places c.serve-answer.result.1
-      c.self.invariant c.law.ensures.lawful
-      (carries_ended c.self.inside.delivery c.serve-answer.new.self c.args.command c.serve-answer.new.told.items c.serve-answer.result.1
-      c.serve-answer.ensures.carries);
-}
 
 pub returns : goal.returns
 returns c =
-    subst
-    (λ (v : WaitingView). Serves v c.args.command c.serve-answer.result.0 c.serve-answer.new.told.items
-    (waiting_with c.settle.new.delivery c.settle.new.places c.self.inside.begins)) c.self.view_is
-    (record {
-      served = c.serve-answer.new.self;
-      serves = c.serve-answer.ensures.serves;
-      delivers = (c.serve-answer.result.1, c.serve-answer.ensures.carries);
-      run = c.serve-answer.ensures.run;
-      goes = c.settle.ensures.goes;
-      queue = refl;
-    })
+    let call = c.serve-answer in
+    subst (λ (v : WaitingView). InTurn (λ off mid. Serves v c.args.command call.result.0 call.new.told.items off mid) c.hand_on.result c.hand_on.new.self)
+    c.self.view_is (call.result.1, call.new.self, call.ensures, c.hand_on.ensures.hands)

@@ -1,30 +1,10 @@
-use Rattle.std.proofs.Common.{refl, subst}
-use Rattle.gl_catalog.specs.Manager.{state_of}
-use Rattle.gl_waiting.specs.Asking.{ServesRow}
+use Rattle.std.proofs.Common.{subst}
+use Rattle.gl_waiting.specs.Asking.{InTurn, ServesRow}
 use Rattle.gl_waiting.specs.Waiting.{WaitingView}
-use Rattle.gl_waiting.proofs.Awaiting.{await_on, carries_ended, waiting_with}
 use Rattle.gl_waiting.proofs.waiting.Waiting.serve_row.Goals as goal
-
-pub settle-requires : goal.settle-requires
-settle-requires c = record {
-  awaits = await_on (state_of c.self.inside.delivery.manager) (state_of c.serve_row-answer.new.self.manager) c.self.inside.places
-      c.serve_row-answer.result.1 c.self.invariant c.law.ensures.lawful
-      (carries_ended c.self.inside.delivery c.serve_row-answer.new.self _ c.serve_row-answer.new.told.items c.serve_row-answer.result.1
-      c.serve_row-answer.ensures.carries);
-}
 
 pub returns : goal.returns
 returns c =
-    let served = c.serve_row-answer.ensures in
-    subst
-    (λ (v : WaitingView). ServesRow v c.args.call c.serve_row-answer.result.0 c.serve_row-answer.new.told.items
-    (waiting_with c.settle.new.delivery c.settle.new.places c.self.inside.begins)) c.self.view_is
-    (record {
-      served = c.serve_row-answer.new.self;
-      applies = served.applies;
-      own = served.own;
-      delivers = (c.serve_row-answer.result.1, served.carries);
-      run = served.run;
-      goes = c.settle.ensures.goes;
-      queue = refl;
-    })
+    let call = c.serve_row-answer in
+    subst (λ (v : WaitingView). InTurn (λ off mid. ServesRow v c.args.call call.result.0 call.new.told.items off mid) c.hand_on.result c.hand_on.new.self)
+    c.self.view_is (call.result.1, call.new.self, call.ensures, c.hand_on.ensures.hands)

@@ -1,5 +1,6 @@
 use Rattle.std.proofs.Common.{◌≡◌, refl, subst, sym, ap, ◌∙◌}
 use Rattle.std.specs.Prelude.{Some, Err}
+use Rattle.gl_slots.specs.declared.slots.Slots.{Slots}
 use Rattle.gl_steps.specs.declared.command.Answer.{Answer}
 use Rattle.gl_steps.specs.declared.command.Answer.TheVariants as answer
 use Rattle.gl_catalog.specs.Manager.{state_of}
@@ -11,7 +12,7 @@ use Rattle.gl_waiting.specs.Waiters.{Await}
 use Rattle.gl_waiting.specs.Waiting.{WaitingView}
 use Rattle.gl_waiting.proofs.Awaiting.{await_on, carries_ended, waiting_with}
 use Rattle.gl_waiting.proofs.Beginning.{begin_answered, command_made, refused_same, refused_step, served_so}
-use Rattle.gl_waiting.proofs.waiting.Waiting.begin.Goals as goal
+use Rattle.gl_waiting.proofs.waiter_table.WaiterTable.begin.Goals as goal
 
 pub begun_in-requires : goal.begun_in-requires
 begun_in-requires c =
@@ -35,24 +36,24 @@ returns-in-Ok c =
     let served = c.serve-answer.ensures in (
       c.serve-answer.new.told.items,
       subst
-          (λ (v : WaitingView). Serves v (begin_of c.args.since) (Some (answer.Begun c.in-Ok.txn)) c.serve-answer.new.told.items
+          (λ (v : WaitingView). Serves v (begin_of c.args.since) (Some (answer.Begun c.in-Ok.txn)) c.serve-answer.new.told.items c.settle.result
           (waiting_with c.settle.new.delivery c.settle.new.places c.self.inside.begins)) c.self.view_is
           (record {
             served = c.serve-answer.new.self;
             serves = served_so c.args.since c.begin_command.result (registry_in c.self.inside.delivery) (registry_in c.serve-answer.new.self)
                 c.serve-answer.result.0 (answer.Begun c.in-Ok.txn) c.serve-answer.new.told.items c.begin_command.ensures answered served.serves;
-            delivers = (
-              c.serve-answer.result.1,
-              subst (λ (x : Command). Carries c.self.inside.delivery x c.serve-answer.new.told.items c.serve-answer.result.1 c.serve-answer.new.self)
-                  c.begin_command.ensures served.carries,
-            );
+            delivers = subst (λ (ended : Slots). Carries c.self.inside.delivery (begin_of c.args.since) c.serve-answer.new.told.items ended
+                c.serve-answer.new.self) (sym c.settle.ensures.ended)
+                (subst (λ (x : Command). Carries c.self.inside.delivery x c.serve-answer.new.told.items c.serve-answer.result.1 c.serve-answer.new.self)
+                c.begin_command.ensures served.carries);
             run = served.run;
             goes = c.settle.ensures.goes;
-            queue = refl;
+            went_on = c.settle.ensures.went_on;
+            turns = (refl, refl);
           }),
     )
 
-applies : (c : goal.In-Err)
+applies : (c : goal.After-nothing)
     → Applies c.self.inside.delivery.manager (begin_of c.args.since) (answer.Refused c.in-Err.refusal) c.serve-answer.new.told.items
     c.serve-answer.new.self.manager
 applies c =
@@ -61,13 +62,13 @@ applies c =
     (answer.Refused c.in-Err.refusal) c.serve-answer.new.told.items c.begin_command.ensures (c.in-Some.is ∙ ap (λ (a : Answer). Some a) is)
     c.serve-answer.ensures.serves
 
-carries : (c : goal.In-Err)
+carries : (c : goal.After-nothing)
     → Carries c.self.inside.delivery (begin_of c.args.since) c.serve-answer.new.told.items c.serve-answer.result.1 c.serve-answer.new.self
 carries c =
     subst (λ (x : Command). Carries c.self.inside.delivery x c.serve-answer.new.told.items c.serve-answer.result.1 c.serve-answer.new.self)
     c.begin_command.ensures c.serve-answer.ensures.carries
 
-refused : (c : goal.In-Err) → c.serve-answer.new.self ≡ c.self.inside.delivery
+refused : (c : goal.After-nothing) → c.serve-answer.new.self ≡ c.self.inside.delivery
 refused c =
     refused_same c.args.since c.self.inside.delivery c.serve-answer.new.self c.in-Err.refusal c.serve-answer.new.told.items c.serve-answer.result.1
     (applies c) (carries c)
@@ -78,9 +79,10 @@ invariant_of-self-in-Err c =
 
 pub returns-in-Err : goal.returns-in-Err
 returns-in-Err c =
-    subst (λ (v : WaitingView). Begins v c.args.since (Err c.in-Err.refusal)
+    subst (λ (v : WaitingView). Begins v c.args.since (Err c.in-Err.refusal) c.nothing.result
     (waiting_with c.serve-answer.new.self c.self.inside.places c.self.inside.begins)) c.self.view_is (
       refused_step c.args.since c.self.inside.delivery c.serve-answer.new.self c.in-Err.refusal c.serve-answer.new.told.items c.serve-answer.result.1
           (applies c) (carries c),
+      c.nothing.ensures,
       ap (λ (d : DeliveryView). waiting_with d c.self.inside.places c.self.inside.begins) (refused c),
     )

@@ -1,8 +1,8 @@
-use Rattle.std.proofs.Common.{◌≡◌, ◌⊎◌, ℕ, true, inl, inr, subst, sym, ◌∙◌}
+use Rattle.std.proofs.Common.{◌≡◌, ◌⊎◌, ℕ, true, inl, inr, refl, subst, sym, ◌∙◌}
 use Rattle.gl_waiting.specs.Ends.{EndsBetween, EndsInTime, EndsLate}
 use Rattle.gl_waiting.specs.Begins.{is_over}
 use Rattle.gl_waiting.specs.Delivering.{DeliveryView}
-use Rattle.gl_waiting.specs.Waiters.{place_at}
+use Rattle.gl_waiting.specs.Waiters.{IsInTime, place_at}
 use Rattle.gl_waiting.specs.declared.waiter.Outcome.{Outcome}
 use Rattle.gl_waiting.specs.declared.waiter.Waiter.{Waiter}
 use Rattle.gl_waiting.specs.Waiting.{WaitingView, delivery_in}
@@ -10,7 +10,7 @@ use Rattle.gl_waiting.specs.declared.waiter.Outcome.TheVariants as end
 use Rattle.gl_waiting.specs.declared.waiter.Place.TheVariants as place
 use Rattle.gl_waiting.proofs.Awaiting.{waiter_there}
 use Rattle.gl_waiting.proofs.GoingOn.{each_but, goes_at, goes_with}
-use Rattle.gl_waiting.proofs.waiting.Waiting.expire_at.Goals as goal
+use Rattle.gl_waiting.proofs.waiter_table.WaiterTable.expire_at.Goals as goal
 
 late : (now : ℕ) (d d' : DeliveryView) (w : Waiter) (outcome : Outcome) → is_over now w.until ≡ true
     → EndsBetween d d' w outcome ⊎ ((outcome ≡ end.TimedOut w.at) × EndsLate d d' w outcome) → EndsInTime now d d' w outcome
@@ -34,3 +34,14 @@ returns-then-is_over-clause-places c =
     (λ outcome ends. late c.args.now d now w outcome (sym c.is_over.ensures ∙ c.if-is_over.true) ends) one.own)
     (λ u apart. goes_with (EndsBetween d now) (EndsInTime c.args.now d now) (λ x outcome ends. inl ends) (place_at v.places u)
     (place_at c.time_out.new.self.places u) (one.others u apart))
+
+pub returns-then-is_over-clause-over : goal.returns-then-is_over-clause-over
+returns-then-is_over-clause-over c =
+    let w = c.in-Some.waiter in
+    let was : place_at c.self.inside.places c.args.slot ≡ place.Waits w = waiter_there _ w c.in-Some.ensures in
+    let mine = c.self.invariant.own c.args.slot w was in
+    let had = subst (λ (x : WaitingView). place_at x.places w.txn.slot ≡ place.Waits w) c.self.view_is
+    (subst (λ (k : ℕ). place_at c.self.inside.places k ≡ place.Waits w) (sym mine.0) was) in
+    λ below.
+    subst (λ (k : ℕ). IsInTime c.args.now (place_at c.time_out.new.self.places k)) mine.0
+    (subst (IsInTime c.args.now) (sym (c.time_out.ensures.ends w (had, refl) below)) refl)

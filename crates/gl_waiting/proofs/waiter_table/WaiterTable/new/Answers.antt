@@ -4,7 +4,7 @@ use Rattle.gl_catalog.specs.Manager.{state_of}
 use Rattle.gl_waiting.specs.Waiters.{Await}
 use Rattle.gl_waiting.specs.declared.waiter.Place.{Place}
 use Rattle.gl_waiting.proofs.Awaiting.{await_none}
-use Rattle.gl_waiting.proofs.waiting.Waiting.new.Goals as goal
+use Rattle.gl_waiting.proofs.waiter_table.WaiterTable.new.Goals as goal
 
 pub invariant_of-result : goal.invariant_of-result
 invariant_of-result c =

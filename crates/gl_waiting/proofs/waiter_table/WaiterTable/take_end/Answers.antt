@@ -1,6 +1,6 @@
 use Rattle.gl_catalog.specs.Manager.{state_of}
 use Rattle.gl_waiting.proofs.Awaiting.{await_ends}
-use Rattle.gl_waiting.proofs.waiting.Waiting.take_end.Goals as goal
+use Rattle.gl_waiting.proofs.waiter_table.WaiterTable.take_end.Goals as goal
 
 pub invariant_of-self : goal.invariant_of-self
 invariant_of-self c =
