@@ -33,6 +33,8 @@ use gl_window::{WatchFault, Watcher};
 use std::alloc::Global;
 use std::marker::Model;
 
+mod tries;
+
 /// The manager with its files of rows and a notice box for each slot, the slots whose wait the last
 /// accepted command may have ended, and what watchers were shown, if there ever was one.
 #[derive(Drop)]
