@@ -8,10 +8,9 @@
  * and table_release, around each call; table_wake, after each command; table_hand_on, after what may have ended a
  * transaction; table_sleep, when a lock waits; table_sleep_in_begin_queue, when a begin does; bs_table_end; and
  * table_watch_over, the thread that watches. So is what several calls of the manager, each of them proved, do together:
- * table_try_up and table_give_back, for a path that is tried, table_row_tried, for a row, and table_register, for a
- * wait, which may be for an instant and is then released when it is granted. And so are asks, whose end comes by a
- * callback: table_go_on, at the end of each critical section that may have ended one, and table_tell, after it. All
- * else here makes calls of burlapslate.h between these.
+ * table_register, for a wait, which may be for an instant and is then released when it is granted. And so are asks,
+ * whose end comes by a callback: table_go_on, at the end of each critical section that may have ended one, and
+ * table_tell, after it. All else here makes calls of the library between these.
  */
 #include "burlapslate_dump.h"
 
@@ -298,14 +297,18 @@ static TABLE_APART void table_give_instants_back(bs_table *table, bs_slots *gran
   }
 }
 
-/* Notes the sleepers whose wait the last command may have ended, as bs_ended says, unless that command was refused. */
-static TABLE_APART void table_wake_ended(bs_table *table, bs_status status, bs_notices *told) {
+/* Notes the sleepers whose wait the last accepted command may have ended, as bs_ended says. */
+static TABLE_APART void table_wake_told(bs_table *table, bs_notices *told) {
   bs_slots granted = { { 0 } };
-  bool is_accepted = status == BS_DONE || status == BS_WAITING || status == BS_VICTIM || status == BS_ON_THE_WAY ||
-                     status == BS_OTHER_KEYS;
-  if (!is_accepted) return;
   table_note_ended(table, &granted);
   table_give_instants_back(table, &granted, told);
+}
+
+/* The same after a command that was answered so, unless that was refused. */
+static TABLE_APART void table_wake_ended(bs_table *table, bs_status status, bs_notices *told) {
+  bool is_accepted = status == BS_DONE || status == BS_WAITING || status == BS_VICTIM || status == BS_ON_THE_WAY ||
+                     status == BS_OTHER_KEYS;
+  if (is_accepted) table_wake_told(table, told);
 }
 
 /* A wait began: wakes the thread that watches. */
@@ -923,98 +926,15 @@ bs_reply bs_table_lock_path(bs_table *table, bs_txn txn, bs_node node, bs_mode m
   return reply;
 }
 
-/* ------------------------------------------------------------------------------------------------
- * Paths that are tried.
- */
-
-/* How many nodes above it a tried path keeps, and how many that it acquired without memory for them. */
-enum { TABLE_MOST_ABOVE = 16, TABLE_FEW_TAKEN = 32 };
-
-/* A path that is tried, in the frame of its own call. */
-typedef struct table_try {
-  bs_txn txn;
-  bs_node node;
-  bs_mode mode;
-  bs_node above[TABLE_MOST_ABOVE]; /* the nodes above that are known to be wanted, upwards */
-  size_t height;                   /* how many these are */
-  bool is_kept;                    /* what it acquired stays, however it ends */
-  bs_node few[TABLE_FEW_TAKEN];
-  bs_node *taken;                  /* else what it acquired anew, in that order: `few`, or a list that is freed */
-  size_t count, room;
-} table_try;
-
-/* Notes nodes in a list that is twice as long; whether there is one. */
-static TABLE_APART bool table_note_more(table_try *path) {
-  bs_node *more = (bs_node *)malloc(2 * path->room * sizeof *more);
-  if (more == NULL) return false;
-  memcpy(more, path->taken, path->count * sizeof *more);
-  if (path->taken != path->few) free(path->taken);
-  path->taken = more;
-  path->room *= 2;
-  return true;
-}
-
-/* Requests a node by a try, and notes it if it is acquired anew. It makes room for that first. */
-static bs_reply table_try_at(bs_table *table, table_try *path, bs_node node, bs_mode mode) {
-  bs_manager *m = &table->manager;
-  bool is_noted = !path->is_kept && path->height > 0 && bs_held(m, path->txn, node).mode == BS_NL;
-  bs_reply reply;
-  if (is_noted && path->count == path->room && !table_note_more(path)) return bs_call_only(BS_NO_MEMORY);
-  reply = bs_try(m, path->txn, node, mode);
-  if (reply.status == BS_DONE && is_noted) path->taken[path->count++] = node;
-  if (reply.status == BS_WOULD_BLOCK) reply.node = node;
+/* After a try: notes the sleepers whose wait it has ended. A try that is refused may have released what it acquired. */
+static inline bs_reply table_tried(bs_table *table, bs_reply reply) {
+  if (table->told.count > 0) table_wake_told(table, &table->told);
   return reply;
-}
-
-/* Makes the tries of a path up to its end. The manager says which node is first: a try that is refused for lack of a
- * parent names it, and the climb continues from there. The climb ends, since no path of the graph closes. After a grant
- * a writer descends by one; a reader may need fewer then, and climbs anew. Each grant is counted, so that the path ends
- * when the count does, if not before. If a way is longer than what is kept, the nodes below are forgotten, to be found
- * again. */
-static bs_reply table_try_up(bs_table *table, table_try *path) {
-  bs_mode intention = path->mode == BS_IS || path->mode == BS_S ? BS_IS : BS_IX;
-  for (;;) {
-    bool is_last = path->height == 0;
-    bs_node next = is_last ? path->node : path->above[path->height - 1];
-    bs_reply reply = table_try_at(table, path, next, is_last ? path->mode : intention);
-    if (reply.status == BS_NEED_PARENTS) {
-      if (path->height == TABLE_MOST_ABOVE) path->height = 0;
-      path->above[path->height++] = reply.node;
-    } else if (reply.status != BS_DONE || is_last) {
-      return reply;
-    } else {
-      path->height = intention == BS_IS ? 0 : path->height - 1;
-    }
-  }
-}
-
-/* Releases what a path acquired anew, the last first: so children before their parents. A node stays if the transaction
- * has held a child of it since before. No transaction could begin to wait for any of them in this critical section, so
- * nobody is woken; but this code does not rely on that. */
-static TABLE_APART void table_give_back(bs_table *table, table_try *path) {
-  while (path->count > 0) {
-    bs_reply reply = bs_unlock(&table->manager, path->txn, path->taken[--path->count], &table->told);
-    table_wake(table, reply.status, &table->told, false);
-  }
 }
 
 /* Tries a path with the latch held. */
 static TABLE_APART bs_reply table_path_tried(bs_table *table, bs_txn txn, bs_node node, bs_mode mode, uint32_t keep) {
-  table_try path;
-  bs_reply reply;
-  if (keep > BS_KEEP_WAY) return bs_call_only(BS_BAD_NUMBER);
-  path.txn = txn;
-  path.node = node;
-  path.mode = mode;
-  path.height = 0;
-  path.is_kept = keep == BS_KEEP_WAY;
-  path.taken = path.few;
-  path.count = 0;
-  path.room = TABLE_FEW_TAKEN;
-  reply = table_try_up(table, &path);
-  if (reply.status != BS_DONE) table_give_back(table, &path);
-  if (path.taken != path.few) free(path.taken);
-  return reply;
+  return table_tried(table, bs_call_try_path(&table->manager, txn, node, mode, keep, &table->told));
 }
 
 bs_reply bs_table_try_path(bs_table *table, bs_txn txn, bs_node node, bs_mode mode, uint32_t keep) {
@@ -1110,39 +1030,12 @@ bs_reply bs_table_lock_row(bs_table *table, bs_txn txn, bs_node file, uint64_t n
   return reply;
 }
 
-/* For a row that a try has just locked by its node: requests it as a row, which waits for nothing then. So the row is
- * noted for the transaction, which releases it in the end, and the answer says whether the keys are its node's own. If
- * that is refused, a row that was not held before is released; otherwise it stays held, and its keys must be looked at
- * again. */
-static bs_reply table_row_noted(bs_table *table, bs_txn txn, const table_row *row, bs_reply tried, bool was_held) {
-  bs_manager *m = &table->manager;
-  bs_reply reply = table_ask_row(table, txn, row, tried.mode);
-  if (reply.status == BS_DONE || reply.status == BS_OTHER_KEYS) return reply;
-  if (!was_held) {
-    bs_status status = bs_unlock_row(m, txn, row->file, row->number, &table->told).status;
-    table_wake(table, status, &table->told, false);
-    if (status == BS_DONE) return reply;
-  }
-  tried.status = BS_OTHER_KEYS;
-  return tried;
-}
-
-/* Tries a row with the latch held. A row without a node gets one, and so may one whose node nobody holds: nobody must
- * be waited for then, since only a node with a holder has a queue. Any other is locked by the node that it has, if that
- * can be granted at once. */
+/* Tries a row with the latch held. */
 static TABLE_APART bs_reply table_row_tried(bs_table *table, bs_txn txn, const table_row *row, bs_mode mode) {
-  bs_manager *m = &table->manager;
-  bs_node node;
-  bs_reply reply;
-  bool was_held;
+  const uint64_t *keys = bs_call_numbers(row->keys);
   if (row->keys == NULL && row->count != 0) return bs_call_null();
-  reply = bs_row_node(m, row->file, row->number);
-  node = reply.node;
-  if (reply.status != BS_DONE || bs_group(m, node).mode == BS_NL) return table_ask_row(table, txn, row, mode);
-  was_held = bs_held(m, txn, node).mode != BS_NL;
-  reply = bs_try(m, txn, node, mode);
-  if (reply.status == BS_DONE || reply.status == BS_WOULD_BLOCK) reply.node = node;
-  return reply.status == BS_DONE ? table_row_noted(table, txn, row, reply, was_held) : reply;
+  return table_tried(table, bs_call_try_row(&table->manager, txn, row->file, row->number, keys, row->count, mode,
+                                            &table->told));
 }
 
 bs_reply bs_table_try_row(bs_table *table, bs_txn txn, bs_node file, uint64_t number, const uint64_t *keys,

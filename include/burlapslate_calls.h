@@ -22,6 +22,7 @@ bs_reply bs_call_begin_again(bs_manager *manager, uint64_t since);
 bs_reply bs_call_lock(bs_manager *manager, bs_txn txn, bs_node node, bs_mode mode, bs_notices *told);
 bs_reply bs_call_lock_path(bs_manager *manager, bs_txn txn, bs_node node, bs_mode mode, bs_notices *told);
 bs_reply bs_call_try(bs_manager *manager, bs_txn txn, bs_node node, bs_mode mode);
+bs_reply bs_call_try_path(bs_manager *manager, bs_txn txn, bs_node node, bs_mode mode, uint32_t keep, bs_notices *told);
 bs_reply bs_call_unlock(bs_manager *manager, bs_txn txn, bs_node node, bs_notices *told);
 bs_reply bs_call_release_since(bs_manager *manager, bs_txn txn, size_t mark, bs_notices *told);
 bs_reply bs_call_settle(bs_manager *manager, bs_txn txn, bs_notices *told);
@@ -37,6 +38,8 @@ bs_reply bs_call_index_by(bs_manager *manager, bs_txn txn, const bs_node *parent
                           const uint64_t *bounds, size_t bound_count);
 bs_reply bs_call_lock_row(bs_manager *manager, bs_txn txn, bs_node file, uint64_t number, const uint64_t *keys,
                           size_t count, bs_mode mode, bs_notices *told);
+bs_reply bs_call_try_row(bs_manager *manager, bs_txn txn, bs_node file, uint64_t number, const uint64_t *keys,
+                         size_t count, bs_mode mode, bs_notices *told);
 bs_reply bs_call_unlock_row(bs_manager *manager, bs_txn txn, bs_node file, uint64_t number, bs_notices *told);
 bs_reply bs_call_rekey_row(bs_manager *manager, bs_txn txn, bs_node file, uint64_t number, bs_node index, uint64_t key,
                            bs_notices *told);

@@ -23,8 +23,9 @@
  */
 
 enum kind {
-  BEGIN, LOCK, LOCK_PATH, LOCK_ROW, TRY, UNLOCK, UNLOCK_ROW, ESCALATE, CANCEL, COMMIT, ABORT, SETTLE, INSERT, DELETE,
-  REKEY, REKEY_ROW, MOVE, DROP, INDEX_BY, ADD_INNER, ADD_FILE, ADD_ROW_FILE, ADD_INDEX, BEGIN_AGAIN, KINDS
+  BEGIN, LOCK, LOCK_PATH, LOCK_ROW, TRY, TRY_PATH, TRY_ROW, UNLOCK, UNLOCK_ROW, ESCALATE, CANCEL, COMMIT, ABORT, SETTLE,
+  INSERT, DELETE, REKEY, REKEY_ROW, MOVE, DROP, INDEX_BY, ADD_INNER, ADD_FILE, ADD_ROW_FILE, ADD_INDEX, BEGIN_AGAIN,
+  KINDS
 };
 
 enum { MOST_NUMBERS = 3, MOST_PARENTS = 2 };
@@ -105,6 +106,8 @@ static bs_reply made(bs_manager *m, const struct call *c, bs_notices *told) {
     case LOCK_PATH: return bs_lock_path(m, c->txn, c->node, c->mode, told);
     case LOCK_ROW: return bs_lock_row(m, c->txn, c->node, c->row, c->numbers, c->number_count, c->mode, told);
     case TRY: return bs_try(m, c->txn, c->node, c->mode);
+    case TRY_PATH: return bs_call_try_path(m, c->txn, c->node, c->mode, (uint32_t)c->key, told);
+    case TRY_ROW: return bs_call_try_row(m, c->txn, c->node, c->row, c->numbers, c->number_count, c->mode, told);
     case UNLOCK: return bs_unlock(m, c->txn, c->node, told);
     case UNLOCK_ROW: return bs_unlock_row(m, c->txn, c->node, c->row, told);
     case ESCALATE: return bs_escalate(m, c->txn, c->node, told);
@@ -179,9 +182,9 @@ static bs_reply served_lock(bs_manager *m, enum kind kind, bs_txn txn, bs_node n
   return serve(m, call, told);
 }
 
-static bs_reply served_lock_row(bs_manager *m, bs_txn txn, bs_node file, uint64_t number, const uint64_t *keys,
-                                size_t count, bs_mode mode, bs_notices *told) {
-  struct call call = call_of(LOCK_ROW, txn, file);
+static bs_reply served_row(bs_manager *m, enum kind kind, bs_txn txn, bs_node file, uint64_t number,
+                           const uint64_t *keys, size_t count, bs_mode mode, bs_notices *told) {
+  struct call call = call_of(kind, txn, file);
   call.row = number;
   call.mode = mode;
   give_numbers(&call, keys, count);
@@ -207,6 +210,14 @@ static bs_reply served_try(bs_manager *m, bs_txn txn, bs_node node, bs_mode mode
   struct call call = call_of(TRY, txn, node);
   call.mode = mode;
   return serve(m, call, NULL);
+}
+
+static bs_reply served_try_path(bs_manager *m, bs_txn txn, bs_node node, bs_mode mode, uint32_t keep,
+                                bs_notices *told) {
+  struct call call = call_of(TRY_PATH, txn, node);
+  call.mode = mode;
+  call.key = keep;
+  return serve(m, call, told);
 }
 
 static bs_reply served_unlock(bs_manager *m, bs_txn txn, bs_node node, bs_notices *told) {
@@ -275,7 +286,10 @@ static bs_reply served_index(bs_manager *m, enum kind kind, bs_txn txn, const bs
 #define bs_commit(m, txn, told) served_end(m, COMMIT, txn, told)
 #define bs_abort(m, txn, told) served_end(m, ABORT, txn, told)
 #define bs_lock_row(m, txn, file, row, keys, count, mode, told) \
-  served_lock_row(m, txn, file, row, keys, count, mode, told)
+  served_row(m, LOCK_ROW, txn, file, row, keys, count, mode, told)
+#define bs_call_try_path(m, txn, node, mode, keep, told) served_try_path(m, txn, node, mode, keep, told)
+#define bs_call_try_row(m, txn, file, row, keys, count, mode, told) \
+  served_row(m, TRY_ROW, txn, file, row, keys, count, mode, told)
 #define bs_unlock_row(m, txn, file, row, told) served_unlock_row(m, txn, file, row, told)
 #define bs_rekey_row(m, txn, file, row, index, key, told) served_rekey_row(m, txn, file, row, index, key, told)
 #define bs_settle(m, txn, told) served_end(m, SETTLE, txn, told)
@@ -683,7 +697,7 @@ static bs_reply run_rows(struct session *s) {
 /* A try never waits, and makes no victim. */
 static bs_reply as_tried(bs_reply reply) {
   WANT(reply.status != BS_WAITING && reply.status != BS_VICTIM && reply.status != BS_ON_THE_WAY);
-  return reply;
+  return as_served(reply);
 }
 
 static bs_reply try_path(struct session *s) {

@@ -37,26 +37,6 @@ faults() {
   done
   cat <<'FAULTS'
 row-is-not-asked-again	s/  if (table_ask_row(table, txn, row, mode).status != BS_DONE) .*//
-try-path-joins-the-queue	s/  reply = bs_try(m, path->txn, node, mode);/  reply = bs_lock(m, path->txn, node, mode, \&table->told);/
-try-path-condemns	s/  reply = bs_try(m, path->txn, node, mode);/&\n  if (reply.status == BS_WOULD_BLOCK) bs_lock(m, path->txn, node, mode, \&table->told), bs_cancel(m, path->txn, \&table->told);/
-try-path-keeps-what-it-took	s/  if (reply.status != BS_DONE) table_give_back(table, &path);//
-try-path-gives-back-what-was-held	s/ \&\& bs_held(m, path->txn, node).mode == BS_NL;/;/
-try-path-gives-back-what-is-to-stay	s/  bool is_noted = !path->is_kept \&\& /  bool is_noted = /
-try-path-gives-back-parents-first	s/path->taken\[--path->count\]/path->taken[(--path->count, path->start++)]/; s/  size_t count, room;$/  size_t count, room, start;/; s/  path.count = 0;/&\n  path.start = 0;/
-try-path-does-not-say-where	s/  if (reply.status == BS_WOULD_BLOCK) reply.node = node;//
-try-path-takes-any-word	s/  if (keep > BS_KEEP_WAY) return bs_call_only(BS_BAD_NUMBER);//
-try-path-writes-over-its-end	s/      if (path->height == TABLE_MOST_ABOVE) path->height = 0;/      if (path->height == TABLE_MOST_ABOVE) return bs_call_only(BS_WOULD_BLOCK);/
-try-path-notes-too-few	s/ \&\& path->count == path->room \&\& !table_note_more(path)/ \&\& path->count == path->room/; s/ \&\& is_noted) path->taken/ \&\& is_noted \&\& path->count < path->room) path->taken/
-try-path-forgets-its-notes	/table_note_more(/,/^}/s/  memcpy(more, path->taken, .*/  memset(more, 0, 2 * path->room * sizeof *more);/
-try-path-keeps-its-notes	s/  if (path.taken != path.few) free(path.taken);//
-try-path-reads-as-it-writes	s/  bs_mode intention = path->mode == BS_IS || path->mode == BS_S ? BS_IS : BS_IX;/  bs_mode intention = BS_IX;/
-try-path-reads-all-above	s/      path->height = intention == BS_IS ? 0 : path->height - 1;/      path->height--;/
-try-row-joins-the-queue	s/  reply = bs_try(m, txn, node, mode);/  reply = bs_lock(m, txn, node, mode, \&table->told);/
-try-row-is-the-lock	s/  if (reply.status != BS_DONE || bs_group(m, node).mode == BS_NL) return table_ask_row/  if (true) return table_ask_row/
-try-row-keeps-old-nodes	s/  if (reply.status != BS_DONE || bs_group(m, node).mode == BS_NL) return/  if (reply.status != BS_DONE) return/
-try-row-is-not-noted	s/ ? table_row_noted(table, txn, row, reply, was_held) : reply;/ ? reply : reply;/
-try-row-keeps-it-without-memory	s/  if (!was_held) {/  if (false) {/
-try-row-gives-back-what-was-held	s/  if (!was_held) {/  if (true) {/
 try-row-reads-null	s/  if (row->keys == NULL \&\& row->count != 0) return bs_call_null();//
 skip-takes-a-later-one	s/table_is_passed(table_try_one(table, &commands\[place\]))) place++;/table_is_passed(table_try_one(table, \&commands[place]))) place += 2;/
 skip-passes-refusals	s/table_is_passed(table_try_one(table, &commands\[place\]))) place++;/table_try_one(table, \&commands[place]) != BS_DONE) place++;/

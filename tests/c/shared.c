@@ -25,48 +25,16 @@ static bs_reply noted_begin(bs_manager *m) {
 
 #define bs_begin(m) noted_begin(m)
 
-/* After this many tries, releases and rows of the header its numbers are used up; below 0 they never are. And this many
- * rows are refused memory. */
-static long numbers_left = -1;
-static int refused_rows;
+/* How many tried paths told somebody. */
+static size_t told_by_tries;
 
-static bs_reply counted(bs_reply reply) {
-  if (reply.status == BS_DONE && numbers_left > 0) numbers_left--;
+static bs_reply noted_try_path(bs_manager *m, bs_txn txn, bs_node node, bs_mode mode, uint32_t keep, bs_notices *list) {
+  bs_reply reply = bs_call_try_path(m, txn, node, mode, keep, list);
+  if (list->count > 0) told_by_tries++;
   return reply;
 }
 
-#define is_worn() (numbers_left == 0)
-
-static bs_reply noted_try(bs_manager *m, bs_txn txn, bs_node node, bs_mode mode) {
-  return is_worn() ? bs_call_only(BS_WORN_OUT) : counted(bs_try(m, txn, node, mode));
-}
-
-/* How many releases told somebody. */
-static size_t told_by_release;
-
-static bs_reply noted_unlock(bs_manager *m, bs_txn txn, bs_node node, bs_notices *list) {
-  bs_reply reply = is_worn() ? bs_call_only(BS_WORN_OUT) : counted(bs_unlock(m, txn, node, list));
-  if (list->count > 0) told_by_release++;
-  return reply;
-}
-
-static bs_reply noted_unlock_row(bs_manager *m, bs_txn txn, bs_node rows, uint64_t number, bs_notices *list) {
-  return is_worn() ? bs_call_only(BS_WORN_OUT) : counted(bs_unlock_row(m, txn, rows, number, list));
-}
-
-static bs_reply noted_lock_row(bs_manager *m, bs_txn txn, bs_node rows, uint64_t number, const uint64_t *keys,
-                               size_t count, bs_mode mode, bs_notices *list) {
-  if (is_worn()) return bs_call_only(BS_WORN_OUT);
-  if (refused_rows == 0) return counted(bs_lock_row(m, txn, rows, number, keys, count, mode, list));
-  refused_rows--;
-  return bs_call_only(BS_NO_MEMORY);
-}
-
-#define bs_try(m, txn, node, mode) noted_try(m, txn, node, mode)
-#define bs_unlock(m, txn, node, list) noted_unlock(m, txn, node, list)
-#define bs_unlock_row(m, txn, rows, number, list) noted_unlock_row(m, txn, rows, number, list)
-#define bs_lock_row(m, txn, rows, number, keys, count, mode, list) \
-  noted_lock_row(m, txn, rows, number, keys, count, mode, list)
+#define bs_call_try_path(m, txn, node, mode, keep, list) noted_try_path(m, txn, node, mode, keep, list)
 
 /* When the header makes the condition of a thread that begins to sleep for a slot, under the latch, the number of its
  * arrival is noted. */
@@ -92,10 +60,7 @@ static int noted_fprintf(FILE *out, const char *format, ...) __attribute__((form
 #undef bs_end
 #undef fprintf
 #undef bs_begin
-#undef bs_try
-#undef bs_unlock
-#undef bs_unlock_row
-#undef bs_lock_row
+#undef bs_call_try_path
 
 #include "threads.h"
 
@@ -2233,7 +2198,7 @@ static void a_reader_skips_a_parent(void) {
 /* A try that would block on its last node, or above it, keeps its path or releases it. */
 static void a_try_gives_back_its_path(void) {
   bs_txn a, b, t;
-  told_by_release = 0;
+  told_by_tries = 0;
   set_up(BS_AT_BLOCK);
   a = begin(), b = begin(), t = begin();
   DONE(bs_table_lock_path(table, a, low, BS_X, NULL));
@@ -2258,7 +2223,7 @@ static void a_try_gives_back_its_path(void) {
   would_block(try_path(t, low, BS_X, BS_KEEP_NOTHING), below);
   WANT(locks_of(t) == 0 && queue_at(below) == 0);
   would_block(try_path(t, low, BS_X, BS_KEEP_WAY), below);
-  WANT(locks_of(t) == 3 && told_by_release == 0);
+  WANT(locks_of(t) == 3 && told_by_tries == 0);
   DONE(bs_table_commit(table, b, NULL));
   WANT(DONE(try_path(t, low, BS_X, BS_KEEP_NOTHING)).mode == BS_X && locks_of(t) == 5);
   close_table();
@@ -2444,19 +2409,6 @@ static void a_try_without_memory(void) {
   WANT(refused > 0);
 }
 
-/* When the numbers are used up nothing can be released any more: what was acquired stays. */
-static void a_try_without_numbers(void) {
-  bs_txn t;
-  set_up(BS_AT_BLOCK);
-  t = begin();
-  numbers_left = 2;
-  ANSWERS(BS_WORN_OUT, try_path(t, low, BS_X, BS_KEEP_NOTHING));
-  numbers_left = -1;
-  WANT(locks_of(t) == 2);
-  holds(t, root, BS_IX), holds(t, file, BS_IX);
-  close_table();
-}
-
 static bs_reply try_row(bs_txn t, uint64_t number, uint64_t key, bs_mode mode) {
   return bs_table_try_row(table, t, rows, number, &key, 1, mode);
 }
@@ -2607,7 +2559,7 @@ static void a_row_is_refused(void) {
   close_table();
 }
 
-/* If memory is refused, a row that was not held is not held, and one that was is still held. */
+/* If memory is refused, a row that was not held is not held, and one that was is still held: its keys are not known. */
 static void a_row_without_memory(void) {
   bs_status status = BS_NO_MEMORY;
   bs_txn a, b;
@@ -2628,23 +2580,21 @@ static void a_row_without_memory(void) {
     close_table();
   }
   WANT(status == BS_DONE && n > 2);
-  set_up_rows(BS_AT_BLOCK);
-  a = begin_writer(OLD_KEY), b = begin_writer(OLD_KEY);
-  DONE(try_row(a, 7, OLD_KEY, BS_S));
-  refused_rows = 1;
-  ANSWERS(BS_NO_MEMORY, try_row(b, 7, OLD_KEY, BS_S));
-  WANT(locks_of(b) == 4 && refused_rows == 0);
-  refused_rows = 1;
-  reply = ANSWERS(BS_OTHER_KEYS, try_row(a, 7, OLD_KEY, BS_X));
-  WANT(reply.mode == BS_X && same_node(reply.node, row_node(7)) && refused_rows == 0);
-  holds(a, reply.node, BS_X);
-  DONE(bs_table_unlock_row(table, a, rows, 7, NULL));
-  DONE(try_row(a, 7, OLD_KEY, BS_S));
-  numbers_left = 1;
-  reply = ANSWERS(BS_OTHER_KEYS, try_row(b, 7, OLD_KEY, BS_S)); /* It cannot be released. */
-  numbers_left = -1;
-  WANT(reply.mode == BS_S && same_node(reply.node, row_node(7)) && locks_of(b) == 5);
-  close_table();
+  status = BS_OTHER_KEYS;
+  for (n = 1; status == BS_OTHER_KEYS; n++) {
+    set_up_rows(BS_AT_BLOCK);
+    a = begin_writer(OLD_KEY), b = begin_writer(OLD_KEY);
+    DONE(try_row(a, 7, OLD_KEY, BS_S));
+    DONE(bs_table_lock(table, b, row_node(7), BS_S, NULL)); /* Its node alone: no row is noted. */
+    refused_allocation = n;
+    reply = try_row(b, 7, OLD_KEY, BS_S);
+    refused_allocation = 0;
+    status = reply.status;
+    WANT(reply.mode == BS_S && same_node(reply.node, row_node(7)));
+    holds(b, row_node(7), BS_S);
+    close_table();
+  }
+  WANT(status == BS_DONE && n > 2);
 }
 
 static bs_command row_try(bs_txn t, uint64_t number, const uint64_t *key) {
@@ -4057,7 +4007,6 @@ int main(int count, char **words) {
   TELL(a_path_is_refused);
   TELL(long_paths_are_tried);
   TELL(a_try_without_memory);
-  TELL(a_try_without_numbers);
   TELL(a_row_is_tried);
   TELL(a_row_of_others_is_tried);
   TELL(a_try_of_a_row_condemns_nobody);

@@ -3,4 +3,5 @@ pub mod Serving
 pub mod Paths
 pub mod RowCalls
 pub mod Showing
+pub mod Tries
 pub mod Backs

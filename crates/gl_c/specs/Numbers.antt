@@ -9,6 +9,8 @@ use Rattle.gl_waits.specs.declared.victims.Victims.{Victims}
 use Rattle.gl_waits.specs.declared.victims.Victims.TheVariants.{Youngest, Fewest}
 use Rattle.gl_model.specs.declared.answers.Effect.{Effect}
 use Rattle.gl_model.specs.declared.answers.Effect.TheVariants as effect
+use Rattle.gl_waiting.specs.declared.tries.Keep.{Keep}
+use Rattle.gl_waiting.specs.declared.tries.Keep.TheVariants as keep
 
 -- the number of a mode
 abbrev pub mode_number : Mode → ℕ
@@ -42,6 +44,10 @@ detect_at n = if n == 0 then Some AtBlock else if n == 1 then Some ByWatcher els
 -- the choice of victims with this number, if there is one
 abbrev pub victims_at : ℕ → Option Victims
 victims_at n = if n == 0 then Some Youngest else if n == 1 then Some Fewest else None
+
+-- what a path that is refused keeps, by this number, if it says so
+abbrev pub keep_at : ℕ → Option Keep
+keep_at n = if n == 0 then Some keep.Nothing else if n == 1 then Some keep.Path else None
 
 -- the slot with this number, if there is one
 abbrev pub slot_at : ℕ → Option ℕ

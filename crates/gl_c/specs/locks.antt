@@ -2,4 +2,5 @@
 pub mod Paths
 pub mod Rows
 pub mod Savepoints
+pub mod Tries
 pub mod Verdicts

@@ -1,5 +1,6 @@
 //! Calls of transactions: locks on nodes and rows, and the outcome of a wait.
 
 mod rows;
+mod tries;
 mod txns;
 mod waiting;

@@ -1,11 +1,12 @@
 //! The numbers that C uses for modes, ways of detection and statuses.
 
 ghost use Rattle.std.specs.Prelude.{◌≡◌};
-ghost use Rattle.gl_c.specs.Numbers.{detect_at, effect_number, mode_at, mode_number, slot_at, victims_at};
+ghost use Rattle.gl_c.specs.Numbers.{detect_at, effect_number, keep_at, mode_at, mode_number, slot_at, victims_at};
 
 use gl_modes::Mode;
 use gl_slots::{SLOTS, Slot};
 use gl_table::{Detect, Effect};
+use gl_waiting::Keep;
 use gl_waits::Victims;
 
 /// The call was done, or the question answered.
@@ -111,6 +112,17 @@ pub(crate) fn detect_at(number: u32) -> Option<Detect>
     match number {
         0 => Some(Detect::AtBlock),
         1 => Some(Detect::ByWatcher),
+        _ => None,
+    }
+}
+
+/// What a refused path keeps, by this number; `None` if it says nothing.
+pub(crate) fn keep_at(number: u32) -> Option<Keep>
+    ensures { result ≡ keep_at number }
+{
+    match number {
+        0 => Some(Keep::Nothing),
+        1 => Some(Keep::Path),
         _ => None,
     }
 }

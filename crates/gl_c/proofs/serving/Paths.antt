@@ -1,47 +1,35 @@
 -- A path, for notices, waits and watchers. For Guarded.serve_path.
 use Rattle.gl_slots.specs.declared.slots.Slots.{Slots}
 use Rattle.gl_slots.specs.Limit.{most_slots}
-use Rattle.std.specs.Prelude.{◌≡◌, ◌⊎◌, ℕ, zero, suc, ◌+◌, ◌<◌, ◌≤◌, ◌==◌, ◌||◌, not, Bool, true, false, [], length, OnErr, Option, Result}
+use Rattle.std.specs.Prelude.{◌≡◌, ◌⊎◌, ℕ, zero, suc, ◌≤◌, ◌==◌, not, Bool, true, false, [], length, OnErr, Option, Result}
 use Rattle.std.specs.Prelude.{Ok, Err, ◌&&◌, if◌then◌else◌}
-use Rattle.std.specs.List.{list_any}
-use Rattle.std.proofs.Common.{refl, sym, ap, subst, ◌∙◌, inl, inr, ⊎_elim, arith}
+use Rattle.std.proofs.Common.{refl, sym, ap, subst, inl, inr}
 use mathlib.Core.Bool.{true≢false}
 use Rattle.std.proofs.lemmas.Bool.{not-true}
 use Rattle.std.proofs.lemmas.List.{nil_from_length}
-use Rattle.gl_modes.proofs.Words.{and_both, both as both_true, same_number, split}
+use Rattle.gl_modes.proofs.Words.{and_both, both as both_true, same_number}
 use Rattle.gl_modes.specs.declared.mode.Mode.{Mode}
 use Rattle.gl_modes.specs.declared.node.NodeId.{NodeId}
 use Rattle.gl_slots.specs.Slots.{has_slot}
-use Rattle.gl_waits.specs.declared.victims.Victims.{Victims}
-use Rattle.gl_model.specs.declared.answers.Detect.{Detect}
-use Rattle.gl_model.specs.declared.answers.Detect.TheVariants.{AtBlock, ByWatcher}
 use Rattle.gl_modes.specs.declared.refusal.Refusal.{Refusal}
 use Rattle.gl_model.specs.declared.answers.Locked.{Locked}
 use Rattle.gl_model.specs.declared.answers.Locked.TheVariants as locked
 use Rattle.gl_model.specs.declared.txn.TxnId.{TxnId}
-use Rattle.gl_model.specs.Calls.{WaitSettles, enqueued, enters_at, wanted}
-use Rattle.gl_model.specs.State.{SettledWithin, State, condemned}
+use Rattle.gl_model.specs.State.{State}
 use Rattle.gl_model.specs.Tellings.{Told}
 use Rattle.gl_steps.specs.declared.command.Answer.{Answer}
+use Rattle.gl_steps.specs.declared.command.Command.{Command}
 use Rattle.gl_steps.specs.declared.command.Answer.TheVariants as answer
 use Rattle.gl_catalog.specs.Counters.{grants, refuses}
 use Rattle.gl_catalog.specs.Manager.{ManagerView, state_of}
 use Rattle.gl_catalog.specs.declared.manager.paths.Reached.{Reached}
-use Rattle.gl_catalog.specs.Paths.{Ask, AsksFirst, IsPath, LocksPath, goes_on, lock_of, reaching}
-use Rattle.gl_steps.specs.Promises.{NobodyWaits, is_told, waits_on}
+use Rattle.gl_catalog.specs.Paths.{Ask, IsPath, LocksPath, goes_on, lock_of, reaching}
+use Rattle.gl_steps.specs.Promises.{NobodyWaits}
 use Rattle.gl_catalog.specs.Replies.{Says, said}
 use Rattle.gl_steps.specs.Step.{Step, answer_of_lock}
-use Rattle.gl_steps.proofs.Detection.{steps_keep_detect}
-use Rattle.gl_steps.proofs.EachStep.{each_step}
+use Rattle.gl_steps.proofs.Detection.{steps_keep_settings}
 use Rattle.gl_steps.proofs.StepsKeepLaw.{steps_keep_law}
 use Rattle.gl_steps.proofs.WaitsBegin.{nobody_waits_on}
-use Rattle.gl_steps.proofs.WaitsEnd.{ends_waits}
-use Rattle.gl_steps.specs.Served.{Counts, is_refused}
-use Rattle.gl_wakes.specs.Notices.{RisingTo}
-use Rattle.gl_wakes.specs.Wakes.{HasEnded}
-use Rattle.gl_wakes.proofs.Rising.{step_rises}
-use Rattle.gl_steps.proofs.Serving.{step_counts}
-use Rattle.gl_wakes.proofs.Waking.{wakes_ended}
 use Rattle.gl_header.specs.Header.{is_empty}
 use Rattle.gl_model.specs.Lawful.{IsLawful}
 use Rattle.gl_slots.specs.Slots.{has_none}
@@ -54,33 +42,9 @@ use Rattle.gl_c.proofs.serving.Showing.{knows_if}
 use Rattle.gl_c.specs.managers.Serving.{KnowsWaits}
 use Rattle.gl_c.specs.locks.Paths.{ends_waiting, goes_well, is_left_waiting, leaves_on_path}
 
--- a lock does not change the limit of transactions
-settled_most : (c : Victims) (k : ℕ) (s s' : State) (t : ℕ) → SettledWithin c k s t s' → s'.most ≡ s.most
-settled_most c zero s s' t h = ap (λ z. z.most) h.1
-settled_most c (suc k) s s' t h = settled_most c k (condemned s h.0) s' t h.2
-
-wait_most : (d : Detect) (c : Victims) (s s' : State) (t : ℕ) → WaitSettles d c s t s' → s'.most ≡ s.most
-wait_most AtBlock c s s' t h = settled_most c h.0 s s' t h.1
-wait_most ByWatcher c s s' t h = ap (λ z. z.most) h
-
-lock_most : (t : TxnId) (ask : Ask) (s s' : State) (a : Answer) (told : Told) → Step s (lock_of t ask) a told s' → s'.most ≡ s.most
-lock_most t ask s s' a told step =
-    each_step (λ x. x.most ≡ s.most) s (lock_of t ask) a told s' refl (λ next same. same)
-    (λ free next acc. split (enters_at s t.slot ask.0 ask.1) (λ e. ap (λ z. z.most) (acc.0.at_once e))
-    (λ e. wait_most s.detect s.victims (enqueued s t.slot ask.0 (wanted s t.slot ask.0 ask.1)) next t.slot (acc.0.waits e))) step
-
--- two words for a refusal
-refused_too : (a : Answer) → is_refused a ≡ true → refuses a ≡ true
-refused_too (answer.Refused r) e = refl
-refused_too answer.Done e = absurd (cc e)
-refused_too (answer.Node n) e = absurd (cc e)
-refused_too (answer.Begun t) e = absurd (cc e)
-refused_too (answer.Granted m) e = absurd (cc e)
-refused_too answer.Waiting e = absurd (cc e)
-refused_too answer.Victim e = absurd (cc e)
-refused_too (answer.Escalated x) e = absurd (cc e)
-refused_too (answer.Mode m) e = absurd (cc e)
-refused_too (answer.Effect x) e = absurd (cc e)
+-- a step does not change the limit of transactions
+most : (s s' : State) (c : Command) (a : Answer) (told : Told) → Step s c a told s' → s'.most ≡ s.most
+most s s' c a told step = ap (λ x. x.2) (steps_keep_settings s s' c a told step)
 
 -- what is granted is neither refused nor waited for
 grant_is : (a : Answer) → grants a ≡ true → (m : Mode) × (a ≡ answer.Granted m)
@@ -106,47 +70,7 @@ module _ (node asked : NodeId) (r : Says) (on : goes_on node asked r ≡ true) w
   none_told : r.1 ≡ []
   none_told = nil_from_length r.1 (same_number (length r.1) 0 both.1)
 
-module _ (t : TxnId) (ask : Ask) (m : ManagerView) (first : Ask) (r : Says) (m' : ManagerView) (asks : AsksFirst t ask m first r m') where
-  counts : Counts (state_of m) (lock_of t first) r.0 r.1 (state_of m')
-  counts = step_counts (state_of m) (lock_of t first) r.0 r.1 (state_of m') asks.step
-
-  -- a request is refused and changes nothing, or is counted
-  same_or_more : ((m' ≡ m) × (r.1 ≡ [])) ⊎ (m'.accepted ≡ m.accepted + 1)
-  same_or_more = by (is_refused r.0) refl
-    where
-      by : (b : Bool) → is_refused r.0 ≡ b → ((m' ≡ m) × (r.1 ≡ [])) ⊎ (m'.accepted ≡ m.accepted + 1)
-      by true e = inl (asks.unchanged (refused_too r.0 e), (counts.not_accepted (ap not e)).1)
-      by false e = inr (counts.accepted (ap not e))
-
-  -- a grant is counted
-  one_more : (mode : Mode) → r.0 ≡ answer.Granted mode → m'.accepted ≡ m.accepted + 1
-  one_more mode is = counts.accepted (ap (λ a. not (is_refused a)) is)
-
 module _ (t : TxnId) (ask last : Ask) (r : Says) (m' : ManagerView) where
-  -- a path of which nothing is accepted changes nothing
-  pub path_counts : (k : ℕ) (m : ManagerView) → IsPath k t ask m last r m' → ((m' ≡ m) × (r.1 ≡ [])) ⊎ (m.accepted < m'.accepted)
-  path_counts zero m path =
-      ⊎_elim (λ (same : (m' ≡ m) × (r.1 ≡ [])). inl same) (λ (more : m'.accepted ≡ m.accepted + 1). inr (omega (arith, more)))
-      (same_or_more t ask m last r m' path.0)
-  path_counts (suc k) m path =
-      let yes = granted ask.0 path.0.0 path.1 path.4 in
-      let more : path.2.accepted ≡ m.accepted + 1 = one_more t ask m path.0 path.1 path.2 path.3 yes.0 yes.1 in
-      inr (⊎_elim
-      (λ (same : (m' ≡ path.2) × (r.1 ≡ [])). let is : m'.accepted ≡ path.2.accepted = ap (λ (x : ManagerView). x.accepted) same.0 in omega (arith, more, is))
-      (λ (later : path.2.accepted < m'.accepted). omega (arith, more, later)) (path_counts k path.2 path.5))
-
-  -- it does not change the way of detection
-  pub path_detect : (k : ℕ) (m : ManagerView) → IsPath k t ask m last r m' → (state_of m').detect ≡ (state_of m).detect
-  path_detect zero m path = steps_keep_detect (state_of m) (state_of m') (lock_of t last) r.0 r.1 path.0.step
-  path_detect (suc k) m path = path_detect k path.2 path.5 ∙ steps_keep_detect (state_of m) (state_of path.2) (lock_of t path.0) path.1.0 path.1.1 path.3.step
-
-  -- the notices are sorted by slot
-  pub path_rises : (k : ℕ) (m : ManagerView) → (state_of m).most ≤ most_slots → IsPath k t ask m last r m' → RisingTo 0 r.1 most_slots
-  path_rises zero m few path = step_rises (state_of m) (lock_of t last) r.0 r.1 (state_of m') few path.0.step
-  path_rises (suc k) m few path =
-      path_rises k path.2
-      (subst (λ n. n ≤ most_slots) (sym (lock_most t path.0 (state_of m) (state_of path.2) path.1.0 path.1.1 path.3.step)) few) path.5
-
   -- if nobody waited and it leaves nobody waiting, nobody waits after it
   pub path_quiet : (k : ℕ) (m : ManagerView) → NobodyWaits (state_of m) → (r.0 ≡ answer.Waiting → ⊥) → IsPath k t ask m last r m' → NobodyWaits (state_of m')
   path_quiet zero m idle goes path = nobody_waits_on (state_of m) (state_of m') (lock_of t last) r.0 r.1 idle goes path.0.step
@@ -172,24 +96,8 @@ module _ (t : TxnId) (ask last : Ask) (r : Says) (m' : ManagerView) where
       spares_then set (state_of m) (state_of path.2) (state_of m') first
       (path_spares set k path.2
       (steps_keep_law (state_of m) (state_of path.2) (lock_of t path.0) path.1.0 path.1.1 law path.3.step)
-      (subst (λ n. n ≤ most_slots) (sym (lock_most t path.0 (state_of m) (state_of path.2) path.1.0 path.1.1 path.3.step)) few) first.parties out well path.5)
-
-  -- its last request tells each transaction whose wait it ends
-  pub path_ended : (k : ℕ) (m : ManagerView) (slots : Slots) → ((u : ℕ) → u < most_slots → has_slot slots u ≡ (false || list_any (λ x. x.0.slot == u) r.1))
-      → IsPath k t ask m last r m' → HasEnded (state_of m) (state_of m') slots
-  path_ended zero m slots is path law u n below was gone =
-      wakes_ended (lock_of t last) r.1 slots is (state_of m) (state_of m') r.0 path.0.step law u n below was gone
-  path_ended (suc k) m slots is path law u n below was gone =
-      by (waits_on (state_of path.2) u n) refl
-      (λ e. path_ended k path.2 slots is path.5
-      (steps_keep_law (state_of m) (state_of path.2) (lock_of t path.0) path.1.0 path.1.1 law path.3.step) u n below e gone)
-    where
-      by : (b : Bool) → waits_on (state_of path.2) u n ≡ b → (waits_on (state_of path.2) u n ≡ true → has_slot slots u.slot ≡ true)
-          → has_slot slots u.slot ≡ true
-      by true e rest = rest e
-      by false e rest =
-          let told = ends_waits (state_of m) (state_of path.2) (lock_of t path.0) path.1.0 path.1.1 u n law path.3.step was e in
-          absurd (true≢false (sym told ∙ ap (λ (l : Told). is_told u l || false) (none_told ask.0 path.0.0 path.1 path.4)))
+      (subst (λ n. n ≤ most_slots) (sym (most (state_of m) (state_of path.2) (lock_of t path.0) path.1.0 path.1.1 path.3.step)) few) first.parties out well
+      path.5)
 
 -- The same for a call that locks a path.
 module _ (t : TxnId) (ask : Ask) (m m' : ManagerView) (told : Told) where
@@ -212,30 +120,7 @@ module _ (t : TxnId) (ask : Ask) (m m' : ManagerView) (told : Told) where
     abbrev says : Says
     says = said (reaching told) result
 
-    -- nothing was accepted, or more was
-    pub same_or_later : ((m' ≡ m) × (told ≡ [])) ⊎ (m.accepted < m'.accepted)
-    same_or_later =
-        ⊎_elim (λ (same : (m' ≡ m) × (says.1 ≡ [])). inl (same.0, sym (told_is result none) ∙ same.1)) (λ (later : m.accepted < m'.accepted). inr later)
-        (path_counts t ask path.1 says m' path.0 m path.2)
-
-    -- by the two counts, which of both
-    pub same_if : (before now : ℕ) → before ≡ m.accepted → now ≡ m'.accepted → now ≡ before → (m' ≡ m) × (told ≡ [])
-    same_if before now was is so =
-        ⊎_elim (λ (same : (m' ≡ m) × (told ≡ [])). same) (λ (later : m.accepted < m'.accepted). absurd (omega (arith, was, is, so, later))) same_or_later
-
-    pub later_unless : (before now : ℕ) → before ≡ m.accepted → now ≡ m'.accepted → (now ≡ before → ⊥) → m.accepted < m'.accepted
-    later_unless before now was is not_so =
-        ⊎_elim
-        (λ (same : (m' ≡ m) × (told ≡ [])). absurd (not_so (is ∙ ap (λ (x : ManagerView). x.accepted) same.0 ∙ sym was)))
-        (λ (later : m.accepted < m'.accepted). later) same_or_later
-
-    pub keeps_detect : (state_of m').detect ≡ (state_of m).detect
-    keeps_detect = path_detect t ask path.1 says m' path.0 m path.2
-
-    pub told_rises : (state_of m).most ≤ most_slots → RisingTo 0 told most_slots
-    told_rises few = subst (λ (l : Told). RisingTo 0 l most_slots) (told_is result none) (path_rises t ask path.1 says m' path.0 m few path.2)
-
-    pub stays_quiet : NobodyWaits (state_of m) → ends_waiting result ≡ false → NobodyWaits (state_of m')
+    stays_quiet : NobodyWaits (state_of m) → ends_waiting result ≡ false → NobodyWaits (state_of m')
     stays_quiet idle goes = path_quiet t ask path.1 says m' path.0 m idle (none_waiting result goes) path.2
 
     -- what is known of the waits after it
@@ -258,9 +143,3 @@ module _ (t : TxnId) (ask : Ask) (m m' : ManagerView) (told : Told) where
         by set has false is e =
             let b = and_both (is_empty told) _ e in let c = and_both (goes_well result) _ b.1 in
             path_spares t ask path.1 says m' set path.0 m law few has (not-true _ c.1) (well result c.0 (none_in told b.0)) path.2
-
-    pub ended_told : (slots : Slots) → ((u : ℕ) → u < most_slots → has_slot slots u ≡ (false || list_any (λ x. x.0.slot == u) told))
-        → HasEnded (state_of m) (state_of m') slots
-    ended_told slots is =
-        path_ended t ask path.1 says m' path.0 m slots
-        (λ u low. is u low ∙ ap (λ (l : Told). false || list_any (λ x. x.0.slot == u) l) (sym (told_is result none))) path.2

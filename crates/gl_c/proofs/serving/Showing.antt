@@ -2,7 +2,7 @@
 use Rattle.gl_slots.specs.Limit.{most_slots}
 use Rattle.std.specs.Prelude.{◌≡◌, ◌⊎◌, ◌≤◌, ℕ, List, [], ◌∷◌, ◌++◌, Option, Some, None, Result, Ok, Err, IfSome, IfOk, Bool, true, false}
 use Rattle.std.specs.Prelude.{if◌then◌else◌, is_none, is_some}
-use Rattle.std.proofs.Common.{refl, sym, ap, subst, ◌∙◌, inl, inr, le_trans, ⊎_elim}
+use Rattle.std.proofs.Common.{refl, sym, ap, subst, ◌∙◌, arith, inl, inr, le_trans, ⊎_elim}
 use mathlib.Core.Bool.{true≢false}
 use mathlib.Core.List.{IsPrefix}
 use Rattle.gl_slots.specs.Slots.{has_none}
@@ -28,8 +28,13 @@ use Rattle.gl_window.proofs.Lists.{told_epoch}
 use Rattle.gl_window.specs.Window.{GoesOn}
 use Rattle.gl_window.specs.declared.publisher.WatchFault.{WatchFault}
 use Rattle.gl_c.specs.managers.Serving.{KnowsWaits, ShowsOn}
-use Rattle.gl_registry.specs.Rows.{RegistryView}
-use Rattle.gl_wakes.specs.Boxes.{Slot}
+use Rattle.gl_modes.proofs.Words.{split}
+use Rattle.gl_registry.specs.Locking.{Line, Runs}
+use Rattle.gl_steps.proofs.Detection.{steps_keep_detect}
+use Rattle.gl_steps.proofs.Serving.{step_counts}
+use Rattle.gl_steps.specs.Served.{accepts}
+use Rattle.gl_waiting.specs.Delivering.{DeliveryView}
+use Rattle.gl_waiting.specs.Going.{IsRun}
 use Rattle.gl_model.specs.declared.answers.Detect.{Detect}
 use Rattle.gl_c.specs.declared.managers.guarded.Guarded.TheInside.{Inside}
 use Rattle.gl_c.specs.declared.managers.showing.Showing.{Showing}
@@ -154,20 +159,35 @@ knows_last (Ok w) p q board now h is = (
   ),
 )
 
+-- no command changes the way of detection, or lowers the count
+run_keeps : (lines : List Line) (s s' : State) → Runs s lines s' → (s.accepted ≤ s'.accepted) × (s'.detect ≡ s.detect)
+run_keeps [] s s' run = let same = ap (λ (x : State). x.accepted) run in (omega (arith, same), ap (λ (x : State). x.detect) run)
+run_keeps (l ∷ lines) s s' run =
+    let counts = step_counts s l.0 l.1.0 l.1.1 run.0 run.1 in
+    let rest = run_keeps lines run.0 s' run.2 in
+    let more = rest.0 in (
+      split (accepts l.0 l.1.0) (λ e. let one = counts.accepted e in omega (arith, one, more))
+          (λ e. let same = ap (λ (x : State). x.accepted) (counts.not_accepted e).0 in omega (arith, same, more)),
+      rest.1 ∙ steps_keep_detect s run.0 l.0 l.1.0 l.1.1 run.1,
+    )
+
 -- what is still known, in terms of the guarded fields
-module _ (g : Inside) (v : RegistryView) (boxes : List Slot) (ended : Slots) (showing : Option Showing) (leaves : Slots → Bool)
+module _ (g : Inside) (d : DeliveryView) (ended : Slots) (showing : Option Showing) (leaves : Slots → Bool)
     (shown : shown_in showing ≡ shown_in g.showing) (parties : parties_in showing ≡ still_known (parties_in g.showing) leaves) where
-  pub sound_behind : IsSound g → g.registry.manager.accepted ≤ v.manager.accepted → v.manager.table.detect ≡ g.registry.manager.table.detect
-      → KnowsWaits (state_of v.manager) (shown_in g.showing) (still_known (parties_in g.showing) leaves)
-      → IsSound (record g { registry = v; boxes = boxes; ended = ended; showing = showing })
-  sound_behind sound low detection known = record {
-    epoch = subst (λ (o : Option Strip). IfSome o (λ p. last_epoch 0 p.list ≤ v.manager.accepted)) (sym shown)
-        (later_epoch (shown_in g.showing) g.registry.manager.accepted v.manager.accepted low sound.epoch);
-    detect = subst (λ (o : Option Strip). IfSome o (λ p. p.detect ≡ v.manager.table.detect)) (sym shown)
-        (subst (λ (d : Detect). IfSome (shown_in g.showing) (λ p. p.detect ≡ d)) (sym detection) sound.detect);
-    known = subst (λ (o : Option Slots). KnowsWaits (state_of v.manager) (shown_in showing) o) (sym parties)
-        (subst (λ (o : Option Strip). KnowsWaits (state_of v.manager) o (still_known (parties_in g.showing) leaves)) (sym shown) known);
-  }
+  pub sound_behind : IsSound g → IsRun (state_of g.delivery.manager) (state_of d.manager)
+      → KnowsWaits (state_of d.manager) (shown_in g.showing) (still_known (parties_in g.showing) leaves)
+      → IsSound (record g { delivery = d; ended = ended; showing = showing })
+  sound_behind sound run known =
+      let keeps = run_keeps run.0 (state_of g.delivery.manager) (state_of d.manager) run.1 in
+      let detection : d.manager.table.detect ≡ g.delivery.manager.table.detect = keeps.1 in
+      record {
+        epoch = subst (λ (o : Option Strip). IfSome o (λ p. last_epoch 0 p.list ≤ d.manager.accepted)) (sym shown)
+            (later_epoch (shown_in g.showing) g.delivery.manager.accepted d.manager.accepted keeps.0 sound.epoch);
+        detect = subst (λ (o : Option Strip). IfSome o (λ p. p.detect ≡ d.manager.table.detect)) (sym shown)
+            (subst (λ (x : Detect). IfSome (shown_in g.showing) (λ p. p.detect ≡ x)) (sym detection) sound.detect);
+        known = subst (λ (o : Option Slots). KnowsWaits (state_of d.manager) (shown_in showing) o) (sym parties)
+            (subst (λ (o : Option Strip). KnowsWaits (state_of d.manager) o (still_known (parties_in g.showing) leaves)) (sym shown) known);
+      }
 
   pub shows_behind : (board : Board) (after : Option Strip) → ShowsOn (is_none (parties_in showing)) board (shown_in showing) after
       → ShowsOn (is_none (still_known (parties_in g.showing) leaves)) board (shown_in g.showing) after

@@ -1,5 +1,5 @@
 -- A call that locks a node after what must be held above it.
-use Rattle.std.specs.Prelude.{◌≡◌, ◌<◌, ◌&&◌, not, Bool, true, false, [], List, Option, Some, None, Result, Ok, Err, if◌then◌else◌, is_none}
+use Rattle.std.specs.Prelude.{◌≡◌, ◌<◌, ◌&&◌, not, Bool, true, false, [], Option, Some, None, Result, Ok, Err, if◌then◌else◌, is_none}
 use Rattle.gl_modes.specs.declared.node.NodeId.{NodeId}
 use Rattle.gl_modes.specs.declared.refusal.Refusal.{Refusal}
 use Rattle.gl_modes.specs.Nodes.{same_node}
@@ -19,16 +19,16 @@ use Rattle.gl_slots.specs.declared.slots.Slots.{Slots}
 use Rattle.gl_header.specs.Header.{is_empty}
 use Rattle.gl_registry.specs.Serving.{PathLeavesRows}
 use Rattle.gl_window.specs.Tellings.{still_known}
-use Rattle.gl_wakes.specs.Boxes.{Delivers, Slot, emptied}
+use Rattle.gl_waiting.specs.Delivering.{Delivered}
 use Rattle.gl_c.specs.declared.answers.notices.Notices.{Notices}
 use Rattle.gl_c.specs.declared.answers.reply.Reply.{Reply}
 use Rattle.gl_c.specs.managers.Carries.{Declines}
-use Rattle.gl_c.specs.managers.Guarded.{GuardedView, registry_in}
+use Rattle.gl_c.specs.managers.Guarded.{GuardedView, delivery_in, registry_in}
 use Rattle.gl_c.specs.Names.{node_of}
 use Rattle.gl_c.specs.answers.Notices.{Tells}
 use Rattle.gl_c.specs.Numbers.{no_manager, on_the_way, victim, waiting}
 use Rattle.gl_c.specs.answers.Replies.{refused_reply, reply_of, status_reply}
-use Rattle.gl_c.specs.managers.Serving.{KnowsWaits, ShowsOn, Wakes}
+use Rattle.gl_c.specs.managers.Serving.{KnowsWaits, ShowsOn}
 
 -- a reply with this node
 abbrev pub reply_at : NodeId → Reply → Reply
@@ -70,8 +70,7 @@ leaves_on_path parties t result told =
 pub record ServesPath (g : GuardedView) (t : TxnId) (ask : Ask) (result : Result Reached Refusal) (told : Told) (g' : GuardedView) : Type 0 where
   pub path : PathLeavesRows t ask (registry_in g) result told (registry_in g')
   pub none_accepted : g'.manager.accepted ≡ g.manager.accepted → (g' ≡ g) × (told ≡ [])
-  pub boxes : g.manager.accepted < g'.manager.accepted → (mid : List Slot) × Delivers g.boxes told mid × (g'.boxes ≡ emptied (lock_of t ask) mid)
-  pub wakes : g.manager.accepted < g'.manager.accepted → Wakes (lock_of t ask) g.manager told g'.manager g'.ended
+  pub delivered : g.manager.accepted < g'.manager.accepted → Delivered (delivery_in g) (lock_of t ask) told g'.ended (delivery_in g')
   pub shown : ShowsOn (is_none (still_known g.parties (λ known. leaves_on_path known t result told))) (board_of (state_of g'.manager)) g.shown g'.shown
   pub known : KnowsWaits (state_of g'.manager) g'.shown g'.parties
 

@@ -1,5 +1,5 @@
 -- What a call about rows does to all that C's mutex protects.
-use Rattle.std.specs.Prelude.{◌≡◌, ◌<◌, Bool, true, false, [], List, Option, Some, None, IfSome, is_none}
+use Rattle.std.specs.Prelude.{◌≡◌, ◌<◌, Bool, true, false, [], Option, Some, None, IfSome, is_none}
 use Rattle.gl_modes.specs.declared.node.NodeId.{NodeId}
 use Rattle.gl_modes.specs.declared.refusal.Refusal.TheVariants as no
 use Rattle.gl_model.specs.declared.answers.Locked.{Locked}
@@ -16,17 +16,17 @@ use Rattle.gl_registry.specs.declared.answer.RowAnswer.{RowAnswer}
 use Rattle.gl_registry.specs.declared.answer.RowAnswer.TheVariants as row_answer
 use Rattle.gl_registry.specs.declared.call.RowCall.{RowCall}
 use Rattle.gl_registry.specs.declared.row.Row.{Row}
-use Rattle.gl_wakes.specs.Boxes.{Delivers, Slot, emptied}
+use Rattle.gl_waiting.specs.Delivering.{Delivered}
 use Rattle.gl_steps.specs.Served.{is_refused}
 use Rattle.gl_c.specs.declared.answers.notices.Notices.{Notices}
 use Rattle.gl_c.specs.declared.answers.reply.Reply.{Reply}
 use Rattle.gl_c.specs.managers.Carries.{Declines}
-use Rattle.gl_c.specs.managers.Guarded.{GuardedView, registry_in}
+use Rattle.gl_c.specs.managers.Guarded.{GuardedView, delivery_in, registry_in}
 use Rattle.gl_c.specs.answers.Notices.{Tells}
 use Rattle.gl_c.specs.Numbers.{no_manager, not_rows, other_keys, victim, waiting}
 use Rattle.gl_c.specs.locks.Paths.{reply_at}
 use Rattle.gl_c.specs.answers.Replies.{refused_reply, reply_of, status_reply}
-use Rattle.gl_c.specs.managers.Serving.{KnowsWaits, ShowsOn, Wakes}
+use Rattle.gl_c.specs.managers.Serving.{KnowsWaits, ShowsOn}
 use Rattle.gl_window.specs.Tellings.{leaves_waits, still_known}
 
 -- a call about rows is refused, or its file is not a file of rows
@@ -45,8 +45,7 @@ pub record ServesRow (g : GuardedView) (c : RowCall) (a : RowAnswer) (told : Tol
   pub own : CarriesOut g.manager (own_of g c g') (answer_in a) told g'.manager
   pub nothing : comes_to_nothing (answer_in a) ≡ true → (g' ≡ g) × (told ≡ [])
   pub counted : comes_to_nothing (answer_in a) ≡ false → g.manager.accepted < g'.manager.accepted
-  pub boxes : comes_to_nothing (answer_in a) ≡ false → (mid : List Slot) × Delivers g.boxes told mid × (g'.boxes ≡ emptied (own_of g c g') mid)
-  pub wakes : comes_to_nothing (answer_in a) ≡ false → Wakes (own_of g c g') g.manager told g'.manager g'.ended
+  pub delivered : comes_to_nothing (answer_in a) ≡ false → Delivered (delivery_in g) (own_of g c g') told g'.ended (delivery_in g')
   pub shown : IfSome (answer_in a) (λ own. ShowsOn (is_none (still_known g.parties (λ known. leaves_waits known (own_of g c g') own told)))
       (board_of (state_of g'.manager)) g.shown g'.shown)
   pub known : KnowsWaits (state_of g'.manager) g'.shown g'.parties

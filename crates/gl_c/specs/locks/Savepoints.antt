@@ -4,31 +4,24 @@ use Rattle.gl_modes.specs.declared.refusal.Refusal.{Refusal}
 use Rattle.gl_model.specs.declared.txn.TxnId.{TxnId}
 use Rattle.gl_model.specs.Tellings.{Told}
 use Rattle.gl_table.specs.Table.{board_of}
-use Rattle.gl_steps.specs.declared.command.Command.{Command}
-use Rattle.gl_steps.specs.declared.command.Command.TheVariants as command
 use Rattle.gl_catalog.specs.Manager.{state_of}
-use Rattle.gl_registry.specs.Releasing.{GoesBackTo, no_node}
-use Rattle.gl_wakes.specs.Boxes.{Delivers}
+use Rattle.gl_registry.specs.Releasing.{GoesBackTo}
+use Rattle.gl_waiting.specs.Delivering.{Delivered, unlocking}
 use Rattle.gl_c.specs.declared.answers.notices.Notices.{Notices}
 use Rattle.gl_c.specs.declared.answers.reply.Reply.{Reply}
 use Rattle.gl_c.specs.managers.Carries.{Declines}
-use Rattle.gl_c.specs.managers.Guarded.{GuardedView}
-use Rattle.gl_c.specs.managers.Serving.{KnowsWaits, ShowsOn, Wakes}
+use Rattle.gl_c.specs.managers.Guarded.{GuardedView, delivery_in}
+use Rattle.gl_c.specs.managers.Serving.{KnowsWaits, ShowsOn}
 use Rattle.gl_slots.specs.Slots.{has_none}
 use Rattle.gl_window.specs.Tellings.{still_known}
 use Rattle.gl_c.specs.Numbers.{no_manager}
 use Rattle.gl_c.specs.answers.Notices.{Tells}
 use Rattle.gl_c.specs.answers.Replies.{count_reply, refused_reply}
 
--- each of its commands unlocks a node; the notices do not depend on the node
-abbrev pub unlocking : TxnId → Command
-unlocking t = command.Unlock t no_node
-
 -- a transaction rolls back; the boxes have the notices; the ended waits are noted; watchers are shown the snapshot after it or nothing, and nothing if it is
 -- known that nobody waited
 pub record GoesBackThere (g : GuardedView) (t : TxnId) (told : Told) (g' : GuardedView) : Type 0 where
-  pub boxes : Delivers g.boxes told g'.boxes
-  pub wakes : Wakes (unlocking t) g.manager told g'.manager g'.ended
+  pub delivered : Delivered (delivery_in g) (unlocking t) told g'.ended (delivery_in g')
   pub shown : ShowsOn (is_none (still_known g.parties has_none)) (board_of (state_of g'.manager)) g.shown g'.shown
   pub known : KnowsWaits (state_of g'.manager) g'.shown g'.parties
 

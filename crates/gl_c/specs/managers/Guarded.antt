@@ -3,6 +3,7 @@ use Rattle.std.specs.Prelude.{List, Option}
 use Rattle.gl_slots.specs.declared.slots.Slots.{Slots}
 use Rattle.gl_catalog.specs.Manager.{ManagerView}
 use Rattle.gl_registry.specs.Rows.{RegistryView, RowsView}
+use Rattle.gl_waiting.specs.Delivering.{DeliveryView}
 use Rattle.gl_wakes.specs.Boxes.{Slot}
 use Rattle.gl_window.specs.Strip.{Strip}
 
@@ -19,3 +20,7 @@ pub record GuardedView : Type 0 where
 -- the registry: the manager, and its rows
 abbrev pub registry_in : GuardedView → RegistryView
 registry_in g = record { manager = g.manager; rows = g.rows }
+
+-- the registry with the notice boxes
+abbrev pub delivery_in : GuardedView → DeliveryView
+delivery_in g = record { manager = g.manager; rows = g.rows; boxes = g.boxes }

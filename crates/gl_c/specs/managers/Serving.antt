@@ -1,25 +1,20 @@
 -- What a command does to all that C's mutex protects.
-use Rattle.gl_slots.specs.Limit.{most_slots}
-use Rattle.std.specs.Prelude.{◌≡◌, ◌⊎◌, ℕ, ◌<◌, ◌||◌, ◌==◌, Bool, true, false, List, [], ◌∷◌, ◌++◌, Option, Some, None, IfSome, is_none}
-use Rattle.std.specs.List.{list_any}
+use Rattle.std.specs.Prelude.{◌≡◌, ◌⊎◌, Bool, true, false, [], ◌∷◌, ◌++◌, Option, Some, None, IfSome, is_none}
 use Rattle.gl_waits.specs.declared.board.Board.{Board}
 use Rattle.gl_slots.specs.declared.slots.Slots.{Slots}
-use Rattle.gl_slots.specs.Slots.{has_slot}
 use Rattle.gl_table.specs.Table.{board_of}
 use Rattle.gl_model.specs.Tellings.{Told}
 use Rattle.gl_steps.specs.declared.command.Answer.{Answer}
 use Rattle.gl_steps.specs.declared.command.Command.{Command}
-use Rattle.gl_catalog.specs.Manager.{ManagerView, state_of}
+use Rattle.gl_catalog.specs.Manager.{state_of}
 use Rattle.gl_registry.specs.Serving.{Applies, LeavesRows, dropped_by, touches_rows}
 use Rattle.gl_model.specs.State.{State}
 use Rattle.gl_window.specs.Boards.{EndsWithWaits, HasParties}
 use Rattle.gl_window.specs.Tellings.{leaves_waits, still_known}
-use Rattle.gl_wakes.specs.Boxes.{Delivers, Slot, cleared}
 use Rattle.gl_steps.specs.Served.{accepts}
-use Rattle.gl_wakes.specs.Wakes.{names_slot}
 use Rattle.gl_window.specs.Strip.{Strip}
-use Rattle.gl_wakes.specs.Wakes.{HasEnded}
-use Rattle.gl_c.specs.managers.Guarded.{GuardedView, registry_in}
+use Rattle.gl_waiting.specs.Delivering.{Delivered}
+use Rattle.gl_c.specs.managers.Guarded.{GuardedView, delivery_in, registry_in}
 
 -- if the parties to waits are known, these are all, and the last snapshot that was shown, if one was, has every wait
 abbrev pub KnowsWaits : State → Option Strip → Option Slots → Type 0
@@ -36,19 +31,13 @@ abbrev pub ShowsOn : Bool → Board → Option Strip → Option Strip → Type 0
 ShowsOn due board None after = after ≡ None
 ShowsOn due board (Some before) after = (s : Strip) × (after ≡ Some s) × GoesOnBy due board before s
 
--- the set has each slot whose wait the command ended: exactly those that it told, and the slot that a cancel or an abort names
-pub record Wakes (c : Command) (m : ManagerView) (told : Told) (m' : ManagerView) (ended : Slots) : Type 0 where
-  pub all : HasEnded (state_of m) (state_of m') ended
-  pub slots : (u : ℕ) → u < most_slots → has_slot ended u ≡ (names_slot c u || list_any (λ x. x.0.slot == u) told)
-
--- a command is carried out; the boxes have its notices, but an accepted lock empties its own slot's; the ended waits are noted; watchers are shown the snapshot
--- after it or nothing, and nothing if it is known to leave all waits; a command that is not accepted changes nothing; no row gets or loses its node, and a file
--- of rows that is dropped is one no more
+-- a command is carried out; if it is accepted, the boxes have its notices, but a lock empties its own slot's, and the ended waits are noted; if not, nothing
+-- changes; watchers are shown the snapshot after it or nothing, and nothing if it is known to leave all waits; no row gets or loses its node, and a file of
+-- rows that is dropped is one no more
 pub record Serves (g : GuardedView) (c : Command) (a : Answer) (told : Told) (g' : GuardedView) : Type 0 where
   pub applies : Applies g.manager c a told g'.manager
-  pub boxes : (mid : List Slot) × Delivers g.boxes told mid × (g'.boxes ≡ cleared c a mid)
+  pub delivered : accepts c a ≡ true → Delivered (delivery_in g) c told g'.ended (delivery_in g')
   pub not_accepted : accepts c a ≡ false → (g' ≡ g) × (told ≡ [])
-  pub wakes : accepts c a ≡ true → Wakes c g.manager told g'.manager g'.ended
   pub shown : ShowsOn (is_none (still_known g.parties (λ known. leaves_waits known c a told))) (board_of (state_of g'.manager)) g.shown g'.shown
   pub known : KnowsWaits (state_of g'.manager) g'.shown g'.parties
   pub rows : LeavesRows (dropped_by c a) g.rows g'.rows

@@ -6,6 +6,7 @@ ghost use Rattle.gl_c.specs.locks.Paths.{path_reply, reached_reply, reply_at};
 ghost use Rattle.gl_c.specs.answers.Replies.{count_reply, refused_at, refused_reply, reply_of, served_reply, status_reply};
 ghost use Rattle.gl_c.specs.locks.Rows.{call_reply, row_lock_status};
 ghost use Rattle.gl_c.specs.locks.Savepoints.{back_reply};
+ghost use Rattle.gl_c.specs.locks.Tries.{tried_reply, tried_row_reply};
 ghost use Rattle.gl_c.specs.locks.Verdicts.{verdict_reply};
 
 use crate::names::{Node, Txn};
@@ -17,6 +18,7 @@ use gl_catalog::{Answer, Reached};
 use gl_modes::{Mode, NodeId, Refusal};
 use gl_registry::RowAnswer;
 use gl_table::{Locked, TxnId};
+use gl_waiting::{RowTried, Tried};
 use gl_wakes::{Grant, Stop};
 
 /// The answer of a call: a status, what the call answers, and zero in all other fields.
@@ -180,6 +182,34 @@ impl Reply {
             },
             Locked::Waiting => Reply::with_status(WAITING),
             Locked::Victim => Reply::with_status(VICTIM),
+        }
+    }
+
+    /// The reply for a tried path.
+    pub(crate) fn of_tried(tried: Tried) -> Reply
+        ensures { result ≡ tried_reply tried }
+    {
+        match tried {
+            Tried::Granted(mode) => Reply::with_mode(mode),
+            Tried::WouldBlock(node) => Reply::refused(Refusal::WouldBlock).at(node),
+            Tried::Refused(refusal) => Reply::refused(refusal),
+        }
+    }
+
+    /// The reply for a tried row.
+    pub(crate) fn of_tried_row(tried: RowTried) -> Reply
+        ensures { result ≡ tried_row_reply tried }
+    {
+        match tried {
+            RowTried::Granted { node, mode } => {
+                Reply::of_row_lock(Locked::Granted(mode), true).at(node)
+            }
+            RowTried::OtherKeys { node, mode } => {
+                Reply::of_row_lock(Locked::Granted(mode), false).at(node)
+            }
+            RowTried::WouldBlock(node) => Reply::refused(Refusal::WouldBlock).at(node),
+            RowTried::Refused(refusal) => Reply::refused(refusal),
+            RowTried::NotRows => Reply::with_status(NOT_ROWS),
         }
     }
 

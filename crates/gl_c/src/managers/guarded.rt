@@ -9,6 +9,7 @@ ghost use Rattle.gl_window.specs.Boards.{Ends};
 ghost use Rattle.gl_registry.specs.Applying.{answer_in};
 ghost use Rattle.gl_registry.specs.Rows.{name_of};
 ghost use Rattle.gl_wakes.specs.Boxes.{verdict_of};
+ghost use Rattle.gl_c.specs.managers.Guarded.{delivery_in};
 ghost use Rattle.gl_c.specs.managers.Managing.{IsNew};
 ghost use Rattle.gl_c.specs.locks.Paths.{ServesPath};
 ghost use Rattle.gl_c.specs.locks.Rows.{ServesRow, comes_to_nothing};
@@ -25,18 +26,20 @@ use gl_registry::{Registry, Row, RowAnswer, RowCall};
 use gl_slots::Slots;
 use gl_steps::{is_accepted, is_refused};
 use gl_table::{Detect, Told, TxnId};
+use gl_waiting::Delivery;
 use gl_waits::Victims;
-use gl_wakes::{Boxes, Grant, Stop, ended_by};
+use gl_wakes::{Grant, Stop};
 use gl_window::{WatchFault, Watcher};
 use std::alloc::Global;
 use std::marker::Model;
 
-/// The manager with its files of rows, a notice box for each slot, the slots whose wait the last
+mod tries;
+
+/// The manager with its files of rows and a notice box for each slot, the slots whose wait the last
 /// accepted command may have ended, and what watchers were shown, if there ever was one.
 #[derive(Drop)]
 pub(crate) struct Guarded {
-    registry: Registry,
-    boxes: Boxes,
+    delivery: Delivery,
     ended: Slots,
     showing: Option<Showing>,
 }
@@ -73,8 +76,7 @@ impl Guarded {
         let manager = Manager::with_limits(alloc, detect, victims, most, nodes, bounds)?;
         let registry = Registry::new(alloc, manager)?;
         Ok(Guarded {
-            registry,
-            boxes: Boxes::new(),
+            delivery: Delivery::new(registry),
             ended: Slots::empty(),
             showing: None,
         })
@@ -84,14 +86,14 @@ impl Guarded {
     pub(crate) fn manager(&self) -> &Manager
         ensures { result.now ≡ self.now.manager }
     {
-        self.registry.manager()
+        self.delivery.manager()
     }
 
     /// The node of a row; `None` if it has none.
     pub(crate) fn node(&self, row: Row) -> Option<NodeId>
         ensures { result ≡ name_of self.now.rows row }
     {
-        self.registry.node(row)
+        self.delivery.node(row)
     }
 
     /// The slots whose wait the last accepted command may have ended.
@@ -110,7 +112,7 @@ impl Guarded {
     ) -> Option<Result<Grant, Stop>>
         ensures { result ≡ verdict_of (state_of self.now.manager) self.now.boxes txn node mode }
     {
-        self.boxes.verdict(self.registry.manager(), txn, node, mode)
+        self.delivery.verdict(txn, node, mode)
     }
 
     /// Carries out a command, and puts its notices into an empty list. `None` if it would insert,
@@ -120,15 +122,15 @@ impl Guarded {
         requires empty { told.old.items ≡ [] }
         ensures { ServesNodes self.old command.entry result told.new.items self.new }
     {
-        self.registry.law();
-        let Some(answer) = self.registry.serve(command, told) else {
+        self.delivery.law();
+        let (answer, ended) = self.delivery.serve(command, told);
+        let Some(answer) = answer else {
             return None;
         };
         if !is_accepted(&command, &answer) {
             return Some(answer);
         }
-        self.boxes.deliver(&command, told.as_slice());
-        self.ended = ended_by(&command, told.as_slice());
+        self.ended = ended;
         keep(&mut self.showing, &command, &answer, told.as_slice());
         self.show_if_due();
         Some(answer)
@@ -146,15 +148,13 @@ impl Guarded {
         requires empty { told.old.items ≡ [] }
         ensures { ServesPath self.old txn (node, mode) result told.new.items self.new }
     {
-        self.registry.law();
-        let before = self.registry.manager().accepted();
-        let reached = self.registry.lock_path(txn, node, mode, told);
-        if self.registry.manager().accepted() == before {
+        self.delivery.law();
+        let before = self.delivery.manager().accepted();
+        let (reached, ended) = self.delivery.lock_path(txn, node, mode, told);
+        if self.delivery.manager().accepted() == before {
             return reached;
         }
-        let asked = Command::Lock { txn, node, mode };
-        self.boxes.deliver(&asked, told.as_slice());
-        self.ended = ended_by(&asked, told.as_slice());
+        self.ended = ended;
         keep_on_path(&mut self.showing, txn, reached, told.as_slice());
         self.show_if_due();
         reached
@@ -167,15 +167,13 @@ impl Guarded {
         requires empty { told.old.items ≡ [] }
         ensures { ServesRow self.old call.entry result told.new.items self.new }
     {
-        self.registry.law();
-        let answer = self.registry.apply(call, told);
+        self.delivery.law();
+        let (answer, ended) = self.delivery.serve_row(call, told);
         if comes_to_nothing(answer) {
             return answer;
         }
-        let own = call.command();
-        self.boxes.deliver(&own, told.as_slice());
-        self.ended = ended_by(&own, told.as_slice());
-        keep_row(&mut self.showing, &own, answer, told.as_slice());
+        self.ended = ended;
+        keep_row(&mut self.showing, &call.command(), answer, told.as_slice());
         self.show_if_due();
         answer
     }
@@ -191,14 +189,9 @@ impl Guarded {
         requires empty { told.old.items ≡ [] }
         ensures { ServesBack self.old txn mark result told.new.items self.new }
     {
-        self.registry.law();
-        let released = self.registry.release_since(txn, mark, told)?;
-        let unlocking = Command::Unlock {
-            txn,
-            node: NodeId::NONE,
-        };
-        self.boxes.deliver(&unlocking, told.as_slice());
-        self.ended = ended_by(&unlocking, told.as_slice());
+        let (released, ended) = self.delivery.release_since(txn, mark, told);
+        let released = released?;
+        self.ended = ended;
         keep_nobody(&mut self.showing);
         self.show_if_due();
         Ok(released)
@@ -207,13 +200,12 @@ impl Guarded {
     /// Shows watchers the present snapshot if there is a watcher and the last snapshot may lack a wait.
     #[inline(always)]
     fn show_if_due(&mut self)
-        ensures kept { (self.new.manager ≡ self.old.manager) × (self.new.boxes ≡ self.old.boxes) × (self.new.ended ≡ self.old.ended)
-            × (self.new.rows ≡ self.old.rows) }
+        ensures kept { (delivery_in self.new ≡ delivery_in self.old) × (self.new.ended ≡ self.old.ended) }
         ensures shown { ShowsOn (is_none self.old.parties) (board_of (state_of self.old.manager)) self.old.shown self.new.shown }
         ensures known { KnowsWaits (state_of self.new.manager) self.new.shown self.new.parties }
     {
         if let Some(showing) = &mut self.showing {
-            showing.show_if_due(self.registry.manager());
+            showing.show_if_due(self.delivery.manager());
         }
     }
 
@@ -222,7 +214,7 @@ impl Guarded {
         ensures kept { OnlyShows self.old self.new }
         ensures watcher { IfOk result (λ watcher. (self.new.shown ≡ Some watcher) × Ends watcher.list (board_of (state_of self.old.manager))) }
     {
-        watch(&mut self.showing, self.registry.manager(), alloc)
+        watch(&mut self.showing, self.delivery.manager(), alloc)
     }
 }
 

@@ -14,6 +14,7 @@ ghost use Rattle.gl_c.specs.locks.Paths.{RepliesPath};
 ghost use Rattle.gl_c.specs.locks.Savepoints.{RepliesBack};
 ghost use Rattle.gl_c.specs.managers.Managing.{IsNew};
 ghost use Rattle.gl_c.specs.locks.Rows.{AnswersRow, RepliesRow, named_reply};
+ghost use Rattle.gl_c.specs.locks.Tries.{RepliesTriedPath, RepliesTriedRow};
 ghost use Rattle.gl_c.specs.locks.Verdicts.{verdict_reply};
 ghost use Rattle.gl_c.specs.watchers.Watching.{OnlyShows};
 
@@ -26,6 +27,7 @@ use gl_modes::{Mode, NodeId, Refusal};
 use gl_registry::{Row, RowCall};
 use gl_slots::Slots;
 use gl_table::{Detect, Told, TxnId};
+use gl_waiting::Keep;
 use gl_waits::Victims;
 use gl_window::{WatchFault, Watcher};
 use std::alloc::Global;
@@ -123,6 +125,40 @@ impl Session {
         notices.put(self.told.as_slice());
         self.told.clear();
         Reply::of_row_call(answer)
+    }
+
+    /// Tries to lock a node after what must be held above it, and writes the notices.
+    pub(crate) fn try_path(
+        &mut self,
+        txn: TxnId,
+        node: NodeId,
+        mode: Mode,
+        keep: Keep,
+        notices: &mut Notices,
+    ) -> Reply
+        ensures { RepliesTriedPath self.old keep txn (node, mode) result notices.new self.new }
+    {
+        let tried = self.guarded.try_path(txn, node, mode, keep, &mut self.told);
+        notices.put(self.told.as_slice());
+        self.told.clear();
+        Reply::of_tried(tried)
+    }
+
+    /// Tries to lock a row, and writes the notices.
+    pub(crate) fn try_row(
+        &mut self,
+        txn: TxnId,
+        row: Row,
+        keys: &[u64],
+        mode: Mode,
+        notices: &mut Notices,
+    ) -> Reply
+        ensures { RepliesTriedRow self.old (record { txn = txn; row = row; keys = keys.entry; mode = mode }) result notices.new self.new }
+    {
+        let tried = self.guarded.try_row(txn, row, keys, mode, &mut self.told);
+        notices.put(self.told.as_slice());
+        self.told.clear();
+        Reply::of_tried_row(tried)
     }
 
     /// Carries out a call about rows that notifies nobody.

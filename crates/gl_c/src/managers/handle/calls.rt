@@ -20,6 +20,7 @@ ghost use Rattle.gl_c.specs.answers.Notices.{Tells};
 ghost use Rattle.gl_c.specs.Numbers.{no_manager};
 ghost use Rattle.gl_c.specs.answers.Replies.{status_reply};
 ghost use Rattle.gl_c.specs.locks.Rows.{AsksRow, CarriesRow, FindsRow};
+ghost use Rattle.gl_c.specs.locks.Tries.{CarriesTriedPath, CarriesTriedRow};
 ghost use Rattle.gl_c.specs.locks.Verdicts.{Judges};
 ghost use Rattle.gl_c.specs.watchers.Watching.{Attends};
 
@@ -39,6 +40,7 @@ use gl_catalog::Command;
 use gl_modes::{Mode, NodeId};
 use gl_registry::{Row, RowCall};
 use gl_table::TxnId;
+use gl_waiting::Keep;
 use gl_window::{WatchFault, Watcher};
 use std::alloc::Global;
 use std::mem::replace;
@@ -154,6 +156,47 @@ impl Handle {
             return declined(told);
         };
         let reply = session.carry_out_row(call, told);
+        *self = Handle::of(alloc, session);
+        reply
+    }
+
+    /// Tries to lock a node after what must be held above it, and writes the notices.
+    pub(crate) fn try_path(
+        &mut self,
+        txn: TxnId,
+        node: NodeId,
+        mode: Mode,
+        keep: Keep,
+        told: &mut Notices,
+    ) -> Reply
+        ensures { CarriesTriedPath (guarded_in self.old) keep txn (node, mode) result told.new (guarded_in self.new) }
+    {
+        let alloc = self.alloc;
+        let Some(mut session) = self.take() else {
+            return declined(told);
+        };
+        let reply = session.try_path(txn, node, mode, keep, told);
+        *self = Handle::of(alloc, session);
+        reply
+    }
+
+    /// Tries to lock a row, and writes the notices.
+    pub(crate) fn try_row(
+        &mut self,
+        txn: TxnId,
+        row: Row,
+        keys: &[u64],
+        mode: Mode,
+        told: &mut Notices,
+    ) -> Reply
+        ensures { CarriesTriedRow (guarded_in self.old) (record { txn = txn; row = row; keys = keys.entry; mode = mode }) result told.new
+            (guarded_in self.new) }
+    {
+        let alloc = self.alloc;
+        let Some(mut session) = self.take() else {
+            return declined(told);
+        };
+        let reply = session.try_row(txn, row, keys, mode, told);
         *self = Handle::of(alloc, session);
         reply
     }

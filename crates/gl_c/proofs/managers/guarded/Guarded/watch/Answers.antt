@@ -28,7 +28,7 @@ invariant_of-self c = record {
       c.watch.ensures.epoch;
   detect = subst (λ (m : ManagerView). IfSome (shown_in c.watch.new.showing) (λ (p : Strip). p.detect ≡ m.table.detect)) c.manager.ensures
       c.watch.ensures.detect;
-  known = subst (λ (o : Option Slots). KnowsWaits (state_of c.self.inside.registry.manager) (shown_in c.watch.new.showing) o)
+  known = subst (λ (o : Option Slots). KnowsWaits (state_of c.self.inside.delivery.manager) (shown_in c.watch.new.showing) o)
       (sym c.watch.ensures.unknown) tt;
 }
 
