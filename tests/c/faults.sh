@@ -1,6 +1,6 @@
 #!/usr/bin/env bash
-# faults.sh [--tenth] [NAME..] [LIBRARY LIBRARY]: plants faults in a copy of the C sources, the shared table and its dump,
-# one at a time. The stories or the crowd must find each: by a check that fails, or because they hang. `all` means every
+# faults.sh [--tenth] [NAME..] [LIBRARY LIBRARY]: plants faults in a copy of the C sources, the shared table, its dump and
+# what times its waits, one at a time. The stories or the crowd must find each: by a check that fails, or because they hang. `all` means every
 # fault there is, --tenth each tenth, by turns: which one is chosen by the sum of the folder c. The libraries are the proved
 # one and the calls for memory; without them they are the last two that tools/c_library.sh prints. Ends with status 1 if a
 # fault is not found. CC names another compiler than cc.
@@ -75,7 +75,7 @@ instant-stays-held-at-once	s/  if (is_instant \&\& reply.status == BS_DONE) tabl
 instant-gives-back-what-was-held	/ table_is_instant(const/,/^}/s/ \&\& bs_held(&table->manager, txn, node).mode == BS_NL;/;/
 instant-of-an-ended-wait	s/    table->instantly.words\[i\] &= ~instantly;//
 instant-came-and-is-not-known	/table_became(/,/^}/s/^  if (reply.status != BS_NOT_WAITING) return reply;/  return reply;/
-instant-that-came-is-the-next-wait	/table_register(/,/^}/s/^  own->came.status.*//
+instant-that-came-is-the-next-wait	/table_register(/,/^}/s/^  own->came = BS_NL;//
 lock-wakes-before-it-registers	/ table_lock_by(/,/^}/{/table_register(/d;s/^  table_wake(table, .*/&\n  if (reply.status == BS_WAITING) table_register(table, txn, node, is_instant);/}
 path-wakes-before-it-registers	/ table_path_by(/,/^}/{/table_register(/d;s/^  table_wake(table, .*/&\n  if (reply.status == BS_WAITING) table_register(table, txn, node, is_instant \&\& table_is_same_node(reply.node, node));/}
 path-asks-for-its-mode-too-late	/ table_path_by(/,/^}/{/wait->mode/d;s/^  table_wake(table, .*/&\n  wait->mode = bs_call_doing(\&table->manager, txn).mode;/}
@@ -87,7 +87,7 @@ list-tells-its-own	s/^    table_tell_all_but(told, txn);//
 list-goes-not-on-with-its-path	/ table_made_on(/,/^}/s/^  if (c->kind != BS_DO_LOCK_PATH) return became;/  return became;/
 list-asks-not-again-for-its-row	/ table_made_on(/,/^}/s/^  if (c->kind == BS_DO_LOCK_ROW /  if (false /
 list-leaves-asks-that-are-due	/ table_settle_made(/,/^}/s/^    if (table->asks != NULL) table_go_on(table);//
-instant-wakes-nobody	/table_give_instants_back(/,/^}/s/^      table_note_ended(table, granted);//
+instant-wakes-nobody	/table_give_instants_back(/,/^}/s/^      table_note_ended(table, granted, &more);//
 instant-tells-nobody	s/^      table_tell_too(told, &more);//
 instant-is-awaited-by-its-word	s/  c->reply.mode = table_mode_of(c->mode);/  c->reply.mode = c->mode;/
 instant-sleeps-by-its-word	s/table_sleep(table, txn, node, table_mode_of(mode), until)/table_sleep(table, txn, node, mode, until)/
@@ -233,9 +233,9 @@ instant-that-came-is-the-next-path	/ table_path_by(/,/^}/s/^    table_register(t
 instant-that-came-is-the-next-row	/^static bs_reply table_ask_row(/,/^}/s/^  if (reply.status == BS_WAITING) table_register(.*//
 instant-that-came-is-the-next-in-a-list	s/^  if ((c->mode \& BS_INSTANT) == 0) table_register(table, txn, c->node, false);//
 instant-that-came-is-the-next-lock	/ table_lock_by(/,/^}/s/^  if (reply.status == BS_WAITING) table_register(/  if (is_instant \&\& reply.status == BS_WAITING) table_register(/
-instant-that-came-is-the-next-instant	/table_register(/,/^}/s/^  own->came.status = BS_WAITING;/  if (!is_instant) own->came.status = BS_WAITING;/
-instant-is-of-its-slot	s/  if (own->came.status != BS_DONE || own->txn.age != txn.age) return reply;/  if (own->came.status != BS_DONE) return reply;/
-instant-is-of-any-node	/table_became(/,/^}/s/  return table_is_same_node(own->node, node) ? own->came : reply;/  return own->came;/
+instant-that-came-is-the-next-instant	/table_register(/,/^}/s/^  own->came = BS_NL;/  if (!is_instant) own->came = BS_NL;/
+instant-is-of-its-slot	s/  if (own->came == BS_NL || own->txn.age != txn.age || /  if (own->came == BS_NL || /
+instant-is-of-any-node	s/ || own->txn.age != txn.age || !table_is_same_node(own->node, node)) return reply;/ || own->txn.age != txn.age) return reply;/
 asked-row-keeps-its-first-key	/^static void table_keep_keys(/,/^}/s/own->row.count \* sizeof own->keys\[0\]/sizeof own->keys[0]/
 asked-row-is-for-an-instant	/^bs_reply bs_table_ask_row(/,/^}/s/table_ask_row(table, txn, &own->row, mode)/table_ask_row(table, txn, \&own->row, table_mode_of(mode))/
 listed-row-is-for-an-instant	s/bs_lock_row(m, txn, c->file, c->number, c->keys, c->key_count, c->mode, told)/bs_lock_row(m, txn, c->file, c->number, c->keys, c->key_count, table_mode_of(c->mode), told)/
@@ -256,7 +256,8 @@ FAULTS
 # says THERE WORD..: compiles a program of the tests with the sources there, and ends with its status.
 says() {
   local there=$1 program=$2 with=()
-  [ "$program" = crowd ] || with=("-Wl,--wrap=malloc,--wrap=realloc,--wrap=free")
+  [ "$program" = running ] || with+=("$there/burlapslate_running.c")
+  [ "$program" = crowd ] || with+=("-Wl,--wrap=malloc,--wrap=realloc,--wrap=free")
   # shellcheck disable=SC2086 # CC and FAULT_LINKS may have several words.
   ${CC:-cc} -std=c99 -D_POSIX_C_SOURCE=200809L -pthread -O1 -w -I"$top/include" -I"$there" -o "$there/$program" \
     "$top/tests/c/$program.c" "${libraries[@]}" ${FAULT_LINKS:-} "${with[@]}" || return 2
@@ -266,9 +267,10 @@ says() {
 # found NAME EDIT: whether the fault is found.
 found() {
   local there=$work/$1
-  mkdir -p "$there" && cp "$top"/c/*.c "$there/" && sed -i "$2" "$there"/*.c || return 1
+  mkdir -p "$there" && cp "$top"/c/*.[ch] "$there/" && sed -i "$2" "$there"/*.c || return 1
   ! diff -q "$top/c" "$there" -x out >/dev/null || { echo "faults.sh: $1 changes nothing"; return 1; }
-  says "$there" shared 5 && says "$there" asks 5 100 && says "$there" waits 5 && says "$there" own_ends 5 && says "$there" crowd 4 4
+  says "$there" shared 5 && says "$there" asks 5 100 && says "$there" waits 5 && says "$there" own_ends 5 && says "$there" running 5 &&
+    says "$there" crowd 4 4
   [ $? -eq 1 ] || { echo "faults.sh: $1 was not found"; return 1; }
   echo "$1: found: $(grep -E ': (hangs|not so|[a-z_]*: not so)' "$there/said" | tail -n 1 | sed 's/^[^ ]*\.[ch]:[0-9]*: //')"
 }
