@@ -206,22 +206,40 @@ static enum bs_wait_ends running_end_of(uint32_t kind) {
 static void running_note_deadlock(bs_running *running);
 
 /* Of these slots, only those are looked at that still wait: a list may tell of an end a second time. */
-void bs_call_waits_ended(bs_running *running, const bs_slots *ended, const bs_notices *told) {
-  bs_slots left;
-  uint64_t now = 0, some = 0;
-  bool has_victims = false;
-  bs_txn txn;
+static uint64_t running_keep_waiting(const bs_running *running, bs_slots *slots) {
+  uint64_t some = 0;
   size_t i;
-  for (i = 0; i < BS_SLOTS / 64; i++) some |= left.words[i] = ended->words[i] & running->waiting.words[i];
-  if (some != 0) now = bs_call_now();
-  for (i = 0; some != 0 && i < told->count; i++) {
-    txn = told->at[i].txn;
-    if (bs_has(left, txn.slot)) running_end(running, txn, running_end_of(told->at[i].kind), now);
-    has_victims |= told->at[i].kind == BS_TOLD_VICTIM;
+  for (i = 0; i < BS_SLOTS / 64; i++) some |= slots->words[i] &= running->waiting.words[i];
+  return some;
+}
+
+/* The waits of these slots were ended by their names. */
+static void running_cancelled(bs_running *running, const bs_slots *slots, uint64_t now) {
+  size_t i;
+  for (i = 0; i < BS_SLOTS / 64; i++) {
+    uint64_t word = slots->words[i];
+    for (; word != 0; word &= word - 1) {
+      bs_txn txn = { (uint32_t)i * 64 + (uint32_t)__builtin_ctzll(word), 0 };
+      running_end(running, txn, BS_END_CANCELLED, now);
+    }
   }
-  for (txn.slot = 0, txn.age = 0; some != 0 && txn.slot < BS_SLOTS; txn.slot++) {
-    if (bs_has(left, txn.slot) && running_waits(running, txn.slot)) running_end(running, txn, BS_END_CANCELLED, now);
+}
+
+void bs_call_waits_ended(bs_running *running, const bs_slots *ended, const bs_notices *told) {
+  bs_slots left = *ended;
+  bool has_victims = false;
+  uint64_t now;
+  size_t i;
+  if (running_keep_waiting(running, &left) == 0) return;
+  now = bs_call_now();
+  for (i = 0; i < told->count; i++) {
+    const bs_notice *notice = &told->at[i];
+    if (!bs_has(left, notice->txn.slot)) continue;
+    left.words[notice->txn.slot / 64] &= ~((uint64_t)1 << notice->txn.slot % 64);
+    running_end(running, notice->txn, running_end_of(notice->kind), now);
+    has_victims |= notice->kind == BS_TOLD_VICTIM;
   }
+  running_cancelled(running, &left, now);
   if (has_victims) running_note_deadlock(running);
 }
 

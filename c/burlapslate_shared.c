@@ -313,12 +313,11 @@ static TABLE_APART void table_wake_ended(bs_table *table, bs_status status, bs_n
   table_give_instants_back(table, &granted, told);
 }
 
-/* A wait began: wakes the thread that watches. Or none began, since the requester was condemned. */
+/* After a command that is not done: if a wait began, wakes the thread that watches. If the requester was condemned, none
+ * began, but there was a deadlock. */
 static TABLE_APART void table_blocked(bs_table *table, bs_status status) {
-  if (status == BS_VICTIM) {
-    bs_call_condemned(&table->running);
-    return;
-  }
+  if (status == BS_VICTIM) bs_call_condemned(&table->running);
+  if (status != BS_WAITING) return;
   table->waited = bs_call_accepted(&table->manager).count;
   pthread_cond_signal(&table->began);
 }
@@ -327,7 +326,7 @@ static TABLE_APART void table_blocked(bs_table *table, bs_status status) {
  * there are none: if the command told nobody, and ends no wait by name. A cancel and an abort end one by name. */
 static inline void table_wake(bs_table *table, bs_status status, bs_notices *told, bool by_name) {
   if (by_name || told->count > 0) table_wake_ended(table, status, told);
-  if (status == BS_WAITING || status == BS_VICTIM) table_blocked(table, status);
+  if (__builtin_expect(status != BS_DONE, 0)) table_blocked(table, status);
 }
 
 /* Registers the wait of a transaction that was just left waiting, for an instant or not, before anybody is woken: what

@@ -120,9 +120,7 @@ pub use names::{Node, Row, Txn};
 pub use notices::{Notice, Notices};
 pub use refusal::Refusal;
 pub use session::{Keep, RowLocked, Session, Stop, Taken, Tried, Try};
-pub use table::{
-    Awaited, AwaitedNode, Blocker, Histogram, LongWait, Table, Told, WaitEnd, Waits,
-};
+pub use table::{Awaited, AwaitedNode, Blocker, Histogram, LongWait, Table, Told, WaitEnd, Waits};
 pub use watcher::Watcher;
 
 /// How many transactions can live at once in a manager, and so how many notices a command can have: 128, or what the

@@ -301,7 +301,10 @@ mod layouts {
         assert_eq!(offset_of!(AwaitedNode, error), 24);
         assert_eq!(offset_of!(AwaitedNode, waits), 32);
         assert_eq!(size_of::<Awaited>(), 344);
-        assert_eq!((offset_of!(Awaited, count), offset_of!(Awaited, at)), (16, 24));
+        assert_eq!(
+            (offset_of!(Awaited, count), offset_of!(Awaited, at)),
+            (16, 24)
+        );
     }
 
     #[test]
@@ -314,6 +317,9 @@ mod layouts {
         assert_eq!(offset_of!(LongWait, node), 16);
         assert_eq!(offset_of!(LongWait, mode), 32);
         assert_eq!(offset_of!(LongWait, nanoseconds), 40);
-        assert_eq!((offset_of!(LongWait, count), offset_of!(LongWait, at)), (48, 56));
+        assert_eq!(
+            (offset_of!(LongWait, count), offset_of!(LongWait, at)),
+            (48, 56)
+        );
     }
 }

@@ -52,7 +52,7 @@ impl Histogram {
     /// The buckets by rising length: how long a wait of the bucket is at most, and how many there are. The first has up to
     /// a microsecond. The last has no bound, and what is longer than 2^27 microseconds, some 134 seconds.
     pub fn buckets(&self) -> impl Iterator<Item = (Option<Duration>, u64)> + '_ {
-        let bound = |place| (place + 1 < BUCKETS).then(|| Duration::from_micros(1 << place));
+        let bound = |place| (place + 1 < BUCKETS).then(|| Duration::from_micros(1u64 << place));
         let buckets = self.buckets.iter().enumerate();
         buckets.map(move |(place, &count)| (bound(place), count))
     }
@@ -312,7 +312,8 @@ impl Table {
     ) -> Result<(), Refusal> {
         let milliseconds = time.as_nanos().div_ceil(1_000_000);
         let milliseconds = u64::try_from(milliseconds).unwrap_or(u64::MAX);
-        let listener: Arc<running::Listener> = Arc::new(move |heard: Heard<'_>| function(Told::of(heard)));
+        let listener: Arc<running::Listener> =
+            Arc::new(move |heard: Heard<'_>| function(Told::of(heard)));
         self.shared.listens(milliseconds, Some(listener))
     }
 
