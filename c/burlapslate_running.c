@@ -587,7 +587,6 @@ static void running_give(bs_running *running, uint64_t milliseconds,
                          void (*function)(void *context, const bs_long_wait *wait, const bs_deadlock *deadlock),
                          void *context) {
   bs_teller *teller = running->teller;
-  if (teller->function == NULL) running->condemned = running_condemned(running);
   teller->function = function;
   teller->context = context;
   teller->limit = running_limit(milliseconds);

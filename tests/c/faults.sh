@@ -250,6 +250,54 @@ what-is-held-outside-is-forgotten	s/^  table_held_outside = NULL;//
 watch-settles-all-in-one-section	/^static void table_settle_all(/,/^}/{s/^    table_release(table);$//;s/^    table_take(table);$//;s/^}/  table_tell_between(table);\n}/}
 list-settles-once	/ table_settle_made(/,/^}/s/  } while (c->reply.status == BS_WAITING);/  } while (false);/
 list-path-says-not-how-it-waits	/ table_path_made_on(/,/^}/s/^    if (reply.status == BS_WAITING) reply.mode = wait.mode;//
+bucket-has-no-upper-bound	/^static size_t running_bucket(/,/^}/s/__builtin_clzll(microseconds - 1)/__builtin_clzll(microseconds)/
+bucket-cuts-nanoseconds	/^static size_t running_bucket(/,/^}/s/ + (nanoseconds % 1000 != 0)//
+late-wait-is-cancelled	s/^  if (reply.status == BS_DONE) bs_call_wait_late(&table->running, txn.slot);//
+moved-wait-is-gone	s/^    case BS_TOLD_MOVED: return BS_END_MOVED;//
+named-wait-stays	/^void bs_call_waits_ended(/,/^}/s/^  running_cancelled(running, &left, now);//
+ended-wait-ends-again	/^static uint64_t running_keep_waiting(/,/^}/s/slots->words\[i\] \&= running->waiting.words\[i\]/slots->words[i]/
+wait-that-begins-is-not-noted	/table_register(/,/^}/s/^  bs_call_wait_began(&table->running, txn);//
+sketch-forgets-its-error	/^static void running_count(/,/^}/s/error = sketch->at\[place\].nanoseconds;/error = 0;/
+sketch-gives-up-the-most	/^static size_t running_least(/,/^}/s/nanoseconds < sketch/nanoseconds > sketch/
+sketch-begins-at-nothing	/^static void running_count(/,/^}/s/^    sketch->at\[place\].waits = 0;/&\n    sketch->at[place].nanoseconds = sketch->at[place].error = 0;/
+present-waits-do-not-count	s/^  running_count_present(running, &sketch, now);//
+reset-keeps-what-was-before	/^static void running_end(/,/^}/s/running_later(wait->since, running->reset)/wait->since/
+reset-keeps-its-time	/^bs_reply bs_table_awaited(/,/^}/s/^    running->reset = now;//
+dump-of-waits-is-by-slot	/^static dump_txn \*dump_next_wait(/,/^}/s/ || next->since < first->since//
+long-wait-is-told-again	/^static void running_take_wait(/,/^}/s/^  running->waits\[slot\].is_told = true;//
+long-wait-is-told-of-the-next	/^void bs_call_wait_began(/,/^}/s/^  wait->is_told = false;//
+long-wait-is-told-too-early	s/waited >= teller->limit/waited + 1 >= teller->limit/
+long-wait-is-told-too-late	s/waited >= teller->limit/waited > teller->limit/
+long-wait-wakes-nobody	/^void bs_call_wait_began(/,/^}/s/^    pthread_cond_signal(&running->teller->due);//
+long-wait-of-the-last-is-first	/^static uint32_t running_first_untold(/,/^}/s/since < running->waits/since > running->waits/
+blocker-ahead-wants-nothing	/^static void running_note_blocker(/,/^}/s/^  blocker->wanted = doing.mode;//
+blocker-wants-other-nodes	/^static void running_note_blocker(/,/^}/s/^  if (doing.count != BS_WAITS || .*/  if (doing.count != BS_WAITS) return;/
+requester-that-is-condemned-is-not-told	s/^  if (status == BS_VICTIM) bs_call_condemned(&table->running);//
+waiter-that-is-condemned-is-not-told	/^void bs_call_waits_ended(/,/^}/s/^  if (has_victims) running_note_deadlock(running);//
+deadlock-is-told-twice	/^static void running_note_deadlock(/,/^}/s/^  if (condemned == running->condemned) return;//
+deadlock-wakes-nobody	/^static void running_note_deadlock(/,/^}/s/^  pthread_cond_signal(&teller->due);//
+deadlocks-keep-their-rows	/^static bool running_take_deadlock(/,/^}/s/^  memmove(teller->stuck, .*//
+deadlock-that-is-lost-is-not-counted	s/^  if (!running_join_deadlock(teller)) running->lost_deadlocks++;/  running_join_deadlock(teller);/
+function-is-called-under-the-latch	/^static void running_tell(/,/^}/{s/^  pthread_mutex_unlock(running->latch);//;s/^  pthread_mutex_lock(running->latch);//}
+function-taken-back-is-not-awaited	s/^  if (!running_is_own(running)) running_await_return(running);//
+function-awaits-itself	s/^  if (!running_is_own(running)) running_await_return(running);/  running_await_return(running);/
+next-function-is-awaited-too	/^static void running_await_return(/,/^}/s/ \&\& teller->calls == calls//
+function-taken-back-is-cancelled	/^static void running_await_return(/,/^}/s/PTHREAD_CANCEL_DISABLE/PTHREAD_CANCEL_ENABLE/
+another-time-wakes-nobody	/^static void running_give(/,/^}/s/^  pthread_cond_signal(&teller->due);//
+time-beyond-all-wraps	/^static uint64_t running_limit(/,/^}/s/milliseconds > UINT64_MAX \/ 1000000 ? UINT64_MAX : //
+time-of-nothing-is-taken	s/^  else if (function != NULL \&\& milliseconds == 0) status = BS_BAD_NUMBER;//
+function-is-given-in-a-callback	s/^  if (!may_sleep \&\& !running_is_own(running)) status = BS_IN_USE;/  if (false) status = BS_IN_USE;/
+end-wakes-no-teller	/^void bs_call_run_out(/,/^}/s/^  if (running->teller != NULL) pthread_cond_signal(.*//
+end-does-not-await-the-function	s/^  bs_call_run_join(&table->running);//
+teller-without-a-thread-stays	/^static bool running_start(/,/^}/s/^  running->teller = NULL;//
+function-sleeps-in-the-table	/^void bs_call_engine(/,/^}/s/^  table_telling = &over;//
+function-keeps-what-it-holds	/^void bs_call_engine(/,/^}/s/^  while (table_held != NULL) bs_table_let_go(table_held);//
+ends-set-off-by-a-function-are-lost	/^void bs_call_engine(/,/^}/s/^  if (over.first != NULL) table_tell(&over);//
+metrics-continue-after-a-failure	/^static void metrics_flush(/,/^}/s/!to->has_failed \&\& to->length > 0/to->length > 0/
+metrics-hide-a-failure	s/to.has_failed ? BS_NOT_WRITTEN : BS_DONE/BS_DONE/
+metrics-buckets-do-not-add-up	/^static void metrics_put_histogram(/,/^}/s/^    count += histogram->buckets\[i\];/    count = histogram->buckets[i];/
+metrics-are-cancelled	/^bs_reply bs_table_metrics(/,/^}/s/PTHREAD_CANCEL_DISABLE/PTHREAD_CANCEL_ENABLE/
+metrics-are-written-under-the-latch	/^bs_reply bs_table_metrics(/,/^}/{s/^  bs_table_let_go(table);//;s/^  metrics_flush(&to);/&\n  bs_table_let_go(table);/}
 FAULTS
 }
 

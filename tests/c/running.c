@@ -16,12 +16,14 @@
 #include <time.h>
 
 /* What the table calls is noted here, and some of it is done as a story wants. */
+static int noted_wait(pthread_cond_t *on, pthread_mutex_t *latch);
 static int noted_timedwait(pthread_cond_t *on, pthread_mutex_t *latch, const struct timespec *until);
 static int noted_gettime(clockid_t clock, struct timespec *time);
 static int noted_create(pthread_t *thread, const pthread_attr_t *attributes, void *(*run)(void *), void *arg);
 
 #include "burlapslate_shared.h"
 
+#define pthread_cond_wait noted_wait
 #define pthread_cond_timedwait noted_timedwait
 #define clock_gettime noted_gettime
 #define pthread_create noted_create
@@ -30,6 +32,7 @@ static int noted_create(pthread_t *thread, const pthread_attr_t *attributes, voi
 #include "burlapslate_running.c"
 #include "burlapslate_dump.c"
 
+#undef pthread_cond_wait
 #undef pthread_cond_timedwait
 #undef clock_gettime
 #undef pthread_create
@@ -89,6 +92,18 @@ static long readings_by_now(void) {
 /* How often the thread that tells has slept to a time, and the last such time; the latch guards both. */
 static uint64_t looks;
 static struct timespec looks_again_at;
+
+/* How many threads await the return of the function; the latch guards it. */
+static size_t awaiting;
+
+static int noted_wait(pthread_cond_t *on, pthread_mutex_t *latch) {
+  bool awaits = table != NULL && table->running.teller != NULL && on == &table->running.teller->returned;
+  int status;
+  if (awaits) awaiting++;
+  status = pthread_cond_wait(on, latch);
+  if (awaits) awaiting--;
+  return status;
+}
 
 /* A sleep to a said time is a short one. */
 static int noted_timedwait(pthread_cond_t *on, pthread_mutex_t *latch, const struct timespec *until) {
@@ -802,14 +817,18 @@ static void await_rest(void) {
 
 /* A wait is told once it is as long as was said, and only once, with who is in its way. */
 static void a_long_wait_is_told_once(void) {
-  struct heard h[2];
+  struct heard h[3];
   const bs_long_wait *wait;
   bs_txn holder, reader, ahead, waiter;
+  bs_node other;
+  struct heard elsewhere;
   set_up_telling(BS_AT_BLOCK, 1000);
   say_time(BEGINNING);
   holder = begin(), reader = begin(), ahead = begin(), waiter = begin();
   DONE(bs_table_lock(table, holder, root, BS_IX, NULL));
   DONE(bs_table_lock(table, reader, root, BS_IS, NULL));
+  other = add_root();
+  DONE(bs_table_lock(table, reader, other, BS_X, NULL));
   WAITS(ask(&h[0], ahead, root, BS_S));
   pass_time(1);
   WAITS(ask(&h[1], waiter, root, BS_IX));
@@ -829,12 +848,23 @@ static void a_long_wait_is_told_once(void) {
   WANT(same_txn(wait->txn, waiter) && wait->mode == BS_IX && wait->count == 1);
   WANT(same_txn(wait->at[0].txn, ahead) && wait->at[0].held == BS_NL && wait->at[0].wanted == BS_S);
   WANT(wait->at[0].doing == BS_WAITS && pthread_equal(event_at(0)->by, event_at(1)->by));
+  WAITS(ask(&elsewhere, holder, other, BS_S));
   pass_time(UINT64_C(5000000000));
+  WANT(same_txn(event_at(2)->wait.txn, holder) && same_node(event_at(2)->wait.node, other));
   await_rest();
-  WANT(told_by_now() == 2);
+  WANT(told_by_now() == 3);
+  WAITS(ask(&h[2], begin(), root, BS_X));
+  pass_time(UINT64_C(5000000000));
+  wait = &event_at(3)->wait;
+  WANT(wait->count == 4 && same_txn(wait->at[0].txn, holder) && same_txn(wait->at[1].txn, reader));
+  WANT(wait->at[0].held == BS_IX && wait->at[0].wanted == BS_NL && wait->at[0].doing == BS_WAITS);
+  WANT(wait->at[1].held == BS_IS && wait->at[1].wanted == BS_NL && wait->at[1].doing == BS_ACTIVE);
+  await_rest();
+  DONE(bs_table_commit(table, reader, NULL));
+  HEARD(&elsewhere, BS_DONE);
   DONE(bs_table_commit(table, holder, NULL));
   DONE(bs_table_commit(table, ahead, NULL));
-  WANT(told_by_now() == 2 && table->running.told_waits == 2);
+  WANT(told_by_now() == 4 && table->running.told_waits == 4);
   shut_table();
 }
 
@@ -901,6 +931,9 @@ static void times_and_functions_change(void) {
   await_rest();
   WANT(told_by_now() == 1);
   DONE(bs_table_on_long_wait(table, UINT64_MAX, hear_long, &long_word));
+  await_rest();
+  WANT(told_by_now() == 1);
+  DONE(bs_table_on_long_wait(table, UINT64_MAX / 1000000 + 1, hear_long, &long_word));
   await_rest();
   WANT(told_by_now() == 1);
   DONE(bs_table_on_long_wait(table, UINT64_MAX / 2000000, hear_long, &long_word));
@@ -1051,9 +1084,30 @@ static void two_victims_of_one_lock(void) {
   shut_table();
 }
 
+/* One lock condemns another transaction, and then its own: that is told once, with its own. */
+static void a_victim_beside_its_requester(void) {
+  struct heard h[2];
+  bs_node a, b;
+  bs_txn old, requester, young;
+  set_up_telling(BS_AT_BLOCK, UINT64_MAX);
+  a = add_root(), b = add_root();
+  old = begin(), requester = begin(), young = begin();
+  DONE(bs_table_lock(table, requester, a, BS_X, NULL));
+  DONE(bs_table_lock(table, old, b, BS_S, NULL));
+  DONE(bs_table_lock(table, young, b, BS_S, NULL));
+  WAITS(ask(&h[0], old, a, BS_S));
+  WAITS(ask(&h[1], young, a, BS_S));
+  ANSWERS(BS_VICTIM, bs_table_lock(table, requester, b, BS_X, NULL));
+  HEARD(&h[1], BS_VICTIM);
+  WANT(same_txn(event_at(0)->deadlock.victim, requester));
+  await_rest();
+  WANT(told_by_now() == 1);
+  shut_table();
+}
+
 /* While the function is slow, deadlocks await it up to a number; others are lost and counted. No lock waits for it. */
 static void a_slow_function_loses_some(void) {
-  bs_txn victims[RUNNING_DEADLOCKS + 1];
+  static bs_deadlock deadlocks[RUNNING_DEADLOCKS];
   struct pair p;
   size_t i;
   set_up_telling(BS_AT_BLOCK, 1);
@@ -1062,13 +1116,13 @@ static void a_slow_function_loses_some(void) {
   make_pair(&p);
   pass_time(MILLISECOND);
   event_at(0);
-  for (i = 0; i < RUNNING_DEADLOCKS; i++) victims[i] = a_deadlock(true);
+  for (i = 0; i < RUNNING_DEADLOCKS; i++) a_deadlock(i % 3 == 0), deadlocks[i] = last_deadlock();
   for (i = 0; i < 3; i++) a_deadlock(false);
   WANT(table->running.lost_deadlocks == 3 && told_by_now() == 1);
   DONE(bs_table_commit(table, p.holder, NULL));
   HEARD(&p.h, BS_DONE);
   let_return(MOST_TOLD);
-  for (i = 0; i < RUNNING_DEADLOCKS; i++) WANT(same_txn(event_at(1 + i)->deadlock.victim, victims[i]));
+  for (i = 0; i < RUNNING_DEADLOCKS; i++) WANT(same_deadlock(&event_at(1 + i)->deadlock, &deadlocks[i]));
   await_rest();
   WANT(told_by_now() == 1 + RUNNING_DEADLOCKS);
   a_deadlock(true);
@@ -1198,7 +1252,7 @@ static bool is_back(const struct awaiter *a) {
  * their thread takes effect after them. */
 static void a_function_is_awaited(void) {
   int ends;
-  for (ends = 0; ends < 2; ends++) {
+  for (ends = 1; ends >= 0; ends--) {
     struct awaiter a;
     struct pair p, q;
     void *came = NULL;
@@ -1231,6 +1285,14 @@ static void a_function_is_awaited(void) {
   }
 }
 
+static bool awaits_function(void) {
+  bool awaits;
+  pthread_mutex_lock(&table->latch);
+  awaits = awaiting > 0;
+  pthread_mutex_unlock(&table->latch);
+  return awaits;
+}
+
 /* A function takes the place of one that is being called, and the caller awaits that call alone, and not the next, which
  * does not return. */
 static void the_next_function_is_not_awaited(void) {
@@ -1248,7 +1310,7 @@ static void the_next_function_is_not_awaited(void) {
   make_pair(&q);
   pass_time(10 * MILLISECOND);
   start(&a.thread, await_function, &a);
-  nap();
+  while (!awaits_function()) nap();
   let_return(1);
   WANT(pthread_join(a.thread, &came) == 0 && came == PTHREAD_CANCELED);
   DONE(a.reply);
@@ -1608,6 +1670,7 @@ int main(int count, char **words) {
   TELL(twenty_nodes_are_exact);
   TELL(many_nodes_have_a_bound);
   TELL(present_waits_count);
+  TELL(a_function_is_awaited); /* first of those that end such a table */
   TELL(a_long_wait_is_told_once);
   TELL(a_short_wait_is_not_told);
   TELL(a_thread_wakes_by_time);
@@ -1616,11 +1679,11 @@ int main(int count, char **words) {
   TELL(watched_deadlocks_are_told);
   TELL(listed_deadlocks_are_told_once);
   TELL(two_victims_of_one_lock);
+  TELL(a_victim_beside_its_requester);
   TELL(a_slow_function_loses_some);
   TELL(a_function_calls_what_it_may_not);
   TELL(a_function_ends_the_wait);
   TELL(a_function_takes_itself_back);
-  TELL(a_function_is_awaited);
   TELL(the_next_function_is_not_awaited);
   TELL(an_end_tells_no_more);
   TELL(misuse_is_refused);
