@@ -395,7 +395,7 @@ static bs_reply table_became(bs_table *table, bs_txn txn, bs_node node, bs_mode 
   if (reply.status != BS_NOT_WAITING) return reply;
   own = &table->instants[txn.slot];
   if (own->came == BS_NL || own->txn.age != txn.age || !table_is_same_node(own->node, node)) return reply;
-  reply.status = BS_DONE;
+  reply = bs_call_only(BS_DONE);
   reply.mode = own->came;
   return reply;
 }

@@ -128,7 +128,7 @@ typedef struct bs_long_wait {
  *     freed. Another function takes its place likewise. No mutex that the function takes may be held around this call.
  * Refused with BS_NULL_POINTER; with BS_IN_USE also while the thread holds any table, and in any callback but this
  * function of this table; with BS_BAD_NUMBER if the time is 0, unless the function is null; and with BS_NO_MEMORY also if
- * no thread can be started. The first call takes memory, some 32 kilobytes, with 1,024 slots 700, and the thread's
+ * no thread can be started. The first call takes memory, some 33 kilobytes, with 1,024 slots 720, and the thread's
  * stack. */
 bs_reply bs_table_on_long_wait(bs_table *table, uint64_t milliseconds,
                                void (*function)(void *context, const bs_long_wait *wait, const bs_deadlock *deadlock),

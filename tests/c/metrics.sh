@@ -25,8 +25,7 @@ mapfile -t libraries < <("$top/tools/c_library.sh" 2>"$work/log")
 # shellcheck disable=SC2086 # CC may have words after the name.
 $compiler -std=c99 -D_POSIX_C_SOURCE=200809L -pthread -O1 -I"$top/include" -I"$top/c" -o "$work/running" \
   "$top/tests/c/running.c" "${libraries[@]:1}" -Wl,--wrap=malloc,--wrap=realloc,--wrap=free || exit 1
-# Numbers have a point in each locale.
-LC_ALL=${LC_ALL:-C} timeout 60 "$work/running" metrics >"$work/text" || exit 1
+timeout 60 "$work/running" metrics >"$work/text" || exit 1
 "$python" "$top/tests/c/metrics.py" "$work/text" || exit 1
 # A text that is not whole is refused.
 head -n -1 "$work/text" >"$work/part"

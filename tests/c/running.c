@@ -248,7 +248,10 @@ static void a_sleep_of_three_milliseconds(void) {
  */
 
 /* The ways in which a lock comes to wait. */
-enum waits_by { ASKED, ASKED_INSTANT, ASKED_PATH, ASKED_ROW, SLEPT, SLEPT_PATH, SLEPT_ROW, LISTED, LISTED_ROW, WAITS_BY };
+enum waits_by {
+  ASKED, ASKED_INSTANT, ASKED_PATH, ASKED_ROW, SLEPT, SLEPT_PATH, SLEPT_ROW, LISTED, LISTED_INSTANT, LISTED_PATH, LISTED_ROW,
+  WAITS_BY
+};
 
 static struct sleeper sleeper;
 static struct heard heard;
@@ -266,6 +269,14 @@ static void wait_by(enum waits_by by, bs_txn waiter) {
     case SLEPT_PATH: send(&sleeper, BY_PATH, waiter, low, BS_X); break;
     case SLEPT_ROW: send(&sleeper, BY_ROW, waiter, rows, BS_X); break;
     case LISTED: leave_waiting(&command); break;
+    case LISTED_INSTANT:
+      command.mode |= BS_INSTANT;
+      leave_waiting(&command);
+      break;
+    case LISTED_PATH:
+      command.kind = BS_DO_LOCK_PATH;
+      leave_waiting(&command);
+      break;
     default:
       command = bs_do(BS_DO_LOCK_ROW, waiter);
       command.file = rows, command.number = ROW, command.keys = &key, command.key_count = 1, command.mode = BS_X;
