@@ -2,6 +2,7 @@
  * burlapslate_dump.c: what burlapslate_dump.h declares.
  */
 #include "burlapslate_dump.h"
+#include "burlapslate_inside.h"
 
 #include <pthread.h>
 #include <stdlib.h>
@@ -14,6 +15,8 @@ typedef struct dump_txn {
   bs_reply doing;
   uint64_t kind; /* of the node that it waits for; 0: it is gone */
   bs_slots waits_for;
+  bool is_timed;   /* it waits since then, and is not written yet */
+  uint64_t since;
 } dump_txn;
 
 /* What a dump has copied, a part at a time: from a manager that its caller holds, or from that of a table, whose latch
@@ -26,6 +29,8 @@ typedef struct dump_copy {
   uint64_t nodes, most;
   size_t txn_count;
   dump_txn txns[BS_SLOTS];
+  bool has_times;   /* it is a table's, which times waits */
+  uint64_t now;
   bool has_deadlock;
   bs_deadlock last;
   uint64_t last_kinds[BS_SLOTS];
@@ -68,6 +73,19 @@ static void dump_copy_txns(const bs_manager *m, dump_copy *copy) {
   }
 }
 
+/* Since when they wait. A manager that is no table's knows no time. */
+static void dump_copy_times(const bs_manager *m, dump_copy *copy) {
+  const bs_running *running = bs_call_running(m);
+  size_t i;
+  copy->has_times = running != NULL;
+  if (!copy->has_times) return;
+  copy->now = bs_call_now();
+  for (i = 0; i < copy->txn_count; i++) {
+    dump_txn *to = &copy->txns[i];
+    to->is_timed = bs_call_waits_since(running, to->txn.slot, &to->since);
+  }
+}
+
 /* The part that is of one moment. */
 static void dump_copy_first(const bs_manager *m, dump_copy *copy) {
   bs_options limits = { 0, 0, 0, 0, 0 };
@@ -77,6 +95,7 @@ static void dump_copy_first(const bs_manager *m, dump_copy *copy) {
   bs_limits(m, &limits);
   copy->most = limits.transactions;
   dump_copy_txns(m, copy);
+  dump_copy_times(m, copy);
   copy->has_deadlock = bs_last_deadlock(m, &copy->last).status == BS_DONE;
   if (!copy->has_deadlock) return;
   for (i = 0; i < copy->last.count; i++) copy->last_kinds[i] = dump_kind_or_gone(m, copy->last.at[i].node);
@@ -177,6 +196,31 @@ static void dump_put_txn(const dump_txn *of, const dump_copy *copy, FILE *out) {
   fprintf(out, "\n");
 }
 
+/* The wait that began first of those that are not written yet; null if there is none. */
+static dump_txn *dump_next_wait(dump_copy *copy) {
+  dump_txn *first = NULL;
+  size_t i;
+  for (i = 0; i < copy->txn_count; i++) {
+    dump_txn *next = &copy->txns[i];
+    if (next->is_timed && (first == NULL || next->since < first->since)) first = next;
+  }
+  return first;
+}
+
+static void dump_put_waits(dump_copy *copy, FILE *out) {
+  dump_txn *next = dump_next_wait(copy);
+  fprintf(out, "\nWaits, the longest first:\n     seconds slot          age wants node\n");
+  for (; next != NULL; next = dump_next_wait(copy)) {
+    uint64_t microseconds = copy->now > next->since ? (copy->now - next->since) / 1000 : 0;
+    next->is_timed = false;
+    fprintf(out, "%5llu.%06llu %4u %12llu %-5s ", (unsigned long long)(microseconds / 1000000),
+            (unsigned long long)(microseconds % 1000000), (unsigned)next->txn.slot, (unsigned long long)next->txn.age,
+            bs_mode_text(next->doing.mode));
+    dump_put_node(copy, next->doing.node, next->kind, out);
+    fprintf(out, "\n");
+  }
+}
+
 /* Locks of a transaction: what it holds, and in the next column what it waits for. */
 static void dump_put_some_locks(bs_txn txn, const dump_copy *copy, FILE *out) {
   size_t i;
@@ -260,6 +304,7 @@ static bool dump_parts(dump_copy *copy, FILE *out) {
   dump_put_counters(copy, out);
   fprintf(out, "\nTransactions:\nslot          age doing     waits for\n");
   for (i = 0; i < copy->txn_count; i++) dump_put_txn(&copy->txns[i], copy, out);
+  if (copy->has_times) dump_put_waits(copy, out);
   fprintf(out, "\nLocks by transaction:\nslot          age mode wants children node\n");
   for (i = 0; i < copy->txn_count; i++) {
     if (!dump_locks(copy->txns[i].txn, copy, out)) return false;

@@ -10,9 +10,11 @@
  * table_watch_over, the thread that watches. So is what several calls of the manager, each of them proved, do together:
  * table_register, for a wait, which may be for an instant and is then released when it is granted. And so are asks,
  * whose end comes by a callback: table_go_on, at the end of each critical section that may have ended one, and
- * table_tell, after it. All else here makes calls of the library between these.
+ * table_tell, after it. All else here makes calls of the library between these. burlapslate_running.c times the waits:
+ * table_register, table_note_ended and table_time_out tell it of them.
  */
 #include "burlapslate_dump.h"
+#include "burlapslate_inside.h"
 
 #include <errno.h>
 #include <pthread.h>
@@ -47,7 +49,7 @@ typedef struct table_wait {
 typedef struct table_instant {
   bs_txn txn;
   bs_node node;
-  bs_reply came; /* BS_WAITING: it was not granted yet */
+  bs_mode came; /* BS_NL: it was not granted yet */
 } table_instant;
 
 /* The latest time at which each wait of a transaction ends; with age 0 there is none. */
@@ -137,6 +139,7 @@ struct bs_table {
   pthread_cond_t began;           /* a lock was left waiting, or the table ends */
   pthread_cond_t over;            /* the table ends */
   bs_call_namer namer;            /* how the engine names nodes, in dumps */
+  bs_running running;             /* the times of its waits */
 };
 
 /* Rare code is not inlined, so that the path of each call is short. */
@@ -266,10 +269,12 @@ static uint32_t table_take_slot(bs_slots *slots) {
   return BS_SLOTS;
 }
 
-/* Notes the slots to wake, whose wait the last command has ended; and which of them waited for an instant. */
-static void table_note_ended(bs_table *table, bs_slots *granted) {
+/* Notes the slots to wake, whose wait the last command has ended, as `told` says; and which of them waited for an
+ * instant. */
+static void table_note_ended(bs_table *table, bs_slots *granted, const bs_notices *told) {
   bs_slots ended = bs_call_ended(&table->manager).slots;
   size_t i;
+  bs_call_waits_ended(&table->running, &ended, told);
   for (i = 0; i < BS_SLOTS / 64; i++) {
     uint64_t instantly = table->instantly.words[i] & ended.words[i];
     table->to_wake.words[i] |= ended.words[i];
@@ -289,9 +294,9 @@ static TABLE_APART void table_give_instants_back(bs_table *table, bs_slots *gran
     bs_reply held = bs_held(&table->manager, own->txn, own->node);
     bs_notices more;
     if (held.status != BS_DONE || held.mode == BS_NL) continue; /* its wait has ended in another way */
-    own->came = held;
+    own->came = held.mode;
     if (bs_unlock(&table->manager, own->txn, own->node, &more).status == BS_DONE && more.count > 0) {
-      table_note_ended(table, granted);
+      table_note_ended(table, granted, &more);
       table_tell_too(told, &more);
     }
   }
@@ -300,7 +305,7 @@ static TABLE_APART void table_give_instants_back(bs_table *table, bs_slots *gran
 /* Notes the sleepers whose wait the last accepted command may have ended, as bs_ended says. */
 static TABLE_APART void table_wake_told(bs_table *table, bs_notices *told) {
   bs_slots granted = { { 0 } };
-  table_note_ended(table, &granted);
+  table_note_ended(table, &granted, told);
   table_give_instants_back(table, &granted, told);
 }
 
@@ -311,8 +316,11 @@ static TABLE_APART void table_wake_ended(bs_table *table, bs_status status, bs_n
   if (is_accepted) table_wake_told(table, told);
 }
 
-/* A wait began: wakes the thread that watches. */
-static inline void table_wait_began(bs_table *table) {
+/* After a command that is not done: if a wait began, wakes the thread that watches. If the requester was condemned, none
+ * began, but there was a deadlock. */
+static TABLE_APART void table_blocked(bs_table *table, bs_status status) {
+  if (status == BS_VICTIM) bs_call_condemned(&table->running);
+  if (status != BS_WAITING) return;
   table->waited = bs_call_accepted(&table->manager).count;
   pthread_cond_signal(&table->began);
 }
@@ -321,14 +329,15 @@ static inline void table_wait_began(bs_table *table) {
  * there are none: if the command told nobody, and ends no wait by name. A cancel and an abort end one by name. */
 static inline void table_wake(bs_table *table, bs_status status, bs_notices *told, bool by_name) {
   if (by_name || told->count > 0) table_wake_ended(table, status, told);
-  if (status == BS_WAITING) table_wait_began(table);
+  if (__builtin_expect(status != BS_DONE, 0)) table_blocked(table, status);
 }
 
 /* Registers the wait of a transaction that was just left waiting, for an instant or not, before anybody is woken: what
  * is set off then may end this wait too. An earlier grant for an instant says nothing of it. */
 static TABLE_APART void table_register(bs_table *table, bs_txn txn, bs_node node, bool is_instant) {
   table_instant *own = &table->instants[txn.slot];
-  own->came.status = BS_WAITING;
+  own->came = BS_NL;
+  bs_call_wait_began(&table->running, txn);
   if (!is_instant) return;
   own->txn = txn;
   own->node = node;
@@ -355,6 +364,7 @@ static void table_woken(bs_table *table) {
 /* Cancels the wait of a transaction whose time is over, and answers so. */
 static bs_reply table_time_out(bs_table *table, bs_txn txn) {
   bs_reply reply = bs_cancel(&table->manager, txn, &table->told);
+  if (reply.status == BS_DONE) bs_call_wait_late(&table->running, txn.slot);
   table_wake(table, reply.status, &table->told, true);
   if (reply.status == BS_DONE) reply.status = BS_TIMED_OUT;
   return reply;
@@ -387,8 +397,10 @@ static bs_reply table_became(bs_table *table, bs_txn txn, bs_node node, bs_mode 
   const table_instant *own;
   if (reply.status != BS_NOT_WAITING) return reply;
   own = &table->instants[txn.slot];
-  if (own->came.status != BS_DONE || own->txn.age != txn.age) return reply;
-  return table_is_same_node(own->node, node) ? own->came : reply;
+  if (own->came == BS_NL || own->txn.age != txn.age || !table_is_same_node(own->node, node)) return reply;
+  reply = bs_call_only(BS_DONE);
+  reply.mode = own->came;
+  return reply;
 }
 
 /* The same for a sleeper: a table that ends answers so. */
@@ -593,11 +605,13 @@ static bs_table *table_new_table(void) {
   table_make_steady(&table->left);
   table_make_steady(&table->began);
   table_make_steady(&table->over);
+  bs_call_run(&table->running, table, &table->manager, &table->latch);
   return table;
 }
 
 static void table_free_table(bs_table *table) {
   size_t slot;
+  bs_call_run_free(&table->running);
   for (slot = 0; slot < BS_SLOTS; slot++) pthread_cond_destroy(&table->ended[slot]);
   pthread_cond_destroy(&table->left);
   pthread_cond_destroy(&table->began);
@@ -633,6 +647,7 @@ static void table_wake_all(bs_table *table) {
   for (each = table->first; each != NULL; each = each->behind) pthread_cond_signal(&each->came);
   pthread_cond_broadcast(&table->began);
   pthread_cond_broadcast(&table->over);
+  bs_call_run_out(&table->running);
 }
 
 /* Ends an ask: its call answers the end, or else the end must be told. */
@@ -672,6 +687,7 @@ bs_reply bs_table_end(bs_table *table) {
   if (table->asks != NULL) table_end_asks(table);
   table_release(table);
   if (table->is_watched) pthread_join(table->watch, NULL);
+  bs_call_run_join(&table->running);
   table_take(table);
   while (table->sleepers + table->to_tell > 0) table_doze(table, &table->left, NULL);
   reply = bs_end(&table->manager);
@@ -1683,9 +1699,9 @@ static void *table_watch_over(void *place) {
   return NULL;
 }
 
-/* Starts the thread that watches; whether it could be started. The thread takes no signals that are the process's,
- * except those that a fault of its own raises: these cannot wait. */
-static bool table_start_watch(bs_table *table) {
+/* The thread takes no signals that are the process's, except those that a fault of its own raises: these cannot
+ * wait. */
+bool bs_call_start(pthread_t *thread, void *(*run)(void *), void *place) {
   static const int faults[] = { SIGSEGV, SIGBUS, SIGFPE, SIGILL, SIGTRAP };
   sigset_t blocked, before;
   size_t i;
@@ -1693,7 +1709,7 @@ static bool table_start_watch(bs_table *table) {
   sigfillset(&blocked);
   for (i = 0; i < sizeof faults / sizeof faults[0]; i++) sigdelset(&blocked, faults[i]);
   pthread_sigmask(SIG_SETMASK, &blocked, &before);
-  is_started = pthread_create(&table->watch, NULL, table_watch_over, table) == 0;
+  is_started = pthread_create(thread, NULL, run, place) == 0;
   pthread_sigmask(SIG_SETMASK, &before, NULL);
   return is_started;
 }
@@ -1704,12 +1720,49 @@ bs_reply bs_table_watch_thread(bs_table *table, uint64_t pace) {
   reply = bs_watch(&table->manager, &table->eye);
   if (reply.status != BS_DONE) return table_leave(table, reply);
   table->pace = pace;
-  table->is_watched = table_start_watch(table);
+  table->is_watched = bs_call_start(&table->watch, table_watch_over, table);
   if (!table->is_watched) {
     bs_watch_end(&table->eye);
     reply.status = BS_NO_MEMORY;
   }
   return table_leave(table, reply);
+}
+
+/* ------------------------------------------------------------------------------------------------
+ * What burlapslate_running.c needs.
+ */
+
+/* The table that this thread holds with this manager; null if it is no table's. */
+static bs_table *table_held_with(const bs_manager *manager) {
+  bs_table *held = table_held;
+  while (held != NULL && &held->manager != manager) held = held->held_before;
+  return held;
+}
+
+bs_running *bs_call_running(const bs_manager *manager) {
+  bs_table *held = table_held_with(manager);
+  return held == NULL ? NULL : &held->running;
+}
+
+uint64_t bs_call_queued(const bs_manager *manager) {
+  const bs_table *held = table_held_with(manager);
+  const table_queued_begin *each = held == NULL ? NULL : held->first;
+  uint64_t count = 0;
+  for (; each != NULL; each = each->behind) count++;
+  return count;
+}
+
+bool bs_call_may_sleep(void) {
+  return table_may_sleep();
+}
+
+void bs_call_engine(void (*function)(void *place), void *place) {
+  table_asked_list over = { NULL, NULL };
+  table_telling = &over;
+  function(place);
+  while (table_held != NULL) bs_table_let_go(table_held);
+  table_telling = NULL;
+  if (over.first != NULL) table_tell(&over);
 }
 
 /* ------------------------------------------------------------------------------------------------

@@ -76,7 +76,7 @@ extern "C" {
 /* How many parents a node can have, and how many watchers a manager can have at once. */
 enum { BS_MOST_PARENTS = 8, BS_MOST_WATCHERS = 8 };
 
-/* The outcome of a call. Refusals are 1 to 23, of the manager, and 64 to 74, of this library. */
+/* The outcome of a call. Refusals are 1 to 23, of the manager, and 64 to 75, of this library. */
 typedef uint32_t bs_status;
 enum bs_statuses {
   BS_DONE = 0,
@@ -121,7 +121,8 @@ enum bs_statuses {
   BS_ROWS_BY_NUMBER = 71, /* a file of rows: its records are inserted, deleted and changed by calls about rows alone */
   BS_NOT_ROWS = 72,       /* the file is not a file of rows */
   BS_OTHER_SLOTS = 73,    /* the library was built for a number of slots other than BS_SLOTS */
-  BS_OTHER_VERSION = 74   /* the library's version differs from that of the program's headers */
+  BS_OTHER_VERSION = 74,  /* the library's version differs from that of the program's headers */
+  BS_NOT_WRITTEN = 75     /* not answered here: the function that was to write a text has failed */
 };
 
 /* Lock modes, from none to exclusive. Between different transactions on one node, BS_IS is compatible with all but
@@ -948,6 +949,7 @@ static inline const char *bs_text(bs_status status) {
     case BS_NOT_ROWS: return "NotRows";
     case BS_OTHER_SLOTS: return "OtherSlots";
     case BS_OTHER_VERSION: return "OtherVersion";
+    case BS_NOT_WRITTEN: return "NotWritten";
     default: return "?";
   }
 }

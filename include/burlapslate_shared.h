@@ -99,7 +99,7 @@ static inline bs_reply bs_table_make(bs_table **table, const bs_options *options
 }
 
 /* Ends a table, whatever its transactions do. Each call that begins from now on is answered BS_NO_MANAGER, and so is
- * each that sleeps; after this call none sleeps any more, and the thread that watched has ended. The table's memory
+ * each that sleeps; after this call none sleeps any more, and the table's own threads have ended. The table's memory
  * stays until bs_table_free. Watchers continue, and are ended by bs_watch_end. Refused with BS_NO_MANAGER also if
  * another thread is ending the table, and with BS_IN_USE in the callback and while the thread holds a table. */
 bs_reply bs_table_end(bs_table *table);

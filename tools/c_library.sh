@@ -127,7 +127,7 @@ is_old() {
 
 # is_c_old: whether the part written in C is not compiled, or older than its sources and the headers.
 is_c_old() {
-  [ ! -e "$written" ] || [ -n "$(find "$top"/c/*.c "$top"/include/*.h "$top/tools/c_library.sh" -newer "$written" -print -quit)" ]
+  [ ! -e "$written" ] || [ -n "$(find "$top"/c/*.[ch] "$top"/include/*.h "$top/tools/c_library.sh" -newer "$written" -print -quit)" ]
 }
 
 # write_exports FOLDER: writes the functions that the headers define in place as a source of its own, burlapslate_exports.c,

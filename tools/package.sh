@@ -78,8 +78,8 @@ Archive:   $(sha256sum <"$1/lib/libburlapslate.a" | cut -d ' ' -f 1)
 Shared:    $(sha256sum <"$1/lib/libburlapslate.so" | cut -d ' ' -f 1)
 
 The sums of crates, of headers and of what is written in C are those of the folders crates, include and c, as
-tools/library.sh prints them. What is written in C, the shared table and its dump, is compiled by ${CC:-cc}, and is not
-proved.
+tools/library.sh prints them. What is written in C, the shared table with its dump and its times, is compiled by ${CC:-cc},
+and is not proved.
 $(said_of_building "$sum")
 
 The toolchain compiles a library only where it is proved, and writes into it by which logic. The archive names

@@ -1,6 +1,6 @@
 #!/usr/bin/env bash
-# faults.sh [--tenth] [NAME..] [LIBRARY LIBRARY]: plants faults in a copy of the C sources, the shared table and its dump,
-# one at a time. The stories or the crowd must find each: by a check that fails, or because they hang. `all` means every
+# faults.sh [--tenth] [NAME..] [LIBRARY LIBRARY]: plants faults in a copy of the C sources, the shared table, its dump and
+# what times its waits, one at a time. The stories or the crowd must find each: by a check that fails, or because they hang. `all` means every
 # fault there is, --tenth each tenth, by turns: which one is chosen by the sum of the folder c. The libraries are the proved
 # one and the calls for memory; without them they are the last two that tools/c_library.sh prints. Ends with status 1 if a
 # fault is not found. CC names another compiler than cc.
@@ -55,7 +55,7 @@ instant-stays-held-at-once	s/  if (is_instant \&\& reply.status == BS_DONE) tabl
 instant-gives-back-what-was-held	/ table_is_instant(const/,/^}/s/ \&\& bs_held(&table->manager, txn, node).mode == BS_NL;/;/
 instant-of-an-ended-wait	s/    table->instantly.words\[i\] &= ~instantly;//
 instant-came-and-is-not-known	/table_became(/,/^}/s/^  if (reply.status != BS_NOT_WAITING) return reply;/  return reply;/
-instant-that-came-is-the-next-wait	/table_register(/,/^}/s/^  own->came.status.*//
+instant-that-came-is-the-next-wait	/table_register(/,/^}/s/^  own->came = BS_NL;//
 lock-wakes-before-it-registers	/ table_lock_by(/,/^}/{/table_register(/d;s/^  table_wake(table, .*/&\n  if (reply.status == BS_WAITING) table_register(table, txn, node, is_instant);/}
 path-wakes-before-it-registers	/ table_path_by(/,/^}/{/table_register(/d;s/^  table_wake(table, .*/&\n  if (reply.status == BS_WAITING) table_register(table, txn, node, is_instant \&\& table_is_same_node(reply.node, node));/}
 path-asks-for-its-mode-too-late	/ table_path_by(/,/^}/{/wait->mode/d;s/^  table_wake(table, .*/&\n  wait->mode = bs_call_doing(\&table->manager, txn).mode;/}
@@ -67,7 +67,7 @@ list-tells-its-own	s/^    table_tell_all_but(told, txn);//
 list-goes-not-on-with-its-path	/ table_made_on(/,/^}/s/^  if (c->kind != BS_DO_LOCK_PATH) return became;/  return became;/
 list-asks-not-again-for-its-row	/ table_made_on(/,/^}/s/^  if (c->kind == BS_DO_LOCK_ROW /  if (false /
 list-leaves-asks-that-are-due	/ table_settle_made(/,/^}/s/^    if (table->asks != NULL) table_go_on(table);//
-instant-wakes-nobody	/table_give_instants_back(/,/^}/s/^      table_note_ended(table, granted);//
+instant-wakes-nobody	/table_give_instants_back(/,/^}/s/^      table_note_ended(table, granted, &more);//
 instant-tells-nobody	s/^      table_tell_too(told, &more);//
 instant-is-awaited-by-its-word	s/  c->reply.mode = table_mode_of(c->mode);/  c->reply.mode = c->mode;/
 instant-sleeps-by-its-word	s/table_sleep(table, txn, node, table_mode_of(mode), until)/table_sleep(table, txn, node, mode, until)/
@@ -213,9 +213,9 @@ instant-that-came-is-the-next-path	/ table_path_by(/,/^}/s/^    table_register(t
 instant-that-came-is-the-next-row	/^static bs_reply table_ask_row(/,/^}/s/^  if (reply.status == BS_WAITING) table_register(.*//
 instant-that-came-is-the-next-in-a-list	s/^  if ((c->mode \& BS_INSTANT) == 0) table_register(table, txn, c->node, false);//
 instant-that-came-is-the-next-lock	/ table_lock_by(/,/^}/s/^  if (reply.status == BS_WAITING) table_register(/  if (is_instant \&\& reply.status == BS_WAITING) table_register(/
-instant-that-came-is-the-next-instant	/table_register(/,/^}/s/^  own->came.status = BS_WAITING;/  if (!is_instant) own->came.status = BS_WAITING;/
-instant-is-of-its-slot	s/  if (own->came.status != BS_DONE || own->txn.age != txn.age) return reply;/  if (own->came.status != BS_DONE) return reply;/
-instant-is-of-any-node	/table_became(/,/^}/s/  return table_is_same_node(own->node, node) ? own->came : reply;/  return own->came;/
+instant-that-came-is-the-next-instant	/table_register(/,/^}/s/^  own->came = BS_NL;/  if (!is_instant) own->came = BS_NL;/
+instant-is-of-its-slot	s/  if (own->came == BS_NL || own->txn.age != txn.age || /  if (own->came == BS_NL || /
+instant-is-of-any-node	s/ || own->txn.age != txn.age || !table_is_same_node(own->node, node)) return reply;/ || own->txn.age != txn.age) return reply;/
 asked-row-keeps-its-first-key	/^static void table_keep_keys(/,/^}/s/own->row.count \* sizeof own->keys\[0\]/sizeof own->keys[0]/
 asked-row-is-for-an-instant	/^bs_reply bs_table_ask_row(/,/^}/s/table_ask_row(table, txn, &own->row, mode)/table_ask_row(table, txn, \&own->row, table_mode_of(mode))/
 listed-row-is-for-an-instant	s/bs_lock_row(m, txn, c->file, c->number, c->keys, c->key_count, c->mode, told)/bs_lock_row(m, txn, c->file, c->number, c->keys, c->key_count, table_mode_of(c->mode), told)/
@@ -230,13 +230,62 @@ what-is-held-outside-is-forgotten	s/^  table_held_outside = NULL;//
 watch-settles-all-in-one-section	/^static void table_settle_all(/,/^}/{s/^    table_release(table);$//;s/^    table_take(table);$//;s/^}/  table_tell_between(table);\n}/}
 list-settles-once	/ table_settle_made(/,/^}/s/  } while (c->reply.status == BS_WAITING);/  } while (false);/
 list-path-says-not-how-it-waits	/ table_path_made_on(/,/^}/s/^    if (reply.status == BS_WAITING) reply.mode = wait.mode;//
+bucket-has-no-upper-bound	/^static size_t running_bucket(/,/^}/s/__builtin_clzll(microseconds - 1)/__builtin_clzll(microseconds)/
+bucket-cuts-nanoseconds	/^static size_t running_bucket(/,/^}/s/ + (nanoseconds % 1000 != 0)//
+late-wait-is-cancelled	s/^  if (reply.status == BS_DONE) bs_call_wait_late(&table->running, txn.slot);//
+moved-wait-is-gone	s/^    case BS_TOLD_MOVED: return BS_END_MOVED;//
+named-wait-stays	/^void bs_call_waits_ended(/,/^}/s/^  running_cancelled(running, &left, now);//
+ended-wait-ends-again	/^static uint64_t running_keep_waiting(/,/^}/s/slots->words\[i\] \&= running->waiting.words\[i\]/slots->words[i]/
+wait-that-begins-is-not-noted	/table_register(/,/^}/s/^  bs_call_wait_began(&table->running, txn);//
+sketch-forgets-its-error	/^static void running_count(/,/^}/s/error = sketch->at\[place\].nanoseconds;/error = 0;/
+sketch-gives-up-the-most	/^static size_t running_least(/,/^}/s/nanoseconds < sketch/nanoseconds > sketch/
+sketch-begins-at-nothing	/^static void running_count(/,/^}/s/^    sketch->at\[place\].waits = 0;/&\n    sketch->at[place].nanoseconds = sketch->at[place].error = 0;/
+present-waits-do-not-count	s/^  running_count_present(running, &sketch, now);//
+reset-keeps-what-was-before	/^static void running_end(/,/^}/s/running_later(wait->since, running->reset)/wait->since/
+reset-keeps-its-time	/^bs_reply bs_table_awaited(/,/^}/s/^    running->reset = now;//
+dump-of-waits-is-by-slot	/^static dump_txn \*dump_next_wait(/,/^}/s/ || next->since < first->since//
+long-wait-is-told-again	/^static void running_take_wait(/,/^}/s/^  running->waits\[slot\].is_told = true;//
+long-wait-is-told-of-the-next	/^void bs_call_wait_began(/,/^}/s/^  wait->is_told = false;//
+long-wait-is-told-too-early	s/waited >= teller->limit/waited + 1 >= teller->limit/
+long-wait-is-told-too-late	s/waited >= teller->limit/waited > teller->limit/
+long-wait-wakes-nobody	/^void bs_call_wait_began(/,/^}/s/^    pthread_cond_signal(&running->teller->due);//
+long-wait-of-the-last-is-first	/^static uint32_t running_first_untold(/,/^}/s/since < running->waits/since > running->waits/
+blocker-ahead-wants-nothing	/^static void running_note_blocker(/,/^}/s/^  blocker->wanted = doing.mode;//
+blocker-wants-other-nodes	/^static void running_note_blocker(/,/^}/s/^  if (doing.count != BS_WAITS || .*/  if (doing.count != BS_WAITS) return;/
+requester-that-is-condemned-is-not-told	s/^  if (status == BS_VICTIM) bs_call_condemned(&table->running);//
+waiter-that-is-condemned-is-not-told	/^void bs_call_waits_ended(/,/^}/s/^  if (has_victims) running_note_deadlock(running);//
+deadlock-is-told-twice	/^static void running_note_deadlock(/,/^}/s/^  if (condemned == running->condemned) return;//
+deadlock-wakes-nobody	/^static void running_note_deadlock(/,/^}/s/^  pthread_cond_signal(&teller->due);//
+deadlocks-keep-their-rows	/^static bool running_take_deadlock(/,/^}/s/^  memmove(teller->stuck, .*//
+deadlock-that-is-lost-is-not-counted	s/^  if (!running_join_deadlock(teller)) running->lost_deadlocks++;/  running_join_deadlock(teller);/
+function-is-called-under-the-latch	/^static void running_tell(/,/^}/{s/^  pthread_mutex_unlock(running->latch);//;s/^  pthread_mutex_lock(running->latch);//}
+function-taken-back-is-not-awaited	s/^  if (!running_is_own(running)) running_await_return(running);//
+function-awaits-itself	s/^  if (!running_is_own(running)) running_await_return(running);/  running_await_return(running);/
+next-function-is-awaited-too	/^static void running_await_return(/,/^}/s/ \&\& teller->calls == calls//
+function-taken-back-is-cancelled	/^static void running_await_return(/,/^}/s/PTHREAD_CANCEL_DISABLE/PTHREAD_CANCEL_ENABLE/
+another-time-wakes-nobody	/^static void running_give(/,/^}/s/^  pthread_cond_signal(&teller->due);//
+time-beyond-all-wraps	/^static uint64_t running_limit(/,/^}/s/milliseconds > UINT64_MAX \/ 1000000 ? UINT64_MAX : //
+time-of-nothing-is-taken	s/^  else if (function != NULL \&\& milliseconds == 0) status = BS_BAD_NUMBER;//
+function-is-given-in-a-callback	s/^  if (!may_sleep \&\& !running_is_own(running)) status = BS_IN_USE;/  if (false) status = BS_IN_USE;/
+end-wakes-no-teller	/^void bs_call_run_out(/,/^}/s/^  if (running->teller != NULL) pthread_cond_signal(.*//
+end-does-not-await-the-function	s/^  bs_call_run_join(&table->running);//
+teller-without-a-thread-stays	/^static bool running_start(/,/^}/s/^  running->teller = NULL;//
+function-sleeps-in-the-table	/^void bs_call_engine(/,/^}/s/^  table_telling = &over;//
+function-keeps-what-it-holds	/^void bs_call_engine(/,/^}/s/^  while (table_held != NULL) bs_table_let_go(table_held);//
+ends-set-off-by-a-function-are-lost	/^void bs_call_engine(/,/^}/s/^  if (over.first != NULL) table_tell(&over);//
+metrics-continue-after-a-failure	/^static void metrics_flush(/,/^}/s/!to->has_failed \&\& to->length > 0/to->length > 0/
+metrics-hide-a-failure	s/to.has_failed ? BS_NOT_WRITTEN : BS_DONE/BS_DONE/
+metrics-buckets-do-not-add-up	/^static void metrics_put_histogram(/,/^}/s/^    count += histogram->buckets\[i\];/    count = histogram->buckets[i];/
+metrics-are-cancelled	/^bs_reply bs_table_metrics(/,/^}/s/PTHREAD_CANCEL_DISABLE/PTHREAD_CANCEL_ENABLE/
+metrics-are-written-under-the-latch	/^bs_reply bs_table_metrics(/,/^}/{s/^  bs_table_let_go(table);//;s/^  metrics_flush(&to);/&\n  bs_table_let_go(table);/}
 FAULTS
 }
 
 # says THERE WORD..: compiles a program of the tests with the sources there, and ends with its status.
 says() {
   local there=$1 program=$2 with=()
-  [ "$program" = crowd ] || with=("-Wl,--wrap=malloc,--wrap=realloc,--wrap=free")
+  [ "$program" = running ] || with+=("$there/burlapslate_running.c")
+  [ "$program" = crowd ] || with+=("-Wl,--wrap=malloc,--wrap=realloc,--wrap=free")
   # shellcheck disable=SC2086 # CC and FAULT_LINKS may have several words.
   ${CC:-cc} -std=c99 -D_POSIX_C_SOURCE=200809L -pthread -O1 -w -I"$top/include" -I"$there" -o "$there/$program" \
     "$top/tests/c/$program.c" "${libraries[@]}" ${FAULT_LINKS:-} "${with[@]}" || return 2
@@ -246,9 +295,10 @@ says() {
 # found NAME EDIT: whether the fault is found.
 found() {
   local there=$work/$1
-  mkdir -p "$there" && cp "$top"/c/*.c "$there/" && sed -i "$2" "$there"/*.c || return 1
+  mkdir -p "$there" && cp "$top"/c/*.[ch] "$there/" && sed -i "$2" "$there"/*.c || return 1
   ! diff -q "$top/c" "$there" -x out >/dev/null || { echo "faults.sh: $1 changes nothing"; return 1; }
-  says "$there" shared 5 && says "$there" asks 5 100 && says "$there" waits 5 && says "$there" own_ends 5 && says "$there" crowd 4 4
+  says "$there" shared 5 && says "$there" asks 5 100 && says "$there" waits 5 && says "$there" own_ends 5 && says "$there" running 5 &&
+    says "$there" crowd 4 4
   [ $? -eq 1 ] || { echo "faults.sh: $1 was not found"; return 1; }
   echo "$1: found: $(grep -E ': (hangs|not so|[a-z_]*: not so)' "$there/said" | tail -n 1 | sed 's/^[^ ]*\.[ch]:[0-9]*: //')"
 }

@@ -1,6 +1,7 @@
-// The headers as C++: one call of each, and a session that sleeps in a thread.
+// The headers as C++: calls of each, and sessions that sleep.
 #include "burlapslate.h"
 #include "burlapslate_dump.h"
+#include "burlapslate_running.h"
 
 #include <pthread.h>
 
@@ -65,7 +66,33 @@ static bool asks() {
   return heard.age == 0 && bs_table_end(table).status == BS_DONE && bs_table_free(&table).status == BS_DONE;
 }
 
+static void hear_long(void *context, const bs_long_wait *wait, const bs_deadlock *deadlock) {
+  if (context == NULL && deadlock == NULL) bs_table_cancel(table, wait->txn, NULL);
+}
+
+static bool take(void *context, const char *text, size_t length) {
+  *static_cast<size_t *>(context) += text == NULL ? 0 : length;
+  return true;
+}
+
+static bool runs() {
+  bs_waits waits;
+  bs_awaited awaited;
+  size_t length = 0;
+  if (bs_table_make(&table, NULL).status != BS_DONE) return false;
+  root = bs_table_add_inner(table, NULL, 0).node;
+  bs_txn a = bs_table_begin(table).txn, b = bs_table_begin(table).txn;
+  if (bs_table_on_long_wait(table, 1, hear_long, NULL).status != BS_DONE) return false;
+  if (bs_table_lock(table, a, root, BS_X, NULL).status != BS_DONE) return false;
+  if (bs_table_lock(table, b, root, BS_S, NULL).status != BS_NOT_WAITING) return false;
+  if (bs_table_waited(table, b).status != BS_NOT_WAITING || bs_table_waits(table, &waits).status != BS_DONE) return false;
+  if (waits.waiting != 0 || waits.ended[BS_END_CANCELLED].nanoseconds < 1000000) return false;
+  if (bs_table_awaited(table, &awaited, true).status != BS_DONE || awaited.count != 1) return false;
+  if (bs_table_metrics(table, take, &length).status != BS_DONE || length == 0) return false;
+  return bs_table_end(table).status == BS_DONE && bs_table_free(&table).status == BS_DONE;
+}
+
 int main() {
   bs_manager m = BS_NO_MANAGER_HERE;
-  return bs_end(&m).status == BS_NO_MANAGER && shares() && asks() ? 0 : 1;
+  return bs_end(&m).status == BS_NO_MANAGER && shares() && asks() && runs() ? 0 : 1;
 }

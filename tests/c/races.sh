@@ -1,6 +1,6 @@
 #!/usr/bin/env bash
-# races.sh [TOOL..]: runs the stories of a shared table, its asks, its waits and a small crowd under tools that look for
-# races: `tsan` (ThreadSanitizer, which sees what is compiled here: the table and the programs), `helgrind` and `drd`
+# races.sh [TOOL..]: runs the stories of a shared table, its asks, its waits and their times, and a small crowd under tools
+# that look for races: `tsan` (ThreadSanitizer, which sees what is compiled here: the table and the programs), `helgrind` and `drd`
 # (valgrind's, which see the library too); all three if none is named. `short` means all but the crowd, under the first of
 # them that is found, which takes seconds; if none is found, it ends with status 77, not tried. races.supp says what is no
 # race. Prints a line for each run. Ends with status 1 if one reports anything or a program fails; a tool that is not
@@ -17,6 +17,7 @@ read -r -a libraries <<<"${RACES_LIBS:-$("$top/tools/c_library.sh" | tr '\n' ' '
 # compile TO PROGRAM WORD..: from the source of its name in this folder.
 compile() {
   local with=("${@:3}") compiler=${CC:-cc}
+  [ "$2" = running ] || with+=("$top/c/burlapslate_running.c")
   # shellcheck disable=SC2054 # The commas are of one word.
   [ "$2" = crowd ] || with+=(-Wl,--wrap=malloc,--wrap=realloc,--wrap=free)
   # shellcheck disable=SC2086 # CC may have words after the name.
@@ -50,16 +51,20 @@ for tool in "$@"; do
         quiet "tsan, the stories" "$work/shared-tsan" 60 256 || status=1
         compile asks-tsan asks -fsanitize=thread || exit 1
         quiet "tsan, the asks" "$work/asks-tsan" 60 60 || status=1
-        compile waits-tsan waits -fsanitize=thread && compile own_ends-tsan own_ends -fsanitize=thread || exit 1
+        compile waits-tsan waits -fsanitize=thread && compile own_ends-tsan own_ends -fsanitize=thread &&
+          compile running-tsan running -fsanitize=thread || exit 1
         quiet "tsan, the waits" "$work/waits-tsan" 60 || status=1
         quiet "tsan, own ends" "$work/own_ends-tsan" 60 || status=1
+        quiet "tsan, times" "$work/running-tsan" 60 || status=1
       elif command -v valgrind >/dev/null; then
-        compile shared shared && compile asks asks && compile waits waits && compile own_ends own_ends || exit 1
+        compile shared shared && compile asks asks && compile waits waits && compile own_ends own_ends &&
+          compile running running || exit 1
         watched[1]=--tool=helgrind
         quiet "helgrind, the stories" "${watched[@]}" "$work/shared" 300 256 || status=1
         quiet "helgrind, the asks" "${watched[@]}" "$work/asks" 300 20 || status=1
         quiet "helgrind, the waits" "${watched[@]}" "$work/waits" 300 || status=1
         quiet "helgrind, own ends" "${watched[@]}" "$work/own_ends" 300 || status=1
+        quiet "helgrind, times" "${watched[@]}" "$work/running" 300 || status=1
       else
         echo "races.sh: not tried: neither ThreadSanitizer nor valgrind is found"
         exit 77
@@ -68,6 +73,7 @@ for tool in "$@"; do
     tsan)
       if ! compile shared-tsan shared -fsanitize=thread || ! compile asks-tsan asks -fsanitize=thread ||
         ! compile waits-tsan waits -fsanitize=thread || ! compile own_ends-tsan own_ends -fsanitize=thread ||
+        ! compile running-tsan running -fsanitize=thread ||
         ! compile crowd-tsan crowd -fsanitize=thread; then
         echo "tsan: this compiler has none, so nothing was tried"
         continue
@@ -76,6 +82,7 @@ for tool in "$@"; do
       quiet "tsan, the asks" "$work/asks-tsan" 300 || status=1
       quiet "tsan, the waits" "$work/waits-tsan" 300 || status=1
       quiet "tsan, own ends" "$work/own_ends-tsan" 300 || status=1
+      quiet "tsan, times" "$work/running-tsan" 300 || status=1
       quiet "tsan, the crowd" "$work/crowd-tsan" 4 300 || status=1
       ;;
     helgrind | drd)
@@ -84,11 +91,12 @@ for tool in "$@"; do
         continue
       fi
       compile shared shared && compile asks asks && compile waits waits && compile own_ends own_ends &&
-        compile crowd crowd || exit 1
+        compile running running && compile crowd crowd || exit 1
       quiet "$tool, the stories" "${watched[@]}" "$work/shared" 900 256 || status=1
       quiet "$tool, the asks" "${watched[@]}" "$work/asks" 900 20 || status=1
       quiet "$tool, the waits" "${watched[@]}" "$work/waits" 900 || status=1
       quiet "$tool, own ends" "${watched[@]}" "$work/own_ends" 900 || status=1
+      quiet "$tool, times" "${watched[@]}" "$work/running" 900 || status=1
       quiet "$tool, the crowd" "${watched[@]}" "$work/crowd" 1 900 || status=1
       ;;
     *)

@@ -30,7 +30,8 @@ mapfile -t libraries < <("$top/tools/c_library.sh" --slots "$slots" 2>"$work/log
 compile() {
   local with=("${libraries[@]}")
   case $1 in
-    shared | crowd | asks | waits | own_ends) with=(-I"$top/c" "${libraries[@]:1}") ;;
+    shared | crowd | asks | waits | own_ends) with=(-I"$top/c" "$top/c/burlapslate_running.c" "${libraries[@]:1}") ;;
+    running) with=(-I"$top/c" "${libraries[@]:1}") ;;
     schemas | twins | scenarios) with=("$top/tests/c/naive.c" "${libraries[@]}") ;;
   esac
   # shellcheck disable=SC2086 # CC may have words after the name.
@@ -93,6 +94,8 @@ compile waits -Wl,--wrap=malloc,--wrap=realloc,--wrap=free || exit 1
 timeout 60 "$work/waits" || exit 1
 compile own_ends -Wl,--wrap=malloc,--wrap=realloc,--wrap=free || exit 1
 timeout 60 "$work/own_ends" || exit 1
+compile running -Wl,--wrap=malloc,--wrap=realloc,--wrap=free || exit 1
+timeout 60 "$work/running" || exit 1
 compile crowd || exit 1
 # A thousand threads begin one transaction each, and may take a minute.
 few=()

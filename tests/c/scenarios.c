@@ -10,9 +10,11 @@
  *
  * The rules of the model are at the head of scenario_model.h. Each answer, each told list and each told end is
  * compared, and after each call the whole state: the transactions, what they hold, where and for whom they wait, and
- * the graph. At the first difference the program prints the seed, the number of the call, what came and what was
+ * the graph. At the end of a scenario the waits that the table has timed are those that the manager has counted, also by
+ * their ends. At the first difference the program prints the seed, the number of the call, what came and what was
  * wanted, and the last calls with the answers that were wanted, and ends with status 1.
  */
+#include "burlapslate_running.h"
 #include "scenario_draws.h"
 
 #include <signal.h>
@@ -396,7 +398,35 @@ static void open_table(void) {
   naive_open(&n, &options);
 }
 
+static uint64_t timed_waits(const bs_histogram *ended) {
+  uint64_t count = 0;
+  size_t i;
+  for (i = 0; i < BS_WAIT_BUCKETS; i++) count += ended->buckets[i];
+  return count;
+}
+
+/* Each wait was timed once, and each is one of the manager's. */
+static void compare_times(void) {
+  uint64_t ended = 0, waiting = 0;
+  const bs_manager *m;
+  bs_waits waits;
+  bs_counts counts;
+  uint32_t slot;
+  must(same_number("waits", bs_table_waits(table, &waits).status, BS_DONE), no_txn);
+  m = bs_table_hold(table);
+  bs_counters(m, &counts);
+  for (slot = 0; slot < BS_SLOTS; slot++) waiting += bs_doing(m, bs_living(m, slot).txn).count == BS_WAITS;
+  bs_table_let_go(table);
+  for (slot = 0; slot < BS_WAIT_ENDS; slot++) ended += timed_waits(&waits.ended[slot]);
+  must(same_number("waiting", waits.waiting, waiting), no_txn);
+  must(same_number("waits that have ended", ended, counts.waited - waiting), no_txn);
+  must(same_number("granted", timed_waits(&waits.ended[BS_END_GRANTED]), counts.granted_later), no_txn);
+  must(same_number("moved", timed_waits(&waits.ended[BS_END_MOVED]), counts.moved), no_txn);
+  must(same_number("gone", timed_waits(&waits.ended[BS_END_GONE]), counts.gone), no_txn);
+}
+
 static void close_table(void) {
+  compare_times();
   trace_line();
   trace("end");
   model_end();

@@ -29,7 +29,8 @@
 //! Threads share a [`Table`]. Each begins a [`Session`], whose lock calls sleep until the lock is
 //! granted, and which is aborted if it is dropped without a commit. If there are more threads than slots
 //! they [begin in turn](Table::begin_in_turn). A task of a runtime awaits its locks, and no thread sleeps
-//! ([`Session::lock_async`]). A [`Watcher`] reads who waits for whom without the mutex.
+//! ([`Session::lock_async`]). A [`Watcher`] reads who waits for whom without the mutex. A table says how long waits last and
+//! where ([`Table::waits`], [`Table::awaited`], [`Table::metrics`]), and tells of long ones ([`Table::on_long_wait`]).
 //!
 //! ```
 //! use burlapslate::{Detect, Mode, Node, Stop, Table, SLOTS};
@@ -119,7 +120,7 @@ pub use names::{Node, Row, Txn};
 pub use notices::{Notice, Notices};
 pub use refusal::Refusal;
 pub use session::{Keep, RowLocked, Session, Stop, Taken, Tried, Try};
-pub use table::Table;
+pub use table::{Awaited, AwaitedNode, Blocker, Histogram, LongWait, Table, Told, WaitEnd, Waits};
 pub use watcher::Watcher;
 
 /// How many transactions can live at once in a manager, and so how many notices a command can have: 128, or what the

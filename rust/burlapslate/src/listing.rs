@@ -234,7 +234,8 @@ impl fmt::Display for Spaced {
 }
 
 /// All that there is in a manager, of one moment, to be printed ([`Manager::listing`]): counters,
-/// transactions, their locks, queues and the last deadlock, in columns.
+/// transactions, the waits of a table by their length, the locks of each transaction, queues and the last deadlock, in
+/// columns.
 #[derive(Clone, Copy, Debug)]
 pub struct Listing<'a> {
     pub(crate) manager: &'a Manager,
@@ -252,6 +253,30 @@ impl Listing<'_> {
             Err(_) => "gone",
         };
         format!("{kind} {node}")
+    }
+
+    /// The waits of a table, the longest first. A manager that is no table's knows no time.
+    fn waits(&self, f: &mut fmt::Formatter<'_>) -> fmt::Result {
+        let Some(waits) = self.manager.waits_by_age() else {
+            return Ok(());
+        };
+        writeln!(
+            f,
+            "\nWaits, the longest first:\n     seconds slot          age wants node"
+        )?;
+        for (row, waited) in waits {
+            let Doing::Waiting(wait) = row.doing else {
+                continue;
+            };
+            let (slot, age, node) = (row.txn.slot(), row.txn.age(), self.named(wait.node));
+            let (seconds, micros) = (waited.as_secs(), waited.subsec_micros());
+            writeln!(
+                f,
+                "{seconds:>5}.{micros:06} {slot:>4} {age:>12} {:5} {node}",
+                wait.mode
+            )?;
+        }
+        Ok(())
     }
 
     /// Of each node with a queue, its holders and its waiters.
@@ -284,6 +309,7 @@ impl fmt::Display for Listing<'_> {
         for row in m.transactions() {
             writeln!(f, "{row}")?;
         }
+        self.waits(f)?;
         writeln!(
             f,
             "\nLocks by transaction:\nslot          age mode wants children node"

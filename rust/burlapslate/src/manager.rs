@@ -11,6 +11,7 @@ use crate::sys::{self, Pinned, Reply};
 use crate::watcher::Watcher;
 use crate::SLOTS;
 use std::fmt;
+use std::time::Duration;
 
 /// What a request for a lock answers.
 #[must_use = "a lock that is waited for is not granted"]
@@ -1223,6 +1224,16 @@ impl Manager {
     /// All of it, to be printed.
     pub fn listing(&self) -> Listing<'_> {
         Listing { manager: self }
+    }
+
+    /// The transactions that wait, the longest first; `None` if this is no table's, and knows no time.
+    pub(crate) fn waits_by_age(&self) -> Option<Vec<(TxnRow, Duration)>> {
+        let waits = sys::running::waits_by_age(self.pinned.place())?;
+        let row_of = |slot| self.transactions().find(|row| row.txn.slot() == slot);
+        let rows = waits.into_iter().filter_map(|(slot, waited)| {
+            Some((row_of(slot as usize)?, Duration::from_nanos(waited)))
+        });
+        Some(rows.collect())
     }
 }
 

@@ -1,5 +1,5 @@
 //! The library's calls, as `include/burlapslate_calls.h` declares them. All unsafe code is here, in
-//! [`shared`] and in [`awaited`].
+//! [`shared`], in [`awaited`] and in [`running`].
 //!
 //! A reference stands for a pointer that is not null, and says for the call what the header asks of
 //! it: what a call writes is behind a `&mut`, so it overlaps with nothing else and nobody else uses
@@ -23,6 +23,7 @@ use std::panic::UnwindSafe;
 use std::ptr::NonNull;
 
 pub(crate) mod awaited;
+pub(crate) mod running;
 pub(crate) mod shared;
 
 pub(crate) const DONE: u32 = 0;

@@ -15,6 +15,7 @@ use std::sync::{Arc, Condvar, Mutex, MutexGuard, PoisonError};
 use std::time::{Duration, Instant};
 
 pub(crate) use asks::{Locking, Sought};
+pub use running::{Awaited, AwaitedNode, Blocker, Histogram, LongWait, Told, WaitEnd, Waits};
 
 /// A table of granular locks that threads share: a [`Manager`] behind one mutex, its latch, with a
 /// condition for each slot. It is a `bs_table` of the library.
@@ -305,7 +306,7 @@ impl Table {
         shared::with(&self.call(), ask)
     }
 
-    /// All that there is, of one moment, as text in columns.
+    /// All that there is, of one moment, as text in columns, with the waits by their length.
     pub fn dump(&self) -> String {
         self.with(|m| m.listing().to_string())
     }
@@ -405,3 +406,4 @@ impl fmt::Debug for Table {
 }
 
 mod asks;
+mod running;

@@ -5,6 +5,7 @@
 //! no thread is in a call then, because each call borrows it.
 
 use super::awaited::{self, Sought, Waits};
+use super::running::{Listener, Telling};
 use super::{assert_fits, nodes, numbers, Notice, Notices, Options, Pinned, Place, Reply};
 use super::{WatcherPlace, DONE, IN_USE};
 use crate::manager::Manager;
@@ -18,6 +19,7 @@ use std::mem::ManuallyDrop;
 use std::ops::Deref;
 use std::panic::{RefUnwindSafe, UnwindSafe};
 use std::ptr::{null, null_mut, NonNull};
+use std::sync::{Arc, OnceLock};
 use std::task::{Poll, Waker};
 use std::thread;
 
@@ -318,6 +320,8 @@ impl Drop for Calling<'_> {
 pub(crate) struct Table {
     at: NonNull<Shared>,
     waits: NonNull<Waits>,
+    /// Since the first listener was given.
+    telling: OnceLock<NonNull<Telling>>,
 }
 
 // SAFETY: any thread may make any call with a table, and any thread may end it.
@@ -341,6 +345,7 @@ impl Table {
         let table = Table {
             at: NonNull::new(at).expect("a table that was made"),
             waits: NonNull::from(Box::leak(waits)),
+            telling: OnceLock::new(),
         };
         // SAFETY: the waits are freed after the table has ended.
         accepted(unsafe { awaited::has_ends_told(table.shared(), table.waits.as_ptr()) })?;
@@ -369,6 +374,18 @@ impl Table {
         waits && bs_table_cancel(&self.call(), txn, None).status == DONE
     }
 
+    /// Gives a listener of long waits and deadlocks, or takes it back.
+    pub(crate) fn listens(
+        &self,
+        milliseconds: u64,
+        listener: Option<Arc<Listener>>,
+    ) -> Result<(), Refusal> {
+        let telling = || NonNull::from(Box::leak(Box::new(Telling::new())));
+        let telling = self.telling.get_or_init(telling);
+        // SAFETY: it is freed after the table has ended.
+        unsafe { telling.as_ref().give(&self.call(), milliseconds, listener) }
+    }
+
     fn waits(&self) -> &Waits {
         // SAFETY: they are there until the drop.
         unsafe { self.waits.as_ref() }
@@ -395,10 +412,14 @@ impl Drop for Table {
             unsafe { bs_table_free(&mut at) };
             // SAFETY: they are of `new`, which leaked the box, and nobody tells an end any more.
             drop(unsafe { Box::from_raw(self.waits.as_ptr()) });
+            // SAFETY: the same.
+            let telling = |at: NonNull<Telling>| unsafe { Box::from_raw(at.as_ptr()) };
+            drop(self.telling.take().map(telling));
             return awaited::resume_panic();
         }
-        let Table { at, waits } = *self;
-        let table = ManuallyDrop::new(Table { at, waits });
+        let Table { at, waits, .. } = *self;
+        let telling = std::mem::take(&mut self.telling);
+        let table = ManuallyDrop::new(Table { at, waits, telling });
         let ends = move || drop(ManuallyDrop::into_inner(table));
         let _ = thread::Builder::new().spawn(ends);
     }
