@@ -4,7 +4,7 @@ use Rattle.std.specs.Prelude.{drop, length, min, take}
 use Rattle.std.specs.Prelude.{IsOk, IfErr, OnErr, OnOk, Result, Ok, Err, ◌⊎◌}
 use Rattle.std.specs.List.{list_any, list_all, count_by, filter, find}
 use Rattle.gl_modes.specs.declared.node.NodeId.{NodeId}
-use Rattle.gl_modes.specs.declared.mode.Mode.TheVariants.{X, NL, S, IX}
+use Rattle.gl_modes.specs.declared.mode.Mode.TheVariants.{X, NL, S, IS, IX}
 use Rattle.gl_modes.specs.Modes.{same_mode, supremum, is_at_least}
 use Rattle.gl_modes.specs.declared.mode.Mode.{Mode}
 use Rattle.gl_modes.specs.Nodes.{same_node}
@@ -306,6 +306,22 @@ some_given (x ∷ xs) = true
 abbrev pub escalation_blocks : State → ℕ → NodeId → Option Refusal
 escalation_blocks s t n = where_true (not (fits s.most (members s n) t (wanted s t n (asked_by_escalation s t n)))) no.WouldBlock
 
+-- an intention
+abbrev pub is_intention : Mode → Bool
+is_intention m = same_mode m IS || same_mode m IX
+
+-- t holds nothing on n, or an intention while nobody waits for n
+abbrev pub rests_on : State → ℕ → NodeId → Bool
+rests_on s t n = same_mode (s.held t n) NL || (is_intention (s.held t n) && is_empty (s.queue n))
+
+-- t holds intentions alone, on nodes for which nobody waits
+abbrev pub rests : State → ℕ → Bool
+rests s t = list_all (rests_on s t) (nodes s.graph)
+
+-- t holds more than that
+abbrev pub need_release : State → ℕ → Option Refusal
+need_release s t = where_true (not (rests s t)) no.NeedRelease
+
 -- begin
 abbrev pub begin_tests : State → List (Option Refusal)
 begin_tests s = worn_begins s ∷ too_many_txns s ∷ []
@@ -329,6 +345,10 @@ cancel_tests s t = no_txn s t ∷ condemned_test (status_of s t.slot) ∷ idle_t
 -- commit
 abbrev pub commit_tests : State → TxnId → List (Option Refusal)
 commit_tests s t = no_txn s t ∷ waiting_test (status_of s t.slot) ∷ condemned_test (status_of s t.slot) ∷ []
+
+-- renew
+abbrev pub renew_tests : State → TxnId → List (Option Refusal)
+renew_tests s t = commit_tests s t ++ need_release s t.slot ∷ worn_begins s ∷ []
 
 -- abort and settle need only a living transaction
 abbrev pub living_tests : State → TxnId → List (Option Refusal)
