@@ -2,20 +2,20 @@
 use Rattle.std.specs.Prelude.{◌≡◌, ◌≢◌, ℕ, true, not, ◌==◌, List, [], ◌∷◌, is_some}
 use Rattle.std.proofs.Common.{refl, sym, arith, subst, ◌∙◌}
 use Rattle.std.proofs.lemmas.Bool.Decides.{nat_tests}
-use Rattle.gl_modes.proofs.Words.{and_both, both, clash, no, or_elim}
-use Rattle.gl_modes.proofs.ModeLemmas.{same_mode-equal}
-use Rattle.gl_modes.specs.declared.mode.Mode.TheVariants.{NL}
+use Rattle.gl_modes.proofs.Words.{and_both, both, clash, no, or_elim, or_right}
+use Rattle.gl_modes.specs.declared.mode.Mode.TheVariants.{S}
+use Rattle.gl_modes.specs.Modes.{is_at_least}
 use Rattle.gl_graph.specs.Graph.{nodes}
-use Rattle.gl_graph.proofs.Look.{all_at}
+use Rattle.gl_graph.proofs.Moved.{some_at}
 use Rattle.gl_graph.proofs.RouteLengths.{listed}
 use Rattle.gl_header.specs.Header.{Waiter, is_among_waiters, is_empty}
-use Rattle.gl_model.specs.Calls.{rests_on}
+use Rattle.gl_model.specs.Calls.{hinders_at}
 use Rattle.gl_modes.specs.declared.node.NodeId.{NodeId}
 use Rattle.gl_model.specs.declared.txn.TxnId.{TxnId}
 use Rattle.gl_model.specs.Lawful.{IsLawful}
 use Rattle.gl_model.specs.State.{State, status_of}
 use Rattle.gl_model.specs.Tellings.{Told}
-use Rattle.gl_model.proofs.law.Keeps.{apart, nl_holds, txn_there, waiting_is}
+use Rattle.gl_model.proofs.law.Keeps.{apart, txn_there, waiting_is}
 use Rattle.gl_model.proofs.queues.Waiters.{ahead_is, ahead_second}
 use Rattle.gl_steps.specs.declared.command.Answer.{Answer}
 use Rattle.gl_steps.specs.declared.command.Command.{Command}
@@ -36,18 +36,17 @@ before_lives s law t n u h = or_elim _ _ h (λ k. (law.grants_live u n k).0)
     (λ k. let st = waiting_is (status_of s u) n (law.waits_are u n (ahead_second (s.queue n) t u (sym (ahead_is (s.queue n) t u) ∙ k))) in
     txn_there (s.txns u) _ st.1)
 
-nobody_in : (t : ℕ) (q : List Waiter) → is_empty q ≡ true → is_among_waiters t q ≡ true → ⊥
-nobody_in t [] h k = no k
-nobody_in t (w ∷ q) h k = no h
+somebody_in : (t : ℕ) (q : List Waiter) → is_among_waiters t q ≡ true → not (is_empty q) ≡ true
+somebody_in t [] h = absurd (no h)
+somebody_in t (w ∷ q) h = refl
 
 -- a transaction that is before a waiter does not rest
 before_is_busy : (s : State) → IsLawful s → (t : ℕ) (n : NodeId) (u : ℕ) → is_among_waiters t (s.queue n) ≡ true → before s t n u ≡ true
     → IsResting s u → ⊥
 before_is_busy s law t n u waits h rest =
     or_elim _ _ h
-    (λ k. or_elim _ _ (all_at (rests_on s u) (nodes s.graph) n (listed s.graph law.graph n (law.grants_live u n k).1) rest.rests)
-    (λ none. clash k (nl_holds _ (same_mode-equal (s.held u n) NL none)))
-    (λ idle. nobody_in t (s.queue n) (and_both _ _ idle).1 waits))
+    (λ k. clash (some_at (hinders_at s u) (nodes s.graph) n (listed s.graph law.graph n (law.grants_live u n k).1)
+    (or_right (is_at_least (s.held u n) S) _ (both _ _ k (somebody_in t (s.queue n) waits)))) rest.rests)
     (λ k. apart (sym rest.active ∙ (waiting_is (status_of s u) n (law.waits_are u n (ahead_second (s.queue n) t u (sym (ahead_is (s.queue n) t u) ∙ k)))).1))
 
 pub first_come_first_served : FirstComeFirstServed

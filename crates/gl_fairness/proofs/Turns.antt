@@ -1,6 +1,6 @@
 -- Over a step each transaction that lives on keeps its age and its `since`; a new one has the next age.
 use Rattle.std.specs.Prelude.{◌≡◌, ◌⊎◌, ℕ, ◌+◌, ◌≤◌, Bool, true, false, min, nat_lt, ◌&&◌, ◌||◌, ◌==◌, List, Option, Some, None, if◌then◌else◌, is_some}
-use Rattle.std.specs.List.{filter}
+use Rattle.std.specs.List.{filter, list_any}
 use Rattle.std.proofs.lemmas.Bool.Decides.{nat_tests}
 use Rattle.std.proofs.Common.{refl, sym, ap, arith, inl, inr, subst, ⊎_elim, ◌∙◌}
 use Rattle.gl_modes.proofs.Words.{clash, same_number, split}
@@ -9,10 +9,11 @@ use Rattle.gl_modes.specs.declared.mode.Mode.TheVariants.{NL}
 use Rattle.gl_modes.specs.declared.node.NodeId.{NodeId}
 use Rattle.gl_modes.specs.Nodes.{same_node}
 use Rattle.gl_graph.specs.Changes.{rekeyed_parents}
+use Rattle.gl_graph.specs.Graph.{nodes}
 use Rattle.gl_header.specs.Header.{Waiter, holds, is_among_waiters}
 use Rattle.gl_model.specs.declared.txn.Status.TheVariants.{Active, Waiting}
 use Rattle.gl_model.specs.declared.txn.TxnId.{TxnId}
-use Rattle.gl_model.specs.Calls.{Locks, begun_since, enqueued, enters_at, goes_with, is_covered, raised, released, rests, stays, wanted}
+use Rattle.gl_model.specs.Calls.{Locks, begun_since, enqueued, enters_at, goes_with, hinders_at, is_covered, raised, released, stays, wanted}
 use Rattle.gl_model.specs.State.{State, Txn, age_in, granted_at, is_waiting_at, members, restatus, since_in, status_of, with_grant, woken}
 use Rattle.gl_model.specs.Tellings.{stripped, Told}
 use Rattle.gl_model.proofs.law.Lock.{free_slot}
@@ -31,7 +32,7 @@ use Rattle.gl_steps.proofs.LivesOn.{settled_goes_on, unless_on, wait_settles_goe
 -- the transaction is active, and holds intentions alone, on nodes for which nobody waits
 pub record IsResting (s : State) (v : ℕ) : Type 0 where
   pub active : status_of s v ≡ Some Active
-  pub rests : rests s v ≡ true
+  pub rests : list_any (hinders_at s v) (nodes s.graph) ≡ false
 
 -- by a step a transaction begins in a free slot, or in that of one that rests, with the next age; its `since` is not before a number unless it begins
 -- for work from before that
@@ -105,7 +106,7 @@ module _ (s : State) (v : ℕ) (a : Answer) (list : Told) (next : State) where
 
   renews : (u : TxnId) (n : ℕ) → refusal_of s (command.Renew u n) ≡ None → v ≡ u.slot → IsResting s v
   renews u n free e =
-      let may = may_renew s u n free in record { active = ap (status_of s) e ∙ may.active; rests = ap (rests s) e ∙ may.rests }
+      let may = may_renew s u n free in record { active = ap (status_of s) e ∙ may.active; rests = ap (λ w. list_any (hinders_at s w) (nodes s.graph)) e ∙ may.rests }
 
   still : {c : Command} → Kept → HasTurn s v c (next.txns v)
   still kept k = inl (kept k)

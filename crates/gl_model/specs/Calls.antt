@@ -4,7 +4,7 @@ use Rattle.std.specs.Prelude.{drop, length, min, take}
 use Rattle.std.specs.Prelude.{IsOk, IfErr, OnErr, OnOk, Result, Ok, Err, ◌⊎◌}
 use Rattle.std.specs.List.{list_any, list_all, count_by, filter, find}
 use Rattle.gl_modes.specs.declared.node.NodeId.{NodeId}
-use Rattle.gl_modes.specs.declared.mode.Mode.TheVariants.{X, NL, S, IS, IX}
+use Rattle.gl_modes.specs.declared.mode.Mode.TheVariants.{X, NL, S, IX}
 use Rattle.gl_modes.specs.Modes.{same_mode, supremum, is_at_least}
 use Rattle.gl_modes.specs.declared.mode.Mode.{Mode}
 use Rattle.gl_modes.specs.Nodes.{same_node}
@@ -15,7 +15,7 @@ use Rattle.gl_graph.specs.Lawful.{AreInnerParents}
 use Rattle.gl_graph.specs.Refusals.{bad_bounds, bad_index_place, has_records, is_in_use, max_count, some_no_node, too_many_nodes, where_true, worn_births}
 use Rattle.gl_graph.specs.Refusals.{Refuses, first_cycle, first_refusal, record_refusal}
 use Rattle.gl_graph.specs.Shapes.{Index, Inner, Shape, is_file_shape, is_index_of_shape, is_movable_shape, is_record_shape, least_parents}
-use Rattle.gl_header.specs.Header.{holds, Waiter, enters, is_among_waiters, is_empty, placed, without_waiter, fits}
+use Rattle.gl_header.specs.Header.{hinders, holds, Waiter, enters, is_among_waiters, is_empty, placed, without_waiter, fits}
 use Rattle.gl_header.specs.State.{nobody_holds}
 use Rattle.gl_header.specs.declared.header.Asked.{Asked}
 use Rattle.gl_waits.specs.declared.victims.Victims.{Victims}
@@ -306,21 +306,13 @@ some_given (x ∷ xs) = true
 abbrev pub escalation_blocks : State → ℕ → NodeId → Option Refusal
 escalation_blocks s t n = where_true (not (fits s.most (members s n) t (wanted s t n (asked_by_escalation s t n)))) no.WouldBlock
 
--- an intention
-abbrev pub is_intention : Mode → Bool
-is_intention m = same_mode m IS || same_mode m IX
+-- t holds S or greater on n, or something while somebody waits for n
+abbrev pub hinders_at : State → ℕ → NodeId → Bool
+hinders_at s t n = hinders (members s n) (s.queue n) t
 
--- t holds nothing on n, or an intention while nobody waits for n
-abbrev pub rests_on : State → ℕ → NodeId → Bool
-rests_on s t n = same_mode (s.held t n) NL || (is_intention (s.held t n) && is_empty (s.queue n))
-
--- t holds intentions alone, on nodes for which nobody waits
-abbrev pub rests : State → ℕ → Bool
-rests s t = list_all (rests_on s t) (nodes s.graph)
-
--- t holds more than that
+-- t holds more than intentions, or a node for which somebody waits
 abbrev pub need_release : State → ℕ → Option Refusal
-need_release s t = where_true (not (rests s t)) no.NeedRelease
+need_release s t = where_true (list_any (hinders_at s t) (nodes s.graph)) no.NeedRelease
 
 -- begin
 abbrev pub begin_tests : State → List (Option Refusal)

@@ -1,5 +1,5 @@
 -- Each command on locks and transactions keeps the law of a state.
-use Rattle.std.specs.Prelude.{◌≡◌, ◌∷◌, [], ℕ, ◌+◌, None, Some, min, true, ◌≤◌}
+use Rattle.std.specs.Prelude.{◌≡◌, ◌∷◌, [], ℕ, ◌+◌, None, Some, false, min, true, ◌≤◌}
 use Rattle.std.proofs.Common.{sym, ap, arith, subst}
 use Rattle.gl_modes.specs.declared.mode.Mode.{Mode}
 use Rattle.gl_modes.specs.declared.node.NodeId.{NodeId}
@@ -7,11 +7,12 @@ use Rattle.gl_modes.specs.declared.refusal.Refusal.TheVariants as no
 use Rattle.gl_model.specs.declared.txn.TxnId.{TxnId}
 use Rattle.gl_model.specs.declared.txn.Status.TheVariants.{Active}
 use Rattle.gl_steps.specs.declared.command.Command.TheVariants as command
-use Rattle.gl_graph.specs.Graph.{shape_of}
+use Rattle.std.specs.List.{list_any}
+use Rattle.gl_graph.specs.Graph.{nodes, shape_of}
 use Rattle.gl_graph.specs.Shapes.{is_record_shape}
 use Rattle.gl_model.specs.State.{State, is_wait, lives, status_of}
 use Rattle.gl_model.specs.Lawful.{IsLawful}
-use Rattle.gl_model.specs.Calls.{condemned_test, escalation_blocks, held_child, need_release, no_txn, not_held, raised, rests, shed, waiting_test, would_block}
+use Rattle.gl_model.specs.Calls.{condemned_test, escalation_blocks, held_child, hinders_at, need_release, no_txn, not_held, raised, shed, waiting_test, would_block}
 use Rattle.gl_steps.specs.Tests.{refusal_of, worn}
 use Rattle.gl_graph.specs.Refusals.{where_true}
 use Rattle.gl_model.specs.Tellings.{Told}
@@ -71,11 +72,11 @@ cancel_keeps t s s' a told law h acc = subst IsLawful (sym acc.2) (without_wait-
 pub commit_keeps : (t : TxnId) → KeepsLaw (command.Commit t)
 commit_keeps t s s' a told law h acc = subst IsLawful (sym acc.2) (released-lawful s law t.slot)
 
--- a transaction that is active and holds intentions alone, on nodes for which nobody waits
+-- a transaction that is active, and holds intentions alone, on nodes for which nobody waits
 pub record MayRenew (s : State) (t : TxnId) : Type 0 where
   pub alive : lives s t ≡ true
   pub active : status_of s t.slot ≡ Some Active
-  pub rests : rests s t.slot ≡ true
+  pub rests : list_any (hinders_at s t.slot) (nodes s.graph) ≡ false
 
 pub may_renew : (s : State) (t : TxnId) (since : ℕ) → refusal_of s (command.Renew t since) ≡ None → MayRenew s t
 may_renew s t since h =
@@ -85,7 +86,7 @@ may_renew s t since h =
     let d = not_refused (condemned_test (status_of s t.slot)) _ c.1 in
     let e = not_refused (need_release s t.slot) _ d.1 in
     let alive = not_false _ (test_fails _ _ b.0) in
-    record { alive = alive; active = active_in t.age (s.txns t.slot) alive c.0 d.0; rests = not_false _ (test_fails _ _ e.0) }
+    record { alive = alive; active = active_in t.age (s.txns t.slot) alive c.0 d.0; rests = test_fails _ _ e.0 }
 
 pub renew_keeps : (t : TxnId) (since : ℕ) → KeepsLaw (command.Renew t since)
 renew_keeps t since s s' a told law h acc =
