@@ -17,7 +17,8 @@ module _ (c : After-hinders_at) where
   order = nodes_by c.args.self.now.lists.items c.args.slot
 
   within : c.loop-place.place < length order
-  within = let all = c.rows-place-end.ensures ∙ rows_are c.args.self.now.lists.items c.args.slot in let more = c.loop-place-test.true in omega (arith, all, more)
+  within =
+      let all = c.rows-place-end.ensures ∙ rows_are c.args.self.now.lists.items c.args.slot in let more = c.loop-place-test.true in omega (arith, all, more)
 
   asked : hinders_by c.args.self.now.headers.entries c.args.slot (get_or order c.loop-place.place nowhere) ≡ c.hinders_at.result
   asked =
