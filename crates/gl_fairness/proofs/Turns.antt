@@ -106,7 +106,8 @@ module _ (s : State) (v : ℕ) (a : Answer) (list : Told) (next : State) where
 
   renews : (u : TxnId) (n : ℕ) → refusal_of s (command.Renew u n) ≡ None → v ≡ u.slot → IsResting s v
   renews u n free e =
-      let may = may_renew s u n free in record { active = ap (status_of s) e ∙ may.active; rests = ap (λ w. list_any (hinders_at s w) (nodes s.graph)) e ∙ may.rests }
+      let may = may_renew s u n free in
+      record { active = ap (status_of s) e ∙ may.active; rests = ap (λ w. list_any (hinders_at s w) (nodes s.graph)) e ∙ may.rests }
 
   still : {c : Command} → Kept → HasTurn s v c (next.txns v)
   still kept k = inl (kept k)

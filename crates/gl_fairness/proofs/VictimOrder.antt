@@ -20,7 +20,8 @@ use Rattle.gl_model.specs.declared.answers.Detect.TheVariants.{AtBlock, ByWatche
 use Rattle.gl_model.specs.declared.txn.Status.{Status}
 use Rattle.gl_model.specs.declared.txn.Status.TheVariants.{Active, Condemned, Waiting}
 use Rattle.gl_model.specs.declared.txn.TxnId.{TxnId}
-use Rattle.gl_model.specs.Calls.{Locks, WaitSettles, begun_since, enqueued, enters_at, freed, freed_among, freed_unless, goes_with, none_among, released, stays, wanted}
+use Rattle.gl_model.specs.Calls.{Locks, WaitSettles, begun_since, enqueued, enters_at, freed, freed_among, freed_unless, goes_with, none_among, released}
+use Rattle.gl_model.specs.Calls.{stays, wanted}
 use Rattle.gl_model.specs.Lawful.{IsLawful}
 use Rattle.gl_model.specs.State.{SettledWithin, State, Txn, age_of, condemned, granted_at, is_waiting_at, restatus, since_of, status_in, status_of, waits_for}
 use Rattle.gl_model.specs.State.{Settled, members, woken}

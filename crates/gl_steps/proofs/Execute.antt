@@ -13,7 +13,8 @@ use Rattle.gl_graph.specs.Shapes.{Shape, Inner, File, Rec}
 use Rattle.gl_graph.specs.Graph.{Node, record_parents}
 use Rattle.gl_graph.specs.Changes.{born_index, rekeyed, rekeyed_parents, with_parents, without_node}
 use Rattle.gl_model.specs.State.{State, status_of, with_grant, with_graph}
-use Rattle.gl_model.specs.Calls.{accepted_once, begun_again, begun_since, cancelled, deleted, free_slot, granted, unlocked, moved_to, raised, released, shed, wanted}
+use Rattle.gl_model.specs.Calls.{accepted_once, begun_again, begun_since, cancelled, deleted, free_slot, granted, unlocked, moved_to, raised, released, shed}
+use Rattle.gl_model.specs.Calls.{wanted}
 use Rattle.gl_model.specs.Calls.{dropped, covered_children, held_children}
 use Rattle.gl_model.specs.Tellings.{Told, told, told_but}
 use Rattle.gl_steps.specs.Tests.{refusal_of}

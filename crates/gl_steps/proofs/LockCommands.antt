@@ -12,7 +12,8 @@ use Rattle.gl_graph.specs.Graph.{nodes, shape_of}
 use Rattle.gl_graph.specs.Shapes.{is_record_shape}
 use Rattle.gl_model.specs.State.{State, is_wait, lives, status_of}
 use Rattle.gl_model.specs.Lawful.{IsLawful}
-use Rattle.gl_model.specs.Calls.{condemned_test, escalation_blocks, held_child, hinders_at, need_release, no_txn, not_held, raised, shed, waiting_test, would_block}
+use Rattle.gl_model.specs.Calls.{condemned_test, escalation_blocks, held_child, hinders_at, need_release, no_txn, not_held, raised, shed, waiting_test}
+use Rattle.gl_model.specs.Calls.{would_block}
 use Rattle.gl_steps.specs.Tests.{refusal_of, worn}
 use Rattle.gl_graph.specs.Refusals.{where_true}
 use Rattle.gl_model.specs.Tellings.{Told}

@@ -1,6 +1,7 @@
 -- What the lists say is what the state of the locks says. For queries of the locks.
 use Rattle.gl_table.proofs.Words.{◌&&◌, ◌∙◌, ◌≡◌, ap, ap₂, counted_by, effect_on, find, fun_ext, graph_of, held_by, held_children, holds, if◌then◌else◌}
-use Rattle.gl_table.proofs.Words.{is_child, is_live, is_write, list_any, members, Mode, NL, NodeId, nodes, None, not, refl, same_mode, Some, state_at, sym, true, ℕ}
+use Rattle.gl_table.proofs.Words.{is_child, is_live, is_write, list_any, members, Mode, NL, NodeId, nodes, None, not, refl, same_mode, Some}
+use Rattle.gl_table.proofs.Words.{state_at, sym, true, ℕ}
 use Rattle.gl_modes.proofs.Words.{and_both, or_elim, or_left}
 use Rattle.gl_modes.specs.declared.mode.Mode.TheVariants.{IS, IX, S, SIX, X}
 use Rattle.gl_modes.specs.Modes.{is_at_least}

@@ -1,4 +1,5 @@
-use Rattle.gl_table.proofs.Words.{List, ◌||◌, ◌∙◌, ◌≡◌, ◌<◌, ◌≤◌, ◌+◌, ap, arith, false, get_or, length, list_any, nodes_by, NodeId, refl, slice_get-get_or, subst, sym, ℕ}
+use Rattle.gl_table.proofs.Words.{List, ◌||◌, ◌∙◌, ◌≡◌, ◌<◌, ◌≤◌, ◌+◌, ap, arith, false, get_or, length, list_any, nodes_by, NodeId}
+use Rattle.gl_table.proofs.Words.{refl, slice_get-get_or, sym}
 use Rattle.std.proofs.Common.{ap₂}
 use Rattle.std.proofs.lemmas.List.{take_all}
 use Rattle.std.proofs.lemmas.List.Folds.{list_any_at, list_any_more}
