@@ -1,7 +1,7 @@
 /*
  * Savepoints, renewals and locks for an instant, over a shared table: a statement that fails within a transaction, a
- * thread whose next transaction keeps intentions, and a key that is inserted before another, as engines do that lock keys
- * in place of intervals.
+ * thread whose next transaction keeps intentions, and a key that is inserted before another, as engines do that lock
+ * keys in place of intervals.
  */
 #include "guide.h"
 
@@ -70,7 +70,8 @@ void savepoints(void) {
   close_table();
 }
 
-/* Ends a transaction, and begins the thread's next one, which keeps so many of its locks: intentions that each needs. */
+/* Ends a transaction, and begins the thread's next one, which keeps so many of its locks: the intentions that each
+ * needs. */
 static bs_txn next_transaction(bs_txn t, uint64_t intentions) {
   bs_reply renewed;
   DONE(bs_table_release_since(table, t, intentions, NULL));
@@ -92,7 +93,7 @@ void renewals(void) {
   WANT(t.slot == first.slot && t.age > first.age);
   WANT(held(t, keys) == BS_IX && held(t, ten) == BS_NL);
   reader = DONE(bs_table_begin(table)).txn;
-  WANT(bs_table_try_path(table, reader, keys, BS_S, BS_KEEP_FIRST).status == BS_WOULD_BLOCK);
+  WANT(bs_table_try_path(table, reader, keys, BS_S, BS_KEEP_NOTHING).status == BS_WOULD_BLOCK);
   DONE(bs_table_lock(table, t, twenty, BS_X, NULL));
   t = next_transaction(t, intentions);
   DONE(bs_table_commit(table, t, NULL));
