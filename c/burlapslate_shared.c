@@ -901,6 +901,10 @@ bs_reply bs_table_commit(bs_table *table, bs_txn txn, bs_notices *told) {
   TABLE_TELL(table, told, false, bs_commit(&table->manager, txn, list));
 }
 
+bs_reply bs_table_renew(bs_table *table, bs_txn txn, uint64_t since) {
+  TABLE_ASK(table, bs_renew(&table->manager, txn, since));
+}
+
 bs_reply bs_table_abort(bs_table *table, bs_txn txn, bs_notices *told) {
   TABLE_TELL(table, told, true, bs_abort(&table->manager, txn, list));
 }
@@ -1435,6 +1439,7 @@ static TABLE_APART bs_reply table_other_made(bs_table *table, const bs_command *
     case BS_DO_CANCEL: return table_cancel_path(table, txn, bs_cancel(m, txn, told));
     case BS_DO_ABORT: return bs_abort(m, txn, told);
     case BS_DO_SETTLE: return bs_settle(m, txn, told);
+    case BS_DO_RENEW: return bs_renew(m, txn, c->number);
     case BS_DO_LOCK_ROW: return bs_lock_row(m, txn, c->file, c->number, c->keys, c->key_count, c->mode, told);
     case BS_DO_UNLOCK_ROW: return bs_unlock_row(m, txn, c->file, c->number, told);
     case BS_DO_TRY_PATH: return table_path_tried(table, txn, c->node, c->mode, c->keep);
@@ -1543,6 +1548,11 @@ static TABLE_APART size_t table_none_made(bs_table *table, bs_command *commands,
   return 0;
 }
 
+/* Whether a command of this kind begins a transaction. */
+static inline bool table_begins(uint32_t kind) {
+  return kind == BS_DO_BEGIN || kind == BS_DO_BEGIN_AGAIN || kind == BS_DO_RENEW;
+}
+
 size_t bs_table_run(bs_table *table, bs_command *commands, size_t count) {
   bs_txn begun = bs_begun();
   size_t done = 0;
@@ -1551,7 +1561,7 @@ size_t bs_table_run(bs_table *table, bs_command *commands, size_t count) {
   while (done < count) {
     bs_command *next = &commands[done];
     if (table_run_next(table, next, begun) != BS_DONE) break;
-    if (next->kind == BS_DO_BEGIN || next->kind == BS_DO_BEGIN_AGAIN) begun = next->reply.txn;
+    if (table_begins(next->kind)) begun = next->reply.txn;
     done++;
   }
   table_hand_on(table);

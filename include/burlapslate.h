@@ -76,7 +76,7 @@ extern "C" {
 /* How many parents a node can have, and how many watchers a manager can have at once. */
 enum { BS_MOST_PARENTS = 8, BS_MOST_WATCHERS = 8 };
 
-/* The outcome of a call. Refusals are 1 to 23, of the manager, and 64 to 75, of this library. */
+/* The outcome of a call. Refusals are 1 to 24, of the manager, and 64 to 75, of this library. */
 typedef uint32_t bs_status;
 enum bs_statuses {
   BS_DONE = 0,
@@ -103,6 +103,7 @@ enum bs_statuses {
   BS_CYCLE = 21,          /* the new parent `node` is the node itself or is below it */
   BS_RECORD_IN_USE = 22,  /* of bs_forget: a transaction holds the record or waits for it */
   BS_HAS_CHILDREN = 23,   /* of bs_drop: the inner node has children */
+  BS_NEED_RELEASE = 24,   /* of bs_renew: more than intentions is held, or a node for which somebody waits */
   BS_WAITING = 32,        /* the transaction waits for the lock */
   BS_VICTIM = 33,         /* the requester was condemned to end a deadlock, and can only abort */
   BS_MOVED = 34,          /* the node moved, and the wait is over */
@@ -352,6 +353,16 @@ static inline bs_reply bs_begin(bs_manager *manager) {
  * transaction's own age counts as that age. With 0 it is older than all that bs_begin began. Refused as bs_begin. */
 static inline bs_reply bs_begin_again(bs_manager *manager, uint64_t since) {
   return manager == NULL ? bs_call_null() : bs_call_begin_again(manager, since);
+}
+
+/* Ends a transaction as bs_commit does, and begins another in its slot, in `txn`, that holds what it held: the next
+ * transaction of a thread needs the same intentions. The old name is nobody's. `since` is as in bs_begin_again; for new
+ * work it is UINT64_MAX. All locks must be intentions (BS_IS, BS_IX), on nodes for which nobody waits: release the others
+ * before, as bs_release_since does for all since a savepoint. Later requests wait for such an intention as for any
+ * other, until the transaction releases it or ends. Refused with BS_NO_SUCH_TXN, BS_TXN_WAITING, BS_TXN_CONDEMNED,
+ * BS_NEED_RELEASE. Costs a step for each lock. */
+static inline bs_reply bs_renew(bs_manager *manager, bs_txn txn, uint64_t since) {
+  return manager == NULL ? bs_call_null() : bs_call_renew(manager, txn, since);
 }
 
 /* Requests a mode on a node. To read (BS_IS, BS_S) the transaction must hold intentions to read, or more, on one
@@ -930,6 +941,7 @@ static inline const char *bs_text(bs_status status) {
     case BS_CYCLE: return "Cycle";
     case BS_RECORD_IN_USE: return "RecordInUse";
     case BS_HAS_CHILDREN: return "HasChildren";
+    case BS_NEED_RELEASE: return "NeedRelease";
     case BS_WAITING: return "Waiting";
     case BS_VICTIM: return "Victim";
     case BS_MOVED: return "Moved";

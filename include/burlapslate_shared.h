@@ -209,6 +209,9 @@ bs_reply bs_table_cancel(bs_table *table, bs_txn txn, bs_notices *told);
 
 bs_reply bs_table_commit(bs_table *table, bs_txn txn, bs_notices *told);
 
+/* As bs_renew. A deadline ends with the old transaction. */
+bs_reply bs_table_renew(bs_table *table, bs_txn txn, uint64_t since);
+
 /* Ends a transaction whatever it is doing, and wakes the thread that sleeps for it: that one is answered
  * BS_NO_SUCH_TXN. Use it to end the transaction of a thread that died. */
 bs_reply bs_table_abort(bs_table *table, bs_txn txn, bs_notices *told);
@@ -303,7 +306,8 @@ enum bs_command_kinds {
   BS_DO_BEGIN = 1, BS_DO_LOCK, BS_DO_LOCK_PATH, BS_DO_TRY, BS_DO_UNLOCK, BS_DO_ESCALATE, BS_DO_CANCEL, BS_DO_COMMIT,
   BS_DO_ABORT, BS_DO_SETTLE, BS_DO_INSERT, BS_DO_DELETE, BS_DO_ADOPT, BS_DO_FORGET, BS_DO_REKEY, BS_DO_MOVE, BS_DO_DROP,
   BS_DO_ADD_INNER, BS_DO_ADD_FILE, BS_DO_ADD_ROW_FILE, BS_DO_ADD_INDEX, BS_DO_INDEX_BY, BS_DO_LOCK_ROW,
-  BS_DO_UNLOCK_ROW, BS_DO_REKEY_ROW, BS_DO_TRY_PATH, BS_DO_TRY_ROW, BS_DO_BEGIN_AGAIN, BS_DO_RELEASE_SINCE
+  BS_DO_UNLOCK_ROW, BS_DO_REKEY_ROW, BS_DO_TRY_PATH, BS_DO_TRY_ROW, BS_DO_BEGIN_AGAIN, BS_DO_RELEASE_SINCE,
+  BS_DO_RENEW
 };
 
 /* A command of a list. Write it with the names of its fields, all others zero, or make it by a function below. All zero
@@ -346,8 +350,8 @@ static inline bs_command bs_do_at(uint32_t kind, bs_txn txn, bs_node node, bs_mo
   return command;
 }
 
-/* In a list, the transaction that the last BS_DO_BEGIN or BS_DO_BEGIN_AGAIN before it began; with none before it, it
- * names nobody. So a whole short transaction can be one list, run again and again. No transaction has this name. */
+/* In a list, the transaction that the last BS_DO_BEGIN, BS_DO_BEGIN_AGAIN or BS_DO_RENEW before it began; with none
+ * before it, it names nobody. So a whole short transaction can be one list, run again and again. No transaction has this name. */
 static inline bs_txn bs_begun(void) {
   bs_txn txn = { UINT32_MAX, 0 };
   return txn;

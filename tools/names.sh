@@ -1,7 +1,7 @@
 #!/usr/bin/env bash
 # names.sh [--list]: counts the public names of the library for C: the functions, types and macros that burlapslate.h
 # and burlapslate_shared.h declare, and their lines. Fields, enumerations with their values, and guards are not counted.
-# Prints both counts, or with --list the names. Ends with status 1 if there are more than 148 names or 1,500 lines.
+# Prints both counts, or with --list the names. Ends with status 1 if there are more than 150 names or 1,500 lines.
 set -uo pipefail
 top=$(cd "$(dirname "$0")/.." && pwd) || exit 2
 headers=("$top"/include/burlapslate{,_shared}.h)
@@ -15,4 +15,4 @@ if [ "${1:-}" = --list ]; then
 fi
 count=$(wc -l <<<"$names") lines=$(cat "${headers[@]}" | wc -l)
 echo "$count public names, $lines lines"
-[ "$count" -le 148 ] && [ "$lines" -le 1500 ] || { echo "names.sh: more than 148 names, or than 1500 lines" >&2; exit 1; }
+[ "$count" -le 150 ] && [ "$lines" -le 1500 ] || { echo "names.sh: more than 150 names, or than 1500 lines" >&2; exit 1; }

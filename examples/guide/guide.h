@@ -48,6 +48,7 @@ void jobs_in_a_table(void);
 
 /* savepoints.c */
 void savepoints(void);
+void renewals(void);
 void locks_for_an_instant(void);
 
 /* loop.c */

@@ -1,6 +1,7 @@
 /*
- * Savepoints and locks for an instant, over a shared table: a statement that fails within a transaction, and a key that is
- * inserted before another, as engines do that lock keys in place of intervals.
+ * Savepoints, renewals and locks for an instant, over a shared table: a statement that fails within a transaction, a
+ * thread whose next transaction keeps intentions, and a key that is inserted before another, as engines do that lock
+ * keys in place of intervals.
  */
 #include "guide.h"
 
@@ -66,6 +67,37 @@ void savepoints(void) {
   WANT(!run_statement(t, writes_twenty_and_fails));
   WANT(held(t, ten) == BS_S && held(t, twenty) == BS_NL);
   WANT(held(t, keys) == BS_IX); /* It was raised, and stays so. */
+  close_table();
+}
+
+/* Ends a transaction, and begins the thread's next one, which keeps so many of its locks: the intentions that each
+ * needs. */
+static bs_txn next_transaction(bs_txn t, uint64_t intentions) {
+  bs_reply renewed;
+  DONE(bs_table_release_since(table, t, intentions, NULL));
+  renewed = bs_table_renew(table, t, UINT64_MAX);
+  if (renewed.status == BS_DONE) return renewed.txn;
+  DONE(bs_table_commit(table, t, NULL)); /* Somebody waits for them. */
+  return DONE(bs_table_begin(table)).txn;
+}
+
+void renewals(void) {
+  uint64_t intentions;
+  bs_txn t, first, reader;
+  open_table();
+  t = first = DONE(bs_table_begin(table)).txn;
+  DONE(bs_table_lock_path(table, t, keys, BS_IX, NULL));
+  intentions = DONE(bs_table_mark(table, t)).count;
+  DONE(bs_table_lock(table, t, ten, BS_X, NULL));
+  t = next_transaction(t, intentions);
+  WANT(t.slot == first.slot && t.age > first.age);
+  WANT(held(t, keys) == BS_IX && held(t, ten) == BS_NL);
+  reader = DONE(bs_table_begin(table)).txn;
+  WANT(bs_table_try_path(table, reader, keys, BS_S, BS_KEEP_NOTHING).status == BS_WOULD_BLOCK);
+  DONE(bs_table_lock(table, t, twenty, BS_X, NULL));
+  t = next_transaction(t, intentions);
+  DONE(bs_table_commit(table, t, NULL));
+  DONE(bs_table_commit(table, reader, NULL));
   close_table();
 }
 

@@ -22,7 +22,7 @@
 enum { TXNS = 3, MOST_NODES = 36, MOST_BOUNDS = 3, KEYS = 30, ROWS = 4 };
 
 /* How many kinds of commands and how many statuses there are. */
-enum { KINDS = BS_DO_RELEASE_SINCE + 1, STATUSES = 75 };
+enum { KINDS = BS_DO_RENEW + 1, STATUSES = 75 };
 
 /* A scenario: how the manager is made, the seed for its work, and whether it has all kinds of work. */
 typedef struct setting {
@@ -103,6 +103,7 @@ static bs_reply made(const bs_command *c) {
     case BS_DO_ESCALATE: return bs_escalate(&m, c->txn, c->node, &told);
     case BS_DO_CANCEL: return bs_cancel(&m, c->txn, &told);
     case BS_DO_COMMIT: return bs_commit(&m, c->txn, &told);
+    case BS_DO_RENEW: return bs_renew(&m, c->txn, c->number);
     case BS_DO_ABORT: return bs_abort(&m, c->txn, &told);
     case BS_DO_SETTLE: return bs_settle(&m, c->txn, &told);
     case BS_DO_LOCK_ROW: return bs_lock_row(&m, c->txn, c->file, c->number, c->keys, c->key_count, c->mode, &told);
@@ -181,6 +182,7 @@ static bool takes_no_memory(const bs_command *c) {
     case BS_DO_ESCALATE:
     case BS_DO_CANCEL:
     case BS_DO_COMMIT:
+    case BS_DO_RENEW:
     case BS_DO_ABORT:
     case BS_DO_SETTLE:
     case BS_DO_DELETE:
@@ -333,6 +335,17 @@ static void ends(size_t who, uint32_t kind) {
   if (asks(bs_do(kind, txns[who])).status != BS_DONE) return;
   ended = txns[who];
   txns[who] = begins();
+}
+
+/* Renews a transaction, for new work or for that of the transaction that ended last. */
+static void renews(size_t who) {
+  bs_command c = bs_do(BS_DO_RENEW, name(txns[who]));
+  bs_reply reply;
+  c.number = seldom(2) ? ended.age : UINT64_MAX;
+  reply = asks(c);
+  if (reply.status != BS_DONE) return;
+  ended = txns[who];
+  txns[who] = reply.txn;
 }
 
 /* The mode that is needed above a lock. */
@@ -531,8 +544,9 @@ static void gives_up(size_t who) {
 /* Work of an active transaction. */
 static void works(size_t who) {
   bs_txn txn = txns[who];
-  size_t drawn = draw(48);
-  if (drawn < 4) makes(txn);
+  size_t drawn = draw(50);
+  if (drawn >= 48) renews(who);
+  else if (drawn < 4) makes(txn);
   else if (drawn < 6) indexes(txn);
   else if (drawn < 12) indexes_by(txn);
   else if (drawn < 18) inserts(txn);

@@ -962,6 +962,29 @@ static void a_victim_keeps_its_turn(void) {
   close_table();
 }
 
+/* A renewed transaction keeps its intentions under another name, and is as young as one that begins. */
+static void a_renewal_keeps_intentions(void) {
+  bs_command list[3];
+  bs_txn old, new, other;
+  set_up(BS_AT_BLOCK);
+  old = begin();
+  DONE(bs_table_lock(table, old, root, BS_IX, NULL));
+  other = begin();
+  new = DONE(bs_table_renew(table, old, UINT64_MAX)).txn;
+  WANT(new.slot == old.slot && new.age == other.age + 1);
+  ANSWERS(BS_NO_SUCH_TXN, bs_table_commit(table, old, NULL));
+  ANSWERS(BS_WOULD_BLOCK, bs_table_try(table, other, root, BS_S));
+  list[0] = bs_do(BS_DO_RENEW, new), list[0].number = old.age;
+  list[1] = bs_do_at(BS_DO_LOCK, bs_begun(), root, BS_SIX);
+  list[2] = bs_do(BS_DO_RENEW, bs_begun());
+  WANT(bs_table_run(table, list, 3) == 2 && list[2].reply.status == BS_NEED_RELEASE);
+  WANT(list[0].reply.txn.slot == old.slot && list[1].reply.mode == BS_SIX);
+  ANSWERS(BS_NEED_RELEASE, bs_table_renew(table, list[0].reply.txn, 0));
+  DONE(bs_table_commit(table, list[0].reply.txn, NULL));
+  DONE(bs_table_commit(table, other, NULL));
+  close_table();
+}
+
 /* In the begin queue old work has no earlier place; it keeps its turn after that. */
 static void a_begin_again_sleeps_for_a_slot(void) {
   struct beginner one, two;
@@ -2021,7 +2044,7 @@ static void commands_that_are_none(void) {
   WANT(list[1].reply.status == BS_NOT_MADE && list[2].reply.status == BS_NOT_MADE);
   WANT(bs_do(BS_DO_COMMIT, a).reply.status == BS_NOT_MADE);
   WANT(bs_do_at(BS_DO_TRY, a, root, BS_X).reply.status == BS_NOT_MADE);
-  for (kind = BS_DO_RELEASE_SINCE + 1; kind != 0; kind <<= 1) {
+  for (kind = BS_DO_RENEW + 1; kind != 0; kind <<= 1) {
     list[0] = bs_do_at(kind, a, root, BS_X);
     WANT(bs_table_run(table, list, 1) == 0 && list[0].reply.status == BS_BAD_NUMBER);
   }
@@ -3689,6 +3712,7 @@ static void refuses_all(bs_table *none, bs_status status, bs_txn t) {
   ANSWERS(status, bs_table_begin(none));
   ANSWERS(status, bs_table_begin_in_turn(none, NULL));
   ANSWERS(status, bs_table_begin_again(none, 1));
+  ANSWERS(status, bs_table_renew(none, t, 1));
   ANSWERS(status, bs_table_begin_again_in_turn(none, 1, NULL));
   ANSWERS(status, bs_table_deadline(none, t, NULL));
   ANSWERS(status, bs_table_lock(none, t, root, BS_X, NULL));
@@ -3957,6 +3981,7 @@ int main(int count, char **words) {
   TELL(times_and_grants);
   TELL(a_begin_sleeps_for_a_slot);
   TELL(a_victim_keeps_its_turn);
+  TELL(a_renewal_keeps_intentions);
   TELL(a_begin_again_sleeps_for_a_slot);
   TELL(begins_over_all_slots);
   TELL(begins_over_four_slots);

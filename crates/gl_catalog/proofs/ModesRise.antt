@@ -154,6 +154,7 @@ module _ (s : State) (law : IsLawful s) (a : Answer) (list : Told) (next : State
       (keeps_taken up up_law _ _ _ (is_covered up u.slot q) (shed-less up up_law u.slot q active)))
   accepted (command.Cancel u) free passed acc = made_is _ acc.2 (keeps s _ (grows_withdrawn s law u.slot Active (λ q v e. cc)))
   accepted (command.Commit u) free passed acc = made_is _ acc.2 (keeps_taken s law _ _ _ (at_all s u.slot) (released-less s law u.slot))
+  accepted (command.Renew u since) free passed acc = same_is _ acc.2 (λ v n. refl)
   accepted (command.Abort u) free passed acc = made_is _ acc.2 (keeps_taken s law _ _ _ (at_all s u.slot) (released-less s law u.slot))
   accepted (command.Settle u) free passed acc = keeps s next (grows_settled s.victims acc.2.0 s next u.slot law acc.2.1)
   accepted (command.Delete u r) free passed acc = made_is _ acc.2 (keeps_departed s _ _)

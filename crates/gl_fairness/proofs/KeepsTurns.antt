@@ -18,7 +18,7 @@ use Rattle.gl_fairness.specs.Turns.{ComesFirst, BecomesVictim, FirstIsNeverVicti
 use Rattle.gl_fairness.specs.Turns.{comes_before}
 use Rattle.gl_fairness.specs.Waiting.{SameTxn}
 use Rattle.gl_fairness.proofs.VictimOrder.{victim_after_a_living}
-use Rattle.gl_fairness.proofs.Turns.{IsNew, one_turn, step_turn}
+use Rattle.gl_fairness.proofs.Turns.{IsNew, step_turn}
 
 -- what passes fewer is counted less
 count_less : (p q : ℕ → Bool) (us : List ℕ) → ((u : ℕ) → p u ≡ true → q u ≡ true) → count_by p us ≤ count_by q us
@@ -35,10 +35,13 @@ count_less p q (u ∷ us) sub =
 module _ (s s' : State) (c : Command) (a : Answer) (told : Told) (v : ℕ) (law : IsLawful s)
     (ahead : begins_ahead (since_of s v) c ≡ false) (step : Step s c a told s') (stays : SameTxn s s' v) where
   own : SameTurn (s.txns v) (s'.txns v)
-  own = one_turn s s' c a told v step stays.was stays.is
+  own =
+      ⊎_elim (λ same. same)
+      (λ new. let low = (law.ages v stays.was).1 in let e = new.age in let f = stays.age in absurd (omega (arith, low, e, f)))
+      (step_turn s s' c a told v step stays.is)
 
   -- a newcomer does not
-  new_behind : (u : ℕ) → IsNew s.begins c (s.txns u) (s'.txns u) → comes_before s' u v ≡ false
+  new_behind : (u : ℕ) → IsNew s u c (s'.txns u) → comes_before s' u v ≡ false
   new_behind u new =
       let low = law.known v stays.was in let age = (law.ages v stays.was).1 in let e = new.age in let f = own.age in
       not_later (since_of s') (age_of s') v u

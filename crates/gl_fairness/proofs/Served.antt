@@ -2,22 +2,29 @@
 use Rattle.std.specs.Prelude.{◌≡◌, ◌≢◌, ℕ, true, not, ◌==◌, List, [], ◌∷◌, is_some}
 use Rattle.std.proofs.Common.{refl, sym, arith, subst, ◌∙◌}
 use Rattle.std.proofs.lemmas.Bool.Decides.{nat_tests}
-use Rattle.gl_modes.proofs.Words.{and_both, both, or_elim}
+use Rattle.gl_modes.proofs.Words.{and_both, both, clash, no, or_elim, or_right}
+use Rattle.gl_modes.specs.declared.mode.Mode.TheVariants.{S}
+use Rattle.gl_modes.specs.Modes.{is_at_least}
+use Rattle.gl_graph.specs.Graph.{nodes}
+use Rattle.gl_graph.proofs.Moved.{some_at}
+use Rattle.gl_graph.proofs.RouteLengths.{listed}
+use Rattle.gl_header.specs.Header.{Waiter, is_among_waiters, is_empty}
+use Rattle.gl_model.specs.Calls.{hinders_at}
 use Rattle.gl_modes.specs.declared.node.NodeId.{NodeId}
 use Rattle.gl_model.specs.declared.txn.TxnId.{TxnId}
 use Rattle.gl_model.specs.Lawful.{IsLawful}
 use Rattle.gl_model.specs.State.{State, status_of}
 use Rattle.gl_model.specs.Tellings.{Told}
-use Rattle.gl_model.proofs.law.Keeps.{txn_there, waiting_is}
+use Rattle.gl_model.proofs.law.Keeps.{apart, txn_there, waiting_is}
 use Rattle.gl_model.proofs.queues.Waiters.{ahead_is, ahead_second}
 use Rattle.gl_steps.specs.declared.command.Answer.{Answer}
 use Rattle.gl_steps.specs.declared.command.Command.{Command}
 use Rattle.gl_steps.specs.Promises.{waits_on}
 use Rattle.gl_steps.proofs.StepsKeepLaw.{steps_keep_law}
 use Rattle.gl_fairness.specs.Waiting.{FirstComeFirstServed, NobodyComesBetween, SameTxn, StoodBefore, WaitsThrough}
-use Rattle.gl_fairness.proofs.Before.{before}
+use Rattle.gl_fairness.proofs.Before.{before, stands_in}
 use Rattle.gl_fairness.proofs.Steps.{step_before}
-use Rattle.gl_fairness.proofs.Turns.{one_turn}
+use Rattle.gl_fairness.proofs.Turns.{IsResting, one_turn}
 
 -- another slot
 pub other_slot : (u t : ℕ) → not (u == t) ≡ true → u ≢ t
@@ -29,13 +36,28 @@ before_lives s law t n u h = or_elim _ _ h (λ k. (law.grants_live u n k).0)
     (λ k. let st = waiting_is (status_of s u) n (law.waits_are u n (ahead_second (s.queue n) t u (sym (ahead_is (s.queue n) t u) ∙ k))) in
     txn_there (s.txns u) _ st.1)
 
+somebody_in : (t : ℕ) (q : List Waiter) → is_among_waiters t q ≡ true → not (is_empty q) ≡ true
+somebody_in t [] h = absurd (no h)
+somebody_in t (w ∷ q) h = refl
+
+-- a transaction that is before a waiter does not rest
+before_is_busy : (s : State) → IsLawful s → (t : ℕ) (n : NodeId) (u : ℕ) → is_among_waiters t (s.queue n) ≡ true → before s t n u ≡ true
+    → IsResting s u → ⊥
+before_is_busy s law t n u waits h rest =
+    or_elim _ _ h
+    (λ k. clash (some_at (hinders_at s u) (nodes s.graph) n (listed s.graph law.graph n (law.grants_live u n k).1)
+    (or_right (is_at_least (s.held u n) S) _ (both _ _ k (somebody_in t (s.queue n) waits)))) rest.rests)
+    (λ k. apart (sym rest.active ∙ (waiting_is (status_of s u) n (law.waits_are u n (ahead_second (s.queue n) t u (sym (ahead_is (s.queue n) t u) ∙ k)))).1))
+
 pub first_come_first_served : FirstComeFirstServed
 first_come_first_served s s' c a told t n law step begin end u h =
     let parts = and_both _ _ h in
     let stood = (step_before s s' c a told t n law step begin end).stood u (other_slot u t.slot parts.0) parts.1 in
     let was = before_lives s law t.slot n u stood in
     let is = before_lives s' (steps_keep_law s s' c a told law step) t.slot n u parts.1 in
-    (both _ _ parts.0 stood, record { was = was; is = is; age = (one_turn s s' c a told u step was is).age })
+    let w = waiting_is (status_of s t.slot) n (and_both _ _ begin).1 in
+    let busy = before_is_busy s law t.slot n u (stands_in s law t.slot n w.0 w.1) stood in
+    (both _ _ parts.0 stood, record { was = was; is = is; age = (one_turn s s' c a told u step was is busy).age })
 
 -- one transaction in three states
 same_txn_trans : (a b c : State) (u : ℕ) → SameTxn a b u → SameTxn b c u → SameTxn a c u

@@ -157,6 +157,7 @@ module _ (s : State) (law : IsLawful s) (t : TxnId) (n : NodeId) (m : Mode) (wai
       made_is _ acc.2 (before_taken s law _ _ _ (is_waiting_at s u.slot) (without_wait-less s law u.slot Active (λ q v e. cc)) t.slot n w)
   accepted (command.Commit u) free passed acc =
       made_is _ acc.2 (before_taken s law _ _ _ (at_all s u.slot) (released-less s law u.slot) t.slot n w)
+  accepted (command.Renew u since) free passed acc = made_is _ acc.2 (λ _. before_same s _ t.slot n (λ v. refl) refl refl)
   accepted (command.Abort u) free passed acc = made_is _ acc.2 (before_taken s law _ _ _ (at_all s u.slot) (released-less s law u.slot) t.slot n w)
   accepted (command.Settle u) free passed acc = settled_before s.victims s next u.slot t.slot n w law still acc.2
   accepted (command.Delete u r) free passed acc = made_is _ acc.2 (before_departed s (λ q. same_node q r) (without_node s.graph r) t.slot n w)

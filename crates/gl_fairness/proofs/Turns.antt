@@ -1,6 +1,6 @@
 -- Over a step each transaction that lives on keeps its age and its `since`; a new one has the next age.
 use Rattle.std.specs.Prelude.{◌≡◌, ◌⊎◌, ℕ, ◌+◌, ◌≤◌, Bool, true, false, min, nat_lt, ◌&&◌, ◌||◌, ◌==◌, List, Option, Some, None, if◌then◌else◌, is_some}
-use Rattle.std.specs.List.{filter}
+use Rattle.std.specs.List.{filter, list_any}
 use Rattle.std.proofs.lemmas.Bool.Decides.{nat_tests}
 use Rattle.std.proofs.Common.{refl, sym, ap, arith, inl, inr, subst, ⊎_elim, ◌∙◌}
 use Rattle.gl_modes.proofs.Words.{clash, same_number, split}
@@ -9,32 +9,42 @@ use Rattle.gl_modes.specs.declared.mode.Mode.TheVariants.{NL}
 use Rattle.gl_modes.specs.declared.node.NodeId.{NodeId}
 use Rattle.gl_modes.specs.Nodes.{same_node}
 use Rattle.gl_graph.specs.Changes.{rekeyed_parents}
+use Rattle.gl_graph.specs.Graph.{nodes}
 use Rattle.gl_header.specs.Header.{Waiter, holds, is_among_waiters}
 use Rattle.gl_model.specs.declared.txn.Status.TheVariants.{Active, Waiting}
-use Rattle.gl_model.specs.Calls.{Locks, enqueued, enters_at, goes_with, is_covered, raised, released, stays, wanted}
-use Rattle.gl_model.specs.State.{State, Txn, age_in, granted_at, is_waiting_at, members, restatus, since_in, with_grant, woken}
+use Rattle.gl_model.specs.declared.txn.TxnId.{TxnId}
+use Rattle.gl_model.specs.Calls.{Locks, begun_since, enqueued, enters_at, goes_with, hinders_at, is_covered, raised, released, stays, wanted}
+use Rattle.gl_model.specs.State.{State, Txn, age_in, granted_at, is_waiting_at, members, restatus, since_in, status_of, with_grant, woken}
 use Rattle.gl_model.specs.Tellings.{stripped, Told}
 use Rattle.gl_model.proofs.law.Lock.{free_slot}
 use Rattle.gl_steps.specs.declared.command.Answer.{Answer}
 use Rattle.gl_steps.specs.declared.command.Command.{Command}
 use Rattle.gl_steps.specs.declared.command.Command.TheVariants as command
 use Rattle.gl_steps.specs.Step.{Accepts, Step}
+use Rattle.gl_steps.specs.Tests.{refusal_of}
+use Rattle.gl_steps.proofs.LockCommands.{may_renew}
 use Rattle.gl_fairness.specs.Turns.{begins_ahead}
 use Rattle.gl_steps.proofs.Beginning.{Begins}
 use Rattle.gl_steps.proofs.EachStep.{each_step}
 use Rattle.gl_steps.proofs.LivesOn.{GoesOn, SameTurn, restatus_turn, turn_same, turn_trans, freed_among_on, freed_on, over_goes_on, pumped_goes_on}
 use Rattle.gl_steps.proofs.LivesOn.{settled_goes_on, unless_on, wait_settles_goes_on, woken_on}
 
--- by a step a transaction begins in a free slot, with the next age; its `since` is not before a number unless it begins for work from before that
-pub record IsNew (begins : ℕ) (c : Command) (x y : Option Txn) : Type 0 where
-  pub free : is_some x ≡ false
-  pub age : age_in y ≡ begins + 1
-  pub low : since_in y ≤ begins + 1
-  pub behind : (bound : ℕ) → bound ≤ begins → begins_ahead bound c ≡ false → bound ≤ since_in y
+-- the transaction is active, and holds intentions alone, on nodes for which nobody waits
+pub record IsResting (s : State) (v : ℕ) : Type 0 where
+  pub active : status_of s v ≡ Some Active
+  pub rests : list_any (hinders_at s v) (nodes s.graph) ≡ false
+
+-- by a step a transaction begins in a free slot, or in that of one that rests, with the next age; its `since` is not before a number unless it begins
+-- for work from before that
+pub record IsNew (s : State) (v : ℕ) (c : Command) (y : Option Txn) : Type 0 where
+  pub place : (is_some (s.txns v) ≡ false) ⊎ IsResting s v
+  pub age : age_in y ≡ s.begins + 1
+  pub low : since_in y ≤ s.begins + 1
+  pub behind : (bound : ℕ) → bound ≤ s.begins → begins_ahead bound c ≡ false → bound ≤ since_in y
 
 -- each that is there after a step was there before it, or begins by it
-abbrev pub HasTurn : ℕ → Command → Option Txn → Option Txn → Type 0
-HasTurn begins c x y = is_some y ≡ true → SameTurn x y ⊎ IsNew begins c x y
+abbrev pub HasTurn : State → ℕ → Command → Option Txn → Type 0
+HasTurn s v c y = is_some y ≡ true → SameTurn (s.txns v) y ⊎ IsNew s v c y
 
 -- one that begins to wait keeps its turn
 pub enqueued_turn : (s : State) (u : ℕ) (n : NodeId) (m : Mode) (v : ℕ) → SameTurn (s.txns v) ((enqueued s u n m).txns v)
@@ -74,62 +84,76 @@ module _ (s : State) (v : ℕ) (a : Answer) (list : Told) (next : State) where
       x : State
       x = enqueued s u q (wanted s u q w)
 
-  begins : (c : Command) (since : ℕ) → since ≤ s.begins + 1 → ((bound : ℕ) → bound ≤ s.begins → begins_ahead bound c ≡ false → bound ≤ since)
-      → Begins since s a list next → HasTurn s.begins c (s.txns v) (next.txns v)
-  begins c since low behind acc k = split (v == acc.0)
-      (λ e. let is : next.txns v ≡ new = ap (λ (x : State). x.txns v) acc.4 ∙ ap (λ b. if b then new else s.txns v) e in
+  begins_in : (c : Command) (u since : ℕ) → (v ≡ u → (is_some (s.txns v) ≡ false) ⊎ IsResting s v) → since ≤ s.begins + 1
+      → ((bound : ℕ) → bound ≤ s.begins → begins_ahead bound c ≡ false → bound ≤ since) → next ≡ begun_since s u since → HasTurn s v c (next.txns v)
+  begins_in c u since place low behind made k = split (v == u)
+      (λ e. let is : next.txns v ≡ new = ap (λ (x : State). x.txns v) made ∙ ap (λ b. if b then new else s.txns v) e in
       inr (record {
-        free = ap (λ z. is_some (s.txns z)) (same_number v acc.0 e) ∙ (free_slot s acc.0 0 s.most acc.1).0;
+        place = place (same_number v u e);
         age = ap age_in is;
         low = subst (λ z. z ≤ s.begins + 1) (sym (ap since_in is)) low;
         behind = λ bound few h. subst (λ z. bound ≤ z) (sym (ap since_in is)) (behind bound few h);
       }))
-      (λ e. inl (unmoved _ acc.4 (ap (λ b. if b then new else s.txns v) e) k))
+      (λ e. inl (unmoved _ made (ap (λ b. if b then new else s.txns v) e) k))
     where
       new : Option Txn
       new = Some (record { age = s.begins + 1; since = since; status = Active })
 
-  still : {c : Command} → Kept → HasTurn s.begins c (s.txns v) (next.txns v)
+  begins : (c : Command) (since : ℕ) → since ≤ s.begins + 1 → ((bound : ℕ) → bound ≤ s.begins → begins_ahead bound c ≡ false → bound ≤ since)
+      → Begins since s a list next → HasTurn s v c (next.txns v)
+  begins c since low behind acc =
+      begins_in c acc.0 since (λ e. inl (ap (λ z. is_some (s.txns z)) e ∙ (free_slot s acc.0 0 s.most acc.1).0)) low behind acc.4
+
+  renews : (u : TxnId) (n : ℕ) → refusal_of s (command.Renew u n) ≡ None → v ≡ u.slot → IsResting s v
+  renews u n free e =
+      let may = may_renew s u n free in
+      record { active = ap (status_of s) e ∙ may.active; rests = ap (λ w. list_any (hinders_at s w) (nodes s.graph)) e ∙ may.rests }
+
+  still : {c : Command} → Kept → HasTurn s v c (next.txns v)
   still kept k = inl (kept k)
 
-  accepted : (c : Command) → Accepts s c a list next → HasTurn s.begins c (s.txns v) (next.txns v)
-  accepted (command.Inner ps) acc = still (unmoved _ acc.4 refl)
-  accepted (command.File ps) acc = still (unmoved _ acc.4 refl)
-  accepted (command.Index ps f bs) acc = still (unmoved _ acc.4 refl)
-  accepted (command.Insert u f ks) acc = still (unmoved _ acc.4 refl)
-  accepted command.Begin acc = begins command.Begin (s.begins + 1) (omega arith) (λ bound few h. omega arith) acc
-  accepted (command.BeginAgain n) acc = begins (command.BeginAgain n) (min n (s.begins + 1)) (omega arith) (again_behind s.begins n) acc
-  accepted (command.Lock u q w) acc = still (locked_case u.slot q w acc.0)
-  accepted (command.Try u q w) acc = still (unmoved _ acc.2 refl)
-  accepted (command.Unlock u q) acc = still (on _ acc.2 (pumped_goes_on (with_grant s u.slot q NL) (same_node q) v))
-  accepted (command.Escalate u q) acc =
+  accepted : (c : Command) → refusal_of s c ≡ None → Accepts s c a list next → HasTurn s v c (next.txns v)
+  accepted (command.Inner ps) free acc = still (unmoved _ acc.4 refl)
+  accepted (command.File ps) free acc = still (unmoved _ acc.4 refl)
+  accepted (command.Index ps f bs) free acc = still (unmoved _ acc.4 refl)
+  accepted (command.Insert u f ks) free acc = still (unmoved _ acc.4 refl)
+  accepted command.Begin free acc = begins command.Begin (s.begins + 1) (omega arith) (λ bound few h. omega arith) acc
+  accepted (command.BeginAgain n) free acc = begins (command.BeginAgain n) (min n (s.begins + 1)) (omega arith) (again_behind s.begins n) acc
+  accepted (command.Lock u q w) free acc = still (locked_case u.slot q w acc.0)
+  accepted (command.Try u q w) free acc = still (unmoved _ acc.2 refl)
+  accepted (command.Unlock u q) free acc = still (on _ acc.2 (pumped_goes_on (with_grant s u.slot q NL) (same_node q) v))
+  accepted (command.Escalate u q) free acc =
       let up : State = raised s u.slot q in
       still (on _ acc.2 (pumped_goes_on (record up { held = λ x c. if (x == u.slot) && is_covered up u.slot q c then NL else up.held x c })
       (is_covered up u.slot q) v))
-  accepted (command.Cancel u) acc = still (on _ acc.2 (over_goes_on s u.slot Active (λ q w h. cc) v))
-  accepted (command.Commit u) acc = still (released_case u.slot acc.2)
-  accepted (command.Abort u) acc = still (released_case u.slot acc.2)
-  accepted (command.Settle u) acc = still (λ k. (settled_goes_on s.victims s next u.slot v acc.2).turn)
-  accepted (command.Delete u r) acc = still (on _ acc.2 (freed_on r (s.txns v)))
-  accepted (command.Rekey u r i k) acc =
+  accepted (command.Cancel u) free acc = still (on _ acc.2 (over_goes_on s u.slot Active (λ q w h. cc) v))
+  accepted (command.Commit u) free acc = still (released_case u.slot acc.2)
+  accepted (command.Renew u n) free acc =
+      begins_in (command.Renew u n) u.slot (min n (s.begins + 1)) (λ e. inr (renews u n free e)) (omega arith)
+      (again_behind s.begins n) acc.2
+  accepted (command.Abort u) free acc = still (released_case u.slot acc.2)
+  accepted (command.Settle u) free acc = still (λ k. (settled_goes_on s.victims s next u.slot v acc.2).turn)
+  accepted (command.Delete u r) free acc = still (on _ acc.2 (freed_on r (s.txns v)))
+  accepted (command.Rekey u r i k) free acc =
       let ps = rekeyed_parents s.graph r i k in
       still (on _ acc.2 (unless_on (λ x. is_among_waiters x (filter (stays s ps) (s.queue r))) r v (s.txns v)))
-  accepted (command.Move u x ps) acc = still (on _ acc.2 (unless_on (λ y. is_among_waiters y (filter (stays s ps.now) (s.queue x))) x v (s.txns v)))
-  accepted (command.Group q) acc = absurd acc
-  accepted (command.Held u q) acc = absurd acc
-  accepted (command.Effective u q) acc = absurd acc
-  accepted (command.Adopt f ks) acc = still (unmoved _ acc.4 refl)
-  accepted (command.Forget r) acc = still (unmoved _ acc.2 refl)
-  accepted (command.Drop u x) acc = still (on _ acc.2 (freed_among_on (goes_with s.graph x) (s.txns v)))
-  accepted (command.IndexBy u ps f bs) acc = still (unmoved _ acc.4 refl)
+  accepted (command.Move u x ps) free acc = still (on _ acc.2 (unless_on (λ y. is_among_waiters y (filter (stays s ps.now) (s.queue x))) x v (s.txns v)))
+  accepted (command.Group q) free acc = absurd acc
+  accepted (command.Held u q) free acc = absurd acc
+  accepted (command.Effective u q) free acc = absurd acc
+  accepted (command.Adopt f ks) free acc = still (unmoved _ acc.4 refl)
+  accepted (command.Forget r) free acc = still (unmoved _ acc.2 refl)
+  accepted (command.Drop u x) free acc = still (on _ acc.2 (freed_among_on (goes_with s.graph x) (s.txns v)))
+  accepted (command.IndexBy u ps f bs) free acc = still (unmoved _ acc.4 refl)
 
-pub step_turn : (s s' : State) (c : Command) (a : Answer) (told : Told) (v : ℕ) → Step s c a told s'
-    → HasTurn s.begins c (s.txns v) (s'.txns v)
+pub step_turn : (s s' : State) (c : Command) (a : Answer) (told : Told) (v : ℕ) → Step s c a told s' → HasTurn s v c (s'.txns v)
 step_turn s s' c a told v =
-    each_step (λ x. HasTurn s.begins c (s.txns v) (x.txns v)) s c a told s' (λ k. inl (turn_same (s.txns v) (s.txns v) refl)) (λ next h. h)
-    (λ free next acc. accepted s v a told next c acc)
+    each_step (λ x. HasTurn s v c (x.txns v)) s c a told s' (λ k. inl (turn_same (s.txns v) (s.txns v) refl)) (λ next h. h)
+    (λ free next acc. accepted s v a told next c free acc)
 
--- so one that is there before and after a step is the same
+-- so one that is there before and after a step is the same, if it did not rest before
 pub one_turn : (s s' : State) (c : Command) (a : Answer) (told : Told) (v : ℕ) → Step s c a told s' → is_some (s.txns v) ≡ true → is_some (s'.txns v) ≡ true
+    → (IsResting s v → ⊥)
     → SameTurn (s.txns v) (s'.txns v)
-one_turn s s' c a told v step was is = ⊎_elim (λ same. same) (λ new. clash was new.free) (step_turn s s' c a told v step is)
+one_turn s s' c a told v step was is busy =
+    ⊎_elim (λ same. same) (λ new. ⊎_elim (λ free. clash was free) (λ rest. absurd (busy rest)) new.place) (step_turn s s' c a told v step is)

@@ -20,7 +20,8 @@ use Rattle.gl_model.specs.declared.answers.Detect.TheVariants.{AtBlock, ByWatche
 use Rattle.gl_model.specs.declared.txn.Status.{Status}
 use Rattle.gl_model.specs.declared.txn.Status.TheVariants.{Active, Condemned, Waiting}
 use Rattle.gl_model.specs.declared.txn.TxnId.{TxnId}
-use Rattle.gl_model.specs.Calls.{Locks, WaitSettles, enqueued, enters_at, freed, freed_among, freed_unless, goes_with, none_among, released, stays, wanted}
+use Rattle.gl_model.specs.Calls.{Locks, WaitSettles, begun_since, enqueued, enters_at, freed, freed_among, freed_unless, goes_with, none_among, released}
+use Rattle.gl_model.specs.Calls.{stays, wanted}
 use Rattle.gl_model.specs.Lawful.{IsLawful}
 use Rattle.gl_model.specs.State.{SettledWithin, State, Txn, age_of, condemned, granted_at, is_waiting_at, restatus, since_of, status_in, status_of, waits_for}
 use Rattle.gl_model.specs.State.{Settled, members, woken}
@@ -171,13 +172,16 @@ module _ (s : State) (law : IsLawful s) (young : s.victims ≡ Youngest) (v : �
       (wait_settles_victim s.detect x next u.slot v (waiting-lawful s law u q w (may_lock s u q w (worn s) [] free).0 e)
       (subst (λ c. WaitSettles s.detect c x u.slot next) young (locks.waits e)) h))
 
-  begins : (since : ℕ) → Begins since s a list next → Well
-  begins since acc = calm _ acc.4 (λ h. split (v == acc.0)
+  begins_in : (u since : ℕ) → next ≡ begun_since s u since → Well
+  begins_in u since is = calm _ is (λ h. split (v == u)
       (λ e. absurd (cc (sym (ap (λ b. status_in (if b then new else s.txns v)) e) ∙ h)))
       (λ e. sym (ap (λ b. status_in (if b then new else s.txns v)) e) ∙ h))
     where
       new : Option Txn
       new = Some (record { age = s.begins + 1; since = since; status = Active })
+
+  begins : (since : ℕ) → Begins since s a list next → Well
+  begins since acc = begins_in acc.0 since acc.4
 
   accepted : (c : Command) → refusal_of s c ≡ None → Accepts s c a list next → Well
   accepted (command.Inner ps) free acc = unmoved _ acc.4 refl
@@ -192,6 +196,7 @@ module _ (s : State) (law : IsLawful s) (young : s.victims ≡ Youngest) (v : �
   accepted (command.Escalate u q) free acc = calm _ acc.2 (woken_calm _ v (s.txns v))
   accepted (command.Cancel u) free acc = calm _ acc.2 (λ h. restatus_calm Active (λ f. cc f) s u.slot v (woken_calm _ v _ h))
   accepted (command.Commit u) free acc = released_case u.slot acc.2
+  accepted (command.Renew u since) free acc = begins_in u.slot (min since (s.begins + 1)) acc.2
   accepted (command.Abort u) free acc = released_case u.slot acc.2
   accepted (command.Settle u) free acc = let settled = subst (λ c. Settled c s u.slot next) young acc.2 in
       settled_victim settled.0 s next u.slot v law settled.1

@@ -49,9 +49,10 @@ VictimAfterALiving =
 abbrev pub count_before : State → ℕ → ℕ
 count_before s v = count_by (λ u. is_some (s.txns u) && comes_before s u v) (slots s)
 
--- a transaction begins again for work from before this number
+-- a transaction begins again, or renews, for work from before this number
 abbrev pub begins_ahead : ℕ → Command → Bool
 begins_ahead since (command.BeginAgain n) = nat_lt n since
+begins_ahead since (command.Renew t n) = nat_lt n since
 begins_ahead since c = false
 
 -- over any other step no more living transactions come before one that lives on

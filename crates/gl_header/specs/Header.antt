@@ -25,8 +25,8 @@ use Rattle.std.specs.Prelude.{
 }
 use Rattle.std.specs.List.{filter, find, fold, list_any, list_all, range_with_len, before_first}
 use Rattle.gl_modes.specs.declared.mode.Mode.{Mode}
-use Rattle.gl_modes.specs.declared.mode.Mode.TheVariants.{NL}
-use Rattle.gl_modes.specs.Modes.{are_compatible, supremum, same_mode}
+use Rattle.gl_modes.specs.declared.mode.Mode.TheVariants.{NL, S}
+use Rattle.gl_modes.specs.Modes.{are_compatible, is_at_least, supremum, same_mode}
 
 -- the mode that each slot holds
 abbrev pub Members : Type 0
@@ -93,6 +93,10 @@ is_ahead q t u = is_among_waiters t q && is_among_waiters u (before_first (is_wa
 abbrev pub is_empty : {A : Type 0} → List A → Bool
 is_empty [] = true
 is_empty (x ∷ xs) = false
+
+-- t holds S or greater, or something while somebody waits
+abbrev pub hinders : Members → List Waiter → ℕ → Bool
+hinders g q t = is_at_least (g t) S || (holds g t && not (is_empty q))
 
 -- granted at once: a member if the mode fits, a newcomer if it fits and nobody waits
 abbrev pub enters : ℕ → Members → List Waiter → ℕ → Mode → Bool

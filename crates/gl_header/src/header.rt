@@ -11,6 +11,7 @@ ghost use Rattle.gl_header.specs.Header.{
   enters,
   front,
   group_of,
+  hinders,
   holds,
   is_ahead,
   is_among_waiters,
@@ -33,7 +34,7 @@ ghost use Rattle.gl_header.specs.State.{
 use crate::changes::{GrantList, Queue, enqueue, pump, take_out};
 use crate::entries::{ahead_of, has_entry, mode_in, place_of};
 use crate::group::Group;
-use gl_modes::{Mode, Refusal, sup};
+use gl_modes::{Mode, Refusal, covers, sup};
 use gl_slots::{Slot, Slots};
 use smallvec::SmallVec;
 use std::alloc::{AllocError, Global};
@@ -122,6 +123,14 @@ impl Header {
         ensures { result ≡ members_of self.now slot }
     {
         self.granted.mode_of(slot)
+    }
+
+    /// Whether a slot holds the node in `S` or greater, or holds it while somebody waits for it.
+    pub fn hinders(&self, slot: Slot) -> bool
+        ensures { result ≡ hinders (members_of self.now) self.now.queue slot }
+    {
+        let mode = self.mode_of(slot);
+        covers(mode, Mode::S) || (mode != Mode::NL && !self.queue.is_empty())
     }
 
     /// The slots that hold a mode incompatible with `mode`.

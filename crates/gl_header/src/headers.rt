@@ -34,6 +34,7 @@ ghost use Rattle.gl_header.specs.Answers.{MayAsk, asked};
 ghost use Rattle.gl_header.specs.Header.{
   front,
   group_of,
+  hinders,
   holds,
   is_ahead,
   is_among_waiters,
@@ -70,7 +71,7 @@ use crate::header::{Asked, Header};
 use crate::places::{
     Place, Seen, Shared, ask_at, dismiss_at, drop_grant_at, drop_wait_at, grow, seen_in,
 };
-use gl_modes::{Mode, NodeId, Refusal, compatible, sup};
+use gl_modes::{Mode, NodeId, Refusal, compatible, covers, sup};
 use gl_slots::{Slot, Slots};
 use std::alloc::{AllocError, Global};
 use std::marker::Model;
@@ -227,6 +228,17 @@ impl Headers {
         match self.seen(node) {
             Seen::Shared(header) => header.queue(),
             _ => &[],
+        }
+    }
+
+    /// Whether a slot holds a node in `S` or greater, or holds it while somebody waits for it.
+    pub fn hinders(&self, slot: Slot, node: NodeId) -> bool
+        ensures { result ≡ hinders (members_at self.now.entries node) (queue_of self.now.entries node) slot }
+    {
+        match self.seen(node) {
+            Seen::Nobody => false,
+            Seen::One(holder, mode) => holder == slot && covers(mode, Mode::S),
+            Seen::Shared(header) => header.hinders(slot),
         }
     }
 

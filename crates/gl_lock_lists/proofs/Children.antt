@@ -295,7 +295,7 @@ one_found f q (x ∷ xs) h k = or_elim _ _ k (λ here. or_left _ _ (ap f (sym (s
     (λ there. or_right (f x) _ (one_found f q xs h there))
 
 -- if all that pass a test are in both of two lists, some pass it in one if some do in the other
-any_alike : (p : NodeId → Bool) (xs ys : List NodeId) → ((c : NodeId) → p c ≡ true → list_any (same_node c) xs ≡ true)
+pub any_alike : (p : NodeId → Bool) (xs ys : List NodeId) → ((c : NodeId) → p c ≡ true → list_any (same_node c) xs ≡ true)
     → ((c : NodeId) → p c ≡ true → list_any (same_node c) ys ≡ true) → list_any p xs ≡ list_any p ys
 any_alike p xs ys in_xs in_ys = split (list_any p ys)
     (λ e. let f = any_found p ys e in one_found p f.0 xs f.2 (in_xs f.0 f.2) ∙ sym e)

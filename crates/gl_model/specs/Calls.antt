@@ -15,7 +15,7 @@ use Rattle.gl_graph.specs.Lawful.{AreInnerParents}
 use Rattle.gl_graph.specs.Refusals.{bad_bounds, bad_index_place, has_records, is_in_use, max_count, some_no_node, too_many_nodes, where_true, worn_births}
 use Rattle.gl_graph.specs.Refusals.{Refuses, first_cycle, first_refusal, record_refusal}
 use Rattle.gl_graph.specs.Shapes.{Index, Inner, Shape, is_file_shape, is_index_of_shape, is_movable_shape, is_record_shape, least_parents}
-use Rattle.gl_header.specs.Header.{holds, Waiter, enters, is_among_waiters, is_empty, placed, without_waiter, fits}
+use Rattle.gl_header.specs.Header.{hinders, holds, Waiter, enters, is_among_waiters, is_empty, placed, without_waiter, fits}
 use Rattle.gl_header.specs.State.{nobody_holds}
 use Rattle.gl_header.specs.declared.header.Asked.{Asked}
 use Rattle.gl_waits.specs.declared.victims.Victims.{Victims}
@@ -306,6 +306,14 @@ some_given (x ∷ xs) = true
 abbrev pub escalation_blocks : State → ℕ → NodeId → Option Refusal
 escalation_blocks s t n = where_true (not (fits s.most (members s n) t (wanted s t n (asked_by_escalation s t n)))) no.WouldBlock
 
+-- t holds S or greater on n, or something while somebody waits for n
+abbrev pub hinders_at : State → ℕ → NodeId → Bool
+hinders_at s t n = hinders (members s n) (s.queue n) t
+
+-- t holds more than intentions, or a node for which somebody waits
+abbrev pub need_release : State → ℕ → Option Refusal
+need_release s t = where_true (list_any (hinders_at s t) (nodes s.graph)) no.NeedRelease
+
 -- begin
 abbrev pub begin_tests : State → List (Option Refusal)
 begin_tests s = worn_begins s ∷ too_many_txns s ∷ []
@@ -329,6 +337,10 @@ cancel_tests s t = no_txn s t ∷ condemned_test (status_of s t.slot) ∷ idle_t
 -- commit
 abbrev pub commit_tests : State → TxnId → List (Option Refusal)
 commit_tests s t = no_txn s t ∷ waiting_test (status_of s t.slot) ∷ condemned_test (status_of s t.slot) ∷ []
+
+-- renew
+abbrev pub renew_tests : State → TxnId → List (Option Refusal)
+renew_tests s t = commit_tests s t ++ need_release s t.slot ∷ worn_begins s ∷ []
 
 -- abort and settle need only a living transaction
 abbrev pub living_tests : State → TxnId → List (Option Refusal)

@@ -25,6 +25,7 @@ use Rattle.gl_modes.specs.declared.refusal.Refusal.TheVariants.{
   Cycle,
   RecordInUse,
   HasChildren,
+  NeedRelease,
 }
 
 -- the number of a refusal, as scripts print it
@@ -52,6 +53,7 @@ refusal_number BadLine = 20
 refusal_number (Cycle _) = 21
 refusal_number RecordInUse = 22
 refusal_number HasChildren = 23
+refusal_number NeedRelease = 24
 
 -- its name, as scripts print it
 abbrev pub refusal_name : Refusal → List ℕ
@@ -78,3 +80,4 @@ refusal_name BadLine = codes "BadLine"
 refusal_name (Cycle _) = codes "Cycle"
 refusal_name RecordInUse = codes "RecordInUse"
 refusal_name HasChildren = codes "HasChildren"
+refusal_name NeedRelease = codes "NeedRelease"

@@ -57,10 +57,12 @@ pub enum Refusal {
     RecordInUse,
     /// The inner node has children.
     HasChildren,
+    /// The transaction holds more than intentions, or a node for which another waits.
+    NeedRelease,
 }
 
 impl Refusal {
-    /// The refusal's number, from 1 to 23.
+    /// The refusal's number, from 1 to 24.
     pub fn number(self) -> u8
         ensures { result ≡ refusal_number self }
     {
@@ -88,6 +90,7 @@ impl Refusal {
             Refusal::Cycle { .. } => 21,
             Refusal::RecordInUse => 22,
             Refusal::HasChildren => 23,
+            Refusal::NeedRelease => 24,
         }
     }
 
@@ -119,6 +122,7 @@ impl Refusal {
             Refusal::Cycle { .. } => "Cycle",
             Refusal::RecordInUse => "RecordInUse",
             Refusal::HasChildren => "HasChildren",
+            Refusal::NeedRelease => "NeedRelease",
         }
     }
 }

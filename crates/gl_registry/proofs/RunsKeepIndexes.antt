@@ -102,6 +102,7 @@ accepted_keeps s law (command.Unlock t n) a told s' stays free acc = same_keeps 
 accepted_keeps s law (command.Escalate t n) a told s' stays free acc = same_keeps s.graph s'.graph (ap (λ z. z.graph) acc.2)
 accepted_keeps s law (command.Cancel t) a told s' stays free acc = same_keeps s.graph s'.graph (ap (λ z. z.graph) acc.2)
 accepted_keeps s law (command.Commit t) a told s' stays free acc = same_keeps s.graph s'.graph (ap (λ z. z.graph) acc.2)
+accepted_keeps s law (command.Renew t since) a told s' stays free acc = same_keeps s.graph s'.graph (ap (λ z. z.graph) acc.2)
 accepted_keeps s law (command.Abort t) a told s' stays free acc = same_keeps s.graph s'.graph (ap (λ z. z.graph) acc.2)
 accepted_keeps s law (command.Settle t) a told s' stays free acc =
     same_keeps s.graph s'.graph (settled_follows s.victims s t.slot s' t.slot acc.2 (lawful_waits s law t.slot)).graph

@@ -270,6 +270,7 @@ module _ (v : RegistryView) (law : IsLawful (state_of v.manager)) where
   accepted_same (command.Escalate t n) a told s' off free acc = same_graph has s.graph s'.graph (ap (λ (z : State). z.graph) acc.2)
   accepted_same (command.Cancel t) a told s' off free acc = same_graph has s.graph s'.graph (ap (λ (z : State). z.graph) acc.2)
   accepted_same (command.Commit t) a told s' off free acc = same_graph has s.graph s'.graph (ap (λ (z : State). z.graph) acc.2)
+  accepted_same (command.Renew t since) a told s' off free acc = same_graph has s.graph s'.graph (ap (λ (z : State). z.graph) acc.2)
   accepted_same (command.Abort t) a told s' off free acc = same_graph has s.graph s'.graph (ap (λ (z : State). z.graph) acc.2)
   accepted_same (command.Settle t) a told s' off free acc =
       same_graph has s.graph s'.graph (settled_follows s.victims s t.slot s' t.slot acc.2 (lawful_waits s law t.slot)).graph

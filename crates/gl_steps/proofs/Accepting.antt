@@ -40,6 +40,7 @@ accepting_keeps_count s (command.Unlock t n) a told s' acc = ap (λ z. z.accepte
 accepting_keeps_count s (command.Escalate t n) a told s' acc = ap (λ z. z.accepted) acc.2
 accepting_keeps_count s (command.Cancel t) a told s' acc = ap (λ z. z.accepted) acc.2
 accepting_keeps_count s (command.Commit t) a told s' acc = ap (λ z. z.accepted) acc.2
+accepting_keeps_count s (command.Renew t since) a told s' acc = ap (λ z. z.accepted) acc.2
 accepting_keeps_count s (command.Abort t) a told s' acc = ap (λ z. z.accepted) acc.2
 accepting_keeps_count s (command.Settle t) a told s' acc = settled_count s.victims acc.2.0 s s' t.slot acc.2.1
 accepting_keeps_count s (command.Group n) a told s' acc = absurd acc

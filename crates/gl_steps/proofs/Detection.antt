@@ -44,6 +44,7 @@ accepts_settings s (command.Unlock t n) a told' s' acc = ap settings acc.2
 accepts_settings s (command.Escalate t n) a told' s' acc = ap settings acc.2
 accepts_settings s (command.Cancel t) a told' s' acc = ap settings acc.2
 accepts_settings s (command.Commit t) a told' s' acc = ap settings acc.2
+accepts_settings s (command.Renew t since) a told' s' acc = ap settings acc.2
 accepts_settings s (command.Abort t) a told' s' acc = ap settings acc.2
 accepts_settings s (command.Settle t) a told' s' acc = settled_settings s.victims acc.2.0 s s' t.slot acc.2.1
 accepts_settings s (command.Group n) a told' s' acc = absurd acc

@@ -13,7 +13,8 @@ use Rattle.gl_graph.specs.Shapes.{Shape, Inner, File, Rec}
 use Rattle.gl_graph.specs.Graph.{Node, record_parents}
 use Rattle.gl_graph.specs.Changes.{born_index, rekeyed, rekeyed_parents, with_parents, without_node}
 use Rattle.gl_model.specs.State.{State, status_of, with_grant, with_graph}
-use Rattle.gl_model.specs.Calls.{accepted_once, begun_since, cancelled, deleted, free_slot, granted, unlocked, moved_to, raised, released, shed, wanted}
+use Rattle.gl_model.specs.Calls.{accepted_once, begun_again, begun_since, cancelled, deleted, free_slot, granted, unlocked, moved_to, raised, released, shed}
+use Rattle.gl_model.specs.Calls.{wanted}
 use Rattle.gl_model.specs.Calls.{dropped, covered_children, held_children}
 use Rattle.gl_model.specs.Tellings.{Told, told, told_but}
 use Rattle.gl_steps.specs.Tests.{refusal_of}
@@ -92,6 +93,7 @@ go s (command.Escalate t n) =
     (answer.Escalated (record { mode = up.held t.slot n; released = gone; kept = held_children up t.slot n - gone }), told s s', s')
 go s (command.Cancel t) = let s' = cancelled s t.slot in (answer.Done, told_but t.slot s s', s')
 go s (command.Commit t) = done s (released s t.slot)
+go s (command.Renew t since) = (answer.Begun (record { slot = t.slot; age = s.begins + 1 }), [], begun_again s t.slot since)
 go s (command.Abort t) = done s (released s t.slot)
 go s (command.Settle t) = done s (settled s.victims s t.slot)
 go s (command.Insert t f keys) = (

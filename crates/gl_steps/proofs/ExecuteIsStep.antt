@@ -126,6 +126,7 @@ module _ (s : State) (law : IsLawful s) where
   goes (command.Escalate t n) None e = (_, (refl, refl, refl), refl)
   goes (command.Cancel t) None e = (_, (refl, refl, refl), refl)
   goes (command.Commit t) None e = (_, (refl, refl, refl), refl)
+  goes (command.Renew t since) None e = (_, (refl, refl, refl), refl)
   goes (command.Abort t) None e = (_, (refl, refl, refl), refl)
   goes (command.Settle t) None e = (_, (refl, refl, settles s.victims s law t.slot), refl)
   goes (command.Insert t f keys) None e = (_, (_, record { key_free = key_free; birth = refl; after = refl }, refl, refl, refl), refl)

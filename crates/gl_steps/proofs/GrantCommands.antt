@@ -16,7 +16,7 @@ use Rattle.gl_model.specs.Lawful.{IsLawful}
 use Rattle.gl_model.specs.Tellings.{told, told_but, Told}
 use Rattle.gl_steps.proofs.Beginning.{Begins}
 use Rattle.gl_steps.specs.Step.{Accepts}
-use Rattle.gl_model.specs.Calls.{accepted_once, enters_at, free_slot, wanted, enqueued, released}
+use Rattle.gl_model.specs.Calls.{accepted_once, begun_since, enters_at, free_slot, wanted, enqueued, released}
 use Rattle.gl_model.proofs.telling.Follows.{Follows, GrantedTo, WaitsWell, lawful_waits, follows_refl, follows_same, follows_trans}
 use Rattle.gl_steps.proofs.OtherChanges.{with_grant_follows, begun_follows, begun_other, enqueued_follows, settled_follows, wait_settles_follows}
 use Rattle.gl_steps.proofs.OtherChanges.{released_follows, escalated_follows, unlocked_follows, cancelled_follows}
@@ -111,6 +111,11 @@ module _ (s : State) (law : IsLawful s) (t : TxnId) (alive : lives s t ≡ true)
       let ne = free_differs s t alive acc.0 acc.1 in
       kept_quiet told' (ap (λ x. x.txns t.slot) acc.4 ∙ begun_other s acc.0 since t.slot ne)
       (follows_is _ acc.4 (begun_follows s acc.0 since t.slot ne well))
+
+  pub renew_keeps : (u : TxnId) (since : ℕ) (told' : Told) → u.slot ≢ t.slot → next ≡ begun_since s u.slot since → Kept told'
+  renew_keeps u since told' ne is =
+      kept_quiet told' (ap (λ x. x.txns t.slot) is ∙ begun_other s u.slot since t.slot ne)
+      (follows_is _ is (begun_follows s u.slot since t.slot ne well))
 
   pub same_keeps : (told' : Told) → (s' : State) → s' ≡ s → {rows : Bool} → Keeps s s' t told' rows
   same_keeps told' s' e {rows} =

@@ -145,3 +145,20 @@ row_by_watcher : Rows ByWatcher 2 (
     ∷ done (command.Settle a)
     ∷ tells (command.Abort b) a (notice.Granted db X) ∷ [])
 row_by_watcher = computed refl
+
+-- a transaction renews with its intention, as another; not while somebody waits for the node, nor with more than an intention
+row_renewal : Rows AtBlock 2 (
+    roots db ∷ begins a ∷ begins b
+    ∷ locks a IX db
+    ∷ says (command.Renew a 9) (answer.Begun (txn 0 3))
+    ∷ refuses (command.Commit a) no.NoSuchTxn
+    ∷ holds (txn 0 3) db IX
+    ∷ waits b X db
+    ∷ refuses (command.Renew (txn 0 3) 1) no.NeedRelease
+    ∷ refuses (command.Renew b 1) no.TxnWaiting
+    ∷ done (command.Cancel b)
+    ∷ says (command.Renew (txn 0 3) 1) (answer.Begun (txn 0 4))
+    ∷ locks (txn 0 4) SIX db
+    ∷ refuses (command.Renew (txn 0 4) 1) no.NeedRelease
+    ∷ done (command.Commit (txn 0 4)) ∷ [])
+row_renewal = computed refl

@@ -61,6 +61,7 @@ same_accepted s law (command.Escalate t n) s₁ s₂ a₁ a₂ told₁ told₂ n
 same_accepted s law (command.Cancel t) s₁ s₂ a₁ a₂ told₁ told₂ none free x y =
     by_told s s₁ s₂ a₁ a₂ told₁ told₂ (told_but t.slot s) x.0 y.0 x.1 y.1 (x.2 ∙ sym y.2)
 same_accepted s law (command.Commit t) s₁ s₂ a₁ a₂ told₁ told₂ none free x y = by_told s s₁ s₂ a₁ a₂ told₁ told₂ (told s) x.0 y.0 x.1 y.1 (x.2 ∙ sym y.2)
+same_accepted s law (command.Renew t since) s₁ s₂ a₁ a₂ told₁ told₂ none free x y = (x.0 ∙ sym y.0, x.1 ∙ sym y.1, x.2 ∙ sym y.2)
 same_accepted s law (command.Abort t) s₁ s₂ a₁ a₂ told₁ told₂ none free x y = by_told s s₁ s₂ a₁ a₂ told₁ told₂ (told s) x.0 y.0 x.1 y.1 (x.2 ∙ sym y.2)
 same_accepted s law (command.Settle t) s₁ s₂ a₁ a₂ told₁ told₂ none free x y =
     by_told s s₁ s₂ a₁ a₂ told₁ told₂ (told s) x.0 y.0 x.1 y.1 (settled_one s.victims s s₁ s₂ t.slot law x.2 y.2)

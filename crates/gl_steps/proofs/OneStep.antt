@@ -20,7 +20,7 @@ use Rattle.gl_steps.proofs.Keeps.{Keeps}
 use Rattle.gl_steps.proofs.Made.{adopted_is, made_is, indexed_is, inserted_is, indexed_by_is}
 use Rattle.gl_steps.proofs.NotRefused.{txn_lives, nodes_live, differ, exclusive}
 use Rattle.gl_steps.proofs.GrantCommands.{lock_keeps, try_keeps, unlock_keeps, escalate_keeps, cancel_keeps, release_keeps, settle_keeps}
-use Rattle.gl_steps.proofs.GrantCommands.{begin_keeps, same_keeps}
+use Rattle.gl_steps.proofs.GrantCommands.{begin_keeps, renew_keeps, same_keeps}
 use Rattle.gl_steps.proofs.GraphCommands.{inner_keeps, file_keeps, index_keeps, insert_keeps, delete_keeps, rekey_keeps, move_keeps}
 use Rattle.gl_graph.specs.Graph.{shape_of}
 use Rattle.gl_steps.proofs.SchemaKeeps.{itself_locked}
@@ -69,6 +69,8 @@ module _ (s : State) (law : IsLawful s) (t : TxnId) (alive : lives s t ≡ true)
   accepted (command.Cancel u) apart passed ans = finish ans.0 ans.2 (λ l. cancel_keeps s law t alive ans.0 u a told' (other_slot u apart passed.1.0) ans.1)
   accepted (command.Commit u) apart passed ans =
       finish ans.0 ans.2 (λ l. release_keeps s law t alive ans.0 u told' (other_slot u apart passed.1.0) ans.1.1 ans.1.2)
+  accepted (command.Renew u since) apart passed ans =
+      finish ans.0 ans.2 (λ l. renew_keeps s law t alive ans.0 u (min since (s.begins + 1)) told' (other_slot u apart passed.1.0) ans.1.2)
   accepted (command.Abort u) apart passed ans =
       finish ans.0 ans.2 (λ l. release_keeps s law t alive ans.0 u told' (other_slot u apart passed.1.0) ans.1.1 ans.1.2)
   accepted (command.Settle u) apart passed ans = finish ans.0 ans.2 (λ l. settle_keeps s law t alive ans.0 u a told' ans.1)

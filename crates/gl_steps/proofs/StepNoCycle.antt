@@ -73,6 +73,8 @@ accepts-no_cycle s (command.Unlock t n) a told' s' at law none h acc =
 accepts-no_cycle s (command.Escalate t n) a told' s' at law none h acc = subst HasNoCycle (sym acc.2) (escalated-no_cycle s law t n h none)
 accepts-no_cycle s (command.Cancel t) a told' s' at law none h acc = subst HasNoCycle (sym acc.2) (given_up-no_cycle s law t.slot Active (λ q m e. cc) none)
 accepts-no_cycle s (command.Commit t) a told' s' at law none h acc = subst HasNoCycle (sym acc.2) (released-no_cycle s law t.slot none)
+accepts-no_cycle s (command.Renew t since) a told' s' at law none h acc =
+    subst HasNoCycle (sym acc.2) (begun-no_cycle s t.slot (min since (s.begins + 1)) none)
 accepts-no_cycle s (command.Abort t) a told' s' at law none h acc = subst HasNoCycle (sym acc.2) (released-no_cycle s law t.slot none)
 accepts-no_cycle s (command.Settle t) a told' s' at law none h acc = settled-no_cycle s.victims s s' t.slot law acc.2 none
 accepts-no_cycle s (command.Group n) a told' s' at law none h acc = absurd acc

@@ -9,7 +9,7 @@ use Rattle.gl_steps.proofs.Counting.{lawful_counting}
 use Rattle.gl_steps.proofs.EachStep.{each_step}
 use Rattle.gl_steps.proofs.KeepsLaw.{KeepsLaw}
 use Rattle.gl_steps.proofs.LockCommands.{begin_keeps, lock_keeps, try_keeps, unlock_keeps, escalate_keeps, cancel_keeps, commit_keeps, abort_keeps}
-use Rattle.gl_steps.proofs.LockCommands.{begin_again_keeps, settle_keeps}
+use Rattle.gl_steps.proofs.LockCommands.{begin_again_keeps, renew_keeps, settle_keeps}
 use Rattle.gl_steps.proofs.MakeKeeps.{inner_keeps, file_keeps, index_keeps, insert_keeps}
 use Rattle.gl_steps.proofs.DeleteKeeps.{delete_keeps}
 use Rattle.gl_steps.proofs.MoveCommands.{move_keeps, rekey_keeps}
@@ -29,6 +29,7 @@ accepted_keeps (command.Unlock t n) = unlock_keeps t n
 accepted_keeps (command.Escalate t n) = escalate_keeps t n
 accepted_keeps (command.Cancel t) = cancel_keeps t
 accepted_keeps (command.Commit t) = commit_keeps t
+accepted_keeps (command.Renew t since) = renew_keeps t since
 accepted_keeps (command.Abort t) = abort_keeps t
 accepted_keeps (command.Settle t) = settle_keeps t
 accepted_keeps (command.Insert t f keys) = insert_keeps t f keys

@@ -13,7 +13,7 @@ use Rattle.gl_header.specs.Header.{holds, is_among_waiters}
 use Rattle.gl_model.specs.declared.txn.Status.{Status}
 use Rattle.gl_model.specs.declared.txn.Status.TheVariants.{Active, Waiting, Condemned}
 use Rattle.gl_model.specs.declared.txn.TxnId.{TxnId}
-use Rattle.gl_model.specs.Calls.{Locks, enqueued, enters_at, raised, stays, wanted, is_covered}
+use Rattle.gl_model.specs.Calls.{Locks, begun_since, enqueued, enters_at, raised, stays, wanted, is_covered}
 use Rattle.gl_model.specs.State.{granted_at, is_waiting_at, woken, State, Txn, members, restatus, status_in, status_of, with_grant, is_wait}
 use Rattle.gl_model.specs.Tellings.{stripped, Told}
 use Rattle.gl_steps.specs.declared.command.Answer.{Answer}
@@ -64,13 +64,16 @@ module _ (s : State) (t : ℕ) (n : NodeId) (m : Mode) (a : Answer) where
         let before : x.txns t ≡ s.txns t = ap (λ b. if b then restatus (Waiting q (wanted s u.slot q w)) (s.txns u.slot) else s.txns t) e in
         inl (ap status_in (sym before) ∙ (wait_settles_goes_on s.detect s.victims x next u.slot t (locks.waits queued)).waits n m waits)))
 
-    begins : (since : ℕ) → Begins since s a list next → Began next
-    begins since acc =
+    begins_in : (u since : ℕ) → next ≡ begun_since s u since → Began next
+    begins_in u since is =
         let new : Option Txn = Some (record { age = s.begins + 1; since = since; status = Active }) in
-        split (t == acc.0)
+        split (t == u)
         (λ e. other_status (Some Active) (λ h. cc h)
-        (ap (λ (x : State). status_of x t) acc.4 ∙ ap (λ b. status_in (if b then new else s.txns t)) e))
-        (λ e. same _ acc.4 (ap (λ b. if b then new else s.txns t) e))
+        (ap (λ (x : State). status_of x t) is ∙ ap (λ b. status_in (if b then new else s.txns t)) e))
+        (λ e. same _ is (ap (λ b. if b then new else s.txns t) e))
+
+    begins : (since : ℕ) → Begins since s a list next → Began next
+    begins since acc = begins_in acc.0 since acc.4
 
     accepted : (c : Command) → Accepts s c a list next → Began next
     accepted (command.Inner ps) acc = same _ acc.4 refl
@@ -88,6 +91,7 @@ module _ (s : State) (t : ℕ) (n : NodeId) (m : Mode) (a : Answer) where
         (is_covered up u.slot q) t)
     accepted (command.Cancel u) acc = on _ acc.2 (over_goes_on s u.slot Active (λ q w h. cc) t)
     accepted (command.Commit u) acc = released_case u.slot (ap (λ (x : State). status_of x t) acc.2)
+    accepted (command.Renew u since) acc = begins_in u.slot (min since (s.begins + 1)) acc.2
     accepted (command.Abort u) acc = released_case u.slot (ap (λ (x : State). status_of x t) acc.2)
     accepted (command.Settle u) acc = λ w. inl ((settled_goes_on s.victims s next u.slot t acc.2).waits n m w)
     accepted (command.Delete u r) acc = on _ acc.2 (freed_on r (s.txns t))

@@ -307,6 +307,8 @@ module _ (s : State) (law : IsLawful s) (t : TxnId) (alive : lives s t ≡ true)
     accepted (command.Commit u) passed acc =
         let ne = other_active u passed.1.1.0 in let on = on_is _ acc.2 (released_on u.slot ne) in
         all_told (command.Commit u) acc.1 on (granted_by (follows_is _ acc.2 (released_follows s u.slot t.slot ne well)) on (command.Commit u))
+    accepted (command.Renew u since) passed acc =
+        unmoved _ acc.2 (begun_other s u.slot (min since (s.begins + 1)) t.slot (other_active u passed.1.1.0)) (command.Renew u since)
     accepted (command.Abort u) passed acc =
         split (same_txn t u) (λ e. named (command.Abort u) e)
         (λ e. let ne = other_slot u e passed.1.0 in let on = on_is _ acc.2 (released_on u.slot ne) in

@@ -38,6 +38,7 @@ names t (command.Unlock u n) = same_txn t u
 names t (command.Escalate u n) = same_txn t u
 names t (command.Cancel u) = same_txn t u
 names t (command.Commit u) = same_txn t u
+names t (command.Renew u since) = same_txn t u
 names t (command.Abort u) = same_txn t u
 names t (command.Settle u) = false
 names t (command.Insert u f ks) = same_txn t u

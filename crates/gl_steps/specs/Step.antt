@@ -57,6 +57,8 @@ Accepts s (command.Escalate t n) a told' s' =
     × (s' ≡ shed up t.slot n)
 Accepts s (command.Cancel t) a told' s' = (a ≡ answer.Done) × (told' ≡ told_but t.slot s s') × (s' ≡ cancelled s t.slot)
 Accepts s (command.Commit t) a told' s' = (a ≡ answer.Done) × (told' ≡ told s s') × (s' ≡ released s t.slot)
+Accepts s (command.Renew t since) a told' s' =
+    (a ≡ answer.Begun (record { slot = t.slot; age = s.begins + 1 })) × (told' ≡ []) × (s' ≡ begun_again s t.slot since)
 Accepts s (command.Abort t) a told' s' = (a ≡ answer.Done) × (told' ≡ told s s') × (s' ≡ released s t.slot)
 Accepts s (command.Settle t) a told' s' = (a ≡ answer.Done) × (told' ≡ told s s') × Settled s.victims s t.slot s'
 Accepts s (command.Insert t f keys) a told' s' =

@@ -16,7 +16,7 @@ use Rattle.gl_model.specs.Calls.{enters_at}
 use Rattle.gl_model.specs.Calls.{active_on, begin_tests, cancel_tests, commit_tests, drop_tests, index_by_tests, escalation_blocks, first_not_ix}
 use Rattle.gl_model.specs.Calls.{forget_tests, group_tests}
 use Rattle.gl_model.specs.Calls.{held_tests, holds_x, living_tests, lock_tests, need_exclusive, need_new_parents, not_held, some_given, try_tests}
-use Rattle.gl_model.specs.Calls.{unlock_tests}
+use Rattle.gl_model.specs.Calls.{renew_tests, unlock_tests}
 use Rattle.gl_model.specs.State.{State, members}
 
 -- no further command can be counted
@@ -80,6 +80,7 @@ tests_of s (command.Unlock t n) = worn s ∷ unlock_tests s t n
 tests_of s (command.Escalate t n) = worn s ∷ escalate_tests s t n
 tests_of s (command.Cancel t) = worn s ∷ cancel_tests s t
 tests_of s (command.Commit t) = worn s ∷ commit_tests s t
+tests_of s (command.Renew t since) = worn s ∷ renew_tests s t
 tests_of s (command.Abort t) = worn s ∷ living_tests s t
 tests_of s (command.Settle t) = worn s ∷ living_tests s t
 tests_of s (command.Insert t f keys) = worn s ∷ insert_tests s t f keys.now

@@ -106,6 +106,12 @@ pub enum Command<'a> {
     Commit {
         txn: TxnId,
     },
+    /// End, and begin anew in the same slot with all locks that are held: intentions alone, on nodes
+    /// for which nobody waits. `since` is as in `BeginAgain`.
+    Renew {
+        txn: TxnId,
+        since: u64,
+    },
     /// End and release everything, also while waiting or condemned.
     Abort {
         txn: TxnId,

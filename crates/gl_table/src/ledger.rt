@@ -2,7 +2,7 @@
 
 ghost use Rattle.gl_slots.specs.Limit.{most_slots};
 ghost use Rattle.std.specs.Prelude.{◌≡◌, ◌<◌, ◌≤◌, ℕ, IfOk, None, Some, false, length, slice_get, true, if◌then◌else◌};
-ghost use Rattle.std.specs.Option.{option_map};
+ghost use Rattle.std.specs.Option.{option_map, option_map_or};
 ghost use Rattle.indexmap.specs.IndexMap.{keys};
 ghost use Rattle.gl_modes.specs.declared.mode.Mode.TheVariants.{NL};
 ghost use Rattle.gl_modes.specs.declared.node.NodeId.{NodeId as Node};
@@ -14,12 +14,12 @@ ghost use Rattle.gl_header.specs.Header.{holds, is_among_waiters};
 ghost use Rattle.gl_header.specs.Headers.{held_of};
 ghost use Rattle.gl_model.specs.Calls.{unlocked};
 ghost use Rattle.gl_model.specs.State.{is_write, is_waiting_at, pumped, without_wait, members, with_grant};
-ghost use Rattle.gl_table.specs.inside.Ledger.{state_in, AreNew};
+ghost use Rattle.gl_table.specs.inside.Ledger.{state_in, AreNew, hinders_by};
 ghost use Rattle.gl_table.specs.inside.Steps.{AreExactFor, CanTellWaiters, HasWoken};
 ghost use Rattle.gl_model.specs.Lawful.{effect_on};
 ghost use Rattle.gl_table.specs.inside.TxnEntries.{txn_in, txns_of};
 ghost use Rattle.gl_table.specs.Table.{row_of};
-ghost use Rattle.gl_table.specs.inside.Slots.{CanEnd, CanHold, Wakes, books_of, by_list, childless_in, counted_by, held_by};
+ghost use Rattle.gl_table.specs.inside.Slots.{CanEnd, CanHold, Wakes, books_of, by_list, childless_in, counted_by, held_by, nodes_by};
 
 use crate::effective::effective;
 use crate::txn_entries::TxnEntries;
@@ -139,6 +139,29 @@ impl Ledger {
             Some(node)
         } else {
             None
+        }
+    }
+
+    /// Whether a slot holds some node in `S` or greater, or a node for which somebody waits. Scans its
+    /// list.
+    pub(crate) fn hinders(&self, slot: Slot) -> bool
+        ensures { result ≡ list_any (hinders_by self.now.headers.entries slot) (nodes_by self.now.lists.items slot) }
+    {
+        for place in 0..self.rows(slot) {
+            if self.hinders_at(slot, place) {
+                return true;
+            }
+        }
+        false
+    }
+
+    /// The same of the node at a place of the list.
+    fn hinders_at(&self, slot: Slot, place: usize) -> bool
+        ensures { result ≡ option_map_or (hinders_by self.now.headers.entries slot) (slice_get (nodes_by self.now.lists.items slot) place) false }
+    {
+        match self.node_at(slot, place) {
+            Some(node) => self.headers.hinders(slot, node),
+            None => false,
         }
     }
 

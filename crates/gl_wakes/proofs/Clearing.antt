@@ -26,6 +26,7 @@ emptied_query (command.Unlock t n) boxes asks = refl
 emptied_query (command.Escalate t n) boxes asks = refl
 emptied_query (command.Cancel t) boxes asks = refl
 emptied_query (command.Commit t) boxes asks = refl
+emptied_query (command.Renew t since) boxes asks = refl
 emptied_query (command.Abort t) boxes asks = refl
 emptied_query (command.Settle t) boxes asks = refl
 emptied_query (command.Group n) boxes asks = refl

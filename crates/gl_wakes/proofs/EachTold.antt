@@ -30,6 +30,7 @@ module _ (Holds : Told → Type 0) (s : State) (none : Holds []) (all : (now : S
   accepted (command.Escalate t n) a list s' acc = subst Holds (sym acc.1) (all s')
   accepted (command.Cancel t) a list s' acc = subst Holds (sym acc.1) (but t.slot s')
   accepted (command.Commit t) a list s' acc = subst Holds (sym acc.1) (all s')
+  accepted (command.Renew t since) a list s' acc = subst Holds (sym acc.1) none
   accepted (command.Abort t) a list s' acc = subst Holds (sym acc.1) (all s')
   accepted (command.Settle t) a list s' acc = subst Holds (sym acc.1) (all s')
   accepted (command.Group n) a list s' acc = absurd acc

@@ -31,6 +31,7 @@ turned a b h = grind (arith, nat_tests)
 
 names_its_slot : (c : Command) (t : TxnId) → ends_wait_of t c ≡ true → names_slot c t.slot ≡ true
 names_its_slot (command.Cancel u) t h = turned t.slot u.slot (slot_of t u h)
+names_its_slot (command.Renew u since) t h = h
 names_its_slot (command.Abort u) t h = turned t.slot u.slot (slot_of t u h)
 names_its_slot (command.Inner ps) t h = h
 names_its_slot (command.File ps) t h = h

@@ -43,7 +43,7 @@ use Rattle.gl_steps.specs.declared.command.Answer.{Answer}
 use Rattle.gl_steps.specs.declared.command.Answer.TheVariants as answer
 use Rattle.gl_steps.specs.declared.command.Command.{Command}
 use Rattle.gl_steps.specs.declared.command.Command.TheVariants as command
-use Rattle.gl_window.proofs.Waits.{Spares, begun_spares, counted, enters_alone, enters_now, granted_spares, nobody_spared, none_waits}
+use Rattle.gl_window.proofs.Waits.{Spares, begun_spares, free_holds, free_idle, counted, enters_alone, enters_now, granted_spares, nobody_spared, none_waits}
 use Rattle.gl_window.proofs.Waits.{regraphed, released_spares, spared_itself, unborn, unlock_releases}
 use Rattle.gl_window.specs.Boards.{HasParties}
 use Rattle.gl_window.specs.Tellings.{leaves_waits, spares_waits}
@@ -140,7 +140,12 @@ module _ (set : Slots) (s : State) (law : IsLawful s) (few : s.most ≤ most_slo
   graph_case next g e = subst (Spares set s) (sym e) (regraphed set s s g (spared_itself set s has))
 
   begun_case : (since t : ℕ) (next : State) → is_some (s.txns t) ≡ false → next ≡ begun_since s t since → Spares set s next
-  begun_case since t next gone e = subst (Spares set s) (sym e) (begun_spares set s law few has t since gone)
+  begun_case since t next gone e =
+      subst (Spares set s) (sym e) (begun_spares set s law has t since (free_idle s t gone) (λ u n at. free_holds s law t gone n))
+
+  renewed_case : (since t : ℕ) (next : State) → not (has_slot set t) ≡ true → next ≡ begun_since s t since → Spares set s next
+  renewed_case since t next spared e =
+      let party = has t (not-true _ spared) in subst (Spares set s) (sym e) (begun_spares set s law has t since party.0 party.1)
 
   accepted : (c : Command) (next : State) → Step s c a told s' → s' ≡ accepted_once next → AllNone (tests_of s c) → spares_waits set c a ≡ true
       → Accepts s c a told next → Spares set s next
@@ -155,6 +160,7 @@ module _ (set : Slots) (s : State) (law : IsLawful s) (few : s.most ≤ most_slo
   accepted (command.Try t n m) next step is passed spared acc = try_case t n m next passed.1.1.1.1.1.1.1.0 spared acc.2
   accepted (command.Unlock t n) next step is passed spared acc = unlock_case t n next step is spared acc.2
   accepted (command.Commit t) next step is passed spared acc = end_case (command.Commit t) t next step is (λ u apart. refl) spared acc.2
+  accepted (command.Renew t since) next step is passed spared acc = renewed_case (min since (s.begins + 1)) t.slot next spared acc.2
   accepted (command.Abort t) next step is passed spared acc = end_case (command.Abort t) t next step is (abort_names t) spared acc.2
   accepted (command.Insert t f keys) next step is passed spared acc = born_case t acc.0 next acc.1.birth acc.4
   accepted (command.Adopt f keys) next step is passed spared acc = graph_case next _ acc.4

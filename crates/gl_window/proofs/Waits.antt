@@ -190,19 +190,38 @@ nobody_there : (x : Option Txn) → is_some x ≡ false → is_wait (status_in x
 nobody_there None e = refl
 nobody_there (Some x) e = absurd (true≢false e)
 
-module _ (set : Slots) (s : State) (law : IsLawful s) (few : s.most ≤ most_slots) (has : HasParties s set) (t since : ℕ)
-    (free_there : is_some (s.txns t) ≡ false) where
+-- in a free slot nobody waits, and nobody holds anything
+pub free_idle : (s : State) (t : ℕ) → is_some (s.txns t) ≡ false → is_wait (status_of s t) ≡ false
+free_idle s t gone = nobody_there (s.txns t) gone
+
+pub free_holds : (s : State) (law : IsLawful s) (t : ℕ) → is_some (s.txns t) ≡ false → (n : NodeId) → holds (members s n) t ≡ false
+free_holds s law t gone n = split (holds (members s n) t) (λ holder. clash (law.grants_live t n holder).0 gone) (λ k. k)
+
+-- nobody waits for a transaction that waits for nothing, and holds no node for which somebody waits
+pub unawaited : (s : State) (law : IsLawful s) (t : ℕ) → is_wait (status_of s t) ≡ false
+    → ((u : ℕ) (n : NodeId) → is_waiting_at s u n ≡ true → holds (members s n) t ≡ false)
+    → (x : ℕ) → waits_for s x t ≡ false
+unawaited s law t idle apart x =
+    split (waits_for s x t)
+    (λ h.
+    let st = step_is s x t h in let n = st.0 in let m = st.1 in
+    let at : is_waiting_at s x n ≡ true = ap (λ o. waits_at o n) st.2.waits ∙ same_node-refl n in
+    or_elim _ _ st.2.blocked
+    (λ k. clash (ap (are_compatible m) (nl_is (s.held t n) (apart x n at)) ∙ NL-compatible m) (not-true _ k))
+    (λ k. clash (ahead_second (s.queue n) x t (sym (ahead_is (s.queue n) x t) ∙ k)) (in_no_queue s (lawful_orderly s law) t idle n)))
+    (λ e. e)
+
+-- in a slot that waits for nothing, and holds no node for which somebody waits
+module _ (set : Slots) (s : State) (law : IsLawful s) (has : HasParties s set) (t since : ℕ) (idle_there : is_wait (status_of s t) ≡ false)
+    (apart : (u : ℕ) (n : NodeId) → is_waiting_at s u n ≡ true → holds (members s n) t ≡ false) where
   abbrev next : State
   next = begun_since s t since
 
   abbrev new : Option Txn
   new = Some (record { age = s.begins + 1; since = since; status = Active })
 
-  gone : (v : ℕ) → (v == t) ≡ true → is_some (s.txns v) ≡ false
-  gone v e = ap (λ u. is_some (s.txns u)) (same_number v t e) ∙ free_there
-
   not_there : (x : ℕ) → (x == t) ≡ true → is_wait (status_of s x) ≡ false
-  not_there x e = ap (λ u. is_wait (status_of s u)) (same_number x t e) ∙ nobody_there (s.txns t) free_there
+  not_there x e = ap (λ u. is_wait (status_of s u)) (same_number x t e) ∙ idle_there
 
   begun_idle : (v : ℕ) → has_slot set v ≡ false → is_wait (status_of next v) ≡ false
   begun_idle v out =
@@ -224,7 +243,7 @@ module _ (set : Slots) (s : State) (law : IsLawful s) (few : s.most ≤ most_slo
         (λ e. same_edge s next x y (ap (λ b. status_in (if b then new else s.txns x)) e) (λ q w st. (refl, refl)));
     ages = λ x y h. (
       begun_age x (split (x == t) (λ e. clash h (idle_edge s x y (not_there x e))) (λ e. e)),
-      begun_age y (split (y == t) (λ e. clash (awaited_lives s law few x y h) (gone y e)) (λ e. e)),
+      begun_age y (split (y == t) (λ e. clash h (ap (waits_for s x) (same_number y t e) ∙ unawaited s law t idle_there apart x)) (λ e. e)),
     );
   }
 
@@ -234,7 +253,7 @@ module _ (set : Slots) (s : State) (law : IsLawful s) (few : s.most ≤ most_slo
     parties = λ v out. (
       begun_idle v out,
       λ u n at. split (v == t)
-          (λ e. split (holds (members s n) v) (λ holder. clash (law.grants_live v n holder).0 (gone v e)) (λ k. k))
+          (λ e. ap (holds (members s n)) (same_number v t e) ∙ apart u n (waited u n at))
           (λ e. (has v out).1 u n (waited u n at)),
     );
   }
@@ -259,17 +278,8 @@ module _ (set : Slots) (s : State) (law : IsLawful s) (has : HasParties s set) (
   idle : is_wait (status_of s t) ≡ false
   idle = (has t out).0
 
-  -- nobody waits for a transaction that holds no node with a waiter, and is in no queue
   free : (x : ℕ) → waits_for s x t ≡ false
-  free x =
-      split (waits_for s x t)
-      (λ h.
-      let st = step_is s x t h in let n = st.0 in let m = st.1 in
-      let at : is_waiting_at s x n ≡ true = ap (λ o. waits_at o n) st.2.waits ∙ same_node-refl n in
-      or_elim _ _ st.2.blocked
-      (λ k. clash (ap (are_compatible m) (nl_is (s.held t n) ((has t out).1 x n at)) ∙ NL-compatible m) (not-true _ k))
-      (λ k. clash (ahead_second (s.queue n) x t (sym (ahead_is (s.queue n) x t) ∙ k)) (in_no_queue s (lawful_orderly s law) t idle n)))
-      (λ e. e)
+  free x = unawaited s law t idle (has t out).1 x
 
   abbrev after : State
   after = pumped b chosen

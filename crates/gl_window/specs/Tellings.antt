@@ -29,6 +29,7 @@ spares_waits parties (command.Lock t n m) a = grants a && not (has_slot parties 
 spares_waits parties (command.Try t n m) a = not (has_slot parties t.slot)
 spares_waits parties (command.Unlock t n) a = not (has_slot parties t.slot)
 spares_waits parties (command.Commit t) a = not (has_slot parties t.slot)
+spares_waits parties (command.Renew t since) a = not (has_slot parties t.slot)
 spares_waits parties (command.Abort t) a = not (has_slot parties t.slot)
 spares_waits parties (command.Insert t f keys) a = true
 spares_waits parties (command.Adopt f keys) a = true

@@ -68,6 +68,7 @@ fn spares_waits(parties: Slots, command: &Command<'_>, answer: &Answer) -> bool
         Command::Try { txn, .. }
         | Command::Unlock { txn, .. }
         | Command::Commit { txn }
+        | Command::Renew { txn, .. }
         | Command::Abort { txn } => !parties.contains(txn.slot),
         Command::Inner { .. }
         | Command::File { .. }

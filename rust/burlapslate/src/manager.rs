@@ -384,6 +384,27 @@ impl Manager {
         accepted(sys::bs_call_begin_again(self.pinned.place_mut(), since)).map(|reply| reply.txn)
     }
 
+    /// Ends a transaction and begins another in its slot, which holds what it held: intentions alone, on nodes for
+    /// which nobody waits. `since` is as in [`begin_again`](Manager::begin_again), and `u64::MAX` for new work.
+    ///
+    /// Refused with [`NoSuchTxn`](Refusal::NoSuchTxn), [`TxnWaiting`](Refusal::TxnWaiting),
+    /// [`TxnCondemned`](Refusal::TxnCondemned) and [`NeedRelease`](Refusal::NeedRelease). Costs a step for each lock.
+    ///
+    /// ```
+    /// # use burlapslate::{Detect, Manager, Mode, Refusal, SLOTS};
+    /// let mut m = Manager::new(Detect::AtBlock, SLOTS)?;
+    /// let shop = m.add_inner(&[])?;
+    /// let first = m.begin()?;
+    /// m.lock(first, shop, Mode::IX)?;
+    /// let next = m.renew(first, u64::MAX)?;
+    /// assert_eq!(m.held(next, shop)?, Mode::IX);
+    /// assert_eq!(m.commit(first), Err(Refusal::NoSuchTxn));
+    /// # Ok::<(), burlapslate::Refusal>(())
+    /// ```
+    pub fn renew(&mut self, txn: Txn, since: u64) -> Result<Txn, Refusal> {
+        accepted(sys::bs_call_renew(self.pinned.place_mut(), txn, since)).map(|reply| reply.txn)
+    }
+
     /// Requests a mode on a node. To read ([`IS`](Mode::IS), [`S`](Mode::S)) the transaction needs `IS` or
     /// greater on one parent; to write ([`IX`](Mode::IX), [`SIX`](Mode::SIX), [`X`](Mode::X)) it needs `IX`
     /// or greater on all parents. A node that is held is converted to the supremum of the held and the

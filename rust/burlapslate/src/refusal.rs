@@ -56,6 +56,8 @@ pub enum Refusal {
     RecordInUse,
     /// An inner node with children cannot be dropped.
     HasChildren,
+    /// A transaction that holds more than intentions, or a node for which another waits, cannot be renewed.
+    NeedRelease,
     /// The file is a file of rows: only calls about rows make, remove and change its records. It is answered
     /// before all other refusals.
     RowsByNumber,
@@ -97,6 +99,7 @@ impl Refusal {
             sys::CYCLE => Refusal::Cycle(reply.node),
             sys::RECORD_IN_USE => Refusal::RecordInUse,
             sys::HAS_CHILDREN => Refusal::HasChildren,
+            sys::NEED_RELEASE => Refusal::NeedRelease,
             sys::TOO_MANY_WATCHERS => Refusal::TooManyWatchers,
             sys::ROWS_BY_NUMBER => Refusal::RowsByNumber,
             sys::NOT_ROWS => Refusal::NotRows,
@@ -131,6 +134,7 @@ impl Refusal {
             Refusal::Cycle(_) => "Cycle",
             Refusal::RecordInUse => "RecordInUse",
             Refusal::HasChildren => "HasChildren",
+            Refusal::NeedRelease => "NeedRelease",
             Refusal::RowsByNumber => "RowsByNumber",
             Refusal::NotRows => "NotRows",
             Refusal::TooManyWatchers => "TooManyWatchers",
@@ -197,6 +201,7 @@ mod tests {
         (21, "Cycle"),
         (22, "RecordInUse"),
         (23, "HasChildren"),
+        (24, "NeedRelease"),
         (66, "BadNumber"),
         (67, "InUse"),
         (70, "TooManyWatchers"),

@@ -271,6 +271,25 @@ impl<'t> Session<'t> {
         self.txn
     }
 
+    /// Ends its transaction and begins another, which holds what it held, as [`Manager::renew`](crate::Manager::renew):
+    /// the next one of this thread needs the same intentions. A deadline stays.
+    ///
+    /// ```
+    /// # use burlapslate::{Detect, Mode, Table, SLOTS};
+    /// # let table = Table::new(Detect::AtBlock, SLOTS)?;
+    /// # let db = table.add_inner(&[])?;
+    /// let mut session = table.begin()?;
+    /// assert_eq!(session.lock(db, Mode::IX), Ok(Mode::IX));
+    /// let before = session.txn();
+    /// session.renew(u64::MAX)?;
+    /// assert_ne!(session.txn(), before);
+    /// # Ok::<(), burlapslate::Refusal>(())
+    /// ```
+    pub fn renew(&mut self, since: u64) -> Result<(), Refusal> {
+        self.txn = accepted(shared::bs_table_renew(&self.call(), self.txn, since))?.txn;
+        Ok(())
+    }
+
     /// Sets a deadline: from now on each wait for a lock ends at this time at the latest and is answered
     /// with [`Stop::TimedOut`], also if the call that waits has a later time or none. `None` removes it.
     ///

@@ -48,6 +48,7 @@ pub(crate) const WORN_OUT: u32 = 19;
 pub(crate) const CYCLE: u32 = 21;
 pub(crate) const RECORD_IN_USE: u32 = 22;
 pub(crate) const HAS_CHILDREN: u32 = 23;
+pub(crate) const NEED_RELEASE: u32 = 24;
 pub(crate) const WAITING: u32 = 32;
 pub(crate) const VICTIM: u32 = 33;
 pub(crate) const MOVED: u32 = 34;
@@ -323,6 +324,7 @@ unsafe extern "C" {
 
     pub(crate) safe fn bs_call_begin(manager: &mut Place) -> Reply;
     pub(crate) safe fn bs_call_begin_again(manager: &mut Place, since: u64) -> Reply;
+    pub(crate) safe fn bs_call_renew(manager: &mut Place, txn: Txn, since: u64) -> Reply;
     pub(crate) safe fn bs_call_lock(
         manager: &mut Place,
         txn: Txn,

@@ -34,6 +34,16 @@ pub extern "C" fn bs_call_begin_again(manager: &mut Handle, since: u64) -> Reply
     manager.ask(Command::BeginAgain { since })
 }
 
+/// Ends a transaction that holds intentions alone, on nodes for which nobody waits, and begins anew in
+/// its slot with all its locks; `since` is as for `bs_call_begin_again`.
+#[unsafe(no_mangle)]
+pub extern "C" fn bs_call_renew(manager: &mut Handle, txn: Txn, since: u64) -> Reply
+    ensures { Asks (guarded_in manager.old) (command.Renew (txn_id txn) since) result (guarded_in manager.new) }
+{
+    let txn = txn.id();
+    manager.ask(Command::Renew { txn, since })
+}
+
 /// Requests a mode on a node, and waits if it cannot be granted at once.
 #[unsafe(no_mangle)]
 pub extern "C" fn bs_call_lock(

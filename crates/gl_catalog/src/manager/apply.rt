@@ -106,6 +106,7 @@ impl Manager {
             }
             Command::Cancel { txn } => done_answer(self.cancel_telling(txn, told)),
             Command::Commit { txn } => done_answer(self.commit_telling(txn, told)),
+            Command::Renew { txn, since } => begun_answer(self.renew(txn, since)),
             Command::Abort { txn } => done_answer(self.abort_telling(txn, told)),
             Command::Settle { txn } => done_answer(self.settle_telling(txn, told)),
             Command::Insert { txn, file, keys } => node_answer(self.insert(txn, file, keys)),

@@ -44,6 +44,22 @@ impl Manager {
         Ok(txn)
     }
 
+    /// Ends a transaction that holds intentions alone, on nodes for which nobody waits, and begins
+    /// anew in its slot with all its locks. `since` is as in `begin_again`; for new work it is
+    /// `u64::MAX`. Refused, in this order, with `WornOut`, `NoSuchTxn`, `TxnWaiting`,
+    /// `TxnCondemned` and `NeedRelease`. Allocates no memory. Linear in the locks.
+    pub fn renew(&mut self, t: TxnId, since: u64) -> Result<TxnId, Refusal>
+        ensures step { CallSteps (state_of self.old) (command.Renew t since) began result (state_of self.new) }
+        ensures completes { IfOk result (λ x. Completes (command.Renew t since) self.old (began x) self.new) }
+        ensures err { OnErr result (self.new ≡ self.old) }
+    {
+        self.check_count()?;
+        let txn = self.table.renew(t, since)?;
+        self.table.law();
+        self.accepted += 1;
+        Ok(txn)
+    }
+
     /// Requests a mode on a node, and waits if it cannot be granted at once. With detection at
     /// block a requester that waits is settled at once. May allocate memory.
     pub fn lock_telling(

@@ -2,7 +2,7 @@
 use Rattle.gl_model.proofs.Words.{[], ⊎_elim, ◌&&◌, ◌+◌, ◌<◌, ◌==◌, ◌||◌, ◌∙◌, ◌∷◌, ◌≡◌, ◌≢◌, ◌≤◌, ◌⊎◌, Active, age_in, age_of, and_both, ap, ap₂, arith}
 use Rattle.gl_model.proofs.Words.{begun_since, Bool, choosing, clash, Condemned, condemned, Detect, empty_state, enqueued, enters, false, filter, front}
 use Rattle.gl_model.proofs.Words.{holds, if◌then◌else◌, inl, inr, intends, is_ahead, is_among_waiters, is_at_least, is_child, is_live, is_some, is_waiter}
-use Rattle.gl_model.proofs.Words.{is_waiting_at, IsLawful, members, Mode, ModeFitsKind, nat_tests, NL, no, NodeId, None, none_some, not, number_other}
+use Rattle.gl_model.proofs.Words.{is_wait, is_waiting_at, IsLawful, members, Mode, ModeFitsKind, nat_tests, NL, no, NodeId, None, none_some, not, number_other}
 use Rattle.gl_model.proofs.Words.{number_same, Option, or_no, other_number, placed, pumped, refl, released, restatus, same_mode, same_node, same_node-equal}
 use Rattle.gl_model.proofs.Words.{same_node-refl, same_number, Settled, SettledWithin, Some, split, State, Status, status_in, status_of, stripped, subst, suc}
 use Rattle.gl_model.proofs.Words.{sym, true, Txn, Victims, Waiting, waits_at, without_wait, without_waiter, zero, ℕ}
@@ -246,7 +246,17 @@ module _ (s : State) (law : IsLawful s) (t : ℕ) (n : NodeId) (m : Mode) (activ
     known = λ u h. let old = law.known u (sym (some_same u) ∙ h) in let a = age_same u in let b = since_same u in omega (arith, old, a, b);
   }
 
-module _ (s : State) (law : IsLawful s) (t : ℕ) (free : is_some (s.txns t) ≡ false) (below : t < s.most) (since : ℕ)
+-- nobody waits in a free slot
+pub free_quiet : (s : State) (t : ℕ) → is_some (s.txns t) ≡ false → is_wait (status_of s t) ≡ false
+free_quiet s t free = by (s.txns t) free
+  where
+    by : (o : Option Txn) → is_some o ≡ false → is_wait (status_in o) ≡ false
+    by None h = refl
+    by (Some x) h = cc
+
+-- A transaction begins in a slot in which nobody waits: in a free one, or in its own.
+
+module _ (s : State) (law : IsLawful s) (t : ℕ) (quiet : is_wait (status_of s t) ≡ false) (below : t < s.most) (since : ℕ)
     (low : since ≤ s.begins + 1) where
   abbrev newcomer : Option Txn
   newcomer = Some (record { age = s.begins + 1; since = since; status = Active })
@@ -268,7 +278,7 @@ module _ (s : State) (law : IsLawful s) (t : ℕ) (free : is_some (s.txns t) ≡
     waits_intend = λ u q w st. begun_case u (λ is e. absurd (apart (ap status_in (sym e) ∙ st))) (λ ne e. law.waits_intend u q w (ap status_in (sym e) ∙ st));
     one_wait = λ u q w st. begun_case u (λ is e. absurd (apart (ap status_in (sym e) ∙ st))) (λ ne e. law.one_wait u q w (ap status_in (sym e) ∙ st));
     waits_are = λ u q h. let old = law.waits_are u q h in
-        begun_case u (λ is e. clash (ap (λ v. is_some (s.txns v)) (sym is) ∙ txn_there (s.txns u) _ (waiting_is (status_of s u) q old).1) free)
+        begun_case u (λ is e. clash (ap (λ v. is_wait (status_of s v)) (sym is) ∙ ap is_wait (waiting_is (status_of s u) q old).1) quiet)
         (λ ne e. ap (λ x. waits_at (status_in x) q) e ∙ old);
     holders_first = law.holders_first;
     front_waits = law.front_waits;

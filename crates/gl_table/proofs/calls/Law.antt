@@ -22,7 +22,7 @@ use Rattle.gl_model.proofs.law.Keeps.{waiting_is}
 use Rattle.gl_model.proofs.law.Lock.{begun-no_cycle, empty-no_cycle}
 use Rattle.gl_model.proofs.law.Records.{born-children, grown-lawful, Grows}
 use Rattle.gl_model.proofs.law.Searches.{same_bool}
-use Rattle.gl_model.proofs.law.Takes.{begun-lawful, roomy-lawful}
+use Rattle.gl_model.proofs.law.Takes.{begun-lawful, free_quiet, roomy-lawful}
 use Rattle.gl_model.proofs.queues.Waiters.{among_by_filter}
 
 -- What holds of a table's fields, in the words of what a contract sees.
@@ -227,7 +227,19 @@ begin-refusal first o left is =
     last : (b : Bool) → first_refusal (None ∷ where_true b no.TooManyTxns ∷ []) ≡ where_true b no.TooManyTxns
     last b = grind (arith, nat_tests)
 
-module _ (i : Inside) (sound : IsSound i) (t since : ℕ) (at : Some t ≡ position is_free i.locks.ledger.txn_entries.items)
+-- the first free slot is one in which nobody waits
+pub free-place : (i : Inside) (t : ℕ) → Some t ≡ position is_free i.locks.ledger.txn_entries.items
+    → (t < length i.locks.ledger.txn_entries.items) × (is_wait (status_of (state_of (view_of i)) t) ≡ false)
+free-place i t at =
+    let place = position-Some is_free i.locks.ledger.txn_entries.items t None (sym at) in (
+      place.0,
+      free_quiet (state_of (view_of i)) t
+          (ap (λ o. is_some (txn_in o)) (slice_get-get_or i.locks.ledger.txn_entries.items t None place.0) ∙ none-free _ place.1),
+    )
+
+-- a transaction begins in a slot in which nobody waits
+module _ (i : Inside) (sound : IsSound i) (t since : ℕ) (place : t < length i.locks.ledger.txn_entries.items)
+    (quiet : is_wait (status_of (state_of (view_of i)) t) ≡ false)
     (txn_entries : TxnEntryList)
     (has_entry : txn_entries.items ≡ slice_set i.locks.ledger.txn_entries.items t (Some (record { age = i.begins + 1; since = since; status = Active })))
     (low : since ≤ i.begins + 1) where
@@ -240,20 +252,13 @@ module _ (i : Inside) (sound : IsSound i) (t since : ℕ) (at : Some t ≡ posit
   abbrev now : State
   now = record (state_in i.locks.graph ledger) { detect = i.detect; victims = i.victims; begins = i.begins + 1 }
 
-  place : (t < length i.locks.ledger.txn_entries.items) × (is_free (get_or i.locks.ledger.txn_entries.items t None) ≡ true)
-      × ((k : ℕ) → k < t → is_free (get_or i.locks.ledger.txn_entries.items k None) ≡ false)
-  place = position-Some is_free i.locks.ledger.txn_entries.items t None (sym at)
-
-  free : is_some (first.txns t) ≡ false
-  free = ap (λ o. is_some (txn_in o)) (slice_get-get_or i.locks.ledger.txn_entries.items t None place.0) ∙ none-free _ place.1
-
   txn_entries-same : length txn_entries.items ≡ length i.locks.ledger.txn_entries.items
   txn_entries-same = ap length has_entry ∙ length-set i.locks.ledger.txn_entries.items t (Some (record { age = i.begins + 1; since = since; status = Active }))
 
   pub begun-state : now ≡ begun_since first t since
   begun-state = λ z. record (begun_since first t since) {
     txns = λ u. (ap (λ xs. txns_of xs u) has_entry
-        ∙ txns-set i.locks.ledger.txn_entries.items t (Some (record { age = i.begins + 1; since = since; status = Active })) place.0 u) z;
+        ∙ txns-set i.locks.ledger.txn_entries.items t (Some (record { age = i.begins + 1; since = since; status = Active })) place u) z;
     most = txn_entries-same z;
   }
 
@@ -263,7 +268,7 @@ module _ (i : Inside) (sound : IsSound i) (t since : ℕ) (at : Some t ≡ posit
 
   pub begun-safe : IsSafe now
   begun-safe = record {
-    lawful = subst IsLawful (sym begun-state) (begun-lawful first sound.lawful t free place.0 since low);
+    lawful = subst IsLawful (sym begun-state) (begun-lawful first sound.lawful t quiet place since low);
     no_cycle = λ e. subst HasNoCycle (sym begun-state) (begun-no_cycle first t since (sound.no_cycle e));
   }
 

@@ -1,7 +1,26 @@
 -- What the lists say is what the state of the locks says. For queries of the locks.
 use Rattle.gl_table.proofs.Words.{◌&&◌, ◌∙◌, ◌≡◌, ap, ap₂, counted_by, effect_on, find, fun_ext, graph_of, held_by, held_children, holds, if◌then◌else◌}
-use Rattle.gl_table.proofs.Words.{is_child, is_live, is_write, list_any, members, Mode, NL, NodeId, nodes, None, not, same_mode, Some, state_at, sym, true, ℕ}
+use Rattle.gl_table.proofs.Words.{is_child, is_live, is_write, list_any, members, Mode, NL, NodeId, nodes, None, not, refl, same_mode, Some}
+use Rattle.gl_table.proofs.Words.{state_at, sym, true, ℕ}
+use Rattle.gl_modes.proofs.Words.{and_both, or_elim, or_left}
+use Rattle.gl_modes.specs.declared.mode.Mode.TheVariants.{IS, IX, S, SIX, X}
+use Rattle.gl_modes.specs.Modes.{is_at_least}
+use Rattle.gl_graph.specs.Lawful.{IsLawfulGraph}
+use Rattle.gl_graph.proofs.RouteLengths.{listed}
+use Rattle.gl_lock_lists.proofs.Children.{any_alike}
+use Rattle.gl_model.specs.Calls.{hinders_at}
+use Rattle.gl_table.proofs.Words.{nodes_by}
+use Rattle.gl_table.proofs.inside.Orders.{listed_as}
 use Rattle.gl_table.specs.declared.locks.Locks.{Locks}
+
+-- to read all below is to hold
+at_least-not_nl : (m : Mode) → is_at_least m S ≡ true → not (same_mode m NL) ≡ true
+at_least-not_nl NL h = cc
+at_least-not_nl IS h = refl
+at_least-not_nl IX h = refl
+at_least-not_nl S h = refl
+at_least-not_nl SIX h = refl
+at_least-not_nl X h = refl
 
 module _ (l : Locks) (t : ℕ) where
   modes : (q : NodeId) → held_by l.ledger.lists.items t q ≡ (state_at l).held t q
@@ -26,6 +45,17 @@ module _ (l : Locks) (t : ℕ) where
   pub written-said : (n : NodeId) → list_any (λ c. is_child (graph_of l.graph) n c && is_write (held_by l.ledger.lists.items t c)) (nodes (graph_of l.graph))
       ≡ list_any (λ c. is_child (graph_of l.graph) n c && is_write ((state_at l).held t c)) (nodes (graph_of l.graph))
   written-said n = ap (λ (f : NodeId → Mode). list_any (λ c. is_child (graph_of l.graph) n c && is_write (f c)) (nodes (graph_of l.graph))) held_is
+
+  -- what hinders is held, and so it is listed, and lives
+  pub hinders-said : IsLawfulGraph (graph_of l.graph)
+      → list_any (hinders_at (state_at l) t) (nodes_by l.ledger.lists.items t) ≡ list_any (hinders_at (state_at l) t) (nodes (graph_of l.graph))
+  hinders-said law =
+      any_alike (hinders_at (state_at l) t) (nodes_by l.ledger.lists.items t) (nodes (graph_of l.graph))
+      (λ q h. listed_as l.ledger.lists.items t q ∙ (l.agree t).listed q ∙ or_left _ _ (held q h))
+      (λ q h. listed (graph_of l.graph) law q (l.orderly.holders_live t q (held q h)))
+    where
+      held : (q : NodeId) → hinders_at (state_at l) t q ≡ true → holds (members (state_at l) q) t ≡ true
+      held q h = or_elim _ _ h (λ more. at_least-not_nl ((state_at l).held t q) more) (λ awaited. (and_both _ _ awaited).0)
 
   pub effect-said : (n : NodeId) → effect_on (graph_of l.graph) (held_by l.ledger.lists.items t) n ≡ effect_on (graph_of l.graph) ((state_at l).held t) n
   effect-said n = ap (λ (f : NodeId → Mode). effect_on (graph_of l.graph) f n) held_is

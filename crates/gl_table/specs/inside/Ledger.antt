@@ -1,17 +1,17 @@
 -- The ledger that the code keeps of a graph's locks: as a state of the model, and what agrees with it.
 use Rattle.gl_slots.specs.Limit.{most_slots}
-use Rattle.std.specs.Prelude.{◌≡◌, ◌≤◌, ◌||◌, ℕ, true, false, List, [], length, None, replicate}
+use Rattle.std.specs.Prelude.{◌≡◌, ◌≤◌, ◌||◌, ℕ, Bool, true, false, List, [], length, None, replicate}
 use Rattle.gl_modes.specs.declared.mode.Mode.TheVariants.{NL}
 use Rattle.gl_modes.specs.declared.node.NodeId.{NodeId}
 use Rattle.gl_graph.specs.Graph.{Graph}
 use Rattle.gl_graph.specs.View.{View, graph_of}
-use Rattle.gl_header.specs.Header.{holds, is_among_waiters}
+use Rattle.gl_header.specs.Header.{hinders, holds, is_among_waiters}
 use Rattle.gl_waits.specs.declared.victims.Victims.TheVariants.{Youngest}
 use Rattle.gl_model.specs.declared.answers.Detect.TheVariants.{ByWatcher}
 use Rattle.gl_lock_lists.specs.declared.list.LockList.{LockList}
 use Rattle.gl_table.specs.declared.ledger.Ledger.{Ledger}
 use Rattle.gl_model.specs.Calls.{held_children}
-use Rattle.gl_header.specs.Headers.{held_of, queue_of}
+use Rattle.gl_header.specs.Headers.{Entries, held_of, members_at, queue_of}
 use Rattle.gl_model.specs.State.{State, members, status_of, is_wait}
 use Rattle.gl_table.specs.inside.TxnEntries.{txns_of}
 use Rattle.gl_table.specs.inside.Slots.{KeepsLists, counted_by, held_by, listed_by, room_by}
@@ -34,6 +34,10 @@ state_on g l =
 -- the same, with the graph as a contract sees it
 abbrev pub state_in : View → Ledger → State
 state_in g l = state_on (graph_of g) l
+
+-- a slot holds S or greater on a node, or something while somebody waits for it, by the headers
+abbrev pub hinders_by : Entries → ℕ → NodeId → Bool
+hinders_by es t n = hinders (members_at es n) (queue_of es n) t
 
 -- a slot's list has the nodes that it holds or waits for, with their modes, and room for a later grant if it waits
 pub record Agrees (s : State) (ls : List LockList) (u : ℕ) : Type 0 where

@@ -4,7 +4,7 @@ ghost use Rattle.std.specs.Prelude.{if◌then◌else◌, ◌&&◌, ◌<◌, ◌�
 ghost use Rattle.std.specs.List.{find, list_any};
 ghost use Rattle.gl_graph.specs.Graph.{is_child, is_live, nodes};
 ghost use Rattle.gl_header.specs.Header.{holds};
-ghost use Rattle.gl_model.specs.Calls.{held_children, locked_as};
+ghost use Rattle.gl_model.specs.Calls.{held_children, hinders_at, locked_as};
 ghost use Rattle.gl_model.specs.Lawful.{effective};
 ghost use Rattle.gl_model.specs.State.{is_write, members, status_of};
 ghost use Rattle.gl_table.specs.inside.Locks.{state_at};
@@ -49,6 +49,14 @@ impl Locks {
             (nodes (state_at self.now).graph) }
     {
         self.ledger.writes_below(&self.graph, slot, node)
+    }
+
+    /// Whether a slot holds some node in `S` or greater, or a node for which somebody waits.
+    pub(crate) fn hinders(&self, slot: Slot) -> bool
+        ensures { result ≡ list_any (hinders_at (state_at self.now) slot) (nodes (state_at self.now).graph) }
+    {
+        self.graph.law();
+        self.ledger.hinders(slot)
     }
 
     /// The effective mode of a slot on a node.

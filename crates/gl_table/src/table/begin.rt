@@ -1,14 +1,16 @@
 //! Transactions begin.
 
-ghost use Rattle.std.specs.Prelude.{◌≡◌, ◌+◌, IfOk, IsOk, None, OnErr, Some, OnOk};
-ghost use Rattle.gl_graph.specs.Refusals.{Refuses, first_refusal};
-ghost use Rattle.gl_model.specs.Calls.{begun, begun_again, free_slot, begin_tests};
+ghost use Rattle.std.specs.Prelude.{◌≡◌, ◌≢◌, ◌<◌, ◌+◌, false, IfOk, IsOk, None, OnErr, Some, OnOk};
+ghost use Rattle.gl_graph.specs.Refusals.{Refuses, first_refusal, max_count};
+ghost use Rattle.gl_model.specs.Calls.{RefusesOnly, begin_tests, begun, begun_again, free_slot, renew_tests};
+ghost use Rattle.gl_model.specs.State.{is_wait, status_of};
 ghost use Rattle.gl_table.specs.Table.{KeepsOrders, state_of};
 
 use super::Table;
 use crate::txn_entry::TxnEntry;
 use gl_model::{Status, TxnId};
 use gl_modes::Refusal;
+use gl_slots::Slot;
 
 impl Table {
     /// Begins a transaction, in the lowest free slot. Its age is the count of begins, this one
@@ -47,6 +49,44 @@ impl Table {
         let Some(slot) = self.locks.ledger.txn_entries.first_free() else {
             return Err(Refusal::TooManyTxns);
         };
+        Ok(self.start(slot, since))
+    }
+
+    /// Ends a transaction that holds intentions alone, on nodes for which nobody waits, and begins
+    /// anew in its slot with all its locks; `since` is as in `begin_again`. Refused, in this order,
+    /// with `NoSuchTxn`, `TxnWaiting`, `TxnCondemned`, `NeedRelease` if it holds more than that, and
+    /// `WornOut` if `u64::MAX` have begun. Allocates no memory. Linear in the locks.
+    pub fn renew(&mut self, t: TxnId, since: u64) -> Result<TxnId, Refusal>
+        ensures renewed { IfOk result (λ u. (u.slot ≡ t.slot)
+            × (u.age ≡ (state_of self.old).begins + 1)
+            × (state_of self.new ≡ begun_again (state_of self.old) t.slot since)) }
+        ensures deadlock { self.new.deadlock ≡ self.old.deadlock }
+        ensures orders { OnOk result (KeepsOrders self.old self.new) }
+        ensures refuses { RefusesOnly (first_refusal (renew_tests (state_of self.old) t)) result }
+        ensures err { OnErr result (self.new ≡ self.old) }
+    {
+        self.check_active(t)?;
+        if self.locks.hinders(t.slot) {
+            return Err(Refusal::NeedRelease);
+        }
+        if self.begins == u64::MAX {
+            return Err(Refusal::WornOut);
+        }
+        Ok(self.start(t.slot, since))
+    }
+
+    /// A transaction begins in a slot in which nobody waits: a free one, or its own.
+    #[inline]
+    fn start(&mut self, slot: Slot, since: u64) -> TxnId
+        requires slot { slot < (state_of self.old).most }
+        requires quiet { is_wait (status_of (state_of self.old) slot) ≡ false }
+        requires left { (state_of self.old).begins ≢ max_count }
+        ensures slot { result.slot ≡ slot }
+        ensures age { result.age ≡ (state_of self.old).begins + 1 }
+        ensures state { state_of self.new ≡ begun_again (state_of self.old) slot since }
+        ensures deadlock { self.new.deadlock ≡ self.old.deadlock }
+        ensures orders { KeepsOrders self.old self.new }
+    {
         self.begins += 1;
         let age = self.begins;
         self.locks.ledger.txn_entries.take(
@@ -57,6 +97,6 @@ impl Table {
                 status: Status::Active,
             },
         );
-        Ok(TxnId { slot, age })
+        TxnId { slot, age }
     }
 }

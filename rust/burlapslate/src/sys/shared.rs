@@ -153,6 +153,7 @@ unsafe extern "C" {
 
     pub(crate) safe fn bs_table_begin(table: &Shared) -> Reply;
     pub(crate) safe fn bs_table_begin_again(table: &Shared, since: u64) -> Reply;
+    pub(crate) safe fn bs_table_renew(table: &Shared, txn: Txn, since: u64) -> Reply;
     pub(crate) safe fn bs_table_begin_in_turn(table: &Shared, until: Until<'_>) -> Reply;
     pub(crate) safe fn bs_table_begin_again_in_turn(
         table: &Shared,

@@ -436,6 +436,7 @@ fn number(refusal: Refusal) -> u32 {
         Refusal::BadNumber => panic!("a script with more than eight parents is not played here"),
         Refusal::TooManyWatchers => panic!("a script has no watcher"),
         Refusal::HasChildren => panic!("a script drops no node"),
+        Refusal::NeedRelease => panic!("a script renews no transaction"),
         Refusal::RecordInUse => panic!("a script forgets no row"),
         Refusal::RowsByNumber | Refusal::NotRows => panic!("a script has no file of rows"),
         other => panic!("a refusal that is new here: {other:?}"),

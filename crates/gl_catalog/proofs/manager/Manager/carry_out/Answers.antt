@@ -76,6 +76,12 @@ returns-in-Commit c =
     c.done_answer-in-Commit.ensures c.in-Commit.is c.commit_telling.ensures.err (λ x h. h)
     c.commit_telling.new.told c.args.told.now c.commit_telling.ensures.untold c.requires.empty c.commit_telling.ensures.step c.commit_telling.ensures.completes
 
+pub returns-in-Renew : goal.returns-in-Renew
+returns-in-Renew c =
+    carries_quietly answer.Begun c.args.self.now c.renew.new.self _ c.args.command c.renew.result c.begun_answer-in-Renew.result
+    c.begun_answer-in-Renew.ensures c.in-Renew.is c.renew.ensures.err (λ x h. h)
+    c.args.told.now c.requires.empty c.renew.ensures.step c.renew.ensures.completes
+
 pub returns-in-Abort : goal.returns-in-Abort
 returns-in-Abort c =
     carries_telling (λ u. answer.Done) c.args.self.now c.abort_telling.new.self _ c.args.command c.abort_telling.result c.done_answer-in-Abort.result

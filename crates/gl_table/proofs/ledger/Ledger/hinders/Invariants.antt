@@ -1,0 +1,7 @@
+use Rattle.gl_table.proofs.Words.{◌≡◌, false, list_any, nodes_by, take}
+use Rattle.gl_table.specs.inside.Ledger.{hinders_by}
+use Rattle.gl_table.proofs.ledger.Ledger.hinders.Given as goal
+
+-- none of the nodes seen so far is such a one
+abbrev pub invariant-loop-place : goal.invariant-loop-place
+invariant-loop-place l = list_any (hinders_by l.fn.self.headers.entries l.fn.slot) (take l.place (nodes_by l.fn.self.lists.items l.fn.slot)) ≡ false
