@@ -13,6 +13,7 @@ from html import escape
 
 TOP = os.path.dirname(os.path.dirname(os.path.realpath(__file__)))
 COLOURS = {"IS": "#cfe3f7", "IX": "#f6dcb4", "S": "#7fb2e5", "SIX": "#c9a3dc", "X": "#e0803c"}
+# In pixels: a command's width, a bar's height, what is between bars and left of them, and a letter's width at most.
 STEP, BAR, GAP, LEFT, TEXT = 34, 15, 3, 96, 7
 ROW = re.compile(r"(holder|waiter|lock|blocker|txn|stuck|told|victim) ")
 
@@ -127,7 +128,9 @@ def draw(steps, names):
         heights[name] = y
         rows[name] = (y, lanes, bars)
         y += max(len(lanes), 1) * (BAR + GAP) + 14
-    width, height = LEFT + STEP * len(steps) + 40, y + 10
+    # A command's text leads up and to the right: three quarters of its length.
+    width = LEFT + max(STEP * at + 16 + TEXT * len(step.line) * 3 // 4 for at, step in enumerate(steps))
+    width, height = max(width, LEFT + STEP * len(steps) + 40), y + 10
     drawing.add(f'<svg xmlns="http://www.w3.org/2000/svg" viewBox="0 0 {width} {height}" width="{width}" height="{height}" '
                 'font-family="sans-serif" font-size="11">')
     drawing.add('<defs><pattern id="waits" width="6" height="6" patternUnits="userSpaceOnUse" patternTransform="rotate(45)">'
@@ -140,24 +143,31 @@ def draw(steps, names):
         drawing.text(x + 8, top - 12, step.line, f'transform="rotate(-40 {x + 8} {top - 12})"{refused}')
         drawing.add(f'<line x1="{x}" y1="{top - 8}" x2="{x}" y2="{height - 8}" stroke="#eee"/></g>')
     for name, (y, lanes, bars) in rows.items():
-        draw_row(drawing, steps, name, y, lanes, bars)
+        draw_row(drawing, steps, name, y, lanes, bars, width)
     for name in names:
         draw_ways(drawing, steps, name, rows)
     drawing.add("</svg>")
     return "\n".join(drawing.parts)
 
 
-def draw_row(drawing, steps, name, y, lanes, bars):
+def word_in(room, words):
+    """The first of these words that has room."""
+    return next((word for word in words if TEXT * len(word) <= room), "")
+
+
+def draw_row(drawing, steps, name, y, lanes, bars, width):
     drawing.text(8, y + 12, name, 'font-weight="bold" font-size="13"')
     for (node, kind), begun, ended, mode in bars:
         x, above = LEFT + STEP * begun, y + lanes.index(node) * (BAR + GAP)
+        later = [LEFT + STEP * other[1] for other in bars if other[0][0] == node and other[1] > begun]
         size = max(STEP * (ended - begun) - 2, 4)
         held = kind == "held"
         word = f"{node} {mode}" if held else f"{node} waits {mode}"
         fill, inset = (COLOURS[mode], 0) if held else ("url(#waits)", 3)
         drawing.add(f'<g class="{kind}"><title>{escape(f"{name}: {word}")}</title><rect x="{x}" y="{above + inset}" width="{size}" '
                     f'height="{BAR - 2 * inset}" fill="{fill}" stroke="#555" stroke-width="0.6"/>')
-        drawing.text(x + 3, above + 11, word, 'paint-order="stroke" stroke="#fff" stroke-width="2.5"')
+        shown = word_in(min(later, default=width) - x - 3, [word, mode])
+        drawing.text(x + 3, above + 11, shown, 'paint-order="stroke" stroke="#fff" stroke-width="2.5"')
         drawing.add("</g>")
     was = None
     for at, step in enumerate(steps):

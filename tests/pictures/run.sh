@@ -1,8 +1,9 @@
 #!/usr/bin/env bash
 # run.sh: draws each example, the scripts of docs/pictures and one of eight transactions and sixty commands as a timeline,
 # and checks that each is well formed, has a row for each transaction, and marks waits, victims and ends as its script
-# has them. If there is rsvg-convert or chromium, it draws the largest. Then what glpicture does beside its picture: it names
-# refused lines, ends at the first by --strict, leaves out idle nodes, and calls dot. Ends with status 1 if anything is not so.
+# has them. A browser, if there is chromium, measures them all (geometry.js); else rsvg-convert draws the largest. Then
+# what glpicture does beside its picture: it names refused lines, ends at the first by --strict, leaves out idle nodes, and
+# calls dot. Ends with status 1 if anything is not so.
 set -uo pipefail
 top=$(cd "$(dirname "$0")/../.." && pwd) || exit 2
 command -v python3 >/dev/null || { echo "tests/pictures: not tried: python3 is not found"; exit 77; }
@@ -58,15 +59,22 @@ END_OF_CHECK
 done
 [ "$(grep -c 'class="victim"' "$work/ring.svg")" -eq 1 ] && [ "$(grep -c 'class="end"' "$work/ring.svg")" -eq 8 ] || fails "the ring is drawn otherwise"
 
-if command -v rsvg-convert >/dev/null; then
+if browser=$(command -v chromium || command -v chromium-browser || command -v google-chrome); then
+  {
+    echo '<!doctype html><meta charset="utf-8"><body>'
+    for picture in "$work"/*.svg; do
+      echo "<figure id=\"$(basename "$picture" .svg)\">" && cat "$picture" && echo "</figure>"
+    done
+    echo "<script>" && cat "$top/tests/pictures/geometry.js" && echo "</script>"
+  } >"$work/page.html"
+  timeout 60 "$browser" --headless --no-sandbox --disable-gpu --dump-dom "file://$work/page.html" >"$work/measured" 2>"$work/log"
+  grep -q 'pictures: [1-9][0-9]*, faults: 0$' "$work/measured" || { cat "$work/measured" >&2; fails "a browser draws them otherwise"; }
+  echo "timelines, measured by $(basename "$browser")"
+elif command -v rsvg-convert >/dev/null; then
   rsvg-convert -o "$work/ring.png" "$work/ring.svg" && [ -s "$work/ring.png" ] || fails "rsvg-convert does not draw it"
   echo "timeline: ring, drawn by rsvg-convert"
-elif browser=$(command -v chromium || command -v chromium-browser); then
-  "$browser" --headless --no-sandbox --disable-gpu --screenshot="$work/ring.png" "file://$work/ring.svg" >"$work/log" 2>&1
-  [ -s "$work/ring.png" ] || fails "$browser does not draw it"
-  echo "timeline: ring, drawn by $browser"
 else
-  echo "timeline: not drawn: neither rsvg-convert nor chromium is found"
+  echo "timelines: not measured: neither chromium nor rsvg-convert is found"
 fi
 [[ $("$top/tools/timeline.py" --help) == timeline.py* ]] || fails "--help says nothing"
 echo "inner db" | "$top/glpicture" --timeline >/dev/null 2>"$work/log" && fails "a script without a transaction is drawn"
