@@ -87,7 +87,9 @@ impl Delivery {
         self.boxes.verdict(self.registry.manager(), txn, node, mode)
     }
 
-    /// Carries out a command, as `Registry::serve`, with its notices put into an empty list.
+    /// Carries out a command, as `Registry::serve`, with its notices put into an empty list. Inlined, so that a call for
+    /// one kind of command makes no choice.
+    #[inline(always)]
     pub fn serve(&mut self, command: Command<'_>, told: &mut Told) -> (Option<Answer>, Slots)
         requires empty { told.old.items ≡ [] }
         ensures serves { ServesBy (touches_rows (registry_in self.old) command.entry) (registry_in self.old) command.entry result.0 told.new.items
@@ -107,6 +109,7 @@ impl Delivery {
     }
 
     /// Locks a node with what must be held above it, as `Registry::lock_path`, with the notices put into an empty list.
+    #[inline(always)]
     pub fn lock_path(
         &mut self,
         txn: TxnId,
@@ -132,6 +135,7 @@ impl Delivery {
 }
 
 /// Puts the notices of an accepted command into their boxes. Answers the slots whose wait it may have ended.
+#[inline(always)]
 fn deliver(boxes: &mut Boxes, command: &Command<'_>, told: &Told) -> Slots
     requires { RisingTo 0 told.now.items most_slots }
     ensures puts { Puts boxes.old command.now told.now.items boxes.new }

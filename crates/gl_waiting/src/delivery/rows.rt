@@ -17,6 +17,7 @@ use gl_table::{Told, TxnId};
 
 impl Delivery {
     /// Carries out a call about rows, as `Registry::apply`, with its notices put into an empty list.
+    #[inline(always)]
     pub fn serve_row(&mut self, call: RowCall<'_>, told: &mut Told) -> (RowAnswer, Slots)
         requires empty { told.old.items ≡ [] }
         ensures applies { AppliesCall (registry_in self.old) call.entry result.0 told.new.items (registry_in self.new) }

@@ -14,6 +14,7 @@ use gl_table::{Told, TxnId};
 
 impl Delivery {
     /// Rolls back to a savepoint, as `Registry::release_since`, with the notices put into an empty list.
+    #[inline(always)]
     pub fn release_since(
         &mut self,
         txn: TxnId,
