@@ -278,6 +278,10 @@ deadlock-is-told-twice	/^static void running_note_deadlock(/,/^}/s/^  if (condem
 deadlock-wakes-nobody	/^static void running_note_deadlock(/,/^}/s/^  pthread_cond_signal(&teller->due);//
 deadlocks-keep-their-rows	/^static bool running_take_deadlock(/,/^}/s/^  memmove(teller->stuck, .*//
 deadlock-that-is-lost-is-not-counted	s/^  if (!running_join_deadlock(teller)) running->lost_deadlocks++;/  running_join_deadlock(teller);/
+deadlocks-need-no-room	/^static bool running_join_deadlock(/,/^}/s/ || last->count > RUNNING_STUCK - teller->stuck_count//
+deadlocks-have-no-end	/^static bool running_join_deadlock(/,/^}/s/teller->deadlock_count == RUNNING_DEADLOCKS || //
+begins-that-wait-are-not-counted	/^uint64_t bs_call_queued(/,/^}/s/^  for (; each != NULL; .*//
+deadlock-waits-behind-long-waits	/^static void running_tell_next(/,/^}/s/^  if (running_take_deadlock(teller)) {/  if (slot == BS_SLOTS \&\& running_take_deadlock(teller)) {/
 function-is-called-under-the-latch	/^static void running_tell(/,/^}/{s/^  pthread_mutex_unlock(running->latch);//;s/^  pthread_mutex_lock(running->latch);//}
 function-taken-back-is-not-awaited	s/^  if (!running_is_own(running)) running_await_return(running);//
 function-awaits-itself	s/^  if (!running_is_own(running)) running_await_return(running);/  running_await_return(running);/

@@ -430,12 +430,30 @@ static void a_victim_that_did_not_wait(void) {
   shut_table();
 }
 
-/* A path and a row wait several times, and a lock for an instant sets off others: each wait is counted. */
+/* A path that waits for two nodes has two waits, each with its own length. */
+static void a_path_waits_twice(void) {
+  struct heard own;
+  bs_txn first = begin(), second = begin(), path = begin();
+  DONE(bs_table_lock_path(table, first, file, BS_S, NULL));
+  DONE(bs_table_lock_path(table, second, low, BS_S, NULL));
+  WAITS(ask_path(&own, path, low, BS_X));
+  pass_time(3 * MILLISECOND);
+  DONE(bs_table_commit(table, first, NULL));
+  WANT(calls_of(&own) == 0 && same_node(DONE(bs_table_waited(table, path)).node, low));
+  pass_time(100000);
+  DONE(bs_table_commit(table, second, NULL));
+  HEARD(&own, BS_DONE);
+  WANT(waits_by_now().ended[BS_END_GRANTED].buckets[12] == 1 && waits_by_now().ended[BS_END_GRANTED].buckets[7] == 1);
+  DONE(bs_table_commit(table, path, NULL));
+}
+
+/* A path waits several times, and a lock for an instant sets off others: each wait is counted. */
 static void one_call_waits_twice(void) {
   struct heard own, other;
   bs_txn first, second, path;
   set_up(BS_AT_BLOCK);
   say_time(BEGINNING);
+  a_path_waits_twice();
   first = begin(), second = begin(), path = begin();
   DONE(bs_table_lock(table, second, root, BS_IX, NULL));
   DONE(bs_table_lock(table, second, file, BS_X, NULL));
@@ -446,7 +464,7 @@ static void one_call_waits_twice(void) {
   DONE(bs_table_commit(table, second, NULL));
   HEARD(&other, BS_DONE);
   HEARD(&own, BS_DONE);
-  WANT(waits_by_now().ended[BS_END_GRANTED].buckets[12] == 2);
+  WANT(waits_by_now().ended[BS_END_GRANTED].buckets[12] == 3);
   shut_table();
 }
 
@@ -758,7 +776,9 @@ static void hear_long(void *context, const bs_long_wait *wait, const bs_deadlock
   const bs_manager *lent = bs_table_hold(table);
   struct told_event *event;
   size_t place;
+  sigset_t blocked;
   WANT(context == &long_word);
+  WANT(pthread_sigmask(SIG_BLOCK, NULL, &blocked) == 0 && sigismember(&blocked, SIGUSR1) == 1);
   WANT((wait == NULL) != (deadlock == NULL));
   if (lent != NULL) DONE(bs_table_let_go(table));
   pthread_mutex_lock(&told_latch);
@@ -1141,7 +1161,46 @@ static void a_slow_function_loses_some(void) {
   shut_table();
 }
 
+enum { RING = 100 };
+
+/* A deadlock of many: each holds a node, and waits for the next one's. */
+static void a_ring(void) {
+  static struct heard h[RING];
+  bs_node of[RING];
+  bs_txn txns[RING];
+  size_t i;
+  for (i = 0; i < RING; i++) of[i] = add_root(), txns[i] = begin(), DONE(bs_table_lock(table, txns[i], of[i], BS_X, NULL));
+  for (i = 0; i + 1 < RING; i++) WAITS(ask(&h[i], txns[i], of[i + 1], BS_X));
+  ANSWERS(BS_VICTIM, ask(&h[i], txns[i], of[0], BS_X));
+  for (i = RING; i-- > 0;) DONE(bs_table_abort(table, txns[i], NULL));
+}
+
+/* Deadlocks await the function as long as there is room for their transactions: a third of a hundred is lost, and a small
+ * one after it is not. */
+static void long_cycles_need_room(void) {
+  struct pair p;
+  bs_deadlock last;
+  int i;
+  set_up_telling(BS_AT_BLOCK, 1);
+  let_return(0);
+  say_time(BEGINNING);
+  make_pair(&p);
+  pass_time(MILLISECOND);
+  event_at(0);
+  for (i = 0; i < RUNNING_STUCK / RING + 1; i++) a_ring();
+  WANT(table->running.lost_deadlocks == 1);
+  a_deadlock(true);
+  last = last_deadlock();
+  WANT(table->running.lost_deadlocks == 1);
+  let_return(MOST_TOLD);
+  for (i = 0; i < RUNNING_STUCK / RING; i++) WANT(event_at(1 + (size_t)i)->deadlock.count == RING);
+  WANT(same_deadlock(&event_at(1 + (size_t)i)->deadlock, &last));
+  await_rest();
+  shut_table();
+}
+
 /* What the function does in a story. */
+static bs_table *other_table;
 static struct heard in_function;
 static bs_reply replies[12];
 
@@ -1156,6 +1215,7 @@ static void calls_what_it_may_not(const bs_long_wait *wait, const bs_deadlock *d
   ANSWERS(BS_IN_USE, bs_table_lock_row(table, txn, rows, ROW, &key, 1, BS_X, NULL));
   ANSWERS(BS_IN_USE, bs_table_await(table, txn, root, BS_X, NULL));
   ANSWERS(BS_IN_USE, bs_table_begin_in_turn(table, NULL));
+  ANSWERS(BS_IN_USE, bs_table_on_long_wait(other_table, 1, hear_long, &long_word));
   WAITS(ask(&in_function, txn, wait->node, BS_S));
   DONE(bs_table_cancel(table, txn, NULL));
   WANT(calls_of(&in_function) == 0); /* It is told after the function. */
@@ -1167,6 +1227,7 @@ static void calls_what_it_may_not(const bs_long_wait *wait, const bs_deadlock *d
 static void a_function_calls_what_it_may_not(void) {
   struct pair p;
   set_up_telling(BS_AT_BLOCK, 10);
+  DONE(make_table(&other_table, BS_AT_BLOCK, BS_YOUNGEST, 2));
   does = calls_what_it_may_not;
   say_time(BEGINNING);
   make_pair(&p);
@@ -1178,6 +1239,8 @@ static void a_function_calls_what_it_may_not(void) {
   HEARD(&p.h, BS_DONE);
   await_rest();
   shut_table();
+  DONE(bs_table_end(other_table));
+  DONE(bs_table_free(&other_table));
 }
 
 /* The function ends the wait of which it is told: by a cancel, or by an abort. */
@@ -1361,14 +1424,18 @@ static void in_callback(struct heard *h) {
   replies[0] = bs_table_on_long_wait(table, 1, hear_long, &long_word);
 }
 
-/* All calls of a table that is refused so. */
+/* All calls of a table that is refused so; they write nothing. */
 static void all_refused(bs_table *of, bs_status status) {
-  bs_waits waits;
-  bs_awaited awaited;
+  static bs_waits waits, same_waits;
+  static bs_awaited awaited, same_awaited;
   bs_txn none = { 0, 1 };
+  memset(&waits, 99, sizeof waits);
+  memset(&awaited, 99, sizeof awaited);
+  same_waits = waits, same_awaited = awaited;
   ANSWERS(status, bs_table_waits(of, &waits));
   ANSWERS(status, bs_table_waited(of, none));
   ANSWERS(status, bs_table_awaited(of, &awaited, true));
+  WANT(memcmp(&waits, &same_waits, sizeof waits) == 0 && memcmp(&awaited, &same_awaited, sizeof awaited) == 0);
   ANSWERS(status, bs_table_on_long_wait(of, 1, hear_long, &long_word));
   ANSWERS(status, bs_table_on_long_wait(of, 0, NULL, NULL));
   ANSWERS(status, bs_table_metrics(of, write_nowhere, NULL));
@@ -1404,6 +1471,28 @@ static void misuse_is_refused(void) {
   DONE(bs_table_free(&table));
   DONE(bs_table_end(other));
   DONE(bs_table_free(&other));
+}
+
+/* Neither the questions nor the metrics take memory, and nothing is reset by a call that is refused. */
+static void questions_take_no_memory(void) {
+  struct pair p;
+  bs_waits waits;
+  bs_awaited awaited;
+  say_time(BEGINNING);
+  set_up(BS_AT_BLOCK);
+  make_pair(&p);
+  pass_time(500);
+  WANT(bs_table_hold(table) != NULL);
+  ANSWERS(BS_IN_USE, bs_table_awaited(table, &awaited, true));
+  DONE(bs_table_let_go(table));
+  refused_allocation = 1;
+  DONE(bs_table_waits(table, &waits));
+  DONE(bs_table_waited(table, p.waiter));
+  DONE(bs_table_awaited(table, &awaited, false));
+  DONE(bs_table_metrics(table, write_nowhere, NULL));
+  WANT(refused_allocation == 1 && awaited.since == 500 && awaited.count == 1);
+  refused_allocation = 0;
+  shut_table();
 }
 
 /* Without memory or a thread nothing has changed, and the call can be made again. */
@@ -1522,6 +1611,7 @@ static void metrics_say_what_is(void) {
   await_sleepers(1);
   text = metrics_by_now();
   WANT(has_line(&text, "burlapslate_begins_waiting 1") && has_line(&text, "burlapslate_transactions_limit 2"));
+  WANT(has_line(&text, "burlapslate_waiting 0")); /* A begin is no wait. */
   DONE(bs_table_end(table));
   BACK(&queued, BS_NO_MANAGER);
   DONE(bs_table_free(&table));
@@ -1692,12 +1782,14 @@ int main(int count, char **words) {
   TELL(two_victims_of_one_lock);
   TELL(a_victim_beside_its_requester);
   TELL(a_slow_function_loses_some);
+  TELL(long_cycles_need_room);
   TELL(a_function_calls_what_it_may_not);
   TELL(a_function_ends_the_wait);
   TELL(a_function_takes_itself_back);
   TELL(the_next_function_is_not_awaited);
   TELL(an_end_tells_no_more);
   TELL(misuse_is_refused);
+  TELL(questions_take_no_memory);
   TELL(a_teller_that_cannot_be_had);
   TELL(metrics_say_what_is);
   TELL(a_writer_fails_half_way);
