@@ -270,8 +270,8 @@ long-wait-is-told-too-early	s/waited >= teller->limit/waited + 1 >= teller->limi
 long-wait-is-told-too-late	s/waited >= teller->limit/waited > teller->limit/
 long-wait-wakes-nobody	/^void bs_call_wait_began(/,/^}/s/^    pthread_cond_signal(&running->teller->due);//
 long-wait-of-the-last-is-first	/^static uint32_t running_first_untold(/,/^}/s/since < running->waits/since > running->waits/
-blocker-ahead-wants-nothing	/^static void running_note_blocker(/,/^}/s/^  blocker->wanted = doing.mode;//
-blocker-wants-other-nodes	/^static void running_note_blocker(/,/^}/s/^  if (doing.count != BS_WAITS || .*/  if (doing.count != BS_WAITS) return;/
+blocker-ahead-wants-nothing	/^static void running_note_blocker(/,/^}/s/ blocker->wanted = doing.mode;/ return;/
+blocker-wants-other-nodes	/^static void running_note_blocker(/,/^}/s/ \&\& running_is_same_node(doing.node, wait->node)//
 requester-that-is-condemned-is-not-told	s/^  if (status == BS_VICTIM) bs_call_condemned(&table->running);//
 waiter-that-is-condemned-is-not-told	/^void bs_call_waits_ended(/,/^}/s/^  if (has_victims) running_note_deadlock(running);//
 deadlock-is-told-twice	/^static void running_note_deadlock(/,/^}/s/^  if (condemned == running->condemned) return;//

@@ -1,7 +1,7 @@
 /*
- * Stories of a table that is run: how long waits last and how they end, the nodes that were waited for longest, long waits
- * and deadlocks that are told, and metrics. Each is a function that ends the program with status 1 at the first answer
- * that is not as wanted, and else prints its name.
+ * Stories of a table that is run: how long waits last and how they end, the nodes that were waited for longest, long
+ * waits and deadlocks that are told, and metrics. Each is a function that ends the program with status 1 at the first
+ * answer that is not as wanted, and else prints its name.
  *
  *   running [SECONDS]   the time that a story may take before it is said to hang, 20 if none is given
  *   running metrics     prints the metrics of a table after some waits, for metrics.sh
@@ -108,7 +108,8 @@ static int noted_wait(pthread_cond_t *on, pthread_mutex_t *latch) {
 /* A sleep to a said time is a short one. */
 static int noted_timedwait(pthread_cond_t *on, pthread_mutex_t *latch, const struct timespec *until) {
   struct timespec soon = moment_in(300);
-  if (table != NULL && table->running.teller != NULL && on == &table->running.teller->due) looks++, looks_again_at = *until;
+  bool is_look = table != NULL && table->running.teller != NULL && on == &table->running.teller->due;
+  if (is_look) looks++, looks_again_at = *until;
   return pthread_cond_timedwait(on, latch, is_said() ? &soon : until);
 }
 
@@ -249,8 +250,8 @@ static void a_sleep_of_three_milliseconds(void) {
 
 /* The ways in which a lock comes to wait. */
 enum waits_by {
-  ASKED, ASKED_INSTANT, ASKED_PATH, ASKED_ROW, SLEPT, SLEPT_PATH, SLEPT_ROW, LISTED, LISTED_INSTANT, LISTED_PATH, LISTED_ROW,
-  WAITS_BY
+  ASKED, ASKED_INSTANT, ASKED_PATH, ASKED_ROW, SLEPT, SLEPT_PATH, SLEPT_ROW, LISTED, LISTED_INSTANT, LISTED_PATH,
+  LISTED_ROW, WAITS_BY
 };
 
 static struct sleeper sleeper;
@@ -295,7 +296,9 @@ static void wait_ends(enum waits_by by, bs_status status) {
 }
 
 /* The ways in which a wait ends. */
-enum ends_by { COMMITTED, UNLOCKED, LIST_COMMITTED, CONDEMNED, CANCELLED, ABORTED, LIST_CANCELLED, MOVED, GONE, ENDS_BY };
+enum ends_by {
+  COMMITTED, UNLOCKED, LIST_COMMITTED, CONDEMNED, CANCELLED, ABORTED, LIST_CANCELLED, MOVED, GONE, ENDS_BY
+};
 
 static enum bs_wait_ends end_of(enum ends_by by) {
   if (by <= LIST_COMMITTED) return BS_END_GRANTED;
@@ -306,7 +309,7 @@ static enum bs_wait_ends end_of(enum ends_by by) {
 
 /* The wait is ended by the holder, or by a cycle that the holder closes, or by its name. */
 static bs_status end_by(enum ends_by by, bs_txn holder, bs_txn waiter, bool of_row) {
-  bs_command command = bs_do(by == LIST_CANCELLED ? BS_DO_CANCEL : BS_DO_COMMIT, by == LIST_CANCELLED ? waiter : holder);
+  bs_command command = by == LIST_CANCELLED ? bs_do(BS_DO_CANCEL, waiter) : bs_do(BS_DO_COMMIT, holder);
   switch (by) {
     case COMMITTED: DONE(bs_table_commit(table, holder, NULL)); return BS_DONE;
     case UNLOCKED:
@@ -516,8 +519,8 @@ static void says_waits(FILE *text, size_t count, const char *const *wanted_lines
 
 /* The waits of a dump are by their age, whatever slots they have; also of a table that is held. */
 static void a_dump_is_by_age(void) {
-  static const char *const wanted_lines[] = { "    9.000000    3            5 S     inner", "    8.500000    1            3 X",
-                                              "    6.000001    2            4 S" };
+  static const char *const wanted_lines[] = { "    9.000000    3            5 S     inner",
+                                              "    8.500000    1            3 X", "    6.000001    2            4 S" };
   struct heard h[3];
   FILE *text = tmpfile(), *again = tmpfile(), *none = tmpfile();
   bs_txn t[4];
@@ -624,8 +627,8 @@ static bool is_among(const bs_awaited *awaited, size_t number) {
   return false;
 }
 
-/* What is answered fits what was waited: each node's bound, the bound of the error, the order, and that no other node was
- * waited for longer than the last one may have been. */
+/* What is answered fits what was waited: each node's bound, the bound of the error, the order, and that no other node
+ * was waited for longer than the last one may have been. */
 static void fits(const bs_awaited *awaited) {
   size_t i, most;
   WANT(awaited->nanoseconds == waited_in_all && awaited->count <= BS_MOST_AWAITED);
@@ -940,8 +943,8 @@ static void a_thread_wakes_by_time(void) {
   shut_table();
 }
 
-/* A wait that began before the function was given counts in full; what was told once is not told to another function; and
- * a shorter time wakes the thread. */
+/* A wait that began before the function was given counts in full; what was told once is not told to another function;
+ * and a shorter time wakes the thread. */
 static void times_and_functions_change(void) {
   struct pair p, q;
   set_up(BS_AT_BLOCK);
@@ -977,8 +980,8 @@ static void times_and_functions_change(void) {
   shut_table();
 }
 
-/* Two transactions that wait for each other. The younger is condemned: by its own request, or while it waits. Answers the
- * victim, which has aborted. */
+/* Two transactions that wait for each other. The younger is condemned: by its own request, or while it waits. Answers
+ * the victim, which has aborted. */
 static bs_txn a_deadlock(bool of_requester) {
   struct heard h[2];
   bs_node one = add_root(), other = add_root();
@@ -1169,14 +1172,17 @@ static void a_ring(void) {
   bs_node of[RING];
   bs_txn txns[RING];
   size_t i;
-  for (i = 0; i < RING; i++) of[i] = add_root(), txns[i] = begin(), DONE(bs_table_lock(table, txns[i], of[i], BS_X, NULL));
+  for (i = 0; i < RING; i++) {
+    of[i] = add_root(), txns[i] = begin();
+    DONE(bs_table_lock(table, txns[i], of[i], BS_X, NULL));
+  }
   for (i = 0; i + 1 < RING; i++) WAITS(ask(&h[i], txns[i], of[i + 1], BS_X));
   ANSWERS(BS_VICTIM, ask(&h[i], txns[i], of[0], BS_X));
   for (i = RING; i-- > 0;) DONE(bs_table_abort(table, txns[i], NULL));
 }
 
-/* Deadlocks await the function as long as there is room for their transactions: a third of a hundred is lost, and a small
- * one after it is not. */
+/* Deadlocks await the function as long as there is room for their transactions: a third of a hundred is lost, and a
+ * small one after it is not. */
 static void long_cycles_need_room(void) {
   struct pair p;
   bs_deadlock last;
@@ -1322,8 +1328,8 @@ static bool is_back(const struct awaiter *a) {
   return is;
 }
 
-/* A call that takes the function back, and one that ends the table, await the function that is being called; a cancel of
- * their thread takes effect after them. */
+/* A call that takes the function back, and one that ends the table, await the function that is being called; a cancel
+ * of their thread takes effect after them. */
 static void a_function_is_awaited(void) {
   int ends;
   for (ends = 1; ends >= 0; ends--) {
@@ -1367,8 +1373,8 @@ static bool awaits_function(void) {
   return awaits;
 }
 
-/* A function takes the place of one that is being called, and the caller awaits that call alone, and not the next, which
- * does not return. */
+/* A function takes the place of one that is being called, and the caller awaits that call alone, and not the next,
+ * which does not return. */
 static void the_next_function_is_not_awaited(void) {
   struct awaiter a;
   struct pair p, q;
@@ -1713,8 +1719,8 @@ static void hear_any(void *context, const bs_long_wait *wait, const bs_deadlock 
   if (wait != NULL && wait->nanoseconds % 2 == 0) bs_table_cancel(table, wait->txn, NULL);
 }
 
-/* Threads that wait, time out and are condemned, while others ask, tell and give other functions: in the end each wait is
- * counted once. */
+/* Threads that wait, time out and are condemned, while others ask, tell and give other functions: in the end each wait
+ * is counted once. */
 static void a_crowd_is_counted(void) {
   pthread_t threads[CROWD];
   bs_waits waits;
