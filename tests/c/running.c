@@ -1164,7 +1164,7 @@ static void a_slow_function_loses_some(void) {
   shut_table();
 }
 
-enum { RING = 100 };
+enum { RING = BS_SLOTS - 28 };
 
 /* A deadlock of many: each holds a node, and waits for the next one's. */
 static void a_ring(void) {
@@ -1181,8 +1181,8 @@ static void a_ring(void) {
   for (i = RING; i-- > 0;) DONE(bs_table_abort(table, txns[i], NULL));
 }
 
-/* Deadlocks await the function as long as there is room for their transactions: a third of a hundred is lost, and a
- * small one after it is not. */
+/* Deadlocks await the function as long as there is room for their transactions: the third of almost all slots is lost,
+ * and a small one after it is not. */
 static void long_cycles_need_room(void) {
   struct pair p;
   bs_deadlock last;
@@ -1397,6 +1397,34 @@ static void the_next_function_is_not_awaited(void) {
   WANT(same_txn(event_at(1)->wait.txn, q.waiter) && inside_now() == 1);
   let_return(MOST_TOLD);
   shut_table();
+}
+
+/* The function is called while one thread takes it back and another ends the table: both await it. */
+static void an_end_and_a_call_await_it(void) {
+  struct awaiter taker, ender;
+  struct pair p;
+  void *came = NULL;
+  memset(&taker, 0, sizeof taker);
+  memset(&ender, 0, sizeof ender);
+  ender.ends = true;
+  set_up_telling(BS_AT_BLOCK, 10);
+  let_return(0);
+  say_time(BEGINNING);
+  make_pair(&p);
+  pass_time(10 * MILLISECOND);
+  event_at(0);
+  start(&taker.thread, await_function, &taker);
+  while (!awaits_function()) nap();
+  start(&ender.thread, await_function, &ender);
+  HEARD(&p.h, BS_NO_MANAGER); /* The end has begun. */
+  WANT(!is_back(&taker) && !is_back(&ender) && inside_now() == 1);
+  let_return(MOST_TOLD);
+  WANT(pthread_join(taker.thread, &came) == 0 && came == PTHREAD_CANCELED);
+  WANT(pthread_join(ender.thread, &came) == 0 && came == PTHREAD_CANCELED);
+  DONE(taker.reply);
+  DONE(ender.reply);
+  DONE(bs_table_free(&table));
+  say_time(0);
 }
 
 /* A table is ended while waits and deadlocks are to be told: what is not being told is not told any more. */
@@ -1793,6 +1821,7 @@ int main(int count, char **words) {
   TELL(a_function_ends_the_wait);
   TELL(a_function_takes_itself_back);
   TELL(the_next_function_is_not_awaited);
+  TELL(an_end_and_a_call_await_it);
   TELL(an_end_tells_no_more);
   TELL(misuse_is_refused);
   TELL(questions_take_no_memory);
