@@ -1,19 +1,18 @@
 /*
- * burlapslate_running.c: what burlapslate_running.h declares: the times of waits, the nodes that were waited for longest,
- * the thread that tells of long waits and deadlocks, and the metrics. Nothing here is proved.
+ * burlapslate_running.c: what burlapslate_running.h declares: the times of waits, the nodes that were waited for
+ * longest, the thread that tells of long waits and deadlocks, and the metrics. Nothing here is proved.
  *
  * burlapslate_shared.c tells of each wait as it begins and as it ends (burlapslate_inside.h): running_end is the one
  * place where a wait ends, so that what records waits, as a trace, has its place there and in bs_call_wait_began.
  */
 #include "burlapslate_inside.h"
 
-#include <errno.h>
 #include <inttypes.h>
 #include <stdio.h>
 #include <stdlib.h>
 
-/* Probes, if the header is there. Each has the table, then slot, age, node (key and birth) and mode of the waiter; at an
- * end also the nanoseconds of the wait. */
+/* Probes, if the header is there. Each has the table, then slot, age, node (key and birth) and mode of the waiter; at
+ * an end also the nanoseconds of the wait. */
 #if defined(__has_include)
 #if __has_include(<sys/sdt.h>)
 #include <sys/sdt.h>
@@ -97,12 +96,14 @@ static size_t running_bucket(uint64_t nanoseconds) {
  * The sketch.
  */
 
+static bool running_is_same_node(bs_node one, bs_node other) {
+  return one.birth == other.birth && one.key == other.key;
+}
+
 /* The place of a node; `count` if it has none. */
 static size_t running_place_of(const bs_sketch *sketch, bs_node node) {
   size_t place = 0;
-  while (place < sketch->count && (sketch->at[place].node.birth != node.birth || sketch->at[place].node.key != node.key)) {
-    place++;
-  }
+  while (place < sketch->count && !running_is_same_node(sketch->at[place].node, node)) place++;
   return place;
 }
 
@@ -257,7 +258,8 @@ static void running_probe_last(const bs_running *running) {
   if (bs_call_last_deadlock(running->manager, &last).status != BS_DONE) return;
   for (i = 0; i < last.count; i++) {
     const bs_stuck *stuck = &last.at[i];
-    if (stuck->txn.slot == last.victim.slot) RUNNING_PROBE_END(victim, running, stuck->txn, stuck->node, stuck->mode, 0);
+    if (stuck->txn.slot != last.victim.slot) continue;
+    RUNNING_PROBE_END(victim, running, stuck->txn, stuck->node, stuck->mode, 0);
   }
 #else
   (void)running;
@@ -359,7 +361,9 @@ bs_reply bs_table_awaited(bs_table *table, bs_awaited *awaited, bool reset) {
   }
   bs_table_let_go(table);
   awaited->nanoseconds = sketch.nanoseconds;
-  while (awaited->count < BS_MOST_AWAITED && sketch.count > 0) awaited->at[awaited->count++] = running_take_most(&sketch);
+  while (awaited->count < BS_MOST_AWAITED && sketch.count > 0) {
+    awaited->at[awaited->count++] = running_take_most(&sketch);
+  }
   return bs_call_only(BS_DONE);
 }
 
@@ -434,8 +438,7 @@ static void running_note_blocker(const bs_manager *m, bs_long_wait *wait, uint32
   doing = bs_call_doing(m, blocker->txn);
   blocker->doing = (uint32_t)doing.count;
   blocker->wanted = BS_NL;
-  if (doing.count != BS_WAITS || doing.node.key != wait->node.key || doing.node.birth != wait->node.birth) return;
-  blocker->wanted = doing.mode;
+  if (doing.count == BS_WAITS && running_is_same_node(doing.node, wait->node)) blocker->wanted = doing.mode;
 }
 
 /* Takes the wait of a slot, to tell it. */
@@ -655,7 +658,8 @@ static void metrics_flush(metrics_text *to) {
   to->length = 0;
 }
 
-/* Appends one or two lines, each shorter than METRICS_LINE. No number has a decimal point, which the locale may change. */
+/* Appends one or two lines, each shorter than METRICS_LINE. No number has a decimal point, which the locale may
+ * change. */
 #define METRICS_PUT(to, ...)                                                                  \
   do {                                                                                        \
     if ((to)->length > sizeof(to)->text - 2 * METRICS_LINE) metrics_flush(to);                \
@@ -701,14 +705,15 @@ static const metrics_kind metrics_kinds[] = {
 static void metrics_put_kind(metrics_text *to, const metrics_copy *copy, const metrics_kind *kind) {
   uint64_t number;
   memcpy(&number, (const char *)copy + kind->place, sizeof number);
-  METRICS_PUT(to, "# TYPE burlapslate_%s %s\n# HELP burlapslate_%s %s\n", kind->name, kind->is_gauge ? "gauge" : "counter",
-              kind->name, kind->help);
+  METRICS_PUT(to, "# TYPE burlapslate_%s %s\n", kind->name, kind->is_gauge ? "gauge" : "counter");
+  METRICS_PUT(to, "# HELP burlapslate_%s %s\n", kind->name, kind->help);
   METRICS_PUT(to, "burlapslate_%s%s %" PRIu64 "\n", kind->name, kind->is_gauge ? "" : "_total", number);
 }
 
 /* A line of a time, in seconds. */
 static void metrics_put_time(metrics_text *to, const char *line, uint64_t nanoseconds) {
-  METRICS_PUT(to, "%s %" PRIu64 ".%09u\n", line, nanoseconds / RUNNING_SECOND, (unsigned)(nanoseconds % RUNNING_SECOND));
+  METRICS_PUT(to, "%s %" PRIu64 ".%09u\n", line, nanoseconds / RUNNING_SECOND,
+              (unsigned)(nanoseconds % RUNNING_SECOND));
 }
 
 /* The waits that ended in one way. Each bucket counts those below it too. */

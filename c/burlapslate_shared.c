@@ -316,8 +316,8 @@ static TABLE_APART void table_wake_ended(bs_table *table, bs_status status, bs_n
   if (is_accepted) table_wake_told(table, told);
 }
 
-/* After a command that is not done: if a wait began, wakes the thread that watches. If the requester was condemned, none
- * began, but there was a deadlock. */
+/* After a command that is not done: if a wait began, wakes the thread that watches. If the requester was condemned,
+ * none began, but there was a deadlock. */
 static TABLE_APART void table_blocked(bs_table *table, bs_status status) {
   if (status == BS_VICTIM) bs_call_condemned(&table->running);
   if (status != BS_WAITING) return;

@@ -1,14 +1,14 @@
 /*
- * burlapslate_running.h: for whoever runs a table of locks: who waits, for whom, for how long, and how it was until now;
- * for C and C++.
+ * burlapslate_running.h: for whoever runs a table of locks: who waits, for whom, for how long, and how it was until
+ * now; for C and C++.
  *
  * A table times each wait by CLOCK_MONOTONIC, always: from the command that leaves a lock waiting to the command that
- * ends the wait, whatever its thread does meanwhile. A lock that does not wait reads no clock. A path or a row that waits
- * several times has several waits. A thread that sleeps for a slot has none.
+ * ends the wait, whatever its thread does meanwhile. A lock that does not wait reads no clock. A path or a row that
+ * waits several times has several waits. A thread that sleeps for a slot has none.
  *
- * All times are in nanoseconds. What burlapslate_shared.h requires of callers holds here too, and so does what it says of
- * a null table, one that was ended, and one that this thread holds. Probes for bpftrace and SystemTap are in the library
- * if sys/sdt.h was there when it was built (docs/ENGINES.md).
+ * All times are in nanoseconds. What burlapslate_shared.h requires of callers holds here too, and so does what it says
+ * of a null table, one that was ended, and one that this thread holds. Probes for bpftrace and SystemTap are in the
+ * library if sys/sdt.h was there when it was built (docs/ENGINES.md).
  */
 #ifndef BURLAPSLATE_RUNNING_H
 #define BURLAPSLATE_RUNNING_H
@@ -78,11 +78,11 @@ typedef struct bs_awaited {
 } bs_awaited;
 
 /* Writes the nodes that were waited for longest since the last reset. Waits that have not ended count up to now, and of
- * those that began before the reset what came after it. If `reset` is true, the count begins anew at this moment, so that
- * no wait is lost between two calls. Takes no memory: the table counts 32 nodes, as Space-Saving does, and another node
- * takes the place of the one with the least. So while waits were for at most 32 nodes, all is exact. Else `error` is at
- * most a 32nd of `nanoseconds` of the whole, and a node with more than a 32nd of the whole is counted. Refused with
- * BS_NULL_POINTER; nothing is written or reset then. */
+ * those that began before the reset what came after it. If `reset` is true, the count begins anew at this moment, so
+ * that no wait is lost between two calls. Takes no memory: the table counts 32 nodes, as Space-Saving does, and another
+ * node takes the place of the one with the least. So while waits were for at most 32 nodes, all is exact. Else `error`
+ * is at most a 32nd of `nanoseconds` of the whole, and a node with more than a 32nd of the whole is counted. Refused
+ * with BS_NULL_POINTER; nothing is written or reset then. */
 bs_reply bs_table_awaited(bs_table *table, bs_awaited *awaited, bool reset);
 
 /* ------------------------------------------------------------------------------------------------
@@ -111,24 +111,25 @@ typedef struct bs_long_wait {
  * with `wait`, and for each deadlock that ends with a victim, with `deadlock`; the other of the two is null. Both are
  * there only during the call.
  *
- * The first such call starts a thread, which makes all calls of the function, one after the other, without the latch. It
- * is not that of bs_table_watch_thread, so a slow function delays no victim, and no wait: only what it is told next. It
- * sleeps until the next wait is long, takes no signals, and ends with the table; bs_table_end awaits the function.
+ * The first such call starts a thread, which makes all calls of the function, one after the other, without the latch.
+ * It is not that of bs_table_watch_thread, so a slow function delays no victim, and no wait: only what it is told next.
+ * It sleeps until the next wait is long, takes no signals, and ends with the table; bs_table_end awaits the function.
  *   - A wait is told once at most, also if the function or the time is another meanwhile. One that has ended before the
  *     thread looks is not told, and one that is told may have ended by then. A wait that began before counts in full.
- *   - Of a deadlock the function is given what bs_last_deadlock has of its victim. If one command condemned several, that
- *     is the last of them. Deadlocks since the function was given are told in their order, before any wait. Up to 16 may
- *     await the function, with up to twice BS_SLOTS transactions on their cycles. Others are lost; bs_table_metrics
- *     counts them.
+ *   - Of a deadlock the function is given what bs_last_deadlock has of its victim. If one command condemned several,
+ *     that is the last of them. Deadlocks since the function was given are told in their order, before any wait. Up to
+ *     16 may await the function, with up to twice BS_SLOTS transactions on their cycles. Others are lost;
+ *     bs_table_metrics counts them.
  *   - The function may make what calls the callback of bs_table_on_end may make, under the same rules: so it may cancel
- *     or abort the waiter. Those that could sleep, and bs_table_end, are refused with BS_IN_USE. Ends of asks that it sets
- *     off are told after it by the same thread.
- *   - A null function takes back the one before, which is not called any more after this. If it is being called, the call
- *     sleeps until it has returned, unless the function itself makes the call: so that what `context` points to can be
- *     freed. Another function takes its place likewise. No mutex that the function takes may be held around this call.
+ *     or abort the waiter. Those that could sleep, and bs_table_end, are refused with BS_IN_USE. Ends of asks that it
+ *     sets off are told after it by the same thread.
+ *   - A null function takes back the one before, which is not called any more after this. If it is being called, the
+ *     call sleeps until it has returned, unless the function itself makes the call: so that what `context` points to
+ *     can be freed. Another function takes its place likewise. No mutex that the function takes may be held around this
+ *     call.
  * Refused with BS_NULL_POINTER; with BS_IN_USE also while the thread holds any table, and in any callback but this
- * function of this table; with BS_BAD_NUMBER if the time is 0, unless the function is null; and with BS_NO_MEMORY also if
- * no thread can be started. The first call takes memory, some 33 kilobytes, with 1,024 slots 720, and the thread's
+ * function of this table; with BS_BAD_NUMBER if the time is 0, unless the function is null; and with BS_NO_MEMORY also
+ * if no thread can be started. The first call takes memory, some 33 kilobytes, with 1,024 slots 720, and the thread's
  * stack. */
 bs_reply bs_table_on_long_wait(bs_table *table, uint64_t milliseconds,
                                void (*function)(void *context, const bs_long_wait *wait, const bs_deadlock *deadlock),
@@ -139,11 +140,11 @@ bs_reply bs_table_on_long_wait(bs_table *table, uint64_t milliseconds,
  */
 
 /* Writes all counters of a table, and its waits as a histogram, as text in the form of OpenMetrics, with a name, a type
- * and a help for each. It calls the function with one part after the other, each of `length` bytes with no zero at their
- * end, until that answers false: then the call answers BS_NOT_WRITTEN, and what was written lacks `# EOF`, by which a
- * reader knows a whole text. All numbers are of one moment. The function is called without the latch, so it may be slow,
- * and may make any call. It must return; a pthread_cancel takes effect after the call. Refused with BS_NULL_POINTER also
- * if the function is null. Takes no memory. */
+ * and a help for each. It calls the function with one part after the other, each of `length` bytes with no zero at
+ * their end, until that answers false: then the call answers BS_NOT_WRITTEN, and what was written lacks `# EOF`, by
+ * which a reader knows a whole text. All numbers are of one moment. The function is called without the latch, so it may
+ * be slow, and may make any call. It must return; a pthread_cancel takes effect after the call. Refused with
+ * BS_NULL_POINTER also if the function is null. Takes no memory. */
 bs_reply bs_table_metrics(bs_table *table, bool (*write)(void *context, const char *text, size_t length),
                           void *context);
 

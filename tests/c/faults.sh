@@ -250,14 +250,18 @@ long-wait-is-told-too-early	s/waited >= teller->limit/waited + 1 >= teller->limi
 long-wait-is-told-too-late	s/waited >= teller->limit/waited > teller->limit/
 long-wait-wakes-nobody	/^void bs_call_wait_began(/,/^}/s/^    pthread_cond_signal(&running->teller->due);//
 long-wait-of-the-last-is-first	/^static uint32_t running_first_untold(/,/^}/s/since < running->waits/since > running->waits/
-blocker-ahead-wants-nothing	/^static void running_note_blocker(/,/^}/s/^  blocker->wanted = doing.mode;//
-blocker-wants-other-nodes	/^static void running_note_blocker(/,/^}/s/^  if (doing.count != BS_WAITS || .*/  if (doing.count != BS_WAITS) return;/
+blocker-ahead-wants-nothing	/^static void running_note_blocker(/,/^}/s/ blocker->wanted = doing.mode;/ return;/
+blocker-wants-other-nodes	/^static void running_note_blocker(/,/^}/s/ \&\& running_is_same_node(doing.node, wait->node)//
 requester-that-is-condemned-is-not-told	s/^  if (status == BS_VICTIM) bs_call_condemned(&table->running);//
 waiter-that-is-condemned-is-not-told	/^void bs_call_waits_ended(/,/^}/s/^  if (has_victims) running_note_deadlock(running);//
 deadlock-is-told-twice	/^static void running_note_deadlock(/,/^}/s/^  if (condemned == running->condemned) return;//
 deadlock-wakes-nobody	/^static void running_note_deadlock(/,/^}/s/^  pthread_cond_signal(&teller->due);//
 deadlocks-keep-their-rows	/^static bool running_take_deadlock(/,/^}/s/^  memmove(teller->stuck, .*//
 deadlock-that-is-lost-is-not-counted	s/^  if (!running_join_deadlock(teller)) running->lost_deadlocks++;/  running_join_deadlock(teller);/
+deadlocks-need-no-room	/^static bool running_join_deadlock(/,/^}/s/ || last->count > RUNNING_STUCK - teller->stuck_count//
+deadlocks-have-no-end	/^static bool running_join_deadlock(/,/^}/s/teller->deadlock_count == RUNNING_DEADLOCKS || //
+begins-that-wait-are-not-counted	/^uint64_t bs_call_queued(/,/^}/s/^  for (; each != NULL; .*//
+deadlock-waits-behind-long-waits	/^static void running_tell_next(/,/^}/s/^  if (running_take_deadlock(teller)) {/  if (slot == BS_SLOTS \&\& running_take_deadlock(teller)) {/
 function-is-called-under-the-latch	/^static void running_tell(/,/^}/{s/^  pthread_mutex_unlock(running->latch);//;s/^  pthread_mutex_lock(running->latch);//}
 function-taken-back-is-not-awaited	s/^  if (!running_is_own(running)) running_await_return(running);//
 function-awaits-itself	s/^  if (!running_is_own(running)) running_await_return(running);/  running_await_return(running);/

@@ -85,7 +85,8 @@ static bool runs() {
   if (bs_table_on_long_wait(table, 1, hear_long, NULL).status != BS_DONE) return false;
   if (bs_table_lock(table, a, root, BS_X, NULL).status != BS_DONE) return false;
   if (bs_table_lock(table, b, root, BS_S, NULL).status != BS_NOT_WAITING) return false;
-  if (bs_table_waited(table, b).status != BS_NOT_WAITING || bs_table_waits(table, &waits).status != BS_DONE) return false;
+  if (bs_table_waited(table, b).status != BS_NOT_WAITING) return false;
+  if (bs_table_waits(table, &waits).status != BS_DONE) return false;
   if (waits.waiting != 0 || waits.ended[BS_END_CANCELLED].nanoseconds < 1000000) return false;
   if (bs_table_awaited(table, &awaited, true).status != BS_DONE || awaited.count != 1) return false;
   if (bs_table_metrics(table, take, &length).status != BS_DONE || length == 0) return false;

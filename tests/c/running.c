@@ -1,7 +1,7 @@
 /*
- * Stories of a table that is run: how long waits last and how they end, the nodes that were waited for longest, long waits
- * and deadlocks that are told, and metrics. Each is a function that ends the program with status 1 at the first answer
- * that is not as wanted, and else prints its name.
+ * Stories of a table that is run: how long waits last and how they end, the nodes that were waited for longest, long
+ * waits and deadlocks that are told, and metrics. Each is a function that ends the program with status 1 at the first
+ * answer that is not as wanted, and else prints its name.
  *
  *   running [SECONDS]   the time that a story may take before it is said to hang, 20 if none is given
  *   running metrics     prints the metrics of a table after some waits, for metrics.sh
@@ -108,7 +108,8 @@ static int noted_wait(pthread_cond_t *on, pthread_mutex_t *latch) {
 /* A sleep to a said time is a short one. */
 static int noted_timedwait(pthread_cond_t *on, pthread_mutex_t *latch, const struct timespec *until) {
   struct timespec soon = moment_in(300);
-  if (table != NULL && table->running.teller != NULL && on == &table->running.teller->due) looks++, looks_again_at = *until;
+  bool is_look = table != NULL && table->running.teller != NULL && on == &table->running.teller->due;
+  if (is_look) looks++, looks_again_at = *until;
   return pthread_cond_timedwait(on, latch, is_said() ? &soon : until);
 }
 
@@ -249,8 +250,8 @@ static void a_sleep_of_three_milliseconds(void) {
 
 /* The ways in which a lock comes to wait. */
 enum waits_by {
-  ASKED, ASKED_INSTANT, ASKED_PATH, ASKED_ROW, SLEPT, SLEPT_PATH, SLEPT_ROW, LISTED, LISTED_INSTANT, LISTED_PATH, LISTED_ROW,
-  WAITS_BY
+  ASKED, ASKED_INSTANT, ASKED_PATH, ASKED_ROW, SLEPT, SLEPT_PATH, SLEPT_ROW, LISTED, LISTED_INSTANT, LISTED_PATH,
+  LISTED_ROW, WAITS_BY
 };
 
 static struct sleeper sleeper;
@@ -295,7 +296,9 @@ static void wait_ends(enum waits_by by, bs_status status) {
 }
 
 /* The ways in which a wait ends. */
-enum ends_by { COMMITTED, UNLOCKED, LIST_COMMITTED, CONDEMNED, CANCELLED, ABORTED, LIST_CANCELLED, MOVED, GONE, ENDS_BY };
+enum ends_by {
+  COMMITTED, UNLOCKED, LIST_COMMITTED, CONDEMNED, CANCELLED, ABORTED, LIST_CANCELLED, MOVED, GONE, ENDS_BY
+};
 
 static enum bs_wait_ends end_of(enum ends_by by) {
   if (by <= LIST_COMMITTED) return BS_END_GRANTED;
@@ -306,7 +309,7 @@ static enum bs_wait_ends end_of(enum ends_by by) {
 
 /* The wait is ended by the holder, or by a cycle that the holder closes, or by its name. */
 static bs_status end_by(enum ends_by by, bs_txn holder, bs_txn waiter, bool of_row) {
-  bs_command command = bs_do(by == LIST_CANCELLED ? BS_DO_CANCEL : BS_DO_COMMIT, by == LIST_CANCELLED ? waiter : holder);
+  bs_command command = by == LIST_CANCELLED ? bs_do(BS_DO_CANCEL, waiter) : bs_do(BS_DO_COMMIT, holder);
   switch (by) {
     case COMMITTED: DONE(bs_table_commit(table, holder, NULL)); return BS_DONE;
     case UNLOCKED:
@@ -430,12 +433,30 @@ static void a_victim_that_did_not_wait(void) {
   shut_table();
 }
 
-/* A path and a row wait several times, and a lock for an instant sets off others: each wait is counted. */
+/* A path that waits for two nodes has two waits, each with its own length. */
+static void a_path_waits_twice(void) {
+  struct heard own;
+  bs_txn first = begin(), second = begin(), path = begin();
+  DONE(bs_table_lock_path(table, first, file, BS_S, NULL));
+  DONE(bs_table_lock_path(table, second, low, BS_S, NULL));
+  WAITS(ask_path(&own, path, low, BS_X));
+  pass_time(3 * MILLISECOND);
+  DONE(bs_table_commit(table, first, NULL));
+  WANT(calls_of(&own) == 0 && same_node(DONE(bs_table_waited(table, path)).node, low));
+  pass_time(100000);
+  DONE(bs_table_commit(table, second, NULL));
+  HEARD(&own, BS_DONE);
+  WANT(waits_by_now().ended[BS_END_GRANTED].buckets[12] == 1 && waits_by_now().ended[BS_END_GRANTED].buckets[7] == 1);
+  DONE(bs_table_commit(table, path, NULL));
+}
+
+/* A path waits several times, and a lock for an instant sets off others: each wait is counted. */
 static void one_call_waits_twice(void) {
   struct heard own, other;
   bs_txn first, second, path;
   set_up(BS_AT_BLOCK);
   say_time(BEGINNING);
+  a_path_waits_twice();
   first = begin(), second = begin(), path = begin();
   DONE(bs_table_lock(table, second, root, BS_IX, NULL));
   DONE(bs_table_lock(table, second, file, BS_X, NULL));
@@ -446,7 +467,7 @@ static void one_call_waits_twice(void) {
   DONE(bs_table_commit(table, second, NULL));
   HEARD(&other, BS_DONE);
   HEARD(&own, BS_DONE);
-  WANT(waits_by_now().ended[BS_END_GRANTED].buckets[12] == 2);
+  WANT(waits_by_now().ended[BS_END_GRANTED].buckets[12] == 3);
   shut_table();
 }
 
@@ -498,8 +519,8 @@ static void says_waits(FILE *text, size_t count, const char *const *wanted_lines
 
 /* The waits of a dump are by their age, whatever slots they have; also of a table that is held. */
 static void a_dump_is_by_age(void) {
-  static const char *const wanted_lines[] = { "    9.000000    3            5 S     inner", "    8.500000    1            3 X",
-                                              "    6.000001    2            4 S" };
+  static const char *const wanted_lines[] = { "    9.000000    3            5 S     inner",
+                                              "    8.500000    1            3 X", "    6.000001    2            4 S" };
   struct heard h[3];
   FILE *text = tmpfile(), *again = tmpfile(), *none = tmpfile();
   bs_txn t[4];
@@ -606,8 +627,8 @@ static bool is_among(const bs_awaited *awaited, size_t number) {
   return false;
 }
 
-/* What is answered fits what was waited: each node's bound, the bound of the error, the order, and that no other node was
- * waited for longer than the last one may have been. */
+/* What is answered fits what was waited: each node's bound, the bound of the error, the order, and that no other node
+ * was waited for longer than the last one may have been. */
 static void fits(const bs_awaited *awaited) {
   size_t i, most;
   WANT(awaited->nanoseconds == waited_in_all && awaited->count <= BS_MOST_AWAITED);
@@ -758,7 +779,9 @@ static void hear_long(void *context, const bs_long_wait *wait, const bs_deadlock
   const bs_manager *lent = bs_table_hold(table);
   struct told_event *event;
   size_t place;
+  sigset_t blocked;
   WANT(context == &long_word);
+  WANT(pthread_sigmask(SIG_BLOCK, NULL, &blocked) == 0 && sigismember(&blocked, SIGUSR1) == 1);
   WANT((wait == NULL) != (deadlock == NULL));
   if (lent != NULL) DONE(bs_table_let_go(table));
   pthread_mutex_lock(&told_latch);
@@ -920,8 +943,8 @@ static void a_thread_wakes_by_time(void) {
   shut_table();
 }
 
-/* A wait that began before the function was given counts in full; what was told once is not told to another function; and
- * a shorter time wakes the thread. */
+/* A wait that began before the function was given counts in full; what was told once is not told to another function;
+ * and a shorter time wakes the thread. */
 static void times_and_functions_change(void) {
   struct pair p, q;
   set_up(BS_AT_BLOCK);
@@ -957,8 +980,8 @@ static void times_and_functions_change(void) {
   shut_table();
 }
 
-/* Two transactions that wait for each other. The younger is condemned: by its own request, or while it waits. Answers the
- * victim, which has aborted. */
+/* Two transactions that wait for each other. The younger is condemned: by its own request, or while it waits. Answers
+ * the victim, which has aborted. */
 static bs_txn a_deadlock(bool of_requester) {
   struct heard h[2];
   bs_node one = add_root(), other = add_root();
@@ -1141,7 +1164,49 @@ static void a_slow_function_loses_some(void) {
   shut_table();
 }
 
+enum { RING = BS_SLOTS - 28 };
+
+/* A deadlock of many: each holds a node, and waits for the next one's. */
+static void a_ring(void) {
+  static struct heard h[RING];
+  bs_node of[RING];
+  bs_txn txns[RING];
+  size_t i;
+  for (i = 0; i < RING; i++) {
+    of[i] = add_root(), txns[i] = begin();
+    DONE(bs_table_lock(table, txns[i], of[i], BS_X, NULL));
+  }
+  for (i = 0; i + 1 < RING; i++) WAITS(ask(&h[i], txns[i], of[i + 1], BS_X));
+  ANSWERS(BS_VICTIM, ask(&h[i], txns[i], of[0], BS_X));
+  for (i = RING; i-- > 0;) DONE(bs_table_abort(table, txns[i], NULL));
+}
+
+/* Deadlocks await the function as long as there is room for their transactions: the third of almost all slots is lost,
+ * and a small one after it is not. */
+static void long_cycles_need_room(void) {
+  struct pair p;
+  bs_deadlock last;
+  int i;
+  set_up_telling(BS_AT_BLOCK, 1);
+  let_return(0);
+  say_time(BEGINNING);
+  make_pair(&p);
+  pass_time(MILLISECOND);
+  event_at(0);
+  for (i = 0; i < RUNNING_STUCK / RING + 1; i++) a_ring();
+  WANT(table->running.lost_deadlocks == 1);
+  a_deadlock(true);
+  last = last_deadlock();
+  WANT(table->running.lost_deadlocks == 1);
+  let_return(MOST_TOLD);
+  for (i = 0; i < RUNNING_STUCK / RING; i++) WANT(event_at(1 + (size_t)i)->deadlock.count == RING);
+  WANT(same_deadlock(&event_at(1 + (size_t)i)->deadlock, &last));
+  await_rest();
+  shut_table();
+}
+
 /* What the function does in a story. */
+static bs_table *other_table;
 static struct heard in_function;
 static bs_reply replies[12];
 
@@ -1156,6 +1221,7 @@ static void calls_what_it_may_not(const bs_long_wait *wait, const bs_deadlock *d
   ANSWERS(BS_IN_USE, bs_table_lock_row(table, txn, rows, ROW, &key, 1, BS_X, NULL));
   ANSWERS(BS_IN_USE, bs_table_await(table, txn, root, BS_X, NULL));
   ANSWERS(BS_IN_USE, bs_table_begin_in_turn(table, NULL));
+  ANSWERS(BS_IN_USE, bs_table_on_long_wait(other_table, 1, hear_long, &long_word));
   WAITS(ask(&in_function, txn, wait->node, BS_S));
   DONE(bs_table_cancel(table, txn, NULL));
   WANT(calls_of(&in_function) == 0); /* It is told after the function. */
@@ -1167,6 +1233,7 @@ static void calls_what_it_may_not(const bs_long_wait *wait, const bs_deadlock *d
 static void a_function_calls_what_it_may_not(void) {
   struct pair p;
   set_up_telling(BS_AT_BLOCK, 10);
+  DONE(make_table(&other_table, BS_AT_BLOCK, BS_YOUNGEST, 2));
   does = calls_what_it_may_not;
   say_time(BEGINNING);
   make_pair(&p);
@@ -1178,6 +1245,8 @@ static void a_function_calls_what_it_may_not(void) {
   HEARD(&p.h, BS_DONE);
   await_rest();
   shut_table();
+  DONE(bs_table_end(other_table));
+  DONE(bs_table_free(&other_table));
 }
 
 /* The function ends the wait of which it is told: by a cancel, or by an abort. */
@@ -1259,8 +1328,8 @@ static bool is_back(const struct awaiter *a) {
   return is;
 }
 
-/* A call that takes the function back, and one that ends the table, await the function that is being called; a cancel of
- * their thread takes effect after them. */
+/* A call that takes the function back, and one that ends the table, await the function that is being called; a cancel
+ * of their thread takes effect after them. */
 static void a_function_is_awaited(void) {
   int ends;
   for (ends = 1; ends >= 0; ends--) {
@@ -1304,8 +1373,8 @@ static bool awaits_function(void) {
   return awaits;
 }
 
-/* A function takes the place of one that is being called, and the caller awaits that call alone, and not the next, which
- * does not return. */
+/* A function takes the place of one that is being called, and the caller awaits that call alone, and not the next,
+ * which does not return. */
 static void the_next_function_is_not_awaited(void) {
   struct awaiter a;
   struct pair p, q;
@@ -1328,6 +1397,34 @@ static void the_next_function_is_not_awaited(void) {
   WANT(same_txn(event_at(1)->wait.txn, q.waiter) && inside_now() == 1);
   let_return(MOST_TOLD);
   shut_table();
+}
+
+/* The function is called while one thread takes it back and another ends the table: both await it. */
+static void an_end_and_a_call_await_it(void) {
+  struct awaiter taker, ender;
+  struct pair p;
+  void *came = NULL;
+  memset(&taker, 0, sizeof taker);
+  memset(&ender, 0, sizeof ender);
+  ender.ends = true;
+  set_up_telling(BS_AT_BLOCK, 10);
+  let_return(0);
+  say_time(BEGINNING);
+  make_pair(&p);
+  pass_time(10 * MILLISECOND);
+  event_at(0);
+  start(&taker.thread, await_function, &taker);
+  while (!awaits_function()) nap();
+  start(&ender.thread, await_function, &ender);
+  HEARD(&p.h, BS_NO_MANAGER); /* The end has begun. */
+  WANT(!is_back(&taker) && !is_back(&ender) && inside_now() == 1);
+  let_return(MOST_TOLD);
+  WANT(pthread_join(taker.thread, &came) == 0 && came == PTHREAD_CANCELED);
+  WANT(pthread_join(ender.thread, &came) == 0 && came == PTHREAD_CANCELED);
+  DONE(taker.reply);
+  DONE(ender.reply);
+  DONE(bs_table_free(&table));
+  say_time(0);
 }
 
 /* A table is ended while waits and deadlocks are to be told: what is not being told is not told any more. */
@@ -1361,14 +1458,18 @@ static void in_callback(struct heard *h) {
   replies[0] = bs_table_on_long_wait(table, 1, hear_long, &long_word);
 }
 
-/* All calls of a table that is refused so. */
+/* All calls of a table that is refused so; they write nothing. */
 static void all_refused(bs_table *of, bs_status status) {
-  bs_waits waits;
-  bs_awaited awaited;
+  static bs_waits waits, same_waits;
+  static bs_awaited awaited, same_awaited;
   bs_txn none = { 0, 1 };
+  memset(&waits, 99, sizeof waits);
+  memset(&awaited, 99, sizeof awaited);
+  same_waits = waits, same_awaited = awaited;
   ANSWERS(status, bs_table_waits(of, &waits));
   ANSWERS(status, bs_table_waited(of, none));
   ANSWERS(status, bs_table_awaited(of, &awaited, true));
+  WANT(memcmp(&waits, &same_waits, sizeof waits) == 0 && memcmp(&awaited, &same_awaited, sizeof awaited) == 0);
   ANSWERS(status, bs_table_on_long_wait(of, 1, hear_long, &long_word));
   ANSWERS(status, bs_table_on_long_wait(of, 0, NULL, NULL));
   ANSWERS(status, bs_table_metrics(of, write_nowhere, NULL));
@@ -1404,6 +1505,28 @@ static void misuse_is_refused(void) {
   DONE(bs_table_free(&table));
   DONE(bs_table_end(other));
   DONE(bs_table_free(&other));
+}
+
+/* Neither the questions nor the metrics take memory, and nothing is reset by a call that is refused. */
+static void questions_take_no_memory(void) {
+  struct pair p;
+  bs_waits waits;
+  bs_awaited awaited;
+  say_time(BEGINNING);
+  set_up(BS_AT_BLOCK);
+  make_pair(&p);
+  pass_time(500);
+  WANT(bs_table_hold(table) != NULL);
+  ANSWERS(BS_IN_USE, bs_table_awaited(table, &awaited, true));
+  DONE(bs_table_let_go(table));
+  refused_allocation = 1;
+  DONE(bs_table_waits(table, &waits));
+  DONE(bs_table_waited(table, p.waiter));
+  DONE(bs_table_awaited(table, &awaited, false));
+  DONE(bs_table_metrics(table, write_nowhere, NULL));
+  WANT(refused_allocation == 1 && awaited.since == 500 && awaited.count == 1);
+  refused_allocation = 0;
+  shut_table();
 }
 
 /* Without memory or a thread nothing has changed, and the call can be made again. */
@@ -1522,6 +1645,7 @@ static void metrics_say_what_is(void) {
   await_sleepers(1);
   text = metrics_by_now();
   WANT(has_line(&text, "burlapslate_begins_waiting 1") && has_line(&text, "burlapslate_transactions_limit 2"));
+  WANT(has_line(&text, "burlapslate_waiting 0")); /* A begin is no wait. */
   DONE(bs_table_end(table));
   BACK(&queued, BS_NO_MANAGER);
   DONE(bs_table_free(&table));
@@ -1623,8 +1747,8 @@ static void hear_any(void *context, const bs_long_wait *wait, const bs_deadlock 
   if (wait != NULL && wait->nanoseconds % 2 == 0) bs_table_cancel(table, wait->txn, NULL);
 }
 
-/* Threads that wait, time out and are condemned, while others ask, tell and give other functions: in the end each wait is
- * counted once. */
+/* Threads that wait, time out and are condemned, while others ask, tell and give other functions: in the end each wait
+ * is counted once. */
 static void a_crowd_is_counted(void) {
   pthread_t threads[CROWD];
   bs_waits waits;
@@ -1692,12 +1816,15 @@ int main(int count, char **words) {
   TELL(two_victims_of_one_lock);
   TELL(a_victim_beside_its_requester);
   TELL(a_slow_function_loses_some);
+  TELL(long_cycles_need_room);
   TELL(a_function_calls_what_it_may_not);
   TELL(a_function_ends_the_wait);
   TELL(a_function_takes_itself_back);
   TELL(the_next_function_is_not_awaited);
+  TELL(an_end_and_a_call_await_it);
   TELL(an_end_tells_no_more);
   TELL(misuse_is_refused);
+  TELL(questions_take_no_memory);
   TELL(a_teller_that_cannot_be_had);
   TELL(metrics_say_what_is);
   TELL(a_writer_fails_half_way);

@@ -10,8 +10,8 @@
  *
  * The rules of the model are at the head of scenario_model.h. Each answer, each told list and each told end is
  * compared, and after each call the whole state: the transactions, what they hold, where and for whom they wait, and
- * the graph. At the end of a scenario the waits that the table has timed are those that the manager has counted, also by
- * their ends. At the first difference the program prints the seed, the number of the call, what came and what was
+ * the graph. At the end of a scenario the waits that the table has timed are those that the manager has counted, also
+ * by their ends. At the first difference the program prints the seed, the number of the call, what came and what was
  * wanted, and the last calls with the answers that were wanted, and ends with status 1.
  */
 #include "burlapslate_running.h"

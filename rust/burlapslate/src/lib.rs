@@ -78,7 +78,8 @@
 //! [`rekey`](Manager::rekey), [`escalate`](Manager::escalate), of nodes and of rows. The others are
 //! refused with [`Refusal::NoMemory`] if the allocator refuses, and can be made again. Beside the library's
 //! memory a manager takes 40 bytes for each slot when it is made, for the notices, and a table 56, for the waits of
-//! futures; and none afterwards. But a list of tries takes some for the list, and a try of a path that keeps nothing for
+//! futures; and none afterwards. But a list of tries takes some for the list, a function of [`Table::on_long_wait`] for itself and
+//! its thread, and a try of a path that keeps nothing for
 //! the nodes that it acquires.
 //!
 //! With 1,024 slots, making a manager takes two megabytes of stack, and reading a board 0.7: more than a thread has by

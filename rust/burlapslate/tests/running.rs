@@ -298,9 +298,10 @@ fn what_is_refused() {
         assert_eq!(table.on_long_wait(MILLISECOND, |_| ()), Err(Refusal::InUse));
         assert_eq!(table.forget_long_waits(), Err(Refusal::InUse));
         assert_eq!(table.waited(Txn::NONE), Err(Refusal::InUse));
-        let panics: [&dyn Fn(); 3] = [&|| drop(table.waits()), &|| drop(table.awaited()), &|| {
-            drop(table.metrics())
-        }];
+        let waits = || assert_eq!(table.waits().waiting, 0);
+        let awaited = || assert!(table.awaited().nodes.is_empty());
+        let metrics = || assert!(table.metrics().is_empty());
+        let panics: [&dyn Fn(); 3] = [&waits, &awaited, &metrics];
         for call in panics {
             assert!(catch_unwind(AssertUnwindSafe(call)).is_err());
         }
@@ -321,7 +322,7 @@ impl io::Write for Narrow {
     fn write(&mut self, part: &[u8]) -> io::Result<usize> {
         assert!(self.room > 0 || !self.panics, "of the writer");
         if self.room == 0 {
-            return Err(io::ErrorKind::StorageFull.into());
+            return Err(io::ErrorKind::WriteZero.into());
         }
         let taken = part.len().min(self.room);
         self.room -= taken;
@@ -348,7 +349,7 @@ fn metrics_are_whole_or_an_error() {
             panics: false,
         };
         let end = table.write_metrics(narrow).unwrap_err();
-        assert_eq!(end.kind(), io::ErrorKind::StorageFull);
+        assert_eq!(end.kind(), io::ErrorKind::WriteZero);
         let panics = Narrow { room, panics: true };
         let end = catch_unwind(AssertUnwindSafe(|| table.write_metrics(panics)));
         assert!(end.is_err());
