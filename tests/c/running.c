@@ -11,7 +11,6 @@
 #include "burlapslate.h"
 #include "memory.h"
 
-#include <sched.h>
 #include <stdio.h>
 #include <time.h>
 
@@ -1735,7 +1734,7 @@ static void *jostle(void *arg) {
       struct timespec until = moment_in(2000);
       bs_mode mode = roll(&dice, 2) == 0 ? BS_S : BS_X;
       bs_status status = bs_table_lock(table, txn, crowd_nodes[roll(&dice, CROWD_NODES)], mode, &until).status;
-      if (status == BS_DONE && roll(&dice, 8) == 0) sched_yield();
+      if (status == BS_DONE && i == 0) nap(); /* Others wait meanwhile. */
     }
     bs_table_abort(table, txn, NULL);
   }
@@ -1768,7 +1767,8 @@ static void a_crowd_is_counted(void) {
   }
   for (i = 0; i < CROWD; i++) join(threads[i]);
   waits = waits_by_now();
-  WANT(waits.waiting == 0 && count_ended(&waits) > 0);
+  WANT(waits.waiting == 0);
+  WANT(count_ended(&waits) > 0);
   shut_table();
 }
 
