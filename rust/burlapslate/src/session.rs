@@ -286,7 +286,8 @@ impl<'t> Session<'t> {
     /// # Ok::<(), burlapslate::Refusal>(())
     /// ```
     pub fn renew(&mut self, since: u64) -> Result<(), Refusal> {
-        self.txn = accepted(shared::bs_table_renew(&self.call(), self.txn, since))?.txn;
+        let reply = shared::bs_table_renew(&self.call(), self.txn, since);
+        self.txn = accepted(reply)?.txn;
         Ok(())
     }
 
