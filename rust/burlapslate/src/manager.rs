@@ -398,7 +398,7 @@ impl Manager {
     /// m.lock(first, shop, Mode::IX)?;
     /// let next = m.renew(first, u64::MAX)?;
     /// assert_eq!(m.held(next, shop)?, Mode::IX);
-    /// assert_eq!(m.commit(first), Err(Refusal::NoSuchTxn));
+    /// assert_eq!(m.commit(first).err(), Some(Refusal::NoSuchTxn));
     /// # Ok::<(), burlapslate::Refusal>(())
     /// ```
     pub fn renew(&mut self, txn: Txn, since: u64) -> Result<Txn, Refusal> {
