@@ -388,7 +388,8 @@ impl Manager {
     /// which nobody waits. `since` is as in [`begin_again`](Manager::begin_again), and `u64::MAX` for new work.
     ///
     /// Refused with [`NoSuchTxn`](Refusal::NoSuchTxn), [`TxnWaiting`](Refusal::TxnWaiting),
-    /// [`TxnCondemned`](Refusal::TxnCondemned) and [`NeedRelease`](Refusal::NeedRelease). Costs a step for each lock.
+    /// [`TxnCondemned`](Refusal::TxnCondemned), [`NeedRelease`](Refusal::NeedRelease), [`WornOut`](Refusal::WornOut).
+    /// Costs a step for each lock.
     ///
     /// ```
     /// # use burlapslate::{Detect, Manager, Mode, Refusal, SLOTS};
