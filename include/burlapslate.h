@@ -360,7 +360,7 @@ static inline bs_reply bs_begin_again(bs_manager *manager, uint64_t since) {
  * work it is UINT64_MAX. All locks must be intentions (BS_IS, BS_IX), on nodes for which nobody waits: release the others
  * before, as bs_release_since does for all since a savepoint. Later requests wait for such an intention as for any
  * other, until the transaction releases it or ends. Refused with BS_NO_SUCH_TXN, BS_TXN_WAITING, BS_TXN_CONDEMNED,
- * BS_NEED_RELEASE, BS_WORN_OUT. Costs a step for each lock. */
+ * BS_NEED_RELEASE. Costs a step for each lock. */
 static inline bs_reply bs_renew(bs_manager *manager, bs_txn txn, uint64_t since) {
   return manager == NULL ? bs_call_null() : bs_call_renew(manager, txn, since);
 }
