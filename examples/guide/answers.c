@@ -24,6 +24,7 @@ static enum action what_to_do(bs_status status) {
     case BS_NEED_PARENTS: case BS_NO_SUCH_NODE: case BS_MOVED: case BS_GONE: return LOOK_AGAIN;
     case BS_ON_THE_WAY: case BS_OTHER_KEYS: return LOOK_AGAIN;
     case BS_WOULD_BLOCK: return DO_WITHOUT;
+    case BS_NEED_RELEASE: return DO_WITHOUT; /* Without the renewal: commit, and begin. */
     case BS_RECORD_IN_USE: return ASK_LATER;
     case BS_NOT_WRITTEN: return ASK_LATER; /* The metrics are not whole. */
     case BS_VICTIM: case BS_TXN_CONDEMNED: case BS_NO_MEMORY: case BS_TIMED_OUT: return ROLL_BACK;
