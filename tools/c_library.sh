@@ -108,11 +108,11 @@ build_beside() {
   build_in "$1" "$1/libgl_c.a" "${with[@]}"
 }
 
-# put_beside: builds so, and puts the library in its place after that run has ended. If it fails, the library is built
-# after that run, as usual.
+# put_beside: builds so if the library is old, and puts it in its place after that run has ended, which may have removed
+# it. If the build fails, the library is built after that run, as usual.
 put_beside() {
   local work
-  if work=$(mktemp -d "$top/.git/library.XXXXXX") && (build_beside "$work"); then
+  if work=$(mktemp -d "$top/.git/library.XXXXXX") && (if is_old; then build_beside "$work"; else cp -p "$library" "$work"; fi); then
     until has_ended; do sleep 1; done
     mkdir -p "${library%/*}" && mv "$work/libgl_c.a" "$library"
   fi
@@ -169,7 +169,7 @@ if [ "$asked" = --look ]; then
   ! is_old
   exit
 fi
-[ -z "$log" ] || ! is_old || put_beside >&2
+[ -z "$log" ] || put_beside >&2
 if is_old || [ -n "$log" ]; then
   sum=$("$top/tools/library.sh" sum_of crates) || exit 1
   if ! is_old; then
