@@ -1,10 +1,10 @@
 #!/usr/bin/env python3
-"""timeline.py [WORD..] [SCRIPT]: draws a script of lock commands as one SVG, on standard output. Each transaction has a
+"""timeline.py [WORD..] SCRIPT: draws a script of lock commands as one SVG, on standard output. Each transaction has a
 row, with a bar for each node that it holds or waits for, from left to right by commands: solid while it holds the node,
 in the colour and with the name of its mode, and hatched while it waits. A dotted line leads from the begin of a wait to
-each transaction that is in its way. A cross marks a victim, a full dot a commit, an empty one an abort. Without a
-SCRIPT it reads standard input. The words are those of gltool, which plays the script; GLTOOL names another than the one
-of this repository. Ends with gltool's status if it fails, and with 1 if the script begins no transaction."""
+each transaction that is in its way. A cross marks a victim, a full dot a commit, an empty one an abort; a refused line
+is red. The words are those of gltool, which plays the script; GLTOOL names another than the one of this repository.
+Ends with gltool's status if it fails, and with 1 if the script begins no transaction."""
 import os
 import re
 import subprocess
@@ -15,6 +15,7 @@ TOP = os.path.dirname(os.path.dirname(os.path.realpath(__file__)))
 COLOURS = {"IS": "#cfe3f7", "IX": "#f6dcb4", "S": "#7fb2e5", "SIX": "#c9a3dc", "X": "#e0803c"}
 # In pixels: a command's width, a bar's height, what is between bars and left of them, and a letter's width at most.
 STEP, BAR, GAP, LEFT, TEXT = 34, 15, 3, 96, 7
+LONGEST = 60  # letters of a command that are drawn
 ROW = re.compile(r"(holder|waiter|lock|blocker|txn|stuck|told|victim) ")
 
 
@@ -23,11 +24,18 @@ class Step:
 
     def __init__(self, line, answer):
         self.line, self.answer = line, answer
+        self.label = line if len(line) <= LONGEST else f"{line[:LONGEST - 1]}…"
         self.doing, self.locks, self.blockers = {}, {}, {}
 
 
 def is_command(line):
-    return line.strip() != "" and not line.startswith("#")
+    """Whether gltool answers a line: an empty one and a comment have no answer, unless that is too long to be one."""
+    return len(line.encode(errors="surrogateescape")) > 256 or (line != "" and not line.startswith("#"))
+
+
+def shown(text):
+    """A text with all that an SVG may not have or show as a question mark."""
+    return escape("".join(it if it.isprintable() else "?" for it in text))
 
 
 def questions(names):
@@ -43,7 +51,7 @@ def asked(script):
         if not is_command(line):
             continue
         lines[-1] = (line, count)
-        begun = re.fullmatch(r"begin (\w+)", line)
+        begun = re.fullmatch(r"begin ([a-z][a-z0-9_]*)", line)
         if begun and begun.group(1) not in names:
             names.append(begun.group(1))
         lines += [(it, count) for it in questions(names)]
@@ -55,12 +63,14 @@ def played(lines, words):
     """What gltool answers to each line that has an answer: that, and the rows below it."""
     tool = os.environ.get("GLTOOL", f"{TOP}/gltool")
     words = ["--listings"] + [it for it in words if it != "--listings"]
-    ran = subprocess.run([tool, *words], input="".join(f"{line}\n" for line, _ in lines), capture_output=True, text=True)
+    script = "".join(f"{line}\n" for line, _ in lines).encode(errors="surrogateescape")
+    ran = subprocess.run([tool, *words], input=script, capture_output=True)
+    ran.stdout, ran.stderr = ran.stdout.decode(errors="replace"), ran.stderr.decode(errors="replace")
     if ran.returncode != 0:
         sys.stderr.write(ran.stderr)
         sys.exit(ran.returncode)
     answers = []
-    for line in ran.stdout.splitlines():
+    for line in ran.stdout.split("\n")[:-1]:
         if ROW.match(line):
             answers[-1][1].append(line.split())
         else:
@@ -117,11 +127,11 @@ class Drawing:
         self.parts.append(text)
 
     def text(self, x, y, text, more=""):
-        self.add(f'<text x="{x}" y="{y}" {more}>{escape(text)}</text>')
+        self.add(f'<text x="{x}" y="{y}" {more}>{shown(text)}</text>')
 
 
 def draw(steps, names):
-    top = TEXT * max(len(step.line) for step in steps) // 2 + 30
+    top = TEXT * max(len(step.label) for step in steps) * 2 // 3 + 20
     drawing, y, heights, rows = Drawing(), top, {}, {}
     for name in names:
         lanes, bars = bars_of(steps, name)
@@ -129,7 +139,7 @@ def draw(steps, names):
         rows[name] = (y, lanes, bars)
         y += max(len(lanes), 1) * (BAR + GAP) + 14
     # A command's text leads up and to the right: three quarters of its length.
-    width = LEFT + max(STEP * at + 16 + TEXT * len(step.line) * 3 // 4 for at, step in enumerate(steps))
+    width = LEFT + max(STEP * at + 16 + TEXT * len(step.label) * 3 // 4 for at, step in enumerate(steps))
     width, height = max(width, LEFT + STEP * len(steps) + 40), y + 10
     drawing.add(f'<svg xmlns="http://www.w3.org/2000/svg" viewBox="0 0 {width} {height}" width="{width}" height="{height}" '
                 'font-family="sans-serif" font-size="11">')
@@ -139,8 +149,8 @@ def draw(steps, names):
     for at, step in enumerate(steps):
         x = LEFT + STEP * at
         refused = ' fill="#b00" font-weight="bold"' if step.answer.startswith("no ") else ""
-        drawing.add(f'<g><title>{escape(f"{step.line}: {step.answer}")}</title>')
-        drawing.text(x + 8, top - 12, step.line, f'transform="rotate(-40 {x + 8} {top - 12})"{refused}')
+        drawing.add(f'<g><title>{shown(f"{step.line}: {step.answer}")}</title>')
+        drawing.text(x + 8, top - 12, step.label, f'transform="rotate(-40 {x + 8} {top - 12})"{refused}')
         drawing.add(f'<line x1="{x}" y1="{top - 8}" x2="{x}" y2="{height - 8}" stroke="#eee"/></g>')
     for name, (y, lanes, bars) in rows.items():
         draw_row(drawing, steps, name, y, lanes, bars, width)
@@ -156,7 +166,7 @@ def word_in(room, words):
 
 
 def draw_row(drawing, steps, name, y, lanes, bars, width):
-    drawing.text(8, y + 12, name, 'font-weight="bold" font-size="13"')
+    drawing.text(8, y + 12, name, f'font-weight="bold" font-size="{min(13, 136 // len(name))}"')
     for (node, kind), begun, ended, mode in bars:
         x, above = LEFT + STEP * begun, y + lanes.index(node) * (BAR + GAP)
         later = [LEFT + STEP * other[1] for other in bars if other[0][0] == node and other[1] > begun]
@@ -164,10 +174,10 @@ def draw_row(drawing, steps, name, y, lanes, bars, width):
         held = kind == "held"
         word = f"{node} {mode}" if held else f"{node} waits {mode}"
         fill, inset = (COLOURS[mode], 0) if held else ("url(#waits)", 3)
-        drawing.add(f'<g class="{kind}"><title>{escape(f"{name}: {word}")}</title><rect x="{x}" y="{above + inset}" width="{size}" '
+        drawing.add(f'<g class="{kind}"><title>{shown(f"{name}: {word}")}</title><rect x="{x}" y="{above + inset}" width="{size}" '
                     f'height="{BAR - 2 * inset}" fill="{fill}" stroke="#555" stroke-width="0.6"/>')
-        shown = word_in(min(later, default=width) - x - 3, [word, mode])
-        drawing.text(x + 3, above + 11, shown, 'paint-order="stroke" stroke="#fff" stroke-width="2.5"')
+        label = word_in(min(later, default=width) - x - 3, [word, f"{node} {mode}", mode])
+        drawing.text(x + 3, above + 11, label, 'paint-order="stroke" stroke="#fff" stroke-width="2.5"')
         drawing.add("</g>")
     was = None
     for at, step in enumerate(steps):
@@ -205,13 +215,13 @@ def main():
     if words in (["--help"], ["-h"]):
         print(__doc__)
         return 0
-    file = words.pop() if words and os.path.isfile(words[-1]) else None
-    with open(file, encoding="utf-8") if file else sys.stdin as source:
-        script = source.read().splitlines()
-    lines, names = asked(script)
+    with open(words.pop(), encoding="utf-8", errors="surrogateescape", newline="\n") as source:
+        script = source.read().split("\n")
+    lines, begun = asked(script)
     steps = steps_of(lines, played(lines, words))
+    names = [name for name in begun if any(step.line == f"begin {name}" and not step.answer.startswith("no ") for step in steps)]
     if not names:
-        print("timeline.py: the script begins no transaction", file=sys.stderr)
+        print("glpicture: the script begins no transaction", file=sys.stderr)
         return 1
     print(draw(steps, names))
     return 0

@@ -59,6 +59,17 @@ END_OF_CHECK
 done
 [ "$(grep -c 'class="victim"' "$work/ring.svg")" -eq 1 ] && [ "$(grep -c 'class="end"' "$work/ring.svg")" -eq 8 ] || fails "the ring is drawn otherwise"
 
+# Lines that are refused: blanks, a comment that is too long, an escape, a carriage return, a name in capitals.
+printf 'inner db\n   \n# %0300d\nbegin a\nlo\033k a\nlock a S db\r\nlock a S db\nbegin A\n' 0 >"$work/odd.script"
+"$top/glpicture" --detect by-watcher --timeline "$work/odd.script" >"$work/odd.svg" 2>"$work/log" || fails "refused lines are not drawn"
+[ "$(grep -c '^line [23568]: ' "$work/log")" -eq 5 ] || { cat "$work/log" >&2; fails "a timeline does not name the refused lines"; }
+python3 -c 'import sys, xml.etree.ElementTree as tree; tree.parse(sys.argv[1])' "$work/odd.svg" || fails "refused lines are drawn badly"
+"$top/glpicture" --strict --timeline "$work/odd.script" >"$work/picture" 2>"$work/log"
+[ $? -eq 3 ] && [ ! -s "$work/picture" ] || fails "a timeline with a refused line is drawn by --strict"
+"$top/glpicture" --timeline --svg "$work/odd.script" >"$work/picture" 2>"$work/log"
+[ $? -eq 2 ] && grep -q 'draws the whole script' "$work/log" || fails "--timeline takes --svg"
+echo "timeline: what is refused"
+
 if browser=$(command -v chromium || command -v chromium-browser || command -v google-chrome); then
   {
     echo '<!doctype html><meta charset="utf-8"><body>'
@@ -82,7 +93,7 @@ grep -q 'begins no transaction' "$work/log" || fails "it does not say why"
 
 printf 'inner db\nfile f : db\nlokc a S db\n' >"$work/bad.script"
 "$top/glpicture" "$work/bad.script" >"$work/picture" 2>"$work/log" || fails "a script with a bad line is not drawn"
-grep -q '^line 3: unknown command "lokc"$' "$work/log" && grep -q '^digraph' "$work/picture" || fails "a bad line is not named"
+grep -q '^line 3: unknown command "lokc";' "$work/log" && grep -q '^digraph' "$work/picture" || fails "a bad line is not named"
 "$top/glpicture" --strict "$work/bad.script" >"$work/picture" 2>"$work/log"
 [ $? -eq 3 ] && [ ! -s "$work/picture" ] || fails "a bad line is drawn by --strict"
 "$top/glpicture" --held <"$work/bad.script" >"$work/picture" 2>"$work/log" || fails "--held draws nothing"

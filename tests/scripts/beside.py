@@ -70,21 +70,32 @@ begin a
 lock a S db\r
 \tlock
 move a orders : db
+lo\x1bk a
+# a comment
+#""" + 256 * "y" + """
+commit b
 """
-REASONS = """line 5: unknown mode "s"; modes are IS, IX, S, SIX, X
+COMMANDS = ("inner, file, index, begin, lock, try, unlock, cancel, commit, abort, settle, insert, delete, rekey, escalate, "
+            "group, held, effective")
+FIELDS = (" (names: 1 to 16 of a to z, 0 to 9 and _, the first a letter, not on, not at; INDEX.0 is an interval; "
+          "numbers: no sign, no 0 in front, below 2^64)")
+REASONS = f"""line 5: unknown mode "s"; modes are IS, IX, S, SIX, X
 line 6: it has two blanks side by side
 line 7: it ends with a blank
 line 9: orders has to be held in IX first
 line 10: it needs the word --savepoints
 line 11: it needs the word --schema
 line 12: it needs the word --listings
-line 13: unknown command "lokc"
-line 14: it is to be: lock TXN MODE NODE
+line 13: unknown command "lokc"; commands are {COMMANDS}
+line 14: it is to be: lock TXN MODE NODE{FIELDS}
 line 15: by_day.7 names no node
 line 16: a is a name in use
 line 17: it has a carriage return: lines end by a newline alone
 line 18: it has a tab: fields have one blank between them
-line 19: it is to be: move TXN NODE : PARENT.., in a script whose first line is `granular 2`
+line 19: it is to be: move TXN NODE, or move TXN NODE : PARENT.., after the first line `granular 2`{FIELDS}
+line 20: unknown command "lo?k"; commands are {COMMANDS}
+line 22: it has more than 256 bytes
+line 23: b names no transaction
 """
 
 
@@ -112,7 +123,13 @@ def words():
         lines = err.splitlines()
         wanted(status == 2 and out == "" and lines[0] == "gltool: bad words" and lines[1].endswith(f": {word}") and lines[2].startswith("usage: "),
                f"the bad word of {bad} is named", err)
-    wanted(run("--crew", "2")[2].splitlines()[1] == "these words do not go together, or there was no memory for them", "half of a crew is none")
+    for half in (["--crew", "2"], ["--crew", "2", "--rounds", "1", "--echo"], ["--strict", "--crew=2", "--rounds=1"],
+                 ["--crew", "2", "--rounds", "1", f"{TOP}/examples/first.script"]):
+        status, out, err = run(*half)
+        wanted(status == 2 and out == "" and "these words do not go together (--crew needs --rounds" in err, "a crew has no other words", half, err)
+    wanted(run("--oops", "--help") == run("--help"), "--help is answered beside other words")
+    echoed = run("--echo", text=BAD)[1].splitlines()
+    wanted(len(echoed) == len(BAD.splitlines()) and all(" " in line for line in echoed if line[0] != "#"), "each line has its answer", echoed)
     print("gltool's own words")
 
 

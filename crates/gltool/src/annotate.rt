@@ -1,6 +1,6 @@
 //! A script's report beside its lines, and why lines were refused.
 
-use crate::hints::{Lines, put_reason};
+use crate::hints::{Lines, is_long, put_reason};
 use crate::usage::Wishes;
 use std::io;
 use std::io::Write;
@@ -16,10 +16,10 @@ fn first_line(text: &[u8]) -> (&[u8], &[u8]) {
     }
 }
 
-/// Whether a line of a script has an answer: it is neither empty nor a comment.
+/// Whether a line of a script has an answer: it is neither empty nor a comment, or it is too long to be one.
 fn has_answer(line: &[u8]) -> bool {
     match line.first() {
-        Some(byte) => *byte != b'#',
+        Some(byte) => *byte != b'#' || is_long(line),
         None => false,
     }
 }

@@ -54,6 +54,16 @@ impl<'a> Call<'a> {
         false
     }
 
+    /// Whether the words ask for a crew.
+    pub fn is_of_crew(&self) -> bool {
+        for word in self.rest.as_slice() {
+            if *word == "--crew" || word.starts_with("--crew=") {
+                return true;
+            }
+        }
+        false
+    }
+
     /// The first word that is unknown, that is no value of the word before it, or that lacks its value.
     pub fn first_bad(&self) -> Option<&'a str> {
         let mut named: Option<&'a str> = None;

@@ -63,6 +63,16 @@ fn intention(line: &[u8]) -> &'static [u8] {
     }
 }
 
+/// What the fields of a line may be.
+const FIELDS: &[u8] =
+    b" (names: 1 to 16 of a to z, 0 to 9 and _, the first a letter, not on, not at; INDEX.0 is an interval; numbers: \
+no sign, no 0 in front, below 2^64)";
+
+/// The commands that every script has.
+const COMMANDS: &[u8] =
+    b"inner, file, index, begin, lock, try, unlock, cancel, commit, abort, settle, insert, delete, rekey, escalate, \
+group, held, effective";
+
 /// What a refusal says, after the name that it has, if it has one.
 fn reason(number: &[u8]) -> &'static [u8] {
     match number {
@@ -74,14 +84,16 @@ fn reason(number: &[u8]) -> &'static [u8] {
         b"6" => b"the mode is NL, or a record's lock is neither S nor X",
         b"8" => b"the transaction does not hold it",
         b"9" => b"is a child of it and held: unlock that first",
-        b"10" => b"another transaction holds it or waits for it, so a try is refused",
-        b"11" => b"there are as many transactions as there may be",
+        b"10" => b"another transaction holds it or waits for it, so it is not locked",
+        b"11" =>
+            b"there are as many transactions as there may be: 64, or 128 after the line `granular 2`",
         b"12" => b"there are as many nodes as there may be",
-        b"13" => b"a node is of the wrong kind for its place, named twice, or missing",
+        b"13" =>
+            b"a node is of the wrong kind for its place, named twice, missing, or one too many",
         b"14" => b"it needs X on the node or its file, and on what the change touches",
         b"15" => b"the transaction waits for nothing",
         b"16" => b"is a name in use",
-        b"17" => b"the file has records or indexes",
+        b"17" => b"the file has records, or indexes if it is dropped",
         b"18" =>
             b"bounds have to rise from above 0, and a record has one key for each index of its file",
         b"19" => b"a counter is at its end",
@@ -104,25 +116,45 @@ fn put_form<W: Write>(writer: &mut W, line: &[u8], lines: Lines) -> io::Result<(
     }
     if is_request(verb) && Mode::read(field(line, 2)).is_none() {
         writer.write_all(b"unknown mode \"")?;
-        writer.write_all(field(line, 2))?;
+        put_shown(writer, field(line, 2))?;
         return writer.write_all(b"\"; modes are IS, IX, S, SIX, X");
     }
     match form(verb) {
         Some(form) => {
             writer.write_all(b"it is to be: ")?;
-            writer.write_all(form)
+            writer.write_all(form)?;
+            writer.write_all(FIELDS)
         },
         None => {
             writer.write_all(b"unknown command \"")?;
-            writer.write_all(verb)?;
-            writer.write_all(b"\"")
+            put_shown(writer, verb)?;
+            writer.write_all(b"\"; commands are ")?;
+            writer.write_all(COMMANDS)
         },
     }
 }
 
+/// Writes a field as a terminal can show it.
+fn put_shown<W: Write>(writer: &mut W, field: &[u8]) -> io::Result<()> {
+    for byte in field {
+        let shown = if *byte > b' ' && *byte < 127 {
+            *byte
+        } else {
+            b'?'
+        };
+        writer.write_all(&[shown])?;
+    }
+    Ok(())
+}
+
+/// Whether a line has more bytes than a line may have.
+pub fn is_long(line: &[u8]) -> bool {
+    line.len() > 256
+}
+
 /// What is wrong with the bytes between the fields.
 fn layout(line: &[u8]) -> Option<&'static [u8]> {
-    if line.len() > 256 {
+    if is_long(line) {
         return Some(b"it has more than 256 bytes");
     }
     if line.contains(&b'\t') {
@@ -182,7 +214,8 @@ fn form(verb: &[u8]) -> Option<&'static [u8]> {
         b"granular" => b"`granular 2`, as the first line",
         b"inner" => b"inner NODE, or inner NODE : PARENT..",
         b"file" => b"file NODE : PARENT..",
-        b"index" => b"index NODE : PARENT.. on FILE at BOUND..",
+        b"index" =>
+            b"index NODE : PARENT.. on FILE at BOUND.., or by --schema index TXN NODE : PARENT.. on FILE at BOUND..",
         b"begin" => b"begin TXN",
         b"commit" => b"commit TXN",
         b"abort" => b"abort TXN",
@@ -195,7 +228,7 @@ fn form(verb: &[u8]) -> Option<&'static [u8]> {
         b"insert" => b"insert TXN RECORD FILE KEY..",
         b"delete" => b"delete TXN RECORD",
         b"rekey" => b"rekey TXN RECORD INDEX KEY",
-        b"move" => b"move TXN NODE : PARENT.., in a script whose first line is `granular 2`",
+        b"move" => b"move TXN NODE, or move TXN NODE : PARENT.., after the first line `granular 2`",
         b"drop" => b"drop TXN NODE",
         b"mark" => b"mark TXN",
         b"release" => b"release TXN MARK",

@@ -65,16 +65,16 @@ fn main(rt: HostRuntime) -> ExitCode {
     ExitCode::from(status)
 }
 
-/// What the program says of itself, if it is asked for that alone.
+/// What the program says of itself, if a word asks for it.
 fn told_of_itself(words: &[String]) -> Option<&'static str> {
-    if words.len() != 1 {
-        return None;
+    for word in words {
+        match word.as_str() {
+            "--help" => return Some(USAGE),
+            "--version" => return Some(VERSION),
+            _ => {},
+        }
     }
-    match words[0].as_str() {
-        "--help" => Some(USAGE),
-        "--version" => Some(VERSION),
-        _ => None,
-    }
+    None
 }
 
 /// Says that a file cannot be read, and answers the status.
@@ -91,7 +91,8 @@ fn put_usage<E: Write>(call: &Call<'_>, faults: &mut E) -> io::Result<()> {
             "unknown, or not a value of the word before it, or without its value: {word}"
         )?,
         None => faults.write_all(
-            b"these words do not go together, or there was no memory for them\n",
+            b"these words do not go together (--crew needs --rounds, and neither a script nor other words), or one is there \
+twice, or there was no memory for them\n",
         )?,
     }
     faults.write_all(USAGE.as_bytes())
@@ -106,6 +107,9 @@ fn run<H: Threads + Wait + Sync, R: Read, W: Write, E: Write>(
     writer: &mut W,
     faults: &mut E,
 ) -> u8 {
+    if call.is_of_crew() && (call.script.is_some() || !call.wishes.is_none()) {
+        return complain(ToolFault::Words, faults);
+    }
     if call.wishes.is_none() {
         return program(rt, alloc, call.rest.as_slice(), reader, writer, faults);
     }

@@ -8,7 +8,7 @@ usage: gltool [WORD..] [SCRIPT]     runs a script of lock commands; without SCRI
   --detect at-block|by-watcher   when deadlocks are detected: at-block by default
   --victims youngest|fewest      how a victim is chosen: youngest by default
   --listings                     the script may have listings
-  --schema                       the script may drop nodes and index files by records' keys
+  --schema                       the script may drop nodes, and make indexes by transactions
   --savepoints                   the script may set and return to savepoints
   --echo                         writes each line, with its answer to its right
   --explain                      says on standard error why each refused line was refused
