@@ -138,8 +138,8 @@ def draw(steps, names):
         heights[name] = y
         rows[name] = (y, lanes, bars)
         y += max(len(lanes), 1) * (BAR + GAP) + 14
-    # A command's text leads up and to the right: three quarters of its length.
-    width = LEFT + max(STEP * at + 16 + TEXT * len(step.label) * 3 // 4 for at, step in enumerate(steps))
+    # A command's text leads up and to the right: four fifths of its length.
+    width = LEFT + max(STEP * at + 16 + TEXT * len(step.label) * 4 // 5 for at, step in enumerate(steps))
     width, height = max(width, LEFT + STEP * len(steps) + 40), y + 10
     drawing.add(f'<svg xmlns="http://www.w3.org/2000/svg" viewBox="0 0 {width} {height}" width="{width}" height="{height}" '
                 'font-family="sans-serif" font-size="11">')

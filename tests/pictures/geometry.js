@@ -22,7 +22,7 @@ const hasPoint = (rect, point) => {
 
 function faultsOf(picture) {
   const whole = boxOf(picture);
-  const texts = [...picture.querySelectorAll("text")].filter((text) => text.textContent !== "");
+  const texts = [...picture.querySelectorAll("text")].filter((text) => text.textContent.trim() !== "");
   const level = texts.filter((text) => !text.hasAttribute("transform"));
   const cut = texts.filter((text) => !isInside(boxOf(text), whole)).map((text) => `cut off: ${text.textContent}`);
   const over = level.flatMap((one, at) => level.slice(at + 1).filter((other) => overlap(boxOf(one), boxOf(other)))

@@ -36,13 +36,13 @@ fn is_below(line: &[u8]) -> bool {
         || line.starts_with(b"stuck ")
 }
 
-/// How many bytes the longest line with an answer has.
+/// How many bytes the longest line with an answer has, without those that are too long.
 fn longest(script: &[u8]) -> usize {
     let mut left = script;
     let mut most = 0;
     for _line in 0..script.len() {
         let (line, after) = first_line(left);
-        if has_answer(line) {
+        if has_answer(line) && !is_long(line) {
             most = most.max(line.len());
         }
         left = after;
@@ -130,7 +130,7 @@ pub fn annotate<W: Write, E: Write>(
         let (answer, below) = first_line(answers);
         if wishes.echo {
             writer.write_all(line)?;
-            put_blanks(writer, width.saturating_sub(line.len()))?;
+            put_blanks(writer, width.saturating_sub(line.len()).max(BETWEEN))?;
         }
         put_line(writer, answer)?;
         answers = put_below(writer, below, width)?;
