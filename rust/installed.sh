@@ -40,6 +40,18 @@ if (cd "$work/away/program" && timeout 300 env -u BURLAPSLATE_LIBS CARGO_TARGET_
 fi
 echo "the_crate_from_an_installation: of another number of slots, stopped"
 
+# stops FOLDER WORDS: whether a build with this BURLAPSLATE_DIR ends, and says these words.
+stops() {
+  if (cd "$work/away/program" && env -u BURLAPSLATE_LIBS CARGO_TARGET_DIR="$work/none" BURLAPSLATE_DIR="$1" \
+    cargo build --offline --quiet) >"$work/log" 2>&1 || ! grep -qF "$2" "$work/log"; then
+    cat "$work/log" >&2
+    echo "rust: from an installation: BURLAPSLATE_DIR=$1 is not refused by name" >&2
+    exit 1
+  fi
+}
+stops there 'BURLAPSLATE_DIR is there: name the folder from / on'
+stops "$work/away" "libburlapslate.a is not in $work/away/lib or $work/away"
+
 if (cd "$work/away/program" && env -u BURLAPSLATE_LIBS -u BURLAPSLATE_DIR CARGO_TARGET_DIR="$work/none" PKG_CONFIG=false \
   cargo build --offline --quiet) >"$work/log" 2>&1 || ! grep -q 'the library for C is not found' "$work/log"; then
   echo "rust: from an installation: without one it does not say so" >&2

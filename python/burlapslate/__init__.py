@@ -275,9 +275,9 @@ class Transaction:
         return _done(call(self.table._at, self._txn, *words, *((None,) if told else ())))
 
     def lock(self, node, mode, timeout=None):
-        """Requests a mode on a node, and sleeps while the lock waits, for `timeout` seconds at most; no signal ends that
-        sleep. Answers the mode that it holds then. Raises Victim, TimedOut, and Refused with its status, also if the
-        node moved or is gone."""
+        """Requests a mode on a node, and sleeps while the lock waits, for `timeout` seconds at most; no signal ends
+        that sleep. Answers the mode that it holds then. Raises Victim, TimedOut, and Refused with its status, also if
+        the node moved or is gone."""
         return Mode(self._does(_lock, node, mode, _until(timeout)).mode)
 
     def lock_path(self, node, mode, timeout=None):
@@ -301,8 +301,8 @@ class Transaction:
         return self._does(_escalate, node, told=True).released
 
     def lock_row(self, file, number, keys=(), mode=X, timeout=None):
-        """Locks a row of which the intentions above are held, on its file and on `interval_of` each key. Answers whether
-        its keys are these: if not, read them again."""
+        """Locks a row of which the intentions above are held, on its file and on `interval_of` each key. Answers
+        whether its keys are these: if not, read them again."""
         reply = _lock_row(self.table._at, self._txn, file, number, *_numbers(keys), mode, _until(timeout))
         return _done(reply, OTHER_KEYS).status == DONE
 
