@@ -1,8 +1,8 @@
 """A table of granular locks that threads share, for tests and for teaching: the calls of libburlapslate by ctypes.
 
-A call whose lock must wait sleeps without Python's global lock, so other threads run meanwhile. Python looks at its
-signals after that sleep alone, so Control-C does not end it: give a `timeout` if no other thread may end the wait. The
-shared library is the file that BURLAPSLATE_LIBRARY names, or else the one that the system's loader finds.
+A call whose lock must wait sleeps without Python's global lock, so other threads run meanwhile. While the main thread
+waits for a lock it handles signals; if a handler raises, as that of Control-C does, the wait is cancelled. The shared
+library is the file that BURLAPSLATE_LIBRARY names, or else the one that the system's loader finds.
 
     import burlapslate as bs
 
@@ -13,6 +13,7 @@ shared library is the file that BURLAPSLATE_LIBRARY names, or else the one that 
             txn.lock_path(orders, bs.IX)
             record = txn.insert(orders)
 """
+import _thread
 import ctypes as c
 import ctypes.util
 import enum
@@ -165,6 +166,31 @@ def _done(reply, *others):
     raise _FAULTS.get(reply.status, Refused)(reply)
 
 
+def _aside(cancel, call, *words):
+    """The reply of a call that another thread makes, so that this one handles signals meanwhile. If a handler raises,
+    the wait is cancelled, and ends first. A handler may raise at any step: what both threads use changes in one."""
+    replies, ended, first = [], threading.Lock(), {}
+
+    def make():
+        try:
+            if first.setdefault("is", make) is make:
+                replies.append(call(*words))
+        finally:
+            ended.release()
+
+    ended.acquire()
+    try:
+        _thread.start_new_thread(make, ())
+        ended.acquire()
+    except BaseException:
+        # A call that was not made yet is not made any more.
+        while first.setdefault("is", None) is make and not replies:
+            cancel()
+            time.sleep(0.001)
+        raise
+    return replies[0]
+
+
 def _until(seconds):
     """So many seconds from now, by the clock of the library; None for no limit."""
     if seconds is None:
@@ -219,7 +245,7 @@ class Table:
 
     def begin(self, since=None, timeout=None):
         """A new transaction, after those that wait for a slot already. `since` is the age of an earlier one whose work
-        it does again: so the work keeps its turn."""
+        it does again: so the work keeps its turn. No signal ends a wait for a slot: give it a `timeout`."""
         since = 2**64 - 1 if since is None else since
         return Transaction(self, _done(_begin_in_turn(self._at, since, _until(timeout))).txn)
 
@@ -274,15 +300,24 @@ class Transaction:
     def _does(self, call, *words, told=False):
         return _done(call(self.table._at, self._txn, *words, *((None,) if told else ())))
 
+    def _sleeps(self, attempt, tried, call, words):
+        """The reply of a call that may sleep. The main thread, which handles signals, tries it first."""
+        me = self.table._at, self._txn
+        if threading.current_thread() is not threading.main_thread():
+            return _done(call(*me, *words), OTHER_KEYS)
+        reply = attempt(*me, *tried)
+        if reply.status == WOULD_BLOCK:
+            reply = _aside(lambda: _cancel(*me, None), call, *me, *words)
+        return _done(reply, OTHER_KEYS)
+
     def lock(self, node, mode, timeout=None):
-        """Requests a mode on a node, and sleeps while the lock waits, for `timeout` seconds at most; no signal ends
-        that sleep. Answers the mode that it holds then. Raises Victim, TimedOut, and Refused with its status, also if
-        the node moved or is gone."""
-        return Mode(self._does(_lock, node, mode, _until(timeout)).mode)
+        """Requests a mode on a node, and sleeps while the lock waits, for `timeout` seconds at most. Answers the mode
+        that it holds then. Raises Victim, TimedOut, and Refused with its status, also if the node moved or is gone."""
+        return Mode(self._sleeps(_try, (node, mode), _lock, (node, mode, _until(timeout))).mode)
 
     def lock_path(self, node, mode, timeout=None):
         """As `lock`, with intentions on what must be held above the node."""
-        return Mode(self._does(_lock_path, node, mode, _until(timeout)).mode)
+        return Mode(self._sleeps(_try_path, (node, mode, 1), _lock_path, (node, mode, _until(timeout))).mode)
 
     def try_lock(self, node, mode):
         """As `lock`, but raises WouldBlock if the lock would have to wait."""
@@ -303,8 +338,8 @@ class Transaction:
     def lock_row(self, file, number, keys=(), mode=X, timeout=None):
         """Locks a row of which the intentions above are held, on its file and on `interval_of` each key. Answers
         whether its keys are these: if not, read them again."""
-        reply = _lock_row(self.table._at, self._txn, file, number, *_numbers(keys), mode, _until(timeout))
-        return _done(reply, OTHER_KEYS).status == DONE
+        row = file, number, *_numbers(keys), mode
+        return self._sleeps(_try_row, row, _lock_row, (*row, _until(timeout))).status == DONE
 
     def try_row(self, file, number, keys=(), mode=X):
         """As `lock_row`, but raises WouldBlock if the lock would have to wait."""

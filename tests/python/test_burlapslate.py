@@ -1,6 +1,8 @@
 """Tests of the module for Python: each call once, waits in two threads, and deadlocks."""
+import signal
 import sys
 import threading
+import time
 import unittest
 
 import burlapslate as bs
@@ -173,6 +175,45 @@ class Tables(unittest.TestCase):
         two.abort()
         self.assertEqual(str(waiter.ended().fault), "NoSuchTxn")
         one.commit()
+
+    def alarm(self, handler):
+        """Has a signal's handler called soon."""
+        before = signal.signal(signal.SIGALRM, handler)
+        self.addCleanup(signal.signal, signal.SIGALRM, before)
+        signal.setitimer(signal.ITIMER_REAL, 0.03)
+
+    def test_a_signal_ends_a_wait(self):
+        rows = self.table.add_row_file([self.db])
+        one, two = self.table.begin(), self.table.begin()
+        one.lock_path(self.orders, bs.X), one.lock_path(rows, bs.IX), two.lock_path(rows, bs.IX)
+        one.lock_row(rows, 7)
+        for wait in (two.lock, self.orders, bs.S), (two.lock_path, self.orders, bs.S), (two.lock_row, rows, 7):
+            self.alarm(signal.default_int_handler)
+            with self.assertRaises(KeyboardInterrupt):
+                wait[0](*wait[1:])
+            self.assertFalse(two.cancel())
+            self.refused("WouldBlock", two.try_path, self.orders, bs.S)
+        one.commit()
+        self.assertEqual(two.lock(self.orders, bs.S), bs.S)
+        two.commit()
+
+    def test_a_handler_that_returns_leaves_a_wait_in_its_place(self):
+        one, two, three = self.table.begin(), self.table.begin(), self.table.begin()
+        one.lock(self.db, bs.X)
+        later, handled = [], []
+
+        def handler(*_):
+            later.append(Sleeper(three.lock, self.db, bs.X))
+            time.sleep(0.03)
+            one.commit()
+            handled.append(True)
+
+        self.alarm(handler)
+        self.assertEqual(two.lock(self.db, bs.X, timeout=10), bs.X)
+        self.assertEqual((handled, later[0].is_alive()), ([True], True))
+        two.commit()
+        self.assertEqual(later[0].ended().answer, bs.X)
+        three.commit()
 
     def test_a_deadlock_has_a_victim(self):
         one, two = self.table.begin(), self.table.begin()
