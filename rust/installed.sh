@@ -1,8 +1,8 @@
 #!/usr/bin/env bash
 # installed.sh: builds the crate `burlapslate` from an installation, with no checkout beside it: a copy of the crate by
 # what pkg-config says, by a folder that is named, and by `cargo package`, whose verification builds what it packs. A
-# program that uses it is run. Takes no network. Ends with status 1 where something is not as wanted; where there is no
-# cargo or no pkg-config it says so, and ends with status 77: not tried.
+# program that uses it is run. A folder that is not named from / on is refused. Takes no network. Ends with status 1 if
+# something is not as wanted; without cargo or pkg-config it says so, and ends with status 77: not tried.
 set -uo pipefail
 top=$(cd "$(dirname "$0")/.." && pwd) || exit 2
 for tool in cargo pkg-config; do

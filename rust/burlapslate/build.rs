@@ -89,7 +89,8 @@ fn archive_of_folder() -> Option<Vec<PathBuf>> {
     );
     let places = [folder.join("lib").join(INSTALLED), folder.join(INSTALLED)];
     let archive = places.into_iter().find(|place| place.is_file());
-    let missing = || panic!("{FOLDER}: {INSTALLED} is not in {0}/lib or {0}", folder.display());
+    let shown = folder.display();
+    let missing = || panic!("{FOLDER}: {INSTALLED} is not in {shown}/lib or {shown}");
     Some(vec![archive.unwrap_or_else(missing)])
 }
 
