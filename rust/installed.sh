@@ -1,8 +1,8 @@
 #!/usr/bin/env bash
 # installed.sh: builds the crate `burlapslate` from an installation, with no checkout beside it: a copy of the crate by
 # what pkg-config says, by a folder that is named, and by `cargo package`, whose verification builds what it packs. A
-# program that uses it is run. Takes no network. Ends with status 1 where something is not as wanted; where there is no
-# cargo or no pkg-config it says so, and ends with status 77: not tried.
+# program that uses it is run. A folder that is not named from / on is refused. Takes no network. Ends with status 1 if
+# something is not as wanted; without cargo or pkg-config it says so, and ends with status 77: not tried.
 set -uo pipefail
 top=$(cd "$(dirname "$0")/.." && pwd) || exit 2
 for tool in cargo pkg-config; do
@@ -39,6 +39,18 @@ if (cd "$work/away/program" && timeout 300 env -u BURLAPSLATE_LIBS CARGO_TARGET_
   exit 1
 fi
 echo "the_crate_from_an_installation: of another number of slots, stopped"
+
+# stops FOLDER WORDS: whether a build with this BURLAPSLATE_DIR ends, and says these words.
+stops() {
+  if (cd "$work/away/program" && env -u BURLAPSLATE_LIBS CARGO_TARGET_DIR="$work/none" BURLAPSLATE_DIR="$1" \
+    cargo build --offline --quiet) >"$work/log" 2>&1 || ! grep -qF "$2" "$work/log"; then
+    cat "$work/log" >&2
+    echo "rust: from an installation: BURLAPSLATE_DIR=$1 is not refused by name" >&2
+    exit 1
+  fi
+}
+stops there 'BURLAPSLATE_DIR is there: name the folder from / on'
+stops "$work/away" "libburlapslate.a is not in $work/away/lib or $work/away"
 
 if (cd "$work/away/program" && env -u BURLAPSLATE_LIBS -u BURLAPSLATE_DIR CARGO_TARGET_DIR="$work/none" PKG_CONFIG=false \
   cargo build --offline --quiet) >"$work/log" 2>&1 || ! grep -q 'the library for C is not found' "$work/log"; then

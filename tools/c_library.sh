@@ -10,14 +10,21 @@
 set -uo pipefail
 top=$(cd "$(dirname "$0")/.." && pwd) || exit 2
 
+says() {
+  sed -n '2,10s/^# //p' "$0"
+}
 usage() {
-  sed -n '2,10s/^# //p' "$0" >&2
+  says >&2
   exit 2
 }
 
 asked='' slots=128 log=''
 while [ $# -gt 0 ]; do
   case $1 in
+    --help)
+      says
+      exit
+      ;;
     --look | --headers) asked=$1 && shift ;;
     --beside)
       [ $# -ge 2 ] || usage

@@ -9,8 +9,11 @@
 set -uo pipefail
 top=$(cd "$(dirname "$0")/.." && pwd) || exit 2
 
+says() {
+  sed -n '2,8s/^# //p' "$0"
+}
 usage() {
-  sed -n '2,8s/^# //p' "$0" >&2
+  says >&2
   exit 2
 }
 
@@ -21,6 +24,10 @@ while [ $# -gt 0 ]; do
     --slots)
       [ $# -ge 2 ] || usage
       slots=$2 && shift
+      ;;
+    --help)
+      says
+      exit
       ;;
     '' | -*) usage ;;
     *)

@@ -1,7 +1,8 @@
 """A table of granular locks that threads share, for tests and for teaching: the calls of libburlapslate by ctypes.
 
-A call whose lock must wait sleeps without Python's global lock, so other threads run meanwhile. The shared library is
-the file that BURLAPSLATE_LIBRARY names, or else the one that the system's loader finds.
+A call whose lock must wait sleeps without Python's global lock, so other threads run meanwhile. While the main thread
+waits for a lock it handles signals; if a handler raises, as that of Control-C does, the wait is cancelled. The shared
+library is the file that BURLAPSLATE_LIBRARY names, or else the one that the system's loader finds.
 
     import burlapslate as bs
 
@@ -12,17 +13,25 @@ the file that BURLAPSLATE_LIBRARY names, or else the one that the system's loade
             txn.lock_path(orders, bs.IX)
             record = txn.insert(orders)
 """
+import _thread
 import ctypes as c
 import ctypes.util
 import enum
 import os
+import threading
 import time
 
 
 class Mode(enum.IntEnum):
-    """A lock mode, from none to exclusive."""
+    """A lock mode, from none to exclusive. It prints as its name."""
 
     NL, IS, IX, S, SIX, X = range(6)
+
+    def __str__(self):
+        return self.name
+
+    def __format__(self, form):
+        return format(self.name, form)
 
 
 NL, IS, IX, S, SIX, X = Mode
@@ -121,14 +130,18 @@ _watch_thread = _call("bs_table_watch_thread", _T, c.c_uint64)
 _let_go = _call("bs_table_let_go", _T)
 _library.bs_table_hold.restype, _library.bs_table_hold.argtypes = _T, [_T]
 _held, _group = _call("bs_held", _T, _Txn, Node), _call("bs_group", _T, Node)
+_interval, _interval_of = _call("bs_interval", _T, Node, c.c_size_t), _call("bs_interval_of", _T, Node, c.c_uint64)
 
 
 class Refused(Exception):
-    """A call that was not done: `status` is its number, `node` the node that it is about, if there is one."""
+    """A call that was not done: `status` is its number, `node` and `mode` are those that it is about; all zero and NL
+    if there is none. Its text has the name of the status, and node and mode if there are some."""
 
     def __init__(self, reply):
-        super().__init__(_library.bs_text(reply.status).decode())
-        self.status, self.node = reply.status, reply.node
+        self.status, self.node, self.mode = reply.status, reply.node, Mode(reply.mode)
+        text = _library.bs_text(reply.status).decode()
+        text += f": {self.node}" if self.node != Node() else ""
+        super().__init__(text + (f" in {self.mode}" if self.mode else ""))
 
 
 class Victim(Refused):
@@ -151,6 +164,31 @@ def _done(reply, *others):
     if reply.status == DONE or reply.status in others:
         return reply
     raise _FAULTS.get(reply.status, Refused)(reply)
+
+
+def _aside(cancel, call, *words):
+    """The reply of a call that another thread makes, so that this one handles signals meanwhile. If a handler raises,
+    the wait is cancelled, and ends first. A handler may raise at any step: what both threads use changes in one."""
+    replies, ended, first = [], threading.Lock(), {}
+
+    def make():
+        try:
+            if first.setdefault("is", make) is make:
+                replies.append(call(*words))
+        finally:
+            ended.release()
+
+    ended.acquire()
+    try:
+        _thread.start_new_thread(make, ())
+        ended.acquire()
+    except BaseException:
+        # A call that was not made yet is not made any more.
+        while first.setdefault("is", None) is make and not replies:
+            cancel()
+            time.sleep(0.001)
+        raise
+    return replies[0]
 
 
 def _until(seconds):
@@ -207,7 +245,7 @@ class Table:
 
     def begin(self, since=None, timeout=None):
         """A new transaction, after those that wait for a slot already. `since` is the age of an earlier one whose work
-        it does again: so the work keeps its turn."""
+        it does again: so the work keeps its turn. No signal ends a wait for a slot: give it a `timeout`."""
         since = 2**64 - 1 if since is None else since
         return Transaction(self, _done(_begin_in_turn(self._at, since, _until(timeout))).txn)
 
@@ -219,6 +257,14 @@ class Table:
         """The supremum of the modes that are granted on a node."""
         return Mode(self._ask(_group, node).mode)
 
+    def interval(self, index, place):
+        """An interval of an index, by its place from 0 on: interval i has the keys from bound i - 1 on."""
+        return self._ask(_interval, index, place).node
+
+    def interval_of(self, index, key):
+        """The interval of an index to which a key belongs: an insert or a row with the key needs it locked."""
+        return self._ask(_interval_of, index, key).node
+
     def _ask(self, question, *words):
         """What the manager answers, with the latch held."""
         manager = _library.bs_table_hold(self._at)
@@ -229,10 +275,11 @@ class Table:
 
 
 class Transaction:
-    """A transaction. As a context manager it commits at the end of the block, and aborts if the block raises."""
+    """A transaction. As a context manager it commits at the end of the block, and aborts if the block raises. If the
+    block's thread has ended it already, the end of the block does nothing."""
 
     def __init__(self, table, txn):
-        self.table, self._txn = table, txn
+        self.table, self._txn, self._ended_by = table, txn, None
 
     @property
     def age(self):
@@ -243,6 +290,8 @@ class Transaction:
         return self
 
     def __exit__(self, kind, fault, trace):
+        if self._ended_by == threading.get_ident():
+            return
         if kind is None:
             self.commit()
         else:
@@ -251,14 +300,24 @@ class Transaction:
     def _does(self, call, *words, told=False):
         return _done(call(self.table._at, self._txn, *words, *((None,) if told else ())))
 
+    def _sleeps(self, attempt, tried, call, words):
+        """The reply of a call that may sleep. The main thread, which handles signals, tries it first."""
+        me = self.table._at, self._txn
+        if threading.current_thread() is not threading.main_thread():
+            return _done(call(*me, *words), OTHER_KEYS)
+        reply = attempt(*me, *tried)
+        if reply.status == WOULD_BLOCK:
+            reply = _aside(lambda: _cancel(*me, None), call, *me, *words)
+        return _done(reply, OTHER_KEYS)
+
     def lock(self, node, mode, timeout=None):
-        """Requests a mode on a node, and sleeps while the lock waits. Answers the mode that it holds then. Raises
-        Victim, TimedOut, and Refused with its status, also if the node moved or is gone."""
-        return Mode(self._does(_lock, node, mode, _until(timeout)).mode)
+        """Requests a mode on a node, and sleeps while the lock waits, for `timeout` seconds at most. Answers the mode
+        that it holds then. Raises Victim, TimedOut, and Refused with its status, also if the node moved or is gone."""
+        return Mode(self._sleeps(_try, (node, mode), _lock, (node, mode, _until(timeout))).mode)
 
     def lock_path(self, node, mode, timeout=None):
         """As `lock`, with intentions on what must be held above the node."""
-        return Mode(self._does(_lock_path, node, mode, _until(timeout)).mode)
+        return Mode(self._sleeps(_try_path, (node, mode, 1), _lock_path, (node, mode, _until(timeout))).mode)
 
     def try_lock(self, node, mode):
         """As `lock`, but raises WouldBlock if the lock would have to wait."""
@@ -277,10 +336,10 @@ class Transaction:
         return self._does(_escalate, node, told=True).released
 
     def lock_row(self, file, number, keys=(), mode=X, timeout=None):
-        """Locks a row of which the intentions above are held. Answers whether its keys are these: if not, read them
-        again."""
-        reply = _lock_row(self.table._at, self._txn, file, number, *_numbers(keys), mode, _until(timeout))
-        return _done(reply, OTHER_KEYS).status == DONE
+        """Locks a row of which the intentions above are held, on its file and on `interval_of` each key. Answers
+        whether its keys are these: if not, read them again."""
+        row = file, number, *_numbers(keys), mode
+        return self._sleeps(_try_row, row, _lock_row, (*row, _until(timeout))).status == DONE
 
     def try_row(self, file, number, keys=(), mode=X):
         """As `lock_row`, but raises WouldBlock if the lock would have to wait."""
@@ -292,7 +351,8 @@ class Transaction:
         self._does(_unlock_row, file, number, told=True)
 
     def insert(self, file, keys=()):
-        """A new record of a file, with a key for each of its indexes, held in X."""
+        """A new record of a file, with a key for each of its indexes, held in X. It needs IX or more on the file
+        and on `interval_of` each key."""
         return self._does(_insert, file, *_numbers(keys)).node
 
     def delete(self, record):
@@ -326,10 +386,12 @@ class Transaction:
     def commit(self):
         """Ends it, and releases everything."""
         self._does(_commit, told=True)
+        self._ended_by = threading.get_ident()
 
     def abort(self):
         """Ends it whatever it does, and releases everything."""
         self._does(_abort, told=True)
+        self._ended_by = threading.get_ident()
 
 
 def version():

@@ -1,7 +1,7 @@
 //! Finds the library for C that the crate is linked with, in the first of these places:
 //!
 //! - the archives that `BURLAPSLATE_LIBS` names, with the separator of PATH between them;
-//! - the folder that `BURLAPSLATE_DIR` names: the PREFIX of `tools/install.sh`, or its `lib`;
+//! - the folder that `BURLAPSLATE_DIR` names from `/` on: the PREFIX of `tools/install.sh`, or its `lib`;
 //! - the installation that `pkg-config` knows, of this crate's version;
 //! - the repository, where the crate stands in it: `tools/c_library.sh` builds the library where it is
 //!   missing or old.
@@ -82,13 +82,16 @@ fn named_archives() -> Option<Vec<PathBuf>> {
 
 fn archive_of_folder() -> Option<Vec<PathBuf>> {
     let folder = PathBuf::from(word(FOLDER)?);
-    let below = folder.join("lib").join(INSTALLED);
-    let archive = if below.is_file() {
-        below
-    } else {
-        folder.join(INSTALLED)
-    };
-    Some(vec![archive])
+    assert!(
+        folder.is_absolute(),
+        "{FOLDER} is {}: name the folder from / on, since cargo does not say where it was started",
+        folder.display()
+    );
+    let places = [folder.join("lib").join(INSTALLED), folder.join(INSTALLED)];
+    let archive = places.into_iter().find(|place| place.is_file());
+    let shown = folder.display();
+    let missing = || panic!("{FOLDER}: {INSTALLED} is not in {shown}/lib or {shown}");
+    Some(vec![archive.unwrap_or_else(missing)])
 }
 
 /// What `pkg-config` says, where there is one and it knows this version.

@@ -1,9 +1,9 @@
 #!/usr/bin/env bash
 # install.sh: installs the library into a temporary folder, compiles the first program of README.md with what
 # pkg-config says, and runs it; also with a compiler that keeps to ISO C, which the header refuses without these words.
-# A number of slots that no library has is refused. Ends with status 1 if anything is not as expected. Without pkg-config
-# it says so, compiles with the same words of its own, and ends with status 77: not tried to its end. CC names another
-# compiler than cc.
+# A number of slots that no library has is refused, --help ends well, and a folder may have a blank in its name. Ends
+# with status 1 if anything is not as expected. Without pkg-config it says so, compiles with the same words of its own,
+# and ends with status 77: not tried to its end. CC names another compiler than cc.
 set -uo pipefail
 top=$(cd "$(dirname "$0")/../.." && pwd) || exit 2
 work=$(mktemp -d) || exit 2
@@ -14,6 +14,13 @@ if "$top/tools/install.sh" --slots 256 "$work/other" 2>"$work/log" || [ -e "$wor
   echo "tests/c: a library of 256 slots is not refused" >&2
   exit 1
 fi
+for script in install c_library; do
+  if ! "$top/tools/$script.sh" --help >"$work/help" 2>"$work/log" || [ -s "$work/log" ] ||
+    ! grep -q "^$script.sh " "$work/help"; then
+    echo "tests/c: $script.sh --help does not print its words alone, or fails" >&2
+    exit 1
+  fi
+done
 awk '$0 == "```c" { inside = 1; next } inside && $0 == "```" { exit } inside' "$top/README.md" >"$work/first.c"
 [ -s "$work/first.c" ] || { echo "tests/c: no program in README.md" >&2; exit 1; }
 words="-I$work/there/include -D_DEFAULT_SOURCE -pthread -L$work/there/lib -lburlapslate"
@@ -34,6 +41,11 @@ if ${CC:-cc} -std=c11 -pthread "-I$work/there/include" -c -o "$work/first.o" "$w
   ! grep -q 'define _DEFAULT_SOURCE' "$work/log"; then
   echo "tests/c: the header does not refuse ISO C without POSIX" >&2
   exit 1
+fi
+if [ "$status" -eq 0 ]; then
+  "$top/tools/install.sh" "$work/over there" || exit 1
+  words=$(PKG_CONFIG_PATH="$work/over there/lib/pkgconfig" pkg-config --cflags --libs burlapslate) || exit 1
+  rm -rf "$work/there" && eval "${CC:-cc} -o '$work/first' '$work/first.c' $words" && timeout 60 "$work/first" || exit 1
 fi
 echo "the_first_program"
 exit "$status"

@@ -1,6 +1,8 @@
 """Tests of the module for Python: each call once, waits in two threads, and deadlocks."""
+import signal
 import sys
 import threading
+import time
 import unittest
 
 import burlapslate as bs
@@ -43,7 +45,7 @@ class Tables(unittest.TestCase):
     def refused(self, name, call, *words):
         with self.assertRaises(bs.Refused) as fault:
             call(*words)
-        self.assertEqual(str(fault.exception), name)
+        self.assertEqual(str(fault.exception).split(":")[0], name)
         return fault.exception
 
     def test_paths_records_and_savepoints(self):
@@ -69,11 +71,37 @@ class Tables(unittest.TestCase):
         with self.table.begin() as txn:
             txn.lock_path(self.orders, bs.X)
             txn.lock_path(days, bs.X)
-            self.refused("NeedParents", txn.insert, self.orders, [150])
+            fault = self.refused("NeedParents", txn.insert, self.orders, [150])
+            self.assertEqual(fault.node, self.table.interval_of(days, 150))
+            self.assertEqual(str(fault), f"NeedParents: {fault.node}")
         with self.table.begin() as txn:
             txn.lock_path(self.db, bs.X)
             self.refused("NeedExclusive", txn.drop, days)
         self.refused("BadKeys", self.table.add_index, [self.db], self.orders, [2, 1])
+
+    def test_intervals_have_names(self):
+        days = self.table.add_index([self.db], self.orders, [100, 200])
+        places = [self.table.interval(days, place) for place in range(3)]
+        for key, place in (99, 0), (100, 1), (199, 1), (200, 2):
+            self.assertEqual(self.table.interval_of(days, key), places[place])
+        self.refused("NoPlace", self.table.interval, days, 3)
+        self.refused("NoSuchNode", self.table.interval_of, self.orders, 150)
+        with self.table.begin() as txn:
+            txn.lock_path(self.orders, bs.IX)
+            txn.lock_path(places[1], bs.IX)
+            record = txn.insert(self.orders, [150])
+            txn.lock_path(places[2], bs.IX)
+            txn.rekey(record, days, 250)
+
+    def test_rows_with_keys(self):
+        rows = self.table.add_row_file([self.db])
+        days = self.table.add_index([self.db], rows, [100])
+        with self.table.begin() as txn:
+            txn.lock_path(rows, bs.IX)
+            fault = self.refused("NeedParents", txn.lock_row, rows, 7, [150])
+            self.assertEqual(fault.node, self.table.interval_of(days, 150))
+            txn.lock_path(fault.node, bs.IX)
+            self.assertTrue(txn.lock_row(rows, 7, [150]))
 
     def test_rows_by_number(self):
         rows = self.table.add_row_file([self.db])
@@ -92,6 +120,29 @@ class Tables(unittest.TestCase):
                 txn.lock(self.db, bs.X)
                 raise KeyError
         self.assertEqual(self.table.group(self.db), bs.NL)
+
+    def test_a_transaction_ends_within_its_block(self):
+        with self.table.begin() as txn:
+            txn.lock(self.db, bs.X)
+            txn.commit()
+        with self.table.begin() as txn:
+            txn.abort()
+        with self.assertRaises(KeyError), self.table.begin() as txn:
+            txn.commit()
+            raise KeyError
+        with self.assertRaises(bs.Refused) as fault, self.table.begin() as txn:
+            Sleeper(txn.abort).ended()
+        self.assertEqual(str(fault.exception), "NoSuchTxn")
+
+    def test_what_is_printed(self):
+        self.assertEqual([str(mode) for mode in bs.Mode], ["NL", "IS", "IX", "S", "SIX", "X"])
+        self.assertEqual(f"{bs.IX}{bs.S:>2}", "IX S")
+        with self.table.begin() as one, self.table.begin() as two:
+            one.lock(self.db, bs.X)
+            self.assertEqual(str(self.refused("WouldBlock", two.try_path, self.db, bs.S)), f"WouldBlock: {self.db}")
+            self.assertEqual(str(self.refused("NotHeld", two.unlock, self.db)), "NotHeld")
+        fault = bs.Refused(bs._Reply(bs.WOULD_BLOCK, bs.SIX, self.db))
+        self.assertEqual((str(fault), fault.mode), (f"WouldBlock: {self.db} in SIX", bs.SIX))
 
     def test_a_wait_is_granted_by_another_thread(self):
         one, two = self.table.begin(), self.table.begin()
@@ -124,6 +175,45 @@ class Tables(unittest.TestCase):
         two.abort()
         self.assertEqual(str(waiter.ended().fault), "NoSuchTxn")
         one.commit()
+
+    def alarm(self, handler):
+        """Has a signal's handler called soon."""
+        before = signal.signal(signal.SIGALRM, handler)
+        self.addCleanup(signal.signal, signal.SIGALRM, before)
+        signal.setitimer(signal.ITIMER_REAL, 0.03)
+
+    def test_a_signal_ends_a_wait(self):
+        rows = self.table.add_row_file([self.db])
+        one, two = self.table.begin(), self.table.begin()
+        one.lock_path(self.orders, bs.X), one.lock_path(rows, bs.IX), two.lock_path(rows, bs.IX)
+        one.lock_row(rows, 7)
+        for wait in (two.lock, self.orders, bs.S), (two.lock_path, self.orders, bs.S), (two.lock_row, rows, 7):
+            self.alarm(signal.default_int_handler)
+            with self.assertRaises(KeyboardInterrupt):
+                wait[0](*wait[1:])
+            self.assertFalse(two.cancel())
+            self.refused("WouldBlock", two.try_path, self.orders, bs.S)
+        one.commit()
+        self.assertEqual(two.lock(self.orders, bs.S), bs.S)
+        two.commit()
+
+    def test_a_handler_that_returns_leaves_a_wait_in_its_place(self):
+        one, two, three = self.table.begin(), self.table.begin(), self.table.begin()
+        one.lock(self.db, bs.X)
+        later, handled = [], []
+
+        def handler(*_):
+            later.append(Sleeper(three.lock, self.db, bs.X))
+            time.sleep(0.03)
+            one.commit()
+            handled.append(True)
+
+        self.alarm(handler)
+        self.assertEqual(two.lock(self.db, bs.X, timeout=10), bs.X)
+        self.assertEqual((handled, later[0].is_alive()), ([True], True))
+        two.commit()
+        self.assertEqual(later[0].ended().answer, bs.X)
+        three.commit()
 
     def test_a_deadlock_has_a_victim(self):
         one, two = self.table.begin(), self.table.begin()
