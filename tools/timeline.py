@@ -13,8 +13,8 @@ from html import escape
 
 TOP = os.path.dirname(os.path.dirname(os.path.realpath(__file__)))
 COLOURS = {"IS": "#cfe3f7", "IX": "#f6dcb4", "S": "#7fb2e5", "SIX": "#c9a3dc", "X": "#e0803c"}
-# In pixels: a command's width, a bar's height, what is between bars and left of them, and a letter's width at most.
-STEP, BAR, GAP, LEFT, TEXT = 34, 15, 3, 96, 7
+# In pixels: a command's width, a bar's height, what is between bars and left of them, a letter's width, and a digit's.
+STEP, BAR, GAP, LEFT, TEXT, WIDE = 34, 15, 3, 96, 7, 8
 LONGEST = 60  # letters of a command that are drawn
 ROW = re.compile(r"(holder|waiter|lock|blocker|txn|stuck|told|victim) ")
 
@@ -131,7 +131,7 @@ class Drawing:
 
 
 def draw(steps, names):
-    top = TEXT * max(len(step.label) for step in steps) * 2 // 3 + 20
+    top = WIDE * max(len(step.label) for step in steps) * 2 // 3 + 20
     drawing, y, heights, rows = Drawing(), top, {}, {}
     for name in names:
         lanes, bars = bars_of(steps, name)
@@ -139,7 +139,7 @@ def draw(steps, names):
         rows[name] = (y, lanes, bars)
         y += max(len(lanes), 1) * (BAR + GAP) + 14
     # A command's text leads up and to the right: four fifths of its length.
-    width = LEFT + max(STEP * at + 16 + TEXT * len(step.label) * 4 // 5 for at, step in enumerate(steps))
+    width = LEFT + max(STEP * at + 16 + WIDE * len(step.label) * 4 // 5 for at, step in enumerate(steps))
     width, height = max(width, LEFT + STEP * len(steps) + 40), y + 10
     drawing.add(f'<svg xmlns="http://www.w3.org/2000/svg" viewBox="0 0 {width} {height}" width="{width}" height="{height}" '
                 'font-family="sans-serif" font-size="11">')

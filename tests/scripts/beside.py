@@ -129,7 +129,7 @@ def words():
         wanted(status == 2 and out == "" and "these words do not go together (--crew needs --rounds" in err, "a crew has no other words", half, err)
     wanted(run("--oops", "--help") == run("--help"), "--help is answered beside other words")
     echoed = run("--echo", text=BAD)[1].split("\n")
-    wanted(len(echoed) == len(BAD.split("\n")) and echoed[-3].endswith("y  no 20 BadLine") and echoed[-2].endswith("b  no 3 NoSuchTxn b"),
+    wanted(len(echoed) == len(BAD.split("\n")) and echoed[-3].endswith("y  no 20 BadLine") and echoed[-2].endswith(" no 3 NoSuchTxn b"),
            "each line has its answer", *echoed)
     print("gltool's own words")
 
