@@ -71,7 +71,7 @@ refused_line() {
 says() {
   echo "gltool: $1" >"$work/says"
   if [ "$1" = "bad words" ] && [ "$(wc -l <"$work/fault")" -gt 1 ]; then
-    { echo "these words do not go together, or there was no memory for them"; "$program" --help; } >>"$work/says"
+    { "$program" --crew 1 2>&1 | sed -n 2p; "$program" --help; } >>"$work/says"
   fi
   cmp -s "$work/says" "$work/fault" || fail "on standard error: $(cat "$work/fault")"
 }
