@@ -99,7 +99,10 @@ grep -q '^line 3: unknown command "lokc";' "$work/log" && grep -q '^digraph' "$w
 "$top/glpicture" --held <"$work/bad.script" >"$work/picture" 2>"$work/log" || fails "--held draws nothing"
 grep -q label "$work/picture" && fails "--held draws an idle node"
 "$top/glpicture" --hold "$work/bad.script" >"$work/picture" 2>"$work/log"
-[ $? -eq 2 ] && grep -q '^usage: glpicture' "$work/log" || fails "an unknown word is not refused with the usage"
+[ $? -eq 2 ] && grep -q '^glpicture: unknown word: --hold$' "$work/log" && grep -q '^usage: glpicture' "$work/log" ||
+  fails "an unknown word is not refused with the usage"
+echo "lokc a S db" | "$top/glpicture" >"$work/picture" 2>"$work/log"
+[ $? -eq 1 ] && [ ! -s "$work/picture" ] && grep -q 'nothing to draw' "$work/log" || fails "a script of bad lines is drawn"
 echo "pictures: what glpicture says"
 if command -v dot >/dev/null; then
   "$top/glpicture" --svg --graph "$top/docs/pictures/phantom.script" >"$work/picture" 2>"$work/log" &&
