@@ -3,8 +3,11 @@ use Rattle.std.proofs.Common.{◌+◌, ap, rules, subst, sym, ◌≡◌, ◌∙�
 use Rattle.arrayvec.specs.ArrayVec.{ArrayVec}
 use Rattle.gl_modes.specs.declared.node.NodeId.{NodeId}
 use Rattle.gl_modes.specs.declared.refusal.Refusal.{Refusal}
+use Rattle.gl_header.specs.Headers.{held_of}
 use Rattle.gl_graph.specs.Changes.{IsAdopted}
+use Rattle.gl_graph.specs.Graph.{record_parents}
 use Rattle.gl_graph.specs.Refusals.{Refuses}
+use Rattle.gl_model.specs.Calls.{rule_refusal}
 use Rattle.gl_model.specs.State.{State, with_grant, with_graph, counting}
 use Rattle.gl_table.specs.Table.{state_of as table_state}
 use Rattle.gl_catalog.specs.Counters.{one_if, rises}
@@ -13,6 +16,14 @@ use Rattle.gl_catalog.proofs.Adopting.{adopts, counts_grant, locks, may_adopt, m
 use Rattle.gl_catalog.proofs.Insertions.{goes_none, refused_so}
 use Rattle.gl_table.specs.Table.{KeepsOrders}
 use Rattle.gl_catalog.proofs.manager.Manager.adopt_locked.Goals as goal
+
+pub adopt_under-requires-clause-rule : goal.adopt_under-requires-clause-rule
+adopt_under-requires-clause-rule c =
+    let may = may_adopt (state_of c.args.self.now) c.args.t c.args.file c.args.keys.now c.args.mode (goes_none _ _ c.in_ok-parents.ensures.refuses) in
+    ap (λ ps. rule_refusal (held_of c.self.inside.table.headers c.args.t.slot) ps c.args.mode) (c.as_slice.ensures.value ∙ c.in_ok-parents.ensures.parents)
+    ∙ ap (λ (v : ManagerView). rule_refusal ((state_of v).held c.args.t.slot) (record_parents (state_of c.args.self.now).graph c.args.file c.args.keys.now) c.args.mode)
+    c.self.view_is
+    ∙ may.rule
 
 pub returns-in_err-parents-clause-refuses : goal.returns-in_err-parents-clause-refuses
 returns-in_err-parents-clause-refuses c =
