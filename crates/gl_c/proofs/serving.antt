@@ -1,4 +1,5 @@
 -- Calls, for notices, waits and watchers.
+pub mod Known
 pub mod Serving
 pub mod Paths
 pub mod RowCalls

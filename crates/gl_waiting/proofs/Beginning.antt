@@ -1,14 +1,16 @@
 -- A begin: what it is answered, and that a refused one changes nothing.
 use Rattle.gl_slots.specs.declared.slots.Slots.{Slots}
-use Rattle.std.specs.Prelude.{◌≡◌, ◌+◌, ℕ, false, [], Option, Some, None, Ok, Err}
-use Rattle.std.proofs.Common.{refl, sym, ap, subst, inl, inr, arith}
+use Rattle.std.specs.Prelude.{◌≡◌, ◌+◌, ◌&&◌, ◌||◌, ℕ, true, false, [], Option, Some, None, Ok, Err, is_none}
+use Rattle.std.proofs.Common.{refl, sym, ap, subst, ◌∙◌, inl, inr, arith}
+use mathlib.Core.Bool.{true≢false}
+use Rattle.gl_modes.proofs.Words.{and_both}
 use Rattle.gl_modes.specs.declared.refusal.Refusal.{Refusal}
 use Rattle.gl_modes.specs.declared.refusal.Refusal.TheVariants as no
 use Rattle.gl_model.specs.State.{State}
 use Rattle.gl_model.specs.Tellings.{Told}
 use Rattle.gl_steps.proofs.Serving.{step_counts}
 use Rattle.gl_steps.specs.Step.{Goes, Step}
-use Rattle.gl_steps.specs.Tests.{refusal_of}
+use Rattle.gl_steps.specs.Tests.{is_cycle, lists_memory, refusal_of}
 use Rattle.gl_steps.specs.declared.command.Answer.{Answer}
 use Rattle.gl_steps.specs.declared.command.Answer.TheVariants as answer
 use Rattle.gl_steps.specs.declared.command.Command.{Command}
@@ -17,7 +19,7 @@ use Rattle.gl_steps.specs.Served.{accepts}
 use Rattle.gl_catalog.specs.Manager.{state_of}
 use Rattle.gl_registry.specs.Rows.{RegistryView}
 use Rattle.gl_registry.specs.Serving.{Applies, ServesBy, touches_rows}
-use Rattle.gl_waiting.specs.Asking.{IsBeginAnswer, begin_of}
+use Rattle.gl_waiting.specs.Asking.{IsBeginAnswer, IsFull, begin_of}
 use Rattle.gl_waiting.specs.Delivering.{Carries, DeliveryView}
 
 module _ (s : State) (a : Answer) (told : Told) (s' : State) where
@@ -82,3 +84,35 @@ module _ (since : Option ℕ) (d d' : DeliveryView) (r : Refusal) (told : Told) 
       subst (λ (x : DeliveryView). Step (state_of d.manager) (begin_of since) (answer.Refused r) [] (state_of x.manager)) refused_same
       (subst (λ (l : Told). Step (state_of d.manager) (begin_of since) (answer.Refused r) l (state_of d'.manager))
       ((step_counts _ _ _ _ _ applies.step).not_accepted none_accepted).1 applies.step)
+
+-- Every slot is taken.
+
+refused_as : (s : State) (c : Command) (a : Answer) (told : Told) (s' : State) → IsFull s → refusal_of s c ≡ refusal_of s command.Begin → Step s c a told s'
+    → a ≡ answer.Refused no.TooManyTxns
+refused_as s c a told s' full same (inl goes) = (subst (λ (o : Option Refusal). Goes s c o a told s') (same ∙ full) goes).answer_is
+refused_as s c a told s' full same (inr (may, unchanged)) =
+    let lacks : (lists_memory s c && false) ≡ true =
+    subst (λ (o : Option Refusal). (lists_memory s c && (is_none o || is_cycle o)) ≡ true) (same ∙ full) may in
+    absurd (true≢false (sym (and_both (lists_memory s c) false lacks).1))
+
+-- then every begin is refused for that
+pub full_refuses : (s : State) (since : Option ℕ) (a : Answer) (told : Told) (s' : State) → IsFull s → Step s (begin_of since) a told s'
+    → a ≡ answer.Refused no.TooManyTxns
+full_refuses s None a told s' full step = refused_as s command.Begin a told s' full refl step
+full_refuses s (Some since) a told s' full step = refused_as s (command.BeginAgain since) a told s' full refl step
+
+module _ (s : State) (told : Told) (s' : State) where
+  full_new : (o : Option Refusal) → Goes s command.Begin o (answer.Refused no.TooManyTxns) told s' → o ≡ Some no.TooManyTxns
+  full_new (Some r) same = cc same.answer_is
+  full_new None (next, begun, counted) = absurd (cc begun.2)
+
+  full_again : (since : ℕ) (o : Option Refusal) → Goes s (command.BeginAgain since) o (answer.Refused no.TooManyTxns) told s' → o ≡ Some no.TooManyTxns
+  full_again since (Some r) same = cc same.answer_is
+  full_again since None (next, begun, counted) = absurd (cc begun.2)
+
+  -- a begin that is refused for that says so
+  pub refused_full : (since : Option ℕ) → Step s (begin_of since) (answer.Refused no.TooManyTxns) told s' → IsFull s
+  refused_full None (inl goes) = full_new (refusal_of s command.Begin) goes
+  refused_full None (inr (may, same)) = absurd (cc same.answer_is)
+  refused_full (Some since) (inl goes) = full_again since (refusal_of s (command.BeginAgain since)) goes
+  refused_full (Some since) (inr (may, same)) = absurd (cc same.answer_is)

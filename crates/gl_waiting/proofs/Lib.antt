@@ -3,6 +3,7 @@ pub mod Awaiting
 pub mod Backs
 pub mod BeginQueues
 pub mod Beginning
+pub mod Counting
 pub mod Delivered
 pub mod GoingOn
 pub mod Paths
@@ -12,4 +13,5 @@ pub mod RowLocking
 pub mod RowTrying
 pub mod Runs
 pub mod TriedPaths
+pub mod TurnRuns
 pub mod Turns

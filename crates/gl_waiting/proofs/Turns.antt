@@ -1,19 +1,26 @@
 -- Begins in turn: those that are handed on one after the other, and that nobody waits for a slot while one is free.
 use Rattle.std.specs.Prelude.{◌≡◌, ◌<◌, ◌==◌, ◌||◌, ℕ, zero, suc, not, Bool, true, false, List, [], ◌∷◌, Option, Some, None, Result}
-use Rattle.std.specs.Prelude.{drop, length, slice_get}
-use Rattle.std.proofs.Common.{refl, sym, ap, subst, ◌∙◌, inl, inr, arith}
-use Rattle.std.proofs.Math.Bool.{or-true}
+use Rattle.std.specs.Prelude.{Ok, Err, drop, length, slice_get}
+use Rattle.std.proofs.Common.{refl, sym, ap, subst, ◌∙◌, inl, inr, arith, rules}
+use Rattle.std.proofs.Math.Bool.{or-false, or-true}
+use mathlib.Core.Bool.{true≢false}
 use Rattle.std.proofs.lemmas.Bool.Decides.{nat_tests}
 use Rattle.gl_model.specs.declared.txn.TxnId.{TxnId}
 use Rattle.gl_catalog.specs.Manager.{ManagerView, state_of}
-use Rattle.gl_waiting.specs.Asking.{Awaits, AwaitsBy, HandsFirst, HandsOn, IsFull, IsInTurn}
+use Rattle.gl_modes.specs.declared.refusal.Refusal.{Refusal}
+use Rattle.gl_modes.specs.declared.refusal.Refusal.TheVariants as no
+use Rattle.gl_steps.specs.declared.command.Answer.TheVariants as answer
+use Rattle.gl_waiting.specs.Asking.{Awaits, AwaitsBy, Begins, HandsFirst, HandsOn, HandsOnAfter, InTurn, IsFull, IsInTurn, is_too_many}
+use Rattle.gl_waiting.specs.Delivering.{registry_in}
+use Rattle.gl_waiting.specs.declared.set_off.SetOff.{SetOff}
+use Rattle.gl_waiting.proofs.Beginning.{begin_made, full_refuses, refused_full}
 use Rattle.gl_modes.specs.declared.mode.Mode.{Mode}
 use Rattle.gl_modes.specs.declared.node.NodeId.{NodeId}
 use Rattle.gl_wakes.specs.Boxes.{verdict_of}
 use Rattle.gl_wakes.specs.declared.grant.Grant.{Grant}
 use Rattle.gl_wakes.specs.declared.grant.Stop.{Stop}
 use Rattle.gl_waiting.specs.declared.waiter.Came.{Came}
-use Rattle.gl_waiting.specs.Waiting.{WaitingView}
+use Rattle.gl_waiting.specs.Waiting.{WaitingView, delivery_in}
 use Rattle.gl_waiting.specs.declared.begins.QueuedBegin.{QueuedBegin}
 
 -- one more is handed on
@@ -52,3 +59,47 @@ await_in_turn v t node mode until (Some c) v' h turn = by (verdict_of (state_of 
     by : (o : Option (Result Grant Stop)) → AwaitsBy o v t node mode until c v' → IsInTurn v'
     by (Some verdict) so = subst IsInTurn (sym so.1) turn
     by None so = same_turns v v' (ap (λ (x : WaitingView). x.queue) so.1) (ap (λ (x : WaitingView). x.manager) so.1) turn
+
+-- a begin that is refused since every slot is taken
+pub full_by : (v : WaitingView) (since : Option ℕ) (result : Result TxnId Refusal) (off : SetOff) (v' : WaitingView) → is_too_many result ≡ true
+    → Begins v since result off v' → IsFull (state_of v.manager)
+full_by v since (Ok t) off v' many begins = absurd (true≢false (sym many))
+full_by v since (Err no.TooManyTxns) off v' many begins = refused_full (state_of v.manager) [] (state_of v.manager) since begins.0
+full_by v since (Err r) off v' many begins = absurd (true≢false (sym many ∙ search rules))
+
+-- while every slot is taken none is handed on
+none_full : (v v' : WaitingView) → IsFull (state_of v.manager) → HandsFirst v v' → ⊥
+none_full v v' full h = by h.result h.answered h.begins
+  where
+    by : (result : Result TxnId Refusal) → is_too_many result ≡ false → Begins v h.first.since result h.off h.mid → ⊥
+    by (Err r) few begins =
+        let is : answer.Refused r ≡ answer.Refused no.TooManyTxns =
+        full_refuses (state_of v.manager) h.first.since (answer.Refused r) [] (state_of v.manager) full begins.0 in
+        let many : r ≡ no.TooManyTxns = cc is in
+        true≢false (sym (ap (λ (x : Refusal). is_too_many (Err x)) many) ∙ few)
+    by (Ok t) few (told, begins) =
+        let made = begin_made h.first.since (registry_in (delivery_in v)) (registry_in begins.served) (Some (answer.Begun t)) told begins.serves in
+        let is : made.0 ≡ answer.Refused no.TooManyTxns =
+        full_refuses (state_of v.manager) h.first.since made.0 told (state_of begins.served.manager) full made.2.step in
+        cc (made.1, is)
+
+-- nor while nobody waits for a slot
+none_in_turn : (v v' : WaitingView) → IsInTurn v → HandsFirst v v' → ⊥
+none_in_turn v v' (inl none) h = cc (ap (λ (q : List QueuedBegin). slice_get q 0) none, h.is_first)
+none_in_turn v v' (inr full) h = none_full v v' full h
+
+-- after a call that changes nothing none is handed on
+pub idle_turn : (v mid : WaitingView) (own off : SetOff) (v' : WaitingView) → IsInTurn v → HandsOnAfter own mid off v' → mid ≡ v → (v' ≡ v) × (off ≡ own)
+idle_turn v mid own off v' turn after same = by after.count after.hands after.sets
+  where
+    by : (k : ℕ) → HandsOn k mid v' → off ≡ record own { went_on = own.went_on || not (k == 0) } → (v' ≡ v) × (off ≡ own)
+    by zero hands sets =
+        let none : (own.went_on || not (zero == 0)) ≡ own.went_on = or-false own.went_on in
+        (hands ∙ same, sets ∙ ap (λ (b : Bool). record own { went_on = b }) none)
+    by (suc k) hands sets = absurd (none_in_turn mid hands.0 (subst IsInTurn (sym same) turn) hands.1)
+
+-- a call after which begins were handed on
+pub in_turn : (v : WaitingView) (IsCalled : SetOff → WaitingView → Type 0) (own : SetOff) (mid : WaitingView) (off : SetOff) (v' : WaitingView) → IsInTurn v
+    → IsCalled own mid → HandsOnAfter own mid off v' → InTurn v IsCalled off v'
+in_turn v IsCalled own mid off v' turn called hands =
+    record { own = own; mid = mid; called = called; hands = hands; nothing = λ same. idle_turn v mid own off v' turn hands same }

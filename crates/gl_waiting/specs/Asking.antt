@@ -11,7 +11,7 @@ use Rattle.gl_model.specs.declared.txn.TxnId.{TxnId}
 use Rattle.gl_catalog.specs.Manager.{state_of}
 use Rattle.gl_catalog.specs.Paths.{Ask, lock_of}
 use Rattle.gl_catalog.specs.declared.manager.paths.Reached.{Reached}
-use Rattle.gl_registry.specs.Serving.{Applies, ServesBy, touches_rows}
+use Rattle.gl_registry.specs.Serving.{Applies, PathLeavesRows, ServesBy, touches_rows}
 use Rattle.gl_waiting.specs.Delivering.{Carries, ComesToNothing, Delivered, DeliveryView, lock_said, registry_in, unlocking}
 use Rattle.gl_waiting.specs.Ends.{EndsBetween, EndsInTime, EndsLate, GivesBack, GoesOn, PlaceGoes, PlaceGoesOn}
 use Rattle.gl_waiting.specs.Going.{Calls, IsRun, WentOn}
@@ -25,13 +25,13 @@ use Rattle.gl_waiting.specs.RowTries.{BeginsNoWait, HoldsTried, KeepsQueues, Tri
 use Rattle.gl_waiting.specs.declared.tries.RowTried.{RowTried}
 use Rattle.gl_waiting.specs.Waiters.{AnswersIn, HasWaiter, outcome_of, IsInTime, came_of, place_at, waiter_in}
 use Rattle.gl_waiting.specs.Waiting.{WaitingView, delivery_in}
-use Rattle.std.specs.List.{list_all}
 use Rattle.std.specs.Prelude.{◌⊎◌, ◌==◌, ◌++◌, ◌∷◌, None, drop, is_some, slice_get}
-use Rattle.gl_model.specs.State.{State, lives, slots}
+use Rattle.gl_model.specs.State.{State, lives}
 use Rattle.gl_modes.specs.declared.mode.Mode.TheVariants.{NL}
 use Rattle.gl_modes.specs.declared.refusal.Refusal.TheVariants as no
 use Rattle.gl_steps.specs.declared.command.Command.TheVariants as command
 use Rattle.gl_steps.specs.Step.{Step}
+use Rattle.gl_steps.specs.Tests.{refusal_of}
 use Rattle.std.specs.Prelude.{OnErr, OnOk, ◌&&◌, if◌then◌else◌}
 use Rattle.gl_graph.specs.Refusals.{first_refusal}
 use Rattle.gl_catalog.specs.Paths.{path_tests}
@@ -94,6 +94,7 @@ pub record Serves (v : WaitingView) (c : Command) (a : Option Answer) (told : To
   pub goes : GoesOn served v.places (delivery_in v') v'.places
   pub went_on : WentOn off.went_on served (delivery_in v')
   pub turns : KeepsTurns v v'
+  pub nothing : v'.manager.accepted ≡ v.manager.accepted → v' ≡ v
 
 -- a call about rows is carried out, as a registry applies it, and then waiters go on
 pub record ServesRow (v : WaitingView) (c : RowCall) (a : RowAnswer) (told : Told) (off : SetOff) (v' : WaitingView) : Type 0 where
@@ -105,6 +106,19 @@ pub record ServesRow (v : WaitingView) (c : RowCall) (a : RowAnswer) (told : Tol
   pub goes : GoesOn served v.places (delivery_in v') v'.places
   pub went_on : WentOn off.went_on served (delivery_in v')
   pub turns : KeepsTurns v v'
+  pub nothing : v'.manager.accepted ≡ v.manager.accepted → v' ≡ v
+
+-- a path is locked up to its end or to a lock that waits or makes victims, as a registry locks it, and then waiters go on
+pub record LocksPath (v : WaitingView) (t : TxnId) (ask : Ask) (result : Result Reached Refusal) (told : Told) (off : SetOff) (v' : WaitingView)
+    : Type 0 where
+  pub served : DeliveryView
+  pub path : PathLeavesRows t ask (registry_in (delivery_in v)) result told (registry_in served)
+  pub delivers : Carries (delivery_in v) (lock_of t ask) told off.ended served
+  pub run : IsRun (state_of v.manager) (state_of served.manager)
+  pub goes : GoesOn served v.places (delivery_in v') v'.places
+  pub went_on : WentOn off.went_on served (delivery_in v')
+  pub turns : KeepsTurns v v'
+  pub nothing : v'.manager.accepted ≡ v.manager.accepted → v' ≡ v
 
 -- a transaction rolls back to a savepoint, as a registry releases, and then waiters go on
 pub record RollsBackTo (v : WaitingView) (t : TxnId) (mark : ℕ) (result : Result ℕ Refusal) (told : Told) (off : SetOff) (v' : WaitingView) : Type 0 where
@@ -116,6 +130,7 @@ pub record RollsBackTo (v : WaitingView) (t : TxnId) (mark : ℕ) (result : Resu
   pub goes : GoesOn served v.places (delivery_in v') v'.places
   pub went_on : WentOn off.went_on served (delivery_in v')
   pub turns : KeepsTurns v v'
+  pub nothing : OnErr result (v' ≡ v)
 
 -- a path is tried, and then waiters go on
 pub record TriesThere (v : WaitingView) (t : TxnId) (ask : Ask) (keep : Keep) (result : Tried) (told : Told) (off : SetOff) (v' : WaitingView)
@@ -128,6 +143,7 @@ pub record TriesThere (v : WaitingView) (t : TxnId) (ask : Ask) (keep : Keep) (r
   pub goes : GoesOn served v.places (delivery_in v') v'.places
   pub went_on : WentOn off.went_on served (delivery_in v')
   pub turns : KeepsTurns v v'
+  pub nothing : v'.manager.accepted ≡ v.manager.accepted → v' ≡ v
 
 -- a row is tried, and then waiters go on
 pub record TriesRowThere (v : WaitingView) (w : Wish) (result : RowTried) (told : Told) (off : SetOff) (v' : WaitingView) : Type 0 where
@@ -140,6 +156,7 @@ pub record TriesRowThere (v : WaitingView) (w : Wish) (result : RowTried) (told 
   pub goes : GoesOn served v.places (delivery_in v') v'.places
   pub went_on : WentOn off.went_on served (delivery_in v')
   pub turns : KeepsTurns v v'
+  pub nothing : v'.manager.accepted ≡ v.manager.accepted → v' ≡ v
 
 -- the waiter that a request leaves waiting for this node
 abbrev pub waiter_for : TxnId → Request → Bool → Option ℕ → NodeId → Mode → Waiter
@@ -248,9 +265,9 @@ pub record Expires (v : WaitingView) (now : ℕ) (off : SetOff) (v' : WaitingVie
   pub turns : KeepsTurns v v'
   pub in_time : (u : ℕ) → v'.manager.accepted < max_count → IsInTime now (place_at v'.places u)
 
--- every slot is taken
+-- every slot is taken: a begin is refused for that
 abbrev pub IsFull : State → Type 0
-IsFull s = list_all (λ u. is_some (s.txns u)) (slots s) ≡ true
+IsFull s = refusal_of s command.Begin ≡ Some no.TooManyTxns
 
 -- a begin is refused since every slot is taken
 abbrev pub is_too_many : Result TxnId Refusal → Bool
@@ -313,6 +330,10 @@ pub record HandsOnAfter (own : SetOff) (v : WaitingView) (off : SetOff) (v' : Wa
   pub hands : HandsOn count v v'
   pub sets : off ≡ record own { went_on = own.went_on || not (count == 0) }
 
--- a call is carried out, and then begins are handed on
-abbrev pub InTurn : (SetOff → WaitingView → Type 0) → SetOff → WaitingView → Type 0
-InTurn IsCalled off v' = (own : SetOff) × (mid : WaitingView) × IsCalled own mid × HandsOnAfter own mid off v'
+-- a call is carried out, and then begins are handed on, none after a call that changes nothing
+pub record InTurn (v : WaitingView) (IsCalled : SetOff → WaitingView → Type 0) (off : SetOff) (v' : WaitingView) : Type 0 where
+  pub own : SetOff
+  pub mid : WaitingView
+  pub called : IsCalled own mid
+  pub hands : HandsOnAfter own mid off v'
+  pub nothing : mid ≡ v → (v' ≡ v) × (off ≡ own)

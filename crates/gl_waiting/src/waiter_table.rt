@@ -7,12 +7,13 @@ ghost use Rattle.gl_registry.specs.Rows.{name_of};
 ghost use Rattle.gl_graph.specs.Refusals.{max_count};
 ghost use Rattle.gl_waiting.specs.Ends.{EndsInTime, PlaceGoes};
 ghost use Rattle.gl_waiting.specs.Going.{Calls};
-ghost use Rattle.gl_waiting.specs.Asking.{Asks, AsksOnce, Awaits, Begins, BeginsInTurn, BeginsNext, Expires, HandsOnAfter, IsBeginAnswer, IsInTurn};
+ghost use Rattle.gl_waiting.specs.Asking.{Asks, AsksOnce, Awaits, Begins, BeginsInTurn, BeginsNext, Expires, HandsOnAfter, IsBeginAnswer, IsInTurn, LocksPath};
 ghost use Rattle.gl_waiting.specs.Asking.{KeepsTurns, RollsBackTo, Serves, ServesRow};
 ghost use Rattle.gl_waiting.specs.Asking.{TimesOut, TriesRowThere, TriesThere, begin_of, begin_said, is_done, is_for_instant, is_too_many};
 ghost use Rattle.gl_waiting.specs.Begins.{earliest_of, has_word, is_late, without_first};
 ghost use Rattle.std.specs.List.{find, list_any};
 ghost use Rattle.gl_waiting.specs.Waiters.{Await, IsInTime, TakesEnd, earliest_until, place_at};
+ghost use Rattle.gl_wakes.specs.Boxes.{verdict_of};
 ghost use Rattle.gl_waiting.specs.Waiting.{delivery_in};
 ghost use Rattle.gl_waiting.specs.declared.waiter.Place.TheVariants.{Empty as empty};
 
@@ -23,11 +24,12 @@ use crate::set_off::SetOff;
 use crate::tries::{Keep, RowTried, Tried};
 use crate::waiter::{Came, Outcome, Place, Request, Waiter, outcome_of};
 use crate::waiters::{give_back, request_now, settle};
-use gl_catalog::{Answer, Command, Manager};
+use gl_catalog::{Answer, Command, Manager, Reached};
 use gl_modes::{Mode, NodeId, Refusal};
 use gl_registry::{Row, RowAnswer, RowCall};
 use gl_slots::{SLOTS, Slot, Slots};
 use gl_table::{Told, TxnId};
+use gl_wakes::{Grant, Stop};
 use std::alloc::Global;
 use std::marker::Model;
 
@@ -92,8 +94,21 @@ impl WaiterTable {
         self.delivery.node(row)
     }
 
+    /// What became of the transaction's wait for this node; `None` if it still waits.
+    pub(crate) fn verdict(
+        &self,
+        txn: TxnId,
+        node: NodeId,
+        mode: Mode,
+    ) -> Option<Result<Grant, Stop>>
+        ensures { result ≡ verdict_of (state_of self.now.manager) self.now.boxes txn node mode }
+    {
+        self.delivery.verdict(txn, node, mode)
+    }
+
     /// Carries out a command, as `Registry::serve`, with its notices put into an empty list. Waiters whose wait it ends
     /// go on or end.
+    #[inline(always)]
     pub(crate) fn serve(
         &mut self,
         command: Command<'_>,
@@ -107,8 +122,27 @@ impl WaiterTable {
         (answer, settle(&mut self.delivery, &mut self.places, ended))
     }
 
+    /// Locks a node with what must be held above it, as `Registry::lock_path`, with the notices put into an empty list: up
+    /// to its end, or to a lock that waits or makes victims. Waiters whose wait it ends go on or end.
+    #[inline(always)]
+    pub(crate) fn lock_path(
+        &mut self,
+        txn: TxnId,
+        node: NodeId,
+        mode: Mode,
+        told: &mut Told,
+    ) -> (Result<Reached, Refusal>, SetOff)
+        requires empty { told.old.items ≡ [] }
+        ensures { LocksPath self.old txn (node, mode) result.0 told.new.items result.1 self.new }
+    {
+        self.delivery.law();
+        let (reached, ended) = self.delivery.lock_path(txn, node, mode, told);
+        (reached, settle(&mut self.delivery, &mut self.places, ended))
+    }
+
     /// Carries out a call about rows, as `Registry::apply`, with its notices put into an empty list. Waiters whose wait it
     /// ends go on or end.
+    #[inline(always)]
     pub(crate) fn serve_row(&mut self, call: RowCall<'_>, told: &mut Told) -> (RowAnswer, SetOff)
         requires empty { told.old.items ≡ [] }
         ensures { ServesRow self.old call.entry result.0 told.new.items result.1 self.new }
@@ -120,6 +154,7 @@ impl WaiterTable {
 
     /// Rolls back to a savepoint, as `Registry::release_since`, with its notices put into an empty list. Waiters whose
     /// wait it ends go on or end.
+    #[inline(always)]
     pub(crate) fn release_since(
         &mut self,
         txn: TxnId,
@@ -370,7 +405,20 @@ impl WaiterTable {
 
     /// Hands on begins until nobody waits for a slot, or every slot is taken. `own` is what the call set off before that; the
     /// answer is what it set off in all.
+    #[inline(always)]
     pub(crate) fn hand_on(&mut self, own: SetOff) -> SetOff
+        ensures hands { HandsOnAfter own self.old result self.new }
+        ensures turn { IsInTurn self.new }
+    {
+        if self.begins.is_empty() {
+            return own;
+        }
+        self.hand_on_some(own)
+    }
+
+    /// The same if some wait. Not inlined: a call while nobody waits for a slot never gets here.
+    #[inline(never)]
+    fn hand_on_some(&mut self, own: SetOff) -> SetOff
         ensures hands { HandsOnAfter own self.old result self.new }
         ensures turn { IsInTurn self.new }
     {

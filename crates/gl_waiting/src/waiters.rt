@@ -28,7 +28,28 @@ use gl_wakes::{Grant, Stop};
 
 /// Continues each waiter of these slots whose wait is over, and each whose wait ends by that. Answers these slots, and
 /// whether anything was carried out.
+#[inline(always)]
 pub(crate) fn settle(delivery: &mut Delivery, places: &mut Places, ended: Slots) -> SetOff
+    requires awaits { AwaitBut (has_slot ended) (state_of delivery.old.manager) places.old }
+    ensures awaits { Await (state_of delivery.new.manager) places.new }
+    ensures goes { GoesOn delivery.old places.old delivery.new places.new }
+    ensures low { delivery.old.manager.accepted ≤ delivery.new.manager.accepted }
+    ensures ended { result.ended ≡ ended }
+    ensures went_on { WentOn result.went_on delivery.old delivery.new }
+    ensures none { HasNoSlot ended → (delivery.new ≡ delivery.old) × (places.new ≡ places.old) }
+{
+    if ended.is_empty() {
+        return SetOff {
+            ended,
+            went_on: false,
+        };
+    }
+    settle_some(delivery, places, ended)
+}
+
+/// The same of slots of which there are some. Not inlined: a call that ends nobody's wait never gets here.
+#[inline(never)]
+fn settle_some(delivery: &mut Delivery, places: &mut Places, ended: Slots) -> SetOff
     requires awaits { AwaitBut (has_slot ended) (state_of delivery.old.manager) places.old }
     ensures awaits { Await (state_of delivery.new.manager) places.new }
     ensures goes { GoesOn delivery.old places.old delivery.new places.new }

@@ -5,10 +5,11 @@ ghost use Rattle.std.specs.Prelude.{◌≡◌, [], drop, replicate, slice_get};
 ghost use Rattle.std.specs.List.{find, list_any};
 ghost use Rattle.gl_catalog.specs.Manager.{IsLawfulManager, state_of};
 ghost use Rattle.gl_registry.specs.Rows.{name_of};
-ghost use Rattle.gl_waiting.specs.Asking.{Asks, AsksOnce, Awaits, Begins, BeginsInTurn, Expires, InTurn, IsInTurn, KeepsTurns, RollsBackTo, Serves};
+ghost use Rattle.gl_waiting.specs.Asking.{Asks, AsksOnce, Awaits, Begins, BeginsInTurn, Expires, InTurn, IsInTurn, KeepsTurns, LocksPath, RollsBackTo, Serves};
 ghost use Rattle.gl_waiting.specs.Asking.{ServesRow, TimesOut, TriesRowThere, TriesThere};
 ghost use Rattle.gl_waiting.specs.Begins.{earliest_of, has_word, is_late, without_first};
 ghost use Rattle.gl_waiting.specs.Waiters.{Await, TakesEnd, earliest_until};
+ghost use Rattle.gl_wakes.specs.Boxes.{verdict_of};
 ghost use Rattle.gl_waiting.specs.Waiting.{delivery_in};
 ghost use Rattle.gl_waiting.specs.declared.waiter.Place.TheVariants.{Empty as empty};
 
@@ -18,10 +19,11 @@ use crate::set_off::SetOff;
 use crate::tries::{Keep, RowTried, Tried};
 use crate::waiter::{Came, Outcome, Request};
 use crate::waiter_table::WaiterTable;
-use gl_catalog::{Answer, Command, Manager};
+use gl_catalog::{Answer, Command, Manager, Reached};
 use gl_modes::{Mode, NodeId, Refusal};
 use gl_registry::{Row, RowAnswer, RowCall};
 use gl_table::{Told, TxnId};
+use gl_wakes::{Grant, Stop};
 use std::alloc::Global;
 use std::marker::Model;
 
@@ -87,21 +89,47 @@ impl Waiting {
         self.table.node(row)
     }
 
+    /// What became of the transaction's wait for this node; `None` if it still waits.
+    pub fn verdict(&self, txn: TxnId, node: NodeId, mode: Mode) -> Option<Result<Grant, Stop>>
+        ensures { result ≡ verdict_of (state_of self.now.manager) self.now.boxes txn node mode }
+    {
+        self.table.verdict(txn, node, mode)
+    }
+
     /// Carries out a command, as `Registry::serve`, with its notices put into an empty list. Waiters whose wait it ends
     /// go on or end.
+    #[inline(always)]
     pub fn serve(&mut self, command: Command<'_>, told: &mut Told) -> (Option<Answer>, SetOff)
         requires empty { told.old.items ≡ [] }
-        ensures { InTurn (λ off mid. Serves self.old command.entry result.0 told.new.items off mid) result.1 self.new }
+        ensures { InTurn self.old (λ off mid. Serves self.old command.entry result.0 told.new.items off mid) result.1 self.new }
     {
         let (answer, own) = self.table.serve(command, told);
         (answer, self.table.hand_on(own))
     }
 
+    /// Locks a node with what must be held above it, as `Registry::lock_path`, with the notices put into an empty list: up
+    /// to its end, or to a lock that waits or makes victims. Waiters whose wait it ends go on or end.
+    #[inline(always)]
+    pub fn lock_path(
+        &mut self,
+        txn: TxnId,
+        node: NodeId,
+        mode: Mode,
+        told: &mut Told,
+    ) -> (Result<Reached, Refusal>, SetOff)
+        requires empty { told.old.items ≡ [] }
+        ensures { InTurn self.old (λ off mid. LocksPath self.old txn (node, mode) result.0 told.new.items off mid) result.1 self.new }
+    {
+        let (reached, own) = self.table.lock_path(txn, node, mode, told);
+        (reached, self.table.hand_on(own))
+    }
+
     /// Carries out a call about rows, as `Registry::apply`, with its notices put into an empty list. Waiters whose wait it
     /// ends go on or end.
+    #[inline(always)]
     pub fn serve_row(&mut self, call: RowCall<'_>, told: &mut Told) -> (RowAnswer, SetOff)
         requires empty { told.old.items ≡ [] }
-        ensures { InTurn (λ off mid. ServesRow self.old call.entry result.0 told.new.items off mid) result.1 self.new }
+        ensures { InTurn self.old (λ off mid. ServesRow self.old call.entry result.0 told.new.items off mid) result.1 self.new }
     {
         let (answer, own) = self.table.serve_row(call, told);
         (answer, self.table.hand_on(own))
@@ -109,6 +137,7 @@ impl Waiting {
 
     /// Rolls back to a savepoint, as `Registry::release_since`, with its notices put into an empty list. Waiters whose
     /// wait it ends go on or end.
+    #[inline(always)]
     pub fn release_since(
         &mut self,
         txn: TxnId,
@@ -116,7 +145,7 @@ impl Waiting {
         told: &mut Told,
     ) -> (Result<usize, Refusal>, SetOff)
         requires empty { told.old.items ≡ [] }
-        ensures { InTurn (λ off mid. RollsBackTo self.old txn mark result.0 told.new.items off mid) result.1 self.new }
+        ensures { InTurn self.old (λ off mid. RollsBackTo self.old txn mark result.0 told.new.items off mid) result.1 self.new }
     {
         let (released, own) = self.table.release_since(txn, mark, told);
         (released, self.table.hand_on(own))
@@ -133,7 +162,7 @@ impl Waiting {
         told: &mut Told,
     ) -> (Tried, SetOff)
         requires empty { told.old.items ≡ [] }
-        ensures { InTurn (λ off mid. TriesThere self.old txn (node, mode) keep result.0 told.new.items off mid) result.1 self.new }
+        ensures { InTurn self.old (λ off mid. TriesThere self.old txn (node, mode) keep result.0 told.new.items off mid) result.1 self.new }
     {
         let (tried, own) = self.table.try_path(txn, node, mode, keep, told);
         (tried, self.table.hand_on(own))
@@ -149,7 +178,7 @@ impl Waiting {
         told: &mut Told,
     ) -> (RowTried, SetOff)
         requires empty { told.old.items ≡ [] }
-        ensures { InTurn (λ off mid. TriesRowThere self.old (record { txn = txn; row = row; keys = keys.entry; mode = mode }) result.0 told.new.items off mid)
+        ensures { InTurn self.old (λ off mid. TriesRowThere self.old (record { txn = txn; row = row; keys = keys.entry; mode = mode }) result.0 told.new.items off mid)
             result.1 self.new }
     {
         let (tried, own) = self.table.try_row(txn, row, keys, mode, told);
@@ -169,7 +198,7 @@ impl Waiting {
         told: &mut Told,
     ) -> (Came, SetOff)
         requires empty { told.old.items ≡ [] }
-        ensures { InTurn (λ off mid. Asks self.old txn request instant until result.0 told.new.items off mid) result.1 self.new }
+        ensures { InTurn self.old (λ off mid. Asks self.old txn request instant until result.0 told.new.items off mid) result.1 self.new }
     {
         let (came, own) = self.table.ask(txn, request, instant, until, told);
         (came, self.table.hand_on(own))
@@ -186,7 +215,7 @@ impl Waiting {
         told: &mut Told,
     ) -> (Came, SetOff)
         requires empty { told.old.items ≡ [] }
-        ensures { InTurn (λ off mid. AsksOnce self.old txn request instant result.0 told.new.items off mid) result.1 self.new }
+        ensures { InTurn self.old (λ off mid. AsksOnce self.old txn request instant result.0 told.new.items off mid) result.1 self.new }
     {
         let (came, own) = self.table.request(txn, request, instant, told);
         (came, self.table.hand_on(own))
@@ -218,7 +247,7 @@ impl Waiting {
     /// Ends the wait of a transaction whose time is over, if it has a waiter: its end is to be taken. Waiters whose wait
     /// that ends go on or end. It waits on only if no command can be counted any more (`WornOut`).
     pub fn time_out(&mut self, txn: TxnId) -> SetOff
-        ensures { InTurn (λ off mid. TimesOut self.old txn off mid) result self.new }
+        ensures { InTurn self.old (λ off mid. TimesOut self.old txn off mid) result self.new }
     {
         let own = self.table.time_out(txn);
         self.table.hand_on(own)
@@ -227,7 +256,7 @@ impl Waiting {
     /// Ends each wait whose time is at or before now, as `time_out`. Answers the earliest time of those that are left.
     /// What it set off names no slot: it went on if it carried out any command.
     pub fn expire(&mut self, now: u64) -> (Option<u64>, SetOff)
-        ensures expires { InTurn (λ off mid. Expires self.old now off mid) result.1 self.new }
+        ensures expires { InTurn self.old (λ off mid. Expires self.old now off mid) result.1 self.new }
         ensures next { result.0 ≡ earliest_until self.new.places }
     {
         let own = self.table.expire(now);

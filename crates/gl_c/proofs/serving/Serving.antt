@@ -1,205 +1,118 @@
--- The effect of a call, put together: of one that comes to nothing, and of one that is counted.
+-- The effect of a call, put together: of one that counts nothing, and of one that does.
 use Rattle.gl_slots.specs.declared.slots.Slots.{Slots}
-use Rattle.std.specs.Prelude.{◌≡◌, ◌<◌, ℕ, Bool, true, false, Option, Some, None, Result, Ok, is_none}
-use Rattle.std.proofs.Common.{refl, sym, ap, subst, ◌∙◌, inl, ⊎_elim, arith}
-use mathlib.Core.Bool.{true≢false}
+use Rattle.std.specs.Prelude.{◌≡◌, ◌+◌, ◌≤◌, ℕ, Bool, true, false, List, [], ◌∷◌, Option, Some, None, IfSome, is_none, if◌then◌else◌}
+use Rattle.std.proofs.Common.{refl, sym, ap, subst, ◌∙◌, inl, arith}
 use Rattle.gl_waits.specs.declared.board.Board.{Board}
-use Rattle.gl_modes.specs.declared.refusal.Refusal.{Refusal}
-use Rattle.gl_slots.specs.Slots.{has_none}
-use Rattle.gl_model.specs.declared.txn.TxnId.{TxnId}
+use Rattle.gl_modes.proofs.Words.{split}
 use Rattle.gl_model.specs.State.{State}
-use Rattle.gl_model.specs.Tellings.{Told}
+use Rattle.gl_model.specs.declared.answers.Detect.{Detect}
 use Rattle.gl_table.specs.Table.{board_of}
-use Rattle.gl_steps.specs.declared.command.Answer.{Answer}
-use Rattle.gl_steps.specs.declared.command.Command.{Command}
 use Rattle.gl_steps.specs.Served.{accepts}
 use Rattle.gl_steps.proofs.Serving.{step_counts}
-use Rattle.gl_catalog.specs.declared.manager.paths.Reached.{Reached}
 use Rattle.gl_catalog.specs.Manager.{ManagerView, state_of}
-use Rattle.gl_catalog.specs.Paths.{Ask, lock_of}
-use Rattle.gl_registry.specs.Releasing.{GoesBackTo}
-use Rattle.gl_registry.specs.Rows.{RegistryView}
-use Rattle.gl_registry.specs.Serving.{Applies, LeavesRows, PathLeavesRows, ServesBy, dropped_by, touches_rows}
-use Rattle.gl_waiting.specs.Delivering.{Carries, ComesToNothing, Delivered, DeliveryView, unlocking}
-use Rattle.gl_waiting.specs.Delivering.{registry_in as registry_of}
+use Rattle.gl_registry.specs.Locking.{Line, Runs}
+use Rattle.gl_waiting.specs.Asking.{InTurn}
+use Rattle.gl_waiting.specs.Going.{IsRun}
+use Rattle.gl_waiting.specs.Waiting.{WaitingView}
+use Rattle.gl_waiting.specs.declared.set_off.SetOff.{SetOff}
+use Rattle.gl_window.specs.Boards.{last_epoch}
 use Rattle.gl_window.specs.Strip.{Strip}
-use Rattle.gl_window.specs.Tellings.{leaves_waits, still_known}
-use Rattle.gl_c.specs.managers.Guarded.{GuardedView, delivery_in, registry_in}
-use Rattle.gl_c.specs.locks.Paths.{ServesPath, leaves_on_path}
-use Rattle.gl_c.specs.locks.Savepoints.{ServesBack}
-use Rattle.gl_c.specs.managers.Serving.{KnowsWaits, Serves, ServesNodes, ServesUnless, ShowsOn}
+use Rattle.gl_window.specs.Tellings.{still_known}
+use Rattle.gl_c.specs.declared.managers.guarded.Guarded.TheInside.{Inside}
+use Rattle.gl_c.specs.declared.managers.showing.Showing.{Showing}
+use Rattle.gl_c.specs.managers.Guarded.{GuardedView, waiting_in, with_waiting}
+use Rattle.gl_c.specs.managers.Serving.{KnowsWaits, Leaves, ShowsOn, known_after}
+use Rattle.gl_c.specs.managers.Showing.{parties_in, shown_in}
+use Rattle.gl_c.specs.managers.Sound.{IsSound, view_of}
+use Rattle.gl_c.proofs.serving.Showing.{later_epoch, run_keeps}
 
 -- nothing is shown
 pub shows_same : (due : Bool) (board : Board) (shown : Option Strip) → ShowsOn due board shown shown
 shows_same due board None = refl
 shows_same due board (Some s) = (s, refl, record { book = refl; detect = refl; list = inl refl })
 
--- what is known of the waits of a manager
-abbrev pub Knows : ManagerView → Option Strip → Option Slots → Type 0
-Knows m shown parties = KnowsWaits (state_of m) shown parties
+-- a run that counts nothing changes nothing
+run_idle : (lines : List Line) (s s' : State) → Runs s lines s' → s'.accepted ≤ s.accepted → s' ≡ s
+run_idle [] s s' run low = run
+run_idle (l ∷ lines) s s' run low =
+    let counts = step_counts s l.0 l.1.0 l.1.1 run.0 run.1 in
+    let rest = (run_keeps lines run.0 s' run.2).0 in
+    split (accepts l.0 l.1.0) (λ e. let one : run.0.accepted ≡ s.accepted + 1 = counts.accepted e in absurd (omega (arith, one, rest, low)))
+    (λ e. let same : run.0 ≡ s = (counts.not_accepted e).0 in
+    run_idle lines run.0 s' run.2 (subst (λ (x : State). s'.accepted ≤ x.accepted) (sym same) low) ∙ same)
 
--- this delivery in place of its own
-abbrev pub with_delivery : GuardedView → DeliveryView → GuardedView
-with_delivery g d = record g { manager = d.manager; rows = d.rows; boxes = d.boxes }
+-- what is known of the waits if somebody went on, or nobody
+pub knows_after : (went_on : Bool) (s : State) (shown : Option Strip) (parties : Option Slots) (spares : Slots → Bool)
+    → (went_on ≡ false → KnowsWaits s shown (still_known parties spares)) → KnowsWaits s shown (known_after went_on parties spares)
+knows_after true s shown parties spares known = tt
+knows_after false s shown parties spares known = known refl
+
+module _ (g : Inside) (v : WaitingView) (run : IsRun (state_of g.waiting.manager) (state_of v.manager)) (sound : IsSound g) where
+  -- after a call that counts nothing
+  module _ (same : v.manager.accepted ≡ g.waiting.manager.accepted) where
+    is_same : state_of v.manager ≡ state_of g.waiting.manager
+    is_same = run_idle run.0 (state_of g.waiting.manager) (state_of v.manager) run.1 (omega (arith, same))
+
+    pub sound_idle : IsSound (record g { waiting = v })
+    sound_idle =
+        let detection : v.manager.table.detect ≡ g.waiting.manager.table.detect = ap (λ (s : State). s.detect) is_same in
+        record {
+          epoch = later_epoch (shown_in g.showing) g.waiting.manager.accepted v.manager.accepted (omega (arith, same)) sound.epoch;
+          detect = subst (λ (x : Detect). IfSome (shown_in g.showing) (λ p. p.detect ≡ x)) (sym detection) sound.detect;
+          known = subst (λ (s : State). KnowsWaits s (shown_in g.showing) (parties_in g.showing)) (sym is_same) sound.known;
+        }
+
+    pub leaves_idle : (IsCalled : SetOff → WaitingView → Type 0) (spares : Slots → Bool) (off : SetOff)
+        → InTurn (waiting_in (view_of g)) IsCalled off v → Leaves IsCalled spares (view_of g) (with_waiting (view_of g) v)
+    leaves_idle IsCalled spares off turn = record {
+      off = off;
+      turn = turn;
+      noted = λ more. absurd (more same);
+      uncounted = λ _. refl;
+      shown = shows_same (is_none (known_after off.went_on (parties_in g.showing) spares)) (board_of (state_of v.manager)) (shown_in g.showing);
+      known = sound_idle.known;
+    }
+
+  -- after one that does
+  module _ (went_on : Bool) (spares : Slots → Bool) (showing : Option Showing) (shown : shown_in showing ≡ shown_in g.showing)
+      (parties : parties_in showing ≡ known_after went_on (parties_in g.showing) spares) where
+    pub sound_counted : (ended : Slots)
+        → (went_on ≡ false → KnowsWaits (state_of v.manager) (shown_in g.showing) (still_known (parties_in g.showing) spares))
+        → IsSound (record g { waiting = v; ended = ended; showing = showing })
+    sound_counted ended known =
+        let keeps = run_keeps run.0 (state_of g.waiting.manager) (state_of v.manager) run.1 in
+        let detection : v.manager.table.detect ≡ g.waiting.manager.table.detect = keeps.1 in
+        let after = known_after went_on (parties_in g.showing) spares in
+        record {
+          epoch = subst (λ (o : Option Strip). IfSome o (λ p. last_epoch 0 p.list ≤ v.manager.accepted)) (sym shown)
+              (later_epoch (shown_in g.showing) g.waiting.manager.accepted v.manager.accepted keeps.0 sound.epoch);
+          detect = subst (λ (o : Option Strip). IfSome o (λ p. p.detect ≡ v.manager.table.detect)) (sym shown)
+              (subst (λ (x : Detect). IfSome (shown_in g.showing) (λ p. p.detect ≡ x)) (sym detection) sound.detect);
+          known = subst (λ (o : Option Slots). KnowsWaits (state_of v.manager) (shown_in showing) o) (sym parties)
+              (subst (λ (o : Option Strip). KnowsWaits (state_of v.manager) o after) (sym shown)
+              (knows_after went_on (state_of v.manager) (shown_in g.showing) (parties_in g.showing) spares known));
+        }
+
+    pub leaves_counted : (IsCalled : SetOff → WaitingView → Type 0) (off : SetOff) (after : GuardedView) → off.went_on ≡ went_on
+        → InTurn (waiting_in (view_of g)) IsCalled off v → (v.manager.accepted ≡ g.waiting.manager.accepted → ⊥)
+        → (waiting_in after ≡ v) × (after.ended ≡ off.ended)
+        → ShowsOn (is_none (parties_in showing)) (board_of (state_of v.manager)) (shown_in showing) after.shown
+        → KnowsWaits (state_of after.manager) after.shown after.parties → Leaves IsCalled spares (view_of g) after
+    leaves_counted IsCalled off after so turn more kept shows known =
+        let due : ShowsOn (is_none (known_after off.went_on (parties_in g.showing) spares)) (board_of (state_of v.manager)) (shown_in g.showing) after.shown =
+        subst (λ (o : Option Strip). ShowsOn (is_none (known_after off.went_on (parties_in g.showing) spares)) (board_of (state_of v.manager)) o after.shown) shown
+        (subst (λ (o : Option Slots). ShowsOn (is_none o) (board_of (state_of v.manager)) (shown_in showing) after.shown)
+        (parties ∙ ap (λ (b : Bool). known_after b (parties_in g.showing) spares) (sym so)) shows) in
+        record {
+          off = off;
+          turn = subst (λ (x : WaitingView). InTurn (waiting_in (view_of g)) IsCalled off x) (sym kept.0) turn;
+          noted = λ _. kept.1;
+          uncounted = λ same. absurd (more (sym (ap (λ (x : WaitingView). x.manager.accepted) kept.0) ∙ same));
+          shown = subst (λ (x : WaitingView). ShowsOn (is_none (known_after off.went_on (parties_in g.showing) spares)) (board_of (state_of x.manager))
+              (shown_in g.showing) after.shown) (sym kept.0) due;
+          known = known;
+        }
 
 -- the count of a manager that is lent
 pub counted_as : (k : ℕ) (n m : ManagerView) → k ≡ n.accepted → n ≡ m → k ≡ m.accepted
-counted_as k n m is same = subst (λ (x : ManagerView). k ≡ x.accepted) same is
-
--- By the counts before and after a call, whether it comes to nothing.
-module _ (d d' : DeliveryView) (c : Command) (told : Told) (ended : Slots) (carries : Carries d c told ended d') where
-  pub nothing_if : d'.manager.accepted ≡ d.manager.accepted → ComesToNothing d told ended d'
-  nothing_if same =
-      ⊎_elim (λ (some : (d.manager.accepted < d'.manager.accepted) × Delivered d c told ended d'). let later = some.0 in absurd (omega (arith, same, later)))
-      (λ (none : ComesToNothing d told ended d'). none) carries
-
-  pub later_unless : (d'.manager.accepted ≡ d.manager.accepted → ⊥) → (d.manager.accepted < d'.manager.accepted) × Delivered d c told ended d'
-  later_unless not_so =
-      ⊎_elim (λ (some : (d.manager.accepted < d'.manager.accepted) × Delivered d c told ended d'). some)
-      (λ (none : ComesToNothing d told ended d'). absurd (not_so (ap (λ (x : DeliveryView). x.manager.accepted) none.same))) carries
-
--- What C's mutex protects after a call that changes nothing.
-module _ (g : GuardedView) (d : DeliveryView) (same : d ≡ delivery_in g) where
-  pub same_view : with_delivery g d ≡ g
-  same_view = ap (with_delivery g) same
-
-  pub knows_none : Knows g.manager g.shown g.parties → Knows d.manager g.shown g.parties
-  knows_none = subst (λ (x : DeliveryView). Knows x.manager g.shown g.parties) (sym same)
-
--- And after one that is counted: this delivery, and the waits that it ended.
-abbrev pub Keeps : GuardedView → DeliveryView → Slots → Type 0
-Keeps after d ended = (delivery_in after ≡ d) × (after.ended ≡ ended)
-
-pub kept_as : (after : GuardedView) (d : DeliveryView) (ended : Slots) → Keeps after d ended → (P : DeliveryView → Slots → Type 0) → P d ended
-    → P (delivery_in after) after.ended
-kept_as after d ended kept P h = subst (λ (x : Slots). P (delivery_in after) x) (sym kept.1) (subst (λ (x : DeliveryView). P x ended) (sym kept.0) h)
-
--- A command.
-
-some_is : (a b : Answer) → Some a ≡ Some b → a ≡ b
-some_is a b e = cc e
-
--- one that the registry carries out
-pub record Made (v : RegistryView) (c : Command) (a : Answer) (told : Told) (v' : RegistryView) : Type 0 where
-  pub untouched : touches_rows v c ≡ false
-  pub applies : Applies v.manager c a told v'.manager
-  pub rows : LeavesRows (dropped_by c a) v.rows v'.rows
-
-pub made : (v v' : RegistryView) (c : Command) (a : Answer) (told : Told) → ServesBy (touches_rows v c) v c (Some a) told v' → Made v c a told v'
-made v v' c a told = by (touches_rows v c) refl
-  where
-    by : (b : Bool) → touches_rows v c ≡ b → ServesBy b v c (Some a) told v' → Made v c a told v'
-    by true is h = absurd (cc (h.0))
-    by false is h = record {
-      untouched = is;
-      applies = subst (λ (x : Answer). Applies v.manager c x told v'.manager) (sym (some_is a h.0 h.1)) h.2;
-      rows = subst (λ (x : Answer). LeavesRows (dropped_by c x) v.rows v'.rows) (sym (some_is a h.0 h.1)) h.3;
-    }
-
--- one that the registry does not carry out comes to nothing
-pub serves_none : (g : GuardedView) (c : Command) (told : Told) (d : DeliveryView) (ended : Slots)
-    → ServesBy (touches_rows (registry_in g) c) (registry_in g) c None told (registry_of d) → Carries (delivery_in g) c told ended d
-    → ServesNodes g c None told (with_delivery g d)
-serves_none g c told d ended serves carries = by (touches_rows (registry_in g) c) serves
-  where
-    by : (b : Bool) → ServesBy b (registry_in g) c None told (registry_of d) → ServesUnless b g c None told (with_delivery g d)
-    by true h =
-        let none = nothing_if (delivery_in g) d c told ended carries (ap (λ (v : RegistryView). v.manager.accepted) h.2) in
-        (refl, h.1, same_view g d none.same)
-    by false h = absurd (cc (h.1))
-
-serves_some : (g g' : GuardedView) (c : Command) (a : Answer) (told : Told) → touches_rows (registry_in g) c ≡ false → Serves g c a told g'
-    → ServesNodes g c (Some a) told g'
-serves_some g g' c a told is h = subst (λ (x : Bool). ServesUnless x g c (Some a) told g') (sym is) (a, refl, h)
-
-module _ (g : GuardedView) (c : Command) (a : Answer) (told : Told) (d : DeliveryView) (ended : Slots)
-    (h : Made (registry_in g) c a told (registry_of d)) (carries : Carries (delivery_in g) c told ended d) where
-  -- one that is not accepted
-  pub none_accepted : accepts c a ≡ false → ComesToNothing (delivery_in g) told ended d
-  none_accepted out =
-      nothing_if (delivery_in g) d c told ended carries (ap (λ (s : State). s.accepted) ((step_counts _ _ _ _ _ h.applies.step).not_accepted out).0)
-
-  pub serves_not : accepts c a ≡ false → Knows g.manager g.shown g.parties → ServesNodes g c (Some a) told (with_delivery g d)
-  serves_not out knows =
-      let none = none_accepted out in
-      serves_some g (with_delivery g d) c a told h.untouched
-      (record {
-        applies = h.applies;
-        delivered = λ so. absurd (true≢false (sym so ∙ out));
-        not_accepted = λ _. (same_view g d none.same, none.untold);
-        shown = shows_same (is_none (still_known g.parties (λ known. leaves_waits known c a told))) (board_of (state_of d.manager)) g.shown;
-        known = knows_none g d none.same knows;
-        rows = h.rows;
-      })
-
-  -- one that is
-  pub serves_yes : (after : GuardedView) → accepts c a ≡ true → Keeps after d ended
-      → ShowsOn (is_none (still_known g.parties (λ known. leaves_waits known c a told))) (board_of (state_of d.manager)) g.shown after.shown
-      → Knows after.manager after.shown after.parties → ServesNodes g c (Some a) told after
-  serves_yes after so kept shown knows =
-      let more = (step_counts _ _ _ _ _ h.applies.step).accepted so in
-      let delivered = later_unless (delivery_in g) d c told ended carries (λ same. omega (arith, more, same)) in
-      let all = kept_as after d ended kept
-      (λ x slots. Made (registry_in g) c a told (registry_of x) × Delivered (delivery_in g) c told slots x
-      × ShowsOn (is_none (still_known g.parties (λ known. leaves_waits known c a told))) (board_of (state_of x.manager)) g.shown after.shown)
-      (h, delivered.1, shown) in
-      serves_some g after c a told h.untouched
-      (record {
-        applies = all.0.applies;
-        delivered = λ _. all.1;
-        not_accepted = λ out. absurd (true≢false (sym so ∙ out));
-        shown = all.2;
-        known = knows;
-        rows = all.0.rows;
-      })
-
--- A path.
-module _ (g : GuardedView) (t : TxnId) (ask : Ask) (result : Result Reached Refusal) (told : Told) (d : DeliveryView) (ended : Slots)
-    (path : PathLeavesRows t ask (registry_in g) result told (registry_of d)) (carries : Carries (delivery_in g) (lock_of t ask) told ended d) where
-  abbrev due : Bool
-  due = is_none (still_known g.parties (λ known. leaves_on_path known t result told))
-
-  -- of which nothing was accepted
-  pub path_none : d.manager.accepted ≡ g.manager.accepted → Knows g.manager g.shown g.parties → ServesPath g t ask result told (with_delivery g d)
-  path_none same knows =
-      let none = nothing_if (delivery_in g) d (lock_of t ask) told ended carries same in
-      record {
-        path = path;
-        none_accepted = λ _. (same_view g d none.same, none.untold);
-        delivered = λ later. absurd (omega (arith, later, same));
-        shown = shows_same due (board_of (state_of d.manager)) g.shown;
-        known = knows_none g d none.same knows;
-      }
-
-  -- of which something was
-  pub path_some : (after : GuardedView) → (d.manager.accepted ≡ g.manager.accepted → ⊥) → Keeps after d ended
-      → ShowsOn due (board_of (state_of d.manager)) g.shown after.shown → Knows after.manager after.shown after.parties → ServesPath g t ask result told after
-  path_some after not_so kept shown knows =
-      let all = kept_as after d ended kept
-      (λ x slots. PathLeavesRows t ask (registry_in g) result told (registry_of x) × (g.manager.accepted < x.manager.accepted)
-      × Delivered (delivery_in g) (lock_of t ask) told slots x × ShowsOn due (board_of (state_of x.manager)) g.shown after.shown) (
-        path,
-        (later_unless (delivery_in g) d (lock_of t ask) told ended carries not_so).0,
-        (later_unless (delivery_in g) d (lock_of t ask) told ended carries not_so).1,
-        shown,
-      ) in
-      let later = all.1 in
-      record {
-        path = all.0;
-        none_accepted = λ same. absurd (omega (arith, same, later));
-        delivered = λ _. all.2;
-        shown = all.3;
-        known = knows;
-      }
-
--- A rollback to a savepoint.
-pub back_some : (g after : GuardedView) (t : TxnId) (mark k : ℕ) (told : Told) (d : DeliveryView) (ended : Slots)
-    → GoesBackTo t mark g.manager g.rows (Ok k) told d.manager d.rows → Delivered (delivery_in g) (unlocking t) told ended d → Keeps after d ended
-    → ShowsOn (is_none (still_known g.parties has_none)) (board_of (state_of d.manager)) g.shown after.shown → Knows after.manager after.shown after.parties
-    → ServesBack g t mark (Ok k) told after
-back_some g after t mark k told d ended back delivered kept shown knows =
-    let all = kept_as after d ended kept
-    (λ x slots. GoesBackTo t mark g.manager g.rows (Ok k) told x.manager x.rows × Delivered (delivery_in g) (unlocking t) told slots x
-    × ShowsOn (is_none (still_known g.parties has_none)) (board_of (state_of x.manager)) g.shown after.shown)
-    (back, delivered, shown) in
-    (all.0, record { delivered = all.1; shown = all.2; known = knows })
+counted_as k n m is same = is ∙ ap (λ (x : ManagerView). x.accepted) same

@@ -160,7 +160,7 @@ knows_last (Ok w) p q board now h is = (
 )
 
 -- no command changes the way of detection, or lowers the count
-run_keeps : (lines : List Line) (s s' : State) → Runs s lines s' → (s.accepted ≤ s'.accepted) × (s'.detect ≡ s.detect)
+pub run_keeps : (lines : List Line) (s s' : State) → Runs s lines s' → (s.accepted ≤ s'.accepted) × (s'.detect ≡ s.detect)
 run_keeps [] s s' run = let same = ap (λ (x : State). x.accepted) run in (omega (arith, same), ap (λ (x : State). x.detect) run)
 run_keeps (l ∷ lines) s s' run =
     let counts = step_counts s l.0 l.1.0 l.1.1 run.0 run.1 in
@@ -170,26 +170,3 @@ run_keeps (l ∷ lines) s s' run =
           (λ e. let same = ap (λ (x : State). x.accepted) (counts.not_accepted e).0 in omega (arith, same, more)),
       rest.1 ∙ steps_keep_detect s run.0 l.0 l.1.0 l.1.1 run.1,
     )
-
--- what is still known, in terms of the guarded fields
-module _ (g : Inside) (d : DeliveryView) (ended : Slots) (showing : Option Showing) (leaves : Slots → Bool)
-    (shown : shown_in showing ≡ shown_in g.showing) (parties : parties_in showing ≡ still_known (parties_in g.showing) leaves) where
-  pub sound_behind : IsSound g → IsRun (state_of g.delivery.manager) (state_of d.manager)
-      → KnowsWaits (state_of d.manager) (shown_in g.showing) (still_known (parties_in g.showing) leaves)
-      → IsSound (record g { delivery = d; ended = ended; showing = showing })
-  sound_behind sound run known =
-      let keeps = run_keeps run.0 (state_of g.delivery.manager) (state_of d.manager) run.1 in
-      let detection : d.manager.table.detect ≡ g.delivery.manager.table.detect = keeps.1 in
-      record {
-        epoch = subst (λ (o : Option Strip). IfSome o (λ p. last_epoch 0 p.list ≤ d.manager.accepted)) (sym shown)
-            (later_epoch (shown_in g.showing) g.delivery.manager.accepted d.manager.accepted keeps.0 sound.epoch);
-        detect = subst (λ (o : Option Strip). IfSome o (λ p. p.detect ≡ d.manager.table.detect)) (sym shown)
-            (subst (λ (x : Detect). IfSome (shown_in g.showing) (λ p. p.detect ≡ x)) (sym detection) sound.detect);
-        known = subst (λ (o : Option Slots). KnowsWaits (state_of d.manager) (shown_in showing) o) (sym parties)
-            (subst (λ (o : Option Strip). KnowsWaits (state_of d.manager) o (still_known (parties_in g.showing) leaves)) (sym shown) known);
-      }
-
-  pub shows_behind : (board : Board) (after : Option Strip) → ShowsOn (is_none (parties_in showing)) board (shown_in showing) after
-      → ShowsOn (is_none (still_known (parties_in g.showing) leaves)) board (shown_in g.showing) after
-  shows_behind board after h = subst (λ (o : Option Strip). ShowsOn (is_none (still_known (parties_in g.showing) leaves)) board o after) shown
-      (subst (λ (o : Option Slots). ShowsOn (is_none o) board (shown_in showing) after) parties h)

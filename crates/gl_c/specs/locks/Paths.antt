@@ -65,24 +65,10 @@ abbrev pub leaves_on_path : Slots → TxnId → Result Reached Refusal → Told 
 leaves_on_path parties t result told =
     if has_none parties then not (ends_waiting result) else is_empty told && (goes_well result && not (has_slot parties t.slot))
 
--- a path is locked, one command after the other; the boxes have its notices, and the transaction's own is empty; the ended waits are noted; watchers are shown
--- the snapshot after it or nothing, and nothing if it is known to leave all waits; if no request was accepted, nothing changed
-pub record ServesPath (g : GuardedView) (t : TxnId) (ask : Ask) (result : Result Reached Refusal) (told : Told) (g' : GuardedView) : Type 0 where
-  pub path : PathLeavesRows t ask (registry_in g) result told (registry_in g')
-  pub none_accepted : g'.manager.accepted ≡ g.manager.accepted → (g' ≡ g) × (told ≡ [])
-  pub delivered : g.manager.accepted < g'.manager.accepted → Delivered (delivery_in g) (lock_of t ask) told g'.ended (delivery_in g')
-  pub shown : ShowsOn (is_none (still_known g.parties (λ known. leaves_on_path known t result told))) (board_of (state_of g'.manager)) g.shown g'.shown
-  pub known : KnowsWaits (state_of g'.manager) g'.shown g'.parties
-
--- a path is locked, and C gets the reply and the notices
-pub record RepliesPath (g : GuardedView) (t : TxnId) (ask : Ask) (r : Reply) (notices : Notices) (g' : GuardedView) : Type 0 where
-  pub result : Result Reached Refusal
-  pub told : Told
-  pub serves : ServesPath g t ask result told g'
-  pub replied : r ≡ path_reply ask.0 result
-  pub tells : Tells notices told
-
--- a call that locks a path, if there is a manager
-abbrev pub CarriesPath : Option GuardedView → TxnId → Ask → Reply → Notices → Option GuardedView → Type 0
-CarriesPath None t ask r notices s' = Declines None no_manager r s' × Tells notices []
-CarriesPath (Some g) t ask r notices s' = (g' : GuardedView) × (s' ≡ Some g') × RepliesPath g t ask r notices g'
+-- the call that locks a node after what must be held above it
+abbrev pub path_call : TxnId → Ask → CallOf (Result Reached Refusal)
+path_call t ask = record {
+  does = λ v result told off v'. LocksPath v t ask result told off v';
+  spares = λ result told known. leaves_on_path known t result told;
+  says = path_reply ask.0;
+}

@@ -33,32 +33,6 @@ use Rattle.gl_c.specs.locks.Paths.{reply_at}
 use Rattle.gl_c.specs.locks.Rows.{row_lock_status}
 use Rattle.gl_c.specs.Numbers.{bad_number, no_manager, not_rows}
 
--- a try that accepted no command changes nothing; after any other the waits that it ended are noted, and watchers are shown the snapshot after it or nothing,
--- and nothing if it is known that nobody waited
-pub record LeavesTry (g : GuardedView) (told : Told) (ended : Slots) (g' : GuardedView) : Type 0 where
-  pub none_accepted : g'.manager.accepted ≡ g.manager.accepted → (g' ≡ g) × (told ≡ [])
-  pub noted : g.manager.accepted < g'.manager.accepted → g'.ended ≡ ended
-  pub all : HasEnded (state_of g.manager) (state_of g'.manager) ended
-  pub shown : ShowsOn (is_none (still_known g.parties has_none)) (board_of (state_of g'.manager)) g.shown g'.shown
-  pub known : KnowsWaits (state_of g'.manager) g'.shown g'.parties
-
--- a path is tried
-pub record ServesTriedPath (g : GuardedView) (k : Keep) (t : TxnId) (ask : Ask) (came : Tried) (told : Told) (g' : GuardedView) : Type 0 where
-  pub ended : Slots
-  pub tries : IsTried k t ask (delivery_in g) came told ended (delivery_in g')
-  pub held : HoldsAsTried t ask came (state_of g'.manager)
-  pub tests : (r : Refusal) → first_refusal (path_tests (state_of g.manager) t ask.0 ask.1) ≡ Some r → (came ≡ tried.Refused r) × (g' ≡ g)
-  pub leaves : LeavesTry g told ended g'
-
--- a row is tried
-pub record ServesTriedRow (g : GuardedView) (w : Wish) (came : RowTried) (told : Told) (g' : GuardedView) : Type 0 where
-  pub ended : Slots
-  pub tries : TriesRow w (delivery_in g) came told ended (delivery_in g')
-  pub holds : HoldsTried w.txn w.mode came (state_of g'.manager)
-  pub waits : BeginsNoWait (state_of g.manager) (state_of g'.manager)
-  pub queues : KeepsQueues came (state_of g.manager) (state_of g'.manager)
-  pub leaves : LeavesTry g told ended g'
-
 -- the reply for a tried path: the mode, or the node that would block, or the refusal
 abbrev pub tried_reply : Tried → Reply
 tried_reply (tried.Granted m) = reply_of (answer.Granted m)
@@ -73,31 +47,15 @@ tried_row_reply (row.WouldBlock n) = reply_at n (refused_reply no.WouldBlock)
 tried_row_reply (row.Refused r) = refused_reply r
 tried_row_reply row.NotRows = status_reply not_rows
 
--- a path is tried, and C gets the reply and the notices
-pub record RepliesTriedPath (g : GuardedView) (k : Keep) (t : TxnId) (ask : Ask) (r : Reply) (notices : Notices) (g' : GuardedView) : Type 0 where
-  pub came : Tried
-  pub told : Told
-  pub serves : ServesTriedPath g k t ask came told g'
-  pub replied : r ≡ tried_reply came
-  pub tells : Tells notices told
+-- the call that tries a path
+abbrev pub tried_path_call : Keep → TxnId → Ask → CallOf Tried
+tried_path_call k t ask =
+    record { does = λ v came told off v'. TriesThere v t ask k came told off v'; spares = λ came told known. has_none known; says = tried_reply }
 
--- the same of a row
-pub record RepliesTriedRow (g : GuardedView) (w : Wish) (r : Reply) (notices : Notices) (g' : GuardedView) : Type 0 where
-  pub came : RowTried
-  pub told : Told
-  pub serves : ServesTriedRow g w came told g'
-  pub replied : r ≡ tried_row_reply came
-  pub tells : Tells notices told
-
--- a call that tries a path, if there is a manager
-abbrev pub CarriesTriedPath : Option GuardedView → Keep → TxnId → Ask → Reply → Notices → Option GuardedView → Type 0
-CarriesTriedPath None k t ask r notices s' = Declines None no_manager r s' × Tells notices []
-CarriesTriedPath (Some g) k t ask r notices s' = (g' : GuardedView) × (s' ≡ Some g') × RepliesTriedPath g k t ask r notices g'
-
--- a call that tries a row, if there is a manager
-abbrev pub CarriesTriedRow : Option GuardedView → Wish → Reply → Notices → Option GuardedView → Type 0
-CarriesTriedRow None w r notices s' = Declines None no_manager r s' × Tells notices []
-CarriesTriedRow (Some g) w r notices s' = (g' : GuardedView) × (s' ≡ Some g') × RepliesTriedRow g w r notices g'
+-- the call that tries a row
+abbrev pub tried_row_call : Wish → CallOf RowTried
+tried_row_call w =
+    record { does = λ v came told off v'. TriesRowThere v w came told off v'; spares = λ came told known. has_none known; says = tried_row_reply }
 
 -- a call with a number that names nothing
 abbrev pub NamesNothing : Option GuardedView → Reply → Notices → Option GuardedView → Type 0

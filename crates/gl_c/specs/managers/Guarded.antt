@@ -2,25 +2,33 @@
 use Rattle.std.specs.Prelude.{List, Option}
 use Rattle.gl_slots.specs.declared.slots.Slots.{Slots}
 use Rattle.gl_catalog.specs.Manager.{ManagerView}
-use Rattle.gl_registry.specs.Rows.{RegistryView, RowsView}
-use Rattle.gl_waiting.specs.Delivering.{DeliveryView}
+use Rattle.gl_registry.specs.Rows.{RowsView}
+use Rattle.gl_waiting.specs.Begins.{Begun}
+use Rattle.gl_waiting.specs.Waiting.{WaitingView}
+use Rattle.gl_waiting.specs.declared.begins.QueuedBegin.{QueuedBegin}
+use Rattle.gl_waiting.specs.declared.waiter.Place.{Place}
 use Rattle.gl_wakes.specs.Boxes.{Slot}
 use Rattle.gl_window.specs.Strip.{Strip}
 
--- the manager, a notice box for each slot, the slots whose wait the last accepted command may have ended, the snapshots that watchers were shown, if there ever
--- was one, all parties to waits, if it is known that the last snapshot has every wait, and the files of rows with the locked rows
+-- the table of waiters (the manager, the files of rows with the locked rows, a notice box and a place for each slot, and the begin queue), the slots whose wait
+-- the last counted call may have ended, the snapshots that watchers were shown, if there ever was one, and all parties to waits, if it is known that the last
+-- snapshot has every wait
 pub record GuardedView : Type 0 where
   pub manager : ManagerView
+  pub rows : RowsView
   pub boxes : List Slot
+  pub places : List Place
+  pub queue : List QueuedBegin
+  pub begun : List Begun
   pub ended : Slots
   pub shown : Option Strip
   pub parties : Option Slots
-  pub rows : RowsView
 
--- the registry: the manager, and its rows
-abbrev pub registry_in : GuardedView → RegistryView
-registry_in g = record { manager = g.manager; rows = g.rows }
+-- the table of waiters
+abbrev pub waiting_in : GuardedView → WaitingView
+waiting_in g = record { manager = g.manager; rows = g.rows; boxes = g.boxes; places = g.places; queue = g.queue; begun = g.begun }
 
--- the registry with the notice boxes
-abbrev pub delivery_in : GuardedView → DeliveryView
-delivery_in g = record { manager = g.manager; rows = g.rows; boxes = g.boxes }
+-- this table of waiters in place of its own
+abbrev pub with_waiting : GuardedView → WaitingView → GuardedView
+with_waiting g v =
+    record g { manager = v.manager; rows = v.rows; boxes = v.boxes; places = v.places; queue = v.queue; begun = v.begun }

@@ -1,7 +1,7 @@
 -- Calls that make and end managers.
 use Rattle.gl_slots.specs.Slots.{no_slots}
 use Rattle.gl_slots.specs.Limit.{most_slots}
-use Rattle.std.specs.Prelude.{◌≡◌, ◌⊎◌, ℕ, ◌+◌, Bool, false, ◌&&◌, Option, Some, None, if◌then◌else◌, nat_lt, replicate}
+use Rattle.std.specs.Prelude.{◌≡◌, ◌⊎◌, ℕ, ◌+◌, Bool, false, ◌&&◌, Option, Some, None, [], if◌then◌else◌, nat_lt, replicate}
 use Rattle.gl_modes.specs.declared.node.NodeId.{NodeId}
 use Rattle.gl_modes.specs.declared.refusal.Refusal.TheVariants as no
 use Rattle.gl_model.specs.declared.answers.Detect.{Detect}
@@ -10,6 +10,7 @@ use Rattle.gl_model.specs.State.{choosing, empty_state, with_limits}
 use Rattle.gl_catalog.specs.Manager.{state_of}
 use Rattle.gl_registry.specs.Rows.{has_asked, has_rows, name_of}
 use Rattle.gl_registry.specs.declared.row.Row.{Row}
+use Rattle.gl_waiting.specs.declared.waiter.Place.TheVariants.{Empty}
 use Rattle.gl_c.specs.declared.answers.reply.Reply.{Reply}
 use Rattle.gl_c.specs.managers.Carries.{Declines, Where}
 use Rattle.gl_c.specs.managers.Guarded.{GuardedView}
@@ -24,10 +25,13 @@ can_be_limit number = nat_lt 0 number && nat_lt number 2147483649
 abbrev pub can_have : ℕ → ℕ → ℕ → Bool
 can_have most nodes bounds = (nat_lt 0 most && nat_lt most (most_slots + 1)) && (can_be_limit nodes && can_be_limit bounds)
 
--- a manager without nodes, transactions, files of rows and rows, with empty boxes, and with no watchers yet
+-- a manager without nodes, transactions, files of rows and rows, with empty boxes, without waiters and begins that wait, and with no watchers yet
 pub record IsNew (detect : Detect) (victims : Victims) (most nodes bounds : ℕ) (g : GuardedView) : Type 0 where
   pub manager : state_of g.manager ≡ with_limits nodes bounds (choosing victims (empty_state detect most))
   pub boxes : g.boxes ≡ replicate most_slots None
+  pub places : g.places ≡ replicate most_slots Empty
+  pub queue : g.queue ≡ []
+  pub begun : g.begun ≡ []
   pub ended : g.ended ≡ no_slots
   pub shown : g.shown ≡ None
   pub fileless : (file : NodeId) → has_rows g.rows file ≡ false

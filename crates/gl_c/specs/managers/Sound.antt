@@ -10,16 +10,19 @@ use Rattle.gl_c.specs.managers.Showing.{parties_in, shown_in}
 -- the contract's view of the fields
 abbrev pub view_of : Inside → GuardedView
 view_of g = record {
-  manager = g.delivery.manager;
-  boxes = g.delivery.boxes;
+  manager = g.waiting.manager;
+  rows = g.waiting.rows;
+  boxes = g.waiting.boxes;
+  places = g.waiting.places;
+  queue = g.waiting.queue;
+  begun = g.waiting.begun;
   ended = g.ended;
   shown = shown_in g.showing;
   parties = parties_in g.showing;
-  rows = g.delivery.rows;
 }
 
 -- what is shown is no newer than the manager, and has its way of detection; if the parties to waits are known, the last snapshot that was shown has every wait
 pub record IsSound (g : Inside) : Type 0 where
-  pub epoch : IfSome (shown_in g.showing) (λ p. last_epoch 0 p.list ≤ g.delivery.manager.accepted)
-  pub detect : IfSome (shown_in g.showing) (λ p. p.detect ≡ g.delivery.manager.table.detect)
-  pub known : KnowsWaits (state_of g.delivery.manager) (shown_in g.showing) (parties_in g.showing)
+  pub epoch : IfSome (shown_in g.showing) (λ p. last_epoch 0 p.list ≤ g.waiting.manager.accepted)
+  pub detect : IfSome (shown_in g.showing) (λ p. p.detect ≡ g.waiting.manager.table.detect)
+  pub known : KnowsWaits (state_of g.waiting.manager) (shown_in g.showing) (parties_in g.showing)

@@ -12,7 +12,7 @@ use Rattle.gl_c.specs.declared.boards.board.Board.{Board}
 use Rattle.gl_c.specs.declared.answers.reply.Reply.{Reply}
 use Rattle.gl_c.specs.Boards.{board_in}
 use Rattle.gl_c.specs.managers.Carries.{Declines}
-use Rattle.gl_c.specs.managers.Guarded.{GuardedView}
+use Rattle.gl_c.specs.managers.Guarded.{GuardedView, waiting_in}
 use Rattle.gl_c.specs.Numbers.{done, in_use, no_manager, no_watcher, too_many_watchers}
 use Rattle.gl_c.specs.answers.Replies.{refused_reply, status_reply}
 
@@ -23,10 +23,8 @@ Continues (Some before) after = (s : Strip) × (after ≡ Some s) × GoesOn befo
 
 -- everything except what watchers are shown is unchanged
 pub record OnlyShows (g g' : GuardedView) : Type 0 where
-  pub manager : g'.manager ≡ g.manager
-  pub boxes : g'.boxes ≡ g.boxes
+  pub waiting : waiting_in g' ≡ waiting_in g
   pub ended : g'.ended ≡ g.ended
-  pub rows : g'.rows ≡ g.rows
   pub shown : Continues g.shown g'.shown
 
 -- a watcher that knows all that was shown, with the present snapshot last

@@ -2,11 +2,11 @@
 
 ghost use Rattle.gl_steps.specs.declared.command.Command.TheVariants as command;
 ghost use Rattle.gl_registry.specs.declared.call.RowCall.TheVariants as call;
-ghost use Rattle.gl_c.specs.managers.Carries.{Asks, Declines, Under};
+ghost use Rattle.gl_c.specs.managers.Carries.{Asks, Declines, Under, command_call};
 ghost use Rattle.gl_c.specs.managers.Handle.{guarded_in};
 ghost use Rattle.gl_c.specs.Names.{node_id};
 ghost use Rattle.gl_c.specs.Numbers.{bad_number};
-ghost use Rattle.gl_c.specs.locks.Rows.{AsksRow};
+ghost use Rattle.gl_c.specs.locks.Rows.{row_call};
 
 use crate::answers::reply::Reply;
 use crate::graph::parents::parent_ids;
@@ -19,7 +19,7 @@ use gl_registry::RowCall;
 /// Makes an inner node under 0 to 8 inner nodes; without parents it is a root.
 #[unsafe(no_mangle)]
 pub extern "C" fn bs_call_add_inner(manager: &mut Handle, parents: &[Node]) -> Reply
-    ensures { Under parents.now (λ ids. Asks (guarded_in manager.old) (command.Inner ids) result (guarded_in manager.new))
+    ensures { Under parents.now (λ ids. Asks (guarded_in manager.old) (command_call (command.Inner ids)) result (guarded_in manager.new))
         (Declines (guarded_in manager.old) bad_number result (guarded_in manager.new)) }
 {
     match parent_ids(parents) {
@@ -33,7 +33,7 @@ pub extern "C" fn bs_call_add_inner(manager: &mut Handle, parents: &[Node]) -> R
 /// Makes a file of records under 1 to 8 inner nodes.
 #[unsafe(no_mangle)]
 pub extern "C" fn bs_call_add_file(manager: &mut Handle, parents: &[Node]) -> Reply
-    ensures { Under parents.now (λ ids. Asks (guarded_in manager.old) (command.File ids) result (guarded_in manager.new))
+    ensures { Under parents.now (λ ids. Asks (guarded_in manager.old) (command_call (command.File ids)) result (guarded_in manager.new))
         (Declines (guarded_in manager.old) bad_number result (guarded_in manager.new)) }
 {
     match parent_ids(parents) {
@@ -48,7 +48,7 @@ pub extern "C" fn bs_call_add_file(manager: &mut Handle, parents: &[Node]) -> Re
 /// change its keys.
 #[unsafe(no_mangle)]
 pub extern "C" fn bs_call_row_file(manager: &mut Handle, parents: &[Node]) -> Reply
-    ensures { Under parents.now (λ ids. AsksRow (guarded_in manager.old) (call.File ids) result (guarded_in manager.new))
+    ensures { Under parents.now (λ ids. Asks (guarded_in manager.old) (row_call (call.File ids)) result (guarded_in manager.new))
         (Declines (guarded_in manager.old) bad_number result (guarded_in manager.new)) }
 {
     match parent_ids(parents) {
@@ -68,7 +68,7 @@ pub extern "C" fn bs_call_add_index(
     file: Node,
     bounds: &[u64],
 ) -> Reply
-    ensures { Under parents.now (λ ids. Asks (guarded_in manager.old) (command.Index ids (node_id file) bounds.entry) result
+    ensures { Under parents.now (λ ids. Asks (guarded_in manager.old) (command_call (command.Index ids (node_id file) bounds.entry)) result
         (guarded_in manager.new)) (Declines (guarded_in manager.old) bad_number result (guarded_in manager.new)) }
 {
     match parent_ids(parents) {

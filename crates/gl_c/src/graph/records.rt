@@ -2,7 +2,7 @@
 
 ghost use Rattle.std.specs.Prelude.{[]};
 ghost use Rattle.gl_steps.specs.declared.command.Command.TheVariants as command;
-ghost use Rattle.gl_c.specs.managers.Carries.{Asks, Carries, Declines, Under};
+ghost use Rattle.gl_c.specs.managers.Carries.{Asks, Carries, Declines, Under, command_call};
 ghost use Rattle.gl_c.specs.managers.Handle.{guarded_in};
 ghost use Rattle.gl_c.specs.Names.{node_id, txn_id};
 ghost use Rattle.gl_c.specs.answers.Notices.{Tells};
@@ -19,7 +19,7 @@ use gl_catalog::Command;
 /// Inserts a record into a file, with a key for each of its indexes; it is held in X.
 #[unsafe(no_mangle)]
 pub extern "C" fn bs_call_insert(manager: &mut Handle, txn: Txn, file: Node, keys: &[u64]) -> Reply
-    ensures { Asks (guarded_in manager.old) (command.Insert (txn_id txn) (node_id file) keys.entry) result (guarded_in manager.new) }
+    ensures { Asks (guarded_in manager.old) (command_call (command.Insert (txn_id txn) (node_id file) keys.entry)) result (guarded_in manager.new) }
 {
     manager.ask(Command::Insert {
         txn: txn.id(),
@@ -32,7 +32,7 @@ pub extern "C" fn bs_call_insert(manager: &mut Handle, txn: Txn, file: Node, key
 /// makes an index of the file.
 #[unsafe(no_mangle)]
 pub extern "C" fn bs_call_adopt(manager: &mut Handle, file: Node, keys: &[u64]) -> Reply
-    ensures { Asks (guarded_in manager.old) (command.Adopt (node_id file) keys.entry) result (guarded_in manager.new) }
+    ensures { Asks (guarded_in manager.old) (command_call (command.Adopt (node_id file) keys.entry)) result (guarded_in manager.new) }
 {
     manager.ask(Command::Adopt {
         file: file.id(),
@@ -43,7 +43,7 @@ pub extern "C" fn bs_call_adopt(manager: &mut Handle, file: Node, keys: &[u64]) 
 /// Removes a record that nobody holds and nobody waits for.
 #[unsafe(no_mangle)]
 pub extern "C" fn bs_call_forget(manager: &mut Handle, rec: Node) -> Reply
-    ensures { Asks (guarded_in manager.old) (command.Forget (node_id rec)) result (guarded_in manager.new) }
+    ensures { Asks (guarded_in manager.old) (command_call (command.Forget (node_id rec))) result (guarded_in manager.new) }
 {
     manager.ask(Command::Forget { rec: rec.id() })
 }
@@ -56,7 +56,7 @@ pub extern "C" fn bs_call_delete(
     rec: Node,
     told: &mut Notices,
 ) -> Reply
-    ensures { Carries (guarded_in manager.old) (command.Delete (txn_id txn) (node_id rec)) result told.new (guarded_in manager.new) }
+    ensures { Carries (guarded_in manager.old) (command_call (command.Delete (txn_id txn) (node_id rec))) result told.new (guarded_in manager.new) }
 {
     let command = Command::Delete {
         txn: txn.id(),
@@ -75,7 +75,7 @@ pub extern "C" fn bs_call_rekey(
     key: u64,
     told: &mut Notices,
 ) -> Reply
-    ensures { Carries (guarded_in manager.old) (command.Rekey (txn_id txn) (node_id rec) (node_id index) key) result told.new (guarded_in manager.new) }
+    ensures { Carries (guarded_in manager.old) (command_call (command.Rekey (txn_id txn) (node_id rec) (node_id index) key)) result told.new (guarded_in manager.new) }
 {
     let command = Command::Rekey {
         txn: txn.id(),
@@ -95,7 +95,7 @@ pub extern "C" fn bs_call_move(
     parents: &[Node],
     told: &mut Notices,
 ) -> Reply
-    ensures { Under parents.now (λ ids. Carries (guarded_in manager.old) (command.Move (txn_id txn) (node_id node) ids) result told.new
+    ensures { Under parents.now (λ ids. Carries (guarded_in manager.old) (command_call (command.Move (txn_id txn) (node_id node) ids)) result told.new
         (guarded_in manager.new)) (Declines (guarded_in manager.old) bad_number result (guarded_in manager.new) × Tells told.new []) }
 {
     let Some(ids) = parent_ids(parents) else {

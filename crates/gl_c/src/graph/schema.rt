@@ -1,7 +1,7 @@
 //! Schema changes: dropped nodes, and indexes of files that have been in use.
 
 ghost use Rattle.gl_steps.specs.declared.command.Command.TheVariants as command;
-ghost use Rattle.gl_c.specs.managers.Carries.{Asks, Carries, Declines, Under};
+ghost use Rattle.gl_c.specs.managers.Carries.{Asks, Carries, Declines, Under, command_call};
 ghost use Rattle.gl_c.specs.managers.Handle.{guarded_in};
 ghost use Rattle.gl_c.specs.Names.{node_id, txn_id};
 ghost use Rattle.gl_c.specs.Numbers.{bad_number};
@@ -22,7 +22,7 @@ pub extern "C" fn bs_call_drop(
     node: Node,
     told: &mut Notices,
 ) -> Reply
-    ensures { Carries (guarded_in manager.old) (command.Drop (txn_id txn) (node_id node)) result told.new (guarded_in manager.new) }
+    ensures { Carries (guarded_in manager.old) (command_call (command.Drop (txn_id txn) (node_id node))) result told.new (guarded_in manager.new) }
 {
     let command = Command::Drop {
         txn: txn.id(),
@@ -40,7 +40,7 @@ pub extern "C" fn bs_call_index_by(
     file: Node,
     bounds: &[u64],
 ) -> Reply
-    ensures { Under parents.now (λ ids. Asks (guarded_in manager.old) (command.IndexBy (txn_id txn) ids (node_id file) bounds.entry) result
+    ensures { Under parents.now (λ ids. Asks (guarded_in manager.old) (command_call (command.IndexBy (txn_id txn) ids (node_id file) bounds.entry)) result
         (guarded_in manager.new)) (Declines (guarded_in manager.old) bad_number result (guarded_in manager.new)) }
 {
     match parent_ids(parents) {

@@ -3,12 +3,12 @@
 
 ghost use Rattle.std.specs.Prelude.{[]};
 ghost use Rattle.gl_registry.specs.declared.call.RowCall.TheVariants as call;
-ghost use Rattle.gl_c.specs.managers.Carries.{Declines, Where};
+ghost use Rattle.gl_c.specs.managers.Carries.{Carries, Declines, Where};
 ghost use Rattle.gl_c.specs.managers.Handle.{guarded_in};
 ghost use Rattle.gl_c.specs.Names.{node_id, row_at, txn_id};
 ghost use Rattle.gl_c.specs.answers.Notices.{Tells};
 ghost use Rattle.gl_c.specs.Numbers.{bad_number, mode_at};
-ghost use Rattle.gl_c.specs.locks.Rows.{CarriesRow, FindsRow};
+ghost use Rattle.gl_c.specs.locks.Rows.{FindsRow, row_call};
 
 use crate::answers::notices::Notices;
 use crate::answers::reply::Reply;
@@ -30,8 +30,7 @@ pub extern "C" fn bs_call_lock_row(
     mode: u32,
     told: &mut Notices,
 ) -> Reply
-    ensures { Where (mode_at mode) (λ wanted. CarriesRow (guarded_in manager.old)
-        (call.Lock (txn_id txn) (row_at file number) keys.entry wanted) result told.new (guarded_in manager.new))
+    ensures { Where (mode_at mode) (λ wanted. Carries (guarded_in manager.old) (row_call (call.Lock (txn_id txn) (row_at file number) keys.entry wanted)) result told.new (guarded_in manager.new))
         (Declines (guarded_in manager.old) bad_number result (guarded_in manager.new) × Tells told.new []) }
 {
     let Some(mode) = mode_at(mode) else {
@@ -56,7 +55,7 @@ pub extern "C" fn bs_call_unlock_row(
     number: u64,
     told: &mut Notices,
 ) -> Reply
-    ensures { CarriesRow (guarded_in manager.old) (call.Unlock (txn_id txn) (row_at file number)) result told.new (guarded_in manager.new) }
+    ensures { Carries (guarded_in manager.old) (row_call (call.Unlock (txn_id txn) (row_at file number))) result told.new (guarded_in manager.new) }
 {
     let call = RowCall::Unlock {
         txn: txn.id(),
@@ -76,7 +75,7 @@ pub extern "C" fn bs_call_rekey_row(
     key: u64,
     told: &mut Notices,
 ) -> Reply
-    ensures { CarriesRow (guarded_in manager.old) (call.Rekey (txn_id txn) (row_at file number) (node_id index) key) result told.new (guarded_in manager.new) }
+    ensures { Carries (guarded_in manager.old) (row_call (call.Rekey (txn_id txn) (row_at file number) (node_id index) key)) result told.new (guarded_in manager.new) }
 {
     let call = RowCall::Rekey {
         txn: txn.id(),
@@ -90,7 +89,7 @@ pub extern "C" fn bs_call_rekey_row(
 /// Ends a transaction and releases everything. Rows that nobody holds any more lose their nodes.
 #[unsafe(no_mangle)]
 pub extern "C" fn bs_call_commit_rows(manager: &mut Handle, txn: Txn, told: &mut Notices) -> Reply
-    ensures { CarriesRow (guarded_in manager.old) (call.Commit (txn_id txn)) result told.new (guarded_in manager.new) }
+    ensures { Carries (guarded_in manager.old) (row_call (call.Commit (txn_id txn))) result told.new (guarded_in manager.new) }
 {
     manager.carry_out_row(RowCall::Commit { txn: txn.id() }, told)
 }
@@ -99,7 +98,7 @@ pub extern "C" fn bs_call_commit_rows(manager: &mut Handle, txn: Txn, told: &mut
 /// lose their nodes.
 #[unsafe(no_mangle)]
 pub extern "C" fn bs_call_abort_rows(manager: &mut Handle, txn: Txn, told: &mut Notices) -> Reply
-    ensures { CarriesRow (guarded_in manager.old) (call.Abort (txn_id txn)) result told.new (guarded_in manager.new) }
+    ensures { Carries (guarded_in manager.old) (row_call (call.Abort (txn_id txn))) result told.new (guarded_in manager.new) }
 {
     manager.carry_out_row(RowCall::Abort { txn: txn.id() }, told)
 }
@@ -107,7 +106,7 @@ pub extern "C" fn bs_call_abort_rows(manager: &mut Handle, txn: Txn, told: &mut 
 /// Cancels the wait of a transaction. A row that nobody holds or waits for any more loses its node.
 #[unsafe(no_mangle)]
 pub extern "C" fn bs_call_cancel_rows(manager: &mut Handle, txn: Txn, told: &mut Notices) -> Reply
-    ensures { CarriesRow (guarded_in manager.old) (call.Cancel (txn_id txn)) result told.new (guarded_in manager.new) }
+    ensures { Carries (guarded_in manager.old) (row_call (call.Cancel (txn_id txn))) result told.new (guarded_in manager.new) }
 {
     manager.carry_out_row(RowCall::Cancel { txn: txn.id() }, told)
 }
@@ -121,7 +120,7 @@ pub extern "C" fn bs_call_escalate_rows(
     node: Node,
     told: &mut Notices,
 ) -> Reply
-    ensures { CarriesRow (guarded_in manager.old) (call.Escalate (txn_id txn) (node_id node)) result told.new (guarded_in manager.new) }
+    ensures { Carries (guarded_in manager.old) (row_call (call.Escalate (txn_id txn) (node_id node))) result told.new (guarded_in manager.new) }
 {
     let call = RowCall::Escalate {
         txn: txn.id(),

@@ -1,11 +1,11 @@
 //! Tries of paths and rows: each lock is granted at once, or refused. Each call fills `told`, whatever it
 //! had before.
 
-ghost use Rattle.gl_c.specs.managers.Carries.{Where};
+ghost use Rattle.gl_c.specs.managers.Carries.{Carries, Where};
 ghost use Rattle.gl_c.specs.managers.Handle.{guarded_in};
 ghost use Rattle.gl_c.specs.Names.{node_id, row_at, txn_id};
 ghost use Rattle.gl_c.specs.Numbers.{keep_at, mode_at};
-ghost use Rattle.gl_c.specs.locks.Tries.{CarriesTriedPath, CarriesTriedRow, NamesNothing};
+ghost use Rattle.gl_c.specs.locks.Tries.{NamesNothing, tried_path_call, tried_row_call};
 
 use crate::answers::notices::Notices;
 use crate::answers::reply::Reply;
@@ -25,7 +25,7 @@ pub extern "C" fn bs_call_try_path(
     told: &mut Notices,
 ) -> Reply
     ensures { Where (mode_at mode) (λ wanted. Where (keep_at keep)
-        (λ kept. CarriesTriedPath (guarded_in manager.old) kept (txn_id txn) (node_id node, wanted) result told.new (guarded_in manager.new))
+        (λ kept. Carries (guarded_in manager.old) (tried_path_call kept (txn_id txn) (node_id node, wanted)) result told.new (guarded_in manager.new))
         (NamesNothing (guarded_in manager.old) result told.new (guarded_in manager.new)))
         (NamesNothing (guarded_in manager.old) result told.new (guarded_in manager.new)) }
 {
@@ -48,8 +48,7 @@ pub extern "C" fn bs_call_try_row(
     mode: u32,
     told: &mut Notices,
 ) -> Reply
-    ensures { Where (mode_at mode) (λ wanted. CarriesTriedRow (guarded_in manager.old)
-        (record { txn = txn_id txn; row = row_at file number; keys = keys.entry; mode = wanted }) result told.new (guarded_in manager.new))
+    ensures { Where (mode_at mode) (λ wanted. Carries (guarded_in manager.old) (tried_row_call (record { txn = txn_id txn; row = row_at file number; keys = keys.entry; mode = wanted })) result told.new (guarded_in manager.new))
         (NamesNothing (guarded_in manager.old) result told.new (guarded_in manager.new)) }
 {
     let Some(mode) = mode_at(mode) else {

@@ -2,13 +2,13 @@
 
 ghost use Rattle.std.specs.Prelude.{[]};
 ghost use Rattle.gl_steps.specs.declared.command.Command.TheVariants as command;
-ghost use Rattle.gl_c.specs.managers.Carries.{Asks, Carries, Declines, Where};
+ghost use Rattle.gl_c.specs.managers.Carries.{Asks, Carries, Declines, Where, command_call};
 ghost use Rattle.gl_c.specs.managers.Handle.{guarded_in};
 ghost use Rattle.gl_c.specs.Names.{node_id, txn_id};
 ghost use Rattle.gl_c.specs.answers.Notices.{Tells};
 ghost use Rattle.gl_c.specs.Numbers.{bad_number, mode_at};
-ghost use Rattle.gl_c.specs.locks.Paths.{CarriesPath};
-ghost use Rattle.gl_c.specs.locks.Savepoints.{CarriesBack};
+ghost use Rattle.gl_c.specs.locks.Paths.{path_call};
+ghost use Rattle.gl_c.specs.locks.Savepoints.{back_call};
 
 use crate::answers::notices::Notices;
 use crate::answers::reply::Reply;
@@ -20,7 +20,7 @@ use gl_catalog::Command;
 /// Begins a transaction.
 #[unsafe(no_mangle)]
 pub extern "C" fn bs_call_begin(manager: &mut Handle) -> Reply
-    ensures { Asks (guarded_in manager.old) command.Begin result (guarded_in manager.new) }
+    ensures { Asks (guarded_in manager.old) (command_call command.Begin) result (guarded_in manager.new) }
 {
     manager.ask(Command::Begin)
 }
@@ -29,7 +29,7 @@ pub extern "C" fn bs_call_begin(manager: &mut Handle) -> Reply
 /// them.
 #[unsafe(no_mangle)]
 pub extern "C" fn bs_call_begin_again(manager: &mut Handle, since: u64) -> Reply
-    ensures { Asks (guarded_in manager.old) (command.BeginAgain since) result (guarded_in manager.new) }
+    ensures { Asks (guarded_in manager.old) (command_call (command.BeginAgain since)) result (guarded_in manager.new) }
 {
     manager.ask(Command::BeginAgain { since })
 }
@@ -38,7 +38,7 @@ pub extern "C" fn bs_call_begin_again(manager: &mut Handle, since: u64) -> Reply
 /// its slot with all its locks; `since` is as for `bs_call_begin_again`.
 #[unsafe(no_mangle)]
 pub extern "C" fn bs_call_renew(manager: &mut Handle, txn: Txn, since: u64) -> Reply
-    ensures { Asks (guarded_in manager.old) (command.Renew (txn_id txn) since) result (guarded_in manager.new) }
+    ensures { Asks (guarded_in manager.old) (command_call (command.Renew (txn_id txn) since)) result (guarded_in manager.new) }
 {
     let txn = txn.id();
     manager.ask(Command::Renew { txn, since })
@@ -53,7 +53,7 @@ pub extern "C" fn bs_call_lock(
     mode: u32,
     told: &mut Notices,
 ) -> Reply
-    ensures { Where (mode_at mode) (λ wanted. Carries (guarded_in manager.old) (command.Lock (txn_id txn) (node_id node) wanted) result told.new
+    ensures { Where (mode_at mode) (λ wanted. Carries (guarded_in manager.old) (command_call (command.Lock (txn_id txn) (node_id node) wanted)) result told.new
         (guarded_in manager.new)) (Declines (guarded_in manager.old) bad_number result (guarded_in manager.new) × Tells told.new []) }
 {
     let Some(mode) = mode_at(mode) else {
@@ -77,7 +77,7 @@ pub extern "C" fn bs_call_lock_path(
     mode: u32,
     told: &mut Notices,
 ) -> Reply
-    ensures { Where (mode_at mode) (λ wanted. CarriesPath (guarded_in manager.old) (txn_id txn) (node_id node, wanted) result told.new
+    ensures { Where (mode_at mode) (λ wanted. Carries (guarded_in manager.old) (path_call (txn_id txn) (node_id node, wanted)) result told.new
         (guarded_in manager.new)) (Declines (guarded_in manager.old) bad_number result (guarded_in manager.new) × Tells told.new []) }
 {
     let Some(mode) = mode_at(mode) else {
@@ -90,7 +90,7 @@ pub extern "C" fn bs_call_lock_path(
 /// Requests a mode on a node; a lock that cannot be granted at once is refused.
 #[unsafe(no_mangle)]
 pub extern "C" fn bs_call_try(manager: &mut Handle, txn: Txn, node: Node, mode: u32) -> Reply
-    ensures { Where (mode_at mode) (λ wanted. Asks (guarded_in manager.old) (command.Try (txn_id txn) (node_id node) wanted) result
+    ensures { Where (mode_at mode) (λ wanted. Asks (guarded_in manager.old) (command_call (command.Try (txn_id txn) (node_id node) wanted)) result
         (guarded_in manager.new)) (Declines (guarded_in manager.old) bad_number result (guarded_in manager.new)) }
 {
     let Some(mode) = mode_at(mode) else {
@@ -111,7 +111,7 @@ pub extern "C" fn bs_call_unlock(
     node: Node,
     told: &mut Notices,
 ) -> Reply
-    ensures { Carries (guarded_in manager.old) (command.Unlock (txn_id txn) (node_id node)) result told.new (guarded_in manager.new) }
+    ensures { Carries (guarded_in manager.old) (command_call (command.Unlock (txn_id txn) (node_id node))) result told.new (guarded_in manager.new) }
 {
     let command = Command::Unlock {
         txn: txn.id(),
@@ -128,7 +128,7 @@ pub extern "C" fn bs_call_release_since(
     mark: usize,
     told: &mut Notices,
 ) -> Reply
-    ensures { CarriesBack (guarded_in manager.old) (txn_id txn) mark result told.new (guarded_in manager.new) }
+    ensures { Carries (guarded_in manager.old) (back_call (txn_id txn) mark) result told.new (guarded_in manager.new) }
 {
     manager.release_since(txn.id(), mark, told)
 }
@@ -136,7 +136,7 @@ pub extern "C" fn bs_call_release_since(
 /// Condemns victims, by the choice of victims, until the transaction is on no cycle of waits.
 #[unsafe(no_mangle)]
 pub extern "C" fn bs_call_settle(manager: &mut Handle, txn: Txn, told: &mut Notices) -> Reply
-    ensures { Carries (guarded_in manager.old) (command.Settle (txn_id txn)) result told.new (guarded_in manager.new) }
+    ensures { Carries (guarded_in manager.old) (command_call (command.Settle (txn_id txn))) result told.new (guarded_in manager.new) }
 {
     manager.carry_out(Command::Settle { txn: txn.id() }, told)
 }

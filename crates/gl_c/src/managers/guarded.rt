@@ -6,27 +6,24 @@ ghost use Rattle.gl_modes.specs.declared.refusal.Refusal.{Refusal as ARefusal};
 ghost use Rattle.gl_table.specs.Table.{board_of};
 ghost use Rattle.gl_catalog.specs.Manager.{state_of};
 ghost use Rattle.gl_window.specs.Boards.{Ends};
-ghost use Rattle.gl_registry.specs.Applying.{answer_in};
 ghost use Rattle.gl_registry.specs.Rows.{name_of};
 ghost use Rattle.gl_wakes.specs.Boxes.{verdict_of};
-ghost use Rattle.gl_c.specs.managers.Guarded.{delivery_in};
+ghost use Rattle.gl_c.specs.managers.Guarded.{waiting_in};
 ghost use Rattle.gl_c.specs.managers.Managing.{IsNew};
-ghost use Rattle.gl_c.specs.locks.Paths.{ServesPath};
-ghost use Rattle.gl_c.specs.locks.Rows.{ServesRow, comes_to_nothing};
-ghost use Rattle.gl_c.specs.locks.Savepoints.{ServesBack};
-ghost use Rattle.gl_c.specs.managers.Serving.{KnowsWaits, ServesNodes, ShowsOn};
+ghost use Rattle.gl_c.specs.locks.Paths.{path_call};
+ghost use Rattle.gl_c.specs.locks.Rows.{row_call};
+ghost use Rattle.gl_c.specs.locks.Savepoints.{back_call};
+ghost use Rattle.gl_c.specs.managers.Carries.{Performs, command_call};
+ghost use Rattle.gl_c.specs.managers.Serving.{KnowsWaits, ShowsOn};
 ghost use Rattle.gl_c.specs.watchers.Watching.{OnlyShows};
 
-use crate::managers::showing::{
-    Showing, answer_of, keep, keep_nobody, keep_on_path, keep_row, watch,
-};
+use crate::managers::showing::{Showing, answer_of, keep, keep_nobody, keep_on_path, watch};
 use gl_catalog::{Answer, Command, Manager, Reached};
 use gl_modes::{Mode, NodeId, Refusal};
 use gl_registry::{Registry, Row, RowAnswer, RowCall};
 use gl_slots::Slots;
-use gl_steps::{is_accepted, is_refused};
 use gl_table::{Detect, Told, TxnId};
-use gl_waiting::Delivery;
+use gl_waiting::{Delivery, Waiting};
 use gl_waits::Victims;
 use gl_wakes::{Grant, Stop};
 use gl_window::{WatchFault, Watcher};
@@ -35,11 +32,11 @@ use std::marker::Model;
 
 mod tries;
 
-/// The manager with its files of rows and a notice box for each slot, the slots whose wait the last
-/// accepted command may have ended, and what watchers were shown, if there ever was one.
+/// The table of waiters, the slots whose wait the last counted call may have ended, and what watchers
+/// were shown, if there ever was one.
 #[derive(Drop)]
 pub(crate) struct Guarded {
-    delivery: Delivery,
+    waiting: Waiting,
     ended: Slots,
     showing: Option<Showing>,
 }
@@ -76,7 +73,7 @@ impl Guarded {
         let manager = Manager::with_limits(alloc, detect, victims, most, nodes, bounds)?;
         let registry = Registry::new(alloc, manager)?;
         Ok(Guarded {
-            delivery: Delivery::new(registry),
+            waiting: Waiting::new(alloc, Delivery::new(registry)),
             ended: Slots::empty(),
             showing: None,
         })
@@ -86,17 +83,17 @@ impl Guarded {
     pub(crate) fn manager(&self) -> &Manager
         ensures { result.now ≡ self.now.manager }
     {
-        self.delivery.manager()
+        self.waiting.manager()
     }
 
     /// The node of a row; `None` if it has none.
     pub(crate) fn node(&self, row: Row) -> Option<NodeId>
         ensures { result ≡ name_of self.now.rows row }
     {
-        self.delivery.node(row)
+        self.waiting.node(row)
     }
 
-    /// The slots whose wait the last accepted command may have ended.
+    /// The slots whose wait the last counted call may have ended.
     pub(crate) fn ended(&self) -> Slots
         ensures { result ≡ self.now.ended }
     {
@@ -112,7 +109,7 @@ impl Guarded {
     ) -> Option<Result<Grant, Stop>>
         ensures { result ≡ verdict_of (state_of self.now.manager) self.now.boxes txn node mode }
     {
-        self.delivery.verdict(txn, node, mode)
+        self.waiting.verdict(txn, node, mode)
     }
 
     /// Carries out a command, and puts its notices into an empty list. `None` if it would insert,
@@ -120,20 +117,17 @@ impl Guarded {
     #[inline(always)]
     pub(crate) fn serve(&mut self, command: Command<'_>, told: &mut Told) -> Option<Answer>
         requires empty { told.old.items ≡ [] }
-        ensures { ServesNodes self.old command.entry result told.new.items self.new }
+        ensures { Performs self.old (command_call command.entry) result told.new.items self.new }
     {
-        self.delivery.law();
-        let (answer, ended) = self.delivery.serve(command, told);
-        let Some(answer) = answer else {
-            return None;
-        };
-        if !is_accepted(&command, &answer) {
-            return Some(answer);
+        let before = self.waiting.manager().accepted();
+        let (answer, off) = self.waiting.serve(command, told);
+        if self.waiting.manager().accepted() == before {
+            return answer;
         }
-        self.ended = ended;
-        keep(&mut self.showing, &command, &answer, told.as_slice());
+        self.ended = off.ended;
+        keep(&mut self.showing, off.went_on, &command, answer, told.as_slice());
         self.show_if_due();
-        Some(answer)
+        answer
     }
 
     /// Locks a node after what must be held above it, and puts the notices into an empty list. Watchers
@@ -146,16 +140,15 @@ impl Guarded {
         told: &mut Told,
     ) -> Result<Reached, Refusal>
         requires empty { told.old.items ≡ [] }
-        ensures { ServesPath self.old txn (node, mode) result told.new.items self.new }
+        ensures { Performs self.old (path_call txn (node, mode)) result told.new.items self.new }
     {
-        self.delivery.law();
-        let before = self.delivery.manager().accepted();
-        let (reached, ended) = self.delivery.lock_path(txn, node, mode, told);
-        if self.delivery.manager().accepted() == before {
+        let before = self.waiting.manager().accepted();
+        let (reached, off) = self.waiting.lock_path(txn, node, mode, told);
+        if self.waiting.manager().accepted() == before {
             return reached;
         }
-        self.ended = ended;
-        keep_on_path(&mut self.showing, txn, reached, told.as_slice());
+        self.ended = off.ended;
+        keep_on_path(&mut self.showing, off.went_on, txn, reached, told.as_slice());
         self.show_if_due();
         reached
     }
@@ -165,15 +158,21 @@ impl Guarded {
     #[inline(always)]
     pub(crate) fn serve_row(&mut self, call: RowCall<'_>, told: &mut Told) -> RowAnswer
         requires empty { told.old.items ≡ [] }
-        ensures { ServesRow self.old call.entry result told.new.items self.new }
+        ensures { Performs self.old (row_call call.entry) result told.new.items self.new }
     {
-        self.delivery.law();
-        let (answer, ended) = self.delivery.serve_row(call, told);
-        if comes_to_nothing(answer) {
+        let before = self.waiting.manager().accepted();
+        let (answer, off) = self.waiting.serve_row(call, told);
+        if self.waiting.manager().accepted() == before {
             return answer;
         }
-        self.ended = ended;
-        keep_row(&mut self.showing, &call.command(), answer, told.as_slice());
+        self.ended = off.ended;
+        keep(
+            &mut self.showing,
+            off.went_on,
+            &call.command(),
+            answer_of(answer),
+            told.as_slice(),
+        );
         self.show_if_due();
         answer
     }
@@ -187,25 +186,28 @@ impl Guarded {
         told: &mut Told,
     ) -> Result<usize, Refusal>
         requires empty { told.old.items ≡ [] }
-        ensures { ServesBack self.old txn mark result told.new.items self.new }
+        ensures { Performs self.old (back_call txn mark) result told.new.items self.new }
     {
-        let (released, ended) = self.delivery.release_since(txn, mark, told);
-        let released = released?;
-        self.ended = ended;
-        keep_nobody(&mut self.showing);
+        let before = self.waiting.manager().accepted();
+        let (released, off) = self.waiting.release_since(txn, mark, told);
+        if self.waiting.manager().accepted() == before {
+            return released;
+        }
+        self.ended = off.ended;
+        keep_nobody(&mut self.showing, off.went_on);
         self.show_if_due();
-        Ok(released)
+        released
     }
 
     /// Shows watchers the present snapshot if there is a watcher and the last snapshot may lack a wait.
     #[inline(always)]
     fn show_if_due(&mut self)
-        ensures kept { (delivery_in self.new ≡ delivery_in self.old) × (self.new.ended ≡ self.old.ended) }
+        ensures kept { (waiting_in self.new ≡ waiting_in self.old) × (self.new.ended ≡ self.old.ended) }
         ensures shown { ShowsOn (is_none self.old.parties) (board_of (state_of self.old.manager)) self.old.shown self.new.shown }
         ensures known { KnowsWaits (state_of self.new.manager) self.new.shown self.new.parties }
     {
         if let Some(showing) = &mut self.showing {
-            showing.show_if_due(self.delivery.manager());
+            showing.show_if_due(self.waiting.manager());
         }
     }
 
@@ -214,16 +216,6 @@ impl Guarded {
         ensures kept { OnlyShows self.old self.new }
         ensures watcher { IfOk result (λ watcher. (self.new.shown ≡ Some watcher) × Ends watcher.list (board_of (state_of self.old.manager))) }
     {
-        watch(&mut self.showing, self.delivery.manager(), alloc)
-    }
-}
-
-/// Whether a call about rows is refused, or its file is not a file of rows.
-fn comes_to_nothing(answer: RowAnswer) -> bool
-    ensures { result ≡ comes_to_nothing (answer_in answer) }
-{
-    match answer_of(answer) {
-        Some(own) => is_refused(&own),
-        None => true,
+        watch(&mut self.showing, self.waiting.manager(), alloc)
     }
 }

@@ -8,15 +8,17 @@ ghost use Rattle.gl_catalog.specs.Manager.{IsLawfulManager, state_of};
 ghost use Rattle.gl_registry.specs.Rows.{name_of};
 ghost use Rattle.gl_window.specs.Boards.{Ends};
 ghost use Rattle.gl_wakes.specs.Boxes.{verdict_of};
-ghost use Rattle.gl_c.specs.managers.Carries.{Answers, Replies};
+ghost use Rattle.gl_c.specs.managers.Carries.{Answers, Replies, command_call};
 ghost use Rattle.gl_c.specs.questions.Looks.{looked};
-ghost use Rattle.gl_c.specs.locks.Paths.{RepliesPath};
-ghost use Rattle.gl_c.specs.locks.Savepoints.{RepliesBack};
+ghost use Rattle.gl_c.specs.locks.Paths.{path_call};
+ghost use Rattle.gl_c.specs.locks.Savepoints.{back_call};
 ghost use Rattle.gl_c.specs.managers.Managing.{IsNew};
-ghost use Rattle.gl_c.specs.locks.Rows.{AnswersRow, RepliesRow, named_reply};
-ghost use Rattle.gl_c.specs.locks.Tries.{RepliesTriedPath, RepliesTriedRow};
+ghost use Rattle.gl_c.specs.locks.Rows.{named_reply, row_call};
+ghost use Rattle.gl_c.specs.locks.Tries.{tried_path_call, tried_row_call};
 ghost use Rattle.gl_c.specs.locks.Verdicts.{verdict_reply};
 ghost use Rattle.gl_c.specs.watchers.Watching.{OnlyShows};
+ghost use Rattle.gl_c.specs.managers.Guarded.{GuardedView};
+ghost use Rattle.gl_c.specs.managers.Session.{IsIdle, guarded_of};
 
 use crate::answers::notices::Notices;
 use crate::answers::reply::Reply;
@@ -80,7 +82,7 @@ impl Session {
     /// Carries out a command, and writes its notices.
     #[inline(always)]
     pub(crate) fn carry_out(&mut self, command: Command<'_>, notices: &mut Notices) -> Reply
-        ensures { Replies self.old command.entry result notices.new self.new }
+        ensures { Replies self.old (command_call command.entry) result notices.new self.new }
     {
         let answer = self.guarded.serve(command, &mut self.told);
         notices.put(self.told.as_slice());
@@ -98,7 +100,7 @@ impl Session {
         mode: Mode,
         notices: &mut Notices,
     ) -> Reply
-        ensures { RepliesPath self.old txn (node, mode) result notices.new self.new }
+        ensures { Replies self.old (path_call txn (node, mode)) result notices.new self.new }
     {
         let reached = self.guarded.serve_path(txn, node, mode, &mut self.told);
         notices.put(self.told.as_slice());
@@ -108,7 +110,7 @@ impl Session {
 
     /// Rolls back to a savepoint, and writes the notices.
     pub(crate) fn release_since(&mut self, txn: TxnId, mark: usize, notices: &mut Notices) -> Reply
-        ensures { RepliesBack self.old txn mark result notices.new self.new }
+        ensures { Replies self.old (back_call txn mark) result notices.new self.new }
     {
         let released = self.guarded.serve_back(txn, mark, &mut self.told);
         notices.put(self.told.as_slice());
@@ -119,7 +121,7 @@ impl Session {
     /// Carries out a call about rows, and writes its notices.
     #[inline(always)]
     pub(crate) fn carry_out_row(&mut self, call: RowCall<'_>, notices: &mut Notices) -> Reply
-        ensures { RepliesRow self.old call.entry result notices.new self.new }
+        ensures { Replies self.old (row_call call.entry) result notices.new self.new }
     {
         let answer = self.guarded.serve_row(call, &mut self.told);
         notices.put(self.told.as_slice());
@@ -136,7 +138,7 @@ impl Session {
         keep: Keep,
         notices: &mut Notices,
     ) -> Reply
-        ensures { RepliesTriedPath self.old keep txn (node, mode) result notices.new self.new }
+        ensures { Replies self.old (tried_path_call keep txn (node, mode)) result notices.new self.new }
     {
         let tried = self.guarded.try_path(txn, node, mode, keep, &mut self.told);
         notices.put(self.told.as_slice());
@@ -153,7 +155,7 @@ impl Session {
         mode: Mode,
         notices: &mut Notices,
     ) -> Reply
-        ensures { RepliesTriedRow self.old (record { txn = txn; row = row; keys = keys.entry; mode = mode }) result notices.new self.new }
+        ensures { Replies self.old (tried_row_call (record { txn = txn; row = row; keys = keys.entry; mode = mode })) result notices.new self.new }
     {
         let tried = self.guarded.try_row(txn, row, keys, mode, &mut self.told);
         notices.put(self.told.as_slice());
@@ -163,7 +165,7 @@ impl Session {
 
     /// Carries out a call about rows that notifies nobody.
     pub(crate) fn ask_row(&mut self, call: RowCall<'_>) -> Reply
-        ensures { AnswersRow self.old call.entry result self.new }
+        ensures { Answers self.old (row_call call.entry) result self.new }
     {
         let answer = self.guarded.serve_row(call, &mut self.told);
         self.told.clear();
@@ -173,7 +175,7 @@ impl Session {
     /// Carries out a command that notifies nobody.
     #[inline(always)]
     pub(crate) fn ask(&mut self, command: Command<'_>) -> Reply
-        ensures { Answers self.old command.entry result self.new }
+        ensures { Answers self.old (command_call command.entry) result self.new }
     {
         let answer = self.guarded.serve(command, &mut self.told);
         self.told.clear();

@@ -8,7 +8,8 @@ ghost use Rattle.gl_registry.specs.Applying.{answer_in};
 ghost use Rattle.gl_window.specs.Boards.{Ends, Fine, HasParties, last_epoch};
 ghost use Rattle.gl_window.specs.Tellings.{leaves_waits, still_known};
 ghost use Rattle.gl_c.specs.locks.Paths.{ends_waiting, goes_well, leaves_on_path};
-ghost use Rattle.gl_c.specs.managers.Serving.{KnowsWaits, ShowsOn};
+ghost use Rattle.gl_c.specs.managers.Carries.{spared_by};
+ghost use Rattle.gl_c.specs.managers.Serving.{KnowsWaits, ShowsOn, known_after};
 ghost use Rattle.gl_c.specs.managers.Showing.{parties_in, shown_in};
 ghost use Rattle.gl_c.specs.watchers.Watching.{Continues};
 
@@ -105,39 +106,26 @@ impl Showing {
     }
 }
 
-/// Updates what is known of the waits, after an accepted command. Without a first watcher nothing is
-/// known.
+/// Updates what is known of the waits, after a call that carried out this command, if it was answered,
+/// and by which somebody went on, or nobody. Without a first watcher nothing is known.
 #[inline(always)]
 pub(crate) fn keep(
     showing: &mut Option<Showing>,
+    went_on: bool,
     command: &Command<'_>,
-    answer: &Answer,
+    answer: Option<Answer>,
     told: &[(TxnId, Notice)],
 )
     ensures shown { shown_in showing.new ≡ shown_in showing.old }
-    ensures parties { parties_in showing.new ≡ still_known (parties_in showing.old) (λ known. leaves_waits known command.now answer.now told.now) }
+    ensures parties { parties_in showing.new ≡ known_after went_on (parties_in showing.old) (spared_by command.now answer told.now) }
 {
-    if let Some(showing) = showing {
-        showing.keep(command, answer, told);
-    }
-}
-
-/// The same after a call about rows that carried out this command, which may name no node.
-#[inline(always)]
-pub(crate) fn keep_row(
-    showing: &mut Option<Showing>,
-    own: &Command<'_>,
-    answer: RowAnswer,
-    told: &[(TxnId, Notice)],
-)
-    ensures shown { shown_in showing.new ≡ shown_in showing.old }
-    ensures parties { IfSome (answer_in answer)
-        (λ a. parties_in showing.new ≡ still_known (parties_in showing.old) (λ known. leaves_waits known own.now a told.now)) }
-{
-    if let Some(showing) = showing {
-        if let Some(answer) = answer_of(answer) {
-            showing.keep(own, &answer, told);
-        }
+    let Some(showing) = showing else {
+        return;
+    };
+    if went_on {
+        showing.parties = None;
+    } else if let Some(answer) = answer {
+        showing.keep(command, &answer, told);
     }
 }
 
@@ -145,28 +133,29 @@ pub(crate) fn keep_row(
 #[inline(always)]
 pub(crate) fn keep_on_path(
     showing: &mut Option<Showing>,
+    went_on: bool,
     txn: TxnId,
     reached: Result<Reached, Refusal>,
     told: &[(TxnId, Notice)],
 )
     ensures shown { shown_in showing.new ≡ shown_in showing.old }
-    ensures parties { parties_in showing.new ≡ still_known (parties_in showing.old) (λ known. leaves_on_path known txn reached told.now) }
+    ensures parties { parties_in showing.new ≡ known_after went_on (parties_in showing.old) (λ known. leaves_on_path known txn reached told.now) }
 {
     if let Some(showing) = showing {
         showing.parties = showing
             .parties
-            .filter(|known| leaves_on_path(*known, txn, reached, told));
+            .filter(|known| !went_on && leaves_on_path(*known, txn, reached, told));
     }
 }
 
 /// The same after a call that is only known to leave nobody waiting if nobody waited.
 #[inline(always)]
-pub(crate) fn keep_nobody(showing: &mut Option<Showing>)
+pub(crate) fn keep_nobody(showing: &mut Option<Showing>, went_on: bool)
     ensures shown { shown_in showing.new ≡ shown_in showing.old }
-    ensures parties { parties_in showing.new ≡ still_known (parties_in showing.old) has_none }
+    ensures parties { parties_in showing.new ≡ known_after went_on (parties_in showing.old) has_none }
 {
     if let Some(showing) = showing {
-        showing.parties = showing.parties.filter(|known| known.is_empty());
+        showing.parties = showing.parties.filter(|known| !went_on && known.is_empty());
     }
 }
 

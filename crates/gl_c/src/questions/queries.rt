@@ -2,7 +2,7 @@
 
 ghost use Rattle.gl_steps.specs.declared.command.Command.TheVariants as command;
 ghost use Rattle.gl_c.specs.declared.questions.look.Query.TheVariants as query;
-ghost use Rattle.gl_c.specs.managers.Carries.{Asks};
+ghost use Rattle.gl_c.specs.managers.Carries.{Asks, command_call};
 ghost use Rattle.gl_c.specs.managers.Handle.{guarded_in};
 ghost use Rattle.gl_c.specs.questions.Looks.{Looks};
 ghost use Rattle.gl_c.specs.Names.{node_id, txn_id};
@@ -16,7 +16,7 @@ use gl_catalog::Command;
 /// The group mode of a node: the least that covers all modes held on it.
 #[unsafe(no_mangle)]
 pub extern "C" fn bs_call_group(manager: &mut Handle, node: Node) -> Reply
-    ensures { Asks (guarded_in manager.old) (command.Group (node_id node)) result (guarded_in manager.new) }
+    ensures { Asks (guarded_in manager.old) (command_call (command.Group (node_id node))) result (guarded_in manager.new) }
 {
     manager.ask(Command::Group { node: node.id() })
 }
@@ -24,7 +24,7 @@ pub extern "C" fn bs_call_group(manager: &mut Handle, node: Node) -> Reply
 /// The mode in which a transaction holds a node.
 #[unsafe(no_mangle)]
 pub extern "C" fn bs_call_held(manager: &mut Handle, txn: Txn, node: Node) -> Reply
-    ensures { Asks (guarded_in manager.old) (command.Held (txn_id txn) (node_id node)) result (guarded_in manager.new) }
+    ensures { Asks (guarded_in manager.old) (command_call (command.Held (txn_id txn) (node_id node))) result (guarded_in manager.new) }
 {
     manager.ask(Command::Held {
         txn: txn.id(),
@@ -35,7 +35,7 @@ pub extern "C" fn bs_call_held(manager: &mut Handle, txn: Txn, node: Node) -> Re
 /// The effective mode of a transaction on a node: what all its locks together permit. Takes memory.
 #[unsafe(no_mangle)]
 pub extern "C" fn bs_call_effective(manager: &mut Handle, txn: Txn, node: Node) -> Reply
-    ensures { Asks (guarded_in manager.old) (command.Effective (txn_id txn) (node_id node)) result (guarded_in manager.new) }
+    ensures { Asks (guarded_in manager.old) (command_call (command.Effective (txn_id txn) (node_id node))) result (guarded_in manager.new) }
 {
     manager.ask(Command::Effective {
         txn: txn.id(),

@@ -1,7 +1,8 @@
 //! Tries of paths and rows.
 
 ghost use Rattle.std.specs.Prelude.{◌≡◌, []};
-ghost use Rattle.gl_c.specs.locks.Tries.{ServesTriedPath, ServesTriedRow};
+ghost use Rattle.gl_c.specs.locks.Tries.{tried_path_call, tried_row_call};
+ghost use Rattle.gl_c.specs.managers.Carries.{Performs};
 
 use super::Guarded;
 use crate::managers::showing::keep_nobody;
@@ -22,15 +23,15 @@ impl Guarded {
         told: &mut Told,
     ) -> Tried
         requires empty { told.old.items ≡ [] }
-        ensures { ServesTriedPath self.old keep txn (node, mode) result told.new.items self.new }
+        ensures { Performs self.old (tried_path_call keep txn (node, mode)) result told.new.items self.new }
     {
-        let before = self.delivery.manager().accepted();
-        let (tried, ended) = self.delivery.try_path(txn, node, mode, keep, told);
-        if self.delivery.manager().accepted() == before {
+        let before = self.waiting.manager().accepted();
+        let (tried, off) = self.waiting.try_path(txn, node, mode, keep, told);
+        if self.waiting.manager().accepted() == before {
             return tried;
         }
-        self.ended = ended;
-        keep_nobody(&mut self.showing);
+        self.ended = off.ended;
+        keep_nobody(&mut self.showing, off.went_on);
         self.show_if_due();
         tried
     }
@@ -46,15 +47,15 @@ impl Guarded {
         told: &mut Told,
     ) -> RowTried
         requires empty { told.old.items ≡ [] }
-        ensures { ServesTriedRow self.old (record { txn = txn; row = row; keys = keys.entry; mode = mode }) result told.new.items self.new }
+        ensures { Performs self.old (tried_row_call (record { txn = txn; row = row; keys = keys.entry; mode = mode })) result told.new.items self.new }
     {
-        let before = self.delivery.manager().accepted();
-        let (tried, ended) = self.delivery.try_row(txn, row, keys, mode, told);
-        if self.delivery.manager().accepted() == before {
+        let before = self.waiting.manager().accepted();
+        let (tried, off) = self.waiting.try_row(txn, row, keys, mode, told);
+        if self.waiting.manager().accepted() == before {
             return tried;
         }
-        self.ended = ended;
-        keep_nobody(&mut self.showing);
+        self.ended = off.ended;
+        keep_nobody(&mut self.showing, off.went_on);
         self.show_if_due();
         tried
     }

@@ -3,7 +3,7 @@
 ghost use Rattle.std.specs.Prelude.{◌≡◌, [], IfSome, None, Some, is_some};
 ghost use Rattle.std.specs.Option.{option_map};
 ghost use Rattle.gl_c.specs.Boards.{Shows};
-ghost use Rattle.gl_c.specs.managers.Carries.{Asks, Carries};
+ghost use Rattle.gl_c.specs.managers.Carries.{Asks, Carries, command_call};
 ghost use Rattle.gl_c.specs.managers.Handle.{guarded_in};
 ghost use Rattle.gl_c.specs.questions.Counts.{Counting};
 ghost use Rattle.gl_c.specs.questions.Deadlocks.{Recalls};
@@ -14,13 +14,13 @@ ghost use Rattle.gl_model.specs.Calls.{group_tests, living_tests};
 ghost use Rattle.gl_model.specs.State.{members, waits_for};
 ghost use Rattle.gl_catalog.specs.Manager.{IsLawfulManager};
 ghost use Rattle.gl_c.specs.questions.Looks.{Looks};
-ghost use Rattle.gl_c.specs.locks.Paths.{CarriesPath};
-ghost use Rattle.gl_c.specs.locks.Savepoints.{CarriesBack};
+ghost use Rattle.gl_c.specs.locks.Paths.{path_call};
+ghost use Rattle.gl_c.specs.locks.Savepoints.{back_call};
 ghost use Rattle.gl_c.specs.answers.Notices.{Tells};
 ghost use Rattle.gl_c.specs.Numbers.{no_manager};
 ghost use Rattle.gl_c.specs.answers.Replies.{status_reply};
-ghost use Rattle.gl_c.specs.locks.Rows.{AsksRow, CarriesRow, FindsRow};
-ghost use Rattle.gl_c.specs.locks.Tries.{CarriesTriedPath, CarriesTriedRow};
+ghost use Rattle.gl_c.specs.locks.Rows.{FindsRow, row_call};
+ghost use Rattle.gl_c.specs.locks.Tries.{tried_path_call, tried_row_call};
 ghost use Rattle.gl_c.specs.locks.Verdicts.{Judges};
 ghost use Rattle.gl_c.specs.watchers.Watching.{Attends};
 
@@ -101,7 +101,7 @@ impl Handle {
     /// kind of command makes no choice.
     #[inline(always)]
     pub(crate) fn carry_out(&mut self, command: Command<'_>, told: &mut Notices) -> Reply
-        ensures { Carries (guarded_in self.old) command.entry result told.new (guarded_in self.new) }
+        ensures { Carries (guarded_in self.old) (command_call command.entry) result told.new (guarded_in self.new) }
     {
         let alloc = self.alloc;
         let Some(mut session) = self.take() else {
@@ -122,7 +122,7 @@ impl Handle {
         mode: Mode,
         told: &mut Notices,
     ) -> Reply
-        ensures { CarriesPath (guarded_in self.old) txn (node, mode) result told.new (guarded_in self.new) }
+        ensures { Carries (guarded_in self.old) (path_call txn (node, mode)) result told.new (guarded_in self.new) }
     {
         let alloc = self.alloc;
         let Some(mut session) = self.take() else {
@@ -135,7 +135,7 @@ impl Handle {
 
     /// Rolls back to a savepoint, and writes the notices.
     pub(crate) fn release_since(&mut self, txn: TxnId, mark: usize, told: &mut Notices) -> Reply
-        ensures { CarriesBack (guarded_in self.old) txn mark result told.new (guarded_in self.new) }
+        ensures { Carries (guarded_in self.old) (back_call txn mark) result told.new (guarded_in self.new) }
     {
         let alloc = self.alloc;
         let Some(mut session) = self.take() else {
@@ -149,7 +149,7 @@ impl Handle {
     /// Carries out a call about rows, and writes its notices.
     #[inline(always)]
     pub(crate) fn carry_out_row(&mut self, call: RowCall<'_>, told: &mut Notices) -> Reply
-        ensures { CarriesRow (guarded_in self.old) call.entry result told.new (guarded_in self.new) }
+        ensures { Carries (guarded_in self.old) (row_call call.entry) result told.new (guarded_in self.new) }
     {
         let alloc = self.alloc;
         let Some(mut session) = self.take() else {
@@ -169,7 +169,7 @@ impl Handle {
         keep: Keep,
         told: &mut Notices,
     ) -> Reply
-        ensures { CarriesTriedPath (guarded_in self.old) keep txn (node, mode) result told.new (guarded_in self.new) }
+        ensures { Carries (guarded_in self.old) (tried_path_call keep txn (node, mode)) result told.new (guarded_in self.new) }
     {
         let alloc = self.alloc;
         let Some(mut session) = self.take() else {
@@ -189,7 +189,7 @@ impl Handle {
         mode: Mode,
         told: &mut Notices,
     ) -> Reply
-        ensures { CarriesTriedRow (guarded_in self.old) (record { txn = txn; row = row; keys = keys.entry; mode = mode }) result told.new
+        ensures { Carries (guarded_in self.old) (tried_row_call (record { txn = txn; row = row; keys = keys.entry; mode = mode })) result told.new
             (guarded_in self.new) }
     {
         let alloc = self.alloc;
@@ -203,7 +203,7 @@ impl Handle {
 
     /// Carries out a call about rows that notifies nobody.
     pub(crate) fn ask_row(&mut self, call: RowCall<'_>) -> Reply
-        ensures { AsksRow (guarded_in self.old) call.entry result (guarded_in self.new) }
+        ensures { Asks (guarded_in self.old) (row_call call.entry) result (guarded_in self.new) }
     {
         let alloc = self.alloc;
         let Some(mut session) = self.take() else {
@@ -217,7 +217,7 @@ impl Handle {
     /// Carries out a command that notifies nobody.
     #[inline(always)]
     pub(crate) fn ask(&mut self, command: Command<'_>) -> Reply
-        ensures { Asks (guarded_in self.old) command.entry result (guarded_in self.new) }
+        ensures { Asks (guarded_in self.old) (command_call command.entry) result (guarded_in self.new) }
     {
         let alloc = self.alloc;
         let Some(mut session) = self.take() else {

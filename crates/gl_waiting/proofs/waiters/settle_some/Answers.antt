@@ -2,7 +2,7 @@ use Rattle.std.proofs.Common.{◌≡◌, ◌==◌, ◌∙◌, ℕ, ap, arith, no
 use Rattle.gl_catalog.specs.Manager.{ManagerView}
 use Rattle.gl_waiting.proofs.Runs.{calls_then, went_on_by}
 use Rattle.gl_waiting.proofs.GoingOn.{goes_on_same, goes_on_then}
-use Rattle.gl_waiting.proofs.waiters.settle.Goals as goal
+use Rattle.gl_waiting.proofs.waiters.settle_some.Goals as goal
 
 pub returns-then-is_empty-clause-goes : goal.returns-then-is_empty-clause-goes
 returns-then-is_empty-clause-goes c =

@@ -3,7 +3,7 @@ use Rattle.gl_slots.specs.Slots.{has_slot}
 use Rattle.gl_catalog.specs.Manager.{state_of}
 use Rattle.gl_waiting.specs.Ends.{GoesOn}
 use Rattle.gl_waiting.specs.Waiters.{AwaitBut}
-use Rattle.gl_waiting.proofs.waiters.settle.Given as goal
+use Rattle.gl_waiting.proofs.waiters.settle_some.Given as goal
 
 abbrev pub invariant-due : goal.invariant-due
 invariant-due l =

@@ -1,7 +1,7 @@
 use Rattle.std.proofs.Common.{Bool, subst, suc}
 use Rattle.gl_waiting.specs.Asking.{BeginsNext}
 use Rattle.gl_waiting.proofs.Turns.{hands_then, went_on_more}
-use Rattle.gl_waiting.proofs.waiter_table.WaiterTable.hand_on.Goals as goal
+use Rattle.gl_waiting.proofs.waiter_table.WaiterTable.hand_on_some.Goals as goal
 
 pub begins-preserved : goal.begins-preserved
 begins-preserved c =

@@ -1,6 +1,6 @@
 use Rattle.std.proofs.Common.{◌≡◌, ◌||◌, ◌==◌, ℕ, not, length}
 use Rattle.gl_waiting.specs.Asking.{HandsOn}
-use Rattle.gl_waiting.proofs.waiter_table.WaiterTable.hand_on.Given as goal
+use Rattle.gl_waiting.proofs.waiter_table.WaiterTable.hand_on_some.Given as goal
 
 abbrev pub invariant-begins : goal.invariant-begins
 invariant-begins l =

@@ -10,6 +10,7 @@ use Rattle.gl_wakes.proofs.Waking.{ended_none}
 use Rattle.gl_waiting.specs.Asking.{RollsBackTo}
 use Rattle.gl_waiting.specs.Delivering.{ComesToNothing, Delivered, DeliveryView, unlocking}
 use Rattle.gl_waiting.specs.Waiting.{WaitingView}
+use Rattle.gl_waiting.proofs.Counting.{back_or_not}
 use Rattle.gl_waiting.proofs.Awaiting.{await_on, waiting_with}
 use Rattle.gl_waiting.proofs.waiter_table.WaiterTable.release_since.Goals as goal
 
@@ -48,4 +49,6 @@ returns c =
       goes = c.settle.ensures.goes;
       went_on = c.settle.ensures.went_on;
       turns = (refl, refl);
+      nothing = back_or_not c.args.txn d served told result.1 c.self.inside.begins c.self.inside.places c.settle.new.places c.settle.new.delivery result.0
+          back.refused c.settle.ensures.none;
     })

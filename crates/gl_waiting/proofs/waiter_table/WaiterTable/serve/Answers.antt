@@ -4,6 +4,7 @@ use Rattle.gl_waiting.specs.Delivering.{Carries}
 use Rattle.gl_catalog.specs.Manager.{state_of}
 use Rattle.gl_waiting.specs.Asking.{Serves}
 use Rattle.gl_waiting.specs.Waiting.{WaitingView}
+use Rattle.gl_waiting.proofs.Counting.{carries_or_not, nothing_counted}
 use Rattle.gl_waiting.proofs.Awaiting.{await_on, carries_ended, waiting_with}
 use Rattle.gl_waiting.proofs.waiter_table.WaiterTable.serve.Goals as goal
 
@@ -29,4 +30,6 @@ returns c =
       goes = c.settle.ensures.goes;
       went_on = c.settle.ensures.went_on;
       turns = (refl, refl);
+      nothing = nothing_counted c.self.inside.delivery c.serve-answer.new.self c.settle.new.delivery c.serve-answer.result.1 c.self.inside.places c.settle.new.places
+          c.self.inside.begins (carries_or_not c.self.inside.delivery c.serve-answer.new.self c.args.command c.serve-answer.new.told.items c.serve-answer.result.1 c.serve-answer.ensures.carries) c.settle.ensures.low c.settle.ensures.none;
     })

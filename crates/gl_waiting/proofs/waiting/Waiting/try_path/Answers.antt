@@ -2,6 +2,7 @@ use Rattle.std.proofs.Common.{subst}
 use Rattle.gl_catalog.specs.Paths.{Ask}
 use Rattle.gl_waiting.specs.Asking.{InTurn, TriesThere}
 use Rattle.gl_waiting.specs.Waiting.{WaitingView}
+use Rattle.gl_waiting.proofs.Turns.{in_turn}
 use Rattle.gl_waiting.proofs.waiting.Waiting.try_path.Goals as goal
 
 pub returns : goal.returns
@@ -10,5 +11,6 @@ returns c =
     let txn = c.args.txn in
     let ask : Ask = (c.args.node, c.args.mode) in
     let told = call.new.told.items in
-    subst (λ (v : WaitingView). InTurn (λ off mid. TriesThere v txn ask c.args.keep call.result.0 told off mid) c.hand_on.result c.hand_on.new.self)
-    c.self.view_is (call.result.1, call.new.self, call.ensures, c.hand_on.ensures.hands)
+    subst (λ (v : WaitingView). InTurn v (λ off mid. TriesThere v txn ask c.args.keep call.result.0 told off mid) c.hand_on.result c.hand_on.new.self)
+    c.self.view_is (in_turn c.self.inside.table _ call.result.1 call.new.self c.hand_on.result c.hand_on.new.self c.self.invariant call.ensures
+    c.hand_on.ensures.hands)

@@ -2,11 +2,13 @@ use Rattle.std.proofs.Common.{subst}
 use Rattle.gl_registry.specs.Locking.{Wish}
 use Rattle.gl_waiting.specs.Asking.{InTurn, TriesRowThere}
 use Rattle.gl_waiting.specs.Waiting.{WaitingView}
+use Rattle.gl_waiting.proofs.Turns.{in_turn}
 use Rattle.gl_waiting.proofs.waiting.Waiting.try_row.Goals as goal
 
 pub returns : goal.returns
 returns c =
     let call = c.try_row-tried in
     let wish : Wish = record { txn = c.args.txn; row = c.args.row; keys = c.args.keys; mode = c.args.mode } in
-    subst (λ (v : WaitingView). InTurn (λ off mid. TriesRowThere v wish call.result.0 call.new.told.items off mid) c.hand_on.result c.hand_on.new.self)
-    c.self.view_is (call.result.1, call.new.self, call.ensures, c.hand_on.ensures.hands)
+    subst (λ (v : WaitingView). InTurn v (λ off mid. TriesRowThere v wish call.result.0 call.new.told.items off mid) c.hand_on.result c.hand_on.new.self)
+    c.self.view_is (in_turn c.self.inside.table _ call.result.1 call.new.self c.hand_on.result c.hand_on.new.self c.self.invariant call.ensures
+    c.hand_on.ensures.hands)
