@@ -1,4 +1,5 @@
 pub mod BoardRows
+pub mod Carrying
 mod ListedRows
 mod Opening
 mod Queues

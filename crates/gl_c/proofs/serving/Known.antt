@@ -124,7 +124,7 @@ module _ (v : WaitingView) (shown : Option Strip) (parties : Option Slots) (know
     where
       by : (x : Result ℕ Refusal) → GoesBackTo t mark v.manager v.rows x told h.served.manager h.served.rows
           → OnErr x (ComesToNothing (delivery_in v) told off.ended h.served) → NobodyWaits (state_of v.manager) → NobodyWaits (state_of h.served.manager)
-      by (Ok k) back none = back_quiet (registry_in (delivery_in v)) (registry_in h.served) t mark k told back
+      by (Ok k) back none idle = back_quiet (registry_in (delivery_in v)) (registry_in h.served) t mark k told back idle
       by (Err r) back none idle = subst (λ (d : DeliveryView). NobodyWaits (state_of d.manager)) (sym none.same) idle
 
   -- a path that is tried

@@ -1,4 +1,4 @@
--- A call about rows, for notices, waits and watchers. For Guarded.serve_row.
+-- A call about rows: what is known of the waits after it. For Guarded.serve_row.
 use Rattle.gl_slots.specs.declared.slots.Slots.{Slots}
 use Rattle.gl_slots.specs.Limit.{most_slots}
 use Rattle.std.specs.Prelude.{◌≡◌, ◌<◌, ◌≤◌, ◌&&◌, not, Bool, true, false}
@@ -9,7 +9,6 @@ use Rattle.std.proofs.lemmas.Option.{none-some, same_Some}
 use mathlib.Core.Bool.{true≢false}
 use Rattle.gl_slots.specs.Slots.{has_none}
 use Rattle.gl_model.specs.State.{State, is_wait, status_of}
-use Rattle.gl_table.specs.Table.{board_of}
 use Rattle.gl_model.specs.Tellings.{Told}
 use Rattle.gl_steps.specs.declared.command.Answer.{Answer}
 use Rattle.gl_steps.specs.declared.command.Answer.TheVariants as answer
@@ -20,7 +19,7 @@ use Rattle.gl_steps.specs.Promises.{NobodyWaits}
 use Rattle.gl_registry.specs.declared.answer.RowAnswer.{RowAnswer}
 use Rattle.gl_registry.specs.declared.call.RowCall.{RowCall}
 use Rattle.gl_registry.specs.declared.call.RowCall.TheVariants as call
-use Rattle.gl_registry.specs.Applying.{AppliesCall, CarriesOut, StepsAmid, answer_in, naming, own_command, unnamed}
+use Rattle.gl_registry.specs.Applying.{CarriesOut, StepsAmid, answer_in, naming, own_command, unnamed}
 use Rattle.gl_registry.specs.Rows.{RegistryView, RowsView}
 use Rattle.gl_registry.proofs.Upkeep.{LeavesAll, upkeep_law, upkeep_leaves}
 use Rattle.gl_steps.specs.Served.{is_query, is_refused, leaves_waiting}
@@ -29,16 +28,11 @@ use Rattle.gl_window.specs.Boards.{HasParties}
 use Rattle.gl_window.specs.Strip.{Strip}
 use Rattle.gl_window.specs.Tellings.{leaves_waits, spares_waits, still_known}
 use Rattle.gl_steps.proofs.Serving.{step_counts}
-use Rattle.gl_waiting.specs.Delivering.{Carries, ComesToNothing, Delivered, DeliveryView}
-use Rattle.gl_waiting.specs.Delivering.{registry_in as registry_of}
-use Rattle.gl_waiting.proofs.RowCalls.{comes_to_nothing as is_nothing, low, nothing_done}
-use Rattle.gl_c.specs.managers.Guarded.{GuardedView, delivery_in, registry_in}
-use Rattle.gl_c.specs.locks.Rows.{ServesRow, comes_to_nothing}
-use Rattle.gl_c.specs.managers.Serving.{KnowsWaits, ShowsOn}
+use Rattle.gl_waiting.proofs.RowCalls.{low}
+use Rattle.gl_c.specs.managers.Serving.{KnowsWaits}
 use Rattle.gl_c.proofs.serving.Showing.{knows_on, knows_still}
 use Rattle.gl_header.specs.Header.{is_empty}
 use Rattle.gl_model.specs.Lawful.{IsLawful}
-use Rattle.gl_c.proofs.serving.Serving.{Keeps, Knows, kept_as, knows_none, later_unless, nothing_if, same_view, shows_same, with_delivery}
 
 -- which node it is makes no difference to whether its waits are spared
 spares_as : (v u : RowsView) (c : RowCall) (set : Slots) (a : Answer) → spares_waits set (own_command v c) a ≡ spares_waits set (own_command u c) a

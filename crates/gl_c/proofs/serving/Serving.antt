@@ -11,7 +11,6 @@ use Rattle.gl_steps.specs.Served.{accepts}
 use Rattle.gl_steps.proofs.Serving.{step_counts}
 use Rattle.gl_catalog.specs.Manager.{ManagerView, state_of}
 use Rattle.gl_registry.specs.Locking.{Line, Runs}
-use Rattle.gl_waiting.specs.Asking.{InTurn}
 use Rattle.gl_waiting.specs.Going.{IsRun}
 use Rattle.gl_waiting.specs.Waiting.{WaitingView}
 use Rattle.gl_waiting.specs.declared.set_off.SetOff.{SetOff}
@@ -63,10 +62,10 @@ module _ (g : Inside) (v : WaitingView) (run : IsRun (state_of g.waiting.manager
         }
 
     pub leaves_idle : (IsCalled : SetOff → WaitingView → Type 0) (spares : Slots → Bool) (off : SetOff)
-        → InTurn (waiting_in (view_of g)) IsCalled off v → Leaves IsCalled spares (view_of g) (with_waiting (view_of g) v)
-    leaves_idle IsCalled spares off turn = record {
+        → IsCalled off v → Leaves IsCalled spares (view_of g) (with_waiting (view_of g) v)
+    leaves_idle IsCalled spares off called = record {
       off = off;
-      turn = turn;
+      called = called;
       noted = λ more. absurd (more same);
       uncounted = λ _. refl;
       shown = shows_same (is_none (known_after off.went_on (parties_in g.showing) spares)) (board_of (state_of v.manager)) (shown_in g.showing);
@@ -94,18 +93,18 @@ module _ (g : Inside) (v : WaitingView) (run : IsRun (state_of g.waiting.manager
         }
 
     pub leaves_counted : (IsCalled : SetOff → WaitingView → Type 0) (off : SetOff) (after : GuardedView) → off.went_on ≡ went_on
-        → InTurn (waiting_in (view_of g)) IsCalled off v → (v.manager.accepted ≡ g.waiting.manager.accepted → ⊥)
+        → IsCalled off v → (v.manager.accepted ≡ g.waiting.manager.accepted → ⊥)
         → (waiting_in after ≡ v) × (after.ended ≡ off.ended)
         → ShowsOn (is_none (parties_in showing)) (board_of (state_of v.manager)) (shown_in showing) after.shown
         → KnowsWaits (state_of after.manager) after.shown after.parties → Leaves IsCalled spares (view_of g) after
-    leaves_counted IsCalled off after so turn more kept shows known =
+    leaves_counted IsCalled off after so called more kept shows known =
         let due : ShowsOn (is_none (known_after off.went_on (parties_in g.showing) spares)) (board_of (state_of v.manager)) (shown_in g.showing) after.shown =
         subst (λ (o : Option Strip). ShowsOn (is_none (known_after off.went_on (parties_in g.showing) spares)) (board_of (state_of v.manager)) o after.shown) shown
         (subst (λ (o : Option Slots). ShowsOn (is_none o) (board_of (state_of v.manager)) (shown_in showing) after.shown)
         (parties ∙ ap (λ (b : Bool). known_after b (parties_in g.showing) spares) (sym so)) shows) in
         record {
           off = off;
-          turn = subst (λ (x : WaitingView). InTurn (waiting_in (view_of g)) IsCalled off x) (sym kept.0) turn;
+          called = subst (λ (x : WaitingView). IsCalled off x) (sym kept.0) called;
           noted = λ _. kept.1;
           uncounted = λ same. absurd (more (sym (ap (λ (x : WaitingView). x.manager.accepted) kept.0) ∙ same));
           shown = subst (λ (x : WaitingView). ShowsOn (is_none (known_after off.went_on (parties_in g.showing) spares)) (board_of (state_of x.manager))

@@ -1,34 +1,26 @@
 -- A call that locks a node after what must be held above it.
-use Rattle.std.specs.Prelude.{◌≡◌, ◌<◌, ◌&&◌, not, Bool, true, false, [], Option, Some, None, Result, Ok, Err, if◌then◌else◌, is_none}
+use Rattle.std.specs.Prelude.{◌&&◌, not, Bool, true, false, Result, Ok, Err, if◌then◌else◌}
 use Rattle.gl_modes.specs.declared.node.NodeId.{NodeId}
 use Rattle.gl_modes.specs.declared.refusal.Refusal.{Refusal}
 use Rattle.gl_modes.specs.Nodes.{same_node}
 use Rattle.gl_model.specs.declared.answers.Locked.{Locked}
 use Rattle.gl_model.specs.declared.answers.Locked.TheVariants as locked
 use Rattle.gl_model.specs.declared.txn.TxnId.{TxnId}
-use Rattle.gl_table.specs.Table.{board_of}
 use Rattle.gl_model.specs.Tellings.{Told}
 use Rattle.gl_steps.specs.declared.command.Answer.TheVariants as answer
 use Rattle.gl_catalog.specs.declared.manager.paths.Reached.{Reached}
-use Rattle.gl_catalog.specs.Manager.{state_of}
-use Rattle.gl_catalog.specs.Paths.{Ask, lock_of}
+use Rattle.gl_catalog.specs.Paths.{Ask}
 use Rattle.gl_catalog.specs.Counters.{grants}
 use Rattle.gl_steps.specs.Step.{answer_of_lock}
 use Rattle.gl_slots.specs.Slots.{has_none, has_slot}
 use Rattle.gl_slots.specs.declared.slots.Slots.{Slots}
 use Rattle.gl_header.specs.Header.{is_empty}
-use Rattle.gl_registry.specs.Serving.{PathLeavesRows}
-use Rattle.gl_window.specs.Tellings.{still_known}
-use Rattle.gl_waiting.specs.Delivering.{Delivered}
-use Rattle.gl_c.specs.declared.answers.notices.Notices.{Notices}
 use Rattle.gl_c.specs.declared.answers.reply.Reply.{Reply}
-use Rattle.gl_c.specs.managers.Carries.{Declines}
-use Rattle.gl_c.specs.managers.Guarded.{GuardedView, delivery_in, registry_in}
+use Rattle.gl_c.specs.managers.Carries.{CallOf}
 use Rattle.gl_c.specs.Names.{node_of}
-use Rattle.gl_c.specs.answers.Notices.{Tells}
-use Rattle.gl_c.specs.Numbers.{no_manager, on_the_way, victim, waiting}
+use Rattle.gl_c.specs.Numbers.{on_the_way, victim, waiting}
 use Rattle.gl_c.specs.answers.Replies.{refused_reply, reply_of, status_reply}
-use Rattle.gl_c.specs.managers.Serving.{KnowsWaits, ShowsOn}
+use Rattle.gl_waiting.specs.Asking.{InTurn, LocksPath}
 
 -- a reply with this node
 abbrev pub reply_at : NodeId → Reply → Reply
@@ -68,7 +60,7 @@ leaves_on_path parties t result told =
 -- the call that locks a node after what must be held above it
 abbrev pub path_call : TxnId → Ask → CallOf (Result Reached Refusal)
 path_call t ask = record {
-  does = λ v result told off v'. LocksPath v t ask result told off v';
+  does = λ v result told off v'. InTurn v (λ own mid. LocksPath v t ask result told own mid) off v';
   spares = λ result told known. leaves_on_path known t result told;
   says = path_reply ask.0;
 }

@@ -1,33 +1,23 @@
 -- What a call about rows does to all that C's mutex protects.
-use Rattle.std.specs.Prelude.{◌≡◌, ◌<◌, Bool, true, false, [], Option, Some, None, IfSome, is_none}
+use Rattle.std.specs.Prelude.{◌≡◌, Bool, true, false, Option, Some, None}
 use Rattle.gl_modes.specs.declared.node.NodeId.{NodeId}
 use Rattle.gl_modes.specs.declared.refusal.Refusal.TheVariants as no
 use Rattle.gl_model.specs.declared.answers.Locked.{Locked}
 use Rattle.gl_model.specs.declared.answers.Locked.TheVariants as locked
-use Rattle.gl_table.specs.Table.{board_of}
-use Rattle.gl_model.specs.Tellings.{Told}
-use Rattle.gl_steps.specs.declared.command.Answer.{Answer}
 use Rattle.gl_steps.specs.declared.command.Answer.TheVariants as answer
-use Rattle.gl_steps.specs.declared.command.Command.{Command}
-use Rattle.gl_catalog.specs.Manager.{state_of}
-use Rattle.gl_registry.specs.Applying.{AppliesCall, CarriesOut, answer_in, naming, own_command}
+use Rattle.gl_registry.specs.Applying.{answer_in, own_command, unnamed}
 use Rattle.gl_registry.specs.Rows.{name_of}
 use Rattle.gl_registry.specs.declared.answer.RowAnswer.{RowAnswer}
 use Rattle.gl_registry.specs.declared.answer.RowAnswer.TheVariants as row_answer
 use Rattle.gl_registry.specs.declared.call.RowCall.{RowCall}
 use Rattle.gl_registry.specs.declared.row.Row.{Row}
-use Rattle.gl_waiting.specs.Delivering.{Delivered}
-use Rattle.gl_steps.specs.Served.{is_refused}
-use Rattle.gl_c.specs.declared.answers.notices.Notices.{Notices}
 use Rattle.gl_c.specs.declared.answers.reply.Reply.{Reply}
-use Rattle.gl_c.specs.managers.Carries.{Declines}
-use Rattle.gl_c.specs.managers.Guarded.{GuardedView, delivery_in, registry_in}
-use Rattle.gl_c.specs.answers.Notices.{Tells}
+use Rattle.gl_c.specs.managers.Carries.{Declines, CallOf, spared_by}
+use Rattle.gl_c.specs.managers.Guarded.{GuardedView}
 use Rattle.gl_c.specs.Numbers.{no_manager, not_rows, other_keys, victim, waiting}
 use Rattle.gl_c.specs.locks.Paths.{reply_at}
 use Rattle.gl_c.specs.answers.Replies.{refused_reply, reply_of, status_reply}
-use Rattle.gl_c.specs.managers.Serving.{KnowsWaits, ShowsOn}
-use Rattle.gl_window.specs.Tellings.{leaves_waits, still_known}
+use Rattle.gl_waiting.specs.Asking.{InTurn, ServesRow}
 
 -- the reply for the lock of a row's node: if granted, the row is held, even if the node's keys are not those that the caller named
 abbrev pub row_lock_status : Locked → Bool → Reply
@@ -45,7 +35,7 @@ call_reply row_answer.NotRows = status_reply not_rows
 -- a call about rows; whether it is known to leave all waits does not depend on their nodes
 abbrev pub row_call : RowCall → CallOf RowAnswer
 row_call c = record {
-  does = λ v a told off v'. ServesRow v c a told off v';
+  does = λ v a told off v'. InTurn v (λ own mid. ServesRow v c a told own mid) off v';
   spares = λ a told known. spared_by (own_command unnamed c) (answer_in a) told known;
   says = call_reply;
 }

@@ -1,37 +1,27 @@
 -- Calls that try paths and rows.
-use Rattle.std.specs.Prelude.{◌≡◌, ◌<◌, true, false, [], Option, Some, None, is_none}
-use Rattle.gl_graph.specs.Refusals.{first_refusal}
-use Rattle.gl_modes.specs.declared.refusal.Refusal.{Refusal}
+use Rattle.std.specs.Prelude.{true, false, [], Option}
 use Rattle.gl_modes.specs.declared.refusal.Refusal.TheVariants as no
-use Rattle.gl_slots.specs.declared.slots.Slots.{Slots}
 use Rattle.gl_slots.specs.Slots.{has_none}
 use Rattle.gl_model.specs.declared.answers.Locked.TheVariants as locked
 use Rattle.gl_model.specs.declared.txn.TxnId.{TxnId}
-use Rattle.gl_model.specs.Tellings.{Told}
-use Rattle.gl_table.specs.Table.{board_of}
 use Rattle.gl_steps.specs.declared.command.Answer.TheVariants as answer
-use Rattle.gl_catalog.specs.Manager.{state_of}
-use Rattle.gl_catalog.specs.Paths.{Ask, path_tests}
+use Rattle.gl_catalog.specs.Paths.{Ask}
 use Rattle.gl_registry.specs.Locking.{Wish}
-use Rattle.gl_wakes.specs.Wakes.{HasEnded}
-use Rattle.gl_window.specs.Tellings.{still_known}
 use Rattle.gl_waiting.specs.declared.tries.Keep.{Keep}
 use Rattle.gl_waiting.specs.declared.tries.RowTried.{RowTried}
 use Rattle.gl_waiting.specs.declared.tries.RowTried.TheVariants as row
 use Rattle.gl_waiting.specs.declared.tries.Tried.{Tried}
 use Rattle.gl_waiting.specs.declared.tries.Tried.TheVariants as tried
-use Rattle.gl_waiting.specs.RowTries.{BeginsNoWait, HoldsTried, KeepsQueues, TriesRow}
-use Rattle.gl_waiting.specs.Tries.{HoldsAsTried, IsTried}
 use Rattle.gl_c.specs.declared.answers.notices.Notices.{Notices}
 use Rattle.gl_c.specs.declared.answers.reply.Reply.{Reply}
-use Rattle.gl_c.specs.managers.Carries.{Declines}
-use Rattle.gl_c.specs.managers.Guarded.{GuardedView, delivery_in}
-use Rattle.gl_c.specs.managers.Serving.{KnowsWaits, ShowsOn}
+use Rattle.gl_c.specs.managers.Carries.{Declines, CallOf}
+use Rattle.gl_c.specs.managers.Guarded.{GuardedView}
 use Rattle.gl_c.specs.answers.Notices.{Tells}
 use Rattle.gl_c.specs.answers.Replies.{refused_reply, reply_of, status_reply}
 use Rattle.gl_c.specs.locks.Paths.{reply_at}
 use Rattle.gl_c.specs.locks.Rows.{row_lock_status}
-use Rattle.gl_c.specs.Numbers.{bad_number, no_manager, not_rows}
+use Rattle.gl_c.specs.Numbers.{bad_number, not_rows}
+use Rattle.gl_waiting.specs.Asking.{InTurn, TriesRowThere, TriesThere}
 
 -- the reply for a tried path: the mode, or the node that would block, or the refusal
 abbrev pub tried_reply : Tried → Reply
@@ -49,13 +39,19 @@ tried_row_reply row.NotRows = status_reply not_rows
 
 -- the call that tries a path
 abbrev pub tried_path_call : Keep → TxnId → Ask → CallOf Tried
-tried_path_call k t ask =
-    record { does = λ v came told off v'. TriesThere v t ask k came told off v'; spares = λ came told known. has_none known; says = tried_reply }
+tried_path_call k t ask = record {
+  does = λ v came told off v'. InTurn v (λ own mid. TriesThere v t ask k came told own mid) off v';
+  spares = λ came told known. has_none known;
+  says = tried_reply;
+}
 
 -- the call that tries a row
 abbrev pub tried_row_call : Wish → CallOf RowTried
-tried_row_call w =
-    record { does = λ v came told off v'. TriesRowThere v w came told off v'; spares = λ came told known. has_none known; says = tried_row_reply }
+tried_row_call w = record {
+  does = λ v came told off v'. InTurn v (λ own mid. TriesRowThere v w came told own mid) off v';
+  spares = λ came told known. has_none known;
+  says = tried_row_reply;
+}
 
 -- a call with a number that names nothing
 abbrev pub NamesNothing : Option GuardedView → Reply → Notices → Option GuardedView → Type 0

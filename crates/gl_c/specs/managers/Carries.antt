@@ -6,7 +6,7 @@ use Rattle.gl_slots.specs.declared.slots.Slots.{Slots}
 use Rattle.gl_model.specs.Tellings.{Told}
 use Rattle.gl_steps.specs.declared.command.Answer.{Answer}
 use Rattle.gl_steps.specs.declared.command.Command.{Command}
-use Rattle.gl_waiting.specs.Asking.{Serves}
+use Rattle.gl_waiting.specs.Asking.{InTurn, Serves}
 use Rattle.gl_waiting.specs.Waiting.{WaitingView}
 use Rattle.gl_waiting.specs.declared.set_off.SetOff.{SetOff}
 use Rattle.gl_window.specs.Tellings.{leaves_waits}
@@ -20,7 +20,7 @@ use Rattle.gl_c.specs.Numbers.{no_manager}
 use Rattle.gl_c.specs.answers.Replies.{served_reply, status_reply}
 use Rattle.gl_c.specs.managers.Serving.{Leaves}
 
--- a kind of call: what it does to the table of waiters, whether it is known to leave all waits, by the parties to them, and what C is answered
+-- a kind of call: what it does to the table of waiters, begins that are handed on by it included, whether it is known to leave all waits, by the parties to them, and what C is answered
 pub record CallOf (A : Type 0) : Type 1 where
   pub does : WaitingView → A → Told → SetOff → WaitingView → Type 0
   pub spares : A → Told → Slots → Bool
@@ -33,7 +33,11 @@ spared_by c (Some a) told known = leaves_waits known c a told
 
 -- the call that carries out a command, unless it would insert, delete or change a record of a file of rows
 abbrev pub command_call : Command → CallOf (Option Answer)
-command_call c = record { does = λ v a told off v'. Serves v c a told off v'; spares = spared_by c; says = served_reply }
+command_call c = record {
+  does = λ v a told off v'. InTurn v (λ own mid. Serves v c a told own mid) off v';
+  spares = spared_by c;
+  says = served_reply;
+}
 
 -- a call is made, with this answer and these notices
 abbrev pub Performs : {A : Type 0} → GuardedView → CallOf A → A → Told → GuardedView → Type 0

@@ -1,5 +1,5 @@
 -- What a call does to all that C's mutex protects.
-use Rattle.std.specs.Prelude.{◌≡◌, ◌⊎◌, Bool, true, false, [], ◌∷◌, ◌++◌, Option, Some, None, IfSome, is_none, if◌then◌else◌}
+use Rattle.std.specs.Prelude.{◌≡◌, ◌⊎◌, Bool, true, [], ◌∷◌, ◌++◌, Option, Some, None, IfSome, is_none, if◌then◌else◌}
 use Rattle.gl_waits.specs.declared.board.Board.{Board}
 use Rattle.gl_slots.specs.declared.slots.Slots.{Slots}
 use Rattle.gl_table.specs.Table.{board_of}
@@ -8,7 +8,6 @@ use Rattle.gl_model.specs.State.{State}
 use Rattle.gl_window.specs.Boards.{EndsWithWaits, HasParties}
 use Rattle.gl_window.specs.Tellings.{still_known}
 use Rattle.gl_window.specs.Strip.{Strip}
-use Rattle.gl_waiting.specs.Asking.{InTurn}
 use Rattle.gl_waiting.specs.Waiting.{WaitingView}
 use Rattle.gl_waiting.specs.declared.set_off.SetOff.{SetOff}
 use Rattle.gl_c.specs.managers.Guarded.{GuardedView, waiting_in, with_waiting}
@@ -36,7 +35,7 @@ known_after went_on parties spares = if went_on then None else still_known parti
 -- nothing if it is known to leave all waits; else nothing changes beside the table
 pub record Leaves (IsCalled : SetOff → WaitingView → Type 0) (spares : Slots → Bool) (g g' : GuardedView) : Type 0 where
   pub off : SetOff
-  pub turn : InTurn (waiting_in g) IsCalled off (waiting_in g')
+  pub called : IsCalled off (waiting_in g')
   pub noted : (g'.manager.accepted ≡ g.manager.accepted → ⊥) → g'.ended ≡ off.ended
   pub uncounted : g'.manager.accepted ≡ g.manager.accepted → g' ≡ with_waiting g (waiting_in g')
   pub shown : ShowsOn (is_none (known_after off.went_on g.parties spares)) (board_of (state_of g'.manager)) g.shown g'.shown

@@ -119,13 +119,20 @@ impl Guarded {
         requires empty { told.old.items ≡ [] }
         ensures { Performs self.old (command_call command.entry) result told.new.items self.new }
     {
+        self.waiting.law();
         let before = self.waiting.manager().accepted();
         let (answer, off) = self.waiting.serve(command, told);
         if self.waiting.manager().accepted() == before {
             return answer;
         }
         self.ended = off.ended;
-        keep(&mut self.showing, off.went_on, &command, answer, told.as_slice());
+        keep(
+            &mut self.showing,
+            off.went_on,
+            &command,
+            answer,
+            told.as_slice(),
+        );
         self.show_if_due();
         answer
     }
@@ -142,13 +149,20 @@ impl Guarded {
         requires empty { told.old.items ≡ [] }
         ensures { Performs self.old (path_call txn (node, mode)) result told.new.items self.new }
     {
+        self.waiting.law();
         let before = self.waiting.manager().accepted();
         let (reached, off) = self.waiting.lock_path(txn, node, mode, told);
         if self.waiting.manager().accepted() == before {
             return reached;
         }
         self.ended = off.ended;
-        keep_on_path(&mut self.showing, off.went_on, txn, reached, told.as_slice());
+        keep_on_path(
+            &mut self.showing,
+            off.went_on,
+            txn,
+            reached,
+            told.as_slice(),
+        );
         self.show_if_due();
         reached
     }
@@ -160,6 +174,7 @@ impl Guarded {
         requires empty { told.old.items ≡ [] }
         ensures { Performs self.old (row_call call.entry) result told.new.items self.new }
     {
+        self.waiting.law();
         let before = self.waiting.manager().accepted();
         let (answer, off) = self.waiting.serve_row(call, told);
         if self.waiting.manager().accepted() == before {

@@ -141,11 +141,16 @@ pub(crate) fn keep_on_path(
     ensures shown { shown_in showing.new ≡ shown_in showing.old }
     ensures parties { parties_in showing.new ≡ known_after went_on (parties_in showing.old) (λ known. leaves_on_path known txn reached told.now) }
 {
-    if let Some(showing) = showing {
-        showing.parties = showing
-            .parties
-            .filter(|known| !went_on && leaves_on_path(*known, txn, reached, told));
+    let Some(showing) = showing else {
+        return;
+    };
+    if went_on {
+        showing.parties = None;
+        return;
     }
+    showing.parties = showing
+        .parties
+        .filter(|known| leaves_on_path(*known, txn, reached, told));
 }
 
 /// The same after a call that is only known to leave nobody waiting if nobody waited.
@@ -154,9 +159,14 @@ pub(crate) fn keep_nobody(showing: &mut Option<Showing>, went_on: bool)
     ensures shown { shown_in showing.new ≡ shown_in showing.old }
     ensures parties { parties_in showing.new ≡ known_after went_on (parties_in showing.old) has_none }
 {
-    if let Some(showing) = showing {
-        showing.parties = showing.parties.filter(|known| !went_on && known.is_empty());
+    let Some(showing) = showing else {
+        return;
+    };
+    if went_on {
+        showing.parties = None;
+        return;
     }
+    showing.parties = showing.parties.filter(|known| known.is_empty());
 }
 
 /// The answer to the command of a call about rows; `None` if its file is not a file of rows.

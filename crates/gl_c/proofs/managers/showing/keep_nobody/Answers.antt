@@ -6,6 +6,7 @@ use Rattle.gl_slots.specs.Slots.{HasNoSlot, has_none}
 use Rattle.gl_slots.specs.declared.slots.Slots.{Slots}
 use Rattle.gl_window.specs.Tellings.{still_known}
 use Rattle.gl_c.specs.declared.managers.showing.Showing.{Showing}
+use Rattle.gl_c.specs.managers.Serving.{known_after}
 use Rattle.gl_c.specs.managers.Showing.{parties_in}
 use Rattle.gl_c.proofs.managers.showing.keep_nobody.Goals as goal
 
@@ -30,7 +31,8 @@ tests_none set false is = by (has_none set) refl
     by true e = is.1 (test-none set e)
     by false e = refl
 
-pub returns-in-Some-clause-parties : goal.returns-in-Some-clause-parties
-returns-in-Some-clause-parties c =
+pub returns-clause-parties : goal.returns-clause-parties
+returns-clause-parties c =
     filtered _ c.in-Some.showing.parties c.filter-showing.result has_none c.filter-showing.ensures (λ x b k. tests_none x b (search rules))
     ∙ ap (λ (o : Option Showing). still_known (parties_in o) has_none) (sym c.in-Some.is)
+    ∙ ap (λ (b : Bool). known_after b (parties_in c.args.showing.now) has_none) (sym c.if-went_on.false)

@@ -13,7 +13,7 @@ use Rattle.gl_c.proofs.managers.guarded.Guarded.show_if_due.Goals as goal
 
 pub returns-clause-shown : goal.returns-clause-shown
 returns-clause-shown c =
-    let m = c.self.inside.delivery.manager in
+    let m = c.self.inside.waiting.manager in
     let before = c.self.inside.showing in
     subst (λ (v : GuardedView). ShowsOn (is_none v.parties) (board_of (state_of v.manager)) v.shown (shown_in c.match-self.self-inside.showing)) c.self.view_is
     (elim c.match-self.branch [

@@ -28,14 +28,14 @@ invariant_of-self c = record {
       c.watch.ensures.epoch;
   detect = subst (λ (m : ManagerView). IfSome (shown_in c.watch.new.showing) (λ (p : Strip). p.detect ≡ m.table.detect)) c.manager.ensures
       c.watch.ensures.detect;
-  known = subst (λ (o : Option Slots). KnowsWaits (state_of c.self.inside.delivery.manager) (shown_in c.watch.new.showing) o)
+  known = subst (λ (o : Option Slots). KnowsWaits (state_of c.self.inside.waiting.manager) (shown_in c.watch.new.showing) o)
       (sym c.watch.ensures.unknown) tt;
 }
 
 pub returns-clause-kept : goal.returns-clause-kept
 returns-clause-kept c =
     subst (λ (v : GuardedView). OnlyShows v (view_of (record c.self.inside { showing = c.watch.new.showing }))) c.self.view_is
-    (record { manager = refl; boxes = refl; ended = refl; rows = refl; shown = c.watch.ensures.goes_on })
+    (record { waiting = refl; ended = refl; shown = c.watch.ensures.goes_on })
 
 pub returns-clause-watcher : goal.returns-clause-watcher
 returns-clause-watcher c =
